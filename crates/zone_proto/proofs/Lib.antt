@@ -1,0 +1,13 @@
+pub mod FromBack
+pub mod Hashes
+pub mod Suffixes
+pub mod LabelClones
+pub mod Faults
+pub mod Lower
+pub mod FromFront
+pub mod LabelFacts
+pub mod RoundTrip
+pub mod BeforeLaws
+pub mod DataLaws
+pub mod SetLaws
+pub mod SigningLaws

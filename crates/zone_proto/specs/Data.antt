@@ -1,0 +1,52 @@
+use Rattle.std.specs.Prelude.{ℕ, List, Bool, true, false, ◌==◌, ◌&&◌, nat_eq}
+use Rattle.std.specs.Ordering.{int_eq}
+use Rattle.std.specs.Bool.{beq as bool_eq}
+use Rattle.std.specs.Cmp.Lexicographic.{pointwise}
+use Rattle.zone_proto.specs.Names.{same_name}
+use Rattle.zone_proto.specs.declared.record_type.RecordType.{RecordType}
+use Rattle.zone_proto.specs.declared.rdata.SOA.{SOA as SoaData}
+use Rattle.zone_proto.specs.declared.rdata.RData.{RData}
+use Rattle.zone_proto.specs.declared.rdata.RData.TheVariants as V
+
+-- two lists of octets are equal
+abbrev pub same_octets : List ℕ → List ℕ → Bool
+same_octets = pointwise nat_eq
+
+-- two lists of types are equal
+abbrev pub same_types : List RecordType → List RecordType → Bool
+same_types = pointwise (λ a b. a.0 == b.0)
+
+-- data are equal by all parts, names without case
+abbrev pub same_data : RData → RData → Bool
+same_data (V.A a) (V.A b) = same_octets a b
+same_data (V.AAAA a) (V.AAAA b) = same_octets a b
+same_data (V.NS a) (V.NS b) = same_name a b
+same_data (V.CNAME a) (V.CNAME b) = same_name a b
+same_data (V.ANAME a) (V.ANAME b) = same_name a b
+same_data (V.SOA a) (V.SOA b) = same_name a.mname b.mname && (same_name a.rname b.rname && (a.serial == b.serial && (int_eq a.refresh b.refresh && (int_eq a.retry b.retry && (int_eq a.expire b.expire && (a.minimum == b.minimum))))))
+same_data (V.MX a) (V.MX b) = a.preference == b.preference && (same_name a.exchange b.exchange)
+same_data (V.SRV a) (V.SRV b) = a.priority == b.priority && (a.weight == b.weight && (a.port == b.port && (same_name a.target b.target)))
+same_data (V.DNSKEY a) (V.DNSKEY b) = a.flags == b.flags && (a.protocol == b.protocol && (a.algorithm == b.algorithm && (same_octets a.public_key b.public_key)))
+same_data (V.NSEC a) (V.NSEC b) = same_name a.next_domain_name b.next_domain_name && (same_types a.types b.types)
+same_data (V.NSEC3 a) (V.NSEC3 b) = a.algorithm == b.algorithm && (bool_eq a.opt_out b.opt_out && (a.iterations == b.iterations && (same_octets a.salt b.salt && (same_octets a.next_hashed_owner_name b.next_hashed_owner_name && (same_types a.types b.types)))))
+same_data (V.NSEC3PARAM a) (V.NSEC3PARAM b) = a.algorithm == b.algorithm && (bool_eq a.opt_out b.opt_out && (a.iterations == b.iterations && (same_octets a.salt b.salt)))
+same_data (V.RRSIG a) (V.RRSIG b) = a.type_covered.0 == b.type_covered.0 && (a.algorithm == b.algorithm && (a.num_labels == b.num_labels && (a.original_ttl == b.original_ttl && (a.expiration == b.expiration && (a.inception == b.inception && (a.key_tag == b.key_tag && (same_name a.signer_name b.signer_name && (same_octets a.signature b.signature))))))))
+same_data (V.Other a) (V.Other b) = a.record_type.0 == b.record_type.0 && (same_octets a.octets b.octets)
+same_data _ _ = false
+
+-- the type number of data
+abbrev pub type_of : RData → ℕ
+type_of (V.A a) = 1
+type_of (V.AAAA a) = 28
+type_of (V.NS a) = 2
+type_of (V.CNAME a) = 5
+type_of (V.ANAME a) = 65305
+type_of (V.SOA a) = 6
+type_of (V.MX a) = 15
+type_of (V.SRV a) = 33
+type_of (V.DNSKEY a) = 48
+type_of (V.NSEC a) = 47
+type_of (V.NSEC3 a) = 50
+type_of (V.NSEC3PARAM a) = 51
+type_of (V.RRSIG a) = 46
+type_of (V.Other a) = a.record_type.0

@@ -1,0 +1,16 @@
+pub mod Names
+pub mod Vectors
+pub mod NameLaws
+pub mod Keys
+pub mod Faults
+pub mod Suffixes
+pub mod Text
+pub mod Parse
+pub mod Reading
+pub mod Before
+pub mod Types
+pub mod Data
+pub mod Records
+pub mod Sets
+pub mod SetInside
+pub mod Signing

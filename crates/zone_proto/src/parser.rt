@@ -1,0 +1,156 @@
+ghost use Rattle.std.specs.Prelude.{◌≡◌, ◌++◌, [], ◌∷◌, IfOk, IfErr, OnOk, IsOkUnless, Some, None};
+ghost use Rattle.zone_proto.specs.Vectors.{octets_of};
+ghost use Rattle.zone_proto.specs.Faults.{fault_of};
+ghost use Rattle.zone_proto.specs.Parse.{labels_of_text, step_in, labels_at_end, with_octet, is_digit, is_graphic, read_on, start};
+ghost use Rattle.zone_proto.specs.Reading.{reader_of, IsFaultOrMemory, fault_of_none, fault_of_text};
+
+use crate::error::ProtoError;
+use crate::name::Name;
+use std::alloc::Global;
+use std::mem;
+
+/// In what part of a text its reader stands.
+#[derive(Clone, Copy)]
+pub enum Mode {
+    Start,
+    AfterDot,
+    InLabel,
+    Escaped,
+    OneDigit(u8),
+    TwoDigits(u16),
+}
+
+/// What has been read of a text.
+#[derive(Drop)]
+struct Reader {
+    mode: Mode,
+    labels: Vec<Vec<u8>>,
+    label: Vec<u8>,
+}
+
+impl Reader {
+    fn put(&mut self, octet: u8) -> Result<(), ProtoError>
+        ensures ok { OnOk result (reader_of self.new ≡ with_octet (reader_of self.old) octet) }
+        ensures err { IsOkUnless result ProtoError.Memory }
+    {
+        self.label.push(octet)?;
+        self.mode = Mode::InLabel;
+        Ok(())
+    }
+
+    fn end_label(&mut self, alloc: Global) -> Result<(), ProtoError>
+        ensures ok { OnOk result (reader_of self.new ≡ record { mode = Mode.AfterDot; labels = octets_of self.old.labels.items ++ self.old.label.items ∷ []; label = [] }) }
+        ensures err { IsOkUnless result ProtoError.Memory }
+    {
+        let label = mem::replace(&mut self.label, Vec::new(alloc));
+        self.labels.push(label)?;
+        self.mode = Mode::AfterDot;
+        Ok(())
+    }
+
+    fn step(&mut self, alloc: Global, octet: u8) -> Result<(), ProtoError>
+        ensures ok { OnOk result (step_in self.old.mode (reader_of self.old) octet ≡ Some (reader_of self.new)) }
+        ensures err { IfErr result (IsFaultOrMemory (fault_of_none (step_in self.old.mode (reader_of self.old) octet))) }
+    {
+        match self.mode {
+            Mode::Start | Mode::AfterDot | Mode::InLabel => {
+                if octet == b'.' {
+                    self.end_label(alloc)
+                } else if octet == b'\\' {
+                    self.mode = Mode::Escaped;
+                    Ok(())
+                } else if is_graphic(octet) {
+                    self.put(octet)
+                } else {
+                    Err(ProtoError::BadText)
+                }
+            }
+            Mode::Escaped => {
+                if is_digit(octet) {
+                    self.mode = Mode::OneDigit(octet - b'0');
+                    Ok(())
+                } else if is_graphic(octet) {
+                    self.put(octet)
+                } else {
+                    Err(ProtoError::BadText)
+                }
+            }
+            Mode::OneDigit(tens) => {
+                if !is_digit(octet) {
+                    return Err(ProtoError::BadText);
+                }
+                self.mode = Mode::TwoDigits(u16::from(tens) * 10 + u16::from(octet - b'0'));
+                Ok(())
+            }
+            Mode::TwoDigits(tens) => {
+                if !is_digit(octet) {
+                    return Err(ProtoError::BadText);
+                }
+                let value = u32::from(tens) * 10 + u32::from(octet - b'0');
+                if value > 255 {
+                    return Err(ProtoError::BadText);
+                }
+                self.put(value as u8)
+            }
+        }
+    }
+
+    fn finish(self) -> Result<Vec<Vec<u8>>, ProtoError>
+        ensures ok { IfOk result (λ ls. labels_at_end self.mode (reader_of self) ≡ Some (octets_of ls.items)) }
+        ensures err { IfErr result (IsFaultOrMemory (fault_of_none (labels_at_end self.mode (reader_of self)))) }
+    {
+        let Reader {
+            mode,
+            mut labels,
+            label,
+        } = self;
+        match mode {
+            Mode::AfterDot => Ok(labels),
+            Mode::InLabel => {
+                labels.push(label)?;
+                Ok(labels)
+            }
+            _ => Err(ProtoError::BadText),
+        }
+    }
+}
+
+fn is_digit(octet: u8) -> bool
+    ensures { result ≡ is_digit octet }
+{
+    octet.is_ascii_digit()
+}
+
+fn is_graphic(octet: u8) -> bool
+    ensures { result ≡ is_graphic octet }
+{
+    octet >= 33 && octet <= 126
+}
+
+fn read(alloc: Global, bytes: &[u8]) -> Result<Vec<Vec<u8>>, ProtoError>
+    ensures ok { IfOk result (λ ls. read_on bytes.now start ≡ Some (octets_of ls.items)) }
+    ensures err { IfErr result (IsFaultOrMemory (fault_of_none (read_on bytes.now start))) }
+{
+    let mut reader = Reader {
+        mode: Mode::Start,
+        labels: Vec::new(alloc),
+        label: Vec::new(alloc),
+    };
+    for octet in bytes {
+        reader.step(alloc, *octet)?;
+    }
+    reader.finish()
+}
+
+/// Reads a text as a name.
+pub fn parse(alloc: Global, text: &str) -> Result<Name, ProtoError>
+    ensures ok { IfOk result (λ n. (labels_of_text text.now ≡ Some n) × (fault_of n ≡ None)) }
+    ensures err { IfErr result (IsFaultOrMemory (fault_of_text text.now)) }
+{
+    let bytes = text.as_bytes();
+    match bytes {
+        [] => Err(ProtoError::BadText),
+        [b'.'] => Ok(Name::root(alloc)),
+        _ => Name::from_labels(read(alloc, bytes)?),
+    }
+}
