@@ -11,3 +11,7 @@ pub mod BeforeLaws
 pub mod DataLaws
 pub mod SetLaws
 pub mod SigningLaws
+pub mod Members
+pub mod Orders
+pub mod Tree
+pub mod KeyOrder

@@ -22,6 +22,10 @@ pub record RRset : Type 0 where
 abbrev pub is_single : ℕ → Bool
 is_single t = t == 6 || (t == 5 || t == 65305)
 
+-- a set of an owner and a type that has no records yet
+abbrev pub empty_set : Name → ℕ → ℕ → RRset
+empty_set n t serial = record { owner = n; record_type = t; class = 1; ttl = 0; serial = serial; records = []; signatures = [] }
+
 -- the records have the set's owner and type, differ in data, and are at most one where the type is SOA, CNAME or ANAME
 pub record IsSet (owner : Name) (record_type : ℕ) (records : List Record) : Type 0 where
   pub owners : All (λ (r : Record). same_name r.name owner ≡ true) records
