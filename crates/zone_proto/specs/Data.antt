@@ -1,10 +1,10 @@
-use Rattle.std.specs.Prelude.{ℕ, List, Bool, true, false, ◌==◌, ◌&&◌, nat_eq}
+use Rattle.std.specs.Prelude.{ℕ, List, Bool, false, ◌==◌, ◌&&◌, nat_eq}
 use Rattle.std.specs.Ordering.{int_eq}
 use Rattle.std.specs.Bool.{beq as bool_eq}
 use Rattle.std.specs.Cmp.Lexicographic.{pointwise}
 use Rattle.zone_proto.specs.Names.{same_name}
+use Rattle.zone_proto.specs.Types as types
 use Rattle.zone_proto.specs.declared.record_type.RecordType.{RecordType}
-use Rattle.zone_proto.specs.declared.rdata.SOA.{SOA as SoaData}
 use Rattle.zone_proto.specs.declared.rdata.RData.{RData}
 use Rattle.zone_proto.specs.declared.rdata.RData.TheVariants as V
 
@@ -34,19 +34,19 @@ same_data (V.RRSIG a) (V.RRSIG b) = a.type_covered.0 == b.type_covered.0 && (a.a
 same_data (V.Other a) (V.Other b) = a.record_type.0 == b.record_type.0 && (same_octets a.octets b.octets)
 same_data _ _ = false
 
--- the type number of data
+-- the type of data, by its number
 abbrev pub type_of : RData → ℕ
-type_of (V.A a) = 1
-type_of (V.AAAA a) = 28
-type_of (V.NS a) = 2
-type_of (V.CNAME a) = 5
-type_of (V.ANAME a) = 65305
-type_of (V.SOA a) = 6
-type_of (V.MX a) = 15
-type_of (V.SRV a) = 33
-type_of (V.DNSKEY a) = 48
-type_of (V.NSEC a) = 47
-type_of (V.NSEC3 a) = 50
-type_of (V.NSEC3PARAM a) = 51
-type_of (V.RRSIG a) = 46
+type_of (V.A a) = types.A
+type_of (V.AAAA a) = types.AAAA
+type_of (V.NS a) = types.NS
+type_of (V.CNAME a) = types.CNAME
+type_of (V.ANAME a) = types.ANAME
+type_of (V.SOA a) = types.SOA
+type_of (V.MX a) = types.MX
+type_of (V.SRV a) = types.SRV
+type_of (V.DNSKEY a) = types.DNSKEY
+type_of (V.NSEC a) = types.NSEC
+type_of (V.NSEC3 a) = types.NSEC3
+type_of (V.NSEC3PARAM a) = types.NSEC3PARAM
+type_of (V.RRSIG a) = types.RRSIG
 type_of (V.Other a) = a.record_type.0

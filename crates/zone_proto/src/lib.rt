@@ -1,30 +1,39 @@
 // Names, their order, and keys in a map.
 #![tactic(auto)]
 
-mod clones;
 mod dns_class;
 mod error;
 mod labels;
 pub mod laws;
+mod message;
 mod name;
+mod nsec3_hash;
+mod nx_proof_kind;
 mod parser;
 mod rdata;
 mod record;
 mod record_set;
 mod record_type;
+mod response_code;
 mod rr_key;
 mod seq;
 mod signer;
+mod soa_record;
 mod text;
 
 pub use dns_class::DNSClass;
 pub use error::ProtoError;
+pub use message::{Edns, EdnsFlags, Message, Query};
 pub use name::{LowerName, Name};
+pub use nsec3_hash::Nsec3Hash;
+pub use nx_proof_kind::NxProofKind;
 pub use parser::parse;
 pub use rdata::{DNSKEY, MX, NSEC, NSEC3, NSEC3PARAM, OtherData, RData, RRSIG, SOA, SRV};
 pub use record::Record;
 pub use record_set::{RecordSet, RrsetRecords};
 pub use record_type::RecordType;
+pub use response_code::ResponseCode;
 pub use rr_key::RrKey;
 pub use seq::Seq;
-pub use signer::{Nsec3Hash, Signer};
+pub use signer::Signer;
+pub use soa_record::SoaRecord;

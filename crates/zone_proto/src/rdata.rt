@@ -1,134 +1,102 @@
-ghost use Rattle.std.specs.Prelude.{◌≡◌, false, true, IsNone, IfSome, ◌↔◌, IfOk, IfErr};
-ghost use Rattle.zone_proto.specs.Types.{has_own_case};
+ghost use Rattle.std.specs.Prelude.{◌≡◌, IfOk, IfErr};
+
+mod denial;
+mod mail_exchange;
+mod other;
+mod service;
+mod signing;
+mod start_of_authority;
 
 use crate::error::ProtoError;
 use crate::name::Name;
 use crate::record_type::RecordType;
-use crate::seq::Seq;
+pub use denial::{NSEC, NSEC3, NSEC3PARAM};
+pub use mail_exchange::MX;
+pub use other::OtherData;
+pub use service::SRV;
+pub use signing::{DNSKEY, RRSIG};
+pub use start_of_authority::SOA;
 
+/// The data of a record, by type.
+///
+/// Equal by all parts, names without case.
 #[derive(PartialEq, Eq, Drop)]
-pub struct SOA {
-    pub mname: Name,
-    pub rname: Name,
-    pub serial: u32,
-    pub refresh: i32,
-    pub retry: i32,
-    pub expire: i32,
-    pub minimum: u32,
+pub enum RData {
+    /// An address of four octets (RFC 1035 section 3.4.1).
+    A([u8; 4]),
+    /// An address of sixteen octets (RFC 3596 section 2.2).
+    AAAA([u8; 16]),
+    /// A server of the zone that begins at the owner (RFC 1035 section 3.3.11).
+    NS(Name),
+    /// The name that the owner is an alias of (RFC 1035 section 3.3.1).
+    CNAME(Name),
+    /// The name whose addresses the owner takes as its own.
+    ANAME(Name),
+    /// The start of a zone of authority.
+    SOA(SOA),
+    /// A mail exchange.
+    MX(MX),
+    /// A server of a service.
+    SRV(SRV),
+    /// A public key.
+    DNSKEY(DNSKEY),
+    /// A denial by names.
+    NSEC(NSEC),
+    /// A denial by hashed names.
+    NSEC3(NSEC3),
+    /// The parameters of the hashes.
+    NSEC3PARAM(NSEC3PARAM),
+    /// A signature.
+    RRSIG(RRSIG),
+    /// Any other type and its octets.
+    Other(OtherData),
 }
 
-#[derive(PartialEq, Eq, Drop)]
-pub struct MX {
-    pub preference: u16,
-    pub exchange: Name,
-}
+impl RData {
+    ghost use Rattle.zone_proto.specs.Data.{type_of};
 
-#[derive(PartialEq, Eq, Drop)]
-pub struct SRV {
-    pub priority: u16,
-    pub weight: u16,
-    pub port: u16,
-    pub target: Name,
-}
-
-#[derive(PartialEq, Eq, Drop)]
-pub struct DNSKEY {
-    pub flags: u16,
-    pub protocol: u8,
-    pub algorithm: u8,
-    pub public_key: Seq<u8>,
-}
-
-#[derive(PartialEq, Eq, Drop)]
-pub struct NSEC {
-    pub next_domain_name: Name,
-    pub types: Seq<RecordType>,
-}
-
-#[derive(PartialEq, Eq, Drop)]
-pub struct NSEC3 {
-    pub algorithm: u8,
-    pub opt_out: bool,
-    pub iterations: u16,
-    pub salt: Seq<u8>,
-    pub next_hashed_owner_name: Seq<u8>,
-    pub types: Seq<RecordType>,
-}
-
-#[derive(PartialEq, Eq, Drop)]
-pub struct NSEC3PARAM {
-    pub algorithm: u8,
-    pub opt_out: bool,
-    pub iterations: u16,
-    pub salt: Seq<u8>,
-}
-
-#[derive(PartialEq, Eq, Drop)]
-pub struct RRSIG {
-    pub type_covered: RecordType,
-    pub algorithm: u8,
-    pub num_labels: u8,
-    pub original_ttl: u32,
-    pub expiration: u32,
-    pub inception: u32,
-    pub key_tag: u16,
-    pub signer_name: Name,
-    pub signature: Seq<u8>,
-}
-
-#[derive(PartialEq, Eq, Drop)]
-pub struct OtherData {
-    record_type: RecordType,
-    octets: Seq<u8>,
-    ghost other: { has_own_case record_type.0 ≡ false },
-}
-
-impl OtherData {
-    pub fn new(record_type: RecordType, octets: Vec<u8>) -> Option<OtherData>
-        ensures none { IsNone result ↔ has_own_case record_type.0 ≡ true }
-        ensures some { IfSome result (λ d. d.record_type ≡ record_type) }
-        ensures data { IfSome result (λ d. d.octets ≡ octets.items) }
+    /// The type of the data.
+    pub fn record_type(&self) -> RecordType
+        ensures { result.0 ≡ type_of self.now }
     {
-        if record_type.has_own_case() {
-            return None;
+        match self {
+            RData::A(_) => RecordType::A,
+            RData::AAAA(_) => RecordType::AAAA,
+            RData::NS(_) => RecordType::NS,
+            RData::CNAME(_) => RecordType::CNAME,
+            RData::ANAME(_) => RecordType::ANAME,
+            RData::SOA(_) => RecordType::SOA,
+            RData::MX(_) => RecordType::MX,
+            RData::SRV(_) => RecordType::SRV,
+            RData::DNSKEY(_) => RecordType::DNSKEY,
+            RData::NSEC(_) => RecordType::NSEC,
+            RData::NSEC3(_) => RecordType::NSEC3,
+            RData::NSEC3PARAM(_) => RecordType::NSEC3PARAM,
+            RData::RRSIG(_) => RecordType::RRSIG,
+            RData::Other(other) => other.record_type(),
         }
-        Some(OtherData {
-            record_type,
-            octets: Seq::from_vec(octets),
-        })
     }
 
-    pub fn clone(&self) -> Result<OtherData, ProtoError>
+    /// A copy of these data, all parts alike, the case of letters in names too; `Memory` where none is found.
+    pub fn clone(&self) -> Result<RData, ProtoError>
         ensures ok { IfOk result (λ d. d ≡ self.now) }
         ensures err { IfErr result (λ e. e ≡ ProtoError.Memory) }
     {
-        Ok(OtherData {
-            record_type: self.record_type,
-            octets: self.octets.clone()?,
-        })
+        match self {
+            RData::A(octets) => Ok(RData::A(*octets)),
+            RData::AAAA(octets) => Ok(RData::AAAA(*octets)),
+            RData::NS(name) => Ok(RData::NS(name.clone()?)),
+            RData::CNAME(name) => Ok(RData::CNAME(name.clone()?)),
+            RData::ANAME(name) => Ok(RData::ANAME(name.clone()?)),
+            RData::SOA(soa) => Ok(RData::SOA(soa.clone()?)),
+            RData::MX(mx) => Ok(RData::MX(mx.clone()?)),
+            RData::SRV(srv) => Ok(RData::SRV(srv.clone()?)),
+            RData::DNSKEY(key) => Ok(RData::DNSKEY(key.clone()?)),
+            RData::NSEC(nsec) => Ok(RData::NSEC(nsec.clone()?)),
+            RData::NSEC3(nsec3) => Ok(RData::NSEC3(nsec3.clone()?)),
+            RData::NSEC3PARAM(param) => Ok(RData::NSEC3PARAM(param.clone()?)),
+            RData::RRSIG(rrsig) => Ok(RData::RRSIG(rrsig.clone()?)),
+            RData::Other(other) => Ok(RData::Other(other.clone()?)),
+        }
     }
-
-    pub fn record_type(&self) -> RecordType
-        ensures { result ≡ self.now.record_type }
-    {
-        self.record_type
-    }
-}
-
-#[derive(PartialEq, Eq, Drop)]
-pub enum RData {
-    A([u8; 4]),
-    AAAA([u8; 16]),
-    NS(Name),
-    CNAME(Name),
-    ANAME(Name),
-    SOA(SOA),
-    MX(MX),
-    SRV(SRV),
-    DNSKEY(DNSKEY),
-    NSEC(NSEC),
-    NSEC3(NSEC3),
-    NSEC3PARAM(NSEC3PARAM),
-    RRSIG(RRSIG),
-    Other(OtherData),
 }

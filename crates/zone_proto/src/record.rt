@@ -1,34 +1,13 @@
-ghost use Rattle.std.specs.Prelude.{◌≡◌};
+ghost use Rattle.std.specs.Prelude.{◌≡◌, IfOk, IfErr};
 ghost use Rattle.zone_proto.specs.Data.{type_of};
 ghost use Rattle.zone_proto.specs.Records.{same_record};
 
 use crate::dns_class::DNSClass;
+use crate::error::ProtoError;
 use crate::name::Name;
 use crate::rdata::RData;
 use crate::record_type::RecordType;
-
-impl RData {
-    pub fn record_type(&self) -> RecordType
-        ensures { result.0 ≡ type_of self.now }
-    {
-        match self {
-            RData::A(_) => RecordType::A,
-            RData::AAAA(_) => RecordType::AAAA,
-            RData::NS(_) => RecordType::NS,
-            RData::CNAME(_) => RecordType::CNAME,
-            RData::ANAME(_) => RecordType::ANAME,
-            RData::SOA(_) => RecordType::SOA,
-            RData::MX(_) => RecordType::MX,
-            RData::SRV(_) => RecordType::SRV,
-            RData::DNSKEY(_) => RecordType::DNSKEY,
-            RData::NSEC(_) => RecordType::NSEC,
-            RData::NSEC3(_) => RecordType::NSEC3,
-            RData::NSEC3PARAM(_) => RecordType::NSEC3PARAM,
-            RData::RRSIG(_) => RecordType::RRSIG,
-            RData::Other(other) => other.record_type(),
-        }
-    }
-}
+use std::alloc::Global;
 
 /// A record. Two records are equal by owner, class, type and data; the TTL is left aside.
 #[derive(Drop)]
@@ -58,6 +37,29 @@ impl Record {
     {
         self.rdata.record_type()
     }
+
+    pub fn clone(&self) -> Result<Record, ProtoError>
+        ensures ok { IfOk result (λ r. r ≡ self.now) }
+        ensures err { IfErr result (λ e. e ≡ ProtoError.Memory) }
+    {
+        Ok(Record {
+            name: self.name.clone()?,
+            dns_class: self.dns_class,
+            ttl: self.ttl,
+            rdata: self.rdata.clone()?,
+        })
+    }
+}
+
+pub fn clone_records(alloc: Global, records: &[Record]) -> Result<Vec<Record>, ProtoError>
+    ensures ok { IfOk result (λ v. v.items ≡ records.now) }
+    ensures err { IfErr result (λ e. e ≡ ProtoError.Memory) }
+{
+    let mut copies = Vec::new(alloc);
+    for stored in records {
+        copies.push(stored.clone()?)?;
+    }
+    Ok(copies)
 }
 
 #[tactic(auto, using(crate::proofs::DataLaws::derived_same))]

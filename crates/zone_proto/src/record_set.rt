@@ -6,12 +6,11 @@ ghost use Rattle.zone_proto.specs.Data.{same_data};
 ghost use Rattle.zone_proto.specs.declared.record.Record.{Record};
 ghost use Rattle.zone_proto.specs.Sets.{inserted, place_of, soa_serial, first_serial, is_alias, stores, lent};
 
-use crate::clones::clone_records;
 use crate::dns_class::DNSClass;
 use crate::error::ProtoError;
 use crate::name::Name;
 use crate::rdata::RData;
-use crate::record::Record;
+use crate::record::{Record, clone_records};
 use crate::record_type::RecordType;
 use std::marker::Model;
 use std::mem;

@@ -1,12 +1,11 @@
-ghost use Rattle.std.specs.Prelude.{◌≡◌, ℕ, List, Option, Some, None, ◌⊎◌, IfOk, IfErr, OnOk, ◌++◌, [], option_map};
+ghost use Rattle.std.specs.Prelude.{◌≡◌, ℕ, List, Option, IfOk, IfErr, OnOk, ◌++◌, [], option_map};
 ghost use Rattle.std.specs.List.{cons_option};
 ghost use Rattle.zone_proto.specs.Signing.{SignedPart, signed_part, signature_record, signatures_by};
-ghost use Rattle.zone_proto.specs.declared.rdata.DNSKEY.{DNSKEY};
-ghost use Rattle.zone_proto.specs.declared.rdata.RRSIG.{RRSIG};
+ghost use Rattle.zone_proto.specs.declared.rdata.signing.DNSKEY.{DNSKEY};
+ghost use Rattle.zone_proto.specs.declared.rdata.signing.RRSIG.{RRSIG};
 
 use crate::dns_class::DNSClass;
 use crate::error::ProtoError;
-use crate::name::LowerName;
 use crate::rdata::{DNSKEY, RData, RRSIG};
 use crate::record::Record;
 use crate::record_set::RecordSet;
@@ -29,22 +28,6 @@ pub trait Signer: Drop {
     ) -> Result<Option<RRSIG>, ProtoError>
         ensures ok { IfOk result (λ r. r ≡ signature_of self.now (signed_part set.now) class.0 inception) }
         ensures err { IfErr result (λ e. e ≡ ProtoError.Memory) };
-}
-
-/// A hash: the arguments determine a digest or none.
-pub trait Nsec3Hash: Drop {
-    ghost digest_of: { Self → ℕ → List ℕ → List (List ℕ) → ℕ → Option (List ℕ) };
-
-    fn hash(
-        &self,
-        algorithm: u8,
-        salt: &[u8],
-        name: &LowerName,
-        iterations: u16,
-    ) -> Result<Vec<u8>, ProtoError>
-        ensures ok { IfOk result (λ d. digest_of self.now algorithm salt.now name.now iterations ≡ Some d.items) }
-        ensures err { IfErr result (λ e. (e ≡ ProtoError.Memory)
-            ⊎ ((e ≡ ProtoError.Hash) × (digest_of self.now algorithm salt.now name.now iterations ≡ None))) };
 }
 
 /// Drops the signatures of a set, and signs it by each signer in order.

@@ -1,7 +1,7 @@
-use Rattle.std.proofs.Common.{◌≡◌, ◌∙◌, ◌++◌, ◌∷◌, [], sym, ap, rules, arith, true}
+use Rattle.std.proofs.Common.{◌≡◌, ◌∙◌, ◌++◌, ◌∷◌, [], sym, ap, rules, true}
 use Rattle.zone_proto.specs.Names.{same_name}
 use Rattle.zone_proto.specs.Data.{type_of}
-use Rattle.zone_proto.specs.Sets.{IsSet, RRset, place_of}
+use Rattle.zone_proto.specs.Sets.{RRset, place_of}
 use Rattle.zone_proto.specs.declared.record_set.Place.TheVariants.{Last}
 use Rattle.zone_proto.specs.declared.record_type.RecordType.{RecordType}
 use Rattle.zone_proto.proofs.SetLaws.{IsSet-alone, IsSet-last, IsSet-along}

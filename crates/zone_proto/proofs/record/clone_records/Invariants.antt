@@ -1,5 +1,5 @@
 use Rattle.std.proofs.Common.{◌≡◌, take}
-use Rattle.zone_proto.proofs.clones.clone_records.Given as goal
+use Rattle.zone_proto.proofs.record.clone_records.Given as goal
 
 abbrev pub invariant-loop-stored : goal.invariant-loop-stored
 invariant-loop-stored l = l.copies.items ≡ take l.stored-index l.records

@@ -1,0 +1,45 @@
+ghost use Rattle.std.specs.Prelude.{◌≡◌, IfOk, IfErr};
+
+use crate::error::ProtoError;
+use crate::seq::Seq;
+
+/// How a zone denies what it doesn't hold: by names (RFC 4034 section 4) or by hashed names (RFC 5155).
+#[derive(PartialEq, Eq, Drop)]
+pub enum NxProofKind {
+    /// By NSEC records.
+    Nsec,
+    /// By NSEC3 records.
+    Nsec3 {
+        /// The hash algorithm's number; 1 is SHA-1.
+        algorithm: u8,
+        /// What is appended to each hashed text.
+        salt: Seq<u8>,
+        /// How many more times the hash is taken.
+        iterations: u16,
+        /// Unsigned delegations are left out.
+        opt_out: bool,
+    },
+}
+
+impl NxProofKind {
+    /// A copy of this kind, all parts alike; `Memory` where none is found.
+    pub fn clone(&self) -> Result<NxProofKind, ProtoError>
+        ensures ok { IfOk result (λ k. k ≡ self.now) }
+        ensures err { IfErr result (λ e. e ≡ ProtoError.Memory) }
+    {
+        match self {
+            NxProofKind::Nsec => Ok(NxProofKind::Nsec),
+            NxProofKind::Nsec3 {
+                algorithm,
+                salt,
+                iterations,
+                opt_out,
+            } => Ok(NxProofKind::Nsec3 {
+                algorithm: *algorithm,
+                salt: salt.clone()?,
+                iterations: *iterations,
+                opt_out: *opt_out,
+            }),
+        }
+    }
+}

@@ -1,0 +1,28 @@
+ghost use Rattle.std.specs.Prelude.{◌≡◌, IfOk, IfErr};
+
+use crate::error::ProtoError;
+use crate::name::Name;
+
+/// The data of an MX record: a mail exchange of the owner (RFC 1035 section 3.3.9).
+///
+/// Equal by all parts, names without case.
+#[derive(PartialEq, Eq, Drop)]
+pub struct MX {
+    /// The lower value is preferred.
+    pub preference: u16,
+    /// The host that takes the mail.
+    pub exchange: Name,
+}
+
+impl MX {
+    /// A copy of these data, all parts alike, the case of letters in names too; `Memory` where none is found.
+    pub fn clone(&self) -> Result<MX, ProtoError>
+        ensures ok { IfOk result (λ d. d ≡ self.now) }
+        ensures err { IfErr result (λ e. e ≡ ProtoError.Memory) }
+    {
+        Ok(MX {
+            preference: self.preference,
+            exchange: self.exchange.clone()?,
+        })
+    }
+}

@@ -1,0 +1,34 @@
+ghost use Rattle.std.specs.Prelude.{◌≡◌, IfOk, IfErr};
+
+use crate::error::ProtoError;
+use crate::name::Name;
+
+/// The data of an SRV record: where a service is found (RFC 2782).
+///
+/// Equal by all parts, names without case.
+#[derive(PartialEq, Eq, Drop)]
+pub struct SRV {
+    /// The lower value is tried first.
+    pub priority: u16,
+    /// The share among those of one priority.
+    pub weight: u16,
+    /// The port of the service.
+    pub port: u16,
+    /// The host that offers the service.
+    pub target: Name,
+}
+
+impl SRV {
+    /// A copy of these data, all parts alike, the case of letters in names too; `Memory` where none is found.
+    pub fn clone(&self) -> Result<SRV, ProtoError>
+        ensures ok { IfOk result (λ d. d ≡ self.now) }
+        ensures err { IfErr result (λ e. e ≡ ProtoError.Memory) }
+    {
+        Ok(SRV {
+            priority: self.priority,
+            weight: self.weight,
+            port: self.port,
+            target: self.target.clone()?,
+        })
+    }
+}

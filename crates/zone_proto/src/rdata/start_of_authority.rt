@@ -1,0 +1,43 @@
+ghost use Rattle.std.specs.Prelude.{◌≡◌, IfOk, IfErr};
+
+use crate::error::ProtoError;
+use crate::name::Name;
+
+/// The data of an SOA record: the start of a zone of authority (RFC 1035 section 3.3.13).
+///
+/// Equal by all parts, names without case.
+#[derive(PartialEq, Eq, Drop)]
+pub struct SOA {
+    /// The server that is the zone's original source.
+    pub mname: Name,
+    /// The mailbox of the person responsible, as a name.
+    pub rname: Name,
+    /// The version of the zone.
+    pub serial: u32,
+    /// Seconds before the zone is to be refreshed.
+    pub refresh: i32,
+    /// Seconds before a failed refresh is to be tried again.
+    pub retry: i32,
+    /// Seconds after which the zone is no longer authoritative.
+    pub expire: i32,
+    /// The TTL of negative answers, in seconds (RFC 2308 section 4).
+    pub minimum: u32,
+}
+
+impl SOA {
+    /// A copy of these data, all parts alike, the case of letters in names too; `Memory` where none is found.
+    pub fn clone(&self) -> Result<SOA, ProtoError>
+        ensures ok { IfOk result (λ d. d ≡ self.now) }
+        ensures err { IfErr result (λ e. e ≡ ProtoError.Memory) }
+    {
+        Ok(SOA {
+            mname: self.mname.clone()?,
+            rname: self.rname.clone()?,
+            serial: self.serial,
+            refresh: self.refresh,
+            retry: self.retry,
+            expire: self.expire,
+            minimum: self.minimum,
+        })
+    }
+}
