@@ -1,8 +1,8 @@
 -- What the entries from a name's least key on say of the name, and of the names below it
 use Rattle.std.proofs.Common.{◌≡◌, ℕ, zero, suc, ◌&&◌, ◌||◌, Bool, true, false, cond, List, [], ◌∷◌, map, refl, sym, ap, ◌∙◌, subst, true≢false, arith, ◌⊎◌, inl, inr, Ordering, Less, Equal, Greater}
-use Rattle.std.specs.Prelude.{Option, Some, None, filter, filter_map, take_while}
+use Rattle.std.specs.Prelude.{Some, None, take_while}
 use Rattle.std.specs.Ordering.{nat_cmp, ordering_then, ordering_reverse, is_le, is_eq, is_lt, is_gt, eq_by_cmp}
-use Rattle.std.specs.Cmp.{nat_cmp_is, both_ways}
+use Rattle.std.specs.Cmp.{nat_cmp_is}
 use Rattle.std.specs.List.{list_any, cons_option, AllByRecursion}
 use Rattle.std.specs.List.Sorted.{IsStrictlySortedBy}
 use Rattle.std.specs.Map.{keys_of}
@@ -179,3 +179,23 @@ below_is_first n (e ∷ m) s = by (name_cmp n e.0.name) refl (below_is_first n m
         ap (λ b. b || owns_at_or_below m n) (before_not_below n e h)
         ∙ ih
         ∙ ap (λ b. first_is_below n (cond b (e ∷ from_key (key n 0) m) (from_key (key n 0) m))) (sym (earlier n e h))
+
+-- ---- a loop over a front that looks for a type which passes a test
+
+module _ (p : ℕ → Bool) (n : Name) where
+  pub front_found : (s t : Sets) (e : RrKey × RRset) → s ≡ e ∷ t → eq_by_cmp name_cmp e.0.name n ≡ true → p e.0.record_type.0 ≡ true → list_any p (front_types n s) ≡ true
+  front_found s t e is h g = ap (λ r. list_any p (front_types n r)) is ∙ ap (list_any p) (front_taken n e t h) ∙ ap (λ b. b || list_any p (front_types n t)) g
+
+  pub front_passed : (s t : Sets) (e : RrKey × RRset) → s ≡ e ∷ t → eq_by_cmp name_cmp e.0.name n ≡ true → p e.0.record_type.0 ≡ false
+      → list_any p (front_types n t) ≡ list_any p (front_types n s)
+  front_passed s t e is h g = sym (ap (λ r. list_any p (front_types n r)) is ∙ ap (list_any p) (front_taken n e t h) ∙ ap (λ b. b || list_any p (front_types n t)) g)
+
+  pub front_over : (s t : Sets) (e : RrKey × RRset) → s ≡ e ∷ t → eq_by_cmp name_cmp e.0.name n ≡ false → list_any p (front_types n s) ≡ false
+  front_over s t e is h = ap (λ r. list_any p (front_types n r)) is ∙ ap (list_any p) (front_ended n e t h)
+
+-- from the least key on, a loop over the front sees the types that the name owns
+pub front_is_whole : (p : ℕ → Bool) (least : RrKey) (m es : Sets) → least.record_type.0 ≡ 0 → IsStrictlySortedBy key_cmp (keys_of es) → es ≡ m
+    → list_any p (front_types least.name (from_key least m)) ≡ list_any p (types_at m least.name)
+front_is_whole p least m es type_zero sorted same =
+    ap (λ t. list_any p (front_types least.name (from_key (key least.name t) m))) type_zero
+    ∙ ap (list_any p) (front_is_types least.name m (subst (λ (x : Sets). IsStrictlySortedBy key_cmp (keys_of x)) same sorted))

@@ -1,17 +1,17 @@
 -- What the lists of a map's owners, types and names have in them
-use Rattle.std.proofs.Common.{◌≡◌, ℕ, Bool, true, false, cond, List, [], ◌∷◌, refl, sym, ap, ◌∙◌, subst, inl, inr, true≢false, eqb-true, eq-eqb}
-use Rattle.std.specs.Prelude.{Option, Some, None, is_some, ◌==◌, IfSome, option_copied, map}
+use Rattle.std.proofs.Common.{◌≡◌, ℕ, Bool, true, false, cond, [], ◌∷◌, refl, sym, ap, ◌∙◌, inl, inr, true≢false}
+use Rattle.std.specs.Prelude.{Option, Some, None, is_some, IfSome, option_copied}
 use Rattle.std.specs.Borrow.{Bor}
-use Rattle.std.specs.Map.{keys_of, lookup}
+use Rattle.std.specs.Map.{keys_of}
 use Rattle.std.proofs.lemmas.Map.Made.{is_some-lookup}
 use Rattle.zone_proto.specs.declared.rr_key.RrKey.{RrKey}
 use Rattle.zone_proto.specs.Keys.{key, key_eq}
 use Rattle.zone_proto.specs.Names.{Name, name_eq}
 use Rattle.zone_proto.specs.Sets.{RRset}
 use Rattle.zone_proto.proofs.KeyOrder.{key_same, key_itself}
-use Rattle.zone_proto.proofs.Members.{In, In-from_any, any_from_In, In-filter_map, In-from_filter_map, In-map, In-from_map}
+use Rattle.zone_proto.proofs.Members.{In, any_from_In, In-filter_map, In-from_filter_map, In-map, In-from_map}
 use Rattle.zone_proto.proofs.Tree.{name_decides}
-use Rattle.zone_store.specs.Zones.{Sets, set_at, owns, owners, types_at, names_of, IsStoredAt, IsRecordMap}
+use Rattle.zone_store.specs.Zones.{Sets, set_at, owns, types_at, names_of, IsStoredAt, IsRecordMap}
 
 -- an entry of an owned key stands in the map
 pub has_entry : (m : Sets) (n : Name) (t : ℕ) → owns m n t ≡ true → (s : RRset) × In (key n t, s) m

@@ -1,5 +1,5 @@
 -- The insertion of a record into a zone
-use Rattle.std.specs.Prelude.{ℕ, Bool, ◌&&◌, ◌||◌, not, cond, ◌==◌, Option, Some, None, unwrap_or, option_map}
+use Rattle.std.specs.Prelude.{ℕ, Bool, ◌&&◌, ◌||◌, not, cond, ◌==◌, Option, None, unwrap_or, option_map}
 use Rattle.std.specs.Bool.{beq}
 use Rattle.std.specs.List.{list_any}
 use Rattle.zone_proto.specs.declared.record.Record.{Record}
