@@ -13,4 +13,5 @@ pub mod Data
 pub mod Records
 pub mod Sets
 pub mod SetInside
+pub mod Insertion
 pub mod Signing
