@@ -9,6 +9,7 @@ pub mod Parse
 pub mod Reading
 pub mod Before
 pub mod Types
+pub mod TypeText
 pub mod Data
 pub mod Records
 pub mod Sets

@@ -1,5 +1,4 @@
-use Rattle.std.proofs.Common.{◌≡◌, ◌∙◌, ap, true}
-use Rattle.zone_proto.specs.Names.{same_name}
+use Rattle.std.proofs.Common.{◌≡◌, ◌∙◌, ap}
 use Rattle.zone_proto.specs.NameLaws.{caseless_eq_equiv}
 use Rattle.zone_proto.specs.Sets.{RRset}
 use Rattle.zone_proto.specs.declared.record.Record.{Record}

@@ -1,11 +1,9 @@
-use Rattle.std.proofs.Common.{◌≡◌, ◌∙◌, ℕ, sym, ap, refl, true, false, unwrap_or}
-use Rattle.std.specs.Prelude.{Option}
+use Rattle.std.proofs.Common.{◌≡◌, ◌∙◌, sym, ap, refl, true, false}
 use Rattle.zone_proto.specs.Names.{same_name}
 use Rattle.zone_proto.specs.Data.{type_of}
-use Rattle.zone_proto.specs.Sets.{RRset, inserted}
+use Rattle.zone_proto.specs.Sets.{RRset}
 use Rattle.zone_proto.specs.SetInside.{set_of}
 use Rattle.zone_proto.specs.Insertion.{is_refused}
-use Rattle.zone_proto.specs.declared.record.Record.{Record}
 use Rattle.zone_proto.proofs.SetLaws.{IsSet-with, inserted_taken}
 use Rattle.zone_proto.proofs.record_set.RecordSet.insert.Goals as goal
 
