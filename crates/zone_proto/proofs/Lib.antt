@@ -8,6 +8,7 @@ pub mod FromFront
 pub mod LabelFacts
 pub mod RoundTrip
 pub mod BeforeLaws
+pub mod TypeTextLaws
 pub mod DataLaws
 pub mod SetLaws
 pub mod SigningLaws

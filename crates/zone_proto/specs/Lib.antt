@@ -10,8 +10,10 @@ pub mod Parse
 pub mod Reading
 pub mod Before
 pub mod Types
+pub mod TypeText
 pub mod Data
 pub mod Records
 pub mod Sets
 pub mod SetInside
+pub mod Insertion
 pub mod Signing

@@ -1,3 +1,5 @@
+use std::fmt;
+
 /// A response code (RFC 1035 section 4.1.1, RFC 6895 section 2.3).
 #[derive(Clone, Copy, PartialEq, Eq, Debug)]
 pub enum ResponseCode {
@@ -15,4 +17,23 @@ pub enum ResponseCode {
     Refused,
     /// Any other number.
     Other(u16),
+}
+
+impl fmt::Display for ResponseCode {
+    ghost use Rattle.std.specs.Prelude.{Some};
+    ghost use Rattle.zone_proto.specs.TypeText.{response_code_text};
+
+    ghost output = { λ c. Some (response_code_text c) };
+
+    fn fmt<W: fmt::Write>(&self, f: &mut fmt::Formatter<W>) -> fmt::Result {
+        match *self {
+            ResponseCode::NoError => write!(f, "NoError"),
+            ResponseCode::FormErr => write!(f, "FormErr"),
+            ResponseCode::ServFail => write!(f, "ServFail"),
+            ResponseCode::NXDomain => write!(f, "NXDomain"),
+            ResponseCode::NotImp => write!(f, "NotImp"),
+            ResponseCode::Refused => write!(f, "Refused"),
+            ResponseCode::Other(number) => write!(f, "RCODE{number}"),
+        }
+    }
 }
