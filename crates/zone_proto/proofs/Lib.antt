@@ -1,6 +1,6 @@
 pub mod FromBack
 pub mod Hashes
-pub mod Suffixes
+pub mod AtOrAbove
 pub mod LabelClones
 pub mod Faults
 pub mod Lower
@@ -11,3 +11,7 @@ pub mod BeforeLaws
 pub mod DataLaws
 pub mod SetLaws
 pub mod SigningLaws
+pub mod NameParts
+pub mod NameTree
+pub mod KeyLaws
+pub mod LabelFaults

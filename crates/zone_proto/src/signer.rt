@@ -6,7 +6,7 @@ ghost use Rattle.zone_proto.specs.declared.rdata.RRSIG.{RRSIG};
 
 use crate::dns_class::DNSClass;
 use crate::error::ProtoError;
-use crate::name::LowerName;
+use crate::lower_name::LowerName;
 use crate::rdata::{DNSKEY, RData, RRSIG};
 use crate::record::Record;
 use crate::record_set::RecordSet;
