@@ -1,0 +1,3 @@
+pub mod ControlFlow
+pub mod Sets
+pub mod Answers
