@@ -20,7 +20,7 @@ use std::cmp::Ordering;
 use std::hash::{Hash, Hasher};
 use std::marker::Model;
 
-#[derive(Drop)]
+#[derive(Debug, Drop)]
 pub struct LowerName {
     labels: Vec<Vec<u8>>,
 }
@@ -215,7 +215,7 @@ impl Hash for LowerName {
 }
 
 /// A name that keeps the case of its letters.
-#[derive(Drop)]
+#[derive(Debug, Drop)]
 pub struct Name {
     labels: Vec<Vec<u8>>,
 }

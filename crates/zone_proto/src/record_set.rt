@@ -16,7 +16,7 @@ use std::marker::Model;
 use std::mem;
 
 /// A record set.
-#[derive(Drop)]
+#[derive(Debug, Drop)]
 pub struct RecordSet {
     name: Name,
     record_type: RecordType,
@@ -240,7 +240,7 @@ fn put_alone(records: &mut Vec<Record>, new: Record) -> Result<(), ProtoError>
 }
 
 /// Lends the records of a set, and allocates nothing.
-#[derive(Drop)]
+#[derive(Debug, Drop)]
 pub struct RrsetRecords<'r> {
     records: &'r [Record],
     rrsigs: &'r [Record],
