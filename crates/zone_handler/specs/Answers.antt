@@ -1,10 +1,7 @@
 -- The records that an answer yields, in order
 use Rattle.std.specs.Prelude.{List, [], reverse}
-use Rattle.std.specs.List.{flat_map}
 use Rattle.std.specs.Slice.Iter.{iter_rest}
 use Rattle.zone_proto.specs.declared.record.Record.{Record}
-use Rattle.zone_proto.specs.Sets.{RRset, lent}
-use Rattle.zone_handler.specs.declared.lookup_options.LookupOptions.{LookupOptions}
 use Rattle.zone_handler.specs.declared.lookup_records.LookupRecords.{LookupRecords}
 use Rattle.zone_handler.specs.declared.lookup_records.LookupRecords.TheVariants as L
 use Rattle.zone_handler.specs.declared.lookup_records_iter.LookupRecordsIter.{LookupRecordsIter}

@@ -1,12 +1,13 @@
 ghost use Rattle.std.specs.Prelude.{◌≡◌, Some};
 ghost use Rattle.zone_handler.specs.ControlFlow.{is_continue, is_break, inner_result, flow_text};
 
+use crate::lookup_error::LookupError;
 use std::fmt;
 use std::fmt::Display;
 
 /// What one handler of a chain answers, and how the chain goes on.
 #[derive(Debug, Drop)]
-pub enum LookupControlFlow<T, E> {
+pub enum LookupControlFlow<T, E = LookupError> {
     /// This answer so far; the next handler of the chain may be consulted about it.
     Continue(Result<T, E>),
     /// This answer is final: no other handler is asked.

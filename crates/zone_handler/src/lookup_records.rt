@@ -8,7 +8,7 @@ use crate::sets_iter::SetsIter;
 use zone_proto::{Record, RecordSet};
 
 /// The records of one section of an answer (RFC 1035 section 4.1). The default is empty.
-#[derive(Drop)]
+#[derive(Debug, Drop)]
 pub enum LookupRecords {
     /// No records.
     Empty,
