@@ -18,7 +18,10 @@ pub enum AuthLookupIter<'r> {
 }
 
 impl Default for AuthLookupIter<'_> {
-    ghost is_default = { λ it. left_of it ≡ [] };
+    ghost use Rattle.std.specs.Prelude.{◌≡◌};
+    ghost use Rattle.zone_handler.specs.declared.auth_lookup_iter.AuthLookupIter.TheVariants.{Empty};
+
+    ghost is_default = { λ it. it ≡ Empty };
 
     fn default() -> Self {
         AuthLookupIter::Empty

@@ -24,7 +24,10 @@ pub enum LookupRecords {
 }
 
 impl Default for LookupRecords {
-    ghost is_default = { λ answer. records_in answer ≡ [] };
+    ghost use Rattle.std.specs.Prelude.{◌≡◌};
+    ghost use Rattle.zone_handler.specs.declared.lookup_records.LookupRecords.TheVariants.{Empty};
+
+    ghost is_default = { λ answer. answer ≡ Empty };
 
     fn default() -> LookupRecords {
         LookupRecords::Empty
@@ -34,7 +37,7 @@ impl Default for LookupRecords {
 impl LookupRecords {
     /// The records of one set, with its signatures if `lookup_options` ask for DNSSEC.
     pub fn new(lookup_options: LookupOptions, records: RecordSet) -> LookupRecords
-        ensures { records_in result ≡ set_records lookup_options records }
+        ensures { result ≡ LookupRecords.Records lookup_options records }
     {
         LookupRecords::Records {
             lookup_options,

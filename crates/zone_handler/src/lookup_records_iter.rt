@@ -20,7 +20,10 @@ pub enum LookupRecordsIter<'r> {
 }
 
 impl Default for LookupRecordsIter<'_> {
-    ghost is_default = { λ it. left_in it ≡ [] };
+    ghost use Rattle.std.specs.Prelude.{◌≡◌};
+    ghost use Rattle.zone_handler.specs.declared.lookup_records_iter.LookupRecordsIter.TheVariants.{Empty};
+
+    ghost is_default = { λ it. it ≡ Empty };
 
     fn default() -> Self {
         LookupRecordsIter::Empty
