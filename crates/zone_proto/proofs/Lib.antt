@@ -8,6 +8,11 @@ pub mod FromFront
 pub mod LabelFacts
 pub mod RoundTrip
 pub mod BeforeLaws
+pub mod TypeTextLaws
 pub mod DataLaws
 pub mod SetLaws
 pub mod SigningLaws
+pub mod Members
+pub mod Orders
+pub mod Tree
+pub mod KeyOrder

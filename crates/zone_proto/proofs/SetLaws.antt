@@ -1,40 +1,30 @@
-use Rattle.std.proofs.Common.{◌≡◌, ℕ, List, [], ◌∷◌, ◌++◌, refl, sym, ap, ◌∙◌, subst, Bool, true, false, ◌==◌, ◌||◌, arith}
-use Rattle.std.specs.Prelude.{Option, Some, None, cond, nat_lt}
-use Rattle.std.specs.List.{All, list_any}
+use Rattle.std.proofs.Common.{◌≡◌, ℕ, ◌<◌, List, [], ◌∷◌, ◌++◌, length, get_or, refl, sym, ap, ◌∙◌, subst, Bool, true, false, ◌==◌, if◌then◌else◌, nat_lt, nat_le, lit<, arith}
+use Rattle.std.specs.Prelude.{Option, Some, None}
+use Rattle.std.specs.List.{All}
+use Rattle.std.proofs.lemmas.Bool.Decides.{leb_tells}
 use Rattle.std.proofs.lemmas.List.Folds.{list_any_at}
 use Rattle.std.proofs.lemmas.List.Quantifiers.{all_pairs_push}
 use Rattle.std.proofs.lemmas.List.Elements.{All-push, All-cons}
-use Rattle.zone_proto.specs.Types.{has_own_case}
+use Rattle.zone_proto.specs.Types.{own_types, has_own_case}
 use Rattle.zone_proto.specs.Names.{same_name}
 use Rattle.zone_proto.specs.Data.{same_data, type_of}
-use Rattle.zone_proto.specs.Sets.{IsSet, is_single, is_alias, soa_serial, first_serial, stores, place_by, place_of, soa_place}
+use Rattle.zone_proto.specs.Sets.{RRset, IsSet, is_single, soa_serial, first_serial, stores, with_records, inserted_by, inserted, soa_inserted}
+use Rattle.zone_proto.specs.Insertion.{refused_by, is_refused, records_with}
 use Rattle.zone_proto.specs.declared.rdata.RData.{RData}
 use Rattle.zone_proto.specs.declared.rdata.RData.TheVariants as V
 use Rattle.zone_proto.specs.declared.record.Record.{Record}
-use Rattle.zone_proto.specs.declared.record_set.Place.TheVariants.{Nowhere, Alone, Last}
 
-or_right : (a b : Bool) → (a || b) ≡ false → b ≡ false
-or_right true b h = cc
-or_right false b h = h
+not_true : (b : Bool) → (b ≡ true → ⊥) → b ≡ false
+not_true true h = absurd (h refl)
+not_true false h = refl
 
-or_left : (a b : Bool) → (a || b) ≡ false → a ≡ false
-or_left true b h = cc
-or_left false b h = refl
+-- a type without a case of its own is none of those that have one
+not_own : (t k : ℕ) → k < length own_types → has_own_case t ≡ false → (t == get_or own_types k 0) ≡ false
+not_own t k lt h =
+    not_true _ (λ e. let a : has_own_case t ≡ true = list_any_at (λ (u : ℕ). t == u) own_types k 0 lt e in cc)
 
 not_six : (t : ℕ) → has_own_case t ≡ false → (t == 6) ≡ false
-not_six t h =
-    let a = or_right (t == 1) (list_any (λ (u : ℕ). t == u) (2 ∷ 5 ∷ 6 ∷ 15 ∷ 28 ∷ 33 ∷ 46 ∷ 47 ∷ 48 ∷ 50 ∷ 51 ∷ 65305 ∷ [])) h in
-    let b = or_right (t == 2) (list_any (λ (u : ℕ). t == u) (5 ∷ 6 ∷ 15 ∷ 28 ∷ 33 ∷ 46 ∷ 47 ∷ 48 ∷ 50 ∷ 51 ∷ 65305 ∷ [])) a in
-    let c = or_right (t == 5) (list_any (λ (u : ℕ). t == u) (6 ∷ 15 ∷ 28 ∷ 33 ∷ 46 ∷ 47 ∷ 48 ∷ 50 ∷ 51 ∷ 65305 ∷ [])) b in
-    or_left (t == 6) (list_any (λ (u : ℕ). t == u) (15 ∷ 28 ∷ 33 ∷ 46 ∷ 47 ∷ 48 ∷ 50 ∷ 51 ∷ 65305 ∷ [])) c
-
--- data of a type that has at most one record are an SOA or an alias
-soa_or_alias : (d : RData) → soa_serial d ≡ None → is_alias (type_of d) ≡ false → is_single (type_of d) ≡ false
-soa_or_alias (V.SOA a) h k = cc
-soa_or_alias (V.CNAME a) h k = cc
-soa_or_alias (V.ANAME a) h k = cc
-soa_or_alias (V.Other a) h k = rw (not_six a.record_type.0 a.other) k
-soa_or_alias _ h k = refl
+not_six t h = not_own t 3 (lit< tt) h
 
 -- data of type 6 are an SOA
 six_is_soa : (d : RData) → type_of d ≡ 6 → soa_serial d ≡ None → ⊥
@@ -47,10 +37,6 @@ six_is_soa _ h k = omega arith
 no_soa : (rs : List Record) → All (λ (r : Record). type_of r.rdata ≡ 6) rs → first_serial rs ≡ None → rs ≡ []
 no_soa [] h k = refl
 no_soa (r ∷ rs) h k = absurd (six_is_soa r.rdata (h 0 r (omega arith)) k)
-
-not_true : (b : Bool) → (b ≡ true → ⊥) → b ≡ false
-not_true true h = absurd (h refl)
-not_true false h = refl
 
 -- where data are not stored, each stored record differs from them
 stored_none : (rs : List Record) (d : RData) → stores rs d ≡ false → All (λ (x : Record). same_data x.rdata d ≡ false) rs
@@ -67,58 +53,104 @@ IsSet-alone owner t r o k =
       single = λ _. omega arith;
     }
 
-cond_not : (b : Bool) → cond b Nowhere Last ≡ Last → b ≡ false
-cond_not true h = cc
-cond_not false h = refl
+-- a type without a case of its own is none of those that have at most one record
+not_single : (t : ℕ) → has_own_case t ≡ false → is_single t ≡ false
+not_single t h =
+    rw (not_own t 3 (lit< tt) h, not_own t 2 (lit< tt) h, not_own t 12 (lit< tt) h) refl
 
-cond_soa : (b : Bool) → cond b Alone Nowhere ≡ Last → ⊥
-cond_soa true h = cc
-cond_soa false h = cc
+-- data of a type that may have more records are refused where they are stored
+refused_stored : (rs : List Record) (d : RData) → is_single (type_of d) ≡ false → is_refused rs d ≡ stores rs d
+refused_stored rs (V.SOA a) h = cc
+refused_stored rs (V.CNAME a) h = cc
+refused_stored rs (V.ANAME a) h = cc
+refused_stored rs (V.Other a) h = ap (λ (b : Bool). refused_by None (first_serial rs) b (stores rs (V.Other a))) h
+refused_stored rs _ h = refl
 
-soa_last : (o : Option ℕ) (n : ℕ) → soa_place o n ≡ Last → o ≡ None
-soa_last None n h = refl
-soa_last (Some old) n h = absurd (cond_soa (nat_lt old n) h)
-
-soa_is_six : (d : RData) (n : ℕ) → soa_serial d ≡ Some n → type_of d ≡ 6
-soa_is_six (V.SOA a) n h = refl
-soa_is_six _ n h = cc
-
--- a record that is placed last is one that no other equals, and the first where one alone may stand
-last_facts : (new : Option ℕ) (alias : Bool) (rs : List Record) (d : RData)
-    → soa_serial d ≡ new
-    → is_alias (type_of d) ≡ alias
-    → All (λ (r : Record). type_of r.rdata ≡ type_of d) rs
-    → place_by new alias rs d ≡ Last
-    → (stores rs d ≡ false) × (is_single (type_of d) ≡ true → rs ≡ [])
-last_facts (Some new) alias rs d e a t p =
-    let six = soa_is_six d new e in
-    let none : rs ≡ [] =
-    no_soa rs (λ k x h. t k x h ∙ six) (soa_last (first_serial rs) new p) in
-    (ap (λ (xs : List Record). stores xs d) none, λ _. none)
-last_facts None true rs d e a t p = cc
-last_facts None false rs d e a t p =
-    (cond_not (stores rs d) p, λ h. let f = soa_or_alias d e a in cc)
-
--- a set with one more record last is a set, where that is its place
+-- a set with one more record last is a set, where more may stand and none equals it
 pub IsSet-last : (owner : List (List ℕ)) (t : ℕ) (rs : List Record) (r : Record)
     → same_name r.name owner ≡ true
     → type_of r.rdata ≡ t
     → IsSet owner t rs
-    → place_of rs r.rdata ≡ Last
+    → is_single (type_of r.rdata) ≡ false
+    → is_refused rs r.rdata ≡ false
     → IsSet owner t (rs ++ r ∷ [])
-IsSet-last owner t rs r o k i p =
-    let f =
-    last_facts (soa_serial r.rdata) (is_alias (type_of r.rdata)) rs r.rdata refl refl
-    (λ n d h. i.types n d h ∙ sym k) p in
+IsSet-last owner t rs r o k i n p =
     record {
       owners = All-push (λ (x : Record). same_name x.name owner ≡ true) rs r i.owners o;
       types = All-push (λ (x : Record). type_of x.rdata ≡ t) rs r i.types k;
       differ =
           all_pairs_push (λ (a b : Record). same_data a.rdata b.rdata ≡ false) rs r i.differ
-          (stored_none rs r.rdata f.0);
-      single = λ h. rw (f.1 (ap is_single k ∙ h)) (omega arith);
+          (stored_none rs r.rdata (sym (refused_stored rs r.rdata n) ∙ p));
+      single = λ h. let e : is_single (type_of r.rdata) ≡ true = ap is_single k ∙ h in cc;
     }
+
+with_one : (single : Bool) (owner : List (List ℕ)) (t : ℕ) (rs : List Record) (r : Record)
+    → is_single (type_of r.rdata) ≡ single
+    → same_name r.name owner ≡ true
+    → type_of r.rdata ≡ t
+    → IsSet owner t rs
+    → is_refused rs r.rdata ≡ false
+    → IsSet owner t (if single then r ∷ [] else rs ++ r ∷ [])
+with_one true owner t rs r e o k i p = IsSet-alone owner t r o k
+with_one false owner t rs r e o k i p = IsSet-last owner t rs r o k i e p
+
+-- a set with one more record is a set, where the record isn't refused
+pub IsSet-with : (owner : List (List ℕ)) (t : ℕ) (rs : List Record) (r : Record)
+    → same_name r.name owner ≡ true
+    → type_of r.rdata ≡ t
+    → IsSet owner t rs
+    → is_refused rs r.rdata ≡ false
+    → IsSet owner t (records_with rs r)
+IsSet-with owner t rs r o k i p = with_one (is_single (type_of r.rdata)) owner t rs r refl o k i p
 
 -- what is a set stays one along equations of its parts
 pub IsSet-along : {o o' : List (List ℕ)} {t t' : ℕ} {rs rs' : List Record} → o' ≡ o → t' ≡ t → rs' ≡ rs → IsSet o t rs → IsSet o' t' rs'
 IsSet-along p q e h = rw (p, q, e) h
+
+-- where one number isn't less than another, this is at most that
+not_less : {X : Type 0} (old new : ℕ) (x y : X) → (if nat_lt old new then x else y) ≡ (if nat_le new old then y else x)
+not_less old new x y = grind (arith, leb_tells)
+
+-- an SOA's insertion is made as the program makes it
+soa_with : (s : RRset) (old : Option ℕ) (new : ℕ) (stored : Bool) (r : Record) (serial : ℕ)
+    → (old ≡ None → s.records ≡ [])
+    → soa_inserted old new s r serial
+    ≡ (if refused_by (Some new) old true stored then None else Some (with_records s (r ∷ []) r serial))
+soa_with s None new stored r serial h = ap (λ (rs : List Record). Some (with_records s (rs ++ r ∷ []) r serial)) (h refl)
+soa_with s (Some old) new stored r serial h = not_less old new (Some (with_records s (r ∷ []) r serial)) None
+
+-- an insertion is made as the program makes it
+inserted_with : (s : RRset) (d : RData) (r : Record) (serial : ℕ)
+    → All (λ (x : Record). type_of x.rdata ≡ type_of d) s.records
+    → inserted_by d s r serial
+    ≡ (if is_refused s.records d then None else Some (with_records s (if is_single (type_of d) then r ∷ [] else s.records ++ r ∷ []) r serial))
+inserted_with s (V.SOA a) r serial h = soa_with s (first_serial s.records) a.serial (stores s.records (V.SOA a)) r serial (no_soa s.records h)
+inserted_with s (V.CNAME a) r serial h = refl
+inserted_with s (V.ANAME a) r serial h = refl
+inserted_with s (V.Other a) r serial h = rw (not_single a.record_type.0 a.other) refl
+inserted_with s _ r serial h = refl
+
+pub inserted_is : (s : RRset) (r : Record) (serial : ℕ)
+    → IsSet s.owner s.record_type s.records
+    → type_of r.rdata ≡ s.record_type
+    → inserted s r serial ≡ (if is_refused s.records r.rdata then None else Some (with_records s (records_with s.records r) r serial))
+inserted_is s r serial i k = inserted_with s r.rdata r serial (λ n d h. i.types n d h ∙ sym k)
+
+-- what isn't refused is taken, and what is refused isn't
+pub inserted_taken : (s : RRset) (r : Record) (serial : ℕ)
+    → IsSet s.owner s.record_type s.records
+    → type_of r.rdata ≡ s.record_type
+    → is_refused s.records r.rdata ≡ false
+    → inserted s r serial ≡ Some (with_records s (records_with s.records r) r serial)
+inserted_taken s r serial i k p =
+    inserted_is s r serial i k
+    ∙ ap (λ (b : Bool). if b then None else Some (with_records s (records_with s.records r) r serial)) p
+
+pub inserted_refused : (s : RRset) (r : Record) (serial : ℕ)
+    → IsSet s.owner s.record_type s.records
+    → type_of r.rdata ≡ s.record_type
+    → is_refused s.records r.rdata ≡ true
+    → inserted s r serial ≡ None
+inserted_refused s r serial i k p =
+    inserted_is s r serial i k
+    ∙ ap (λ (b : Bool). if b then None else Some (with_records s (records_with s.records r) r serial)) p

@@ -1,3 +1,4 @@
+pub mod Order
 pub mod Names
 pub mod Vectors
 pub mod NameLaws
@@ -9,8 +10,10 @@ pub mod Parse
 pub mod Reading
 pub mod Before
 pub mod Types
+pub mod TypeText
 pub mod Data
 pub mod Records
 pub mod Sets
 pub mod SetInside
+pub mod Insertion
 pub mod Signing

@@ -1,3 +1,4 @@
+-- Record sets as the program keeps them
 use Rattle.zone_proto.specs.Sets.{RRset, IsSet}
 use Rattle.zone_proto.specs.declared.record_set.RecordSet.TheInside.{Inside}
 

@@ -1,14 +1,16 @@
-use Rattle.std.specs.Prelude.{◌≡◌, ℕ, ◌≤◌, List, [], ◌∷◌, ◌++◌, Bool, true, false, ◌==◌, ◌||◌, cond, nat_lt, length, Option, Some, None}
+-- Record sets, and the insertion of a record
+use Rattle.std.specs.Prelude.{◌≡◌, ℕ, ◌≤◌, List, [], ◌∷◌, ◌++◌, Bool, true, false, ◌==◌, ◌||◌, ◌&&◌, if◌then◌else◌, nat_lt, length, Option, Some, None}
 use Rattle.std.specs.List.{list_any, AllPairs, All}
+use Rattle.std.specs.Cmp.Lexicographic.{pointwise}
 use Rattle.zone_proto.specs.Names.{Name, same_name}
+use Rattle.zone_proto.specs.Types as types
 use Rattle.zone_proto.specs.Data.{same_data, type_of}
+use Rattle.zone_proto.specs.Records.{same_record}
 use Rattle.zone_proto.specs.declared.rdata.RData.{RData}
 use Rattle.zone_proto.specs.declared.rdata.RData.TheVariants as V
 use Rattle.zone_proto.specs.declared.record.Record.{Record}
-use Rattle.zone_proto.specs.declared.record_set.Place.{Place}
-use Rattle.zone_proto.specs.declared.record_set.Place.TheVariants.{Nowhere, Alone, Last}
 
--- a record set, as contracts see it
+-- the records of one owner, type and class (RFC 2181 section 5), with their signatures
 pub record RRset : Type 0 where
   pub owner : Name
   pub record_type : ℕ
@@ -18,16 +20,24 @@ pub record RRset : Type 0 where
   pub records : List Record
   pub signatures : List Record
 
--- a set of this type has at most one record
+-- a set of this type has at most one record: SOA (RFC 1035 section 6.1), CNAME (RFC 1034 section 3.6.2) and ANAME
 abbrev pub is_single : ℕ → Bool
-is_single t = t == 6 || (t == 5 || t == 65305)
+is_single t = t == types.SOA || (t == types.CNAME || t == types.ANAME)
 
--- the records have the set's owner and type, differ in data, and are at most one where the type is SOA, CNAME or ANAME
+-- a set of an owner and a type that has no records yet
+abbrev pub empty_set : Name → ℕ → ℕ → RRset
+empty_set n t serial = record { owner = n; record_type = t; class = types.IN; ttl = 0; serial = serial; records = []; signatures = [] }
+
+-- the records have the set's owner and type, differ in data, and are at most one where the type says so
 pub record IsSet (owner : Name) (record_type : ℕ) (records : List Record) : Type 0 where
   pub owners : All (λ (r : Record). same_name r.name owner ≡ true) records
   pub types : All (λ (r : Record). type_of r.rdata ≡ record_type) records
   pub differ : AllPairs (λ (a b : Record). same_data a.rdata b.rdata ≡ false) records
   pub single : is_single record_type ≡ true → length records ≤ 1
+
+-- sets are equal by all seven parts, names without case, records as records are equal
+abbrev pub same_set : RRset → RRset → Bool
+same_set a b = same_name a.owner b.owner && (a.record_type == b.record_type && (a.class == b.class && (a.ttl == b.ttl && (a.serial == b.serial && (pointwise same_record a.records b.records && (pointwise same_record a.signatures b.signatures))))))
 
 -- the serial of SOA data
 abbrev pub soa_serial : RData → Option ℕ
@@ -39,41 +49,47 @@ abbrev pub first_serial : List Record → Option ℕ
 first_serial [] = None
 first_serial (r ∷ rs) = soa_serial r.rdata
 
--- the set with these records, after a record was taken
-abbrev pub with_records : RRset → List Record → Record → ℕ → RRset
-with_records s rs r serial = record s { records = rs; ttl = r.ttl; serial = serial; signatures = [] }
-
--- a type whose record replaces what is stored
-abbrev pub is_alias : ℕ → Bool
-is_alias t = t == 5 || t == 65305
-
--- whether data are among those stored
+-- whether a stored record has these data
 abbrev pub stores : List Record → RData → Bool
 stores rs d = list_any (λ (x : Record). same_data x.rdata d) rs
 
--- where an SOA goes, by the stored serial and its own
-abbrev pub soa_place : Option ℕ → ℕ → Place
-soa_place None new = Last
-soa_place (Some old) new = cond (nat_lt old new) Alone Nowhere
+-- the set with these records after one was taken: the TTL is the record's, the serial the call's, and the signatures are dropped
+abbrev pub with_records : RRset → List Record → Record → ℕ → RRset
+with_records s rs r serial = record s { records = rs; ttl = r.ttl; serial = serial; signatures = [] }
 
--- where a record goes: an SOA by its serial, a CNAME or ANAME in place of all, any other last unless its data are stored
-abbrev pub place_by : Option ℕ → Bool → List Record → RData → Place
-place_by (Some new) alias rs d = soa_place (first_serial rs) new
-place_by None true rs d = Alone
-place_by None false rs d = cond (stores rs d) Nowhere Last
+-- the set after a record was taken in place of all stored ones
+abbrev pub replaced : RRset → Record → ℕ → RRset
+replaced s r serial = with_records s (r ∷ []) r serial
 
-abbrev pub place_of : List Record → RData → Place
-place_of rs d = place_by (soa_serial d) (is_alias (type_of d)) rs d
+-- the set after a record was taken behind all stored ones
+abbrev pub appended : RRset → Record → ℕ → RRset
+appended s r serial = with_records s (s.records ++ r ∷ []) r serial
 
--- the set after an insertion that takes the record, or none where it is refused
-abbrev pub placed : Place → RRset → Record → ℕ → Option RRset
-placed Nowhere s r serial = None
-placed Alone s r serial = Some (with_records s (r ∷ []) r serial)
-placed Last s r serial = Some (with_records s (s.records ++ r ∷ []) r serial)
+-- an SOA, by the serials of the stored one and its own: it replaces the stored one if its serial is the greater number
+abbrev pub soa_inserted : Option ℕ → ℕ → RRset → Record → ℕ → Option RRset
+soa_inserted None new s r serial = Some (appended s r serial)
+soa_inserted (Some old) new s r serial = if nat_lt old new then Some (replaced s r serial) else None
 
+-- a record by its data: an SOA by its serial, a CNAME or ANAME in place of what is stored, any other unless its data are stored
+abbrev pub inserted_by : RData → RRset → Record → ℕ → Option RRset
+inserted_by (V.SOA a) s r serial = soa_inserted (first_serial s.records) a.serial s r serial
+inserted_by (V.CNAME n) s r serial = Some (replaced s r serial)
+inserted_by (V.ANAME n) s r serial = Some (replaced s r serial)
+inserted_by d s r serial = if stores s.records d then None else Some (appended s r serial)
+
+-- the set after the insertion of a record with a serial; none where the record isn't taken
 abbrev pub inserted : RRset → Record → ℕ → Option RRset
-inserted s r serial = placed (place_of s.records r.rdata) s r serial
+inserted s r serial = inserted_by r.rdata s r serial
 
--- what a reader of a set is given: nothing for a set without records
+-- what a reader of a set is given: nothing where it has no records, else these, and with the signatures those after them
+abbrev pub lent_lists : List Record → List Record → Bool → List Record
+lent_lists [] signatures signed = []
+lent_lists (r ∷ rs) signatures true = (r ∷ rs) ++ signatures
+lent_lists (r ∷ rs) signatures false = r ∷ rs
+
 abbrev pub lent : RRset → Bool → List Record
-lent s signed = cond (length s.records == 0) [] (cond signed (s.records ++ s.signatures) s.records)
+lent s signed = lent_lists s.records s.signatures signed
+
+-- the record of data in a set: of its owner and TTL, and class IN
+abbrev pub record_of : RRset → RData → Record
+record_of s d = record { name = s.owner; dns_class = record { 0 = types.IN }; ttl = s.ttl; rdata = d }

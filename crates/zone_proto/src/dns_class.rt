@@ -1,3 +1,8 @@
+ghost use Rattle.std.specs.Prelude.{Some};
+ghost use Rattle.zone_proto.specs.TypeText.{class_text};
+
+use std::fmt;
+
 /// A class of records, by its number (RFC 1035 section 3.2.4).
 #[derive(Clone, Copy, PartialEq, Eq, Debug)]
 pub struct DNSClass(pub u16);
@@ -8,4 +13,16 @@ impl DNSClass {
 
     /// Chaos.
     pub const CH: DNSClass = DNSClass(3);
+}
+
+impl fmt::Display for DNSClass {
+    ghost output = { λ c. Some (class_text c.0) };
+
+    fn fmt<W: fmt::Write>(&self, f: &mut fmt::Formatter<W>) -> fmt::Result {
+        match *self {
+            DNSClass::IN => write!(f, "IN"),
+            DNSClass::CH => write!(f, "CH"),
+            DNSClass(number) => write!(f, "CLASS{number}"),
+        }
+    }
 }

@@ -3,6 +3,7 @@
 
 mod dns_class;
 mod error;
+mod insertion;
 mod labels;
 pub mod laws;
 mod message;
@@ -16,6 +17,7 @@ mod record_set;
 mod record_type;
 mod response_code;
 mod rr_key;
+mod rrset_records;
 mod seq;
 mod signer;
 mod soa_record;
@@ -30,10 +32,11 @@ pub use nx_proof_kind::NxProofKind;
 pub use parser::parse;
 pub use rdata::{DNSKEY, MX, NSEC, NSEC3, NSEC3PARAM, OtherData, RData, RRSIG, SOA, SRV};
 pub use record::Record;
-pub use record_set::{RecordSet, RrsetRecords};
+pub use record_set::RecordSet;
 pub use record_type::RecordType;
 pub use response_code::ResponseCode;
 pub use rr_key::RrKey;
+pub use rrset_records::RrsetRecords;
 pub use seq::Seq;
 pub use signer::Signer;
 pub use soa_record::SoaRecord;

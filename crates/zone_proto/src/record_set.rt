@@ -1,21 +1,23 @@
-ghost use Rattle.std.specs.Prelude.{◌≡◌, ℕ, [], ◌++◌, ◌∷◌, true, false, ◌==◌, IfOk, OnOk, OnErr, IsErrOf, IfErr, length, is_some, unwrap_or};
-ghost use Rattle.std.specs.Iterator.{YieldsFirstRef, item_count};
+ghost use Rattle.std.specs.Prelude.{◌≡◌, [], ◌++◌, ◌∷◌, true, ◌==◌, IfOk, OnOk, OnErr, IfErr, length, is_some, unwrap_or};
 ghost use Rattle.zone_proto.specs.Names.{same_name};
+ghost use Rattle.zone_proto.specs.Types.{IN};
 ghost use Rattle.zone_proto.specs.Data.{type_of};
-ghost use Rattle.zone_proto.specs.Data.{same_data};
-ghost use Rattle.zone_proto.specs.declared.record.Record.{Record};
-ghost use Rattle.zone_proto.specs.Sets.{inserted, place_of, soa_serial, first_serial, is_alias, stores, lent};
+ghost use Rattle.zone_proto.specs.Sets.{IsSet, inserted, lent, record_of};
 
 use crate::dns_class::DNSClass;
 use crate::error::ProtoError;
+use crate::insertion::{is_refused, put_last, put_record};
 use crate::name::Name;
 use crate::rdata::RData;
 use crate::record::{Record, clone_records};
 use crate::record_type::RecordType;
+use crate::rrset_records::RrsetRecords;
 use std::marker::Model;
-use std::mem;
 
-/// A record set.
+/// The records of one owner and type, with the set's TTL, serial and signatures (RFC 2181 section 5).
+///
+/// Of every set: its records have the set's owner, the case of letters aside, and its type; no two have equal data;
+/// and a set of type SOA, CNAME or ANAME has at most one.
 #[derive(Debug, Drop)]
 pub struct RecordSet {
     name: Name,
@@ -40,11 +42,12 @@ impl Model for RecordSet {
 }
 
 impl RecordSet {
+    /// A set without records, of class IN, TTL 0 and this serial. Takes no memory.
     pub fn new(name: Name, record_type: RecordType, serial: u32) -> RecordSet
         ensures { result ≡ record {
           owner = name;
           record_type = record_type.0;
-          class = 1;
+          class = IN;
           ttl = 0;
           serial = serial;
           records = [];
@@ -63,6 +66,24 @@ impl RecordSet {
         }
     }
 
+    /// A set without records, of class IN, serial 0 and this TTL in seconds. Takes no memory.
+    pub fn with_ttl(name: Name, record_type: RecordType, ttl: u32) -> RecordSet
+        ensures { result ≡ record {
+          owner = name;
+          record_type = record_type.0;
+          class = IN;
+          ttl = ttl;
+          serial = 0;
+          records = [];
+          signatures = [];
+        } }
+    {
+        let mut set = RecordSet::new(name, record_type, 0);
+        set.ttl = ttl;
+        set
+    }
+
+    /// A copy of the set: all parts alike, the case of letters in names, TTLs and serials too. `Memory` where none is found.
     pub fn clone(&self) -> Result<RecordSet, ProtoError>
         ensures ok { IfOk result (λ s. s ≡ self.now) }
         ensures err { IfErr result (λ e. e ≡ ProtoError.Memory) }
@@ -79,69 +100,85 @@ impl RecordSet {
         })
     }
 
-    pub fn ttl(&self) -> u32
-        ensures { result ≡ self.now.ttl }
-    {
-        self.ttl
-    }
-
+    /// The owner name.
     pub fn name(&self) -> &Name
         ensures { result.now ≡ self.now.owner }
     {
         &self.name
     }
 
+    /// The type of the records.
     pub fn record_type(&self) -> RecordType
         ensures { result.0 ≡ self.now.record_type }
     {
         self.record_type
     }
 
-    pub fn is_empty(&self) -> bool
-        ensures { result ≡ (length self.now.records == 0) }
+    /// The class.
+    pub fn dns_class(&self) -> DNSClass
+        ensures { result.0 ≡ self.now.class }
     {
-        self.records.is_empty()
+        self.dns_class
     }
 
+    /// The set's TTL, in seconds: that of the record taken last.
+    pub fn ttl(&self) -> u32
+        ensures { result ≡ self.now.ttl }
+    {
+        self.ttl
+    }
+
+    /// The set's serial: that of the last insertion.
+    pub fn serial(&self) -> u32
+        ensures { result ≡ self.now.serial }
+    {
+        self.serial
+    }
+
+    /// The signatures in order.
     pub fn rrsigs(&self) -> &[Record]
         ensures { result.now ≡ self.now.signatures }
     {
         self.rrsigs.as_slice()
     }
 
-    /// The records in order, and with `and_rrsigs` the signatures after them.
+    /// Whether the set has no records.
+    pub fn is_empty(&self) -> bool
+        ensures { result ≡ (length self.now.records == 0) }
+    {
+        self.records.is_empty()
+    }
+
+    /// The records in order, and with `and_rrsigs` the signatures after them; nothing at all for a set without records.
+    /// Takes no memory.
     pub fn records(&self, and_rrsigs: bool) -> RrsetRecords<'_>
-        ensures { result ≡ lent self.now and_rrsigs }
+        ensures lent { result ≡ lent self.now and_rrsigs }
+        ensures rule { IsSet self.now.owner self.now.record_type self.now.records }
     {
         let records = self.records.as_slice();
         if and_rrsigs && !records.is_empty() {
-            RrsetRecords {
-                records,
-                rrsigs: self.rrsigs.as_slice(),
-            }
+            RrsetRecords::new(records, self.rrsigs.as_slice())
         } else {
-            RrsetRecords {
-                records,
-                rrsigs: &[],
-            }
+            RrsetRecords::new(records, &[])
         }
     }
 
-    pub fn clear_rrsigs(&mut self)
-        ensures { self.new ≡ record self.old { signatures = [] } }
+    /// The records in order. Takes no memory.
+    pub fn records_without_rrsigs(&self) -> RrsetRecords<'_>
+        ensures lent { result ≡ self.now.records }
+        ensures rule { IsSet self.now.owner self.now.record_type self.now.records }
     {
-        self.rrsigs.clear();
+        RrsetRecords::new(self.records.as_slice(), &[])
     }
 
-    pub fn insert_rrsig(&mut self, rrsig: Record) -> Result<(), ProtoError>
-        ensures ok { OnOk result (self.new ≡ record self.old { signatures = self.old.signatures ++ rrsig ∷ [] }) }
-        ensures err { IfErr result (λ e. e ≡ ProtoError.Memory) }
-        ensures same { OnErr result (self.new ≡ self.old) }
-    {
-        self.rrsigs.push(rrsig)?;
-        Ok(())
-    }
-
+    /// Inserts a record of the set's owner and type, and tells whether it was taken.
+    ///
+    /// - An SOA where one is stored is taken if its serial is the greater number, and replaces it.
+    /// - A CNAME or an ANAME is taken, and replaces what is stored.
+    /// - Any other record is taken unless one of equal data is stored, and stands last.
+    ///
+    /// With a taken record the set's TTL becomes the record's, its serial becomes `serial`, and its signatures are dropped.
+    /// A record that isn't taken, and the refusal `Memory`, leave the set as it was.
     pub fn insert(&mut self, new: Record, serial: u32) -> Result<bool, ProtoError>
         requires owner { same_name new.name self.old.owner ≡ true }
         requires kind { type_of new.rdata ≡ self.old.record_type }
@@ -150,125 +187,42 @@ impl RecordSet {
         ensures err { IfErr result (λ e. e ≡ ProtoError.Memory) }
         ensures same { OnErr result (self.new ≡ self.old) }
     {
-        let ttl = new.ttl;
-        match find_place(self.records.as_slice(), &new.rdata) {
-            Place::Nowhere => return Ok(false),
-            Place::Alone => put_alone(&mut self.records, new)?,
-            Place::Last => self.records.push(new)?,
+        if is_refused(self.records.as_slice(), &new.rdata) {
+            return Ok(false);
         }
+        let ttl = new.ttl;
+        put_record(&mut self.records, new)?;
         self.ttl = ttl;
         self.serial = serial;
         self.rrsigs.clear();
         Ok(true)
     }
-}
 
-/// Where an insertion puts a record.
-#[derive(Clone, Copy)]
-pub enum Place {
-    Nowhere,
-    Alone,
-    Last,
-}
-
-fn find_place(records: &[Record], new: &RData) -> Place
-    ensures { result ≡ place_of records.now new.now }
-{
-    if let Some(serial) = soa_serial(new) {
-        return match first_serial(records) {
-            None => Place::Last,
-            Some(old) if old < serial => Place::Alone,
-            Some(_) => Place::Nowhere,
-        };
+    /// Inserts, by the rule of `insert` and with serial 0, a record of these data with the set's owner and TTL and class IN.
+    pub fn add_rdata(&mut self, rdata: RData) -> Result<bool, ProtoError>
+        requires { type_of rdata ≡ self.old.record_type }
+        ensures answer { IfOk result (λ taken. taken ≡ is_some (inserted self.old (record_of self.old rdata) 0)) }
+        ensures after { OnOk result (self.new ≡ unwrap_or (inserted self.old (record_of self.old rdata) 0) self.old) }
+        ensures err { IfErr result (λ e. e ≡ ProtoError.Memory) }
+        ensures same { OnErr result (self.new ≡ self.old) }
+    {
+        let new = Record::from_rdata(self.name.clone()?, self.ttl, rdata);
+        self.insert(new, 0)
     }
-    if is_alias(new) {
-        Place::Alone
-    } else if stores(records, new) {
-        Place::Nowhere
-    } else {
-        Place::Last
+
+    /// Puts a signature, a record of type RRSIG, behind those that the set has. `Memory` leaves the set as it was.
+    pub fn insert_rrsig(&mut self, rrsig: Record) -> Result<(), ProtoError>
+        ensures ok { OnOk result (self.new ≡ record self.old { signatures = self.old.signatures ++ rrsig ∷ [] }) }
+        ensures err { IfErr result (λ e. e ≡ ProtoError.Memory) }
+        ensures same { OnErr result (self.new ≡ self.old) }
+    {
+        put_last(&mut self.rrsigs, rrsig)
     }
-}
 
-fn soa_serial(rdata: &RData) -> Option<u32>
-    ensures { result ≡ soa_serial rdata.now }
-{
-    match rdata {
-        RData::SOA(soa) => Some(soa.serial),
-        _ => None,
-    }
-}
-
-fn is_alias(rdata: &RData) -> bool
-    ensures { result ≡ is_alias (type_of rdata.now) }
-{
-    let record_type = rdata.record_type();
-    record_type.0 == 5 || record_type.0 == 65305
-}
-
-fn first_serial(records: &[Record]) -> Option<u32>
-    ensures { result ≡ first_serial records.now }
-{
-    soa_serial(&records.first()?.rdata)
-}
-
-fn stores(records: &[Record], new: &RData) -> bool
-    ensures { result ≡ stores records.now new.now }
-{
-    records.iter().any(|stored| equal_data(&stored.rdata, new))
-}
-
-#[tactic(auto, using(crate::proofs::DataLaws::derived_same))]
-fn equal_data(a: &RData, b: &RData) -> bool
-    ensures { result ≡ same_data a.now b.now }
-{
-    *a == *b
-}
-
-fn put_alone(records: &mut Vec<Record>, new: Record) -> Result<(), ProtoError>
-    ensures ok { OnOk result (records.new.items ≡ new ∷ []) }
-    ensures err { IfErr result (λ e. e ≡ ProtoError.Memory) }
-    ensures same { OnErr result (records.new.items ≡ records.old.items) }
-{
-    if records.is_empty() {
-        records.push(new)?;
-    } else {
-        records.truncate(1);
-        records[0] = new;
-    }
-    Ok(())
-}
-
-/// Lends the records of a set, and allocates nothing.
-#[derive(Debug, Drop)]
-pub struct RrsetRecords<'r> {
-    records: &'r [Record],
-    rrsigs: &'r [Record],
-}
-
-impl<'r> Model for RrsetRecords<'r> {
-    ghost use Rattle.std.specs.Prelude.{List, ◌++◌};
-    ghost use Rattle.zone_proto.specs.declared.record.Record.{Record};
-
-    ghost Value = { List Record };
-
-    ghost view = { λ s. s.records.now ++ s.rrsigs.now };
-}
-
-impl<'r> Iterator for RrsetRecords<'r> {
-    type Item = &'r Record;
-
-    ghost next_gives = { YieldsFirstRef (λ s. s) };
-
-    ghost remaining = { item_count (λ s. s) };
-
-    fn next(&mut self) -> Option<&'r Record> {
-        if let Some((first, rest)) = self.records.split_first() {
-            self.records = rest;
-            return Some(first);
-        }
-        let (first, rest) = self.rrsigs.split_first()?;
-        self.rrsigs = rest;
-        Some(first)
+    /// Drops the signatures. Takes no memory.
+    pub fn clear_rrsigs(&mut self)
+        ensures { self.new ≡ record self.old { signatures = [] } }
+    {
+        self.rrsigs.clear();
     }
 }

@@ -1,5 +1,11 @@
-ghost use Rattle.std.specs.Prelude.{◌≡◌};
+ghost use Rattle.std.specs.Prelude.{◌≡◌, Some, option_map};
+ghost use Rattle.std.specs.Char.{is_ascii_digit};
+ghost use Rattle.std.specs.List.{list_all};
+ghost use Rattle.std.specs.Option.{option_copied};
 ghost use Rattle.zone_proto.specs.Types.{has_own_case};
+ghost use Rattle.zone_proto.specs.TypeText.{type_word, type_text, type_of_text, number_of, type_words, numbered_type, short_number};
+
+use std::fmt;
 
 /// A type of records, by its number (RFC 1035 section 3.2.2); ordered by number.
 #[derive(Clone, Copy, PartialEq, Eq, PartialOrd, Ord, Hash, Debug)]
@@ -60,5 +66,106 @@ impl RecordType {
                 | RecordType::NSEC3PARAM
                 | RecordType::ANAME
         )
+    }
+
+    /// The type that a text names: a word of a type, as `AAAA`, or `TYPE` and a number of decimal digits up to 65535,
+    /// as `TYPE28`, all in upper case; none for any other text. Takes no memory.
+    pub fn from_text(text: &str) -> Option<RecordType>
+        ensures { option_map (λ t. t.0) result ≡ type_of_text text.now }
+    {
+        match from_word(text) {
+            Some(named) => Some(named),
+            None => from_number(text),
+        }
+    }
+
+    /// The word of the type, where it has one.
+    fn word(self) -> Option<&'static str>
+        ensures { option_copied result ≡ type_word self.0 }
+    {
+        match self {
+            RecordType::A => Some("A"),
+            RecordType::NS => Some("NS"),
+            RecordType::CNAME => Some("CNAME"),
+            RecordType::SOA => Some("SOA"),
+            RecordType::MX => Some("MX"),
+            RecordType::TXT => Some("TXT"),
+            RecordType::AAAA => Some("AAAA"),
+            RecordType::SRV => Some("SRV"),
+            RecordType::DS => Some("DS"),
+            RecordType::RRSIG => Some("RRSIG"),
+            RecordType::NSEC => Some("NSEC"),
+            RecordType::DNSKEY => Some("DNSKEY"),
+            RecordType::NSEC3 => Some("NSEC3"),
+            RecordType::NSEC3PARAM => Some("NSEC3PARAM"),
+            RecordType::AXFR => Some("AXFR"),
+            RecordType::ANY => Some("ANY"),
+            RecordType::ANAME => Some("ANAME"),
+            _ => None,
+        }
+    }
+}
+
+/// The type that a word names.
+fn from_word(text: &str) -> Option<RecordType>
+    ensures { option_map (λ t. t.0) result ≡ number_of text.now type_words }
+{
+    match text {
+        "A" => Some(RecordType::A),
+        "NS" => Some(RecordType::NS),
+        "CNAME" => Some(RecordType::CNAME),
+        "SOA" => Some(RecordType::SOA),
+        "MX" => Some(RecordType::MX),
+        "TXT" => Some(RecordType::TXT),
+        "AAAA" => Some(RecordType::AAAA),
+        "SRV" => Some(RecordType::SRV),
+        "DS" => Some(RecordType::DS),
+        "RRSIG" => Some(RecordType::RRSIG),
+        "NSEC" => Some(RecordType::NSEC),
+        "DNSKEY" => Some(RecordType::DNSKEY),
+        "NSEC3" => Some(RecordType::NSEC3),
+        "NSEC3PARAM" => Some(RecordType::NSEC3PARAM),
+        "AXFR" => Some(RecordType::AXFR),
+        "ANY" => Some(RecordType::ANY),
+        "ANAME" => Some(RecordType::ANAME),
+        _ => None,
+    }
+}
+
+/// The type that `TYPE` and a number name.
+fn from_number(text: &str) -> Option<RecordType>
+    ensures { option_map (λ t. t.0) result ≡ numbered_type text.now }
+{
+    let digits = text.strip_prefix("TYPE")?;
+    Some(RecordType(short_number(digits)?))
+}
+
+/// The value of decimal digits, at least one; none past 65535.
+fn short_number(digits: &str) -> Option<u16>
+    ensures { result ≡ short_number digits.now }
+{
+    if is_digits(digits) {
+        digits.parse::<u16>().ok()
+    } else {
+        None
+    }
+}
+
+fn is_digits(text: &str) -> bool
+    ensures { result ≡ list_all is_ascii_digit text.now }
+{
+    text.bytes().all(|octet| octet.is_ascii_digit())
+}
+
+impl fmt::Display for RecordType {
+    ghost output = { λ t. Some (type_text t.0) };
+
+    fn fmt<W: fmt::Write>(&self, f: &mut fmt::Formatter<W>) -> fmt::Result {
+        if let Some(word) = self.word() {
+            write!(f, "{word}")
+        } else {
+            let number = self.0;
+            write!(f, "TYPE{number}")
+        }
     }
 }

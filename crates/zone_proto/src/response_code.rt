@@ -20,16 +20,20 @@ pub enum ResponseCode {
 }
 
 impl fmt::Display for ResponseCode {
-    /// The code's word, or `RCODE` and the number.
+    ghost use Rattle.std.specs.Prelude.{Some};
+    ghost use Rattle.zone_proto.specs.TypeText.{response_code_text};
+
+    ghost output = { λ c. Some (response_code_text c) };
+
     fn fmt<W: fmt::Write>(&self, f: &mut fmt::Formatter<W>) -> fmt::Result {
-        match self {
-            ResponseCode::NoError => f.write_str("NoError"),
-            ResponseCode::FormErr => f.write_str("FormErr"),
-            ResponseCode::ServFail => f.write_str("ServFail"),
-            ResponseCode::NXDomain => f.write_str("NXDomain"),
-            ResponseCode::NotImp => f.write_str("NotImp"),
-            ResponseCode::Refused => f.write_str("Refused"),
-            ResponseCode::Other(code) => write!(f, "RCODE{code}"),
+        match *self {
+            ResponseCode::NoError => write!(f, "NoError"),
+            ResponseCode::FormErr => write!(f, "FormErr"),
+            ResponseCode::ServFail => write!(f, "ServFail"),
+            ResponseCode::NXDomain => write!(f, "NXDomain"),
+            ResponseCode::NotImp => write!(f, "NotImp"),
+            ResponseCode::Refused => write!(f, "Refused"),
+            ResponseCode::Other(number) => write!(f, "RCODE{number}"),
         }
     }
 }

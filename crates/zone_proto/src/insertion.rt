@@ -1,0 +1,100 @@
+ghost use Rattle.std.specs.Prelude.{◌≡◌, ◌++◌, ◌∷◌, [], IfErr, OnOk, OnErr};
+ghost use Rattle.zone_proto.specs.Data.{same_data};
+ghost use Rattle.zone_proto.specs.Sets.{soa_serial, first_serial, is_single, stores};
+ghost use Rattle.zone_proto.specs.Insertion.{is_refused, records_with};
+
+use crate::error::ProtoError;
+use crate::rdata::RData;
+use crate::record::Record;
+use crate::record_type::RecordType;
+
+/// Whether a set of the type has at most one record.
+fn is_single(record_type: RecordType) -> bool
+    ensures { result ≡ is_single record_type.0 }
+{
+    matches!(
+        record_type,
+        RecordType::SOA | RecordType::CNAME | RecordType::ANAME
+    )
+}
+
+/// Whether these data are refused beside the stored records.
+pub fn is_refused(records: &[Record], new: &RData) -> bool
+    ensures { result ≡ is_refused records.now new.now }
+{
+    if let Some(serial) = soa_serial(new) {
+        return match first_serial(records) {
+            Some(old) => serial <= old,
+            None => false,
+        };
+    }
+    !is_single(new.record_type()) && stores(records, new)
+}
+
+fn soa_serial(rdata: &RData) -> Option<u32>
+    ensures { result ≡ soa_serial rdata.now }
+{
+    match rdata {
+        RData::SOA(soa) => Some(soa.serial),
+        _ => None,
+    }
+}
+
+fn first_serial(records: &[Record]) -> Option<u32>
+    ensures { result ≡ first_serial records.now }
+{
+    soa_serial(&records.first()?.rdata)
+}
+
+fn stores(records: &[Record], new: &RData) -> bool
+    ensures { result ≡ stores records.now new.now }
+{
+    records.iter().any(|stored| equal_data(&stored.rdata, new))
+}
+
+#[tactic(auto, using(crate::proofs::DataLaws::derived_same))]
+fn equal_data(a: &RData, b: &RData) -> bool
+    ensures { result ≡ same_data a.now b.now }
+{
+    *a == *b
+}
+
+/// Puts a record in place of all others where the type has at most one, else behind them.
+pub fn put_record(records: &mut Vec<Record>, new: Record) -> Result<(), ProtoError>
+    ensures ok { OnOk result (records.new.items ≡ records_with records.old.items new) }
+    ensures err { IfErr result (λ e. e ≡ ProtoError.Memory) }
+    ensures same { OnErr result (records.new.items ≡ records.old.items) }
+{
+    if is_single(new.record_type()) {
+        put_alone(records, new)
+    } else {
+        put_last(records, new)
+    }
+}
+
+/// Puts a record in place of all others.
+fn put_alone(records: &mut Vec<Record>, new: Record) -> Result<(), ProtoError>
+    ensures ok { OnOk result (records.new.items ≡ new ∷ []) }
+    ensures err { IfErr result (λ e. e ≡ ProtoError.Memory) }
+    ensures same { OnErr result (records.new.items ≡ records.old.items) }
+{
+    if records.is_empty() {
+        return put_last(records, new);
+    }
+    records.truncate(1);
+    records[0] = new;
+    Ok(())
+}
+
+/// Puts a record behind all others; a list of one has room for one.
+pub fn put_last(records: &mut Vec<Record>, new: Record) -> Result<(), ProtoError>
+    ensures ok { OnOk result (records.new.items ≡ records.old.items ++ new ∷ []) }
+    ensures err { IfErr result (λ e. e ≡ ProtoError.Memory) }
+    ensures same { OnErr result (records.new.items ≡ records.old.items) }
+{
+    if records.is_empty() {
+        records.reserve_exact(1)?;
+    }
+    records.push(new)?;
+    Ok(())
+}

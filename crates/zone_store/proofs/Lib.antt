@@ -1,0 +1,5 @@
+pub mod Owned
+pub mod Neighbours
+pub mod Stored
+pub mod Upserting
+pub mod Clashing

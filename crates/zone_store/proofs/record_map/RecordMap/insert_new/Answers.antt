@@ -1,0 +1,51 @@
+use Rattle.std.proofs.Common.{◌≡◌, ap, sym, ◌∙◌, subst}
+use Rattle.std.specs.Prelude.{Some, None, unwrap_or}
+use Rattle.std.specs.BTreeMap.{insert_entry}
+use Rattle.zone_proto.specs.Data.{type_of}
+use Rattle.zone_proto.specs.Keys.{key_cmp}
+use Rattle.zone_proto.specs.Names.{lower}
+use Rattle.zone_proto.specs.Sets.{RRset, inserted, empty_set}
+use Rattle.zone_proto.specs.declared.rr_key.RrKey.{RrKey}
+use Rattle.zone_store.specs.Zones.{Sets, set_at, put, IsStoredAt, IsRecordMap}
+use Rattle.zone_store.specs.Upserts.{with_record}
+use Rattle.zone_store.proofs.Stored.{IsRecordMap-put}
+use Rattle.zone_store.proofs.Upserting.{same_from_lower, new_stored, new_after, taken_set}
+use Rattle.zone_store.proofs.record_map.RecordMap.insert_new.Goals as goal
+
+pub insert-requires-clause-owner : goal.insert-requires-clause-owner
+insert-requires-clause-owner c =
+    let owner : c.new-set.result.owner ≡ c.args.record.name = ap (λ (s : RRset). s.owner) c.new-set.ensures ∙ c.in_ok-clone.ensures.ok in
+    same_from_lower c.args.record.name c.new-set.result.owner (ap lower (sym owner))
+
+pub invariant_of-self : goal.invariant_of-self
+invariant_of-self c =
+    let made : c.new-set.result ≡ empty_set c.args.record.name (type_of c.args.record.rdata) c.args.serial =
+    c.new-set.ensures ∙ (λ i. empty_set (c.in_ok-clone.ensures.ok i) (c.requires.own_key i).record_type.0 c.args.serial) in
+    let taken : inserted (empty_set c.args.record.name (type_of c.args.record.rdata) c.args.serial) c.args.record c.args.serial ≡ Some c.insert.new.self =
+    ap (λ (s : RRset). inserted s c.args.record c.args.serial) (sym made)
+    ∙ taken_set (inserted c.new-set.result c.args.record c.args.serial) c.new-set.result c.insert.new.self c.in_ok-insert.field-0 c.in_ok-insert.ensures.answer c.if-not-branch.false c.in_ok-insert.ensures.after in
+    let absent : set_at c.self.inside.sets.entries (lower c.args.record.name) (type_of c.args.record.rdata) ≡ None =
+    ap (λ (m : Sets). set_at m (lower c.args.record.name) (type_of c.args.record.rdata)) c.self.view_is ∙ c.requires.absent in
+    let there : IsStoredAt (lower c.args.record.name) (type_of c.args.record.rdata) c.insert.new.self =
+    new_stored c.self.inside.sets.entries c.args.record c.args.serial absent c.insert.new.self taken in
+    IsRecordMap-put c.self.inside.sets.entries c.insert-2.new.self.entries c.args.key c.insert.new.self c.self.invariant
+    (subst (λ (k : RrKey). IsStoredAt k.name k.record_type.0 c.insert.new.self) (sym c.requires.own_key) there)
+    (c.in-Ok.ensures.updates).0
+
+pub returns-in-Ok-clause-after : goal.returns-in-Ok-clause-after
+returns-in-Ok-clause-after c =
+    let made : c.new-set.result ≡ empty_set c.args.record.name (type_of c.args.record.rdata) c.args.serial =
+    c.new-set.ensures ∙ (λ i. empty_set (c.in_ok-clone.ensures.ok i) (c.requires.own_key i).record_type.0 c.args.serial) in
+    let taken : inserted (empty_set c.args.record.name (type_of c.args.record.rdata) c.args.serial) c.args.record c.args.serial ≡ Some c.insert.new.self =
+    ap (λ (s : RRset). inserted s c.args.record c.args.serial) (sym made)
+    ∙ taken_set (inserted c.new-set.result c.args.record c.args.serial) c.new-set.result c.insert.new.self c.in_ok-insert.field-0 c.in_ok-insert.ensures.answer c.if-not-branch.false c.in_ok-insert.ensures.after in
+    let absent : set_at c.self.inside.sets.entries (lower c.args.record.name) (type_of c.args.record.rdata) ≡ None =
+    ap (λ (m : Sets). set_at m (lower c.args.record.name) (type_of c.args.record.rdata)) c.self.view_is ∙ c.requires.absent in
+    let written : c.insert-2.new.self.entries ≡ put c.self.inside.sets.entries (lower c.args.record.name) (type_of c.args.record.rdata) c.insert.new.self =
+    c.in-Ok.ensures.entries ∙ ap (λ (k : RrKey). insert_entry key_cmp c.self.inside.sets.entries k c.insert.new.self) c.requires.own_key in
+    let at : c.self.inside.sets.entries ≡ c.args.self.now = c.self.view_is in
+    subst (λ (m : Sets). c.insert-2.new.self.entries ≡ unwrap_or (with_record m c.args.record c.args.serial) m) at
+    (written ∙ new_after c.self.inside.sets.entries c.args.record c.args.serial absent c.insert.new.self taken)
+
+pub invariant_of-self-2 : goal.invariant_of-self-2
+invariant_of-self-2 c = subst IsRecordMap (sym c.in-Err.ensures.err) c.self.invariant

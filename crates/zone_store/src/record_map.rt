@@ -1,0 +1,170 @@
+ghost use Rattle.std.specs.Prelude.{◌≡◌, [], IfOk, OnOk, OnErr, IfSome, IsOkUnless, None, Some, is_some, unwrap_or, option_copied};
+ghost use Rattle.zone_proto.specs.Keys.{key as key_at};
+ghost use Rattle.zone_proto.specs.Names.{lower};
+ghost use Rattle.zone_proto.specs.Types.{CNAME};
+ghost use Rattle.zone_proto.specs.Data.{type_of};
+ghost use Rattle.zone_proto.specs.Sets.{inserted, empty_set};
+ghost use Rattle.zone_store.specs.Zones.{set_at, owns, IsStoredAt};
+ghost use Rattle.zone_store.specs.Upserts.{upserted, with_record, clash, clashes, is_denial_type};
+
+use std::alloc::Global;
+use std::collections::BTreeMap;
+use std::marker::Model;
+use zone_proto::{DNSClass, LowerName, ProtoError, Record, RecordSet, RecordType, RrKey};
+
+/// The record sets of a zone by their keys.
+#[derive(Drop)]
+pub(crate) struct RecordMap {
+    sets: BTreeMap<RrKey, RecordSet>,
+}
+
+impl Model for RecordMap {
+    ghost use Rattle.zone_store.specs.Zones.{Sets, IsRecordMap};
+
+    ghost Value = { Sets };
+
+    ghost view = { λ m. m.sets.entries };
+
+    ghost invariant = { λ m. IsRecordMap m.sets.entries };
+}
+
+impl RecordMap {
+    pub(crate) fn new(alloc: Global) -> RecordMap
+        ensures { result ≡ [] }
+    {
+        RecordMap {
+            sets: BTreeMap::new(alloc),
+        }
+    }
+
+    /// The map itself.
+    pub(crate) fn as_map(&self) -> &BTreeMap<RrKey, RecordSet>
+        ensures { result.now.entries ≡ self.now }
+    {
+        &self.sets
+    }
+
+    /// The set under a key.
+    pub(crate) fn get(&self, key: &RrKey) -> Option<&RecordSet>
+        ensures found { option_copied result ≡ set_at self.now key.now.name key.now.record_type.0 }
+        ensures stored { IfSome result (λ set. IsStoredAt key.now.name key.now.record_type.0 set.now) }
+    {
+        self.sets.get(key)
+    }
+
+    /// Whether the name of a key owns its type.
+    pub(crate) fn owns(&self, key: &RrKey) -> bool
+        ensures { result ≡ owns self.now key.now.name key.now.record_type.0 }
+    {
+        self.sets.contains_key(key)
+    }
+}
+
+impl RecordMap {
+    /// Takes a record into the set of its name and type, or makes that set.
+    pub(crate) fn upsert(
+        &mut self,
+        record: Record,
+        serial: u32,
+        dns_class: DNSClass,
+    ) -> Result<bool, ProtoError>
+        ensures answer { IfOk result (λ taken. taken ≡ is_some (upserted self.old dns_class.0 «record» serial)) }
+        ensures after { OnOk result (self.new ≡ unwrap_or (upserted self.old dns_class.0 «record» serial) self.old) }
+        ensures err { IsOkUnless result ProtoError.Memory }
+        ensures same { OnErr result (self.new ≡ self.old) }
+    {
+        if record.dns_class != dns_class {
+            return Ok(false);
+        }
+        let mut key = RrKey::new(LowerName::from(record.name.clone()?), record.record_type());
+        if self.clashes(&mut key) {
+            return Ok(false);
+        }
+        self.insert_record(key, record, serial)
+    }
+
+    /// Whether the name of a key owns a type that stands against the key's type.
+    fn clashes(&self, key: &mut RrKey) -> bool
+        ensures answer { result ≡ clashes self.now key.old.name key.old.record_type.0 }
+        ensures same { key.new ≡ key.old }
+    {
+        let record_type = key.record_type;
+        if is_denial_type(record_type) {
+            return false;
+        }
+        if record_type == RecordType::CNAME {
+            key.record_type = RecordType(0);
+            let found = self.owns_beside_cname(key);
+            key.record_type = record_type;
+            return found;
+        }
+        key.record_type = RecordType::CNAME;
+        let found = self.owns(key);
+        key.record_type = record_type;
+        found
+    }
+
+    /// Whether the name of its least key owns a type that may not stand beside a CNAME.
+    fn owns_beside_cname(&self, least: &RrKey) -> bool
+        requires { least.now.record_type.0 ≡ 0 }
+        ensures { result ≡ clashes self.now least.now.name CNAME }
+    {
+        let _count = self.sets.len();
+        for (key, _) in self.sets.range(least..) {
+            if key.name != least.name {
+                return false;
+            }
+            if stands_against_cname(key.record_type) {
+                return true;
+            }
+        }
+        false
+    }
+
+    /// Takes a record into the set under its key, or makes that set.
+    fn insert_record(&mut self, key: RrKey, record: Record, serial: u32) -> Result<bool, ProtoError>
+        requires { key ≡ key_at (lower «record».name) (type_of «record».rdata) }
+        ensures answer { IfOk result (λ taken. taken ≡ is_some (with_record self.old «record» serial)) }
+        ensures after { OnOk result (self.new ≡ unwrap_or (with_record self.old «record» serial) self.old) }
+        ensures err { IsOkUnless result ProtoError.Memory }
+        ensures same { OnErr result (self.new ≡ self.old) }
+    {
+        match self.sets.get_mut(&key) {
+            Some(set) => set.insert(record, serial),
+            None => self.insert_new(key, record, serial),
+        }
+    }
+
+    /// Makes the set of a record under its key, where there is none.
+    fn insert_new(&mut self, key: RrKey, record: Record, serial: u32) -> Result<bool, ProtoError>
+        requires own_key { key ≡ key_at (lower «record».name) (type_of «record».rdata) }
+        requires absent { set_at self.old (lower «record».name) (type_of «record».rdata) ≡ None }
+        ensures answer { IfOk result (λ taken. taken ≡ is_some (with_record self.old «record» serial)) }
+        ensures after { OnOk result (self.new ≡ unwrap_or (with_record self.old «record» serial) self.old) }
+        ensures err { IsOkUnless result ProtoError.Memory }
+        ensures same { OnErr result (self.new ≡ self.old) }
+    {
+        let mut set = RecordSet::new(record.name.clone()?, key.record_type, serial);
+        if !set.insert(record, serial)? {
+            return Ok(false);
+        }
+        match self.sets.insert(key, set) {
+            Ok(_) => Ok(true),
+            Err(_) => Err(ProtoError::Memory),
+        }
+    }
+}
+
+/// Whether a type may not stand beside a CNAME.
+fn stands_against_cname(record_type: RecordType) -> bool
+    ensures { result ≡ clash CNAME record_type.0 }
+{
+    record_type != RecordType::CNAME && !is_denial_type(record_type)
+}
+
+/// Whether a type is one of denial, which may stand beside a CNAME.
+fn is_denial_type(record_type: RecordType) -> bool
+    ensures { result ≡ is_denial_type record_type.0 }
+{
+    record_type == RecordType::NSEC || record_type == RecordType::NSEC3
+}
