@@ -6,7 +6,7 @@ use crate::record::Record;
 use crate::record_type::RecordType;
 
 /// A question of a message (RFC 1035 section 4.1.2).
-#[derive(Drop)]
+#[derive(Debug, Drop)]
 pub struct Query {
     /// The name that is asked for, in lower case.
     pub name: LowerName,
@@ -33,7 +33,7 @@ impl Query {
 }
 
 /// The sections of a response that hold records (RFC 1035 section 4.1).
-#[derive(Drop)]
+#[derive(Debug, Drop)]
 pub struct Message {
     /// What answers the question.
     pub answers: Vec<Record>,
@@ -44,14 +44,14 @@ pub struct Message {
 }
 
 /// The flags of an OPT record (RFC 6891 section 6.1.4).
-#[derive(Clone, Copy, PartialEq, Eq)]
+#[derive(Clone, Copy, PartialEq, Eq, Debug)]
 pub struct EdnsFlags {
     /// The sender takes DNSSEC records (RFC 3225 section 3).
     pub dnssec_ok: bool,
 }
 
 /// What a message says by its OPT record (RFC 6891 section 6).
-#[derive(Drop)]
+#[derive(Debug, Drop)]
 pub struct Edns {
     /// Its flags.
     pub flags: EdnsFlags,

@@ -4,7 +4,7 @@ use crate::error::ProtoError;
 use crate::seq::Seq;
 
 /// How a zone denies what it doesn't hold: by names (RFC 4034 section 4) or by hashed names (RFC 5155).
-#[derive(PartialEq, Eq, Drop)]
+#[derive(PartialEq, Eq, Debug, Drop)]
 pub enum NxProofKind {
     /// By NSEC records.
     Nsec,

@@ -20,7 +20,7 @@ pub use start_of_authority::SOA;
 /// The data of a record, by type.
 ///
 /// Equal by all parts, names without case.
-#[derive(PartialEq, Eq, Drop)]
+#[derive(PartialEq, Eq, Debug, Drop)]
 pub enum RData {
     /// An address of four octets (RFC 1035 section 3.4.1).
     A([u8; 4]),

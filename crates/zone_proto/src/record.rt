@@ -10,7 +10,7 @@ use crate::record_type::RecordType;
 use std::alloc::Global;
 
 /// A record. Two records are equal by owner, class, type and data; the TTL is left aside.
-#[derive(Drop)]
+#[derive(Debug, Drop)]
 #[derive_where(PartialEq, Eq)]
 pub struct Record {
     pub name: Name,

@@ -18,7 +18,7 @@ use std::marker::Model;
 ///
 /// Of every set: its records have the set's owner, the case of letters aside, and its type; no two have equal data;
 /// and a set of type SOA, CNAME or ANAME has at most one.
-#[derive(Drop)]
+#[derive(Debug, Drop)]
 pub struct RecordSet {
     name: Name,
     record_type: RecordType,

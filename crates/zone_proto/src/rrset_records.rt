@@ -5,7 +5,7 @@ use crate::record::Record;
 use std::marker::Model;
 
 /// The records of a set, lent one by one; takes no memory.
-#[derive(Drop)]
+#[derive(Debug, Drop)]
 pub struct RrsetRecords<'r> {
     records: &'r [Record],
     rrsigs: &'r [Record],

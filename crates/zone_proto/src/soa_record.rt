@@ -3,7 +3,7 @@ use crate::name::Name;
 use crate::rdata::SOA;
 
 /// A record whose data are an SOA, as it stands beside a negative answer (RFC 2308 section 3).
-#[derive(Drop)]
+#[derive(Debug, Drop)]
 pub struct SoaRecord {
     /// The owner.
     pub name: Name,

@@ -8,7 +8,7 @@ use crate::seq::Seq;
 /// The data of a type without a case of its own in `RData`: the type and the data's octets as they are (RFC 3597 section 3).
 ///
 /// Equal by type and octets.
-#[derive(PartialEq, Eq, Drop)]
+#[derive(PartialEq, Eq, Debug, Drop)]
 pub struct OtherData {
     record_type: RecordType,
     octets: Seq<u8>,

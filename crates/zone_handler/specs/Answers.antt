@@ -1,0 +1,23 @@
+-- The records that an answer yields, in order
+use Rattle.std.specs.Prelude.{List, [], reverse}
+use Rattle.std.specs.Slice.Iter.{iter_rest}
+use Rattle.zone_proto.specs.declared.record.Record.{Record}
+use Rattle.zone_handler.specs.declared.lookup_records.LookupRecords.{LookupRecords}
+use Rattle.zone_handler.specs.declared.lookup_records.LookupRecords.TheVariants as L
+use Rattle.zone_handler.specs.declared.lookup_records_iter.LookupRecordsIter.{LookupRecordsIter}
+use Rattle.zone_handler.specs.declared.lookup_records_iter.LookupRecordsIter.TheVariants as I
+use Rattle.zone_handler.specs.Sets.{set_records, sets_records}
+
+-- what a section of an answer lists: nothing; one set; several sets, which are stored from the last to the first; or records as they stand
+abbrev pub records_in : LookupRecords → List Record
+records_in L.Empty = []
+records_in (L.Records options set) = set_records options set
+records_in (L.ManyRecords options sets) = sets_records options (reverse sets.items)
+records_in (L.Section records) = records.items
+
+-- what an iterator over them has left
+abbrev pub left_in : LookupRecordsIter → List Record
+left_in I.Empty = []
+left_in (I.RecordsIter records) = records
+left_in (I.ManyRecordsIter records) = records
+left_in (I.SliceIter records) = iter_rest records

@@ -1,0 +1,5 @@
+pub mod ControlFlow
+pub mod Sets
+pub mod Errors
+pub mod Answers
+pub mod AuthLookup

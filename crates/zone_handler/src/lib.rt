@@ -1,0 +1,31 @@
+//! What a server asks of a zone and what it is answered: the handler's trait, the control flow
+//! of a chain of handlers, errors, and answers that lend their records.
+#![tactic(auto)]
+
+mod auth_lookup;
+mod auth_lookup_iter;
+mod axfr_policy;
+mod control_flow;
+mod handler;
+mod lookup_error;
+mod lookup_options;
+mod lookup_records;
+mod lookup_records_iter;
+mod net_error;
+mod request_info;
+mod sets_iter;
+mod zone_type;
+
+pub use auth_lookup::AuthLookup;
+pub use auth_lookup_iter::AuthLookupIter;
+pub use axfr_policy::AxfrPolicy;
+pub use control_flow::LookupControlFlow;
+pub use handler::ZoneHandler;
+pub use lookup_error::LookupError;
+pub use lookup_options::LookupOptions;
+pub use lookup_records::LookupRecords;
+pub use lookup_records_iter::LookupRecordsIter;
+pub use net_error::{NetError, NoRecords};
+pub use request_info::RequestInfo;
+pub use sets_iter::SetsIter;
+pub use zone_type::ZoneType;

@@ -1,0 +1,10 @@
+/// What the server is to the zone (RFC 8499 section 6).
+#[derive(Clone, Copy, PartialEq, Eq, Hash, Debug)]
+pub enum ZoneType {
+    /// The zone's source of changes.
+    Primary,
+    /// A copy of the zone, transferred from a primary.
+    Secondary,
+    /// A zone whose records come from elsewhere.
+    External,
+}
