@@ -3,3 +3,4 @@ pub mod Neighbours
 pub mod Stored
 pub mod Upserting
 pub mod Clashing
+pub mod Delegations

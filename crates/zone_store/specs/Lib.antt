@@ -1,2 +1,3 @@
 pub mod Zones
 pub mod Upserts
+pub mod Search

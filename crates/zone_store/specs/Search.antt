@@ -8,21 +8,33 @@ use Rattle.zone_proto.specs.Sets.{RRset}
 use Rattle.zone_proto.specs.Types.{A, NS, CNAME, SOA, AAAA, DS, ANAME}
 use Rattle.zone_store.specs.Zones.{Sets, set_at, owns}
 
--- for a query of n and t, a marks a zone cut or an apex: a owns NS and isn't the root; a DS query at n itself passes n over where it owns no SOA, since DS is the parent's (RFC 4035 section 3.1.4.1)
-abbrev pub is_delegation : Sets → Name → ℕ → Name → Bool
-is_delegation m n t a = not (is_root a) && owns m a NS && not ((t == DS) && name_eq a n && not (owns m n SOA))
+-- a owns NS and isn't the root: it is a zone cut or a zone's apex (RFC 1034 section 4.2.1)
+abbrev pub is_delegated : Sets → Name → Bool
+is_delegated m a = not (is_root a) && owns m a NS
+
+-- the same for a query of n and t: a DS query at n itself passes n over where it owns no SOA, since DS is the parent's (RFC 4035 section 3.1.4.1)
+abbrev pub is_delegated_for : Sets → Name → ℕ → Name → Bool
+is_delegated_for m n t a = is_delegated m a && not ((t == DS) && name_eq a n && not (owns m n SOA))
 
 -- the nearest of these: the longest suffix of n that is one
 abbrev pub nearest_delegation : Sets → Name → ℕ → Option Name
-nearest_delegation m n t = find (is_delegation m n t) (suffixes n)
+nearest_delegation m n t = find (is_delegated_for m n t) (suffixes n)
 
--- the referral: the NS set of the nearest, unless that owns SOA and so is a zone's apex and no cut (RFC 1034 section 4.2.1)
+-- the NS set there, unless the name owns SOA and so is an apex and no cut
+abbrev pub referral_at : Sets → Option Name → Option RRset
+referral_at m delegation = option_and_then (λ a. cond (owns m a SOA) None (set_at m a NS)) delegation
+
+-- the referral for a query of n and t
 abbrev pub referral : Sets → Name → ℕ → Option RRset
-referral m n t = option_and_then (λ a. cond (owns m a SOA) None (set_at m a NS)) (nearest_delegation m n t)
+referral m n t = referral_at m (nearest_delegation m n t)
+
+-- the types of addresses
+abbrev pub is_address : ℕ → Bool
+is_address t = (t == A) || (t == AAAA)
 
 -- the types that answer for t: t itself, CNAME (RFC 1034 section 3.6.2) and, for addresses, ANAME
 abbrev pub types_for : ℕ → List ℕ
-types_for t = cond ((t == A) || (t == AAAA)) (t ∷ CNAME ∷ ANAME ∷ []) (t ∷ CNAME ∷ [])
+types_for t = cond (is_address t) (t ∷ CNAME ∷ ANAME ∷ []) (t ∷ CNAME ∷ [])
 
 -- the least type of a list that n owns
 abbrev pub least_owned : Sets → Name → List ℕ → Option ℕ

@@ -2,3 +2,4 @@
 #![tactic(auto)]
 
 mod record_map;
+mod search;
