@@ -2,7 +2,7 @@
 use Rattle.std.proofs.Common.{◌≡◌, ℕ, zero, suc, ◌&&◌, ◌||◌, Bool, true, false, cond, List, [], ◌∷◌, map, refl, sym, ap, ◌∙◌, subst, true≢false, arith, ◌⊎◌, inl, inr, Ordering, Less, Equal, Greater}
 use Rattle.std.specs.Prelude.{Some, None, take_while}
 use Rattle.std.specs.Ordering.{nat_cmp, ordering_then, ordering_reverse, is_le, is_eq, is_lt, is_gt, eq_by_cmp}
-use Rattle.std.specs.Cmp.{nat_cmp_is}
+use Rattle.std.specs.Cmp.{nat_cmp_is, both_ways}
 use Rattle.std.specs.List.{list_any, cons_option, AllByRecursion}
 use Rattle.std.specs.List.Sorted.{IsStrictlySortedBy}
 use Rattle.std.specs.Map.{keys_of}
@@ -13,7 +13,7 @@ use Rattle.std.proofs.lemmas.List.Sums.{take_while-cons}
 use Rattle.std.proofs.lemmas.Map.Keys.{sorted_head, sorted_tail}
 use Rattle.zone_proto.specs.declared.rr_key.RrKey.{RrKey}
 use Rattle.zone_proto.specs.Keys.{key, key_cmp}
-use Rattle.zone_proto.specs.Names.{Name, name_cmp, name_eq, IsAbove, is_at_or_above}
+use Rattle.zone_proto.specs.Names.{Name, name_cmp, name_eq, IsAbove, IsAtOrAbove, is_at_or_above}
 use Rattle.zone_proto.specs.Sets.{RRset}
 use Rattle.zone_proto.proofs.Tree.{name_order, name_decides, above_before, above_cases, together, at_or_above_from, test_from_at_or_above}
 use Rattle.zone_store.specs.Zones.{Sets, types_at, owns_at_or_below}
@@ -199,3 +199,21 @@ pub front_is_whole : (p : ℕ → Bool) (least : RrKey) (m es : Sets) → least.
 front_is_whole p least m es type_zero sorted same =
     ap (λ t. list_any p (front_types least.name (from_key (key least.name t) m))) type_zero
     ∙ ap (list_any p) (front_is_types least.name m (subst (λ (x : Sets). IsStrictlySortedBy key_cmp (keys_of x)) same sorted))
+
+-- what the first entry from a key of the least type on says
+module _ (least : RrKey) (m es front : Sets) (type_zero : least.record_type.0 ≡ 0) (sorted : IsStrictlySortedBy key_cmp (keys_of es)) (same_map : es ≡ m) (is : front ≡ from_key least es) where
+  whole : owns_at_or_below m least.name ≡ first_is_below least.name front
+  whole =
+      ap (λ (x : Sets). owns_at_or_below x least.name) (sym same_map)
+      ∙ below_is_first least.name es sorted
+      ∙ ap (λ t. first_is_below least.name (from_key (key least.name t) es)) (sym type_zero)
+      ∙ ap (first_is_below least.name) (sym is)
+
+  pub below_where_none : front ≡ [] → owns_at_or_below m least.name ≡ false
+  below_where_none e = whole ∙ ap (first_is_below least.name) e
+
+  pub below_where_some : (e : RrKey × RRset) (rest : Sets) (b : Bool) → front ≡ e ∷ rest
+      → (b ≡ true → IsAtOrAbove least.name e.0.name) → (IsAtOrAbove least.name e.0.name → b ≡ true) → b ≡ owns_at_or_below m least.name
+  below_where_some e rest b f to from =
+      both_ways b (is_at_or_above least.name e.0.name) (λ t. test_from_at_or_above least.name e.0.name (to t)) (λ t. from (at_or_above_from least.name e.0.name t))
+      ∙ sym (whole ∙ ap (first_is_below least.name) f)

@@ -1,5 +1,14 @@
 //! The store of an authoritative zone: its record sets in one ordered map, and what a search finds in them.
 #![tactic(auto)]
 
+mod found;
+mod inner_in_memory;
 mod record_map;
 mod search;
+mod searches;
+mod zone_error;
+
+pub use found::Found;
+pub use inner_in_memory::InnerInMemory;
+pub use searches::Searches;
+pub use zone_error::ZoneError;

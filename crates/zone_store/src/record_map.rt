@@ -4,7 +4,7 @@ ghost use Rattle.zone_proto.specs.Names.{lower};
 ghost use Rattle.zone_proto.specs.Types.{CNAME};
 ghost use Rattle.zone_proto.specs.Data.{type_of};
 ghost use Rattle.zone_proto.specs.Sets.{inserted, empty_set};
-ghost use Rattle.zone_store.specs.Zones.{set_at, owns, IsStoredAt};
+ghost use Rattle.zone_store.specs.Zones.{set_at, owns, owns_at_or_below, IsStoredAt};
 ghost use Rattle.zone_store.specs.Upserts.{upserted, with_record, clash, clashes, is_denial_type};
 
 use std::alloc::Global;
@@ -61,6 +61,28 @@ impl RecordMap {
 }
 
 impl RecordMap {
+    /// Whether a name, or a name below it, owns a set.
+    pub(crate) fn owns_at_or_below(&self, name: &LowerName) -> Result<bool, ProtoError>
+        ensures answer { IfOk result (λ owned. owned ≡ owns_at_or_below self.now name.now) }
+        ensures err { IsOkUnless result ProtoError.Memory }
+    {
+        let least = RrKey::new(name.clone()?, RecordType(0));
+        Ok(self.owns_from(&least))
+    }
+
+    /// Whether the name of its least key, or a name below it, owns a set: descendants stand together, and the first of
+    /// them after the name's least key.
+    fn owns_from(&self, least: &RrKey) -> bool
+        requires { least.now.record_type.0 ≡ 0 }
+        ensures { result ≡ owns_at_or_below self.now least.now.name }
+    {
+        let _count = self.sets.len();
+        match self.sets.range(least..).next() {
+            Some((first, _)) => least.name.zone_of(&first.name),
+            None => false,
+        }
+    }
+
     /// Takes a record into the set of its name and type, or makes that set.
     pub(crate) fn upsert(
         &mut self,

@@ -1,0 +1,8 @@
+-- The set that a search found, whether it is lent or was made
+use Rattle.zone_proto.specs.Sets.{RRset}
+use Rattle.zone_store.specs.declared.found.Found.{Found}
+use Rattle.zone_store.specs.declared.found.Found.TheVariants.{Stored, Made}
+
+abbrev pub found_set : Found → RRset
+found_set (Stored s) = s.now
+found_set (Made s) = s

@@ -1,0 +1,113 @@
+ghost use Rattle.std.specs.Prelude.{◌≡◌, [], IfOk, OnOk, OnErr, IsOkUnless, is_some, unwrap_or, option_map, option_copied};
+ghost use Rattle.zone_store.specs.FoundSets.{found_set};
+ghost use Rattle.zone_store.specs.Search.{direct};
+ghost use Rattle.zone_store.specs.Searches.{one_more};
+ghost use Rattle.zone_store.specs.Upserts.{upserted};
+ghost use Rattle.zone_store.specs.Zones.{set_at, owns_at_or_below};
+
+use crate::found::Found;
+use crate::record_map::RecordMap;
+use crate::search;
+use crate::searches::Searches;
+use crate::zone_error::ZoneError;
+use std::alloc::Global;
+use std::collections::BTreeMap;
+use std::marker::Model;
+use zone_handler::{LookupError, LookupOptions};
+use zone_proto::{DNSClass, LowerName, Record, RecordSet, RecordType, RrKey, Signer};
+
+/// The record sets of a zone, by owner name and type, and the signers that sign them.
+#[derive(Drop)]
+pub struct InnerInMemory<S: Signer> {
+    records: RecordMap,
+    signers: Vec<S>,
+}
+
+impl<S: Signer> Model for InnerInMemory<S> {
+    ghost use Rattle.zone_store.specs.Handlers.{Inner};
+
+    ghost Value = { Inner S };
+
+    ghost view = { λ zone. record { records = zone.records; signers = zone.signers.items } };
+}
+
+impl<S: Signer> InnerInMemory<S> {
+    /// No record sets and no signers. What is put in later takes its memory from `alloc`; this takes none.
+    pub fn new(alloc: Global) -> Self
+        ensures { result ≡ record { records = []; signers = [] } }
+    {
+        InnerInMemory {
+            records: RecordMap::new(alloc),
+            signers: Vec::new(alloc),
+        }
+    }
+
+    /// Takes a record into the set of its owner name and type, or makes that set.
+    ///
+    /// `serial` is the zone's serial, which the set keeps when it takes the record, and `dns_class` the
+    /// zone's class. The answer is whether the record was taken. It isn't taken if it is of another class; if its
+    /// owner owns a type that may not stand beside the record's, one of the two being CNAME and neither NSEC or NSEC3
+    /// (RFC 1034 section 3.6.2); or if the set refuses it, as [`RecordSet::insert`] says. A record that isn't taken
+    /// changes nothing, and so does a refusal, by `Memory` alone.
+    pub fn upsert(
+        &mut self,
+        record: Record,
+        serial: u32,
+        dns_class: DNSClass,
+    ) -> Result<bool, ZoneError>
+        ensures answer { IfOk result (λ taken. taken ≡ is_some (upserted self.old.records dns_class.0 «record» serial)) }
+        ensures after { OnOk result (self.new ≡ record self.old { records = unwrap_or (upserted self.old.records dns_class.0 «record» serial) self.old.records }) }
+        ensures err { IsOkUnless result ZoneError.Memory }
+        ensures same { OnErr result (self.new ≡ self.old) }
+    {
+        match self.records.upsert(record, serial, dns_class) {
+            Ok(taken) => Ok(taken),
+            Err(_) => Err(ZoneError::Memory),
+        }
+    }
+
+    /// The set that answers for `name` and `record_type`, if there is one: the referral at the nearest zone cut at
+    /// or above the name (RFC 1034 section 4.2.1), else the set of the least type that the name owns of the type that
+    /// is asked for, CNAME and, for addresses, ANAME.
+    ///
+    /// It is lent out of the zone, and the call adds one to `searches`. Refused by `Memory` alone.
+    pub fn inner_lookup(
+        &self,
+        name: &LowerName,
+        record_type: RecordType,
+        _lookup_options: LookupOptions,
+        searches: &mut Searches,
+    ) -> Result<Option<Found<'_>>, LookupError>
+        ensures found { IfOk result (λ found. option_map found_set found ≡ direct self.now.records name.now record_type.0) }
+        ensures counted { searches.new ≡ one_more searches.old }
+        ensures err { IsOkUnless result LookupError.Memory }
+    {
+        searches.add_one();
+        match search::direct(&self.records, name, record_type)? {
+            Some(set) => Ok(Some(Found::Stored(set))),
+            None => Ok(None),
+        }
+    }
+
+    /// The record sets by their keys.
+    pub(crate) fn as_map(&self) -> &BTreeMap<RrKey, RecordSet>
+        ensures { result.now.entries ≡ self.now.records }
+    {
+        self.records.as_map()
+    }
+
+    /// The set under a key.
+    pub(crate) fn get(&self, key: &RrKey) -> Option<&RecordSet>
+        ensures { option_copied result ≡ set_at self.now.records key.now.name key.now.record_type.0 }
+    {
+        self.records.get(key)
+    }
+
+    /// Whether a name, or a name below it, owns a set.
+    pub(crate) fn owns_at_or_below(&self, name: &LowerName) -> Result<bool, LookupError>
+        ensures answer { IfOk result (λ owns. owns ≡ owns_at_or_below self.now.records name.now) }
+        ensures err { IsOkUnless result LookupError.Memory }
+    {
+        Ok(self.records.owns_at_or_below(name)?)
+    }
+}
