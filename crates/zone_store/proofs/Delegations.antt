@@ -1,5 +1,5 @@
 -- The nearest delegation above a name, as a walk up its suffixes finds it
-use Rattle.std.proofs.Common.{◌≡◌, ◌≤◌, ◌<◌, ◌+◌, ℕ, Bool, true, false, cond, not, ◌&&◌, List, [], ◌∷◌, length, drop, refl, sym, ap, ◌∙◌, true≢false, arith, inl, inr, ◌⊎◌}
+use Rattle.std.proofs.Common.{◌≡◌, ◌≤◌, ◌<◌, ℕ, Bool, true, false, cond, not, ◌&&◌, List, [], ◌∷◌, length, drop, refl, sym, ap, ◌∙◌, arith, inl, inr}
 use Rattle.std.specs.Prelude.{Some, None, find, ◌==◌, is_some}
 use Rattle.zone_proto.specs.Names.{Name, name_eq, suffixes}
 use Rattle.zone_proto.specs.Sets.{RRset}

@@ -4,3 +4,4 @@ pub mod Stored
 pub mod Upserting
 pub mod Clashing
 pub mod Delegations
+pub mod Denials

@@ -1,5 +1,5 @@
 -- What a lookup answers
-use Rattle.std.specs.Prelude.{◌≡◌, ℕ, Bool, cond, ◌==◌, List, Option, Some, None, Ok, Err, ◌⊎◌, codes}
+use Rattle.std.specs.Prelude.{◌≡◌, ℕ, cond, ◌==◌, List, None, Ok, Err, ◌⊎◌, codes}
 use Rattle.std.specs.Option.{option_map_or}
 use Rattle.std.specs.Borrow.{Bor}
 use Rattle.zone_proto.specs.declared.response_code.ResponseCode.TheVariants as code
@@ -25,8 +25,11 @@ pub data Denial : Type 0 where
   refused : Denial
 
 -- a name is there if it or a name below it owns a set, wherever it stands; else it isn't there, and outside the zone it is refused
+abbrev pub absent : Name → Name → Denial
+absent origin n = cond (is_at_or_above origin n) nx_domain refused
+
 abbrev pub denial : Name → Sets → Name → Denial
-denial origin m n = cond (owns_at_or_below m n) name_exists (cond (is_at_or_above origin n) nx_domain refused)
+denial origin m n = cond (owns_at_or_below m n) name_exists (absent origin n)
 
 -- what a lookup answers: that a transfer isn't a lookup, a negative answer, or a set
 pub data Reply : Type 0 where
@@ -54,3 +57,7 @@ Says options (answered s) step = step ≡ Continue (Ok (answer.Records (section.
 -- the reply, or that no memory was found
 abbrev pub SaysOrMemory : LookupOptions → Reply → LookupControlFlow AuthLookup LookupError → Type 0
 SaysOrMemory options r step = Says options r step ⊎ (step ≡ Continue (Err error.Memory))
+
+-- a step that denies
+abbrev pub IsDenied : LookupControlFlow AuthLookup LookupError → Type 0
+IsDenied step = (d : Denial) × (step ≡ Continue (Err (error_of d)))

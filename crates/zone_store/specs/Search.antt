@@ -1,5 +1,5 @@
 -- What a search finds in a zone: the referral at a zone cut, and else the set of the name
-use Rattle.std.specs.Prelude.{ℕ, Bool, ◌&&◌, ◌||◌, not, cond, List, [], ◌∷◌, ◌==◌, Option, Some, None, filter, find, option_and_then}
+use Rattle.std.specs.Prelude.{ℕ, Bool, ◌&&◌, ◌||◌, not, cond, List, [], ◌∷◌, ◌==◌, Option, None, filter, find, option_and_then}
 use Rattle.std.specs.Option.{option_or}
 use Rattle.std.specs.Ordering.{nat_cmp}
 use Rattle.zone_proto.specs.Names.{Name, name_eq, is_root, suffixes}

@@ -2,6 +2,7 @@
 #![tactic(auto)]
 
 mod found;
+mod in_memory_zone_handler;
 mod inner_in_memory;
 mod record_map;
 mod search;
@@ -9,6 +10,7 @@ mod searches;
 mod zone_error;
 
 pub use found::Found;
+pub use in_memory_zone_handler::InMemoryZoneHandler;
 pub use inner_in_memory::InnerInMemory;
 pub use searches::Searches;
 pub use zone_error::ZoneError;

@@ -1,4 +1,4 @@
-use Rattle.std.proofs.Common.{◌≡◌, ap, sym, ◌∙◌, true≢false, cond, [], true, false}
+use Rattle.std.proofs.Common.{◌≡◌, ap, sym, ◌∙◌, true≢false, cond, []}
 use Rattle.std.specs.Prelude.{Some, None}
 use Rattle.zone_store.proofs.Delegations.{at_delegation}
 use Rattle.zone_store.proofs.search.referral_above.Goals as goal

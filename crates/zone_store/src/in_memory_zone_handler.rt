@@ -1,0 +1,267 @@
+ghost use Rattle.std.specs.Prelude.{◌≡◌, ◌⊎◌, false, [], IfOk, OnOk, OnErr, IsOkUnless, IsTrue, is_some, unwrap_or, option_and_then, option_copied};
+ghost use Rattle.zone_proto.specs.Names.{lower};
+ghost use Rattle.zone_proto.specs.Types.{IN, SOA, AXFR};
+ghost use Rattle.zone_store.specs.Handlers.{first_soa, soa, serial, minimum};
+ghost use Rattle.zone_store.specs.Lookup.{not_a_lookup, absent, denial, error_of, reply, Says, SaysOrMemory, IsDenied};
+ghost use Rattle.zone_store.specs.Upserts.{upserted};
+ghost use Rattle.zone_store.specs.Zones.{owns};
+
+use crate::inner_in_memory::InnerInMemory;
+use crate::searches::Searches;
+use crate::zone_error::ZoneError;
+use std::collections::BTreeMap;
+use std::marker::Model;
+use zone_handler::{
+    AuthLookup, AxfrPolicy, LookupControlFlow, LookupError, LookupOptions, LookupRecords, NetError,
+    RequestInfo, ZoneHandler, ZoneType,
+};
+use zone_proto::{
+    DNSClass, LowerName, Name, Nsec3Hash, NxProofKind, RData, Record, RecordSet, RecordType,
+    ResponseCode, RrKey, SOA, Signer,
+};
+
+/// An authoritative zone in memory.
+///
+/// `S` is what signs its record sets, and `H` hashes the names of NSEC3 denials.
+#[derive(Drop)]
+pub struct InMemoryZoneHandler<S: Signer, H: Nsec3Hash> {
+    // The key of the zone's SOA, whose name is the origin: a look-up of the serial then needs no key of its own.
+    apex: RrKey,
+    class: DNSClass,
+    zone_type: ZoneType,
+    axfr_policy: AxfrPolicy,
+    nx_proof_kind: Option<NxProofKind>,
+    inner: InnerInMemory<S>,
+    hash: H,
+}
+
+impl<S: Signer, H: Nsec3Hash> Model for InMemoryZoneHandler<S, H> {
+    ghost use Rattle.std.specs.Prelude.{◌≡◌};
+    ghost use Rattle.zone_proto.specs.Types.{SOA};
+    ghost use Rattle.zone_store.specs.Handlers.{Zone};
+
+    ghost Value = { Zone S H };
+
+    ghost view = { λ zone.
+        record {
+          origin = zone.apex.name;
+          class = zone.class.0;
+          zone_type = zone.zone_type;
+          axfr_policy = zone.axfr_policy;
+          kind = zone.nx_proof_kind;
+          inner = zone.inner;
+          hash = zone.hash;
+        } };
+
+    ghost invariant = { λ zone. zone.apex.record_type.0 ≡ SOA };
+}
+
+impl<S: Signer, H: Nsec3Hash> InMemoryZoneHandler<S, H> {
+    /// A zone without records and signers, of class IN. This takes no memory.
+    ///
+    /// `origin` is the name at its top, `zone_type` what the server is to it, `axfr_policy` who may transfer it,
+    /// `nx_proof_kind` how it denies once it is signed, and `hash` what its NSEC3 denials are hashed by.
+    pub fn empty(
+        origin: Name,
+        zone_type: ZoneType,
+        axfr_policy: AxfrPolicy,
+        nx_proof_kind: Option<NxProofKind>,
+        hash: H,
+    ) -> Self
+        ensures { result
+            ≡ record {
+              origin = lower origin;
+              class = IN;
+              zone_type = zone_type;
+              axfr_policy = axfr_policy;
+              kind = nx_proof_kind;
+              inner = record { records = []; signers = [] };
+              hash = hash;
+            } }
+    {
+        let alloc = origin.alloc();
+        InMemoryZoneHandler {
+            apex: RrKey::new(LowerName::from(origin), RecordType::SOA),
+            class: DNSClass::IN,
+            zone_type,
+            axfr_policy,
+            nx_proof_kind,
+            inner: InnerInMemory::new(alloc),
+            hash,
+        }
+    }
+
+    /// The zone's class.
+    pub fn class(&self) -> DNSClass
+        ensures { result.0 ≡ self.now.class }
+    {
+        self.class
+    }
+
+    /// The record sets by their keys, in the order of the keys.
+    pub fn records(&self) -> &BTreeMap<RrKey, RecordSet>
+        ensures { result.now.entries ≡ self.now.inner.records }
+    {
+        self.inner.as_map()
+    }
+
+    /// The record sets and signers.
+    pub fn inner(&self) -> &InnerInMemory<S>
+        ensures { result.now ≡ self.now.inner }
+    {
+        &self.inner
+    }
+
+    /// The zone's serial: that of the SOA data at the origin (RFC 1035 section 3.3.13), 0 without an SOA.
+    pub fn serial(&self) -> u32
+        ensures { result ≡ serial self.now.inner.records self.now.origin }
+    {
+        match self.soa() {
+            Some(soa) => soa.serial,
+            None => 0,
+        }
+    }
+
+    /// The zone's minimum, in seconds: that of the SOA data at the origin, which is the TTL of its negative answers
+    /// (RFC 2308 section 4); 0 without an SOA.
+    pub fn minimum_ttl(&self) -> u32
+        ensures { result ≡ minimum self.now.inner.records self.now.origin }
+    {
+        match self.soa() {
+            Some(soa) => soa.minimum,
+            None => 0,
+        }
+    }
+
+    /// The SOA data at the origin.
+    fn soa(&self) -> Option<&SOA>
+        ensures { option_copied result ≡ soa self.now.inner.records self.now.origin }
+    {
+        first_soa(self.inner.get(&self.apex)?)
+    }
+
+    /// Takes a record into the set of its owner name and type, or makes that set.
+    ///
+    /// `serial` is the serial that the set keeps when it takes the record. The answer is whether the record was
+    /// taken. It isn't taken if it is of another class than the zone; if its owner owns a type that may not stand
+    /// beside the record's, one of the two being CNAME and neither NSEC or NSEC3 (RFC 1034 section 3.6.2); or if the
+    /// set refuses it, as [`RecordSet::insert`] says: an SOA whose serial isn't greater than the stored one's, or
+    /// data that the set has. A record that isn't taken changes nothing, and so does a refusal, by `Memory` alone.
+    pub fn upsert(&mut self, record: Record, serial: u32) -> Result<bool, ZoneError>
+        ensures answer { IfOk result (λ taken. taken ≡ is_some (upserted self.old.inner.records self.old.class «record» serial)) }
+        ensures after { OnOk result (self.new
+            ≡ record self.old { inner = record self.old.inner { records = unwrap_or (upserted self.old.inner.records self.old.class «record» serial) self.old.inner.records } }) }
+        ensures untaken { IfOk result (λ taken. taken ≡ false → self.new ≡ self.old) }
+        ensures err { IsOkUnless result ZoneError.Memory }
+        ensures same { OnErr result (self.new ≡ self.old) }
+    {
+        self.inner.upsert(record, serial, self.class)
+    }
+
+    /// The same as [`InMemoryZoneHandler::upsert`].
+    pub fn upsert_mut(&mut self, record: Record, serial: u32) -> Result<bool, ZoneError>
+        ensures answer { IfOk result (λ taken. taken ≡ is_some (upserted self.old.inner.records self.old.class «record» serial)) }
+        ensures after { OnOk result (self.new
+            ≡ record self.old { inner = record self.old.inner { records = unwrap_or (upserted self.old.inner.records self.old.class «record» serial) self.old.inner.records } }) }
+        ensures untaken { IfOk result (λ taken. taken ≡ false → self.new ≡ self.old) }
+        ensures err { IsOkUnless result ZoneError.Memory }
+        ensures same { OnErr result (self.new ≡ self.old) }
+    {
+        self.upsert(record, serial)
+    }
+
+    /// The negative answer for a name, or want of memory.
+    fn denial(&self, name: &LowerName) -> LookupError
+        ensures { (result ≡ error_of (denial self.now.origin self.now.inner.records name.now)) ⊎ (result ≡ LookupError.Memory) }
+    {
+        match self.inner.owns_at_or_below(name) {
+            Err(_) => LookupError::Memory,
+            Ok(true) => LookupError::for_name_exists(),
+            Ok(false) => denial_of_absent(&self.apex.name, name),
+        }
+    }
+}
+
+/// The negative answer of the zone of `origin` for a name that isn't there.
+fn denial_of_absent(origin: &LowerName, name: &LowerName) -> LookupError
+    ensures { result ≡ error_of (absent origin.now name.now) }
+{
+    if origin.zone_of(name) {
+        LookupError::from(ResponseCode::NXDomain)
+    } else {
+        LookupError::from(ResponseCode::Refused)
+    }
+}
+
+/// The SOA data of a set's first record.
+fn first_soa(set: &RecordSet) -> Option<&SOA>
+    ensures { option_copied result ≡ first_soa set.now.records }
+{
+    match &set.records_without_rrsigs().next()?.rdata {
+        RData::SOA(soa) => Some(soa),
+        _ => None,
+    }
+}
+
+impl<S: Signer, H: Nsec3Hash> ZoneHandler for InMemoryZoneHandler<S, H> {
+    ghost zone_type_of = { λ zone. zone.zone_type };
+
+    ghost axfr_policy_of = { λ zone. zone.axfr_policy };
+
+    ghost origin_of = { λ zone. zone.origin };
+
+    ghost lookup_gives = { λ zone name type options now step. SaysOrMemory options (reply zone.origin zone.inner.records name type) step };
+
+    fn zone_type(&self) -> ZoneType {
+        self.zone_type
+    }
+
+    fn axfr_policy(&self) -> AxfrPolicy {
+        self.axfr_policy
+    }
+
+    fn origin(&self) -> &LowerName {
+        &self.apex.name
+    }
+
+    /// What the zone answers for `name` and `record_type`.
+    ///
+    /// A query of type AXFR is broken off with an error, whatever the zone holds: a transfer isn't a lookup. Any other
+    /// is answered by the referral or the set that [`InnerInMemory::inner_lookup`] finds, with its signatures where
+    /// `lookup_options` ask for DNSSEC, and without one by `NameExists` where the name or a name below it owns a set
+    /// (RFC 2308 section 2.2), else by `NXDomain` for a name at or below the origin (RFC 2308 section 2.1), and else
+    /// by `Refused` (RFC 1035 section 4.1.1). `Memory` may come in place of these, but not of the answer to AXFR.
+    /// Neither `request_info` nor the moment `now`, in seconds since 1970, is used.
+    fn lookup(
+        &self,
+        name: &LowerName,
+        record_type: RecordType,
+        _request_info: Option<&RequestInfo<'_>>,
+        lookup_options: LookupOptions,
+        _now: u64,
+    ) -> LookupControlFlow<AuthLookup>
+        ensures answer { SaysOrMemory lookup_options (reply self.now.origin self.now.inner.records name.now record_type.0) result }
+        ensures transfer { record_type.0 ≡ AXFR → Says lookup_options not_a_lookup result }
+        ensures owned_is_not_denied { IsTrue (owns self.now.inner.records name.now record_type.0) → IsDenied result → ⊥ }
+    {
+        if record_type == RecordType::AXFR {
+            let error = NetError::from("AXFR must be handled with ZoneHandler::zone_transfer()");
+            return LookupControlFlow::Break(Err(LookupError::from(error)));
+        }
+        let mut searches = Searches::new();
+        match self
+            .inner
+            .inner_lookup(name, record_type, lookup_options, &mut searches)
+        {
+            Ok(Some(found)) => match found.into_set() {
+                Ok(set) => LookupControlFlow::Continue(Ok(AuthLookup::answers(
+                    LookupRecords::new(lookup_options, set),
+                    None,
+                ))),
+                Err(error) => LookupControlFlow::Continue(Err(error)),
+            },
+            Ok(None) => LookupControlFlow::Continue(Err(self.denial(name))),
+            Err(error) => LookupControlFlow::Continue(Err(error)),
+        }
+    }
+}
