@@ -15,3 +15,4 @@ pub mod NameParts
 pub mod NameTree
 pub mod KeyLaws
 pub mod LabelFaults
+mod NameVectors
