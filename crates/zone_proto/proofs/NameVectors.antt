@@ -9,7 +9,6 @@ use Rattle.zone_proto.specs.Parse.{labels_of_text}
 use Rattle.zone_proto.specs.Reading.{fault_of_text}
 use Rattle.zone_proto.specs.Text.{name_text}
 
-
 -- the name of a text, or the root
 abbrev name : List ℕ → Name
 name s = unwrap_or (labels_of_text s) []
