@@ -9,7 +9,6 @@ pub mod LabelFacts
 pub mod RoundTrip
 pub mod BeforeLaws
 pub mod TypeTextLaws
-pub mod DataLaws
 pub mod SetLaws
 pub mod SigningLaws
 pub mod Members

@@ -13,6 +13,7 @@ pub mod Before
 pub mod Types
 pub mod TypeText
 pub mod Data
+pub mod DataEquality
 pub mod Records
 pub mod Sets
 pub mod SetInside

@@ -52,7 +52,6 @@ fn stores(records: &[Record], new: &RData) -> bool
     records.iter().any(|stored| equal_data(&stored.rdata, new))
 }
 
-#[tactic(auto, using(crate::proofs::DataLaws::derived_same))]
 fn equal_data(a: &RData, b: &RData) -> bool
     ensures { result ≡ same_data a.now b.now }
 {

@@ -62,7 +62,6 @@ pub fn clone_records(alloc: Global, records: &[Record]) -> Result<Vec<Record>, P
     Ok(copies)
 }
 
-#[tactic(auto, using(crate::proofs::DataLaws::derived_same))]
 pub fn equal(a: &Record, b: &Record) -> bool
     ensures { result ≡ same_record a.now b.now }
 {
