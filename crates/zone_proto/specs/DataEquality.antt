@@ -1,5 +1,6 @@
 -- The equalities of data and records are equivalences
-use Rattle.std.specs.Prelude.{◌≡◌, ℕ, List, true, refl}
+use Rattle.std.specs.Prelude.{◌≡◌, ◌==◌, ℕ, List, true, refl}
+use Rattle.std.specs.Ordering.{on}
 use Rattle.std.specs.Cmp.{IsEquivalence, nat_eq_equiv, int_eq_equiv, bool_eq_equiv, on_equiv, and_equiv}
 use Rattle.std.specs.Cmp.Lexicographic.{lists_equiv}
 use Rattle.zone_proto.specs.Names.{Name, same_name}
@@ -15,6 +16,9 @@ use Rattle.zone_proto.specs.declared.rdata.denial.NSEC3PARAM.{NSEC3PARAM as Nsec
 use Rattle.zone_proto.specs.declared.rdata.signing.RRSIG.{RRSIG as RrsigData}
 use Rattle.zone_proto.specs.declared.rdata.other.OtherData.{OtherData}
 use Rattle.zone_proto.specs.declared.record_type.RecordType.{RecordType}
+use Rattle.zone_proto.specs.Records.{same_record}
+use Rattle.zone_proto.specs.declared.dns_class.DNSClass.{DNSClass}
+use Rattle.zone_proto.specs.declared.record.Record.{Record}
 use Rattle.zone_proto.specs.declared.rdata.RData.{RData}
 use Rattle.zone_proto.specs.declared.rdata.RData.TheVariants as V
 
@@ -160,3 +164,12 @@ data_congr _ _ c h = cc
 
 pub same_data_equiv : IsEquivalence same_data
 same_data_equiv = record { refl = data_refl; symm = data_symm; congr = data_congr }
+
+class_equiv : IsEquivalence (on (λ (c : DNSClass). c.0) ◌==◌)
+class_equiv = on_equiv (λ (c : DNSClass). c.0) nat_eq_equiv
+
+pub same_record_equiv : IsEquivalence same_record
+same_record_equiv =
+    and_equiv (on_equiv (λ (r : Record). r.name) caseless_eq_equiv)
+    (and_equiv (on_equiv (λ (r : Record). r.dns_class) class_equiv)
+    (on_equiv (λ (r : Record). r.rdata) same_data_equiv))

@@ -16,6 +16,7 @@ pub mod Data
 pub mod DataEquality
 pub mod Records
 pub mod Sets
+pub mod SetEquality
 pub mod SetInside
 pub mod Insertion
 pub mod Signing

@@ -1,6 +1,7 @@
 // Names, their order, and keys in a map.
 #![tactic(auto)]
 
+pub mod data_laws;
 mod dns_class;
 mod error;
 mod insertion;
