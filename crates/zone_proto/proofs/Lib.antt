@@ -10,6 +10,8 @@ pub mod RoundTrip
 pub mod BeforeLaws
 pub mod TypeTextLaws
 pub mod SetLaws
+mod SetExamples
+mod TypeExamples
 pub mod SigningLaws
 pub mod Members
 pub mod Orders
