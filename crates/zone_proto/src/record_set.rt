@@ -221,7 +221,7 @@ impl RecordSet {
         put_record(&mut self.records, new)?;
         self.ttl = ttl;
         self.serial = serial;
-        self.rrsigs.clear();
+        self.clear_rrsigs();
         Ok(true)
     }
 
