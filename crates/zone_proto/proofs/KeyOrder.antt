@@ -1,9 +1,9 @@
 -- The order of keys is total, and tells all keys apart
-use Rattle.std.proofs.Common.{◌≡◌, true, refl, sym, ap, rules, Ordering, Less, Equal, Greater}
-use Rattle.std.specs.Ordering.{ordering_then, is_eq, nat_cmp, on, then_cmp}
+use Rattle.std.proofs.Common.{◌≡◌, true, refl, ap, Ordering, Less, Equal, Greater}
+use Rattle.std.specs.Ordering.{ordering_then, is_eq, nat_cmp}
 use Rattle.std.specs.Cmp.{IsTotalOrder}
 use Rattle.std.proofs.lemmas.Cmp.{tied_itself, on_total, then_total}
-use Rattle.zone_proto.specs.Keys.{key, key_cmp, key_eq}
+use Rattle.zone_proto.specs.Keys.{key_cmp, key_eq}
 use Rattle.zone_proto.specs.Names.{name_cmp}
 use Rattle.zone_proto.specs.declared.rr_key.RrKey.{RrKey}
 use Rattle.zone_proto.proofs.Orders.{IsOrder, nat_order}

@@ -9,8 +9,9 @@ pub mod LabelFacts
 pub mod RoundTrip
 pub mod BeforeLaws
 pub mod TypeTextLaws
-pub mod DataLaws
 pub mod SetLaws
+mod SetExamples
+mod TypeExamples
 pub mod SigningLaws
 pub mod Members
 pub mod Orders

@@ -1,4 +1,4 @@
-use Rattle.std.proofs.Common.{◌≡◌, ℕ, ◌<◌, List, [], ◌∷◌, ◌++◌, length, get_or, refl, sym, ap, ◌∙◌, subst, Bool, true, false, ◌==◌, if◌then◌else◌, nat_lt, nat_le, lit<, arith}
+use Rattle.std.proofs.Common.{◌≡◌, ◌≢◌, ℕ, ◌<◌, List, [], ◌∷◌, ◌++◌, length, get_or, refl, sym, ap, ◌∙◌, subst, Bool, true, false, ◌==◌, if◌then◌else◌, nat_lt, nat_le, lit<, arith}
 use Rattle.std.specs.Prelude.{Option, Some, None}
 use Rattle.std.specs.List.{All}
 use Rattle.std.proofs.lemmas.Bool.Decides.{leb_tells}
@@ -8,7 +8,7 @@ use Rattle.std.proofs.lemmas.List.Elements.{All-push, All-cons}
 use Rattle.zone_proto.specs.Types.{own_types, has_own_case}
 use Rattle.zone_proto.specs.Names.{same_name}
 use Rattle.zone_proto.specs.Data.{same_data, type_of}
-use Rattle.zone_proto.specs.Sets.{RRset, IsSet, is_single, soa_serial, first_serial, stores, with_records, inserted_by, inserted, soa_inserted}
+use Rattle.zone_proto.specs.Sets.{RRset, IsSet, is_single, soa_serial, first_serial, stores, with_records, replaced, appended, inserted_by, inserted, soa_inserted}
 use Rattle.zone_proto.specs.Insertion.{refused_by, is_refused, records_with}
 use Rattle.zone_proto.specs.declared.rdata.RData.{RData}
 use Rattle.zone_proto.specs.declared.rdata.RData.TheVariants as V
@@ -154,3 +154,78 @@ pub inserted_refused : (s : RRset) (r : Record) (serial : ℕ)
 inserted_refused s r serial i k p =
     inserted_is s r serial i k
     ∙ ap (λ (b : Bool). if b then None else Some (with_records s (records_with s.records r) r serial)) p
+
+-- what is common to all insertions that take a record
+pub record IsAfter (s : RRset) (r : Record) (n : ℕ) (t : RRset) : Type 0 where
+  pub owner : t.owner ≡ s.owner
+  pub record_type : t.record_type ≡ s.record_type
+  pub class : t.class ≡ s.class
+  pub ttl : t.ttl ≡ r.ttl
+  pub serial : t.serial ≡ n
+  pub signatures : t.signatures ≡ []
+  pub some : t.records ≢ []
+
+after_records : (s : RRset) (rs : List Record) (r : Record) (serial : ℕ) (t : RRset)
+    → rs ≢ []
+    → Some (with_records s rs r serial) ≡ Some t
+    → IsAfter s r serial t
+after_records s rs r serial t some e =
+    let h : with_records s rs r serial ≡ t = cc in
+    subst (IsAfter s r serial) h
+    (record { owner = refl; record_type = refl; class = refl; ttl = refl; serial = refl; signatures = refl; some = some })
+
+one_some : (r : Record) → (r ∷ []) ≢ []
+one_some r h = cc
+
+last_some : (rs : List Record) (r : Record) → (rs ++ r ∷ []) ≢ []
+last_some [] r h = cc
+last_some (x ∷ xs) r h = cc
+
+if_replaced : (b : Bool) (s : RRset) (r : Record) (serial : ℕ) (t : RRset)
+    → (if b then Some (replaced s r serial) else None) ≡ Some t
+    → IsAfter s r serial t
+if_replaced true s r serial t e = after_records s (r ∷ []) r serial t (one_some r) e
+if_replaced false s r serial t e = cc
+
+if_appended : (b : Bool) (s : RRset) (r : Record) (serial : ℕ) (t : RRset)
+    → (if b then None else Some (appended s r serial)) ≡ Some t
+    → IsAfter s r serial t
+if_appended true s r serial t e = cc
+if_appended false s r serial t e = after_records s (s.records ++ r ∷ []) r serial t (last_some s.records r) e
+
+after_soa : (old : Option ℕ) (new : ℕ) (s : RRset) (r : Record) (serial : ℕ) (t : RRset)
+    → soa_inserted old new s r serial ≡ Some t
+    → IsAfter s r serial t
+after_soa None new s r serial t e = after_records s (s.records ++ r ∷ []) r serial t (last_some s.records r) e
+after_soa (Some old) new s r serial t e = if_replaced (nat_lt old new) s r serial t e
+
+after_by : (d : RData) (s : RRset) (r : Record) (serial : ℕ) (t : RRset) → inserted_by d s r serial ≡ Some t → IsAfter s r serial t
+after_by (V.SOA a) s r serial t e = after_soa (first_serial s.records) a.serial s r serial t e
+after_by (V.CNAME a) s r serial t e = after_records s (r ∷ []) r serial t (one_some r) e
+after_by (V.ANAME a) s r serial t e = after_records s (r ∷ []) r serial t (one_some r) e
+after_by d s r serial t e = if_appended (stores s.records d) s r serial t e
+
+pub inserted_after : (s : RRset) (r : Record) (serial : ℕ) (t : RRset) → inserted s r serial ≡ Some t → IsAfter s r serial t
+inserted_after s r serial t e = after_by r.rdata s r serial t e
+
+if_set : (b : Bool) (s : RRset) (r : Record) (serial : ℕ) (t : RRset)
+    → is_refused s.records r.rdata ≡ b
+    → same_name r.name s.owner ≡ true
+    → type_of r.rdata ≡ s.record_type
+    → IsSet s.owner s.record_type s.records
+    → (if b then None else Some (with_records s (records_with s.records r) r serial)) ≡ Some t
+    → IsSet t.owner t.record_type t.records
+if_set true s r serial t p o k i e = cc
+if_set false s r serial t p o k i e =
+    let h : with_records s (records_with s.records r) r serial ≡ t = cc in
+    subst (λ (u : RRset). IsSet u.owner u.record_type u.records) h (IsSet-with s.owner s.record_type s.records r o k i p)
+
+-- an insertion leaves a set
+pub IsSet-inserted : (s : RRset) (r : Record) (serial : ℕ) (t : RRset)
+    → same_name r.name s.owner ≡ true
+    → type_of r.rdata ≡ s.record_type
+    → IsSet s.owner s.record_type s.records
+    → inserted s r serial ≡ Some t
+    → IsSet t.owner t.record_type t.records
+IsSet-inserted s r serial t o k i e =
+    if_set (is_refused s.records r.rdata) s r serial t refl o k i (sym (inserted_is s r serial i k) ∙ e)

@@ -13,8 +13,10 @@ pub mod Before
 pub mod Types
 pub mod TypeText
 pub mod Data
+pub mod DataEquality
 pub mod Records
 pub mod Sets
+pub mod SetEquality
 pub mod SetInside
 pub mod Insertion
 pub mod Signing

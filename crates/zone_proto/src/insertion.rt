@@ -1,5 +1,4 @@
 ghost use Rattle.std.specs.Prelude.{◌≡◌, ◌++◌, ◌∷◌, [], IfErr, OnOk, OnErr};
-ghost use Rattle.zone_proto.specs.Data.{same_data};
 ghost use Rattle.zone_proto.specs.Sets.{soa_serial, first_serial, is_single, stores};
 ghost use Rattle.zone_proto.specs.Insertion.{is_refused, records_with};
 
@@ -49,14 +48,7 @@ fn first_serial(records: &[Record]) -> Option<u32>
 fn stores(records: &[Record], new: &RData) -> bool
     ensures { result ≡ stores records.now new.now }
 {
-    records.iter().any(|stored| equal_data(&stored.rdata, new))
-}
-
-#[tactic(auto, using(crate::proofs::DataLaws::derived_same))]
-fn equal_data(a: &RData, b: &RData) -> bool
-    ensures { result ≡ same_data a.now b.now }
-{
-    *a == *b
+    records.iter().any(|stored| stored.rdata == *new)
 }
 
 /// Puts a record in place of all others where the type has at most one, else behind them.

@@ -1,6 +1,7 @@
 // Names, their order, and keys in a map.
 #![tactic(auto)]
 
+pub mod data_laws;
 mod dns_class;
 mod error;
 mod insertion;
@@ -44,6 +45,6 @@ pub use response_code::ResponseCode;
 pub use rr_key::RrKey;
 pub use rrset_records::RrsetRecords;
 pub use seq::Seq;
-pub use signer::Signer;
+pub use signer::{Signer, sign_set};
 pub use soa_record::SoaRecord;
 pub use suffixes::Suffixes;

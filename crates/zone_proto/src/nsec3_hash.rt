@@ -3,10 +3,15 @@ ghost use Rattle.std.specs.Prelude.{◌≡◌, ℕ, List, Option, Some, None, �
 use crate::error::ProtoError;
 use crate::lower_name::LowerName;
 
-/// A hash: the arguments determine a digest or none.
+/// The hash of names for NSEC3 records (RFC 5155 section 5).
+///
+/// Its answer is a function: the hash, the algorithm, the salt, the name and the iterations determine a digest or none.
 pub trait Nsec3Hash: Drop {
     ghost digest_of: { Self → ℕ → List ℕ → List (List ℕ) → ℕ → Option (List ℕ) };
 
+    /// The digest of a name in lower case.
+    ///
+    /// The refusal `Hash` comes only where there is no digest; `Memory` may come at any call, and says nothing of the digest.
     fn hash(
         &self,
         algorithm: u8,

@@ -1,6 +1,7 @@
 ghost use Rattle.std.specs.Prelude.{◌≡◌, IfOk, IfErr};
 
 mod denial;
+mod equality;
 mod mail_exchange;
 mod other;
 mod service;
@@ -20,7 +21,7 @@ pub use start_of_authority::SOA;
 /// The data of a record, by type.
 ///
 /// Equal by all parts, names without case.
-#[derive(PartialEq, Eq, Debug, Drop)]
+#[derive(Debug, Drop)]
 pub enum RData {
     /// An address of four octets (RFC 1035 section 3.4.1).
     A([u8; 4]),

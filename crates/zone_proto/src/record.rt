@@ -1,6 +1,8 @@
 ghost use Rattle.std.specs.Prelude.{◌≡◌, IfOk, IfErr};
+ghost use Rattle.std.specs.Cmp.{partial_equiv_from_equiv};
 ghost use Rattle.zone_proto.specs.Data.{type_of};
 ghost use Rattle.zone_proto.specs.Records.{same_record};
+ghost use Rattle.zone_proto.specs.DataEquality.{same_record_equiv};
 
 use crate::dns_class::DNSClass;
 use crate::error::ProtoError;
@@ -11,16 +13,33 @@ use std::alloc::Global;
 
 /// A record. Two records are equal by owner, class, type and data; the TTL is left aside.
 #[derive(Debug, Drop)]
-#[derive_where(PartialEq, Eq)]
 pub struct Record {
+    /// The owner name.
     pub name: Name,
+    /// The class.
     pub dns_class: DNSClass,
-    #[derive_where(skip(EqHashOrd))]
+    /// How long the record may be kept, in seconds.
     pub ttl: u32,
+    /// The data, which tell the type.
     pub rdata: RData,
 }
 
+impl PartialEq for Record {
+    ghost eq = { same_record };
+
+    ghost laws = { partial_equiv_from_equiv same_record_equiv };
+
+    fn eq(&self, other: &Record) -> bool {
+        self.name == other.name && self.dns_class == other.dns_class && self.rdata == other.rdata
+    }
+}
+
+impl Eq for Record {
+    ghost laws = { same_record_equiv };
+}
+
 impl Record {
+    /// A record of class IN. Takes no memory.
     pub fn from_rdata(name: Name, ttl: u32, rdata: RData) -> Record
         ensures { result ≡ record { name = name; dns_class = DNSClass.IN; ttl = ttl; rdata = rdata } }
     {
@@ -32,12 +51,14 @@ impl Record {
         }
     }
 
+    /// The type of the record's data.
     pub fn record_type(&self) -> RecordType
         ensures { result.0 ≡ type_of self.now.rdata }
     {
         self.rdata.record_type()
     }
 
+    /// A copy of the record: all parts alike, the case of letters in names and the TTL too. `Memory` where none is found.
     pub fn clone(&self) -> Result<Record, ProtoError>
         ensures ok { IfOk result (λ r. r ≡ self.now) }
         ensures err { IfErr result (λ e. e ≡ ProtoError.Memory) }
@@ -51,20 +72,14 @@ impl Record {
     }
 }
 
-pub fn clone_records(alloc: Global, records: &[Record]) -> Result<Vec<Record>, ProtoError>
+/// Copies of these records in their order, in a list that has room for these alone.
+pub(crate) fn clone_records(alloc: Global, records: &[Record]) -> Result<Vec<Record>, ProtoError>
     ensures ok { IfOk result (λ v. v.items ≡ records.now) }
     ensures err { IfErr result (λ e. e ≡ ProtoError.Memory) }
 {
-    let mut copies = Vec::new(alloc);
+    let mut copies = Vec::with_capacity(alloc, records.len())?;
     for stored in records {
         copies.push(stored.clone()?)?;
     }
     Ok(copies)
-}
-
-#[tactic(auto, using(crate::proofs::DataLaws::derived_same))]
-pub fn equal(a: &Record, b: &Record) -> bool
-    ensures { result ≡ same_record a.now b.now }
-{
-    *a == *b
 }

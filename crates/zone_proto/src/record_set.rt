@@ -41,6 +41,33 @@ impl Model for RecordSet {
     ghost invariant = { IsSetInside };
 }
 
+/// Sets are equal by owner, type, class, TTL, serial, records and signatures.
+impl PartialEq for RecordSet {
+    ghost use Rattle.std.specs.Cmp.{partial_equiv_from_equiv};
+    ghost use Rattle.zone_proto.specs.Sets.{same_set};
+    ghost use Rattle.zone_proto.specs.SetEquality.{same_set_equiv};
+
+    ghost eq = { same_set };
+
+    ghost laws = { partial_equiv_from_equiv same_set_equiv };
+
+    fn eq(&self, other: &RecordSet) -> bool {
+        self.name == other.name
+            && self.record_type == other.record_type
+            && self.dns_class == other.dns_class
+            && self.ttl == other.ttl
+            && self.serial == other.serial
+            && self.records == other.records
+            && self.rrsigs == other.rrsigs
+    }
+}
+
+impl Eq for RecordSet {
+    ghost use Rattle.zone_proto.specs.SetEquality.{same_set_equiv};
+
+    ghost laws = { same_set_equiv };
+}
+
 impl RecordSet {
     /// A set without records, of class IN, TTL 0 and this serial. Takes no memory.
     pub fn new(name: Name, record_type: RecordType, serial: u32) -> RecordSet
@@ -194,7 +221,7 @@ impl RecordSet {
         put_record(&mut self.records, new)?;
         self.ttl = ttl;
         self.serial = serial;
-        self.rrsigs.clear();
+        self.clear_rrsigs();
         Ok(true)
     }
 

@@ -10,16 +10,23 @@ use crate::rdata::{DNSKEY, RData, RRSIG};
 use crate::record::Record;
 use crate::record_set::RecordSet;
 
-/// What a signer answers is a function of the signer, the class, the moment and the set without its signatures.
+/// A signer of zones.
+///
+/// Its answers are functions: the key of the signer, and a signature of the signer, the set's owner, type, TTL and records,
+/// the class and the moment. The signatures that stand in a set are never signed. `Memory` may come at any call, and says
+/// nothing of the answer.
 pub trait Signer: Drop {
     ghost key_of: { Self → Option DNSKEY };
 
     ghost signature_of: { Self → SignedPart → ℕ → ℕ → Option RRSIG };
 
+    /// The key that the zone is to publish; none where the signer has none (RFC 4034 section 2).
     fn dnskey(&self) -> Result<Option<DNSKEY>, ProtoError>
         ensures ok { IfOk result (λ k. k ≡ key_of self.now) }
         ensures err { IfErr result (λ e. e ≡ ProtoError.Memory) };
 
+    /// The signature of the set's records for a class from the moment `inception` on, in seconds since 1970; none where the
+    /// signer doesn't sign the set (RFC 4034 section 3).
     fn sign(
         &self,
         set: &RecordSet,
@@ -30,7 +37,9 @@ pub trait Signer: Drop {
         ensures err { IfErr result (λ e. e ≡ ProtoError.Memory) };
 }
 
-/// Drops the signatures of a set, and signs it by each signer in order.
+/// Drops the signatures of a set, and puts in those of the signers that sign it, in the signers' order.
+///
+/// A signature's record has the set's owner and TTL and class IN. `Memory` leaves the set with some of the signatures.
 pub fn sign_set<S: Signer>(
     set: &mut RecordSet,
     signers: &[S],

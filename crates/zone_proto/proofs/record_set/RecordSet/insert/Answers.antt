@@ -24,4 +24,4 @@ returns-clause-after c =
     let new : is_refused c.self.inside.records.items c.args.new.rdata ≡ false =
     ap (λ rs. is_refused rs c.args.new.rdata) (sym c.as_slice.ensures.value) ∙ sym c.is_refused.ensures ∙ c.if-is_refused.false in
     let taken = inserted_taken (set_of c.self.inside) c.args.new c.args.serial c.self.invariant kind new in
-    rw (← c.self.view_is, taken, c.in_ok-put_record.ensures.ok, c.clear.ensures.items) refl
+    rw (c.clear_rrsigs.ensures, ← c.self.view_is, taken, c.in_ok-put_record.ensures.ok) refl

@@ -1,0 +1,37 @@
+//! Laws of the definitions of data and record sets; each is proved, and no call does anything.
+
+ghost use Rattle.std.specs.Prelude.{◌≡◌, ℕ, [], ◌≢◌, Some, true};
+ghost use Rattle.std.specs.Cmp.{IsEquivalence};
+ghost use Rattle.zone_proto.specs.Names.{same_name};
+ghost use Rattle.zone_proto.specs.Data.{same_data, type_of};
+ghost use Rattle.zone_proto.specs.Records.{same_record};
+ghost use Rattle.zone_proto.specs.Sets.{RRset, IsSet, same_set, inserted};
+ghost use Rattle.zone_proto.specs.declared.record.Record.{Record};
+
+/// The equality of data is an equivalence.
+pub fn equality_of_data()
+    ensures { IsEquivalence same_data }
+{}
+
+/// The equality of records is an equivalence.
+pub fn equality_of_records()
+    ensures { IsEquivalence same_record }
+{}
+
+/// The equality of record sets is an equivalence.
+pub fn equality_of_sets()
+    ensures { IsEquivalence same_set }
+{}
+
+/// An insertion that takes a record keeps the set's owner and type, leaves at least one record, and leaves a set.
+pub fn insertion_keeps_the_set()
+    ensures owner { (s t : RRset) (r : Record) (serial : ℕ) → inserted s r serial ≡ Some t → t.owner ≡ s.owner }
+    ensures kind { (s t : RRset) (r : Record) (serial : ℕ) → inserted s r serial ≡ Some t → t.record_type ≡ s.record_type }
+    ensures some { (s t : RRset) (r : Record) (serial : ℕ) → inserted s r serial ≡ Some t → t.records ≢ [] }
+    ensures rule { (s t : RRset) (r : Record) (serial : ℕ)
+        → same_name r.name s.owner ≡ true
+        → type_of r.rdata ≡ s.record_type
+        → IsSet s.owner s.record_type s.records
+        → inserted s r serial ≡ Some t
+        → IsSet t.owner t.record_type t.records }
+{}
