@@ -1,6 +1,6 @@
 pub mod FromBack
 pub mod Hashes
-pub mod Suffixes
+pub mod AtOrAbove
 pub mod LabelClones
 pub mod Faults
 pub mod Lower
@@ -16,3 +16,7 @@ pub mod Members
 pub mod Orders
 pub mod Tree
 pub mod KeyOrder
+pub mod NameParts
+pub mod NameTree
+pub mod KeyLaws
+pub mod LabelFaults

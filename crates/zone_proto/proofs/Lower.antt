@@ -1,7 +1,8 @@
 -- A loop that writes f of each element in its place.
 use Rattle.std.proofs.Common.{◌≡◌, ℕ, zero, suc, ◌+◌, ◌<◌, List, [], ◌∷◌, ◌++◌, length, map, take, drop, get_or, set, refl, sym, ap, ◌∙◌, arith}
 use Rattle.std.specs.List.{AllByRecursion}
-use Rattle.zone_proto.specs.Names.{IsOctet, IsLabel, IsName, IsLowerName, lower, wire_length}
+use Rattle.zone_proto.specs.Ranges.{IsOctet}
+use Rattle.zone_proto.specs.Names.{IsLabel, IsName, IsLowerName, lower, wire_length}
 use Rattle.std.specs.Char.{to_ascii_lowercase}
 use Rattle.std.proofs.lemmas.Bool.Decides.{nat_tests}
 use Rattle.std.proofs.lemmas.List.{map-set, length-map, take_more_set, drop-set-lt, drop_more, append_assoc, take_all, drop_all, append-nil}

@@ -6,7 +6,8 @@ use Rattle.std.specs.Prelude.{◌==◌, nat_le, ◌&&◌}
 use Rattle.std.specs.List.{flat_map, AllByRecursion}
 use Rattle.zone_proto.specs.declared.parser.Mode.{Mode}
 use Rattle.zone_proto.specs.declared.parser.Mode.TheVariants.{Start, AfterDot, InLabel, Escaped, OneDigit, TwoDigits}
-use Rattle.zone_proto.specs.Names.{IsOctet, IsLabel, IsName}
+use Rattle.zone_proto.specs.Names.{IsLabel, IsName}
+use Rattle.zone_proto.specs.Ranges.{IsOctet}
 use Rattle.zone_proto.specs.Text.{is_plain, octet_text, label_text, name_text}
 use Rattle.zone_proto.specs.Parse.{Reader, is_digit, is_graphic, with_octet, plain_step, step_in, read_on, start, labels_of_text, next_or_none}
 

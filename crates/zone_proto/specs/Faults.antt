@@ -1,7 +1,7 @@
 -- Which fault keeps labels from being a name.
-use Rattle.std.specs.Prelude.{ℕ, List, [], ◌∷◌, length, nat_lt, ◌==◌, Option, Some, None, if◌then◌else◌}
+use Rattle.std.specs.Prelude.{◌≡◌, ◌⊎◌, ℕ, List, [], ◌∷◌, length, nat_lt, ◌==◌, Option, Some, None, if◌then◌else◌}
 use Rattle.zone_proto.specs.declared.error.ProtoError.{ProtoError}
-use Rattle.zone_proto.specs.declared.error.ProtoError.TheVariants.{EmptyLabel, LabelTooLong, NameTooLong}
+use Rattle.zone_proto.specs.declared.error.ProtoError.TheVariants.{EmptyLabel, LabelTooLong, NameTooLong, Memory}
 use Rattle.zone_proto.specs.Names.{wire_length}
 
 -- from the left, the first label that is empty or too long
@@ -19,3 +19,7 @@ first_of_faults (Some e) g = Some e
 
 abbrev pub fault_of : List (List ℕ) → Option ProtoError
 fault_of ls = first_of_faults (label_fault ls) (length_fault ls)
+
+-- a refusal is the fault if there is one, or want of memory
+abbrev pub IsFaultOrMemory : Option ProtoError → ProtoError → Type 0
+IsFaultOrMemory f e = (e ≡ Memory) ⊎ (f ≡ Some e)

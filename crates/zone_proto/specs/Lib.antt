@@ -1,4 +1,5 @@
 pub mod Order
+pub mod Ranges
 pub mod Names
 pub mod Vectors
 pub mod NameLaws

@@ -5,6 +5,7 @@ use Rattle.std.specs.Char.{to_ascii_lowercase}
 use Rattle.std.specs.List.{AllByRecursion}
 use Rattle.std.specs.Ordering.{nat_cmp, on, eq_by_cmp}
 use Rattle.std.specs.Cmp.Lexicographic.{slice_cmp, pointwise}
+use Rattle.zone_proto.specs.Ranges.{IsOctet}
 
 -- a label is a string of octets
 abbrev pub Label : Type 0
@@ -22,9 +23,13 @@ octets_cmp = slice_cmp nat_cmp
 abbrev pub name_cmp : Name → Name → Ordering
 name_cmp = on reverse (slice_cmp octets_cmp)
 
+-- the label with its ASCII letters in lower case
+abbrev pub lower_label : Label → Label
+lower_label = map to_ascii_lowercase
+
 -- the name with its ASCII letters in lower case
 abbrev pub lower : Name → Name
-lower = map (map to_ascii_lowercase)
+lower = map lower_label
 
 -- the canonical order of any names: the case of letters is ignored
 abbrev pub caseless_cmp : Name → Name → Ordering
@@ -93,10 +98,6 @@ wire_form (l ∷ ls) = length l ∷ (l ++ wire_form ls)
 abbrev pub wire_length : Name → ℕ
 wire_length [] = 1
 wire_length (l ∷ ls) = length l + 1 + wire_length ls
-
--- an octet is a number from 0 to 255
-abbrev pub IsOctet : ℕ → Type 0
-IsOctet b = b < 256
 
 -- a label has 1 to 63 octets (RFC 1035 section 3.1)
 pub record IsLabel (l : Label) : Type 0 where

@@ -1,8 +1,8 @@
 -- A reader of the program as one of `Parse`, and the faults of a text.
-use Rattle.std.specs.Prelude.{◌≡◌, ℕ, List, Option, Some, None, ◌⊎◌}
+use Rattle.std.specs.Prelude.{ℕ, List, Option, Some, None}
 use Rattle.zone_proto.specs.declared.parser.Reader as declared
 use Rattle.zone_proto.specs.declared.error.ProtoError.{ProtoError}
-use Rattle.zone_proto.specs.declared.error.ProtoError.TheVariants.{BadText, Memory}
+use Rattle.zone_proto.specs.declared.error.ProtoError.TheVariants.{BadText}
 use Rattle.zone_proto.specs.Parse.{Reader, labels_of_text}
 use Rattle.zone_proto.specs.Vectors.{octets_of}
 use Rattle.zone_proto.specs.Faults.{fault_of}
@@ -17,10 +17,6 @@ fault_of_read (Some ls) = fault_of ls
 
 abbrev pub fault_of_text : List ℕ → Option ProtoError
 fault_of_text s = fault_of_read (labels_of_text s)
-
--- the fault, or want of memory
-abbrev pub IsFaultOrMemory : Option ProtoError → ProtoError → Type 0
-IsFaultOrMemory f e = (e ≡ Memory) ⊎ (f ≡ Some e)
 
 -- where nothing is read, bad text is the fault
 abbrev pub fault_of_none : {A : Type 0} → Option A → Option ProtoError

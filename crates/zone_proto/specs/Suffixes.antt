@@ -1,7 +1,7 @@
 -- What an iterator over the suffixes of a name has left.
 use Rattle.std.specs.Prelude.{ℕ, List, [], Some, None, Option, Vec}
 use Rattle.std.specs.declared.alloc.Global.{Global}
-use Rattle.zone_proto.specs.declared.name.Suffixes.{Suffixes}
+use Rattle.zone_proto.specs.declared.suffixes.Suffixes.{Suffixes}
 use Rattle.zone_proto.specs.Names.{suffixes}
 use Rattle.zone_proto.specs.Vectors.{octets_of}
 use denote.Ref.{Bor}

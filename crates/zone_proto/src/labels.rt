@@ -1,10 +1,20 @@
-ghost use Rattle.std.specs.Prelude.{◌≡◌, ◌<◌, ◌≤◌, OnOk, MatchResult, Some, None, length};
+// Lists of labels: whether they make a name, and copies of them.
+ghost use Rattle.std.specs.Prelude.{◌≡◌, ◌<◌, ◌≤◌, ◌∷◌, ◌++◌, OnOk, MatchResult, Some, None, length};
 ghost use Rattle.std.specs.List.{AllByRecursion};
-ghost use Rattle.zone_proto.specs.Names.{IsName, IsOctet};
+ghost use Rattle.zone_proto.specs.Names.{IsName};
+ghost use Rattle.zone_proto.specs.Ranges.{IsOctet};
 ghost use Rattle.zone_proto.specs.Vectors.{octets_of};
 ghost use Rattle.zone_proto.specs.Faults.{fault_of};
 
 use crate::error::ProtoError;
+use crate::wire::wire_length;
+use std::alloc::AllocError;
+
+/// The most octets that a label may have (RFC 1035 section 2.3.4).
+const LONGEST_LABEL: usize = 63;
+
+/// The most octets that the wire form of a name may have (RFC 1035 section 2.3.4).
+const LONGEST_NAME: usize = 255;
 
 /// Whether the labels make a name, and else the first fault.
 pub(crate) fn check_labels(labels: &[Vec<u8>]) -> Result<(), ProtoError>
@@ -16,15 +26,34 @@ pub(crate) fn check_labels(labels: &[Vec<u8>]) -> Result<(), ProtoError>
         if label.is_empty() {
             return Err(ProtoError::EmptyLabel);
         }
-        if label.len() > 63 {
+        if label.len() > LONGEST_LABEL {
             return Err(ProtoError::LabelTooLong);
         }
         octets_fit(label);
-        wire = (wire + 1 + label.len()).min(256);
+        wire = (wire + 1 + label.len()).min(LONGEST_NAME + 1);
     }
-    if wire + 1 > 255 {
+    if wire + 1 > LONGEST_NAME {
         return Err(ProtoError::NameTooLong);
     }
+    Ok(())
+}
+
+/// Whether a name is still one with the label before its labels, and else the first fault.
+pub(crate) fn check_prepended(label: &[u8], labels: &[Vec<u8>]) -> Result<(), ProtoError>
+    requires { IsName (octets_of labels.now) }
+    ensures fault { MatchResult result (λ _. fault_of (label.now ∷ octets_of labels.now) ≡ None) (λ e. fault_of (label.now ∷ octets_of labels.now) ≡ Some e) }
+    ensures valid { OnOk result (IsName (label.now ∷ octets_of labels.now)) }
+{
+    if label.is_empty() {
+        return Err(ProtoError::EmptyLabel);
+    }
+    if label.len() > LONGEST_LABEL {
+        return Err(ProtoError::LabelTooLong);
+    }
+    if label.len() + 1 + wire_length(labels) > LONGEST_NAME {
+        return Err(ProtoError::NameTooLong);
+    }
+    octets_fit(label);
     Ok(())
 }
 
@@ -32,3 +61,14 @@ pub(crate) fn check_labels(labels: &[Vec<u8>]) -> Result<(), ProtoError>
 pub(crate) fn octets_fit(label: &[u8])
     ensures { AllByRecursion IsOctet label.now }
 {}
+
+/// Appends copies of the labels, each with room for its octets alone.
+pub(crate) fn push_copies(copies: &mut Vec<Vec<u8>>, labels: &[Vec<u8>]) -> Result<(), AllocError>
+    ensures { OnOk result (octets_of copies.new.items ≡ octets_of copies.old.items ++ octets_of labels.now) }
+{
+    let alloc = *copies.allocator();
+    for label in labels {
+        copies.push(Vec::from_slice(alloc, label)?)?;
+    }
+    Ok(())
+}

@@ -1,9 +1,51 @@
-ghost use Rattle.std.specs.Prelude.{◌≡◌, ◌↔◌, ℕ, List};
-ghost use Rattle.std.specs.declared.cmp.Ordering.TheVariants.{Less};
-ghost use Rattle.zone_proto.specs.Names.{name_cmp};
+//! Laws of the definitions that the calls of this crate are proved to meet. Each is an empty function whose contract is
+//! the law, for every value, so a program has no need to call one.
+ghost use Rattle.std.specs.Prelude.{◌≡◌, ◌↔◌, ℕ, List, Some, reverse};
+ghost use Rattle.std.specs.declared.cmp.Ordering.TheVariants.{Less, Equal};
+ghost use Rattle.std.specs.Cmp.{IsTotalOrder};
 ghost use Rattle.zone_proto.specs.Before.{IsBefore};
+ghost use Rattle.zone_proto.specs.Names.{Name, name_cmp, caseless_cmp, lower, IsAbove, IsAtOrAbove, IsName};
+ghost use Rattle.zone_proto.specs.Parse.{labels_of_text};
+ghost use Rattle.zone_proto.specs.Text.{name_text};
+ghost use Rattle.zone_proto.specs.Keys.{key_cmp};
+ghost use Rattle.zone_proto.specs.declared.rr_key.RrKey.{RrKey};
 
-/// The order of names is that of the standard's words.
+/// The orders of names in lower case, of any names and of keys are total: of two values exactly one is before the
+/// other, or they are equal; and a value before a second one that is before a third is before the third.
+pub fn orders_are_total()
+    ensures lower_names { IsTotalOrder name_cmp }
+    ensures names { IsTotalOrder caseless_cmp }
+    ensures keys { IsTotalOrder key_cmp }
+{}
+
+/// The order of names in lower case is that of the standard's words (RFC 4034 section 6.1).
 pub fn order_is_canonical()
-    ensures { (n m : List (List ℕ)) → (name_cmp n m ≡ Less) ↔ IsBefore n m }
+    ensures { (n m : Name) → (name_cmp n m ≡ Less) ↔ IsBefore n m }
+{}
+
+/// The order of names ignores the case of ASCII letters: it is that of the names in lower case, and names are equal in
+/// it exactly if they are one in lower case (RFC 4034 section 6.1, RFC 4343).
+pub fn order_ignores_case()
+    ensures lowered { (n m : Name) → caseless_cmp n m ≡ name_cmp (lower n) (lower m) }
+    ensures equal { (n m : Name) → (caseless_cmp n m ≡ Equal) ↔ (lower n ≡ lower m) }
+{}
+
+/// Names in lower case that are equal in the order are identical.
+pub fn equal_is_identical()
+    ensures { (n m : Name) → (name_cmp n m ≡ Equal) ↔ (n ≡ m) }
+{}
+
+/// A name stands before each name below it.
+pub fn ancestor_is_first()
+    ensures { (a n : Name) → IsAbove a n → name_cmp a n ≡ Less }
+{}
+
+/// The names at and below a name stand together: a name between two of them is one of them.
+pub fn descendants_are_together()
+    ensures { (a l x r : Name) → IsAtOrAbove a l → IsAtOrAbove a r → IsBefore l x → IsBefore x r → IsAtOrAbove a x }
+{}
+
+/// What is printed of a name is read as that name.
+pub fn printed_is_read()
+    ensures { (n : Name) → IsName n → labels_of_text (name_text n) ≡ Some n }
 {}

@@ -1,7 +1,7 @@
 ghost use Rattle.std.specs.Prelude.{◌≡◌};
 
 use crate::dns_class::DNSClass;
-use crate::name::LowerName;
+use crate::lower_name::LowerName;
 use crate::record::Record;
 use crate::record_type::RecordType;
 

@@ -1,220 +1,28 @@
-ghost use Rattle.std.specs.Prelude.{◌≡◌, ℕ, ◌+◌, ◌<◌, ◌≤◌, ◌↔◌, List, [], ◌∷◌, ◌++◌, length, map, reverse, nat_eq, IsTrue, IfOk, IsOkUnless, MatchResult, OnOk, Some, None, fold};
-ghost use Rattle.std.specs.Cmp.{partial_order_from_total, partial_equiv_from_equiv};
-ghost use Rattle.std.specs.Ordering.{as_partial_cmp, eq_by_cmp, nat_cmp};
-ghost use Rattle.std.proofs.Common.{refl};
-ghost use Rattle.zone_proto.specs.Names.{name_cmp, caseless_cmp, lower, IsAtOrAbove, IsName, IsLowerName};
+// Names that keep the case of their letters.
+ghost use Rattle.std.specs.Prelude.{◌≡◌, ◌↔◌, [], ◌∷◌, length, drop, IsTrue, IfOk, IsOkUnless, MatchResult, Some, None};
+ghost use Rattle.zone_proto.specs.Names.{lower, suffixes, wire_form, wildcard_of, IsAtOrAbove, IsLowerName, IsName, IsWildcard};
+ghost use Rattle.zone_proto.specs.Ranges.{IsNameInRange};
 ghost use Rattle.zone_proto.specs.Vectors.{octets_of};
-ghost use Rattle.zone_proto.specs.Faults.{fault_of};
+ghost use Rattle.zone_proto.specs.Faults.{fault_of, IsFaultOrMemory};
 ghost use Rattle.zone_proto.specs.Suffixes.{suffixes_left};
-ghost use Rattle.zone_proto.specs.Names.{IsWildcard, wildcard_of, suffixes, wire_form};
-ghost use Rattle.std.specs.Prelude.{drop};
-ghost use Rattle.std.specs.Cmp.Lexicographic.{slice_cmp};
-ghost use Rattle.std.specs.Char.{to_ascii_lowercase};
-ghost use Rattle.std.specs.Hash as fed;
-ghost use Rattle.zone_proto.specs.NameLaws.{name_cmp_total, name_eq_equiv, name_eq_fed, caseless_cmp_total, caseless_eq_equiv, caseless_eq_fed};
+ghost use Rattle.zone_proto.specs.Parse.{labels_of_text};
+ghost use Rattle.zone_proto.specs.Reading.{fault_of_text};
 
 use crate::error::ProtoError;
-use crate::labels::check_labels;
-use std::alloc::{AllocError, Global};
-use std::cmp::Ordering;
-use std::hash::{Hash, Hasher};
+use crate::labels::{check_labels, check_prepended, push_copies};
+use crate::letter_case::lower_all;
+use crate::name_order::compare_caseless;
+use crate::parser::read_labels;
+use crate::suffixes::Suffixes;
+use crate::wire::write_wire;
+use std::alloc::Global;
 use std::marker::Model;
 
-#[derive(Debug, Drop)]
-pub struct LowerName {
-    labels: Vec<Vec<u8>>,
-}
-
-impl Model for LowerName {
-    ghost use Rattle.std.specs.Prelude.{List, ℕ};
-    ghost use Rattle.zone_proto.specs.Names.{IsLowerName};
-    ghost use Rattle.zone_proto.specs.Vectors.{octets_of};
-
-    ghost Value = { List (List ℕ) };
-
-    ghost view = { λ n. octets_of n.labels.items };
-
-    ghost invariant = { λ n. IsLowerName (octets_of n.labels.items) };
-}
-
-impl LowerName {
-    pub fn root(alloc: Global) -> LowerName
-        ensures { result ≡ [] }
-    {
-        LowerName {
-            labels: Vec::new(alloc),
-        }
-    }
-
-    pub fn num_labels(&self) -> usize
-        ensures count { result ≡ length self.now }
-        ensures valid { IsLowerName self.now }
-    {
-        self.labels.len()
-    }
-
-    pub fn alloc(&self) -> Global {
-        *self.labels.allocator()
-    }
-
-    pub fn clone(&self) -> Result<LowerName, ProtoError>
-        ensures ok { IfOk result (λ n. n ≡ self.now) }
-        ensures err { IsOkUnless result ProtoError.Memory }
-    {
-        Ok(LowerName {
-            labels: self.labels.clone()?,
-        })
-    }
-
-    pub fn labels(&self) -> &[Vec<u8>]
-        ensures value { octets_of result.now ≡ self.now }
-        ensures valid { IsLowerName self.now }
-    {
-        &self.labels
-    }
-
-    /// Whether the other name is this one or below it.
-    pub fn zone_of(&self, other: &LowerName) -> bool
-        ensures { IsTrue result ↔ IsAtOrAbove self.now other.now }
-    {
-        other.labels.ends_with(&self.labels)
-    }
-
-    pub fn is_wildcard(&self) -> bool
-        ensures { IsTrue result ↔ IsWildcard self.now }
-    {
-        match self.labels.first() {
-            Some(label) => label.as_slice() == b"*".as_slice(),
-            None => false,
-        }
-    }
-
-    /// Without the first label; the root of the root.
-    pub fn base_name(&self) -> Result<LowerName, ProtoError>
-        ensures ok { IfOk result (λ n. n ≡ drop 1 self.now) }
-        ensures err { IsOkUnless result ProtoError.Memory }
-    {
-        let mut base = self.clone()?;
-        base.shorten();
-        Ok(base)
-    }
-
-    /// Takes the first label away.
-    pub fn shorten(&mut self)
-        ensures { self.new ≡ drop 1 self.old }
-    {
-        if !self.labels.is_empty() {
-            let _ = self.labels.remove(0);
-        }
-    }
-
-    /// The name with its first label replaced by `*`.
-    pub fn into_wildcard(self) -> LowerName
-        ensures { result ≡ wildcard_of self }
-    {
-        let mut name = self;
-        if let Some(label) = name.labels.first_mut() {
-            label.truncate(1);
-            label[0] = b'*';
-        }
-        name
-    }
-
-    /// The label slices from the whole name down to the root.
-    pub fn suffixes(&self) -> Suffixes<'_>
-        ensures { suffixes_left result ≡ suffixes self.now }
-    {
-        Suffixes {
-            rest: Some(&self.labels),
-        }
-    }
-
-    /// The wire form.
-    pub fn wire_lower(&self) -> Result<Vec<u8>, ProtoError>
-        ensures ok { IfOk result (λ bytes. bytes.items ≡ wire_form (lower self.now)) }
-        ensures err { IsOkUnless result ProtoError.Memory }
-    {
-        let mut bytes = Vec::new(self.alloc());
-        for label in &self.labels {
-            push_label(&mut bytes, label)?;
-        }
-        bytes.push(0)?;
-        Ok(bytes)
-    }
-
-    pub fn is_root(&self) -> bool
-        ensures { IsTrue result ↔ (self.now ≡ []) }
-    {
-        self.labels.is_empty()
-    }
-}
-
-impl PartialEq for LowerName {
-    ghost eq = { eq_by_cmp name_cmp };
-
-    ghost laws = { partial_equiv_from_equiv name_eq_equiv };
-
-    fn eq(&self, other: &LowerName) -> bool {
-        self.cmp(other).is_eq()
-    }
-}
-
-impl Eq for LowerName {
-    ghost laws = { name_eq_equiv };
-}
-
-impl PartialOrd for LowerName {
-    ghost partial_cmp = { as_partial_cmp name_cmp };
-
-    ghost laws = { partial_order_from_total name_cmp_total };
-
-    fn partial_cmp(&self, other: &LowerName) -> Option<Ordering> {
-        Some(self.cmp(other))
-    }
-}
-
-impl Ord for LowerName {
-    ghost cmp = { name_cmp };
-
-    ghost total = { name_cmp_total };
-
-    ghost matches_partial_cmp = { λ x y. refl };
-
-    ghost matches_eq = { λ x y. refl };
-
-    fn cmp(&self, other: &LowerName) -> Ordering {
-        compare_labels(&self.labels, &other.labels)
-    }
-}
-
-/// The canonical order of two lists of labels: the rightmost first.
-fn compare_labels(a: &[Vec<u8>], b: &[Vec<u8>]) -> Ordering
-    ensures { result ≡ name_cmp (octets_of a.now) (octets_of b.now) }
-{
-    let mut i = a.len();
-    let mut j = b.len();
-    while i > 0 && j > 0 {
-        i -= 1;
-        j -= 1;
-        let order = a[i].cmp(&b[j]);
-        if !order.is_eq() {
-            return order;
-        }
-    }
-    i.cmp(&j)
-}
-
-impl Hash for LowerName {
-    ghost hash_input = { fed.slice (fed.slice fed.u8) };
-
-    ghost respects_eq = { name_eq_fed };
-
-    fn hash<H: Hasher>(&self, state: &mut H) {
-        self.labels.hash(state);
-    }
-}
-
-/// A name that keeps the case of its letters.
+/// A domain name that keeps the case of its letters.
+///
+/// A name is the list of its labels, leftmost first, and always absolute; the root has no label. A label has 1 to 63
+/// octets, and the wire form of the name at most 255 (RFC 1035 sections 2.3.4 and 3.1). Names are equal, ordered and
+/// hashed without the case of ASCII letters (RFC 4034 section 6.1, RFC 4343).
 #[derive(Debug, Drop)]
 pub struct Name {
     labels: Vec<Vec<u8>>,
@@ -233,6 +41,7 @@ impl Model for Name {
 }
 
 impl Name {
+    /// The root, which has no label. Takes no memory.
     pub fn root(alloc: Global) -> Name
         ensures { result ≡ [] }
     {
@@ -241,24 +50,170 @@ impl Name {
         }
     }
 
+    /// The name of these labels, leftmost first. Takes no memory.
+    ///
+    /// From the left, the first empty label gives `EmptyLabel` or the first one over 63 octets `LabelTooLong`; then a
+    /// wire form of more than 255 octets gives `NameTooLong`.
     pub fn from_labels(labels: Vec<Vec<u8>>) -> Result<Name, ProtoError>
-        ensures { MatchResult result (λ n. (fault_of (octets_of labels.items) ≡ None) × (n ≡ octets_of labels.items)) (λ e. fault_of (octets_of labels.items) ≡ Some e) }
+        ensures ok { IfOk result (λ n. n ≡ octets_of labels.items) }
+        ensures refusal { MatchResult result (λ _. fault_of (octets_of labels.items) ≡ None) (λ e. fault_of (octets_of labels.items) ≡ Some e) }
     {
-        check_labels(&labels)?;
-        Ok(Name { labels })
+        match check_labels(&labels) {
+            Ok(()) => Ok(Name { labels }),
+            Err(fault) => Err(fault),
+        }
     }
 
-    pub fn alloc(&self) -> Global {
-        *self.labels.allocator()
+    /// Reads the text form of a name (RFC 1035 section 5.1).
+    ///
+    /// `.` is the root. Else labels are separated by dots, and one final dot may be left out. A backslash and three
+    /// decimal digits of value at most 255 are that octet; a backslash and another octet from 33 to 126 are that octet;
+    /// any other octet from 33 to 126 is itself. Everything else, the empty text too, gives `BadText`, wherever it
+    /// stands in the text; then come the refusals of `from_labels`, and `Memory`.
+    pub fn parse(alloc: Global, text: &str) -> Result<Name, ProtoError>
+        ensures ok { IfOk result (λ n. labels_of_text text.now ≡ Some n) }
+        ensures refusal { MatchResult result (λ _. fault_of_text text.now ≡ None) (IsFaultOrMemory (fault_of_text text.now)) }
+    {
+        match read_labels(alloc, text) {
+            Ok(labels) => Name::from_labels(labels),
+            Err(fault) => Err(fault),
+        }
     }
 
+    /// The labels, leftmost first.
     pub fn labels(&self) -> &[Vec<u8>]
         ensures value { octets_of result.now ≡ self.now }
         ensures valid { IsName self.now }
+        ensures range { IsNameInRange self.now }
     {
         &self.labels
     }
 
+    /// How many labels there are; a `*` counts like any other label.
+    pub fn num_labels(&self) -> usize
+        ensures count { result ≡ length self.now }
+        ensures valid { IsName self.now }
+    {
+        self.labels.len()
+    }
+
+    /// Whether this is the root.
+    pub fn is_root(&self) -> bool
+        ensures { IsTrue result ↔ (self.now ≡ []) }
+    {
+        self.labels.is_empty()
+    }
+
+    /// Whether the first label is `*` (RFC 4592 section 2.1.1).
+    pub fn is_wildcard(&self) -> bool
+        ensures { IsTrue result ↔ IsWildcard self.now }
+    {
+        match self.labels.first() {
+            Some(label) => label.as_slice() == b"*".as_slice(),
+            None => false,
+        }
+    }
+
+    /// The name without its first label; the root of the root. Refused only for want of memory.
+    pub fn base_name(&self) -> Result<Name, ProtoError>
+        ensures ok { IfOk result (λ n. n ≡ drop 1 self.now) }
+        ensures err { IsOkUnless result ProtoError.Memory }
+    {
+        match self.labels.split_first() {
+            Some((_, rest)) => {
+                let mut labels = Vec::with_capacity(self.alloc(), rest.len())?;
+                push_copies(&mut labels, rest)?;
+                Ok(Name { labels })
+            }
+            None => Ok(Name::root(self.alloc())),
+        }
+    }
+
+    /// Takes the first label away, in place and without memory; the root stays.
+    pub(crate) fn shorten(&mut self)
+        ensures { self.new ≡ drop 1 self.old }
+    {
+        if !self.labels.is_empty() {
+            let _ = self.labels.remove(0);
+        }
+    }
+
+    /// The name with its first label replaced by `*`, in place and without memory; the root stays.
+    pub fn into_wildcard(self) -> Name
+        ensures { result ≡ wildcard_of self }
+    {
+        let mut name = self;
+        if let Some(label) = name.labels.first_mut() {
+            label.truncate(1);
+            label[0] = b'*';
+        }
+        name
+    }
+
+    /// Whether the other name is this one or below it: whether this name's labels are the other's last labels, the
+    /// case of letters ignored.
+    pub fn zone_of(&self, other: &Name) -> bool
+        ensures { IsTrue result ↔ IsAtOrAbove (lower self.now) (lower other.now) }
+    {
+        let own = self.labels();
+        let whole = other.labels();
+        if own.len() > whole.len() {
+            return false;
+        }
+        compare_caseless(own, &whole[whole.len() - own.len()..]).is_eq()
+    }
+
+    /// The name with one more label before its first.
+    ///
+    /// An empty label gives `EmptyLabel`, one of more than 63 octets `LabelTooLong`, a wire form of more than 255
+    /// octets `NameTooLong`; then comes `Memory`.
+    pub fn prepend_label(&self, label: &[u8]) -> Result<Name, ProtoError>
+        ensures ok { IfOk result (λ n. n ≡ label.now ∷ self.now) }
+        ensures refusal { MatchResult result (λ _. fault_of (label.now ∷ self.now) ≡ None) (IsFaultOrMemory (fault_of (label.now ∷ self.now))) }
+    {
+        match check_prepended(label, &self.labels) {
+            Ok(()) => {
+                let mut labels = Vec::with_capacity(self.alloc(), self.labels.len() + 1)?;
+                labels.push(Vec::from_slice(self.alloc(), label)?)?;
+                push_copies(&mut labels, &self.labels)?;
+                Ok(Name { labels })
+            }
+            Err(fault) => Err(fault),
+        }
+    }
+
+    /// Lends the labels of the name and of each of its ancestors, from the whole name down to the root. Takes no memory.
+    pub fn suffixes(&self) -> Suffixes<'_>
+        ensures { suffixes_left result ≡ suffixes self.now }
+    {
+        Suffixes::of(&self.labels)
+    }
+
+    /// The wire form in lower case: the canonical form of the name (RFC 4034 section 6.2). Refused only for want of
+    /// memory.
+    pub fn wire_lower(&self) -> Result<Vec<u8>, ProtoError>
+        ensures ok { IfOk result (λ bytes. bytes.items ≡ wire_form (lower self.now)) }
+        ensures err { IsOkUnless result ProtoError.Memory }
+    {
+        Ok(write_wire(self.alloc(), &self.labels)?)
+    }
+
+    /// The name with its letters in lower case, in place and without memory.
+    pub(crate) fn into_lower_case(self) -> Name
+        ensures value { result ≡ lower self }
+        ensures valid { IsLowerName result }
+    {
+        let Name { mut labels } = self;
+        lower_all(&mut labels);
+        Name { labels }
+    }
+
+    /// The allocator that the name was made with.
+    pub fn alloc(&self) -> Global {
+        *self.labels.allocator()
+    }
+
+    /// A copy of the name, in the same case. Refused only for want of memory.
     pub fn clone(&self) -> Result<Name, ProtoError>
         ensures ok { IfOk result (λ n. n ≡ self.now) }
         ensures err { IsOkUnless result ProtoError.Memory }
@@ -267,171 +222,4 @@ impl Name {
             labels: self.labels.clone()?,
         })
     }
-}
-
-impl PartialEq for Name {
-    ghost eq = { eq_by_cmp caseless_cmp };
-
-    ghost laws = { partial_equiv_from_equiv caseless_eq_equiv };
-
-    fn eq(&self, other: &Name) -> bool {
-        self.cmp(other).is_eq()
-    }
-}
-
-impl Eq for Name {
-    ghost laws = { caseless_eq_equiv };
-}
-
-impl PartialOrd for Name {
-    ghost partial_cmp = { as_partial_cmp caseless_cmp };
-
-    ghost laws = { partial_order_from_total caseless_cmp_total };
-
-    fn partial_cmp(&self, other: &Name) -> Option<Ordering> {
-        Some(self.cmp(other))
-    }
-}
-
-impl Ord for Name {
-    ghost cmp = { caseless_cmp };
-
-    ghost total = { caseless_cmp_total };
-
-    ghost matches_partial_cmp = { λ x y. refl };
-
-    ghost matches_eq = { λ x y. refl };
-
-    fn cmp(&self, other: &Name) -> Ordering {
-        compare_caseless(&self.labels, &other.labels)
-    }
-}
-
-impl Hash for Name {
-    ghost hash_input = { λ n. fed.slice (fed.slice fed.u8) (lower n) };
-
-    ghost respects_eq = { caseless_eq_fed };
-
-    fn hash<H: Hasher>(&self, state: &mut H) {
-        state.write_usize(self.labels.len());
-        for label in &self.labels {
-            hash_caseless(label, state);
-        }
-    }
-}
-
-fn hash_caseless<H: Hasher>(label: &[u8], state: &mut H)
-    ensures { state.new ≡ fold H.write state.old (fed.slice fed.u8 (map to_ascii_lowercase label.now)) }
-{
-    state.write_usize(label.len());
-    for octet in label {
-        state.write_u8(octet.to_ascii_lowercase());
-    }
-}
-
-/// The order of two labels, the case of letters ignored.
-fn compare_label(a: &[u8], b: &[u8]) -> Ordering
-    ensures { result ≡ slice_cmp nat_cmp (map to_ascii_lowercase a.now) (map to_ascii_lowercase b.now) }
-{
-    let mut i = 0;
-    while i < a.len() && i < b.len() {
-        let order = a[i].to_ascii_lowercase().cmp(&b[i].to_ascii_lowercase());
-        if !order.is_eq() {
-            return order;
-        }
-        i += 1;
-    }
-    a.len().cmp(&b.len())
-}
-
-/// The canonical order of two lists of labels, the case of letters ignored.
-fn compare_caseless(a: &[Vec<u8>], b: &[Vec<u8>]) -> Ordering
-    ensures { result ≡ caseless_cmp (octets_of a.now) (octets_of b.now) }
-{
-    let mut i = a.len();
-    let mut j = b.len();
-    while i > 0 && j > 0 {
-        i -= 1;
-        j -= 1;
-        let order = compare_label(&a[i], &b[j]);
-        if !order.is_eq() {
-            return order;
-        }
-    }
-    i.cmp(&j)
-}
-
-/// Puts the letters of a label into lower case.
-fn lower_label(label: &mut Vec<u8>)
-    ensures { label.new.items ≡ map to_ascii_lowercase label.old.items }
-{
-    for octet in label.iter_mut() {
-        octet.make_ascii_lowercase();
-    }
-}
-
-fn lower_all(labels: &mut Vec<Vec<u8>>)
-    ensures { octets_of labels.new.items ≡ lower (octets_of labels.old.items) }
-{
-    for i in 0..labels.len() {
-        lower_label(&mut labels[i]);
-    }
-}
-
-impl From<Name> for LowerName {
-    ghost from_gives = { λ name lowered. lowered ≡ lower name };
-
-    fn from(name: Name) -> LowerName {
-        let Name { mut labels } = name;
-        lower_all(&mut labels);
-        LowerName { labels }
-    }
-}
-
-impl From<LowerName> for Name {
-    ghost from_gives = { λ lowered name. name ≡ lowered };
-
-    fn from(lower: LowerName) -> Name {
-        let LowerName { labels } = lower;
-        Name { labels }
-    }
-}
-
-/// Lends the label slices of a name and of its ancestors.
-#[derive(Drop)]
-pub struct Suffixes<'n> {
-    rest: Option<&'n [Vec<u8>]>,
-}
-
-impl<'n> Iterator for Suffixes<'n> {
-    type Item = &'n [Vec<u8>];
-
-    ghost use Rattle.std.specs.Iterator.{YieldsFirstBy, item_count};
-    ghost use Rattle.zone_proto.specs.Vectors.{octets_of};
-    ghost use Rattle.zone_proto.specs.Suffixes.{suffixes_left};
-
-    ghost next_gives = { YieldsFirstBy (λ x. octets_of x.now) suffixes_left };
-
-    ghost remaining = { item_count suffixes_left };
-
-    fn next(&mut self) -> Option<&'n [Vec<u8>]> {
-        let labels = self.rest?;
-        self.rest = match labels.split_first() {
-            Some((_, base)) => Some(base),
-            None => None,
-        };
-        Some(labels)
-    }
-}
-
-/// Appends a label's length and its octets in lower case.
-fn push_label(bytes: &mut Vec<u8>, label: &[u8]) -> Result<(), AllocError>
-    requires { length label.now ≤ 63 }
-    ensures { OnOk result (bytes.new.items ≡ bytes.old.items ++ length label.now ∷ map to_ascii_lowercase label.now) }
-{
-    bytes.push(label.len() as u8)?;
-    for octet in label {
-        bytes.push(octet.to_ascii_lowercase())?;
-    }
-    Ok(())
 }

@@ -1,7 +1,7 @@
 ghost use Rattle.std.specs.Prelude.{◌≡◌, ℕ, List, Option, Some, None, ◌⊎◌, IfOk, IfErr};
 
 use crate::error::ProtoError;
-use crate::name::LowerName;
+use crate::lower_name::LowerName;
 
 /// A hash: the arguments determine a digest or none.
 pub trait Nsec3Hash: Drop {

@@ -1,13 +1,18 @@
-ghost use Rattle.std.specs.Prelude.{◌≡◌, ◌++◌, [], ◌∷◌, IfOk, IfErr, OnOk, IsOkUnless, Some, None};
+// Reads the text form of a name, octet by octet (RFC 1035 section 5.1).
+ghost use Rattle.std.specs.Prelude.{◌≡◌, ◌++◌, [], ◌∷◌, IfOk, IfErr, OnOk, IsOkUnless, Some};
 ghost use Rattle.zone_proto.specs.Vectors.{octets_of};
-ghost use Rattle.zone_proto.specs.Faults.{fault_of};
+ghost use Rattle.zone_proto.specs.Faults.{IsFaultOrMemory};
 ghost use Rattle.zone_proto.specs.Parse.{labels_of_text, step_in, labels_at_end, with_octet, is_digit, is_graphic, read_on, start};
-ghost use Rattle.zone_proto.specs.Reading.{reader_of, IsFaultOrMemory, fault_of_none, fault_of_text};
+ghost use Rattle.zone_proto.specs.Reading.{reader_of, fault_of_none};
 
 use crate::error::ProtoError;
-use crate::name::Name;
 use std::alloc::Global;
-use std::mem;
+
+/// Room for one label of any length that a name may have.
+const LABEL_ROOM: usize = 63;
+
+/// More labels than a name can have.
+const MANY_LABELS: usize = 128;
 
 /// In what part of a text its reader stands.
 #[derive(Clone, Copy)]
@@ -42,8 +47,8 @@ impl Reader {
         ensures ok { OnOk result (reader_of self.new ≡ record { mode = Mode.AfterDot; labels = octets_of self.old.labels.items ++ self.old.label.items ∷ []; label = [] }) }
         ensures err { IsOkUnless result ProtoError.Memory }
     {
-        let label = mem::replace(&mut self.label, Vec::new(alloc));
-        self.labels.push(label)?;
+        self.labels.push(Vec::from_slice(alloc, &self.label)?)?;
+        self.label.clear();
         self.mode = Mode::AfterDot;
         Ok(())
     }
@@ -95,7 +100,7 @@ impl Reader {
         }
     }
 
-    fn finish(self) -> Result<Vec<Vec<u8>>, ProtoError>
+    fn finish(self, alloc: Global) -> Result<Vec<Vec<u8>>, ProtoError>
         ensures ok { IfOk result (λ ls. labels_at_end self.mode (reader_of self) ≡ Some (octets_of ls.items)) }
         ensures err { IfErr result (IsFaultOrMemory (fault_of_none (labels_at_end self.mode (reader_of self)))) }
     {
@@ -107,7 +112,7 @@ impl Reader {
         match mode {
             Mode::AfterDot => Ok(labels),
             Mode::InLabel => {
-                labels.push(label)?;
+                labels.push(Vec::from_slice(alloc, &label)?)?;
                 Ok(labels)
             }
             _ => Err(ProtoError::BadText),
@@ -127,30 +132,44 @@ fn is_graphic(octet: u8) -> bool
     octet >= 33 && octet <= 126
 }
 
+/// How many labels the text has at most, if they make a name.
+fn label_count(bytes: &[u8]) -> usize {
+    let mut dots = 0usize;
+    for octet in bytes {
+        if *octet == b'.' && dots < MANY_LABELS {
+            dots += 1;
+        }
+    }
+    match bytes {
+        [.., b'.'] => dots,
+        _ => dots + 1,
+    }
+}
+
 fn read(alloc: Global, bytes: &[u8]) -> Result<Vec<Vec<u8>>, ProtoError>
     ensures ok { IfOk result (λ ls. read_on bytes.now start ≡ Some (octets_of ls.items)) }
     ensures err { IfErr result (IsFaultOrMemory (fault_of_none (read_on bytes.now start))) }
 {
     let mut reader = Reader {
         mode: Mode::Start,
-        labels: Vec::new(alloc),
-        label: Vec::new(alloc),
+        labels: Vec::with_capacity(alloc, label_count(bytes))?,
+        label: Vec::with_capacity(alloc, LABEL_ROOM)?,
     };
     for octet in bytes {
         reader.step(alloc, *octet)?;
     }
-    reader.finish()
+    reader.finish(alloc)
 }
 
-/// Reads a text as a name.
-pub fn parse(alloc: Global, text: &str) -> Result<Name, ProtoError>
-    ensures ok { IfOk result (λ n. (labels_of_text text.now ≡ Some n) × (fault_of n ≡ None)) }
-    ensures err { IfErr result (IsFaultOrMemory (fault_of_text text.now)) }
+/// The labels that a text spells. Gives `BadText` if it spells none, and `Memory`.
+pub(crate) fn read_labels(alloc: Global, text: &str) -> Result<Vec<Vec<u8>>, ProtoError>
+    ensures ok { IfOk result (λ ls. labels_of_text text.now ≡ Some (octets_of ls.items)) }
+    ensures err { IfErr result (IsFaultOrMemory (fault_of_none (labels_of_text text.now))) }
 {
     let bytes = text.as_bytes();
     match bytes {
         [] => Err(ProtoError::BadText),
-        [b'.'] => Ok(Name::root(alloc)),
-        _ => Name::from_labels(read(alloc, bytes)?),
+        [b'.'] => Ok(Vec::new(alloc)),
+        _ => read(alloc, bytes),
     }
 }

@@ -1,30 +1,40 @@
+// Keys of record sets, in their order.
 ghost use Rattle.std.specs.Prelude.{◌≡◌, IfOk, IsOkUnless};
+ghost use Rattle.zone_proto.specs.Keys.{key, IsKeyInRange};
 
 use crate::error::ProtoError;
-use crate::name::LowerName;
+use crate::lower_name::LowerName;
 use crate::record_type::RecordType;
 
-#[derive(PartialEq, Eq, PartialOrd, Ord, Hash, Drop)]
+/// The key of a record set in a zone: its owner name in lower case, and its type.
+///
+/// Keys are ordered by name, in the canonical order of RFC 4034 section 6.1, and then by the type's number.
+#[derive(PartialEq, Eq, PartialOrd, Ord, Hash, Debug, Drop)]
 pub struct RrKey {
+    /// The owner name.
     pub name: LowerName,
+    /// The type of the records.
     pub record_type: RecordType,
 }
 
 impl RrKey {
-    /// The least key that a name may own.
-    pub fn first_of(name: &LowerName) -> Result<RrKey, ProtoError>
-        ensures ok { IfOk result (λ k. k ≡ record { name = name.now; record_type = record { 0 = 0 } }) }
-        ensures err { IsOkUnless result ProtoError.Memory }
+    /// The key of a name and a type. Takes no memory.
+    pub fn new(name: LowerName, record_type: RecordType) -> RrKey
+        ensures value { result ≡ key name record_type.0 }
+        ensures range { IsKeyInRange result }
     {
-        Ok(RrKey {
-            name: name.clone()?,
-            record_type: RecordType(0),
-        })
+        let _ = name.labels();
+        RrKey { name, record_type }
     }
 
-    pub fn new(name: LowerName, record_type: RecordType) -> RrKey
-        ensures { result ≡ record { name = name; record_type = record_type } }
+    /// A copy of the key. Refused only for want of memory.
+    pub fn clone(&self) -> Result<RrKey, ProtoError>
+        ensures ok { IfOk result (λ k. k ≡ self.now) }
+        ensures err { IsOkUnless result ProtoError.Memory }
+        ensures range { IsKeyInRange self.now }
     {
-        RrKey { name, record_type }
+        let _ = self.name.labels();
+        let RecordType(number) = self.record_type;
+        Ok(RrKey::new(self.name.clone()?, RecordType(number)))
     }
 }

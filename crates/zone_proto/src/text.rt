@@ -1,9 +1,10 @@
-ghost use Rattle.std.specs.Prelude.{◌≡◌, ℕ, List, Some};
-ghost use Rattle.zone_proto.specs.Names.{IsName};
-ghost use Rattle.zone_proto.specs.Parse.{labels_of_text};
+// How names are printed.
+ghost use Rattle.std.specs.Prelude.{◌≡◌, Some};
+ghost use Rattle.zone_proto.specs.Vectors.{octets_of};
 ghost use Rattle.zone_proto.specs.Text.{is_plain, octet_text, label_text, name_text};
 
-use crate::name::LowerName;
+use crate::lower_name::LowerName;
+use crate::name::Name;
 use std::fmt;
 
 fn is_plain(octet: u8) -> bool
@@ -45,11 +46,15 @@ impl fmt::Display for LabelText<'_> {
     }
 }
 
-impl fmt::Display for LowerName {
-    ghost output = { λ n. Some (name_text n) };
+/// The text form of the labels of a name.
+#[derive(Drop)]
+struct NameText<'n>(&'n [Vec<u8>]);
+
+impl fmt::Display for NameText<'_> {
+    ghost output = { λ n. Some (name_text (octets_of n.0.now)) };
 
     fn fmt<W: fmt::Write>(&self, f: &mut fmt::Formatter<W>) -> fmt::Result {
-        let labels = self.labels();
+        let labels = self.0;
         if labels.is_empty() {
             return write!(f, ".");
         }
@@ -60,7 +65,21 @@ impl fmt::Display for LowerName {
     }
 }
 
-/// What is printed of a name is read as that name.
-pub fn printed_is_read()
-    ensures { (n : List (List ℕ)) → IsName n → labels_of_text (name_text n) ≡ Some n }
-{}
+/// Each label and a dot after it; the root is a dot. ASCII letters, digits, `-`, `_` and `*` stand for themselves, and
+/// any other octet is written as a backslash and three decimal digits (RFC 1035 section 5.1).
+impl fmt::Display for Name {
+    ghost output = { λ n. Some (name_text n) };
+
+    fn fmt<W: fmt::Write>(&self, f: &mut fmt::Formatter<W>) -> fmt::Result {
+        write!(f, "{}", NameText(self.labels()))
+    }
+}
+
+/// Printed as `Name` is.
+impl fmt::Display for LowerName {
+    ghost output = { λ n. Some (name_text n) };
+
+    fn fmt<W: fmt::Write>(&self, f: &mut fmt::Formatter<W>) -> fmt::Result {
+        write!(f, "{}", NameText(self.labels()))
+    }
+}

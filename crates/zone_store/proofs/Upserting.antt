@@ -1,6 +1,6 @@
 -- The insertion of a record into the set under its key
-use Rattle.std.proofs.Common.{◌≡◌, ◌≢◌, ℕ, Bool, true, cond, List, [], ◌∷◌, ◌++◌, refl, sym, ap, ◌∙◌, subst, true≢false, Ordering, Less, Equal, Greater, Result, Ok, Err}
-use Rattle.std.specs.Prelude.{Option, Some, None, IsSome, IfOk, OnOk, OnErr, is_some, unwrap_or, option_map}
+use Rattle.std.proofs.Common.{◌≡◌, ◌≢◌, ℕ, Bool, true, false, cond, List, [], ◌∷◌, ◌++◌, refl, sym, ap, ◌∙◌, subst, true≢false, Ordering, Less, Equal, Greater, Result, Ok, Err}
+use Rattle.std.specs.Prelude.{if◌then◌else◌, nat_lt, Option, Some, None, IsSome, IfOk, OnOk, OnErr, is_some, unwrap_or, option_map}
 use Rattle.std.specs.BTreeMap.{insert_entry}
 use Rattle.std.specs.List.Sorted.{IsStrictlySortedBy}
 use Rattle.std.specs.Map.{keys_of, lookup, set_value}
@@ -16,9 +16,9 @@ use Rattle.zone_proto.specs.declared.rr_key.RrKey.{RrKey}
 use Rattle.zone_proto.specs.Data.{type_of}
 use Rattle.zone_proto.specs.Keys.{key, key_cmp, key_eq}
 use Rattle.zone_proto.specs.Names.{Name, name_cmp, lower, same_name}
-use Rattle.zone_proto.specs.Sets.{RRset, inserted, placed, place_of, empty_set}
-use Rattle.zone_proto.specs.declared.record_set.Place.{Place}
-use Rattle.zone_proto.specs.declared.record_set.Place.TheVariants.{Nowhere, Alone, Last}
+use Rattle.zone_proto.specs.Sets.{RRset, inserted, inserted_by, soa_inserted, first_serial, stores, replaced, appended, empty_set}
+use Rattle.zone_proto.specs.declared.rdata.RData.{RData}
+use Rattle.zone_proto.specs.declared.rdata.RData.TheVariants as V
 use Rattle.zone_proto.proofs.KeyOrder.{key_total}
 use Rattle.zone_proto.proofs.Tree.{name_order}
 use Rattle.zone_store.specs.Zones.{Sets, set_at, put, IsStoredAt}
@@ -50,18 +50,38 @@ filled : (rs : List Record) (r : Record) → rs ++ r ∷ [] ≢ []
 filled [] r e = cc
 filled (x ∷ rs) r e = cc
 
-placed_stored : (n : Name) (t : ℕ) (s : RRset) (r : Record) (serial : ℕ) (p : Place) (w : RRset) → lower s.owner ≡ n → s.record_type ≡ t → placed p s r serial ≡ Some w → IsStoredAt n t w
-placed_stored n t s r serial Nowhere w o k e = absurd cc
-placed_stored n t s r serial Alone w o k e =
-    let same : record s { records = r ∷ []; ttl = r.ttl; serial = serial; signatures = [] } ≡ w = cc in
-    subst (λ (x : RRset). IsStoredAt n t x) same (record { owner = o; record_type = k; filled = λ h. cc })
-placed_stored n t s r serial Last w o k e =
-    let same : record s { records = s.records ++ r ∷ []; ttl = r.ttl; serial = serial; signatures = [] } ≡ w = cc in
-    subst (λ (x : RRset). IsStoredAt n t x) same (record { owner = o; record_type = k; filled = filled s.records r })
+module _ (n : Name) (t : ℕ) (s : RRset) (r : Record) (serial : ℕ) (w : RRset) (owner : lower s.owner ≡ n) (kind : s.record_type ≡ t) where
+  of_replaced : Some (replaced s r serial) ≡ Some w → IsStoredAt n t w
+  of_replaced e =
+      let same : replaced s r serial ≡ w = cc in
+      subst (λ (x : RRset). IsStoredAt n t x) same (record { owner = owner; record_type = kind; filled = λ h. cc })
+
+  of_appended : Some (appended s r serial) ≡ Some w → IsStoredAt n t w
+  of_appended e =
+      let same : appended s r serial ≡ w = cc in
+      subst (λ (x : RRset). IsStoredAt n t x) same (record { owner = owner; record_type = kind; filled = filled s.records r })
+
+  of_newer : (b : Bool) → (if b then Some (replaced s r serial) else None) ≡ Some w → IsStoredAt n t w
+  of_newer true e = of_replaced e
+  of_newer false e = absurd cc
+
+  of_soa : (o : Option ℕ) (new : ℕ) → soa_inserted o new s r serial ≡ Some w → IsStoredAt n t w
+  of_soa None new e = of_appended e
+  of_soa (Some old) new e = of_newer (nat_lt old new) e
+
+  of_other : (b : Bool) → (if b then None else Some (appended s r serial)) ≡ Some w → IsStoredAt n t w
+  of_other true e = absurd cc
+  of_other false e = of_appended e
+
+  of_data : (d : RData) → inserted_by d s r serial ≡ Some w → IsStoredAt n t w
+  of_data (V.SOA a) e = of_soa (first_serial s.records) a.serial e
+  of_data (V.CNAME a) e = of_replaced e
+  of_data (V.ANAME a) e = of_replaced e
+  of_data d e = of_other (stores s.records d) e
 
 -- a set that took a record may stand under its owner's name and type
 pub inserted_stored : (n : Name) (t : ℕ) (s : RRset) (r : Record) (serial : ℕ) (w : RRset) → lower s.owner ≡ n → s.record_type ≡ t → inserted s r serial ≡ Some w → IsStoredAt n t w
-inserted_stored n t s r serial w o k e = placed_stored n t s r serial (place_of s.records r.rdata) w o k e
+inserted_stored n t s r serial w o k e = of_data n t s r serial w o k r.rdata e
 
 -- ---- into a set that is stored
 

@@ -76,7 +76,7 @@ impl RecordMap {
         if record.dns_class != dns_class {
             return Ok(false);
         }
-        let mut key = RrKey::new(LowerName::from(record.name.clone()?), record.record_type());
+        let mut key = RrKey::new(LowerName::new(&record.name)?, record.record_type());
         if self.clashes(&mut key) {
             return Ok(false);
         }

@@ -1,0 +1,8 @@
+use Rattle.std.proofs.Common.{arith}
+use Rattle.zone_proto.proofs.rr_key.RrKey.clone.Goals as goal
+
+pub returns-in_err-clone-clause-range : goal.returns-in_err-clone-clause-range
+returns-in_err-clone-clause-range c = record { octets = c.labels.ensures.range.octets; types = (omega arith, tt) }
+
+pub returns-clause-range : goal.returns-clause-range
+returns-clause-range c = record { octets = c.labels.ensures.range.octets; types = (omega arith, tt) }

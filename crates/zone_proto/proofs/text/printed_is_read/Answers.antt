@@ -1,5 +1,0 @@
-use Rattle.zone_proto.proofs.RoundTrip.{printed_read}
-use Rattle.zone_proto.proofs.text.printed_is_read.Goals as goal
-
-pub returns : goal.returns
-returns c = printed_read

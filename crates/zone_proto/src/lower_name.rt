@@ -1,0 +1,202 @@
+// Names in lower case, as the owners of record sets are kept.
+ghost use Rattle.std.specs.Prelude.{◌≡◌, ◌↔◌, [], ◌∷◌, length, drop, IsTrue, IfOk, IsOkUnless, MatchResult, Some, None, option_map};
+ghost use Rattle.zone_proto.specs.Names.{lower, lower_label, suffixes, wire_form, wildcard_of, IsAtOrAbove, IsLowerName, IsWildcard};
+ghost use Rattle.zone_proto.specs.Ranges.{IsNameInRange};
+ghost use Rattle.zone_proto.specs.Vectors.{octets_of};
+ghost use Rattle.zone_proto.specs.Faults.{fault_of, IsFaultOrMemory};
+ghost use Rattle.zone_proto.specs.Suffixes.{suffixes_left};
+ghost use Rattle.zone_proto.specs.Parse.{labels_of_text};
+ghost use Rattle.zone_proto.specs.Reading.{fault_of_text};
+
+use crate::error::ProtoError;
+use crate::name::Name;
+use crate::suffixes::Suffixes;
+use std::alloc::Global;
+use std::marker::Model;
+
+/// A domain name whose ASCII letters are in lower case, so that names that are equal are identical.
+#[derive(Debug, Drop)]
+pub struct LowerName {
+    name: Name,
+}
+
+impl Model for LowerName {
+    ghost use Rattle.std.specs.Prelude.{List, ℕ};
+    ghost use Rattle.zone_proto.specs.Names.{IsLowerName};
+
+    ghost Value = { List (List ℕ) };
+
+    ghost view = { λ n. n.name };
+
+    ghost invariant = { λ n. IsLowerName n.name };
+}
+
+impl LowerName {
+    /// A copy of the name in lower case. Refused only for want of memory.
+    pub fn new(name: &Name) -> Result<LowerName, ProtoError>
+        ensures ok { IfOk result (λ n. n ≡ lower name.now) }
+        ensures err { IsOkUnless result ProtoError.Memory }
+    {
+        Ok(LowerName::from(name.clone()?))
+    }
+
+    /// The root, which has no label. Takes no memory.
+    pub fn root(alloc: Global) -> LowerName
+        ensures { result ≡ [] }
+    {
+        LowerName {
+            name: Name::root(alloc),
+        }
+    }
+
+    /// The name of these labels in lower case, leftmost first. Takes no memory. Refused as `Name::from_labels` is.
+    pub fn from_labels(labels: Vec<Vec<u8>>) -> Result<LowerName, ProtoError>
+        ensures ok { IfOk result (λ n. n ≡ lower (octets_of labels.items)) }
+        ensures refusal { MatchResult result (λ _. fault_of (octets_of labels.items) ≡ None) (λ e. fault_of (octets_of labels.items) ≡ Some e) }
+    {
+        match Name::from_labels(labels) {
+            Ok(name) => Ok(LowerName::from(name)),
+            Err(fault) => Err(fault),
+        }
+    }
+
+    /// Reads the text form of a name, and puts the name into lower case. Reads and refuses as `Name::parse` does.
+    pub fn parse(alloc: Global, text: &str) -> Result<LowerName, ProtoError>
+        ensures ok { IfOk result (λ n. option_map lower (labels_of_text text.now) ≡ Some n) }
+        ensures refusal { MatchResult result (λ _. fault_of_text text.now ≡ None) (IsFaultOrMemory (fault_of_text text.now)) }
+    {
+        match Name::parse(alloc, text) {
+            Ok(name) => Ok(LowerName::from(name)),
+            Err(fault) => Err(fault),
+        }
+    }
+
+    /// The labels, leftmost first.
+    pub fn labels(&self) -> &[Vec<u8>]
+        ensures value { octets_of result.now ≡ self.now }
+        ensures valid { IsLowerName self.now }
+        ensures range { IsNameInRange self.now }
+    {
+        self.name.labels()
+    }
+
+    /// How many labels there are; a `*` counts like any other label.
+    pub fn num_labels(&self) -> usize
+        ensures count { result ≡ length self.now }
+        ensures valid { IsLowerName self.now }
+    {
+        self.name.num_labels()
+    }
+
+    /// Whether this is the root.
+    pub fn is_root(&self) -> bool
+        ensures { IsTrue result ↔ (self.now ≡ []) }
+    {
+        self.name.is_root()
+    }
+
+    /// Whether the first label is `*` (RFC 4592 section 2.1.1).
+    pub fn is_wildcard(&self) -> bool
+        ensures { IsTrue result ↔ IsWildcard self.now }
+    {
+        self.name.is_wildcard()
+    }
+
+    /// The name without its first label; the root of the root. Refused only for want of memory.
+    pub fn base_name(&self) -> Result<LowerName, ProtoError>
+        ensures ok { IfOk result (λ n. n ≡ drop 1 self.now) }
+        ensures err { IsOkUnless result ProtoError.Memory }
+    {
+        Ok(LowerName {
+            name: self.name.base_name()?,
+        })
+    }
+
+    /// Takes the first label away, in place and without memory; the root stays.
+    ///
+    /// A walk from a name up to the root copies the name once, and then shortens the copy.
+    pub fn shorten(&mut self)
+        ensures { self.new ≡ drop 1 self.old }
+    {
+        self.name.shorten();
+    }
+
+    /// The name with its first label replaced by `*`, in place and without memory; the root stays.
+    pub fn into_wildcard(self) -> LowerName
+        ensures { result ≡ wildcard_of self }
+    {
+        let LowerName { name } = self;
+        LowerName {
+            name: name.into_wildcard(),
+        }
+    }
+
+    /// Whether the other name is this one or below it: whether this name's labels are the other's last labels.
+    pub fn zone_of(&self, other: &LowerName) -> bool
+        ensures { IsTrue result ↔ IsAtOrAbove self.now other.now }
+    {
+        other.labels().ends_with(self.labels())
+    }
+
+    /// The name with one more label, put into lower case, before its first. Refused as `Name::prepend_label` is.
+    pub fn prepend_label(&self, label: &[u8]) -> Result<LowerName, ProtoError>
+        ensures ok { IfOk result (λ n. n ≡ lower_label label.now ∷ self.now) }
+        ensures refusal { MatchResult result (λ _. fault_of (label.now ∷ self.now) ≡ None) (IsFaultOrMemory (fault_of (label.now ∷ self.now))) }
+    {
+        match self.name.prepend_label(label) {
+            Ok(name) => Ok(LowerName::from(name)),
+            Err(fault) => Err(fault),
+        }
+    }
+
+    /// Lends the labels of the name and of each of its ancestors, from the whole name down to the root. Takes no memory.
+    pub fn suffixes(&self) -> Suffixes<'_>
+        ensures { suffixes_left result ≡ suffixes self.now }
+    {
+        self.name.suffixes()
+    }
+
+    /// The wire form: the canonical form of the name (RFC 4034 section 6.2). Refused only for want of memory.
+    pub fn wire_lower(&self) -> Result<Vec<u8>, ProtoError>
+        ensures ok { IfOk result (λ bytes. bytes.items ≡ wire_form self.now) }
+        ensures err { IsOkUnless result ProtoError.Memory }
+    {
+        self.name.wire_lower()
+    }
+
+    /// The allocator that the name was made with.
+    pub fn alloc(&self) -> Global {
+        self.name.alloc()
+    }
+
+    /// A copy of the name. Refused only for want of memory.
+    pub fn clone(&self) -> Result<LowerName, ProtoError>
+        ensures ok { IfOk result (λ n. n ≡ self.now) }
+        ensures err { IsOkUnless result ProtoError.Memory }
+    {
+        Ok(LowerName {
+            name: self.name.clone()?,
+        })
+    }
+}
+
+/// Puts the name into lower case, in place and without memory.
+impl From<Name> for LowerName {
+    ghost from_gives = { λ name lowered. lowered ≡ lower name };
+
+    fn from(name: Name) -> LowerName {
+        LowerName {
+            name: name.into_lower_case(),
+        }
+    }
+}
+
+/// The same name, without memory.
+impl From<LowerName> for Name {
+    ghost from_gives = { λ lowered name. name ≡ lowered };
+
+    fn from(lowered: LowerName) -> Name {
+        let LowerName { name } = lowered;
+        name
+    }
+}
