@@ -5,12 +5,12 @@ use std::alloc::Global;
 use std::io;
 use std::test::Fail;
 use zone_handler::{
-    AuthLookup, AxfrPolicy, LookupControlFlow, LookupError, LookupOptions, LookupRecords,
-    LookupRecordsIter, NetError, NoRecords, RequestInfo, ZoneHandler, ZoneType,
+    AuthLookup, AuthLookupIter, AxfrPolicy, LookupControlFlow, LookupError, LookupOptions,
+    LookupRecords, LookupRecordsIter, NetError, NoRecords, RequestInfo, ZoneHandler, ZoneType,
 };
 use zone_proto::{
-    DNSClass, LowerName, Message, Name, ProtoError, Query, RData, RRSIG, Record, RecordSet,
-    RecordType, ResponseCode, SOA, Seq, SoaRecord,
+    DNSClass, Edns, EdnsFlags, LowerName, Message, Name, ProtoError, Query, RData, RRSIG, Record,
+    RecordSet, RecordType, ResponseCode, SOA, Seq, SoaRecord,
 };
 
 /// A negative response with an SOA record and one authority record.
@@ -184,6 +184,45 @@ fn steps_print_their_case(rt: HostRuntime) -> Result<(), Fail> {
         "LookupControlFlow::Continue(Ok)\nLookupControlFlow::Continue(Err)\nLookupControlFlow::Break(Ok)\nLookupControlFlow::Break(Err)\nLookupControlFlow::Skip\n"
     );
     Ok(())
+}
+
+#[test]
+fn steps_give_up_what_they_hold(rt: HostRuntime) -> Result<(), Fail> {
+    let alloc = rt.alloc();
+    let answer = AuthLookup::from(LookupRecords::new(
+        LookupOptions::default(),
+        signed_set(alloc, 1, 2)?,
+    ));
+    let step: LookupControlFlow<AuthLookup> = LookupControlFlow::Break(Ok(answer));
+    assert!(rt; step.is_break());
+    let answer = step.unwrap();
+    assert_eq!(rt; marks(alloc, &answer)?.as_slice(), [1, 2].as_slice());
+    let step: LookupControlFlow<AuthLookup> = LookupControlFlow::Continue(Ok(answer));
+    assert!(rt; !step.expect("an answer").is_empty());
+
+    let step: LookupControlFlow<AuthLookup> = LookupControlFlow::Break(Err(LookupError::Memory));
+    assert!(rt; matches!(step.unwrap_err(), LookupError::Memory));
+    let step: LookupControlFlow<AuthLookup> = LookupControlFlow::Continue(Err(LookupError::Memory));
+    assert!(rt; matches!(step.expect_err("an error"), LookupError::Memory));
+    let step: LookupControlFlow<AuthLookup> = LookupControlFlow::Skip;
+    assert!(rt; step.map_result().is_none());
+    Ok(())
+}
+
+#[test]
+fn defaults_are_empty_and_plain(rt: HostRuntime) {
+    assert!(rt; AuthLookup::default().is_empty());
+    assert!(rt; LookupRecords::default().was_empty());
+    assert!(rt; AuthLookupIter::default().next().is_none());
+    assert!(rt; LookupRecordsIter::default().next().is_none());
+    assert!(rt; !LookupOptions::default().dnssec_ok);
+    assert!(rt; !LookupOptions::from_edns(None).dnssec_ok);
+    for dnssec_ok in [true, false] {
+        let edns = Edns {
+            flags: EdnsFlags { dnssec_ok },
+        };
+        assert_eq!(rt; LookupOptions::from_edns(Some(&edns)).dnssec_ok, dnssec_ok);
+    }
 }
 
 #[test]
