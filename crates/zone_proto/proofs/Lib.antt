@@ -20,3 +20,4 @@ pub mod NameParts
 pub mod NameTree
 pub mod KeyLaws
 pub mod LabelFaults
+mod NameVectors

@@ -18,6 +18,14 @@ pub fn orders_are_total()
     ensures keys { IsTotalOrder key_cmp }
 {}
 
+/// The orders of this crate's types are these: `Name` is ordered without case, `LowerName` and `RrKey` as they stand, and
+/// keys by name and then by the number of the type.
+pub fn orders_are_these()
+    ensures names { (n m : Name) → ⟦<crate::Name as Ord>⟧.cmp n m ≡ caseless_cmp n m }
+    ensures lower_names { (n m : Name) → ⟦<crate::LowerName as Ord>⟧.cmp n m ≡ name_cmp n m }
+    ensures keys { (j k : RrKey) → ⟦<crate::RrKey as Ord>⟧.cmp j k ≡ key_cmp j k }
+{}
+
 /// The order of names in lower case is that of the standard's words (RFC 4034 section 6.1).
 pub fn order_is_canonical()
     ensures { (n m : Name) → (name_cmp n m ≡ Less) ↔ IsBefore n m }

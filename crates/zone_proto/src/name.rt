@@ -86,7 +86,7 @@ impl Name {
         ensures valid { IsName self.now }
         ensures range { IsNameInRange self.now }
     {
-        &self.labels
+        self.labels.as_slice()
     }
 
     /// How many labels there are; a `*` counts like any other label.
@@ -94,14 +94,14 @@ impl Name {
         ensures count { result ≡ length self.now }
         ensures valid { IsName self.now }
     {
-        self.labels.len()
+        self.labels().len()
     }
 
     /// Whether this is the root.
     pub fn is_root(&self) -> bool
         ensures { IsTrue result ↔ (self.now ≡ []) }
     {
-        self.labels.is_empty()
+        self.labels().is_empty()
     }
 
     /// Whether the first label is `*` (RFC 4592 section 2.1.1).

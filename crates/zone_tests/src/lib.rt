@@ -3,3 +3,9 @@
 
 #[cfg(test)]
 mod handler;
+#[cfg(test)]
+mod handler_memory;
+#[cfg(test)]
+mod names;
+#[cfg(test)]
+mod names_memory;
