@@ -71,7 +71,8 @@ impl LookupError {
 
     /// The authority records of the negative response that this is, if it is one and kept them.
     pub fn authorities(&self) -> Option<&[Record]>
-        ensures { option_copied result ≡ option_and_then (λ found. option_map (λ list. list.items) found.authorities) (no_records_of self.now) }
+        ensures { option_copied result ≡
+            option_and_then (λ found. option_map (λ list. list.items) found.authorities) (no_records_of self.now) }
     {
         match self {
             LookupError::NetError(NetError::NoRecordsFound(found)) => {

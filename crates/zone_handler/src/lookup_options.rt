@@ -1,7 +1,8 @@
 ghost use Rattle.std.specs.Prelude.{◌≡◌, true, false};
+ghost use Rattle.std.specs.Option.{option_map_or};
 ghost use Rattle.zone_proto.specs.Sets.{lent};
 
-use zone_proto::{RecordSet, RrsetRecords};
+use zone_proto::{Edns, RecordSet, RrsetRecords};
 
 /// How a client wants its answer.
 #[derive(Clone, Copy, Debug)]
@@ -20,6 +21,16 @@ impl Default for LookupOptions {
 }
 
 impl LookupOptions {
+    /// The options of a client whose message has this OPT record, or none: signatures are wanted
+    /// if its DO bit is set.
+    pub fn from_edns(edns: Option<&Edns>) -> LookupOptions
+        ensures { result.dnssec_ok ≡ option_map_or (λ e. e.now.flags.dnssec_ok) edns.entry false }
+    {
+        LookupOptions {
+            dnssec_ok: edns.is_some_and(|record| record.flags().dnssec_ok),
+        }
+    }
+
     /// The options of a client that wants signatures.
     pub fn for_dnssec() -> LookupOptions
         ensures { result.dnssec_ok ≡ true }

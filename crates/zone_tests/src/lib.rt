@@ -2,6 +2,10 @@
 #![tactic(auto)]
 
 #[cfg(test)]
+mod handler;
+#[cfg(test)]
+mod handler_memory;
+#[cfg(test)]
 mod names;
 #[cfg(test)]
 mod names_memory;
