@@ -5,3 +5,4 @@ pub mod Upserting
 pub mod Clashing
 pub mod Delegations
 pub mod Denials
+pub mod Examples
