@@ -1,5 +1,7 @@
 pub mod Zones
 pub mod Upserts
+pub mod Construction
+pub mod Refusals
 pub mod Search
 pub mod Searches
 pub mod FoundSets

@@ -1,5 +1,5 @@
 -- The insertion of a record into a zone
-use Rattle.std.specs.Prelude.{ℕ, Bool, ◌&&◌, ◌||◌, not, cond, ◌==◌, Option, None, unwrap_or, option_map}
+use Rattle.std.specs.Prelude.{◌≡◌, ◌⊎◌, ℕ, Bool, IsTrue, ◌&&◌, ◌||◌, not, cond, ◌==◌, List, [], ◌∷◌, Option, Some, None, unwrap_or, option_map, option_and_then}
 use Rattle.std.specs.Bool.{beq}
 use Rattle.std.specs.List.{list_any}
 use Rattle.zone_proto.specs.declared.record.Record.{Record}
@@ -7,7 +7,7 @@ use Rattle.zone_proto.specs.Names.{Name, lower}
 use Rattle.zone_proto.specs.Data.{type_of}
 use Rattle.zone_proto.specs.Types.{CNAME, NSEC, NSEC3}
 use Rattle.zone_proto.specs.Sets.{RRset, inserted, empty_set}
-use Rattle.zone_store.specs.Zones.{Sets, set_at, types_at, put}
+use Rattle.zone_store.specs.Zones.{Sets, set_at, owns, types_at, put}
 
 -- the types of denial, which may stand beside a CNAME (RFC 4034 section 4, RFC 4035 section 2.5)
 abbrev pub is_denial_type : ℕ → Bool
@@ -32,3 +32,12 @@ with_record m r serial = option_map (put m (lower r.name) (type_of r.rdata)) (in
 -- the same for a zone of a class: a record of another class, or of a type that clashes, isn't taken
 abbrev pub upserted : Sets → ℕ → Record → ℕ → Option Sets
 upserted m class r serial = cond ((r.dns_class.0 == class) && not (clashes m (lower r.name) (type_of r.rdata))) (with_record m r serial) None
+
+-- the map once records are inserted one after the other, or none where one of them isn't taken
+abbrev pub all_upserted : Sets → ℕ → List Record → ℕ → Option Sets
+all_upserted m class [] serial = Some m
+all_upserted m class (r ∷ rs) serial = option_and_then (λ n. all_upserted n class rs serial) (upserted m class r serial)
+
+-- a name that owns CNAME owns nothing else but types of denial (RFC 1034 section 3.6.2)
+abbrev pub CnamesStandAlone : Sets → Type 0
+CnamesStandAlone m = (n : Name) (t : ℕ) → IsTrue (owns m n CNAME) → IsTrue (owns m n t) → (t ≡ CNAME) ⊎ IsTrue (is_denial_type t)

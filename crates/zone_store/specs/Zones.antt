@@ -1,7 +1,7 @@
 -- A zone's record sets: a finite map from an owner name and a type to a record set
 use Rattle.std.specs.Prelude.{◌≡◌, ◌≢◌, ℕ, Bool, cond, List, [], map, ◌==◌, Option, Some, None, filter_map, is_some}
 use Rattle.std.specs.List.{list_any}
-use Rattle.std.specs.Map.{lookup}
+use Rattle.std.specs.Map.{lookup, remove_entry}
 use Rattle.std.specs.BTreeMap.{insert_entry}
 use Rattle.zone_proto.specs.declared.rr_key.RrKey.{RrKey}
 use Rattle.zone_proto.specs.Keys.{key, key_cmp, key_eq}
@@ -39,6 +39,10 @@ owns_at_or_below m n = list_any (is_at_or_above n) (names_of m)
 -- the map with a set put under its name and type, in the place of the one that stood there
 abbrev pub put : Sets → Name → ℕ → RRset → Sets
 put m n t s = insert_entry key_cmp m (key n t) s
+
+-- the map without the set of a name and a type
+abbrev pub without : Sets → Name → ℕ → Sets
+without m n t = remove_entry (key_eq (key n t)) m
 
 -- a set stands under its own owner name, in lower case, and type, and it has a record
 pub record IsStoredAt (n : Name) (t : ℕ) (s : RRset) : Type 0 where

@@ -4,6 +4,7 @@
 mod found;
 mod in_memory_zone_handler;
 mod inner_in_memory;
+mod put_refused;
 mod record_map;
 mod search;
 mod searches;
@@ -12,5 +13,6 @@ mod zone_error;
 pub use found::Found;
 pub use in_memory_zone_handler::InMemoryZoneHandler;
 pub use inner_in_memory::InnerInMemory;
+pub use put_refused::PutRefused;
 pub use searches::Searches;
 pub use zone_error::ZoneError;

@@ -1,0 +1,35 @@
+-- A zone made of record sets that are handed in by their keys
+use Rattle.std.specs.Prelude.{◌≡◌, ℕ, Bool, ◌&&◌, ◌==◌, if◌then◌else◌, List, [], ◌∷◌, Option, Some, None, Result, Ok, Err}
+use Rattle.std.specs.List.{list_all}
+use Rattle.zone_proto.specs.declared.rdata.start_of_authority.SOA.{SOA as SoaData}
+use Rattle.zone_proto.specs.declared.rr_key.RrKey.{RrKey}
+use Rattle.zone_proto.specs.Names.{Name, lower, name_eq}
+use Rattle.zone_proto.specs.Sets.{RRset}
+use Rattle.zone_proto.specs.Types.{IN}
+use Rattle.zone_store.specs.declared.zone_error.ZoneError.{ZoneError}
+use Rattle.zone_store.specs.declared.zone_error.ZoneError.TheVariants.{MissingSoa, KeyMismatch, Refused}
+use Rattle.zone_store.specs.Handlers.{soa}
+use Rattle.zone_store.specs.Upserts.{all_upserted}
+use Rattle.zone_store.specs.Zones.{Sets}
+
+-- a key is its set's own name, in lower case, and type
+abbrev pub is_own_key : RrKey × RRset → Bool
+is_own_key e = name_eq (lower e.1.owner) e.0.name && (e.1.record_type == e.0.record_type.0)
+
+-- the records of the sets inserted in the order of the keys, with one serial: the first set of which one isn't taken is refused
+abbrev pub inserted_sets : Name → ℕ → Sets → Sets → Result Sets ZoneError
+inserted_sets origin serial m [] = Ok m
+inserted_sets origin serial m (e ∷ es) = next (all_upserted m IN e.1.records serial) (λ n. inserted_sets origin serial n es)
+  where
+    next : Option Sets → (Sets → Result Sets ZoneError) → Result Sets ZoneError
+    next None rest = Err (Refused e.1.owner (record { 0 = e.1.record_type }) origin)
+    next (Some n) rest = rest n
+
+-- with the zone's SOA; without one it is missed, and a key that isn't its set's own is refused
+abbrev pub made_with : Name → Sets → Option SoaData → Result Sets ZoneError
+made_with origin m None = Err (MissingSoa origin)
+made_with origin m (Some a) = if list_all is_own_key m then inserted_sets origin a.serial [] m else Err KeyMismatch
+
+-- the map that a zone of an origin has, made of the sets handed in, or the first refusal
+abbrev pub made : Name → Sets → Result Sets ZoneError
+made origin m = made_with origin m (soa m (lower origin))
