@@ -6,3 +6,4 @@ pub mod Clashing
 pub mod Delegations
 pub mod Denials
 pub mod Examples
+pub mod CnamesAlone

@@ -1,6 +1,6 @@
 -- A map keeps each set under its own name and type while sets are put into it and taken out
 use Rattle.std.proofs.Common.{◌≡◌, ℕ, Bool, true, false, cond, refl, sym, ap, ◌∙◌, subst}
-use Rattle.std.specs.Prelude.{Some, IsSome}
+use Rattle.std.specs.Prelude.{Option, Some, None, IsSome}
 use Rattle.std.specs.Cmp.{eq_by_cmp_equiv}
 use Rattle.std.specs.Map.{lookup, set_value}
 use Rattle.std.proofs.lemmas.Map.{lookup-set_value}
@@ -32,3 +32,12 @@ pub IsRecordMap-set : (m : Sets) (n : Name) (t : ℕ) (v : RRset) → IsRecordMa
 IsRecordMap-set m n t v i h some =
     IsRecordMap-put m (set_value (key_eq (key n t)) m v) (key n t) v i h
     (λ q. lookup-set_value (eq_by_cmp_equiv key_total) (key_eq (key n t)) (λ x y e. ap (λ k. key_eq k y) (key_same (key n t) x e)) q v m some)
+
+-- a set that a look-up finds, where another is taken out, stood there before
+out_or_kept : (b : Bool) (o : Option RRset) (s : RRset) → cond b None o ≡ Some s → o ≡ Some s
+out_or_kept true o s h = cc
+out_or_kept false o s h = h
+
+-- a map that has a set taken out
+pub IsRecordMap-without : (m m' : Sets) (k : RrKey) → IsRecordMap m → ((q : RrKey) → lookup (key_eq q) m' ≡ cond (key_eq k q) None (lookup (key_eq q) m)) → IsRecordMap m'
+IsRecordMap-without m m' k i u n t s e = i n t s (out_or_kept (key_eq k (key n t)) (set_at m n t) s (sym (u (key n t)) ∙ e))

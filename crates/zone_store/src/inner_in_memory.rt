@@ -1,9 +1,9 @@
-ghost use Rattle.std.specs.Prelude.{◌≡◌, [], IfOk, OnOk, OnErr, IsOkUnless, is_some, unwrap_or, option_map, option_copied};
+ghost use Rattle.std.specs.Prelude.{◌≡◌, [], IfOk, IfErr, OnOk, OnErr, IsOkUnless, is_some, unwrap_or, option_map, option_copied};
 ghost use Rattle.zone_store.specs.FoundSets.{found_set};
 ghost use Rattle.zone_store.specs.Search.{direct};
 ghost use Rattle.zone_store.specs.Searches.{one_more};
 ghost use Rattle.zone_store.specs.Upserts.{upserted};
-ghost use Rattle.zone_store.specs.Zones.{set_at, owns_at_or_below};
+ghost use Rattle.zone_store.specs.Zones.{set_at, owns_at_or_below, put, without, IsStoredAt};
 
 use crate::found::Found;
 use crate::record_map::RecordMap;
@@ -87,6 +87,32 @@ impl<S: Signer> InnerInMemory<S> {
             Some(set) => Ok(Some(Found::Stored(set))),
             None => Ok(None),
         }
+    }
+
+    /// Stores a set under its own key; see [`RecordMap::put`].
+    pub(crate) fn put(&mut self, key: RrKey, set: RecordSet) -> Result<Option<RecordSet>, RecordSet>
+        requires { IsStoredAt key.name key.record_type.0 set }
+        ensures before { IfOk result (λ before. before ≡ set_at self.old.records key.name key.record_type.0) }
+        ensures stored { OnOk result (self.new ≡ record self.old { records = put self.old.records key.name key.record_type.0 set }) }
+        ensures refused { IfErr result (λ refused. refused ≡ set) }
+        ensures same { OnErr result (self.new ≡ self.old) }
+    {
+        self.records.put(key, set)
+    }
+
+    /// Takes the set out that stands under a key.
+    pub(crate) fn remove(&mut self, key: &RrKey) -> Option<RecordSet>
+        ensures before { result ≡ set_at self.old.records key.now.name key.now.record_type.0 }
+        ensures removed { self.new ≡ record self.old { records = without self.old.records key.now.name key.now.record_type.0 } }
+    {
+        self.records.remove(key)
+    }
+
+    /// Takes all sets out; the signers stay.
+    pub(crate) fn clear(&mut self)
+        ensures { self.new ≡ record self.old { records = [] } }
+    {
+        self.records.clear();
     }
 
     /// The record sets by their keys.

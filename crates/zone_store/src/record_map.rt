@@ -1,10 +1,10 @@
-ghost use Rattle.std.specs.Prelude.{◌≡◌, [], IfOk, OnOk, OnErr, IfSome, IsOkUnless, None, Some, is_some, unwrap_or, option_copied};
+ghost use Rattle.std.specs.Prelude.{◌≡◌, [], IfOk, IfErr, OnOk, OnErr, IfSome, IsOkUnless, None, Some, is_some, unwrap_or, option_copied};
 ghost use Rattle.zone_proto.specs.Keys.{key as key_at};
 ghost use Rattle.zone_proto.specs.Names.{lower};
 ghost use Rattle.zone_proto.specs.Types.{CNAME};
 ghost use Rattle.zone_proto.specs.Data.{type_of};
 ghost use Rattle.zone_proto.specs.Sets.{inserted, empty_set};
-ghost use Rattle.zone_store.specs.Zones.{set_at, owns, owns_at_or_below, IsStoredAt};
+ghost use Rattle.zone_store.specs.Zones.{set_at, owns, owns_at_or_below, put, without, IsStoredAt};
 ghost use Rattle.zone_store.specs.Upserts.{upserted, with_record, clash, clashes, is_denial_type};
 
 use std::alloc::Global;
@@ -57,6 +57,38 @@ impl RecordMap {
         ensures { result ≡ owns self.now key.now.name key.now.record_type.0 }
     {
         self.sets.contains_key(key)
+    }
+}
+
+impl RecordMap {
+    /// Stores a set under its own key, and gives the one that stood there; a set that is refused for want of memory is
+    /// handed back.
+    pub(crate) fn put(&mut self, key: RrKey, set: RecordSet) -> Result<Option<RecordSet>, RecordSet>
+        requires { IsStoredAt key.name key.record_type.0 set }
+        ensures before { IfOk result (λ before. before ≡ set_at self.old key.name key.record_type.0) }
+        ensures stored { OnOk result (self.new ≡ put self.old key.name key.record_type.0 set) }
+        ensures refused { IfErr result (λ refused. refused ≡ set) }
+        ensures same { OnErr result (self.new ≡ self.old) }
+    {
+        match self.sets.insert(key, set) {
+            Ok(before) => return Ok(before),
+            Err(failed) => return Err(failed.value.1),
+        }
+    }
+
+    /// Takes the set out that stands under a key. This takes no memory.
+    pub(crate) fn remove(&mut self, key: &RrKey) -> Option<RecordSet>
+        ensures before { result ≡ set_at self.old key.now.name key.now.record_type.0 }
+        ensures removed { self.new ≡ without self.old key.now.name key.now.record_type.0 }
+    {
+        self.sets.remove(key)
+    }
+
+    /// Takes all sets out. This takes no memory.
+    pub(crate) fn clear(&mut self)
+        ensures { self.new ≡ [] }
+    {
+        self.sets.clear();
     }
 }
 
