@@ -7,3 +7,4 @@ pub mod Delegations
 pub mod Denials
 pub mod Examples
 pub mod CnamesAlone
+pub mod Constructing

@@ -1,13 +1,14 @@
 ghost use Rattle.std.specs.Prelude.{◌≡◌, ◌⊎◌, false, [], IfOk, OnOk, OnErr, IsOkUnless, IsTrue, is_some, unwrap_or, option_and_then, option_copied};
 ghost use Rattle.zone_proto.specs.Names.{lower};
 ghost use Rattle.zone_proto.specs.Types.{IN, SOA, AXFR};
-ghost use Rattle.zone_store.specs.Handlers.{first_soa, soa, serial, minimum};
+ghost use Rattle.zone_store.specs.Handlers.{soa, serial, minimum};
 ghost use Rattle.zone_store.specs.Lookup.{not_a_lookup, absent, denial, error_of, reply, Says, SaysOrMemory, IsDenied};
 ghost use Rattle.zone_store.specs.Upserts.{upserted};
 ghost use Rattle.zone_store.specs.Zones.{owns};
 
 use crate::inner_in_memory::InnerInMemory;
 use crate::searches::Searches;
+use crate::start_of_authority::first_soa;
 use crate::zone_error::ZoneError;
 use std::collections::BTreeMap;
 use std::marker::Model;
@@ -16,7 +17,7 @@ use zone_handler::{
     RequestInfo, ZoneHandler, ZoneType,
 };
 use zone_proto::{
-    DNSClass, LowerName, Name, Nsec3Hash, NxProofKind, RData, Record, RecordSet, RecordType,
+    DNSClass, LowerName, Name, Nsec3Hash, NxProofKind, Record, RecordSet, RecordType,
     ResponseCode, RrKey, SOA, Signer,
 };
 
@@ -190,16 +191,6 @@ fn denial_of_absent(origin: &LowerName, name: &LowerName) -> LookupError
         LookupError::from(ResponseCode::NXDomain)
     } else {
         LookupError::from(ResponseCode::Refused)
-    }
-}
-
-/// The SOA data of a set's first record.
-fn first_soa(set: &RecordSet) -> Option<&SOA>
-    ensures { option_copied result ≡ first_soa set.now.records }
-{
-    match &set.records_without_rrsigs().next()?.rdata {
-        RData::SOA(soa) => Some(soa),
-        _ => None,
     }
 }
 

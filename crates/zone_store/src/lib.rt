@@ -1,6 +1,7 @@
 //! The store of an authoritative zone: its record sets in one ordered map, and what a search finds in them.
 #![tactic(auto)]
 
+mod construction;
 mod found;
 mod in_memory_zone_handler;
 mod inner_in_memory;
@@ -8,6 +9,7 @@ mod put_refused;
 mod record_map;
 mod search;
 mod searches;
+mod start_of_authority;
 mod zone_error;
 
 pub use found::Found;

@@ -1,0 +1,14 @@
+ghost use Rattle.std.specs.Prelude.{◌≡◌, option_copied};
+ghost use Rattle.zone_store.specs.Handlers.{first_soa};
+
+use zone_proto::{RData, RecordSet, SOA};
+
+/// The SOA data of a set's first record.
+pub(crate) fn first_soa(set: &RecordSet) -> Option<&SOA>
+    ensures { option_copied result ≡ first_soa set.now.records }
+{
+    match &set.records_without_rrsigs().next()?.rdata {
+        RData::SOA(soa) => Some(soa),
+        _ => None,
+    }
+}
