@@ -1,9 +1,8 @@
 -- An insertion keeps CNAMEs standing alone
-use Rattle.std.proofs.Common.{◌≡◌, ℕ, ◌==◌, ◌&&◌, ◌||◌, not, Bool, true, false, cond, List, [], ◌∷◌, refl, sym, ap, ◌∙◌, subst, true≢false, eqb-true, eq-eqb, inl, inr, ◌⊎◌}
+use Rattle.std.proofs.Common.{◌≡◌, ℕ, ◌==◌, ◌&&◌, ◌||◌, not, Bool, true, false, cond, List, [], ◌∷◌, refl, sym, ap, ◌∙◌, subst, true≢false, eqb-true, inl, inr, ◌⊎◌}
 use Rattle.std.specs.Prelude.{Option, Some, None, Result, Ok, Err, OnOk, OnErr, is_some, unwrap_or, option_map, option_and_then, if◌then◌else◌}
 use Rattle.std.specs.Bool.{beq}
-use Rattle.std.specs.Cmp.{eq_by_cmp_equiv}
-use Rattle.std.specs.BTreeMap.{insert_entry, is_at}
+use Rattle.std.specs.BTreeMap.{insert_entry}
 use Rattle.std.specs.List.{list_all}
 use Rattle.std.specs.Map.{lookup, values_of}
 use Rattle.std.specs.Ordering.{is_eq, match_ordering}
@@ -16,9 +15,9 @@ use Rattle.zone_proto.specs.Keys.{key, key_cmp, key_eq}
 use Rattle.zone_proto.specs.Names.{Name, lower}
 use Rattle.zone_proto.specs.Sets.{RRset, inserted}
 use Rattle.zone_proto.specs.Types.{CNAME, IN}
-use Rattle.zone_proto.proofs.KeyOrder.{key_total, key_same}
-use Rattle.zone_proto.proofs.Members.{In, none_passes}
-use Rattle.zone_store.specs.Zones.{Sets, set_at, owns, types_at, put}
+use Rattle.zone_proto.proofs.KeyOrder.{key_same}
+use Rattle.zone_proto.proofs.Members.{none_passes}
+use Rattle.zone_store.specs.Zones.{Sets, owns, types_at, put}
 use Rattle.zone_store.specs.Upserts.{is_denial_type, clash, clashes, upserted, all_upserted, with_record, set_for, CnamesStandAlone}
 use Rattle.zone_store.specs.Construction.{is_own_key, after_set, inserted_sets, made_with, made}
 use Rattle.zone_store.specs.Handlers.{soa}
@@ -79,19 +78,19 @@ unclashing m n t u h o = by (clash t u) refl
 -- ---- the law
 
 put_alone : (m : Sets) (a : Name) (u : ℕ) (v : RRset) → clashes m a u ≡ false → CnamesStandAlone m → CnamesStandAlone (put m a u v)
-put_alone m a u v free alone n t c o = by (owned_after m a n u CNAME v c) (owned_after m a n u t v o)
+put_alone m a u v free given = record { alone = λ n t c o. by n t (owned_after m a n u CNAME v c) (owned_after m a n u t v o) }
   where
-    by : (key n CNAME ≡ key a u) ⊎ (owns m n CNAME ≡ true) → (key n t ≡ key a u) ⊎ (owns m n t ≡ true) → (t ≡ CNAME) ⊎ (is_denial_type t ≡ true)
-    by (inl e) (inl f) = inl (ap (λ (k : RrKey). k.record_type.0) f ∙ sym (ap (λ (k : RrKey). k.record_type.0) e))
-    by (inl e) (inr f) =
+    by : (n : Name) (t : ℕ) → (key n CNAME ≡ key a u) ⊎ (owns m n CNAME ≡ true) → (key n t ≡ key a u) ⊎ (owns m n t ≡ true) → (t ≡ CNAME) ⊎ (is_denial_type t ≡ true)
+    by n t (inl e) (inl f) = inl (ap (λ (k : RrKey). k.record_type.0) f ∙ sym (ap (λ (k : RrKey). k.record_type.0) e))
+    by n t (inl e) (inr f) =
         beside_cname t
         (ap (λ w. clash w t) (ap (λ (k : RrKey). k.record_type.0) e)
         ∙ unclashing m a u t free (subst (λ w. owns m w t ≡ true) (ap (λ (k : RrKey). k.name) e) f))
-    by (inr e) (inl f) =
+    by n t (inr e) (inl f) =
         beside_by_cname t
         (ap (λ w. clash w CNAME) (ap (λ (k : RrKey). k.record_type.0) f)
         ∙ unclashing m a u CNAME free (subst (λ w. owns m w CNAME ≡ true) (ap (λ (k : RrKey). k.name) f) e))
-    by (inr e) (inr f) = alone n t e f
+    by n t (inr e) (inr f) = given.alone n t e f
 
 -- an insertion where nothing clashes, with the map as it was where the record isn't taken
 pub record_alone : (m : Sets) (r : Record) (serial : ℕ) → clashes m (lower r.name) (type_of r.rdata) ≡ false → CnamesStandAlone m → CnamesStandAlone (unwrap_or (with_record m r serial) m)
@@ -151,8 +150,8 @@ inserted_alone origin serial m (s ∷ ss) n e alone = by (all_upserted m IN s.re
     by None f h more = absurd cc
     by (Some k) f h more = more k h (all_alone m IN s.records serial k f alone)
 
-nothing_owned : CnamesStandAlone []
-nothing_owned n t c o = absurd (true≢false (sym c))
+pub nothing_owned : CnamesStandAlone []
+nothing_owned = record { alone = λ n t c o. absurd (true≢false (sym c)) }
 
 pub made_alone : (origin : Name) (m n : Sets) → made origin m ≡ Ok n → CnamesStandAlone n
 made_alone origin m n = by (soa m (lower origin))

@@ -39,5 +39,5 @@ all_upserted m class [] serial = Some m
 all_upserted m class (r ∷ rs) serial = option_and_then (λ n. all_upserted n class rs serial) (upserted m class r serial)
 
 -- a name that owns CNAME owns nothing else but types of denial (RFC 1034 section 3.6.2)
-abbrev pub CnamesStandAlone : Sets → Type 0
-CnamesStandAlone m = (n : Name) (t : ℕ) → IsTrue (owns m n CNAME) → IsTrue (owns m n t) → (t ≡ CNAME) ⊎ IsTrue (is_denial_type t)
+pub record CnamesStandAlone (m : Sets) : Type 0 where
+  pub alone : (n : Name) (t : ℕ) → IsTrue (owns m n CNAME) → IsTrue (owns m n t) → (t ≡ CNAME) ⊎ IsTrue (is_denial_type t)

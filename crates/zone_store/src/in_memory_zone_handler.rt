@@ -1,12 +1,16 @@
-ghost use Rattle.std.specs.Prelude.{◌≡◌, ◌⊎◌, false, [], IfOk, OnOk, OnErr, IsOkUnless, IsTrue, is_some, unwrap_or, option_and_then, option_copied};
+ghost use Rattle.std.specs.Prelude.{◌≡◌, ◌⊎◌, false, [], Ok, Err, IfErr, IfOk, OnOk, OnErr, IsOkUnless, IsTrue, is_some, unwrap_or, option_and_then, option_copied};
 ghost use Rattle.zone_proto.specs.Names.{lower};
 ghost use Rattle.zone_proto.specs.Types.{IN, SOA, AXFR};
 ghost use Rattle.zone_store.specs.Handlers.{soa, serial, minimum};
 ghost use Rattle.zone_store.specs.Lookup.{not_a_lookup, absent, denial, error_of, reply, Says, SaysOrMemory, IsDenied};
-ghost use Rattle.zone_store.specs.Upserts.{upserted};
-ghost use Rattle.zone_store.specs.Zones.{owns};
+ghost use Rattle.zone_store.specs.Construction.{made};
+ghost use Rattle.zone_store.specs.Refusals.{Refuses};
+ghost use Rattle.zone_store.specs.Upserts.{upserted, CnamesStandAlone};
+ghost use Rattle.zone_store.specs.Zones.{set_at, owns, put, without};
 
+use crate::construction;
 use crate::inner_in_memory::InnerInMemory;
+use crate::put_refused::PutRefused;
 use crate::searches::Searches;
 use crate::start_of_authority::first_soa;
 use crate::zone_error::ZoneError;
@@ -17,8 +21,8 @@ use zone_handler::{
     RequestInfo, ZoneHandler, ZoneType,
 };
 use zone_proto::{
-    DNSClass, LowerName, Name, Nsec3Hash, NxProofKind, Record, RecordSet, RecordType,
-    ResponseCode, RrKey, SOA, Signer,
+    DNSClass, LowerName, Name, Nsec3Hash, NxProofKind, Record, RecordSet, RecordType, ResponseCode,
+    RrKey, SOA, Signer,
 };
 
 /// An authoritative zone in memory.
@@ -69,7 +73,7 @@ impl<S: Signer, H: Nsec3Hash> InMemoryZoneHandler<S, H> {
         nx_proof_kind: Option<NxProofKind>,
         hash: H,
     ) -> Self
-        ensures { result
+        ensures made { result
             ≡ record {
               origin = lower origin;
               class = IN;
@@ -79,6 +83,7 @@ impl<S: Signer, H: Nsec3Hash> InMemoryZoneHandler<S, H> {
               inner = record { records = []; signers = [] };
               hash = hash;
             } }
+        ensures cnames { CnamesStandAlone result.inner.records }
     {
         let alloc = origin.alloc();
         InMemoryZoneHandler {
@@ -89,6 +94,54 @@ impl<S: Signer, H: Nsec3Hash> InMemoryZoneHandler<S, H> {
             nx_proof_kind,
             inner: InnerInMemory::new(alloc),
             hash,
+        }
+    }
+
+    /// A zone made of record sets by their keys, without signers, of class IN.
+    ///
+    /// The records of the sets are inserted in the order of the keys and without their signatures, each with the serial
+    /// of the SOA that is handed in; a set without records adds nothing. Refused, in this order: `MissingSoa` where no
+    /// set stands under the origin and SOA whose first record is SOA data; `KeyMismatch` where a key isn't its set's
+    /// own owner name, in lower case, and type; `Refused`, with the set's owner and type, for the first set of which a
+    /// record isn't taken, as [`InMemoryZoneHandler::upsert`] says. `Memory` may come instead of any of these.
+    pub fn new(
+        origin: Name,
+        records: BTreeMap<RrKey, RecordSet>,
+        zone_type: ZoneType,
+        axfr_policy: AxfrPolicy,
+        nx_proof_kind: Option<NxProofKind>,
+        hash: H,
+    ) -> Result<Self, ZoneError>
+        ensures ok { IfOk result (λ zone. made origin records.entries ≡ Ok zone.inner.records) }
+        ensures parts { IfOk result (λ zone. zone
+            ≡ record {
+              origin = lower origin;
+              class = IN;
+              zone_type = zone_type;
+              axfr_policy = axfr_policy;
+              kind = nx_proof_kind;
+              inner = record { records = zone.inner.records; signers = [] };
+              hash = hash;
+            }) }
+        ensures cnames { IfOk result (λ zone. CnamesStandAlone zone.inner.records) }
+        ensures err { IfErr result (λ error. (error ≡ ZoneError.Memory) ⊎ (made origin records.entries ≡ Err error)) }
+    {
+        let alloc = origin.alloc();
+        let Ok(name) = LowerName::new(&origin) else {
+            return Err(ZoneError::Memory);
+        };
+        let apex = RrKey::new(name, RecordType::SOA);
+        match construction::make(&origin, &apex, &records) {
+            Ok(map) => Ok(InMemoryZoneHandler {
+                apex,
+                class: DNSClass::IN,
+                zone_type,
+                axfr_policy,
+                nx_proof_kind,
+                inner: InnerInMemory::with_records(alloc, map),
+                hash,
+            }),
+            Err(error) => Err(error),
         }
     }
 
@@ -153,6 +206,7 @@ impl<S: Signer, H: Nsec3Hash> InMemoryZoneHandler<S, H> {
         ensures after { OnOk result (self.new
             ≡ record self.old { inner = record self.old.inner { records = unwrap_or (upserted self.old.inner.records self.old.class «record» serial) self.old.inner.records } }) }
         ensures untaken { IfOk result (λ taken. taken ≡ false → self.new ≡ self.old) }
+        ensures cnames { CnamesStandAlone self.old.inner.records → CnamesStandAlone self.new.inner.records }
         ensures err { IsOkUnless result ZoneError.Memory }
         ensures same { OnErr result (self.new ≡ self.old) }
     {
@@ -165,10 +219,54 @@ impl<S: Signer, H: Nsec3Hash> InMemoryZoneHandler<S, H> {
         ensures after { OnOk result (self.new
             ≡ record self.old { inner = record self.old.inner { records = unwrap_or (upserted self.old.inner.records self.old.class «record» serial) self.old.inner.records } }) }
         ensures untaken { IfOk result (λ taken. taken ≡ false → self.new ≡ self.old) }
+        ensures cnames { CnamesStandAlone self.old.inner.records → CnamesStandAlone self.new.inner.records }
         ensures err { IsOkUnless result ZoneError.Memory }
         ensures same { OnErr result (self.new ≡ self.old) }
     {
         self.upsert(record, serial)
+    }
+
+    /// Stores a set whole, with its signatures, under its own owner name, in lower case, and type, and gives the set
+    /// that stood there.
+    ///
+    /// Nothing is asked of its class, nor of a CNAME beside it. Refused by `Empty` for a set without records, and by
+    /// `Memory`; both hand the set back and leave the zone as it was.
+    pub fn put_set(&mut self, set: RecordSet) -> Result<Option<RecordSet>, PutRefused>
+        ensures before { IfOk result (λ before. before ≡ set_at self.old.inner.records (lower set.owner) set.record_type) }
+        ensures stored { OnOk result (self.new
+            ≡ record self.old { inner = record self.old.inner { records = put self.old.inner.records (lower set.owner) set.record_type set } }) }
+        ensures empty { set.records ≡ [] → result ≡ Err (PutRefused.Empty set) }
+        ensures refused { IfErr result (λ refusal. Refuses refusal set) }
+        ensures same { OnErr result (self.new ≡ self.old) }
+    {
+        if set.is_empty() {
+            return Err(PutRefused::Empty(set));
+        }
+        let Ok(name) = LowerName::new(set.name()) else {
+            return Err(PutRefused::Memory(set));
+        };
+        let key = RrKey::new(name, set.record_type());
+        match self.inner.put(key, set) {
+            Ok(before) => return Ok(before),
+            Err(set) => return Err(PutRefused::Memory(set)),
+        }
+    }
+
+    /// Takes the set out that stands under a key, and gives it. This takes no memory.
+    pub fn remove_set(&mut self, key: &RrKey) -> Option<RecordSet>
+        ensures before { result ≡ set_at self.old.inner.records key.now.name key.now.record_type.0 }
+        ensures removed { self.new
+            ≡ record self.old { inner = record self.old.inner { records = without self.old.inner.records key.now.name key.now.record_type.0 } } }
+    {
+        self.inner.remove(key)
+    }
+
+    /// Takes all record sets out; the signers stay. This takes no memory.
+    pub fn clear(&mut self)
+        ensures cleared { self.new ≡ record self.old { inner = record self.old.inner { records = [] } } }
+        ensures cnames { CnamesStandAlone self.new.inner.records }
+    {
+        self.inner.clear();
     }
 
     /// The negative answer for a name, or want of memory.

@@ -2,7 +2,7 @@ ghost use Rattle.std.specs.Prelude.{◌≡◌, [], IfOk, IfErr, OnOk, OnErr, IsO
 ghost use Rattle.zone_store.specs.FoundSets.{found_set};
 ghost use Rattle.zone_store.specs.Search.{direct};
 ghost use Rattle.zone_store.specs.Searches.{one_more};
-ghost use Rattle.zone_store.specs.Upserts.{upserted};
+ghost use Rattle.zone_store.specs.Upserts.{upserted, CnamesStandAlone};
 ghost use Rattle.zone_store.specs.Zones.{set_at, owns_at_or_below, put, without, IsStoredAt};
 
 use crate::found::Found;
@@ -42,6 +42,16 @@ impl<S: Signer> InnerInMemory<S> {
         }
     }
 
+    /// These record sets, and no signers.
+    pub(crate) fn with_records(alloc: Global, records: RecordMap) -> Self
+        ensures { result ≡ record { records = records; signers = [] } }
+    {
+        InnerInMemory {
+            records,
+            signers: Vec::new(alloc),
+        }
+    }
+
     /// Takes a record into the set of its owner name and type, or makes that set.
     ///
     /// `serial` is the zone's serial, which the set keeps when it takes the record, and `dns_class` the
@@ -57,6 +67,7 @@ impl<S: Signer> InnerInMemory<S> {
     ) -> Result<bool, ZoneError>
         ensures answer { IfOk result (λ taken. taken ≡ is_some (upserted self.old.records dns_class.0 «record» serial)) }
         ensures after { OnOk result (self.new ≡ record self.old { records = unwrap_or (upserted self.old.records dns_class.0 «record» serial) self.old.records }) }
+        ensures cnames { CnamesStandAlone self.old.records → CnamesStandAlone self.new.records }
         ensures err { IsOkUnless result ZoneError.Memory }
         ensures same { OnErr result (self.new ≡ self.old) }
     {

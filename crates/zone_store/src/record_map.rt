@@ -5,7 +5,7 @@ ghost use Rattle.zone_proto.specs.Types.{CNAME};
 ghost use Rattle.zone_proto.specs.Data.{type_of};
 ghost use Rattle.zone_proto.specs.Sets.{inserted, empty_set};
 ghost use Rattle.zone_store.specs.Zones.{set_at, owns, owns_at_or_below, put, without, IsStoredAt};
-ghost use Rattle.zone_store.specs.Upserts.{upserted, with_record, clash, clashes, is_denial_type};
+ghost use Rattle.zone_store.specs.Upserts.{upserted, with_record, clash, clashes, is_denial_type, CnamesStandAlone};
 
 use std::alloc::Global;
 use std::collections::BTreeMap;
@@ -124,6 +124,7 @@ impl RecordMap {
     ) -> Result<bool, ProtoError>
         ensures answer { IfOk result (λ taken. taken ≡ is_some (upserted self.old dns_class.0 «record» serial)) }
         ensures after { OnOk result (self.new ≡ unwrap_or (upserted self.old dns_class.0 «record» serial) self.old) }
+        ensures cnames { CnamesStandAlone self.old → CnamesStandAlone self.new }
         ensures err { IsOkUnless result ProtoError.Memory }
         ensures same { OnErr result (self.new ≡ self.old) }
     {
