@@ -4,6 +4,7 @@
 mod found;
 mod in_memory_zone_handler;
 mod inner_in_memory;
+pub mod program;
 mod record_map;
 mod search;
 mod searches;
