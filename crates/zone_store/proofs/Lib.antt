@@ -1,3 +1,5 @@
+pub mod Digits
+pub mod HexFacts
 pub mod Owned
 pub mod Neighbours
 pub mod Stored

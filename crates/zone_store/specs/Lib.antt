@@ -1,3 +1,4 @@
+pub mod Hex
 pub mod Zones
 pub mod Upserts
 pub mod Construction

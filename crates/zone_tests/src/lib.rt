@@ -9,3 +9,11 @@ mod handler_memory;
 mod names;
 #[cfg(test)]
 mod names_memory;
+#[cfg(test)]
+mod program_lines;
+#[cfg(test)]
+mod program_memory;
+#[cfg(test)]
+mod program_streams;
+#[cfg(test)]
+mod streams;

@@ -1,0 +1,121 @@
+"""measure.py PROGRAM [OTHER_PROGRAM]: times programs of the command language from outside.
+
+A program reads its commands from a pipe. After the commands of a phase comes padding: comment lines, more of them
+than the pipe and a reader's buffer hold. Once the pipe has taken the padding, the program has carried out all
+commands of the phase. What the padding costs by itself is measured first, and taken off.
+"""
+
+import os
+import random
+import subprocess
+import sys
+import time
+
+ORIGIN = "example.com."
+PADDING = (b"#" + b"." * 126 + b"\n") * 4096
+PHASES = ("add", "exact lookup", "referral", "no such name", "no such type")
+
+
+def sizes():
+    return [int(word) for word in os.environ.get("SIZES", "1000 10000 100000").split()]
+
+
+def address(i):
+    return f"10.{i >> 16 & 255}.{i >> 8 & 255}.{i & 255}"
+
+
+def commands(names, lookups, rare):
+    """The commands of each phase for a zone of this many names: 1 % are cuts with glue, and of the others every
+    second one stands one level deeper, below a name that owns nothing."""
+    pick = random.Random(names)
+    cuts = [f"cut{i:06d}.{ORIGIN}" for i in range(max(1, names // 100))]
+    hosts = []
+    for i in range(names - len(cuts)):
+        group = f"group{i % 997:03d}." if i % 2 else ""
+        hosts.append(f"host{i:06d}.{group}{ORIGIN}")
+    adds = [f"add {host} 300 A {address(i)}" for i, host in enumerate(hosts)]
+    for i, cut in enumerate(cuts):
+        adds += [f"add {cut} 3600 NS ns.{cut}", f"add ns.{cut} 3600 A {address(i)}"]
+    pick.shuffle(adds)
+    adds.insert(0, f"add {ORIGIN} 3600 SOA ns.{ORIGIN} host.{ORIGIN} 1 7200 600 86400 300")
+    lines = (
+        adds,
+        [f"lookup {pick.choice(hosts)} A" for _ in range(lookups)],
+        [f"lookup www.{pick.choice(cuts)} A" for _ in range(lookups // 4)],
+        [f"lookup none{i}.{ORIGIN} A" for i in range(rare)],
+        [f"lookup {pick.choice(hosts)} TXT" for _ in range(rare)],
+    )
+    return [("\n".join(phase) + "\n").encode() for phase in lines], [len(phase) for phase in lines]
+
+
+def peak(process):
+    """The most memory that the process has had, in kilobytes."""
+    with open(f"/proc/{process.pid}/status") as status:
+        return next(int(line.split()[1]) for line in status if line.startswith("VmHWM"))
+
+
+def run(program, phases):
+    """Seconds for each phase, and the peak memory."""
+    process = subprocess.Popen([program, ORIGIN], stdin=subprocess.PIPE, stdout=subprocess.DEVNULL)
+
+    def feed(text):
+        start = time.perf_counter()
+        process.stdin.write(text)
+        process.stdin.write(PADDING)
+        process.stdin.flush()
+        return time.perf_counter() - start
+
+    feed(b"")
+    padding = min(feed(b"") for _ in range(5))
+    seconds = [max(feed(text) - padding, 0.0) for text in phases]
+    memory = peak(process)
+    process.stdin.close()
+    if process.wait() != 0:
+        sys.exit(f"bench: {program} ended with status {process.returncode}")
+    return seconds, memory
+
+
+def measure(program, phases, counts, runs):
+    """Microseconds for each command of each phase, the fastest of the runs, and the least peak memory."""
+    taken = [run(program, phases) for _ in range(runs)]
+    best = [min(seconds[i] for seconds, _ in taken) for i in range(len(phases))]
+    return [1e6 * time / count for time, count in zip(best, counts)], min(memory for _, memory in taken)
+
+
+def main():
+    programs = sys.argv[1:]
+    if not 1 <= len(programs) <= 2:
+        sys.exit("usage: bench/run [OTHER_PROGRAM]")
+    lookups = int(os.environ.get("LOOKUPS", "100000"))
+    runs = int(os.environ.get("RUNS", "3"))
+    cores = len(os.sched_getaffinity(0))
+    print(f"{cores} cores; microseconds for a command, the fastest of {runs} runs; memory is the peak, in kilobytes")
+    if len(programs) == 2:
+        print(f"other is {programs[1]}; ratio is this program's figure over the other's")
+    titles = ["phase", "names", "here", "growth"] + ["other", "growth", "ratio"] * (len(programs) - 1)
+    print("| " + " | ".join(titles) + " |")
+    print("|" + "---|" * len(titles))
+    rows = {}
+    for names in sizes():
+        phases, counts = commands(names, lookups, max(20, 2_000_000 // max(names, 10_000)))
+        figures = []
+        for program in programs:
+            times, memory = measure(program, phases, counts, runs)
+            figures.append([*times, float(memory)])
+        for i, phase in enumerate((*PHASES, "memory")):
+            rows.setdefault(phase, []).append((names, [figure[i] for figure in figures]))
+    for phase, found in rows.items():
+        before = None
+        for names, figures in found:
+            cells = [phase, str(names)]
+            for i, figure in enumerate(figures):
+                shown = f"{figure:.0f}" if phase == "memory" else f"{figure:.2f}"
+                cells += [shown, f"{figure / before[i]:.2f}" if before and before[i] else ""]
+            if len(figures) == 2:
+                cells.append(f"{figures[0] / figures[1]:.2f}" if figures[1] else "")
+            print("| " + " | ".join(cells) + " |")
+            before = figures
+
+
+if __name__ == "__main__":
+    main()

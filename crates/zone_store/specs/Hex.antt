@@ -1,0 +1,25 @@
+-- Octets written in hex.
+use Rattle.std.specs.Prelude.{ℕ, ◌+◌, ◌-◌, ◌*◌, List, [], ◌∷◌, Option, Some, None, option_map, option_and_then, if◌then◌else◌, nat_le, ◌&&◌, ◌==◌}
+
+-- the value of a hex digit in either case, and none for any other octet
+abbrev pub hex_digit : ℕ → Option ℕ
+hex_digit c =
+    if nat_le 48 c && nat_le c 57 then Some (c - 48)
+    else (if nat_le 97 c && nat_le c 102 then Some (c - 97 + 10)
+    else (if nat_le 65 c && nat_le c 70 then Some (c - 65 + 10) else None))
+
+-- the octet that two hex digits write, the high one first
+abbrev pub hex_octet : ℕ → ℕ → Option ℕ
+hex_octet high low = option_and_then (λ h. option_map (λ l. h * 16 + l) (hex_digit low)) (hex_digit high)
+
+-- the octets that hex digits write, two each; none where some octet is no digit, or one digit is left over
+abbrev pub hex_octets : List ℕ → Option (List ℕ)
+hex_octets [] = Some []
+hex_octets (c ∷ []) = None
+hex_octets (high ∷ low ∷ rest) = option_and_then (λ octet. option_map (λ octets. octet ∷ octets) (hex_octets rest)) (hex_octet high low)
+
+-- the octets that a word of hex writes: `-` writes none
+abbrev pub hex_word : List ℕ → Option (List ℕ)
+hex_word [] = None
+hex_word (c ∷ []) = if c == 45 then Some [] else None
+hex_word (high ∷ low ∷ rest) = hex_octets (high ∷ low ∷ rest)

@@ -1,0 +1,158 @@
+//! The program: reads a command from each line, and writes an answer to each.
+ghost use Rattle.std.specs.Prelude.{◌≡◌, ◌≢◌, ◌≤◌, length, IsErrOf};
+
+mod addresses;
+mod answers;
+mod command;
+mod data;
+mod demo_signer;
+mod fault;
+mod hex;
+mod lines;
+mod numbers;
+mod record_text;
+mod sha1_hash;
+mod words;
+
+use crate::InMemoryZoneHandler;
+use answers::{Zone, carry_out};
+use command::read_command;
+pub use demo_signer::DemoSigner;
+use fault::Fault;
+use lines::{Line, Lines};
+pub use sha1_hash::Sha1Hash;
+use std::alloc::{AllocError, Global};
+use std::io::{Read, Write};
+use zone_handler::{AxfrPolicy, ZoneType};
+use zone_proto::{Name, ProtoError};
+
+/// How many octets of an answer have room from the start.
+const ANSWER_ROOM: usize = 4_096;
+
+/// Why the program stops before its input ends.
+enum Stop {
+    Usage,
+    Memory,
+    Read,
+    Write,
+}
+
+/// Runs the program on the words after its name: keeps a zone in memory, carries out each line of `input`, and
+/// writes the answers to `output`.
+///
+/// `args` is one word, the zone's origin. A line is a command, blank, or a comment that begins with `#`; any
+/// other line is answered by `bad line N`, counted from 1, and passed over. The status is 0, or 1 after a bad
+/// line. It is 2, with one line on `fault`, where the words aren't one name, where the first memory is refused,
+/// and after a read or a write that failed, after which nothing more is written to `output`. Memory that is
+/// refused later on makes the answer of its line `error Memory`, and leaves the zone as it was.
+pub fn run<R: Read, W: Write, E: Write>(
+    alloc: Global,
+    args: &[String],
+    input: &mut R,
+    output: &mut W,
+    fault: &mut E,
+) -> u8
+    ensures status { result ≤ 2 }
+    ensures usage { length args.now ≢ 1 → result ≡ 2 }
+{
+    match serve(alloc, args, input, output) {
+        Ok(true) => 0,
+        Ok(false) => 1,
+        Err(stop) => {
+            let _ = fault.write_all(reason(stop));
+            2
+        }
+    }
+}
+
+/// The line that says why the program stops.
+fn reason(stop: Stop) -> &'static [u8] {
+    match stop {
+        Stop::Usage => b"usage: zonectl ORIGIN\n",
+        Stop::Memory => b"out of memory\n",
+        Stop::Read => b"read failed\n",
+        Stop::Write => b"write failed\n",
+    }
+}
+
+/// Serves all lines, and answers whether each was good.
+fn serve<R: Read, W: Write>(
+    alloc: Global,
+    args: &[String],
+    input: &mut R,
+    output: &mut W,
+) -> Result<bool, Stop>
+    ensures usage { length args.now ≢ 1 → IsErrOf result Stop.Usage }
+{
+    let mut zone = make_zone(alloc, args)?;
+    let Ok(mut lines) = Lines::new(alloc) else {
+        return Err(Stop::Memory);
+    };
+    let Ok(mut answer) = String::with_capacity(alloc, ANSWER_ROOM) else {
+        return Err(Stop::Memory);
+    };
+    let mut all_good = true;
+    for i in 0..u64::MAX {
+        answer.clear();
+        let built = match lines.next(input) {
+            Ok(Line::Whole) => answer_line(alloc, &mut zone, lines.line(), i + 1, &mut answer),
+            Ok(Line::Bad) => answer_bad_line(i + 1, &mut answer),
+            Ok(Line::End) => break,
+            Err(_) => return Err(Stop::Read),
+        };
+        let Ok(is_good) = built else {
+            return Err(Stop::Write);
+        };
+        all_good = all_good && is_good;
+        if !answer.is_empty() && output.write_all(answer.as_bytes()).is_err() {
+            return Err(Stop::Write);
+        }
+    }
+    match output.flush() {
+        Ok(()) => Ok(all_good),
+        Err(_) => Err(Stop::Write),
+    }
+}
+
+/// Makes the zone without records, whose origin is the one word.
+fn make_zone(alloc: Global, args: &[String]) -> Result<Zone, Stop>
+    ensures usage { length args.now ≢ 1 → IsErrOf result Stop.Usage }
+{
+    let [origin] = args else {
+        return Err(Stop::Usage);
+    };
+    match Name::parse(alloc, origin.as_str()) {
+        Ok(origin) => Ok(InMemoryZoneHandler::empty(
+            origin,
+            ZoneType::Primary,
+            AxfrPolicy::AllowAll,
+            None,
+            Sha1Hash,
+        )),
+        Err(ProtoError::Memory) => Err(Stop::Memory),
+        Err(_) => Err(Stop::Usage),
+    }
+}
+
+/// Carries out a line, adds its answer to the text, and says whether the line was good. An error says that
+/// memory was refused for the text.
+fn answer_line(
+    alloc: Global,
+    zone: &mut Zone,
+    line: &[u8],
+    number: u64,
+    answer: &mut String,
+) -> Result<bool, AllocError> {
+    match read_command(alloc, line) {
+        Ok(Some(command)) => carry_out(zone, command, answer)?,
+        Ok(None) => {}
+        Err(Fault::Memory) => answer.push_str("error Memory\n")?,
+        Err(Fault::Bad) => return answer_bad_line(number, answer),
+    }
+    Ok(true)
+}
+
+fn answer_bad_line(number: u64, answer: &mut String) -> Result<bool, AllocError> {
+    writeln!(answer, "bad line {number}")?;
+    Ok(false)
+}

@@ -1,0 +1,102 @@
+use crate::InMemoryZoneHandler;
+use crate::program::command::Command;
+use crate::program::demo_signer::DemoSigner;
+use crate::program::record_text::RecordText;
+use crate::program::sha1_hash::Sha1Hash;
+use std::alloc::AllocError;
+use std::fmt;
+use zone_handler::{
+    AuthLookup, LookupControlFlow, LookupError, LookupOptions, LookupRecordsIter, ZoneHandler,
+};
+use zone_proto::{LowerName, Record, RecordType};
+
+/// The zone that the program keeps.
+pub type Zone = InMemoryZoneHandler<DemoSigner, Sha1Hash>;
+
+/// Carries out a command, and adds its answer to the text. An error says that memory was refused for the text.
+pub fn carry_out(zone: &mut Zone, command: Command, answer: &mut String) -> Result<(), AllocError> {
+    match command {
+        Command::Add(record) => add(zone, record, answer),
+        Command::Lookup { name, record_type } => lookup(zone, &name, record_type, answer),
+    }
+}
+
+/// Upserts a record with the zone's serial.
+fn add(zone: &mut Zone, record: Record, answer: &mut String) -> Result<(), AllocError> {
+    let serial = zone.serial();
+    let reply = match zone.upsert(record, serial) {
+        Ok(true) => "yes\n",
+        Ok(false) => "no\n",
+        Err(_) => "error Memory\n",
+    };
+    answer.push_str(reply)
+}
+
+/// Answers a query without DNSSEC.
+fn lookup(
+    zone: &Zone,
+    name: &LowerName,
+    record_type: RecordType,
+    answer: &mut String,
+) -> Result<(), AllocError> {
+    let options = LookupOptions::default();
+    match zone.lookup(name, record_type, None, options, 0) {
+        LookupControlFlow::Continue(Ok(found)) | LookupControlFlow::Break(Ok(found)) => write_found(
+            &found, answer,
+        ),
+        LookupControlFlow::Continue(Err(error)) => writeln!(answer, "error {}", ErrorWord(&error)),
+        LookupControlFlow::Break(Err(error)) => writeln!(
+            answer,
+            "break error {}",
+            ErrorWord(&error)
+        ),
+        LookupControlFlow::Skip => write_found(&AuthLookup::Empty, answer),
+    }
+}
+
+/// Writes the records that answer a question, and those that may help beside them, each after their count.
+fn write_found(found: &AuthLookup, answer: &mut String) -> Result<(), AllocError> {
+    let mut count = 0u64;
+    for _ in found.iter() {
+        count = count.saturating_add(1);
+    }
+    writeln!(answer, "answer {count}")?;
+    for record in found.iter() {
+        writeln!(answer, "{}", RecordText(record))?;
+    }
+    write_additionals(found, answer)
+}
+
+fn write_additionals(found: &AuthLookup, answer: &mut String) -> Result<(), AllocError> {
+    let mut count = 0u64;
+    for _ in additionals_of(found) {
+        count = count.saturating_add(1);
+    }
+    writeln!(answer, "additional {count}")?;
+    for record in additionals_of(found) {
+        writeln!(answer, "{}", RecordText(record))?;
+    }
+    Ok(())
+}
+
+/// Lends the records that may help beside an answer, none where it has no such section.
+fn additionals_of(found: &AuthLookup) -> LookupRecordsIter<'_> {
+    found.additionals().unwrap_or(LookupRecordsIter::Empty)
+}
+
+/// The word for an error: the name of its case, and for a response code the code's own word.
+#[derive(Drop)]
+struct ErrorWord<'e>(&'e LookupError);
+
+impl fmt::Display for ErrorWord<'_> {
+    fn fmt<W: fmt::Write>(&self, f: &mut fmt::Formatter<W>) -> fmt::Result {
+        match self.0 {
+            LookupError::BadQueryCount(_) => write!(f, "BadQueryCount"),
+            LookupError::NameExists => write!(f, "NameExists"),
+            LookupError::ResponseCode(code) => write!(f, "{code}"),
+            LookupError::NetError(_) => write!(f, "NetError"),
+            LookupError::Io(_) => write!(f, "Io"),
+            LookupError::Memory => write!(f, "Memory"),
+        }
+    }
+}
