@@ -16,4 +16,10 @@ mod program_memory;
 #[cfg(test)]
 mod program_streams;
 #[cfg(test)]
+mod sets;
+#[cfg(test)]
+mod sets_memory;
+#[cfg(test)]
 mod streams;
+#[cfg(test)]
+mod types;
