@@ -39,7 +39,7 @@ label_written items vs i x y h at low =
     ∙ (λ t. written (map to_ascii_lowercase) (set (map items vs) i (same t)) (i + 1))
     ∙ written_more (map to_ascii_lowercase) (map items vs) i [] l
 
--- ---- lower case keeps a name a name
+-- ---- lower case keeps a name a name, and putting into lower case again changes nothing
 
 lower_again : (b : ℕ) → to_ascii_lowercase (to_ascii_lowercase b) ≡ to_ascii_lowercase b
 lower_again b = grind (arith, nat_tests)
@@ -51,9 +51,9 @@ label_again : (l : List ℕ) → map to_ascii_lowercase (map to_ascii_lowercase 
 label_again [] = refl
 label_again (b ∷ l) = λ i. lower_again b i ∷ label_again l i
 
-pub labels_again : (ls : List (List ℕ)) → lower (lower ls) ≡ lower ls
-labels_again [] = refl
-labels_again (l ∷ ls) = λ i. label_again l i ∷ labels_again ls i
+pub lower-lower : (ls : List (List ℕ)) → lower (lower ls) ≡ lower ls
+lower-lower [] = refl
+lower-lower (l ∷ ls) = λ i. label_again l i ∷ lower-lower ls i
 
 label_octets : (l : List ℕ) → AllByRecursion IsOctet l → AllByRecursion IsOctet (map to_ascii_lowercase l)
 label_octets [] h = tt
@@ -77,5 +77,5 @@ wire_length-lower (l ∷ ls) = λ i. length-map l to_ascii_lowercase i + 1 + wir
 pub IsLowerName-lower : (ls : List (List ℕ)) → IsName ls → IsLowerName (lower ls)
 IsLowerName-lower ls h = record {
   name = record { labels = labels_lower ls h.labels; short = omega (arith, h.short, wire_length-lower ls) };
-  lower = labels_again ls;
+  lower = lower-lower ls;
 }

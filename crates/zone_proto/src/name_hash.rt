@@ -24,6 +24,7 @@ impl Hash for Name {
     }
 }
 
+/// The count of labels, and each label as a slice of octets.
 impl Hash for LowerName {
     ghost hash_input = { fed.slice (fed.slice fed.u8) };
 
@@ -34,6 +35,7 @@ impl Hash for LowerName {
     }
 }
 
+/// Feeds a label in lower case.
 fn hash_caseless<H: Hasher>(label: &[u8], state: &mut H)
     ensures { state.new ≡ fold H.write state.old (fed.slice fed.u8 (map to_ascii_lowercase label.now)) }
 {

@@ -17,15 +17,21 @@ const MANY_LABELS: usize = 128;
 /// In what part of a text its reader stands.
 #[derive(Clone, Copy)]
 pub enum Mode {
+    /// At the start of the text.
     Start,
+    /// After a dot that ends a label.
     AfterDot,
+    /// After an octet of a label.
     InLabel,
+    /// After a backslash.
     Escaped,
+    /// After a backslash and a digit of this value.
     OneDigit(u8),
+    /// After a backslash and two digits of this value.
     TwoDigits(u16),
 }
 
-/// What has been read of a text.
+/// What has been read of a text: the labels before the current one, and the octets of that one so far.
 #[derive(Drop)]
 struct Reader {
     mode: Mode,
@@ -34,6 +40,7 @@ struct Reader {
 }
 
 impl Reader {
+    /// Adds an octet to the current label.
     fn put(&mut self, octet: u8) -> Result<(), ProtoError>
         ensures ok { OnOk result (reader_of self.new ≡ with_octet (reader_of self.old) octet) }
         ensures err { IsOkUnless result ProtoError.Memory }
@@ -43,6 +50,7 @@ impl Reader {
         Ok(())
     }
 
+    /// Ends the current label, with room for its octets alone.
     fn end_label(&mut self, alloc: Global) -> Result<(), ProtoError>
         ensures ok { OnOk result (reader_of self.new ≡ record { mode = Mode.AfterDot; labels = octets_of self.old.labels.items ++ self.old.label.items ∷ []; label = [] }) }
         ensures err { IsOkUnless result ProtoError.Memory }
@@ -53,6 +61,7 @@ impl Reader {
         Ok(())
     }
 
+    /// Reads the next octet of the text.
     fn step(&mut self, alloc: Global, octet: u8) -> Result<(), ProtoError>
         ensures ok { OnOk result (step_in self.old.mode (reader_of self.old) octet ≡ Some (reader_of self.new)) }
         ensures err { IfErr result (IsFaultOrMemory (fault_of_none (step_in self.old.mode (reader_of self.old) octet))) }
@@ -100,6 +109,7 @@ impl Reader {
         }
     }
 
+    /// The labels at the end of the text.
     fn finish(self, alloc: Global) -> Result<Vec<Vec<u8>>, ProtoError>
         ensures ok { IfOk result (λ ls. labels_at_end self.mode (reader_of self) ≡ Some (octets_of ls.items)) }
         ensures err { IfErr result (IsFaultOrMemory (fault_of_none (labels_at_end self.mode (reader_of self)))) }
@@ -126,6 +136,7 @@ fn is_digit(octet: u8) -> bool
     octet.is_ascii_digit()
 }
 
+/// A printing ASCII character that is no space.
 fn is_graphic(octet: u8) -> bool
     ensures { result ≡ is_graphic octet }
 {
@@ -146,6 +157,7 @@ fn label_count(bytes: &[u8]) -> usize {
     }
 }
 
+/// The labels of a text of two octets or more.
 fn read(alloc: Global, bytes: &[u8]) -> Result<Vec<Vec<u8>>, ProtoError>
     ensures ok { IfOk result (λ ls. read_on bytes.now start ≡ Some (octets_of ls.items)) }
     ensures err { IfErr result (IsFaultOrMemory (fault_of_none (read_on bytes.now start))) }

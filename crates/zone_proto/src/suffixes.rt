@@ -12,6 +12,7 @@ pub struct Suffixes<'n> {
 }
 
 impl<'n> Suffixes<'n> {
+    /// Begins with all the labels.
     pub(crate) fn of(labels: &'n [Vec<u8>]) -> Suffixes<'n>
         ensures { suffixes_left result ≡ suffixes (octets_of labels.now) }
     {

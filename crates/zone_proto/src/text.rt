@@ -7,12 +7,14 @@ use crate::lower_name::LowerName;
 use crate::name::Name;
 use std::fmt;
 
+/// Whether the octet is printed as itself: a letter, a digit, `-`, `_` or `*`.
 fn is_plain(octet: u8) -> bool
     ensures { result ≡ is_plain octet }
 {
     matches!(octet, b'0'..=b'9' | b'A'..=b'Z' | b'a'..=b'z' | b'-' | b'_' | b'*')
 }
 
+/// An octet as it is printed.
 #[derive(Drop)]
 struct OctetText(u8);
 
@@ -32,6 +34,7 @@ impl fmt::Display for OctetText {
     }
 }
 
+/// A label as it is printed, with its dot.
 #[derive(Drop)]
 struct LabelText<'l>(&'l [u8]);
 
@@ -46,7 +49,7 @@ impl fmt::Display for LabelText<'_> {
     }
 }
 
-/// The text form of the labels of a name.
+/// The labels of a name as they are printed.
 #[derive(Drop)]
 struct NameText<'n>(&'n [Vec<u8>]);
 
