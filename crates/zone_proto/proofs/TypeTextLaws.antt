@@ -1,12 +1,15 @@
-use Rattle.std.proofs.Common.{◌≡◌, ℕ, ◌<◌, List, length, Bool, true, ◌&&◌, nat_lt, if◌then◌else◌, arith, rules}
-use Rattle.std.specs.Prelude.{Some, None, Result, Ok, Err}
+use Rattle.std.proofs.Common.{◌≡◌, ◌==◌, ℕ, ◌<◌, ◌^◌, List, length, ◌++◌, refl, sym, ap, ◌∙◌, Bool, true, false, ◌&&◌, nat_lt, if◌then◌else◌, arith, rules, Option, unwrap_or, codes, Some, None, Result, Ok, Err}
 use Rattle.std.specs.Char.{is_ascii_digit}
 use Rattle.std.specs.List.{list_all}
 use Rattle.std.specs.Result.{OkIff, result_ok}
 use Rattle.std.specs.Str.Parse.{digits_value, ParsesUnsigned}
+use Rattle.std.specs.Fmt.{decimal}
+use Rattle.std.proofs.lemmas.Bool.{eqb-true}
 use Rattle.std.proofs.lemmas.Bool.Decides.{leb_tells}
+use Rattle.std.proofs.lemmas.Fmt.{decimal_nonempty, digits_decimal, digits_value-decimal}
 use Rattle.std.proofs.lemmas.Str.Parse.{IsNumeralModel, numerals_by_value, parse_digits}
-use Rattle.zone_proto.specs.TypeText.{short_number}
+use Rattle.zone_proto.specs.TypeText.{short_number, type_text, type_of_text}
+use Rattle.zone_proto.specs.Types as types
 
 -- texts of digits alone
 digits : IsNumeralModel (λ ds. list_all is_ascii_digit ds ≡ true) (digits_value 10)
@@ -26,3 +29,48 @@ pub short_from_parse : {E : Type 0} (ds : List ℕ) (r : Result ℕ E)
     → list_all is_ascii_digit ds ≡ true
     → result_ok r ≡ short_number ds
 short_from_parse ds r h d = chosen (length ds) (digits_value 10 ds) 65536 _ r d (parse_digits digits 16 ds r h d)
+
+test_true : (a b : ℕ) → a < b → nat_lt a b ≡ true
+test_true a b h = grind (arith, leb_tells)
+
+-- decimal digits of a short number are read as it
+short_decimal : (t : ℕ) → t < 65536 → short_number (decimal t) ≡ Some t
+short_decimal t lt =
+    let small : t < 2 ^ 64 = omega arith in
+    let some : nat_lt 0 (length (decimal t)) ≡ true = test_true 0 (length (decimal t)) (decimal_nonempty t small) in
+    let short : nat_lt t 65536 ≡ true = test_true t 65536 lt in
+    rw (some, digits_decimal digits t small, digits_value-decimal digits t small, short) refl
+
+numbered_read : (t : ℕ) → t < 65536 → type_of_text (codes "TYPE" ++ decimal t) ≡ Some t
+numbered_read t lt = short_decimal t lt
+
+-- one word more: the type is the word's, or is read by the rest
+word_read : (b : Bool) (t n : ℕ) (word : List ℕ) (rest : Option (List ℕ)) (other : List ℕ)
+    → (t == n) ≡ b
+    → type_of_text word ≡ Some n
+    → type_of_text (unwrap_or rest other) ≡ Some t
+    → type_of_text (unwrap_or (if b then Some word else rest) other) ≡ Some t
+word_read true t n word rest other e h k = h ∙ ap (λ (m : ℕ). Some m) (sym (eqb-true t n e))
+word_read false t n word rest other e h k = k
+
+-- a type is read from its printed text
+pub type_text_read : (t : ℕ) → t < 65536 → type_of_text (type_text t) ≡ Some t
+type_text_read t lt =
+    word_read _ t types.A (codes "A") _ _ refl refl (
+    word_read _ t types.NS (codes "NS") _ _ refl refl (
+    word_read _ t types.CNAME (codes "CNAME") _ _ refl refl (
+    word_read _ t types.SOA (codes "SOA") _ _ refl refl (
+    word_read _ t types.MX (codes "MX") _ _ refl refl (
+    word_read _ t types.TXT (codes "TXT") _ _ refl refl (
+    word_read _ t types.AAAA (codes "AAAA") _ _ refl refl (
+    word_read _ t types.SRV (codes "SRV") _ _ refl refl (
+    word_read _ t types.DS (codes "DS") _ _ refl refl (
+    word_read _ t types.RRSIG (codes "RRSIG") _ _ refl refl (
+    word_read _ t types.NSEC (codes "NSEC") _ _ refl refl (
+    word_read _ t types.DNSKEY (codes "DNSKEY") _ _ refl refl (
+    word_read _ t types.NSEC3 (codes "NSEC3") _ _ refl refl (
+    word_read _ t types.NSEC3PARAM (codes "NSEC3PARAM") _ _ refl refl (
+    word_read _ t types.AXFR (codes "AXFR") _ _ refl refl (
+    word_read _ t types.ANY (codes "ANY") _ _ refl refl (
+    word_read _ t types.ANAME (codes "ANAME") _ _ refl refl (
+    numbered_read t lt)))))))))))))))))

@@ -1,11 +1,12 @@
-//! Laws of the definitions of data and record sets; each is proved, and no call does anything.
+//! Laws of the definitions of types, data and record sets; each is proved, and no call does anything.
 
-ghost use Rattle.std.specs.Prelude.{◌≡◌, ℕ, [], ◌≢◌, Some, true};
+ghost use Rattle.std.specs.Prelude.{◌≡◌, ◌<◌, ℕ, [], ◌≢◌, Some, true};
 ghost use Rattle.std.specs.Cmp.{IsEquivalence};
 ghost use Rattle.zone_proto.specs.Names.{same_name};
 ghost use Rattle.zone_proto.specs.Data.{same_data, type_of};
 ghost use Rattle.zone_proto.specs.Records.{same_record};
 ghost use Rattle.zone_proto.specs.Sets.{RRset, IsSet, same_set, inserted};
+ghost use Rattle.zone_proto.specs.TypeText.{type_text, type_of_text};
 ghost use Rattle.zone_proto.specs.declared.record.Record.{Record};
 
 /// The equality of data is an equivalence.
@@ -34,4 +35,9 @@ pub fn insertion_keeps_the_set()
         → IsSet s.owner s.record_type s.records
         → inserted s r serial ≡ Some t
         → IsSet t.owner t.record_type t.records }
+{}
+
+/// A type is read from the text that is printed of it.
+pub fn printed_types_are_read()
+    ensures { (t : ℕ) → t < 65536 → type_of_text (type_text t) ≡ Some t }
 {}

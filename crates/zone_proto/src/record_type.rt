@@ -12,38 +12,55 @@ use std::fmt;
 pub struct RecordType(pub u16);
 
 impl RecordType {
+    /// An address of four octets (RFC 1035 section 3.4.1).
     pub const A: RecordType = RecordType(1);
 
+    /// A name server (RFC 1035 section 3.3.11).
     pub const NS: RecordType = RecordType(2);
 
+    /// The canonical name of an alias (RFC 1035 section 3.3.1).
     pub const CNAME: RecordType = RecordType(5);
 
+    /// The start of a zone of authority (RFC 1035 section 3.3.13).
     pub const SOA: RecordType = RecordType(6);
 
+    /// A mail exchange (RFC 1035 section 3.3.9).
     pub const MX: RecordType = RecordType(15);
 
+    /// Texts (RFC 1035 section 3.3.14).
     pub const TXT: RecordType = RecordType(16);
 
+    /// An address of sixteen octets (RFC 3596 section 2.1).
     pub const AAAA: RecordType = RecordType(28);
 
+    /// A server of a service (RFC 2782).
     pub const SRV: RecordType = RecordType(33);
 
+    /// The digest of a child zone's key (RFC 4034 section 5).
     pub const DS: RecordType = RecordType(43);
 
+    /// A signature (RFC 4034 section 3).
     pub const RRSIG: RecordType = RecordType(46);
 
+    /// A denial by names (RFC 4034 section 4).
     pub const NSEC: RecordType = RecordType(47);
 
+    /// A public key (RFC 4034 section 2).
     pub const DNSKEY: RecordType = RecordType(48);
 
+    /// A denial by hashed names (RFC 5155 section 3).
     pub const NSEC3: RecordType = RecordType(50);
 
+    /// The parameters of the hashes (RFC 5155 section 4).
     pub const NSEC3PARAM: RecordType = RecordType(51);
 
+    /// In a query: the whole zone (RFC 5936).
     pub const AXFR: RecordType = RecordType(252);
 
+    /// In a query: any type (RFC 8482).
     pub const ANY: RecordType = RecordType(255);
 
+    /// An alias for addresses alone; a number for private use (RFC 6895 section 3.1).
     pub const ANAME: RecordType = RecordType(65305);
 
     /// Whether `RData` has a case of its own for the type. Takes no memory.

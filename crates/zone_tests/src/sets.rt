@@ -359,29 +359,28 @@ fn signers_sign_in_their_order(rt: HostRuntime) -> Result<(), Fail> {
     Ok(())
 }
 
-/// No cryptography: the digest of a name is its wire form and the salt, for algorithm 1 alone.
+/// No cryptography: the digest of a name is its wire form, for algorithm 1 alone.
 #[derive(Drop)]
 struct PlainHash;
 
 impl Nsec3Hash for PlainHash {
-    ghost use Rattle.std.specs.Prelude.{Some, None, ◌==◌, ◌++◌, if◌then◌else◌};
-    ghost use Rattle.zone_proto.specs.Names.{lower, wire_form};
+    ghost use Rattle.std.specs.Prelude.{Some, None, ◌==◌, if◌then◌else◌};
+    ghost use Rattle.zone_proto.specs.Names.{wire_form};
 
-    ghost digest_of = { λ h algorithm salt name iterations. if algorithm == 1 then Some (wire_form (lower name) ++ salt) else None };
+    ghost digest_of = { λ h algorithm salt name iterations. if algorithm == 1 then Some (wire_form name) else None };
 
     fn hash(
         &self,
         algorithm: u8,
-        salt: &[u8],
+        _salt: &[u8],
         name: &LowerName,
         _iterations: u16,
     ) -> Result<Vec<u8>, ProtoError> {
-        if algorithm != 1 {
-            return Err(ProtoError::Hash);
+        if algorithm == 1 {
+            name.wire_lower()
+        } else {
+            Err(ProtoError::Hash)
         }
-        let mut digest = name.wire_lower()?;
-        digest.extend_from_slice(salt)?;
-        Ok(digest)
     }
 }
 
@@ -402,7 +401,7 @@ fn digest_length<H: Nsec3Hash>(
 fn a_hash_has_a_digest_or_none(rt: HostRuntime) -> Result<(), Fail> {
     let alloc = rt.alloc();
     let name = LowerName::parse(alloc, "a.example.")?;
-    assert!(rt; digest_length(&PlainHash, 1, &name)? == Some(13));
+    assert!(rt; digest_length(&PlainHash, 1, &name)? == Some(11));
     assert!(rt; digest_length(&PlainHash, 2, &name)?.is_none());
     Ok(())
 }

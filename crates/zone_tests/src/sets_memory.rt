@@ -293,7 +293,7 @@ fn sets_are_read_without_memory(rt: HostRuntime) -> Result<(), Fail> {
     Ok(())
 }
 
-/// How many records a set lends, by both calls where they are to lend the same.
+/// How many records a set lends.
 fn lent_count(set: &RecordSet, and_rrsigs: bool) -> usize {
     let mut count = 0usize;
     for _ in set.records(and_rrsigs) {
