@@ -1,5 +1,6 @@
-//! The store of an authoritative zone: its record sets in one ordered map, the insertion of records, what a search finds
-//! (referrals at zone cuts, RFC 1034 section 4.2.1, and the sets of a name), and what a lookup answers.
+//! The store of an authoritative zone: its record sets in one ordered map, what makes and changes it, what a search finds
+//! (referrals at zone cuts, RFC 1034 section 4.2.1, and the sets of a name), and what a lookup answers. The module `program`
+//! is the command language of `zonectl`.
 //!
 //! Contracts see a zone as its origin, class, kind and policy, the list of its sets by name and type, and its signers. An
 //! insertion that answers false or is refused leaves the zone as it was. Wildcards (RFC 4592), chains of aliases, answers

@@ -2,7 +2,7 @@
 ghost use Rattle.std.specs.Prelude.{None};
 
 use std::test::Fail;
-use zone_handler::{AxfrPolicy, LookupControlFlow, LookupOptions, ZoneHandler, ZoneType};
+use zone_handler::{AxfrPolicy, LookupOptions, ZoneHandler, ZoneType};
 use zone_proto::{
     DNSClass, DNSKEY, LowerName, Name, Nsec3Hash, ProtoError, RData, RRSIG, Record, RecordSet,
     RecordType, Signer,
@@ -67,20 +67,26 @@ fn zone_answers_a_program(rt: HostRuntime) -> Result<(), Fail> {
     let taken = zone.upsert(record, 1)?;
     assert!(rt; taken);
 
-    let name = LowerName::parse(alloc, "WWW.example.com.")?;
     let options = LookupOptions::default();
-    match zone.lookup(&name, RecordType::A, None, options, 0) {
-        LookupControlFlow::Continue(Ok(answer)) => {
+    let name = LowerName::parse(alloc, "WWW.example.com.")?;
+    let answer = zone.lookup(&name, RecordType::A, None, options, 0);
+    match answer.map_result() {
+        Some(Ok(answer)) => {
             for record in &answer {
                 assert_eq!(rt; record.rdata, RData::A([192, 0, 2, 1]));
             }
+            assert!(rt; !answer.is_empty());
         }
-        LookupControlFlow::Continue(Err(error)) => assert!(rt; false, "refused: {error}"),
-        _ => assert!(rt; false, "no answer"),
+        Some(Err(error)) => assert!(rt; false, "{error}"),
+        None => assert!(rt; false, "nothing to say"),
     }
 
     let other = LowerName::parse(alloc, "ftp.example.com.")?;
-    let denied = zone.lookup(&other, RecordType::A, None, options, 0);
-    assert!(rt; denied.unwrap_err().is_nx_domain());
+    let denial = zone.lookup(&other, RecordType::A, None, options, 0);
+    match denial.map_result() {
+        Some(Err(error)) => assert!(rt; error.is_nx_domain()),
+        Some(Ok(_answer)) => assert!(rt; false, "answered"),
+        None => assert!(rt; false, "nothing to say"),
+    }
     Ok(())
 }
