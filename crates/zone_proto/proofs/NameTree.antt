@@ -30,7 +30,7 @@ at_or_above_length a n w = omega (arith, ap length w.1, length-append w.0 a)
 
 -- ---- the tests
 
-name_eq-Decides : (a n : Name) → Decides (name_eq a n) (a ≡ n)
+pub name_eq-Decides : (a n : Name) → Decides (name_eq a n) (a ≡ n)
 name_eq-Decides a n = slice_eq-Decides bytes_eq-Decides a n (name_eq a n) refl
 
 either : (p q : Bool) → (p || q) ≡ true → (p ≡ true) ⊎ (q ≡ true)

@@ -3,7 +3,7 @@ use Rattle.std.proofs.Common.{◌≡◌, ℕ, List, [], ◌∷◌, ◌++◌, ref
 use Rattle.std.specs.Prelude.{codes, replicate, unwrap_or}
 use Rattle.std.specs.declared.cmp.Ordering.TheVariants.{Less, Equal}
 use Rattle.zone_proto.specs.declared.error.ProtoError.TheVariants.{EmptyLabel, LabelTooLong, NameTooLong, BadText}
-use Rattle.zone_proto.specs.Names.{Name, Label, caseless_cmp, name_cmp, is_above, is_at_or_above, lower, same_name, suffixes, wildcard_of, wire_form}
+use Rattle.zone_proto.specs.Names.{Name, Label, caseless_cmp, is_above, is_at_or_above, lower, suffixes, wildcard_of, wire_form}
 use Rattle.zone_proto.specs.Faults.{fault_of}
 use Rattle.zone_proto.specs.Parse.{labels_of_text}
 use Rattle.zone_proto.specs.Reading.{fault_of_text}

@@ -1,5 +1,5 @@
 -- Which fault keeps labels from being a name
-use Rattle.std.specs.Prelude.{◌≡◌, ◌⊎◌, List, [], ◌∷◌, length, nat_lt, ◌==◌, Option, Some, None, if◌then◌else◌}
+use Rattle.std.specs.Prelude.{◌≡◌, ◌⊎◌, [], ◌∷◌, length, nat_lt, ◌==◌, Option, Some, None, if◌then◌else◌}
 use Rattle.zone_proto.specs.declared.error.ProtoError.{ProtoError}
 use Rattle.zone_proto.specs.declared.error.ProtoError.TheVariants.{EmptyLabel, LabelTooLong, NameTooLong, Memory}
 use Rattle.zone_proto.specs.Names.{Name, wire_length}

@@ -2,20 +2,15 @@
 use Rattle.std.proofs.Common.{◌≡◌, true, refl, sym, ap, ◌∙◌}
 use Rattle.std.specs.Cmp.{both_ways}
 use Rattle.std.specs.Ordering.{eq_by_cmp, is_eq}
-use Rattle.std.specs.declared.cmp.Ordering.{Ordering}
-use Rattle.std.specs.declared.cmp.Ordering.TheVariants.{Less, Equal, Greater}
 use Rattle.std.proofs.lemmas.Cmp.{tied_itself}
 use Rattle.zone_proto.specs.Names.{Name, name_cmp, name_eq}
-use Rattle.zone_proto.proofs.Tree.{name_order, name_decides}
-
-equal_of : (o : Ordering) → is_eq o ≡ true → o ≡ Equal
-equal_of Less h = cc
-equal_of Equal h = refl
-equal_of Greater h = cc
+use Rattle.zone_proto.proofs.KeyOrder.{equal_of}
+use Rattle.zone_proto.proofs.NameTree.{name_eq-Decides}
+use Rattle.zone_proto.proofs.Tree.{name_order}
 
 -- names that neither stands before the other are the same, and no others
 pub tied_are_same : (a b : Name) → eq_by_cmp name_cmp a b ≡ name_eq a b
 tied_are_same a b =
     both_ways (eq_by_cmp name_cmp a b) (name_eq a b)
-    (λ h. (name_decides a b).1 (name_order.exact a b (equal_of (name_cmp a b) h)))
-    (λ h. ap is_eq (ap (name_cmp a) (sym ((name_decides a b).0 h)) ∙ tied_itself name_order.total a))
+    (λ h. (name_eq-Decides a b).1 (name_order.exact a b (equal_of (name_cmp a b) h)))
+    (λ h. ap is_eq (ap (name_cmp a) (sym ((name_eq-Decides a b).0 h)) ∙ tied_itself name_order.total a))

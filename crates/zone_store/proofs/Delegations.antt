@@ -5,7 +5,8 @@ use Rattle.zone_proto.specs.Names.{Name, name_eq, suffixes}
 use Rattle.zone_proto.specs.Sets.{RRset}
 use Rattle.zone_proto.specs.Types.{NS, SOA, DS}
 use Rattle.zone_proto.proofs.Members.{In}
-use Rattle.zone_proto.proofs.Tree.{name_decides, same_test}
+use Rattle.zone_proto.proofs.NameTree.{name_eq-Decides}
+use Rattle.zone_proto.proofs.Tree.{name_eq_itself}
 use Rattle.zone_store.specs.Zones.{Sets, set_at, owns}
 use Rattle.zone_store.specs.Search.{is_delegated, is_delegated_for, referral_at, referral}
 
@@ -26,7 +27,7 @@ shorter_differs : (a n : Name) → length a < length n → name_eq a n ≡ false
 shorter_differs a n h = by (name_eq a n) refl
   where
     by : (b : Bool) → name_eq a n ≡ b → b ≡ false
-    by true e = absurd (omega (arith, ap length ((name_decides a n).0 e)))
+    by true e = absurd (omega (arith, ap length ((name_eq-Decides a n).0 e)))
     by false e = refl
 
 -- ---- where the name itself counts
@@ -72,7 +73,7 @@ referral_from_parent m [] t h = ap (referral_at m) (find_same (is_delegated_for 
 referral_from_parent m (l ∷ n) t h =
     ap (λ b. referral_at m (cond b (Some (l ∷ n)) (find (is_delegated_for m (l ∷ n) t) (suffixes n))))
     (and_false (is_delegated m (l ∷ n)) (not ((t == DS) && name_eq (l ∷ n) (l ∷ n) && not (owns m (l ∷ n) SOA)))
-    (passed_over (t == DS) (name_eq (l ∷ n) (l ∷ n)) (owns m (l ∷ n) SOA) (same_test (l ∷ n)) h))
+    (passed_over (t == DS) (name_eq (l ∷ n) (l ∷ n)) (owns m (l ∷ n) SOA) (name_eq_itself (l ∷ n)) h))
     ∙ ap (referral_at m) (find_same (is_delegated_for m (l ∷ n) t) (is_delegated m) (suffixes n)
     (λ a i.
     let differs : name_eq a (l ∷ n) ≡ false = shorter_differs a (l ∷ n) (omega (arith, suffix_length n a i)) in

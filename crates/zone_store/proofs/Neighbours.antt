@@ -15,7 +15,8 @@ use Rattle.zone_proto.specs.declared.rr_key.RrKey.{RrKey}
 use Rattle.zone_proto.specs.Keys.{key, key_cmp}
 use Rattle.zone_proto.specs.Names.{Name, name_cmp, name_eq, IsAbove, IsAtOrAbove, is_at_or_above}
 use Rattle.zone_proto.specs.Sets.{RRset}
-use Rattle.zone_proto.proofs.Tree.{name_order, name_decides, above_before, above_cases, together, at_or_above_from, test_from_at_or_above}
+use Rattle.zone_proto.proofs.NameTree.{name_eq-Decides, above_is_less, is_at_or_above_sound, is_at_or_above_complete}
+use Rattle.zone_proto.proofs.Tree.{name_order, above_cases, together}
 use Rattle.zone_store.specs.Zones.{Sets, types_at, owns_at_or_below}
 
 -- the entries that stand at or after a key
@@ -77,7 +78,7 @@ differs n a h = by (name_eq n a) refl
   where
     by : (b : Bool) → name_eq n a ≡ b → b ≡ false
     by true e =
-        let same = (name_decides n a).0 e in
+        let same = (name_eq-Decides n a).0 e in
         absurd (true≢false (ap is_lt (sym h) ∙ ap is_lt (ap (name_cmp n) (sym same) ∙ tied_itself name_order.total n)))
     by false e = refl
 
@@ -89,7 +90,7 @@ apart n e h = by (name_eq n e.0.name) refl
   where
     by : (b : Bool) → name_eq n e.0.name ≡ b → b ≡ false
     by true g =
-        let same = (name_decides n e.0.name).0 g in
+        let same = (name_eq-Decides n e.0.name).0 g in
         absurd (true≢false (ap is_gt (sym h) ∙ ap is_gt (ap (name_cmp n) (sym same) ∙ tied_itself name_order.total n)))
     by false g = refl
 
@@ -115,7 +116,7 @@ front_is_types n (e ∷ m) s = by (name_cmp n e.0.name) refl (front_is_types n m
         ap (λ b. front_types n (cond b (e ∷ from_key (key n 0) m) (from_key (key n 0) m))) (at_or_after n e (ap is_le h))
         ∙ front_taken n e (from_key (key n 0) m) (of_name n e h)
         ∙ ap (λ ts. e.0.record_type.0 ∷ ts) ih
-        ∙ ap (λ b. cons_option (cond b (Some e.0.record_type.0) None) (types_at m n)) (sym ((name_decides n e.0.name).1 (name_order.exact n e.0.name h)))
+        ∙ ap (λ b. cons_option (cond b (Some e.0.record_type.0) None) (types_at m n)) (sym ((name_eq-Decides n e.0.name).1 (name_order.exact n e.0.name h)))
     by Greater h ih =
         ap (λ b. front_types n (cond b (e ∷ from_key (key n 0) m) (from_key (key n 0) m))) (earlier n e h)
         ∙ ih
@@ -134,10 +135,10 @@ before_not_below n e h = by (is_at_or_above n e.0.name) refl
   where
     split : (n ≡ e.0.name) ⊎ IsAbove n e.0.name → ⊥
     split (inl same) = true≢false (ap is_gt (sym h) ∙ ap is_gt (ap (name_cmp n) (sym same) ∙ tied_itself name_order.total n))
-    split (inr above) = true≢false (ap is_gt (sym h) ∙ ap is_gt (above_before n e.0.name above))
+    split (inr above) = true≢false (ap is_gt (sym h) ∙ ap is_gt (above_is_less n e.0.name above))
 
     by : (b : Bool) → is_at_or_above n e.0.name ≡ b → b ≡ false
-    by true g = absurd (split (above_cases n e.0.name (at_or_above_from n e.0.name g)))
+    by true g = absurd (split (above_cases n e.0.name (is_at_or_above_sound n e.0.name g)))
     by false g = refl
 
 -- where an entry at or after n isn't below it, no later one is
@@ -154,8 +155,8 @@ none_below n e (f ∷ m) h g a =
     by : (b : Bool) → is_at_or_above n f.0.name ≡ b → b ≡ false
     by true i =
         let between = upto (not_after (name_cmp e.0.name f.0.name) (nat_cmp e.0.record_type.0 f.0.record_type.0) a.0) in
-        let above = together n e.0.name f.0.name h between (at_or_above_from n f.0.name i) in
-        absurd (true≢false (sym (test_from_at_or_above n e.0.name above) ∙ g))
+        let above = together n e.0.name f.0.name h between (is_at_or_above_sound n f.0.name i) in
+        absurd (true≢false (sym (is_at_or_above_complete n e.0.name above) ∙ g))
     by false i = refl
 
 pub below_is_first : (n : Name) (m : Sets) → IsStrictlySortedBy key_cmp (keys_of m) → owns_at_or_below m n ≡ first_is_below n (from_key (key n 0) m)
@@ -215,5 +216,5 @@ module _ (least : RrKey) (m es front : Sets) (type_zero : least.record_type.0 �
   pub below_where_some : (e : RrKey × RRset) (rest : Sets) (b : Bool) → front ≡ e ∷ rest
       → (b ≡ true → IsAtOrAbove least.name e.0.name) → (IsAtOrAbove least.name e.0.name → b ≡ true) → b ≡ owns_at_or_below m least.name
   below_where_some e rest b f to from =
-      both_ways b (is_at_or_above least.name e.0.name) (λ t. test_from_at_or_above least.name e.0.name (to t)) (λ t. from (at_or_above_from least.name e.0.name t))
+      both_ways b (is_at_or_above least.name e.0.name) (λ t. is_at_or_above_complete least.name e.0.name (to t)) (λ t. from (is_at_or_above_sound least.name e.0.name t))
       ∙ sym (whole ∙ ap (first_is_below least.name) f)

@@ -10,7 +10,7 @@ use Rattle.zone_proto.specs.Names.{Name, name_eq}
 use Rattle.zone_proto.specs.Sets.{RRset}
 use Rattle.zone_proto.proofs.KeyOrder.{key_same, key_itself}
 use Rattle.zone_proto.proofs.Members.{In, any_from_In, In-filter_map, In-from_filter_map, In-map, In-from_map}
-use Rattle.zone_proto.proofs.Tree.{name_decides}
+use Rattle.zone_proto.proofs.NameTree.{name_eq-Decides}
 use Rattle.zone_store.specs.Zones.{Sets, set_at, owns, types_at, names_of, IsStoredAt, IsRecordMap}
 
 -- an entry of an owned key stands in the map
@@ -50,13 +50,13 @@ passed b x e = ap (λ c. cond c (Some x) None) e
 pub type_in : (m : Sets) (n : Name) (t : ℕ) → owns m n t ≡ true → In t (types_at m n)
 type_in m n t h =
     let e = has_entry m n t h in
-    In-filter_map (λ (d : RrKey × RRset). cond (name_eq n d.0.name) (Some d.0.record_type.0) None) (key n t, e.0) t m e.1 (passed (name_eq n n) t ((name_decides n n).1 refl))
+    In-filter_map (λ (d : RrKey × RRset). cond (name_eq n d.0.name) (Some d.0.record_type.0) None) (key n t, e.0) t m e.1 (passed (name_eq n n) t ((name_eq-Decides n n).1 refl))
 
 pub type_owned : (m : Sets) (n : Name) (t : ℕ) → In t (types_at m n) → owns m n t ≡ true
 type_owned m n t i =
     let r = In-from_filter_map (λ (d : RrKey × RRset). cond (name_eq n d.0.name) (Some d.0.record_type.0) None) t m i in
     let g = given (name_eq n r.0.0.name) r.0.0.record_type.0 t r.2 in
-    entry_owned m n t r.0 r.1 (λ j. key (sym ((name_decides n r.0.0.name).0 g.0) j) (g.1 j))
+    entry_owned m n t r.0 r.1 (λ j. key (sym ((name_eq-Decides n r.0.0.name).0 g.0) j) (g.1 j))
 
 pub name_in : (m : Sets) (n : Name) (t : ℕ) → owns m n t ≡ true → In n (names_of m)
 name_in m n t h = let e = has_entry m n t h in In-map (λ (d : RrKey × RRset). d.0.name) (key n t, e.0) m e.1

@@ -8,7 +8,8 @@ use Rattle.zone_proto.specs.declared.rr_key.RrKey.{RrKey}
 use Rattle.zone_proto.specs.Keys.{key, key_eq}
 use Rattle.zone_proto.specs.Names.{Name}
 use Rattle.zone_proto.specs.Sets.{RRset}
-use Rattle.zone_proto.proofs.KeyOrder.{key_total, key_same}
+use Rattle.zone_proto.proofs.KeyLaws.{key_cmp_total}
+use Rattle.zone_proto.proofs.KeyOrder.{key_same}
 use Rattle.zone_store.specs.Zones.{Sets, set_at, IsStoredAt, IsRecordMap}
 
 -- a set that a look-up finds, where one is put under a key, is that one or stood there before
@@ -31,7 +32,7 @@ IsRecordMap-put m m' k v i h u n t s e = put_or_kept m k (key n t) v s i h (sym 
 pub IsRecordMap-set : (m : Sets) (n : Name) (t : ℕ) (v : RRset) → IsRecordMap m → IsStoredAt n t v → IsSome (set_at m n t) → IsRecordMap (set_value (key_eq (key n t)) m v)
 IsRecordMap-set m n t v i h some =
     IsRecordMap-put m (set_value (key_eq (key n t)) m v) (key n t) v i h
-    (λ q. lookup-set_value (eq_by_cmp_equiv key_total) (key_eq (key n t)) (λ x y e. ap (λ k. key_eq k y) (key_same (key n t) x e)) q v m some)
+    (λ q. lookup-set_value (eq_by_cmp_equiv key_cmp_total) (key_eq (key n t)) (λ x y e. ap (λ k. key_eq k y) (key_same (key n t) x e)) q v m some)
 
 -- a set that a look-up finds, where another is taken out, stood there before
 out_or_kept : (b : Bool) (o : Option RRset) (s : RRset) → cond b None o ≡ Some s → o ≡ Some s

@@ -19,7 +19,7 @@ use Rattle.zone_proto.specs.Names.{Name, name_cmp, lower, same_name}
 use Rattle.zone_proto.specs.Sets.{RRset, inserted, inserted_by, soa_inserted, first_serial, stores, replaced, appended, empty_set}
 use Rattle.zone_proto.specs.declared.rdata.RData.{RData}
 use Rattle.zone_proto.specs.declared.rdata.RData.TheVariants as V
-use Rattle.zone_proto.proofs.KeyOrder.{key_total}
+use Rattle.zone_proto.proofs.KeyLaws.{key_cmp_total}
 use Rattle.zone_proto.proofs.Tree.{name_order}
 use Rattle.zone_store.specs.Zones.{Sets, set_at, put, IsStoredAt}
 use Rattle.zone_store.specs.Upserts.{set_for, with_record}
@@ -37,7 +37,7 @@ set_is_put (e ∷ m) k v s h = by (key_cmp k e.0) refl h (λ g. set_is_put m k v
         → (IsSome (lookup (key_eq k) m) → set_value (key_eq k) m v ≡ insert_entry key_cmp m k v)
         → cond (is_eq o) ((e.0, v) ∷ m) (e ∷ set_value (key_eq k) m v) ≡ match_ordering o ((k, v) ∷ e ∷ m) ((e.0, v) ∷ m) (e ∷ insert_entry key_cmp m k v)
     by Less g i ih =
-        let absent : lookup (key_eq k) (e ∷ m) ≡ None = lookup-none (key_eq k) (e ∷ m) (none_below_head key_total k e m s g) in
+        let absent : lookup (key_eq k) (e ∷ m) ≡ None = lookup-none (key_eq k) (e ∷ m) (none_below_head key_cmp_total k e m s g) in
         absurd (true≢false (sym h ∙ ap is_some absent))
     by Equal g i ih = refl
     by Greater g i ih = ap (λ es. e ∷ es) (ih i)
