@@ -5,7 +5,7 @@ use std::alloc::{AllocError, Global};
 use std::test::Fail;
 
 /// Lines that are no command, or have a word too few, too many or wrong.
-const BAD: [&str; 62] = [
+const BAD: [&str; 75] = [
     "frob",
     "ADD a. 60 A 192.0.2.1",
     "add",
@@ -61,6 +61,19 @@ const BAD: [&str; 62] = [
     "add a. 60 NSEC3PARAM 1 0 0 -",
     "add a. 60 RRSIG A 253 2 60 86400 0 7 a. 0007",
     "add a. 60 TYPE46 00",
+    "add a. 60 TYPE28 00",
+    "add a. 60 AAAA 2001:db8::1",
+    "add a. 60 AAAA 1:2:3:4:5:6:7",
+    "add a. 60 AAAA 1:2:3:4:5:6:7:8:9",
+    "add a. 60 AAAA 1:2:3:4:5:6:7:8:",
+    "add a. 60 AAAA 1:2:3:4:5:6:7:00008",
+    "add a. 60 AAAA 1:2:3:4:5:6:7:g",
+    "add a. 60 CNAME",
+    "add a. 60 ANAME b. c.",
+    "add a. 60 MX b.",
+    "add a. 60 MX 65536 b.",
+    "add a. 60 SRV 1 2 b.",
+    "add a. 60 SRV 1 2 65536 b.",
     "lookup",
     "lookup a.",
     "lookup a. a",
@@ -70,14 +83,8 @@ const BAD: [&str; 62] = [
     "LOOKUP a. A",
 ];
 
-/// Commands and types that the program doesn't know yet.
-const NOT_YET: [&str; 17] = [
-    "add a. 60 AAAA 2001:db8:0:0:0:0:0:1",
-    "add a. 60 CNAME b.",
-    "add a. 60 ANAME b.",
-    "add a. 60 MX 10 b.",
-    "add a. 60 SRV 1 2 3 b.",
-    "add a. 60 TYPE28 00",
+/// Commands that the program doesn't know yet.
+const NOT_YET: [&str; 11] = [
     "drop a. A",
     "kind none",
     "kind nsec",
@@ -375,5 +382,35 @@ additional 0
 ";
     let run = run_on(rt.alloc(), input)?;
     assert_eq!(rt; run.output.as_slice(), output.as_slice());
+    Ok(())
+}
+
+#[test]
+fn types_with_a_case_of_their_own_are_read_in_parts(rt: HostRuntime) -> Result<(), Fail> {
+    let input = b"add a. 60 AAAA 2001:DB8:0:0:0:0:0:1
+lookup a. AAAA
+add b. 60 CNAME a.
+lookup b. CNAME
+add c. 60 ANAME a.
+lookup c. ANAME
+add d. 60 MX 65535 a.
+lookup d. MX
+add e. 60 SRV 0 65535 053 a.
+lookup e. SRV
+";
+    let records = [
+        "a. 60 IN AAAA 2001:0db8:0000:0000:0000:0000:0000:0001",
+        "b. 60 IN CNAME a.",
+        "c. 60 IN ANAME a.",
+        "d. 60 IN MX 65535 a.",
+        "e. 60 IN SRV 0 65535 53 a.",
+    ];
+    let mut output = String::new(rt.alloc());
+    for record in records {
+        writeln!(output, "yes\nanswer 1\n{record}\nadditional 0")?;
+    }
+    let run = run_on(rt.alloc(), input)?;
+    assert_eq!(rt; run.output.as_slice(), output.as_bytes());
+    assert_eq!(rt; run.status, 0);
     Ok(())
 }

@@ -1,3 +1,4 @@
+use crate::program::hex::read_hex_digit;
 use crate::program::numbers::read_u8;
 
 /// Reads an IPv4 address: four numbers from 0 to 255 with dots between them (RFC 1035, section 3.4.1).
@@ -13,6 +14,38 @@ pub fn read_ipv4(word: &[u8]) -> Option<[u8; 4]> {
         None => Some(address),
         Some(_) => None,
     }
+}
+
+/// Reads an IPv6 address: eight groups of one to four hex digits with colons between them, none left out
+/// (RFC 4291, section 2.2, its first form).
+pub fn read_ipv6(word: &[u8]) -> Option<[u8; 16]> {
+    let mut address = [0u8; 16];
+    let mut rest = Some(word);
+    for i in 0..8usize {
+        let (part, others) = part_before(rest?, b':');
+        let group = read_group(part)?;
+        address[2 * i] = (group / 256) as u8;
+        address[2 * i + 1] = (group % 256) as u8;
+        rest = others;
+    }
+    match rest {
+        None => Some(address),
+        Some(_) => None,
+    }
+}
+
+/// Reads one to four hex digits.
+fn read_group(part: &[u8]) -> Option<u16> {
+    if part.is_empty() || part.len() > 4 {
+        return None;
+    }
+    let mut group = 0u16;
+    for octet in part {
+        group = group
+            .checked_mul(16)?
+            .checked_add(u16::from(read_hex_digit(*octet)?))?;
+    }
+    Some(group)
 }
 
 /// The part before the first separator, and what stands after it, or None where there is no separator.

@@ -36,7 +36,7 @@ fn read_octets(alloc: Global, digits: &[u8]) -> Result<Option<Vec<u8>>, AllocErr
 }
 
 /// Reads a hex digit in either case.
-fn read_hex_digit(octet: u8) -> Option<u8>
+pub fn read_hex_digit(octet: u8) -> Option<u8>
     ensures { result ≡ hex_digit octet }
 {
     match octet {

@@ -43,6 +43,14 @@ pub fn read_u8(word: &[u8]) -> Option<u8>
     Some(read_number(word, 255)? as u8)
 }
 
+/// Reads a number from 0 to 65535.
+pub fn read_u16(word: &[u8]) -> Option<u16>
+    ensures read { IsSome result ↔ (IsNumeral 10 word.now × (digits_value 10 word.now ≤ 65535)) }
+    ensures value { IfSome result (λ n. n ≡ digits_value 10 word.now) }
+{
+    Some(read_number(word, 65535)? as u16)
+}
+
 /// Reads a number from 0 to 4294967295.
 pub fn read_u32(word: &[u8]) -> Option<u32>
     ensures read { IsSome result ↔ (IsNumeral 10 word.now × (digits_value 10 word.now ≤ 4294967295)) }
