@@ -5,7 +5,7 @@ use std::alloc::{AllocError, Global};
 use std::test::Fail;
 
 /// Lines that are no command, or have a word too few, too many or wrong.
-const BAD: [&str; 75] = [
+const BAD: [&str; 79] = [
     "frob",
     "ADD a. 60 A 192.0.2.1",
     "add",
@@ -81,11 +81,14 @@ const BAD: [&str; 75] = [
     "lookup a. A dnssec",
     "lookup a. A A",
     "LOOKUP a. A",
+    "drop a.",
+    "drop a. A A",
+    "drop a. a",
+    "drop a..b. A",
 ];
 
 /// Commands that the program doesn't know yet.
-const NOT_YET: [&str; 11] = [
-    "drop a. A",
+const NOT_YET: [&str; 10] = [
     "kind none",
     "kind nsec",
     "kind nsec3 - 0",
@@ -411,6 +414,36 @@ lookup e. SRV
     }
     let run = run_on(rt.alloc(), input)?;
     assert_eq!(rt; run.output.as_slice(), output.as_bytes());
+    assert_eq!(rt; run.status, 0);
+    Ok(())
+}
+
+#[test]
+fn a_dropped_set_is_gone(rt: HostRuntime) -> Result<(), Fail> {
+    let input = b"add a. 60 A 192.0.2.1
+add a. 60 A 192.0.2.2
+add A. 60 TXT 00
+drop A. A
+lookup a. A
+drop a. A
+lookup a. TXT
+drop a. TYPE16
+lookup a. TXT
+";
+    let output = b"yes
+yes
+yes
+yes
+error NameExists
+no
+answer 1
+A. 60 IN TXT 00
+additional 0
+yes
+error Refused
+";
+    let run = run_on(rt.alloc(), input)?;
+    assert_eq!(rt; run.output.as_slice(), output.as_slice());
     assert_eq!(rt; run.status, 0);
     Ok(())
 }

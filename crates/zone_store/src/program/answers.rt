@@ -8,7 +8,7 @@ use std::fmt;
 use zone_handler::{
     AuthLookup, LookupControlFlow, LookupError, LookupOptions, LookupRecordsIter, ZoneHandler,
 };
-use zone_proto::{LowerName, Record, RecordType};
+use zone_proto::{LowerName, Record, RecordType, RrKey};
 
 /// The zone that the program keeps.
 pub type Zone = InMemoryZoneHandler<DemoSigner, Sha1Hash>;
@@ -17,6 +17,7 @@ pub type Zone = InMemoryZoneHandler<DemoSigner, Sha1Hash>;
 pub fn carry_out(zone: &mut Zone, command: Command, answer: &mut String) -> Result<(), AllocError> {
     match command {
         Command::Add(record) => add(zone, record, answer),
+        Command::Drop(key) => drop_set(zone, &key, answer),
         Command::Lookup { name, record_type } => lookup(zone, &name, record_type, answer),
     }
 }
@@ -28,6 +29,15 @@ fn add(zone: &mut Zone, record: Record, answer: &mut String) -> Result<(), Alloc
         Ok(true) => "yes\n",
         Ok(false) => "no\n",
         Err(_) => "error Memory\n",
+    };
+    answer.push_str(reply)
+}
+
+/// Takes a record set out, and tells whether it was there.
+fn drop_set(zone: &mut Zone, key: &RrKey, answer: &mut String) -> Result<(), AllocError> {
+    let reply = match zone.remove_set(key) {
+        Some(_) => "yes\n",
+        None => "no\n",
     };
     answer.push_str(reply)
 }

@@ -3,13 +3,15 @@ use crate::program::fault::Fault;
 use crate::program::numbers::read_u32;
 use crate::program::words::Words;
 use std::alloc::Global;
-use zone_proto::{LowerName, Record, RecordType};
+use zone_proto::{LowerName, Record, RecordType, RrKey};
 
 /// What a line tells the program to do.
 #[derive(Drop)]
 pub enum Command {
     /// `add NAME TTL TYPE DATA`: upserts a record.
     Add(Record),
+    /// `drop NAME TYPE`: takes a record set out.
+    Drop(RrKey),
     /// `lookup NAME TYPE`: answers a query.
     Lookup {
         name: LowerName,
@@ -26,6 +28,7 @@ pub fn read_command(alloc: Global, line: &[u8]) -> Result<Option<Command>, Fault
     let command = match first {
         [b'#', ..] => return Ok(None),
         b"add" => Command::Add(read_record(alloc, &mut words)?),
+        b"drop" => Command::Drop(read_key(alloc, &mut words)?),
         b"lookup" => Command::Lookup {
             name: LowerName::from(read_name(alloc, &mut words)?),
             record_type: read_type(&mut words)?,
@@ -34,6 +37,13 @@ pub fn read_command(alloc: Global, line: &[u8]) -> Result<Option<Command>, Fault
     };
     words.end()?;
     Ok(Some(command))
+}
+
+/// Reads the key of a record set: its owner and its type.
+fn read_key(alloc: Global, words: &mut Words<'_>) -> Result<RrKey, Fault> {
+    let owner = read_name(alloc, words)?;
+    let record_type = read_type(words)?;
+    Ok(RrKey::new(LowerName::from(owner), record_type))
 }
 
 /// Reads a record of class IN: its owner, its TTL in seconds, its type and its data.
