@@ -2,6 +2,8 @@
 #![tactic(auto)]
 
 #[cfg(test)]
+mod fixtures;
+#[cfg(test)]
 mod handler;
 #[cfg(test)]
 mod handler_memory;
@@ -25,3 +27,7 @@ mod sets_memory;
 mod streams;
 #[cfg(test)]
 mod types;
+#[cfg(test)]
+mod zone;
+#[cfg(test)]
+mod zone_memory;

@@ -1,4 +1,5 @@
 // Names where growths are refused: what takes no memory succeeds, and what takes some is refused whole.
+use crate::fixtures::take_all;
 use scarce::Scarcity;
 use std::alloc::Global;
 use std::cmp::Ordering;
@@ -99,15 +100,6 @@ fn growths_are_refused_in_turn(rt: HostRuntime) -> Result<(), Fail> {
     drop(scarce);
     assert!(rt; name == Name::from(key.name), "the names are as they were");
     Ok(())
-}
-
-/// Takes all memory, so that every growth is refused until the value is dropped.
-fn take_all(alloc: Global) -> Result<Scarcity, Fail> {
-    let mut scarce = Scarcity::begin(alloc, 1)?;
-    if !scarce.leave(0) {
-        return Err(Fail::from(ProtoError::Hash));
-    }
-    Ok(scarce)
 }
 
 #[test]
