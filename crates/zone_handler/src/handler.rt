@@ -44,6 +44,9 @@ pub trait ZoneHandler {
     /// What the zone holds for `name` and `record_type`. `request_info` tells of the request that
     /// is served, if there is one; `lookup_options` say whether signatures are wanted; `now` is
     /// the moment in seconds since 1970.
+    ///
+    /// `Continue` hands the answer, or the refusal that says why there is none, on to the next handler of a chain,
+    /// `Break` makes it final, and `Skip` says that this handler has none.
     fn lookup(
         &self,
         name: &LowerName,

@@ -14,7 +14,9 @@ pub enum LookupRecords {
     Empty,
     /// One record set, and how the client wants it.
     Records {
+        /// Whether the set's signatures are wanted.
         lookup_options: LookupOptions,
+        /// The set.
         records: RecordSet,
     },
     /// Several record sets, stored from the last to the first: make it by [`LookupRecords::many`].

@@ -1,4 +1,4 @@
-/// What the server is to the zone (RFC 8499 section 6).
+/// What the server is to the zone (RFC 9499 section 6).
 #[derive(Clone, Copy, PartialEq, Eq, Hash, Debug)]
 pub enum ZoneType {
     /// The zone's source of changes.

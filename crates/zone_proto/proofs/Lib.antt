@@ -12,7 +12,6 @@ pub mod TypeTextLaws
 pub mod SetLaws
 mod SetExamples
 mod TypeExamples
-pub mod SigningLaws
 pub mod Members
 pub mod Orders
 pub mod Tree

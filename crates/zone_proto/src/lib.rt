@@ -52,6 +52,6 @@ pub use response_code::ResponseCode;
 pub use rr_key::RrKey;
 pub use rrset_records::RrsetRecords;
 pub use seq::Seq;
-pub use signer::{Signer, sign_set};
+pub use signer::Signer;
 pub use soa_record::SoaRecord;
 pub use suffixes::Suffixes;

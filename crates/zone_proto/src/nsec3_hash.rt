@@ -7,9 +7,10 @@ use crate::lower_name::LowerName;
 ///
 /// Its answer is a function: the hash, the algorithm, the salt, the name and the iterations determine a digest or none.
 pub trait Nsec3Hash: Drop {
+    // The digest for an algorithm, a salt, a name and a count of iterations, or none.
     ghost digest_of: { Self → ℕ → List ℕ → List (List ℕ) → ℕ → Option (List ℕ) };
 
-    /// The digest of a name in lower case.
+    /// The digest of `name`, by `algorithm` (1 is SHA-1), with `salt` and with `iterations` further rounds.
     ///
     /// The refusal `Hash` comes only where there is no digest; `Memory` may come at any call, and says nothing of the digest.
     fn hash(

@@ -69,7 +69,8 @@ impl Eq for RecordSet {
 }
 
 impl RecordSet {
-    /// A set without records, of class IN, TTL 0 and this serial. Takes no memory.
+    /// A set without records, of class IN and TTL 0. `serial` is the zone's serial when the set was last changed, and for a
+    /// set of type SOA that of its record. Takes no memory.
     pub fn new(name: Name, record_type: RecordType, serial: u32) -> RecordSet
         ensures { result ≡ record {
           owner = name;
@@ -237,7 +238,8 @@ impl RecordSet {
         self.insert(new, 0)
     }
 
-    /// Puts a signature, a record of type RRSIG, behind those that the set has. `Memory` leaves the set as it was.
+    /// Puts a signature, a record of type RRSIG (RFC 4034 section 3), behind those that the set has. `Memory` leaves the set
+    /// as it was.
     pub fn insert_rrsig(&mut self, rrsig: Record) -> Result<(), ProtoError>
         ensures ok { OnOk result (self.new ≡ record self.old { signatures = self.old.signatures ++ rrsig ∷ [] }) }
         ensures err { IfErr result (λ e. e ≡ ProtoError.Memory) }

@@ -23,6 +23,7 @@ impl RrKey {
         ensures value { result ≡ key name record_type.0 }
         ensures range { IsKeyInRange result }
     {
+        // Its clauses say that the octets are in range.
         let _ = name.labels();
         RrKey { name, record_type }
     }
@@ -33,6 +34,7 @@ impl RrKey {
         ensures err { IsOkUnless result ProtoError.Memory }
         ensures range { IsKeyInRange self.now }
     {
+        // Its clauses say that the octets are in range.
         let _ = self.name.labels();
         let RecordType(number) = self.record_type;
         Ok(RrKey::new(self.name.clone()?, RecordType(number)))

@@ -108,7 +108,6 @@ impl RecordMap {
         requires { least.now.record_type.0 ≡ 0 }
         ensures { result ≡ owns_at_or_below self.now least.now.name }
     {
-        let _count = self.sets.len();
         match self.sets.range(least..).next() {
             Some((first, _)) => least.name.zone_of(&first.name),
             None => false,
@@ -164,7 +163,6 @@ impl RecordMap {
         requires { least.now.record_type.0 ≡ 0 }
         ensures { result ≡ clashes self.now least.now.name CNAME }
     {
-        let _count = self.sets.len();
         for (key, _) in self.sets.range(least..) {
             if key.name != least.name {
                 return false;

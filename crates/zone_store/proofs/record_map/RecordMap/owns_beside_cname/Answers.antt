@@ -26,17 +26,17 @@ returns-then-ne c =
     let other : eq_by_cmp name_cmp c.in-Some.key.now.name c.args.least.now.name ≡ false = not_true _ (sym c.ne.ensures ∙ c.if-ne.true) in
     sym (front_over (clash CNAME) c.args.least.now.name _ c.next.new.self (c.in-Some.key.now, c.in-Some.field-0-1.now) c.in-Some.ensures.steps other)
     ∙ c.loop-key.invariant
-    ∙ front_is_whole (clash CNAME) c.args.least.now c.args.self.now c.self.inside.sets.entries c.requires c.len-count.ensures.ordered c.self.view_is
+    ∙ front_is_whole (clash CNAME) c.args.least.now c.args.self.now c.self.inside.sets.entries c.requires c.range-key-items.ensures.ordered c.self.view_is
 
 pub returns-then-stands_against_cname : goal.returns-then-stands_against_cname
 returns-then-stands_against_cname c =
     let same : eq_by_cmp name_cmp c.in-Some.key.now.name c.args.least.now.name ≡ true = not_false _ (sym c.ne.ensures ∙ c.if-ne.false) in
     sym (front_found (clash CNAME) c.args.least.now.name _ c.next.new.self (c.in-Some.key.now, c.in-Some.field-0-1.now) c.in-Some.ensures.steps same (sym c.if-stands_against_cname.ensures))
     ∙ c.loop-key.invariant
-    ∙ front_is_whole (clash CNAME) c.args.least.now c.args.self.now c.self.inside.sets.entries c.requires c.len-count.ensures.ordered c.self.view_is
+    ∙ front_is_whole (clash CNAME) c.args.least.now c.args.self.now c.self.inside.sets.entries c.requires c.range-key-items.ensures.ordered c.self.view_is
 
 pub returns : goal.returns
 returns c =
     sym (ap (λ es. list_any (clash CNAME) (front_types c.args.least.now.name es)) c.in-None.ensures.steps.0)
     ∙ c.loop-key.invariant
-    ∙ front_is_whole (clash CNAME) c.args.least.now c.args.self.now c.self.inside.sets.entries c.requires c.len-count.ensures.ordered c.self.view_is
+    ∙ front_is_whole (clash CNAME) c.args.least.now c.args.self.now c.self.inside.sets.entries c.requires c.range-key-items.ensures.ordered c.self.view_is
