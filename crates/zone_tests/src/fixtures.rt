@@ -189,3 +189,34 @@ pub(crate) fn take_all(alloc: Global) -> Result<Scarcity, Fail> {
     }
     Ok(scarce)
 }
+
+/// The set of one record, with serial 0.
+pub(crate) fn set_of(record: Record) -> Result<RecordSet, Fail> {
+    let mut set = RecordSet::with_ttl(record.name.clone()?, record.record_type(), record.ttl);
+    if record.rdata.record_type() == set.record_type() && set.add_rdata(record.rdata)? {
+        Ok(set)
+    } else {
+        Err(Fail::new("the set doesn't take the record"))
+    }
+}
+
+/// A signature of an A set, by a key of this tag.
+pub(crate) fn rrsig(alloc: Global, key_tag: u16) -> Result<RRSIG, ProtoError> {
+    Ok(RRSIG {
+        type_covered: RecordType::A,
+        algorithm: 253,
+        num_labels: 2,
+        original_ttl: 60,
+        expiration: 2_000,
+        inception: 1_000,
+        key_tag,
+        signer_name: Name::parse(alloc, "Example.com.")?,
+        signature: Seq::new(alloc),
+    })
+}
+
+/// The record of that signature.
+pub(crate) fn signature(alloc: Global, owner: &str, key_tag: u16) -> Result<Record, ProtoError> {
+    let rdata = RData::RRSIG(rrsig(alloc, key_tag)?);
+    Ok(Record::from_rdata(Name::parse(alloc, owner)?, 60, rdata))
+}

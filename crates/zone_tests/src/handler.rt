@@ -1,6 +1,7 @@
 // What a handler answers: texts of errors and steps, the lists of answers, and a handler through its trait.
 ghost use Rattle.std.specs.Prelude.{◌≡◌, true};
 
+use crate::fixtures::signature;
 use std::alloc::Global;
 use std::io;
 use std::test::Fail;
@@ -9,7 +10,7 @@ use zone_handler::{
     LookupRecords, LookupRecordsIter, NetError, NoRecords, RequestInfo, ZoneHandler, ZoneType,
 };
 use zone_proto::{
-    DNSClass, Edns, EdnsFlags, LowerName, Message, Name, ProtoError, Query, RData, RRSIG, Record,
+    DNSClass, Edns, EdnsFlags, LowerName, Message, Name, ProtoError, Query, RData, Record,
     RecordSet, RecordType, ResponseCode, SOA, Seq, SoaRecord,
 };
 
@@ -48,18 +49,7 @@ fn signed_set(alloc: Global, first: u8, second: u8) -> Result<RecordSet, ProtoEr
     let mut set = RecordSet::with_ttl(Name::root(alloc), RecordType::A, 300);
     set.add_rdata(RData::A([first, 0, 0, 1]))?;
     set.add_rdata(RData::A([second, 0, 0, 1]))?;
-    let signature = RRSIG {
-        type_covered: RecordType::A,
-        algorithm: 8,
-        num_labels: 0,
-        original_ttl: 300,
-        expiration: 2,
-        inception: 1,
-        key_tag: 3,
-        signer_name: Name::root(alloc),
-        signature: Seq::new(alloc),
-    };
-    set.insert_rrsig(Record::from_rdata(Name::root(alloc), 300, RData::RRSIG(signature)))?;
+    set.insert_rrsig(signature(alloc, ".", 3)?)?;
     Ok(set)
 }
 

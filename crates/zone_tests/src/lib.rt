@@ -31,3 +31,7 @@ mod types;
 mod zone;
 #[cfg(test)]
 mod zone_memory;
+#[cfg(test)]
+mod zone_sets;
+#[cfg(test)]
+mod zone_sets_memory;

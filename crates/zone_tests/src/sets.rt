@@ -1,6 +1,7 @@
 // Record sets: insertion case by case, what is lent, what is equal, and signers and hashes through their bounds.
 ghost use Rattle.std.specs.Prelude.{◌≡◌};
 
+use crate::fixtures::{rrsig, signature};
 use std::alloc::Global;
 use std::test::Fail;
 use zone_proto::{
@@ -29,25 +30,6 @@ fn soa(alloc: Global, serial: u32) -> Result<RData, ProtoError> {
 /// A record of the owner.
 fn record(alloc: Global, ttl: u32, rdata: RData) -> Result<Record, ProtoError> {
     Ok(Record::from_rdata(owner(alloc)?, ttl, rdata))
-}
-
-/// A signature by a key of this tag.
-fn signature(alloc: Global, key_tag: u16) -> Result<Record, ProtoError> {
-    record(alloc, 60, RData::RRSIG(rrsig(alloc, key_tag)?))
-}
-
-fn rrsig(alloc: Global, key_tag: u16) -> Result<RRSIG, ProtoError> {
-    Ok(RRSIG {
-        type_covered: RecordType::A,
-        algorithm: 253,
-        num_labels: 2,
-        original_ttl: 60,
-        expiration: 2_000,
-        inception: 1_000,
-        key_tag,
-        signer_name: owner(alloc)?,
-        signature: Seq::new(alloc),
-    })
 }
 
 /// Inserts a record that has the set's owner and type.
@@ -97,7 +79,7 @@ fn an_soa_is_taken_by_its_serial(rt: HostRuntime) -> Result<(), Fail> {
     let alloc = rt.alloc();
     let mut set = RecordSet::new(owner(alloc)?, RecordType::SOA, 1);
     assert!(rt; put(&mut set, record(alloc, 3_600, soa(alloc, 5)?)?, 5)?);
-    set.insert_rrsig(signature(alloc, 7)?)?;
+    set.insert_rrsig(signature(alloc, OWNER, 7)?)?;
     for refused in [5, 4, 0] {
         assert!(rt;
             !put(&mut set, record(alloc, 60, soa(alloc, refused)?)?, 9)?,
@@ -124,7 +106,7 @@ fn equal_data_are_stored_once(rt: HostRuntime) -> Result<(), Fail> {
     let mut set = RecordSet::new(owner(alloc)?, RecordType::A, 1);
     assert!(rt; put(&mut set, record(alloc, 3_600, RData::A([192, 0, 2, 1]))?, 2)?);
     assert!(rt; put(&mut set, record(alloc, 300, RData::A([192, 0, 2, 2]))?, 3)?);
-    set.insert_rrsig(signature(alloc, 7)?)?;
+    set.insert_rrsig(signature(alloc, OWNER, 7)?)?;
     assert!(rt; !put(&mut set, record(alloc, 60, RData::A([192, 0, 2, 1]))?, 4)?);
     assert_eq!(rt; set.ttl(), 300);
     assert_eq!(rt; set.serial(), 3);
@@ -219,12 +201,12 @@ fn added_data_are_of_the_set(rt: HostRuntime) -> Result<(), Fail> {
 fn signatures_are_lent_last(rt: HostRuntime) -> Result<(), Fail> {
     let alloc = rt.alloc();
     let mut set = RecordSet::new(owner(alloc)?, RecordType::A, 1);
-    set.insert_rrsig(signature(alloc, 7)?)?;
+    set.insert_rrsig(signature(alloc, OWNER, 7)?)?;
     assert!(rt; set.is_empty());
     assert_eq!(rt; marks(alloc, &set, true)?.len(), 0);
     assert!(rt; put(&mut set, record(alloc, 60, RData::A([192, 0, 2, 1]))?, 1)?);
-    set.insert_rrsig(signature(alloc, 8)?)?;
-    set.insert_rrsig(signature(alloc, 7)?)?;
+    set.insert_rrsig(signature(alloc, OWNER, 8)?)?;
+    set.insert_rrsig(signature(alloc, OWNER, 7)?)?;
     assert!(rt; !set.is_empty());
     assert_eq!(rt; marks(alloc, &set, true)?.as_slice(), [1, 8, 7].as_slice());
     assert_eq!(rt; marks(alloc, &set, false)?.as_slice(), [1].as_slice());
@@ -254,17 +236,17 @@ fn address_set(alloc: Global, owner: &str, ttl: u32, serial: u32) -> Result<Reco
 fn sets_are_equal_by_all_parts(rt: HostRuntime) -> Result<(), Fail> {
     let alloc = rt.alloc();
     let mut set = address_set(alloc, OWNER, 60, 5)?;
-    set.insert_rrsig(signature(alloc, 7)?)?;
+    set.insert_rrsig(signature(alloc, OWNER, 7)?)?;
     let copy = set.clone()?;
     assert!(rt; copy == set);
     assert!(rt; copy.name().labels() == set.name().labels());
 
     let mut same = address_set(alloc, "example.COM.", 60, 5)?;
     assert!(rt; same != set);
-    same.insert_rrsig(signature(alloc, 7)?)?;
+    same.insert_rrsig(signature(alloc, OWNER, 7)?)?;
     assert!(rt; same == set);
     same.clear_rrsigs();
-    same.insert_rrsig(signature(alloc, 8)?)?;
+    same.insert_rrsig(signature(alloc, OWNER, 8)?)?;
     assert!(rt; same != set);
 
     let plain = address_set(alloc, OWNER, 60, 5)?;

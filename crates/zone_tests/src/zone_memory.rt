@@ -179,7 +179,7 @@ const READS: [(Read, &str, RecordType, Outcome, usize); 9] = [
 ];
 
 /// Makes the read, and tells what it gives.
-fn outcome(read: Read, zone: &Zone, key: &RrKey) -> Outcome {
+fn read_outcome(read: Read, zone: &Zone, key: &RrKey) -> Outcome {
     match read {
         Read::Lookup => lookup_outcome(zone, key),
         Read::InnerLookup => {
@@ -261,7 +261,7 @@ fn read_refusals(
         if !scarce.leave(step.saturating_mul(STEP)) {
             return None;
         }
-        let given = outcome(read, zone, key);
+        let given = read_outcome(read, zone, key);
         if given != Outcome::Memory {
             return Some((step, given));
         }
