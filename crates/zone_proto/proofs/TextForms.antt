@@ -1,8 +1,8 @@
 -- That a text is read as a name exactly if it is of the name's text form.
-use Rattle.std.proofs.Common.{◌≡◌, ◌≢◌, ◌⊎◌, inl, inr, ℕ, ◌+◌, ◌-◌, ◌*◌, ◌/◌, ◌%◌, ◌<◌, ◌≤◌, List, [], ◌∷◌, ◌++◌, Bool, true, false, cond, refl, sym, ap, subst, ◌∙◌, arith, Some, None}
+use Rattle.std.proofs.Common.{◌≡◌, ◌≢◌, ◌↔◌, ◌⊎◌, inl, inr, ℕ, ◌+◌, ◌-◌, ◌*◌, ◌/◌, ◌%◌, ◌<◌, ◌≤◌, List, [], ◌∷◌, ◌++◌, Bool, true, false, cond, refl, sym, ap, subst, ◌∙◌, arith, Some, None}
 use Rattle.std.proofs.lemmas.Bool.Decides.{nat_tests}
 use Rattle.std.proofs.lemmas.List.{append_assoc, append-nil}
-use Rattle.std.specs.Prelude.{◌==◌, nat_le, ◌&&◌, IsTrue, IsFalse}
+use Rattle.std.specs.Prelude.{◌==◌, Option, nat_le, ◌&&◌, IsTrue, IsFalse}
 use Rattle.zone_proto.specs.declared.parser.Mode.{Mode}
 use Rattle.zone_proto.specs.declared.parser.Mode.TheVariants.{Start, AfterDot, InLabel, Escaped, OneDigit, TwoDigits}
 use Rattle.zone_proto.specs.Names.{Name, Label}
@@ -350,3 +350,13 @@ read_form (b ∷ []) n e = by (b == 46) refl e
     by : (t : Bool) → (b == 46) ≡ t → cond t (Some []) (read_on (b ∷ []) start) ≡ Some n → IsNameText (b ∷ []) n
     by true d e = subst (λ n. IsNameText (b ∷ []) n) (sym (same _ _ e)) (ap (λ b. b ∷ []) (is_same b 46 d))
     by false d e = whole_spells (b ∷ []) n (λ h. cc) (λ h. is_other b 46 d cc) e
+
+pub one_form : (s : List ℕ) (n m : Name) → IsNameText s n → IsNameText s m → n ≡ m
+one_form s n m h k = same _ _ (sym (form_read s m k) ∙ form_read s n h)
+
+pub unread_form : (s : List ℕ) → (labels_of_text s ≡ None) ↔ ((n : Name) → ¬ IsNameText s n)
+unread_form s = ((λ e n h. nothing n (sym e ∙ form_read s n h)), by (labels_of_text s) refl)
+  where
+    by : (o : Option Name) → labels_of_text s ≡ o → ((n : Name) → ¬ IsNameText s n) → labels_of_text s ≡ None
+    by None e none = e
+    by (Some n) e none = absurd (none n (read_form s n e))

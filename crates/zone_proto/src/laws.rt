@@ -1,6 +1,6 @@
 //! Laws of the definitions that the calls of this crate are proved to meet. Each is an empty function whose contract is
 //! the law, for every value, so a program has no need to call one.
-ghost use Rattle.std.specs.Prelude.{◌≡◌, ◌↔◌, ℕ, List, Some, reverse};
+ghost use Rattle.std.specs.Prelude.{◌≡◌, ◌↔◌, ℕ, List, Some, None, reverse};
 ghost use Rattle.std.specs.declared.cmp.Ordering.TheVariants.{Less, Equal};
 ghost use Rattle.std.specs.Cmp.{IsTotalOrder};
 ghost use Rattle.zone_proto.specs.Before.{IsBefore};
@@ -54,9 +54,12 @@ pub fn descendants_are_together()
     ensures { (a l x r : Name) → IsAtOrAbove a l → IsAtOrAbove a r → IsBefore l x → IsBefore x r → IsAtOrAbove a x }
 {}
 
-/// A text is read as a name exactly if it is of that name's text form (RFC 1035 section 5.1).
+/// A text is read as a name exactly if it is of that name's text form (RFC 1035 section 5.1), and it is of one name's
+/// form at most. It is read as none exactly if it is of no name's form.
 pub fn text_is_read_by_its_form()
-    ensures { (s : List ℕ) (n : Name) → (labels_of_text s ≡ Some n) ↔ IsNameText s n }
+    ensures read { (s : List ℕ) (n : Name) → (labels_of_text s ≡ Some n) ↔ IsNameText s n }
+    ensures unique { (s : List ℕ) (n m : Name) → IsNameText s n → IsNameText s m → n ≡ m }
+    ensures unread { (s : List ℕ) → (labels_of_text s ≡ None) ↔ ((n : Name) → ¬ IsNameText s n) }
 {}
 
 /// What is printed of a name is read as that name.
