@@ -6,6 +6,7 @@ pub mod Faults
 pub mod Lower
 pub mod FromFront
 pub mod LabelFacts
+pub mod TextForms
 pub mod RoundTrip
 pub mod BeforeLaws
 pub mod TypeTextLaws

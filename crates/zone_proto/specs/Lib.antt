@@ -6,6 +6,7 @@ pub mod NameLaws
 pub mod Keys
 pub mod Faults
 pub mod Suffixes
+pub mod TextForm
 pub mod Text
 pub mod Parse
 pub mod Reading

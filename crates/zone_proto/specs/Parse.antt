@@ -1,24 +1,10 @@
--- How a text is read as a name: the text form of master files (RFC 1035 section 5.1), octet by octet from the left
-use Rattle.std.specs.Prelude.{ℕ, ◌+◌, ◌*◌, ◌-◌, ◌++◌, List, [], ◌∷◌, Bool, ◌&&◌, ◌==◌, nat_le, if◌then◌else◌, Option, Some, None}
+-- How a text is read as a name, octet by octet from the left. The text form itself is in `TextForm`, and the law
+-- `text_is_read_by_its_form` says that a text is read as a name exactly if it is of that name's form.
+use Rattle.std.specs.Prelude.{ℕ, ◌+◌, ◌*◌, ◌-◌, ◌++◌, List, [], ◌∷◌, ◌&&◌, ◌==◌, nat_le, if◌then◌else◌, Option, Some, None}
 use Rattle.zone_proto.specs.Names.{Name, Label}
+use Rattle.zone_proto.specs.TextForm.{dot, backslash, is_digit, is_graphic}
 use Rattle.zone_proto.specs.declared.parser.Mode.{Mode}
 use Rattle.zone_proto.specs.declared.parser.Mode.TheVariants.{Start, AfterDot, InLabel, Escaped, OneDigit, TwoDigits}
-
--- `.`
-abbrev pub dot : ℕ
-dot = 46
-
--- `\`
-abbrev pub backslash : ℕ
-backslash = 92
-
--- `0` to `9`
-abbrev pub is_digit : ℕ → Bool
-is_digit b = nat_le 48 b && nat_le b 57
-
--- a printing ASCII character that is no space
-abbrev pub is_graphic : ℕ → Bool
-is_graphic b = nat_le 33 b && nat_le b 126
 
 -- what has been read: where the reader stands, the labels before the current one, and the current label's octets
 -- so far. It stands at the start of the text, after a dot, after an octet of a label, after a backslash, or after a

@@ -1,12 +1,13 @@
 //! Laws of the definitions that the calls of this crate are proved to meet. Each is an empty function whose contract is
 //! the law, for every value, so a program has no need to call one.
-ghost use Rattle.std.specs.Prelude.{◌≡◌, ◌↔◌, ℕ, List, Some, reverse};
+ghost use Rattle.std.specs.Prelude.{◌≡◌, ◌↔◌, ℕ, List, Some, None, reverse};
 ghost use Rattle.std.specs.declared.cmp.Ordering.TheVariants.{Less, Equal};
 ghost use Rattle.std.specs.Cmp.{IsTotalOrder};
 ghost use Rattle.zone_proto.specs.Before.{IsBefore};
 ghost use Rattle.zone_proto.specs.Names.{Name, name_cmp, caseless_cmp, lower, IsAbove, IsAtOrAbove, IsName};
 ghost use Rattle.zone_proto.specs.Parse.{labels_of_text};
 ghost use Rattle.zone_proto.specs.Text.{name_text};
+ghost use Rattle.zone_proto.specs.TextForm.{IsNameText};
 ghost use Rattle.zone_proto.specs.Keys.{key_cmp};
 ghost use Rattle.zone_proto.specs.declared.rr_key.RrKey.{RrKey};
 
@@ -51,6 +52,14 @@ pub fn ancestor_is_first()
 /// The names at and below a name stand together: a name between two of them is one of them.
 pub fn descendants_are_together()
     ensures { (a l x r : Name) → IsAtOrAbove a l → IsAtOrAbove a r → IsBefore l x → IsBefore x r → IsAtOrAbove a x }
+{}
+
+/// A text is read as a name exactly if it is of that name's text form (RFC 1035 section 5.1), and it is of one name's
+/// form at most. It is read as none exactly if it is of no name's form.
+pub fn text_is_read_by_its_form()
+    ensures read { (s : List ℕ) (n : Name) → (labels_of_text s ≡ Some n) ↔ IsNameText s n }
+    ensures unique { (s : List ℕ) (n m : Name) → IsNameText s n → IsNameText s m → n ≡ m }
+    ensures unread { (s : List ℕ) → (labels_of_text s ≡ None) ↔ ((n : Name) → ¬ IsNameText s n) }
 {}
 
 /// What is printed of a name is read as that name.

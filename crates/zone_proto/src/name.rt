@@ -5,7 +5,7 @@ ghost use Rattle.zone_proto.specs.Ranges.{IsNameInRange};
 ghost use Rattle.zone_proto.specs.Vectors.{octets_of};
 ghost use Rattle.zone_proto.specs.Faults.{fault_of, IsFaultOrMemory};
 ghost use Rattle.zone_proto.specs.Suffixes.{suffixes_left};
-ghost use Rattle.zone_proto.specs.Parse.{labels_of_text};
+ghost use Rattle.zone_proto.specs.TextForm.{IsNameText};
 ghost use Rattle.zone_proto.specs.Reading.{fault_of_text};
 
 use crate::error::ProtoError;
@@ -69,9 +69,11 @@ impl Name {
     /// `.` is the root. Else labels are separated by dots, and one final dot may be left out. A backslash and three
     /// decimal digits of value at most 255 are that octet; a backslash and another octet from 33 to 126 are that octet;
     /// any other octet from 33 to 126 is itself. Everything else, the empty text too, gives `BadText`, wherever it
-    /// stands in the text; then come the refusals of `from_labels`, and `Memory`.
+    /// stands in the text; then come the refusals of `from_labels`, and `Memory`. That a text is of one name's form at most,
+    /// and which texts are of none, is `laws::text_is_read_by_its_form`.
+    #[tactic(auto, using(crate::proofs::TextForms::read_form))]
     pub fn parse(alloc: Global, text: &str) -> Result<Name, ProtoError>
-        ensures ok { IfOk result (λ n. labels_of_text text.now ≡ Some n) }
+        ensures ok { IfOk result (IsNameText text.now) }
         ensures refusal { MatchResult result (λ _. fault_of_text text.now ≡ None) (IsFaultOrMemory (fault_of_text text.now)) }
     {
         match read_labels(alloc, text) {

@@ -2,7 +2,8 @@
 ghost use Rattle.std.specs.Prelude.{◌≡◌, ◌++◌, [], ◌∷◌, IfOk, IfErr, OnOk, IsOkUnless, Some};
 ghost use Rattle.zone_proto.specs.Vectors.{octets_of};
 ghost use Rattle.zone_proto.specs.Faults.{IsFaultOrMemory};
-ghost use Rattle.zone_proto.specs.Parse.{labels_of_text, step_in, labels_at_end, with_octet, is_digit, is_graphic, read_on, start};
+ghost use Rattle.zone_proto.specs.Parse.{labels_of_text, step_in, labels_at_end, with_octet, read_on, start};
+ghost use Rattle.zone_proto.specs.TextForm.{is_digit, is_graphic};
 ghost use Rattle.zone_proto.specs.Reading.{reader_of, fault_of_none};
 
 use crate::error::ProtoError;
