@@ -47,7 +47,7 @@ impl AuthLookup {
         }
     }
 
-    /// Lends the records that answer the question, in order.
+    /// Lends the records that answer the question, in order. Takes no memory.
     pub fn iter(&self) -> AuthLookupIter<'_>
         ensures { left_of result ≡ records_of self.now }
     {
@@ -138,6 +138,7 @@ impl From<LookupRecords> for AuthLookup {
 
     ghost from_gives = { λ answers answer. answer ≡ Records answers None };
 
+    /// An answer with these records and no additionals.
     fn from(answers: LookupRecords) -> AuthLookup {
         AuthLookup::Records {
             answers,

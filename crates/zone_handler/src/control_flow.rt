@@ -21,6 +21,7 @@ pub enum LookupControlFlow<T, E = LookupError> {
 impl<T, E> Display for LookupControlFlow<T, E> {
     ghost output = { λ flow. Some (flow_text flow) };
 
+    /// Prints the step and the case of its result, and not what is inside.
     fn fmt<W: fmt::Write>(&self, f: &mut fmt::Formatter<W>) -> fmt::Result {
         match self {
             LookupControlFlow::Continue(Ok(_)) => f.write_str("LookupControlFlow::Continue(Ok)"),

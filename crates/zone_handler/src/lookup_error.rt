@@ -89,6 +89,7 @@ impl From<ResponseCode> for LookupError {
 
     ghost from_gives = { λ code e. e ≡ ResponseCode code };
 
+    /// The error that answers with this response code (RFC 1035 section 4.1.1).
     fn from(code: ResponseCode) -> LookupError {
         LookupError::ResponseCode(code)
     }
@@ -100,6 +101,7 @@ impl From<NetError> for LookupError {
 
     ghost from_gives = { λ error e. e ≡ NetError error };
 
+    /// The case `NetError`.
     fn from(error: NetError) -> LookupError {
         LookupError::NetError(error)
     }
@@ -111,6 +113,7 @@ impl From<io::Error> for LookupError {
 
     ghost from_gives = { λ error e. e ≡ Io error };
 
+    /// The case `Io`.
     fn from(error: io::Error) -> LookupError {
         LookupError::Io(error)
     }
@@ -122,6 +125,7 @@ impl From<ProtoError> for LookupError {
 
     ghost from_gives = { λ refusal e. e ≡ error_of_proto refusal };
 
+    /// `Memory` for want of memory, and any other refusal as the [`NetError`] of it.
     fn from(refusal: ProtoError) -> LookupError {
         match refusal {
             ProtoError::Memory => LookupError::Memory,

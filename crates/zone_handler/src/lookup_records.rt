@@ -56,7 +56,7 @@ impl LookupRecords {
         LookupRecords::ManyRecords(lookup_options, sets)
     }
 
-    /// Lends the records in order.
+    /// Lends the records in order. Takes no memory.
     pub fn iter(&self) -> LookupRecordsIter<'_>
         ensures { left_in result ≡ records_in self.now }
     {
@@ -76,7 +76,7 @@ impl LookupRecords {
         }
     }
 
-    /// Whether `iter` gives no record.
+    /// Whether `iter` gives no record. Takes no memory.
     pub fn was_empty(&self) -> bool
         ensures { IsTrue result ↔ (records_in self.now ≡ []) }
     {

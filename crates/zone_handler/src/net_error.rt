@@ -54,6 +54,7 @@ impl From<&'static str> for NetError {
 
     ghost from_gives = { λ text e. e ≡ Message text };
 
+    /// The case `Message`, with this text.
     fn from(text: &'static str) -> NetError {
         NetError::Message(text)
     }
@@ -65,6 +66,7 @@ impl From<ProtoError> for NetError {
 
     ghost from_gives = { λ refusal e. e ≡ Proto refusal };
 
+    /// The case `Proto`.
     fn from(refusal: ProtoError) -> NetError {
         NetError::Proto(refusal)
     }

@@ -31,25 +31,25 @@ pub enum RData {
     NS(Name),
     /// The name that the owner is an alias of (RFC 1035 section 3.3.1).
     CNAME(Name),
-    /// The name whose addresses the owner takes as its own.
+    /// The name whose addresses the owner takes as its own. No standard has this type.
     ANAME(Name),
-    /// The start of a zone of authority.
+    /// The start of a zone of authority (RFC 1035 section 3.3.13).
     SOA(SOA),
-    /// A mail exchange.
+    /// A mail exchange (RFC 1035 section 3.3.9).
     MX(MX),
-    /// A server of a service.
+    /// A server of a service (RFC 2782).
     SRV(SRV),
-    /// A public key.
+    /// A public key (RFC 4034 section 2).
     DNSKEY(DNSKEY),
-    /// A denial by names.
+    /// A denial by names (RFC 4034 section 4).
     NSEC(NSEC),
-    /// A denial by hashed names.
+    /// A denial by hashed names (RFC 5155 section 3).
     NSEC3(NSEC3),
-    /// The parameters of the hashes.
+    /// The parameters of the hashes (RFC 5155 section 4).
     NSEC3PARAM(NSEC3PARAM),
-    /// A signature.
+    /// A signature (RFC 4034 section 3).
     RRSIG(RRSIG),
-    /// Any other type and its octets.
+    /// Any other type and its octets (RFC 3597 section 3).
     Other(OtherData),
 }
 

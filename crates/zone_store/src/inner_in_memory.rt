@@ -79,9 +79,12 @@ impl<S: Signer> InnerInMemory<S> {
 
     /// The set that answers for `name` and `record_type`, if there is one: the referral at the nearest zone cut at
     /// or above the name (RFC 1034 section 4.2.1), else the set of the least type that the name owns of the type that
-    /// is asked for, CNAME and, for addresses, ANAME.
+    /// is asked for, CNAME and, for addresses, ANAME. A query for DS at a cut asks the parent's side, so the cut itself
+    /// gives no referral for it (RFC 4035 section 3.1.4.1). Where the nearest name that owns NS owns SOA too, it is an
+    /// apex, and there is no referral.
     ///
-    /// It is lent out of the zone, and the call adds one to `searches`. Refused by `Memory` alone.
+    /// It is lent out of the zone with its signatures, whatever the options say, and the call adds one to `searches`.
+    /// Refused by `Memory` alone.
     pub fn inner_lookup(
         &self,
         name: &LowerName,

@@ -32,6 +32,7 @@ pub struct Lines {
 }
 
 impl Lines {
+    /// No line in hand and nothing read ahead. An error if no memory is found.
     pub fn new(alloc: Global) -> Result<Lines, AllocError> {
         let chunk = vec![in alloc; 0u8; CHUNK]?;
         // One octet past the limit, for the carriage return of a line of the greatest length.

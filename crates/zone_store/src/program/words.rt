@@ -7,6 +7,7 @@ pub struct Words<'l> {
 }
 
 impl<'l> Words<'l> {
+    /// The words of a line, none of them read.
     pub fn new(line: &'l [u8]) -> Words<'l> {
         Words { rest: line }
     }
@@ -38,6 +39,7 @@ impl<'l> Words<'l> {
     }
 }
 
+/// Whether an octet separates words.
 fn is_blank(octet: u8) -> bool {
     octet == b' ' || octet == b'\t'
 }
