@@ -4,7 +4,7 @@ use scarce::Scarcity;
 use std::alloc::Global;
 use std::cmp::Ordering;
 use std::test::Fail;
-use zone_proto::{LowerName, Name, ProtoError, RecordType, RrKey};
+use zone_proto::{LowerName, Name, ProtoError, RecordType, RrKey, Suffixes};
 
 /// How many rooms are tried before a call has to succeed.
 const ROOMS: usize = 100;
@@ -131,6 +131,15 @@ fn bad_names_are_refused_without_memory(rt: HostRuntime) -> Result<(), Fail> {
     Ok(())
 }
 
+/// How many suffixes are lent.
+fn count(suffixes: Suffixes<'_>) -> usize {
+    let mut lent = 0usize;
+    for _ in suffixes {
+        lent = lent.saturating_add(1);
+    }
+    lent
+}
+
 #[test]
 fn names_are_looked_at_without_memory(rt: HostRuntime) -> Result<(), Fail> {
     let alloc = rt.alloc();
@@ -138,7 +147,7 @@ fn names_are_looked_at_without_memory(rt: HostRuntime) -> Result<(), Fail> {
     let scarce = take_all(alloc)?;
     assert!(rt; name.labels().len() == 3 && name.num_labels() == 3);
     assert!(rt; !name.is_root() && !name.is_wildcard());
-    assert!(rt; name.suffixes().count() == 4);
+    assert!(rt; count(name.suffixes()) == 4);
     assert!(rt; name.zone_of(&name) && name.cmp(&name) == Ordering::Equal);
     drop(scarce);
     Ok(())
@@ -151,7 +160,7 @@ fn lower_names_are_looked_at_without_memory(rt: HostRuntime) -> Result<(), Fail>
     let scarce = take_all(alloc)?;
     assert!(rt; name.labels().len() == 3 && name.num_labels() == 3);
     assert!(rt; !name.is_root() && !name.is_wildcard());
-    assert!(rt; name.suffixes().count() == 4);
+    assert!(rt; count(name.suffixes()) == 4);
     assert!(rt; name.zone_of(&name) && name.cmp(&name) == Ordering::Equal);
     drop(scarce);
     Ok(())
