@@ -7,7 +7,7 @@ use zone_handler::{
 };
 use zone_proto::{
     DNSClass, DNSKEY, LowerName, NSEC, Name, Nsec3Hash, OtherData, ProtoError, RData, RRSIG,
-    Record, RecordSet, RecordType, SOA, Seq, Signer,
+    Record, RecordSet, RecordType, RrKey, SOA, Seq, Signer,
 };
 use zone_store::InMemoryZoneHandler;
 
@@ -87,6 +87,11 @@ fn put(zone: &mut Zone, record: Record) -> Result<(), Fail> {
     } else {
         Err(Fail::new("the zone doesn't take the record"))
     }
+}
+
+/// The key of a name and a type.
+pub(crate) fn key(alloc: Global, name: &str, record_type: RecordType) -> Result<RrKey, ProtoError> {
+    Ok(RrKey::new(LowerName::parse(alloc, name)?, record_type))
 }
 
 /// A record of a type, of TTL 60. Names in its data are host.example.com., its address is 192.0.2.1, and data of

@@ -1,5 +1,6 @@
 // Types, classes and response codes: their numbers and texts as the standards give them.
 use std::alloc::Global;
+use std::process::Abort;
 use std::test::Fail;
 use zone_proto::{DNSClass, OtherData, RecordType, ResponseCode};
 
@@ -24,22 +25,35 @@ const WORDS: [(&str, u16); 17] = [
     ("ANAME", 65305),
 ];
 
-#[test]
-fn each_word_is_printed_and_read(rt: HostRuntime) -> Result<(), Fail> {
-    let alloc = rt.alloc();
-    for (word, number) in WORDS {
-        let record_type = RecordType(number);
-        assert_eq!(rt; format!(in alloc; "{record_type}")?.as_str(), word);
-        assert!(rt; RecordType::from_text(word) == Some(record_type), "{word}");
-        let numbered = format!(in alloc; "TYPE{number}")?;
-        assert!(rt;
-            RecordType::from_text(numbered.as_str()) == Some(record_type),
-            "{word}"
-        );
-        let lower = word.to_ascii_lowercase(alloc)?;
-        assert!(rt; RecordType::from_text(lower.as_str()).is_none(), "{word}");
+/// Prints and reads a type by its word, and reads its number too.
+fn expect_word(rt: &impl Abort, alloc: Global, word: &str, number: u16) -> Result<(), Fail> {
+    let record_type = RecordType(number);
+    assert_eq!(rt; format!(in alloc; "{record_type}")?.as_str(), word);
+    assert!(rt;
+        RecordType::from_text(word) == Some(record_type),
+        "{number}"
+    );
+    let numbered = format!(in alloc; "TYPE{number}")?;
+    assert!(rt;
+        RecordType::from_text(numbered.as_str()) == Some(record_type),
+        "{number}"
+    );
+    let lower = word.to_ascii_lowercase(alloc)?;
+    assert!(rt; RecordType::from_text(lower.as_str()).is_none(), "{number}");
+    Ok(())
+}
+
+/// Prints and reads each type of these by its word.
+fn expect_words(rt: &impl Abort, alloc: Global, words: &[(&str, u16)]) -> Result<(), Fail> {
+    for (word, number) in words {
+        expect_word(rt, alloc, word, *number)?;
     }
     Ok(())
+}
+
+#[test]
+fn each_word_is_printed_and_read(rt: HostRuntime) -> Result<(), Fail> {
+    expect_words(&rt, rt.alloc(), &WORDS)
 }
 
 /// Types without a word, as they are printed.

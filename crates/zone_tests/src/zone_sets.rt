@@ -1,21 +1,16 @@
 // Sets that are put into a zone whole and taken out of it, and zones that are made of sets.
 use crate::fixtures::{
-    NoHash, NoSigner, Zone, empty_zone, lookup_text, record, set_of, signature, zone,
+    NoHash, Zone, empty_zone, key, lookup_text, record, set_of, signature, zone,
 };
 use std::alloc::Global;
 use std::collections::BTreeMap;
 use std::test::Fail;
 use zone_handler::{AxfrPolicy, ZoneHandler, ZoneType};
-use zone_proto::{LowerName, Name, NxProofKind, RData, Record, RecordSet, RecordType, RrKey};
+use zone_proto::{Name, NxProofKind, RData, Record, RecordSet, RecordType, RrKey};
 use zone_store::{InMemoryZoneHandler, PutRefused, ZoneError};
 
 /// Record sets by their keys.
 type Sets = BTreeMap<RrKey, RecordSet>;
-
-/// The key of a name and a type.
-fn key(alloc: Global, name: &str, record_type: RecordType) -> Result<RrKey, Fail> {
-    Ok(RrKey::new(LowerName::parse(alloc, name)?, record_type))
-}
 
 /// An A record of host.example.com. with the address 192.0.2.`last`.
 fn host(alloc: Global, last: u8) -> Result<Record, Fail> {

@@ -1,11 +1,13 @@
 // Sets of a zone where growths are refused: what takes no memory succeeds, and what takes some is refused whole.
-use crate::fixtures::{NoHash, Zone, address, empty_zone, record, set_of, signature, take_all};
+use crate::fixtures::{
+    NoHash, Zone, address, empty_zone, key, record, set_of, signature, take_all,
+};
 use scarce::Scarcity;
 use std::alloc::Global;
 use std::collections::BTreeMap;
 use std::test::Fail;
 use zone_handler::{AxfrPolicy, ZoneType};
-use zone_proto::{LowerName, Name, RecordSet, RecordType, RrKey};
+use zone_proto::{Name, RecordSet, RecordType, RrKey};
 use zone_store::{InMemoryZoneHandler, PutRefused, ZoneError};
 
 /// How many rooms are tried before a call has to succeed.
@@ -22,11 +24,6 @@ fn signed(alloc: Global, last: u8) -> Result<RecordSet, Fail> {
     let mut set = set_of(address(alloc, 60, last)?)?;
     set.insert_rrsig(signature(alloc, "www.example.com.", 7)?)?;
     Ok(set)
-}
-
-/// The key of a name and a type.
-fn key(alloc: Global, name: &str, record_type: RecordType) -> Result<RrKey, Fail> {
-    Ok(RrKey::new(LowerName::parse(alloc, name)?, record_type))
 }
 
 /// A zone with this many sets, each with a signature.
