@@ -37,6 +37,16 @@ impl Scarcity {
         Ok(all)
     }
 
+    /// Takes all memory, so that every growth is refused until the value is dropped.
+    pub fn of_all(alloc: Global) -> Result<Scarcity, AllocError> {
+        let mut all = Scarcity::begin(alloc, 0)?;
+        if all.leave(0) {
+            Ok(all)
+        } else {
+            Err(AllocError)
+        }
+    }
+
     /// Takes what is free, and then gives back `room` octets in one piece; at 0 every growth is refused. False if the
     /// calls that `begin` was told of are used up, or the room is 64 KiB or more.
     pub fn leave(&mut self, room: usize) -> bool {

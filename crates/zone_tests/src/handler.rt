@@ -1,7 +1,7 @@
 // What a handler answers: texts of errors and steps, the lists of answers, and a handler through its trait.
 ghost use Rattle.std.specs.Prelude.{◌≡◌, true};
 
-use crate::fixtures::signature;
+use crate::signatures::signature;
 use std::alloc::Global;
 use std::io;
 use std::test::Fail;

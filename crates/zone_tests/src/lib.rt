@@ -1,8 +1,6 @@
-//! Tests that cross crates.
+//! Tests of names, records, sets, answers and the program.
 #![tactic(auto)]
 
-#[cfg(test)]
-mod fixtures;
 #[cfg(test)]
 mod handler;
 #[cfg(test)]
@@ -24,14 +22,8 @@ mod sets;
 #[cfg(test)]
 mod sets_memory;
 #[cfg(test)]
+mod signatures;
+#[cfg(test)]
 mod streams;
 #[cfg(test)]
 mod types;
-#[cfg(test)]
-mod zone;
-#[cfg(test)]
-mod zone_memory;
-#[cfg(test)]
-mod zone_sets;
-#[cfg(test)]
-mod zone_sets_memory;

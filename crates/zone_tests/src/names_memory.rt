@@ -1,5 +1,4 @@
 // Names where growths are refused: what takes no memory succeeds, and what takes some is refused whole.
-use crate::fixtures::take_all;
 use scarce::Scarcity;
 use std::alloc::Global;
 use std::cmp::Ordering;
@@ -107,7 +106,7 @@ fn names_are_made_without_memory(rt: HostRuntime) -> Result<(), Fail> {
     let alloc = rt.alloc();
     let labels = vec![in alloc; vec![in alloc; b'A'; 1]?]?;
     let also_labels = vec![in alloc; vec![in alloc; b'A'; 1]?]?;
-    let scarce = take_all(alloc)?;
+    let scarce = Scarcity::of_all(alloc)?;
     assert!(rt; Name::root(alloc).is_root());
     assert!(rt; LowerName::root(alloc).is_root());
     assert!(rt; Name::from_labels(labels).is_ok());
@@ -122,7 +121,7 @@ fn bad_names_are_refused_without_memory(rt: HostRuntime) -> Result<(), Fail> {
     let empty = vec![in alloc; Vec::new(alloc)]?;
     let long = vec![in alloc; vec![in alloc; b'A'; 64]?]?;
     let name = Name::parse(alloc, "A.b.Example.")?;
-    let scarce = take_all(alloc)?;
+    let scarce = Scarcity::of_all(alloc)?;
     assert!(rt; Name::from_labels(empty).err() == Some(ProtoError::EmptyLabel));
     assert!(rt; LowerName::from_labels(long).err() == Some(ProtoError::LabelTooLong));
     assert!(rt; Name::parse(alloc, "").err() == Some(ProtoError::BadText));
@@ -144,7 +143,7 @@ fn count(suffixes: Suffixes<'_>) -> usize {
 fn names_are_looked_at_without_memory(rt: HostRuntime) -> Result<(), Fail> {
     let alloc = rt.alloc();
     let name = Name::parse(alloc, "A.b.Example.")?;
-    let scarce = take_all(alloc)?;
+    let scarce = Scarcity::of_all(alloc)?;
     assert!(rt; name.labels().len() == 3 && name.num_labels() == 3);
     assert!(rt; !name.is_root() && !name.is_wildcard());
     assert!(rt; count(name.suffixes()) == 4);
@@ -157,7 +156,7 @@ fn names_are_looked_at_without_memory(rt: HostRuntime) -> Result<(), Fail> {
 fn lower_names_are_looked_at_without_memory(rt: HostRuntime) -> Result<(), Fail> {
     let alloc = rt.alloc();
     let name = LowerName::parse(alloc, "A.b.Example.")?;
-    let scarce = take_all(alloc)?;
+    let scarce = Scarcity::of_all(alloc)?;
     assert!(rt; name.labels().len() == 3 && name.num_labels() == 3);
     assert!(rt; !name.is_root() && !name.is_wildcard());
     assert!(rt; count(name.suffixes()) == 4);
@@ -171,7 +170,7 @@ fn names_are_changed_without_memory(rt: HostRuntime) -> Result<(), Fail> {
     let alloc = rt.alloc();
     let name = Name::parse(alloc, "A.b.Example.")?;
     let mut lower = LowerName::new(&name)?;
-    let scarce = take_all(alloc)?;
+    let scarce = Scarcity::of_all(alloc)?;
     assert!(rt; name.into_wildcard().is_wildcard());
     lower.shorten();
     let key = RrKey::new(lower.into_wildcard(), RecordType::A);

@@ -1,7 +1,7 @@
 // Record sets: insertion case by case, what is lent, what is equal, and signers and hashes through their bounds.
 ghost use Rattle.std.specs.Prelude.{◌≡◌};
 
-use crate::fixtures::{rrsig, signature};
+use crate::signatures::{rrsig, signature};
 use std::alloc::Global;
 use std::test::Fail;
 use zone_proto::{

@@ -1,5 +1,5 @@
 // A zone where growths are refused: what takes no memory succeeds, and what takes some is refused whole.
-use crate::fixtures::{NoHash, NoSigner, Zone, address, empty_zone, record, take_all, zone};
+use crate::fixtures::{NoHash, NoSigner, Zone, address, empty_zone, record, zone};
 use scarce::Scarcity;
 use std::alloc::Global;
 use std::test::Fail;
@@ -303,7 +303,7 @@ fn reads_without_memory_are_refused_and_then_answered(rt: HostRuntime) -> Result
 fn zones_are_made_without_memory(rt: HostRuntime) -> Result<(), Fail> {
     let alloc = rt.alloc();
     let origin = Name::parse(alloc, "Example.com.")?;
-    let scarce = take_all(alloc)?;
+    let scarce = Scarcity::of_all(alloc)?;
     let inner: InnerInMemory<NoSigner> = InnerInMemory::new(alloc);
     drop(inner);
     let zone: Zone = InMemoryZoneHandler::empty(
@@ -327,7 +327,7 @@ fn zones_are_read_without_memory(rt: HostRuntime) -> Result<(), Fail> {
     let zone = zone(alloc, &[("www.example.com.", RecordType::A)])?;
     let key = RrKey::new(LowerName::parse(alloc, "www.example.com.")?, RecordType::A);
     let set = zone.records().get(&key).ok_or("no set")?;
-    let scarce = take_all(alloc)?;
+    let scarce = Scarcity::of_all(alloc)?;
     assert!(rt; zone.class() == DNSClass::IN);
     assert!(rt; zone.origin().num_labels() == 2);
     assert!(rt; zone.axfr_policy() == AxfrPolicy::AllowAll);

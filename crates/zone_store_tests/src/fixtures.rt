@@ -1,5 +1,4 @@
 // Records and zones for tests, and what a zone answers, as text.
-use scarce::Scarcity;
 use std::alloc::Global;
 use std::test::Fail;
 use zone_handler::{
@@ -112,6 +111,17 @@ pub(crate) fn record(
             types: Seq::new(alloc),
         }),
         RecordType::SOA => RData::SOA(soa(alloc, 1)?),
+        RecordType::RRSIG => RData::RRSIG(RRSIG {
+            type_covered: RecordType::A,
+            algorithm: 253,
+            num_labels: 3,
+            original_ttl: 60,
+            expiration: 2_000,
+            inception: 1_000,
+            key_tag: 7,
+            signer_name: target,
+            signature: Seq::new(alloc),
+        }),
         other => match OtherData::new(other, Vec::new(alloc)) {
             Some(other) => RData::Other(other),
             None => return Err(ProtoError::BadText),
@@ -186,15 +196,6 @@ fn answer_text(alloc: Global, answer: &AuthLookup) -> Result<String, Fail> {
     Ok(text)
 }
 
-/// Takes all memory, so that every growth is refused until the value is dropped.
-pub(crate) fn take_all(alloc: Global) -> Result<Scarcity, Fail> {
-    let mut scarce = Scarcity::begin(alloc, 1)?;
-    if !scarce.leave(0) {
-        return Err(Fail::new("some memory is left"));
-    }
-    Ok(scarce)
-}
-
 /// The set of one record, with serial 0.
 pub(crate) fn set_of(record: Record) -> Result<RecordSet, Fail> {
     let mut set = RecordSet::with_ttl(record.name.clone()?, record.record_type(), record.ttl);
@@ -203,25 +204,4 @@ pub(crate) fn set_of(record: Record) -> Result<RecordSet, Fail> {
     } else {
         Err(Fail::new("the set doesn't take the record"))
     }
-}
-
-/// A signature of an A set, by a key of this tag.
-pub(crate) fn rrsig(alloc: Global, key_tag: u16) -> Result<RRSIG, ProtoError> {
-    Ok(RRSIG {
-        type_covered: RecordType::A,
-        algorithm: 253,
-        num_labels: 2,
-        original_ttl: 60,
-        expiration: 2_000,
-        inception: 1_000,
-        key_tag,
-        signer_name: Name::parse(alloc, "Example.com.")?,
-        signature: Seq::new(alloc),
-    })
-}
-
-/// The record of that signature.
-pub(crate) fn signature(alloc: Global, owner: &str, key_tag: u16) -> Result<Record, ProtoError> {
-    let rdata = RData::RRSIG(rrsig(alloc, key_tag)?);
-    Ok(Record::from_rdata(Name::parse(alloc, owner)?, 60, rdata))
 }

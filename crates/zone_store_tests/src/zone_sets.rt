@@ -1,7 +1,5 @@
 // Sets that are put into a zone whole and taken out of it, and zones that are made of sets.
-use crate::fixtures::{
-    NoHash, Zone, empty_zone, key, lookup_text, record, set_of, signature, zone,
-};
+use crate::fixtures::{NoHash, Zone, empty_zone, key, lookup_text, record, set_of, zone};
 use std::alloc::Global;
 use std::collections::BTreeMap;
 use std::test::Fail;
@@ -90,7 +88,7 @@ fn a_set_is_replaced_and_taken_out(rt: HostRuntime) -> Result<(), Fail> {
     let key = key(alloc, "host.example.com.", RecordType::A)?;
     let old = set_of(host(alloc, 1)?)?;
     let mut new = set_of(host(alloc, 2)?)?;
-    new.insert_rrsig(signature(alloc, "host.example.com.", 7)?)?;
+    new.insert_rrsig(record(alloc, "host.example.com.", RecordType::RRSIG)?)?;
     assert!(rt; zone.upsert(host(alloc, 1)?, 0)?);
     assert!(rt; replaces(&mut zone, new.clone()?, Some(&old))?);
     let stored = zone.records().get(&key).ok_or("no set")?;
@@ -148,7 +146,7 @@ fn a_zone_is_made_of_the_records_of_its_sets(rt: HostRuntime) -> Result<(), Fail
         ],
     )?;
     let mut signed = set_of(host(alloc, 1)?)?;
-    signed.insert_rrsig(signature(alloc, "host.example.com.", 7)?)?;
+    signed.insert_rrsig(record(alloc, "host.example.com.", RecordType::RRSIG)?)?;
     store(
         &mut sets,
         key(alloc, "host.example.com.", RecordType::A)?,

@@ -1,7 +1,5 @@
 // Sets of a zone where growths are refused: what takes no memory succeeds, and what takes some is refused whole.
-use crate::fixtures::{
-    NoHash, Zone, address, empty_zone, key, record, set_of, signature, take_all,
-};
+use crate::fixtures::{NoHash, Zone, address, empty_zone, key, record, set_of};
 use scarce::Scarcity;
 use std::alloc::Global;
 use std::collections::BTreeMap;
@@ -22,7 +20,7 @@ const PUTS: [(u16, usize); 4] = [(0, 3), (1, 3), (11, 4), (12, 3)];
 /// The set of the addresses of www.example.com., with a signature.
 fn signed(alloc: Global, last: u8) -> Result<RecordSet, Fail> {
     let mut set = set_of(address(alloc, 60, last)?)?;
-    set.insert_rrsig(signature(alloc, "www.example.com.", 7)?)?;
+    set.insert_rrsig(record(alloc, "www.example.com.", RecordType::RRSIG)?)?;
     Ok(set)
 }
 
@@ -32,7 +30,7 @@ fn filled(alloc: Global, sets: u16) -> Result<Zone, Fail> {
     for number in 0..sets {
         let record_type = RecordType(number.saturating_add(300));
         let mut set = set_of(record(alloc, "host.example.com.", record_type)?)?;
-        set.insert_rrsig(signature(alloc, "host.example.com.", 7)?)?;
+        set.insert_rrsig(record(alloc, "host.example.com.", RecordType::RRSIG)?)?;
         if zone.put_set(set).is_err() {
             return Err(Fail::new("the set is refused"));
         }
@@ -165,7 +163,7 @@ fn sets_are_taken_out_without_memory(rt: HostRuntime) -> Result<(), Fail> {
     let first = key(alloc, "host.example.com.", RecordType(300))?;
     let last = key(alloc, "host.example.com.", RecordType(329))?;
     let absent = key(alloc, "host.example.com.", RecordType(330))?;
-    let scarce = take_all(alloc)?;
+    let scarce = Scarcity::of_all(alloc)?;
     let taken = zone.remove_set(&first);
     assert!(rt; taken.is_some_and(|set| set.rrsigs().len() == 1));
     assert!(rt; zone.remove_set(&last).is_some());
