@@ -14,9 +14,6 @@ const ROOMS: usize = 400;
 /// How many octets more each room has.
 const STEP: usize = 16;
 
-/// The same where a whole zone is made.
-const WIDE_STEP: usize = 64;
-
 /// How many other sets a zone has, and how many growths it takes at least to put one more set.
 const PUTS: [(u16, usize); 4] = [(0, 3), (1, 3), (11, 4), (12, 3)];
 
@@ -118,7 +115,7 @@ struct Parts {
 /// isn't made, or a refusal is another.
 fn construction_refusals(scarce: &mut Scarcity, mut copies: Vec<Parts>) -> Option<(usize, Zone)> {
     for step in 0..ROOMS {
-        if !scarce.leave(step.saturating_mul(WIDE_STEP)) {
+        if !scarce.leave(step.saturating_mul(STEP)) {
             return None;
         }
         let parts = copies.pop()?;
