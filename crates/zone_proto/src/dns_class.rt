@@ -15,6 +15,7 @@ impl DNSClass {
     pub const CH: DNSClass = DNSClass(3);
 }
 
+/// `IN`, `CH`, or `CLASS` and the number (RFC 3597 section 5).
 impl fmt::Display for DNSClass {
     ghost output = { λ c. Some (class_text c.0) };
 

@@ -54,10 +54,7 @@ impl LowerName {
         ensures ok { IfOk result (λ n. n ≡ lower (octets_of labels.items)) }
         ensures refusal { MatchResult result (λ _. fault_of (octets_of labels.items) ≡ None) (λ e. fault_of (octets_of labels.items) ≡ Some e) }
     {
-        match Name::from_labels(labels) {
-            Ok(name) => Ok(LowerName::from(name)),
-            Err(fault) => Err(fault),
-        }
+        Ok(LowerName::from(Name::from_labels(labels)?))
     }
 
     /// Reads the text form of a name, and puts the name into lower case. Reads and refuses as `Name::parse` does.
@@ -65,10 +62,7 @@ impl LowerName {
         ensures ok { IfOk result (λ n. (name : Name) × IsNameText text.now name × (n ≡ lower name)) }
         ensures refusal { MatchResult result (λ _. fault_of_text text.now ≡ None) (IsFaultOrMemory (fault_of_text text.now)) }
     {
-        match Name::parse(alloc, text) {
-            Ok(name) => Ok(LowerName::from(name)),
-            Err(fault) => Err(fault),
-        }
+        Ok(LowerName::from(Name::parse(alloc, text)?))
     }
 
     /// The labels, leftmost first.
@@ -143,10 +137,7 @@ impl LowerName {
         ensures ok { IfOk result (λ n. n ≡ lower_label label.now ∷ self.now) }
         ensures refusal { MatchResult result (λ _. fault_of (label.now ∷ self.now) ≡ None) (IsFaultOrMemory (fault_of (label.now ∷ self.now))) }
     {
-        match self.name.prepend_label(label) {
-            Ok(name) => Ok(LowerName::from(name)),
-            Err(fault) => Err(fault),
-        }
+        Ok(LowerName::from(self.name.prepend_label(label)?))
     }
 
     /// Lends the labels of the name and of each of its ancestors, from the whole name down to the root. Takes no memory.

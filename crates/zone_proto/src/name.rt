@@ -58,10 +58,8 @@ impl Name {
         ensures ok { IfOk result (λ n. n ≡ octets_of labels.items) }
         ensures refusal { MatchResult result (λ _. fault_of (octets_of labels.items) ≡ None) (λ e. fault_of (octets_of labels.items) ≡ Some e) }
     {
-        match check_labels(&labels) {
-            Ok(()) => Ok(Name { labels }),
-            Err(fault) => Err(fault),
-        }
+        check_labels(&labels)?;
+        Ok(Name { labels })
     }
 
     /// Reads the text form of a name (RFC 1035 section 5.1).
@@ -76,10 +74,7 @@ impl Name {
         ensures ok { IfOk result (IsNameText text.now) }
         ensures refusal { MatchResult result (λ _. fault_of_text text.now ≡ None) (IsFaultOrMemory (fault_of_text text.now)) }
     {
-        match read_labels(alloc, text) {
-            Ok(labels) => Name::from_labels(labels),
-            Err(fault) => Err(fault),
-        }
+        Name::from_labels(read_labels(alloc, text)?)
     }
 
     /// The labels, leftmost first.
@@ -173,15 +168,11 @@ impl Name {
         ensures ok { IfOk result (λ n. n ≡ label.now ∷ self.now) }
         ensures refusal { MatchResult result (λ _. fault_of (label.now ∷ self.now) ≡ None) (IsFaultOrMemory (fault_of (label.now ∷ self.now))) }
     {
-        match check_prepended(label, &self.labels) {
-            Ok(()) => {
-                let mut labels = Vec::with_capacity(self.alloc(), self.labels.len() + 1)?;
-                labels.push(Vec::from_slice(self.alloc(), label)?)?;
-                push_copies(&mut labels, &self.labels)?;
-                Ok(Name { labels })
-            }
-            Err(fault) => Err(fault),
-        }
+        check_prepended(label, &self.labels)?;
+        let mut labels = Vec::with_capacity(self.alloc(), self.labels.len() + 1)?;
+        labels.push(Vec::from_slice(self.alloc(), label)?)?;
+        push_copies(&mut labels, &self.labels)?;
+        Ok(Name { labels })
     }
 
     /// Lends the labels of the name and of each of its ancestors, from the whole name down to the root. Takes no memory.

@@ -174,6 +174,7 @@ fn is_digits(text: &str) -> bool
     text.bytes().all(|octet| octet.is_ascii_digit())
 }
 
+/// The word of the type, or `TYPE` and its number where it has none (RFC 3597 section 5).
 impl fmt::Display for RecordType {
     ghost output = { λ t. Some (type_text t.0) };
 

@@ -19,6 +19,7 @@ pub enum ResponseCode {
     Other(u16),
 }
 
+/// The word of the code, or `RCODE` and the number.
 impl fmt::Display for ResponseCode {
     ghost use Rattle.std.specs.Prelude.{Some};
     ghost use Rattle.zone_proto.specs.TypeText.{response_code_text};

@@ -36,6 +36,7 @@ impl RrKey {
     {
         // Its clauses say that the octets are in range.
         let _ = self.name.labels();
+        // The pattern says that the number is in range.
         let RecordType(number) = self.record_type;
         Ok(RrKey::new(self.name.clone()?, RecordType(number)))
     }
