@@ -29,16 +29,6 @@ pub label_fault-none : (ls : List (List ℕ)) → AllByRecursion IsLabel ls → 
 label_fault-none [] h = refl
 label_fault-none (l ∷ ls) h = label_passed l ls h.0.some h.0.short ∙ label_fault-none ls h.1
 
-pub empty_fault : (l : List ℕ) (ls : List (List ℕ)) → length l ≡ 0 → fault_of (l ∷ ls) ≡ Some EmptyLabel
-empty_fault l ls h =
-    ap (λ t. first_of_faults (cond t (Some EmptyLabel) (cond (nat_lt 63 (length l)) (Some LabelTooLong) (label_fault ls))) (length_fault (l ∷ ls))) (is_empty (length l) h)
-
-pub long_fault : (l : List ℕ) (ls : List (List ℕ)) → 63 < length l → fault_of (l ∷ ls) ≡ Some LabelTooLong
-long_fault l ls h =
-    let some : 0 < length l = omega arith in
-    ap (λ t. first_of_faults (cond t (Some EmptyLabel) (cond (nat_lt 63 (length l)) (Some LabelTooLong) (label_fault ls))) (length_fault (l ∷ ls))) (is_some (length l) some)
-    ∙ ap (λ t. first_of_faults (cond t (Some LabelTooLong) (label_fault ls)) (length_fault (l ∷ ls))) (is_less 63 (length l) h)
-
 -- where each label is one, only the length of the whole is left to look at
 fault_is_length : (l : List ℕ) (ls : List (List ℕ)) → 0 < length l → length l ≤ 63 → AllByRecursion IsLabel ls → fault_of (l ∷ ls) ≡ length_fault (l ∷ ls)
 fault_is_length l ls some short h = ap (λ f. first_of_faults f (length_fault (l ∷ ls))) (label_passed l ls some short ∙ label_fault-none ls h)

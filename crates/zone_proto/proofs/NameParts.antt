@@ -8,10 +8,6 @@ pub IsName-base : (n : Name) → IsName n → IsName (drop 1 n)
 IsName-base [] h = h
 IsName-base (l ∷ ls) h = let short : length l + 1 + wire_length ls ≤ 255 = h.short in record { labels = h.labels.1; short = omega arith }
 
-pub IsLowerName-base : (n : Name) → IsLowerName n → IsLowerName (drop 1 n)
-IsLowerName-base [] h = h
-IsLowerName-base (l ∷ ls) h = record { name = IsName-base (l ∷ ls) h.name; lower = ap (drop 1) h.lower }
-
 star_is_label : IsLabel star_label
 star_is_label = record { some = omega arith; short = omega arith; octets = (omega arith, tt) }
 
@@ -21,10 +17,6 @@ IsName-wildcard (l ∷ ls) h =
     let short : length l + 1 + wire_length ls ≤ 255 = h.short in
     let some : 0 < length l = h.labels.0.some in
     record { labels = (star_is_label, h.labels.1); short = omega arith }
-
-pub IsLowerName-wildcard : (n : Name) → IsLowerName n → IsLowerName (wildcard_of n)
-IsLowerName-wildcard [] h = h
-IsLowerName-wildcard (l ∷ ls) h = record { name = IsName-wildcard (l ∷ ls) h.name; lower = λ i. star_label ∷ drop 1 (h.lower i) }
 
 octets-append : (xs ys : List ℕ) → AllByRecursion IsOctet xs → AllByRecursion IsOctet ys → AllByRecursion IsOctet (xs ++ ys)
 octets-append [] ys h g = g

@@ -25,9 +25,6 @@ drop_from_at_or_above a n w =
     let len : length n - length a ≡ length w.0 = omega (arith, ap length w.1, length-append w.0 a) in
     (λ i. drop (len i) (w.1 i)) ∙ drop-append_seam w.0 a
 
-pub at_or_above_length : (a n : Name) → IsAtOrAbove a n → length a ≤ length n
-at_or_above_length a n w = omega (arith, ap length w.1, length-append w.0 a)
-
 -- ---- the tests
 
 pub name_eq-Decides : (a n : Name) → Decides (name_eq a n) (a ≡ n)

@@ -23,9 +23,6 @@ pub record IsOrder {K : Type 0} (R : K → K → Ordering) : Type 0 where
   pub total : IsTotalOrder R
   pub exact : (x y : K) → R x y ≡ Equal → x ≡ y
 
-pub flipped : {K : Type 0} {R : K → K → Ordering} → IsOrder R → IsOrder (flip_args R)
-flipped o = record { total = back_total o.total; exact = λ x y e. sym (o.exact y x e) }
-
 module _ {K : Type 0} {R : K → K → Ordering} (o : IsOrder R) where
   pub irrefl : (x : K) → R x x ≡ Less → ⊥
   irrefl x e = true≢false (sym (ap is_lt e) ∙ ap is_lt (tied_itself o.total x))
@@ -140,6 +137,3 @@ module _ {K : Type 0} {R : K → K → Ordering} (o : IsOrder R) where
       by None e (Some n) d = absurd (greatest_none xs e n (g n (greatest_is ys n d).among))
       by (Some m) e None d = absurd (greatest_none ys d m (f m (greatest_is xs m e).among))
       by (Some m) e (Some n) d = sym e ∙ greatest_from xs n (record { among = g n (greatest_is ys n d).among; none_greater = λ y i l. (greatest_is ys n d).none_greater y (f y i) l })
-
-pub nat_order : IsOrder nat_cmp
-nat_order = record { total = nat_cmp_total; exact = nat_cmp-IsAntisymmetric }

@@ -103,10 +103,6 @@ pub IsSet-with : (owner : List (List ℕ)) (t : ℕ) (rs : List Record) (r : Rec
     → IsSet owner t (records_with rs r)
 IsSet-with owner t rs r o k i p = with_one (is_single (type_of r.rdata)) owner t rs r refl o k i p
 
--- what is a set stays one along equations of its parts
-pub IsSet-along : {o o' : List (List ℕ)} {t t' : ℕ} {rs rs' : List Record} → o' ≡ o → t' ≡ t → rs' ≡ rs → IsSet o t rs → IsSet o' t' rs'
-IsSet-along p q e h = rw (p, q, e) h
-
 -- where one number isn't less than another, this is at most that
 not_less : {X : Type 0} (old new : ℕ) (x y : X) → (if nat_lt old new then x else y) ≡ (if nat_le new old then y else x)
 not_less old new x y = grind (arith, leb_tells)
@@ -143,15 +139,6 @@ pub inserted_taken : (s : RRset) (r : Record) (serial : ℕ)
     → is_refused s.records r.rdata ≡ false
     → inserted s r serial ≡ Some (with_records s (records_with s.records r) r serial)
 inserted_taken s r serial i k p =
-    inserted_is s r serial i k
-    ∙ ap (λ (b : Bool). if b then None else Some (with_records s (records_with s.records r) r serial)) p
-
-pub inserted_refused : (s : RRset) (r : Record) (serial : ℕ)
-    → IsSet s.owner s.record_type s.records
-    → type_of r.rdata ≡ s.record_type
-    → is_refused s.records r.rdata ≡ true
-    → inserted s r serial ≡ None
-inserted_refused s r serial i k p =
     inserted_is s r serial i k
     ∙ ap (λ (b : Bool). if b then None else Some (with_records s (records_with s.records r) r serial)) p
 

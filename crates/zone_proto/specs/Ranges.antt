@@ -1,4 +1,4 @@
--- Numbers as they stand in names, keys and digests.
+-- Numbers as they stand in names and keys.
 use Rattle.std.specs.Prelude.{ℕ, ◌<◌, List, []}
 use Rattle.std.specs.List.{AllByRecursion, flat_map}
 
@@ -22,7 +22,3 @@ octets_of_labels = flat_map (λ l. l)
 -- a name whose octets are so
 abbrev pub IsNameInRange : List (List ℕ) → Type 0
 IsNameInRange n = IsInRange (octets_of_labels n) []
-
--- a digest whose octets are so
-abbrev pub IsDigestInRange : List ℕ → Type 0
-IsDigestInRange d = IsInRange d []

@@ -1,4 +1,4 @@
--- What the lists of a map's owners, types and names have in them
+-- What the lists of a map's types and names have in them
 use Rattle.std.proofs.Common.{◌≡◌, ℕ, Bool, true, false, cond, [], ◌∷◌, refl, sym, ap, ◌∙◌, inl, inr, true≢false}
 use Rattle.std.specs.Prelude.{Option, Some, None, is_some, IfSome, option_copied}
 use Rattle.std.specs.Borrow.{Bor}
@@ -36,9 +36,6 @@ set_of m n t h = by (set_at m n t) refl h
     by None e h = absurd (true≢false (sym h))
     by (Some s) e h = (s, e)
 
-pub owned_at : (m : Sets) (n : Name) (t : ℕ) (s : RRset) → set_at m n t ≡ Some s → owns m n t ≡ true
-owned_at m n t s e = ap is_some e
-
 -- a `cond` that gives a value passed its test, and gave that value
 given : {A : Type 0} (b : Bool) (x y : A) → cond b (Some x) None ≡ Some y → (b ≡ true) × (x ≡ y)
 given true x y e = (refl, cc)
@@ -57,14 +54,6 @@ type_owned m n t i =
     let r = In-from_filter_map (λ (d : RrKey × RRset). cond (name_eq n d.0.name) (Some d.0.record_type.0) None) t m i in
     let g = given (name_eq n r.0.0.name) r.0.0.record_type.0 t r.2 in
     entry_owned m n t r.0 r.1 (λ j. key (sym ((name_eq-Decides n r.0.0.name).0 g.0) j) (g.1 j))
-
-pub name_in : (m : Sets) (n : Name) (t : ℕ) → owns m n t ≡ true → In n (names_of m)
-name_in m n t h = let e = has_entry m n t h in In-map (λ (d : RrKey × RRset). d.0.name) (key n t, e.0) m e.1
-
-pub name_owns : (m : Sets) (n : Name) → In n (names_of m) → (t : ℕ) × (owns m n t ≡ true)
-name_owns m n i =
-    let r = In-from_map (λ (d : RrKey × RRset). d.0.name) n m i in
-    (r.0.0.record_type.0, entry_owned m n r.0.0.record_type.0 r.0 r.1 (λ j. key (r.2 j) r.0.0.record_type.0))
 
 -- a set that a look-up finds is stored as it is to be
 pub found_stored : (m : Sets) (n : Name) (t : ℕ) (r : Option (Bor RRset)) → option_copied r ≡ set_at m n t → IsRecordMap m → IfSome r (λ s. IsStoredAt n t s.now)

@@ -24,10 +24,6 @@ owns m n t = is_some (set_at m n t)
 abbrev pub names_of : Sets → List Name
 names_of m = map (λ e. e.0.name) m
 
--- the names that own a type, ascending
-abbrev pub owners : Sets → ℕ → List Name
-owners m t = filter_map (λ e. cond (t == e.0.record_type.0) (Some e.0.name) None) m
-
 -- the types that a name owns, ascending
 abbrev pub types_at : Sets → Name → List ℕ
 types_at m n = filter_map (λ e. cond (name_eq n e.0.name) (Some e.0.record_type.0) None) m
