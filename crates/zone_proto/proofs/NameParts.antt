@@ -1,22 +1,8 @@
--- Parts of a name, and names with one label changed, are names.
-use Rattle.std.proofs.Common.{ℕ, ◌+◌, ◌<◌, ◌≤◌, List, [], ◌∷◌, ◌++◌, length, drop, ap, arith}
+-- The octets of a name are in range.
+use Rattle.std.proofs.Common.{ℕ, List, [], ◌∷◌, ◌++◌}
 use Rattle.std.specs.List.{AllByRecursion}
 use Rattle.zone_proto.specs.Ranges.{IsOctet, IsNameInRange, octets_of_labels}
-use Rattle.zone_proto.specs.Names.{Name, IsLabel, IsName, IsLowerName, wire_length, wildcard_of, star_label}
-
-pub IsName-base : (n : Name) → IsName n → IsName (drop 1 n)
-IsName-base [] h = h
-IsName-base (l ∷ ls) h = let short : length l + 1 + wire_length ls ≤ 255 = h.short in record { labels = h.labels.1; short = omega arith }
-
-star_is_label : IsLabel star_label
-star_is_label = record { some = omega arith; short = omega arith; octets = (omega arith, tt) }
-
-pub IsName-wildcard : (n : Name) → IsName n → IsName (wildcard_of n)
-IsName-wildcard [] h = h
-IsName-wildcard (l ∷ ls) h =
-    let short : length l + 1 + wire_length ls ≤ 255 = h.short in
-    let some : 0 < length l = h.labels.0.some in
-    record { labels = (star_is_label, h.labels.1); short = omega arith }
+use Rattle.zone_proto.specs.Names.{Name, IsLabel, IsName}
 
 octets-append : (xs ys : List ℕ) → AllByRecursion IsOctet xs → AllByRecursion IsOctet ys → AllByRecursion IsOctet (xs ++ ys)
 octets-append [] ys h g = g

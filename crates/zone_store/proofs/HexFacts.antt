@@ -1,7 +1,6 @@
 -- Facts about hex that is read from the left.
-use Rattle.std.proofs.Common.{◌≡◌, ℕ, ◌+◌, ◌*◌, List, [], ◌∷◌, ◌++◌, Option, Some, None, refl, ap, append_assoc, sym, ◌∙◌, append-nil}
+use Rattle.std.proofs.Common.{◌≡◌, ℕ, List, [], ◌∷◌, ◌++◌, Option, Some, None, refl, ap, append_assoc, append-nil}
 use Rattle.std.specs.Prelude.{option_map}
-use Rattle.zone_store.specs.Hex.{hex_octets, hex_octet, hex_digit}
 
 -- what is read, once these octets stand before what is read of the rest
 abbrev pub after_octets : List ℕ → Option (List ℕ) → Option (List ℕ)

@@ -9,9 +9,9 @@ use Rattle.zone_proto.specs.Keys.{key, key_eq}
 use Rattle.zone_proto.specs.Names.{Name, name_eq}
 use Rattle.zone_proto.specs.Sets.{RRset}
 use Rattle.zone_proto.proofs.KeyOrder.{key_same, key_itself}
-use Rattle.zone_proto.proofs.Members.{In, any_from_In, In-filter_map, In-from_filter_map, In-map, In-from_map}
+use Rattle.zone_proto.proofs.Members.{In, any_from_In, In-filter_map, In-from_filter_map, In-map}
 use Rattle.zone_proto.proofs.NameTree.{name_eq-Decides}
-use Rattle.zone_store.specs.Zones.{Sets, set_at, owns, types_at, names_of, IsStoredAt, IsRecordMap}
+use Rattle.zone_store.specs.Zones.{Sets, set_at, owns, types_at, IsStoredAt, IsRecordMap}
 
 -- an entry of an owned key stands in the map
 pub has_entry : (m : Sets) (n : Name) (t : ℕ) → owns m n t ≡ true → (s : RRset) × In (key n t, s) m
