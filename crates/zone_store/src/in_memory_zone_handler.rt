@@ -25,6 +25,9 @@ use zone_proto::{
     RrKey, SOA, Signer,
 };
 
+// The class of every zone that is made here.
+const CLASS: DNSClass = DNSClass::IN;
+
 /// An authoritative zone in memory.
 ///
 /// `S` is what signs its record sets, and `H` hashes the names of NSEC3 denials.
@@ -88,7 +91,7 @@ impl<S: Signer, H: Nsec3Hash> InMemoryZoneHandler<S, H> {
         let alloc = origin.alloc();
         InMemoryZoneHandler {
             apex: RrKey::new(LowerName::from(origin), RecordType::SOA),
-            class: DNSClass::IN,
+            class: CLASS,
             zone_type,
             axfr_policy,
             nx_proof_kind,
@@ -131,18 +134,16 @@ impl<S: Signer, H: Nsec3Hash> InMemoryZoneHandler<S, H> {
             return Err(ZoneError::Memory);
         };
         let apex = RrKey::new(name, RecordType::SOA);
-        match construction::make(&origin, &apex, &records) {
-            Ok(map) => Ok(InMemoryZoneHandler {
-                apex,
-                class: DNSClass::IN,
-                zone_type,
-                axfr_policy,
-                nx_proof_kind,
-                inner: InnerInMemory::with_records(alloc, map),
-                hash,
-            }),
-            Err(error) => Err(error),
-        }
+        let map = construction::make(&origin, &apex, &records)?;
+        Ok(InMemoryZoneHandler {
+            apex,
+            class: CLASS,
+            zone_type,
+            axfr_policy,
+            nx_proof_kind,
+            inner: InnerInMemory::with_records(alloc, map),
+            hash,
+        })
     }
 
     /// The zone's class.
@@ -247,8 +248,8 @@ impl<S: Signer, H: Nsec3Hash> InMemoryZoneHandler<S, H> {
         };
         let key = RrKey::new(name, set.record_type());
         match self.inner.put(key, set) {
-            Ok(before) => return Ok(before),
-            Err(set) => return Err(PutRefused::Memory(set)),
+            Ok(before) => Ok(before),
+            Err(set) => Err(PutRefused::Memory(set)),
         }
     }
 

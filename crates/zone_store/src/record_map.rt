@@ -71,8 +71,8 @@ impl RecordMap {
         ensures same { OnErr result (self.new ≡ self.old) }
     {
         match self.sets.insert(key, set) {
-            Ok(before) => return Ok(before),
-            Err(failed) => return Err(failed.value.1),
+            Ok(before) => Ok(before),
+            Err(failed) => Err(failed.value.1),
         }
     }
 
