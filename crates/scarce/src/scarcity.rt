@@ -68,6 +68,27 @@ impl Scarcity {
         }
     }
 
+    /// Makes a call with no room, then with `step` octets more each time, until it gives something: that it gives
+    /// nothing says that memory was refused to it. Answers how often that was, and what it gave in the end; nothing if
+    /// it gave nothing in all the rooms that `begin` was told of.
+    pub fn until_given<T: Drop, F: FnMut() -> Option<T>>(
+        &mut self,
+        step: usize,
+        mut call: F,
+    ) -> Option<(usize, T)>
+        requires { F.IsAlwaysCallable call }
+    {
+        for refused in 0..self.pots.len() {
+            if !self.leave(refused.saturating_mul(step)) {
+                return None;
+            }
+            if let Some(given) = call() {
+                return Some((refused, given));
+            }
+        }
+        None
+    }
+
     /// Keeps a block, if the list of blocks has room for it.
     fn hold(&mut self, block: Vec<u8>) -> bool {
         if self.held.len() < self.held.capacity() {

@@ -62,26 +62,12 @@ fn make_call(call: Call, alloc: Global, name: &Name, key: &RrKey) -> Option<Prot
     }
 }
 
-/// How often the call is refused for want of memory before it succeeds, with more room each time. None if it does not
-/// succeed, or is refused for another reason.
-fn refusals(
-    scarce: &mut Scarcity,
-    call: Call,
-    alloc: Global,
-    name: &Name,
-    key: &RrKey,
-) -> Option<usize> {
-    for step in 0..ROOMS {
-        if !scarce.leave(step.saturating_mul(STEP)) {
-            return None;
-        }
-        match make_call(call, alloc, name, key) {
-            None => return Some(step),
-            Some(ProtoError::Memory) => {}
-            Some(_) => return None,
-        }
+/// Why a call is refused in the end, if it is; nothing where memory was refused to it.
+fn outcome(refusal: Option<ProtoError>) -> Option<Option<ProtoError>> {
+    match refusal {
+        Some(ProtoError::Memory) => None,
+        other => Some(other),
     }
-    None
 }
 
 #[test]
@@ -91,10 +77,9 @@ fn growths_are_refused_in_turn(rt: HostRuntime) -> Result<(), Fail> {
     let key = RrKey::new(LowerName::parse(alloc, "a.b.example.")?, RecordType::A);
     let mut scarce = Scarcity::begin(alloc, CALLS.len() * ROOMS)?;
     for (call, growths) in CALLS {
-        match refusals(&mut scarce, call, alloc, &name, &key) {
-            Some(refused) => assert!(rt; refused >= growths, "{call:?}"),
-            None => assert!(rt; false, "{call:?}"),
-        }
+        let tried = scarce.until_given(STEP, || outcome(make_call(call, alloc, &name, &key)));
+        let is_done = matches!(tried, Some((refused, None)) if refused >= growths);
+        assert!(rt; is_done, "{call:?}");
     }
     drop(scarce);
     assert!(rt; name == Name::from(key.name), "the names are as they were");

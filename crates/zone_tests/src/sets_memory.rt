@@ -13,30 +13,23 @@ const ROOMS: usize = 100;
 /// How many octets more each room has.
 const STEP: usize = 16;
 
-/// Tries a call with more and more room until it succeeds. Before that it has to answer `Memory`, at least so often, and
-/// to leave what `$unchanged` tests.
-macro_rules! refused_then_done {
-    ($rt:ident, $scarce:ident, $least:literal, $call:expr, $unchanged:expr) => {{
-        let mut room = 0usize;
-        let mut refused = 0usize;
-        let mut done = false;
-        for _ in 0..ROOMS {
-            assert!($rt; $scarce.leave(room));
-            match $call {
-                Ok(_) => {
-                    done = true;
-                    break;
-                }
-                Err(refusal) => {
-                    assert!($rt; matches!(refusal, ProtoError::Memory));
-                    assert!($rt; $unchanged);
-                    refused = refused.saturating_add(1);
-                }
-            }
-            room = room.saturating_add(STEP);
-        }
-        assert!($rt; done && refused >= $least);
-    }};
+/// Whether a call is done; nothing where memory was refused to it.
+fn done<T: Drop>(answer: Result<T, ProtoError>) -> Option<bool> {
+    match answer {
+        Ok(_) => Some(true),
+        Err(ProtoError::Memory) => None,
+        Err(_) => Some(false),
+    }
+}
+
+/// The same for a call that has to leave what it would change as it was where memory is refused to it.
+fn done_or_same<T: Drop>(answer: Result<T, ProtoError>, is_same: bool) -> Option<bool> {
+    done(answer).or((!is_same).then_some(false))
+}
+
+/// Whether a call was done in the end, after memory was refused to it so often at least.
+fn is_done(tried: Option<(usize, bool)>, least: usize) -> bool {
+    tried.is_some_and(|(refused, is_done)| is_done && refused >= least)
 }
 
 fn name(alloc: Global) -> Result<Name, ProtoError> {
@@ -150,11 +143,13 @@ fn copies_of_data_are_refused_whole(rt: HostRuntime) -> Result<(), Fail> {
         opt_out: true,
     };
 
-    let mut scarce = Scarcity::begin(alloc, 1_500)?;
+    let mut scarce = Scarcity::begin(alloc, 13 * ROOMS)?;
     for rdata in &all {
-        refused_then_done!(rt, scarce, 1, rdata.clone(), true);
+        let copied = scarce.until_given(STEP, || done(rdata.clone()));
+        assert!(rt; is_done(copied, 1));
     }
-    refused_then_done!(rt, scarce, 1, kind.clone(), true);
+    let copied = scarce.until_given(STEP, || done(kind.clone()));
+    assert!(rt; is_done(copied, 1));
     drop(scarce);
     for rdata in &all {
         assert!(rt; rdata.clone()? == *rdata);
@@ -184,59 +179,78 @@ fn copies_of_sets_are_refused_whole(rt: HostRuntime) -> Result<(), Fail> {
     set.insert_rrsig(Record::from_rdata(name(alloc)?, 60, RData::A([192, 0, 2, 3])))?;
     let stored = Record::from_rdata(name(alloc)?, 60, RData::NS(name(alloc)?));
 
-    let mut scarce = Scarcity::begin(alloc, 300)?;
-    refused_then_done!(rt, scarce, 4, stored.clone(), true);
-    refused_then_done!(rt, scarce, 10, set.clone(), true);
+    let mut scarce = Scarcity::begin(alloc, 2 * ROOMS)?;
+    let record_copied = scarce.until_given(STEP, || done(stored.clone()));
+    let set_copied = scarce.until_given(STEP, || done(set.clone()));
     drop(scarce);
+    assert!(rt; is_done(record_copied, 4));
+    assert!(rt; is_done(set_copied, 10));
     assert!(rt; set.clone()? == set);
     Ok(())
 }
 
 #[test]
-fn refused_insertions_change_nothing(rt: HostRuntime) -> Result<(), Fail> {
+fn a_refused_first_record_leaves_a_set_without_records(rt: HostRuntime) -> Result<(), Fail> {
     let alloc = rt.alloc();
     let mut set = RecordSet::new(Name::root(alloc), RecordType::A, 1);
-    let mut named = RecordSet::with_ttl(name(alloc)?, RecordType::A, 60);
-    named.insert_rrsig(root_address(alloc, 9))?;
-    let named_before = named.clone()?;
-    let set_before = set.clone()?;
-    let mut one = set.clone()?;
-    assert!(rt; put(&mut one, root_address(alloc, 1), 2)?);
-    one.insert_rrsig(root_address(alloc, 9))?;
-    let one_before = one.clone()?;
-
-    let mut scarce = Scarcity::begin(alloc, 500)?;
-    refused_then_done!(
-        rt,
-        scarce,
-        4,
-        put(&mut set, root_address(alloc, 1), 2),
-        set == set_before
-    );
-    refused_then_done!(
-        rt,
-        scarce,
-        4,
-        put(&mut one, root_address(alloc, 2), 3),
-        one == one_before
-    );
-    refused_then_done!(
-        rt,
-        scarce,
-        6,
-        add(&mut named, RData::A([192, 0, 2, 1])),
-        named == named_before
-    );
-    assert!(rt; lent_count(&set, true) == 1 && lent_count(&one, true) == 2);
-    assert!(rt; lent_count(&named, true) == 1);
-    refused_then_done!(
-        rt,
-        scarce,
-        4,
-        set.insert_rrsig(root_address(alloc, 9)),
-        set.rrsigs().is_empty()
-    );
+    let before = set.clone()?;
+    let mut scarce = Scarcity::begin(alloc, ROOMS)?;
+    let tried = scarce.until_given(STEP, || {
+        let answer = put(&mut set, root_address(alloc, 1), 2);
+        done_or_same(answer, set == before)
+    });
     drop(scarce);
+    assert!(rt; is_done(tried, 4));
+    assert!(rt; lent_count(&set, true) == 1);
+    Ok(())
+}
+
+#[test]
+fn a_refused_record_leaves_a_set_and_its_signatures(rt: HostRuntime) -> Result<(), Fail> {
+    let alloc = rt.alloc();
+    let mut set = RecordSet::new(Name::root(alloc), RecordType::A, 1);
+    assert!(rt; put(&mut set, root_address(alloc, 1), 2)?);
+    set.insert_rrsig(root_address(alloc, 9))?;
+    let before = set.clone()?;
+    let mut scarce = Scarcity::begin(alloc, ROOMS)?;
+    let tried = scarce.until_given(STEP, || {
+        let answer = put(&mut set, root_address(alloc, 2), 3);
+        done_or_same(answer, set == before)
+    });
+    drop(scarce);
+    assert!(rt; is_done(tried, 4));
+    assert!(rt; lent_count(&set, true) == 2);
+    Ok(())
+}
+
+#[test]
+fn refused_data_leave_a_set_and_its_signatures(rt: HostRuntime) -> Result<(), Fail> {
+    let alloc = rt.alloc();
+    let mut set = RecordSet::with_ttl(name(alloc)?, RecordType::A, 60);
+    set.insert_rrsig(root_address(alloc, 9))?;
+    let before = set.clone()?;
+    let mut scarce = Scarcity::begin(alloc, ROOMS)?;
+    let tried = scarce.until_given(STEP, || {
+        let answer = add(&mut set, RData::A([192, 0, 2, 1]));
+        done_or_same(answer, set == before)
+    });
+    drop(scarce);
+    assert!(rt; is_done(tried, 6));
+    assert!(rt; lent_count(&set, true) == 1);
+    Ok(())
+}
+
+#[test]
+fn a_refused_signature_leaves_a_set_unsigned(rt: HostRuntime) -> Result<(), Fail> {
+    let alloc = rt.alloc();
+    let mut set = RecordSet::new(Name::root(alloc), RecordType::A, 1);
+    let mut scarce = Scarcity::begin(alloc, ROOMS)?;
+    let tried = scarce.until_given(STEP, || {
+        let answer = set.insert_rrsig(root_address(alloc, 9));
+        done_or_same(answer, set.rrsigs().is_empty())
+    });
+    drop(scarce);
+    assert!(rt; is_done(tried, 4));
     assert_eq!(rt; set.rrsigs().len(), 1);
     Ok(())
 }

@@ -34,6 +34,12 @@ impl<T: Drop> From<AllocFailed<T>> for Fault {
 
 /// A text that isn't a name makes its line a bad one; want of memory doesn't.
 impl From<ProtoError> for Fault {
+    ghost use Rattle.std.specs.Prelude.{◌↔◌};
+    ghost use Rattle.zone_proto.specs.declared.error.ProtoError.TheVariants as proto;
+    ghost use Rattle.zone_store.specs.declared.program.fault.Fault.TheVariants.{Memory};
+
+    ghost from_gives = { λ error f. (f ≡ Memory) ↔ (error ≡ proto.Memory) };
+
     fn from(error: ProtoError) -> Fault {
         match error {
             ProtoError::Memory => Fault::Memory,
