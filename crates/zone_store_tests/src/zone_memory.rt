@@ -42,28 +42,17 @@ fn filled(alloc: Global, sets: u16, addresses: u8) -> Result<Zone, Fail> {
     Ok(zone)
 }
 
-/// How often an insertion is refused for want of memory before the zone takes the record, with more room each time.
-/// None if it isn't taken, or a refusal is another, or doesn't leave the zone like its twin.
-fn insertion_refusals(
-    scarce: &mut Scarcity,
-    zone: &mut Zone,
-    twin: &Zone,
-    mut copies: Vec<Record>,
-) -> Option<usize> {
-    for step in 0..ROOMS {
-        if !scarce.leave(step.saturating_mul(STEP)) {
-            return None;
-        }
-        match zone.upsert(copies.pop()?, 2) {
-            Ok(taken) => return taken.then_some(step),
-            Err(error) => {
-                if !matches!(error, ZoneError::Memory) || zone.records() != twin.records() {
-                    return None;
-                }
+/// Whether the zone takes a record; nothing where memory is refused to it, which has to leave it like its twin.
+fn insertion(zone: &mut Zone, twin: &Zone, record: Record) -> Option<bool> {
+    match zone.upsert(record, 2) {
+        Ok(taken) => Some(taken),
+        Err(error) => {
+            if matches!(error, ZoneError::Memory) && zone.records() == twin.records() {
+                return None;
             }
+            Some(false)
         }
     }
-    None
 }
 
 #[test]
@@ -78,12 +67,10 @@ fn an_insertion_without_memory_leaves_the_zone_as_it_was(rt: HostRuntime) -> Res
             copies.push(address(alloc, 60, addresses)?)?;
         }
         let mut scarce = Scarcity::begin(alloc, ROOMS)?;
-        let refused = insertion_refusals(&mut scarce, &mut zone, &twin, copies);
+        let tried = scarce.until_given(STEP, || insertion(&mut zone, &twin, copies.pop()?));
         drop(scarce);
-        match refused {
-            Some(refused) => assert!(rt; refused >= growths, "{sets} {addresses} {refused}"),
-            None => assert!(rt; false, "{sets} {addresses}"),
-        }
+        let is_done = matches!(tried, Some((refused, true)) if refused >= growths);
+        assert!(rt; is_done, "{sets} {addresses}");
         assert_eq!(rt; zone.records().len(), taken.records().len());
         let answer = zone.upsert(address(alloc, 60, addresses)?, 2)?;
         assert!(rt; !answer, "the record is in the zone");
@@ -250,25 +237,6 @@ fn error_outcome(error: &LookupError) -> Outcome {
     }
 }
 
-/// How often a read is refused for want of memory before it succeeds, with more room each time, and what it gives.
-fn read_refusals(
-    scarce: &mut Scarcity,
-    read: Read,
-    zone: &Zone,
-    key: &RrKey,
-) -> Option<(usize, Outcome)> {
-    for step in 0..ROOMS {
-        if !scarce.leave(step.saturating_mul(STEP)) {
-            return None;
-        }
-        let given = read_outcome(read, zone, key);
-        if given != Outcome::Memory {
-            return Some((step, given));
-        }
-    }
-    None
-}
-
 #[test]
 fn reads_without_memory_are_refused_and_then_answered(rt: HostRuntime) -> Result<(), Fail> {
     let alloc = rt.alloc();
@@ -287,7 +255,11 @@ fn reads_without_memory_are_refused_and_then_answered(rt: HostRuntime) -> Result
     }
     let mut scarce = Scarcity::begin(alloc, READS.len() * ROOMS)?;
     for (read, key, outcome, growths) in keys {
-        match read_refusals(&mut scarce, read, &zone, &key) {
+        let tried = scarce.until_given(STEP, || {
+            let given = read_outcome(read, &zone, &key);
+            (given != Outcome::Memory).then_some(given)
+        });
+        match tried {
             Some((refused, given)) => {
                 assert!(rt; refused >= growths, "{read:?} {key:?} {refused}");
                 assert!(rt; given == outcome, "{read:?} {key:?} {given:?}");

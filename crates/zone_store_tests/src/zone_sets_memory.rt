@@ -38,31 +38,24 @@ fn filled(alloc: Global, sets: u16) -> Result<Zone, Fail> {
     Ok(zone)
 }
 
-/// How often a set is refused for want of memory before the zone takes it, with more room each time. None if it isn't
-/// taken, or a refusal doesn't hand the set back, or doesn't leave the zone like its twin.
-fn put_refusals(
-    scarce: &mut Scarcity,
+/// Whether a set is put where none stood; handed back where memory is refused to it, which has to hand it back whole and
+/// to leave the zone like its twin.
+fn putting(
     zone: &mut Zone,
     twin: &Zone,
     copy: &RecordSet,
-    mut set: RecordSet,
-) -> Option<usize> {
-    for step in 0..ROOMS {
-        if !scarce.leave(step.saturating_mul(STEP)) {
-            return None;
-        }
-        match zone.put_set(set) {
-            Ok(before) => return before.is_none().then_some(step),
-            Err(PutRefused::Empty(_)) => return None,
-            Err(PutRefused::Memory(back)) => {
-                if back != *copy || zone.records() != twin.records() {
-                    return None;
-                }
-                set = back;
+    set: RecordSet,
+) -> Result<bool, RecordSet> {
+    match zone.put_set(set) {
+        Ok(before) => Ok(before.is_none()),
+        Err(PutRefused::Empty(_)) => Ok(false),
+        Err(PutRefused::Memory(back)) => {
+            if back != *copy || zone.records() != twin.records() {
+                return Ok(false);
             }
+            Err(back)
         }
     }
-    None
 }
 
 #[test]
@@ -75,12 +68,19 @@ fn a_set_that_is_refused_for_want_of_memory_is_handed_back(rt: HostRuntime) -> R
         let copy = set.clone()?;
         let key = key(alloc, "www.example.com.", RecordType::A)?;
         let mut scarce = Scarcity::begin(alloc, ROOMS)?;
-        let refused = put_refusals(&mut scarce, &mut zone, &twin, &copy, set);
+        let mut left = Some(set);
+        let tried = scarce.until_given(STEP, || {
+            match putting(&mut zone, &twin, &copy, left.take()?) {
+                Ok(is_new) => Some(is_new),
+                Err(back) => {
+                    left = Some(back);
+                    None
+                }
+            }
+        });
         drop(scarce);
-        match refused {
-            Some(refused) => assert!(rt; refused >= growths, "{sets} {refused}"),
-            None => assert!(rt; false, "{sets}"),
-        }
+        let is_done = matches!(tried, Some((refused, true)) if refused >= growths);
+        assert!(rt; is_done, "{sets}");
         let stored = zone.records().get(&key).ok_or("no set")?;
         assert!(rt; *stored == copy && stored.rrsigs().len() == 1);
     }
@@ -114,20 +114,17 @@ struct Parts {
 /// How often a zone is refused for want of memory before it is made, with more room each time, and the zone. None if it
 /// isn't made, or a refusal is another.
 fn construction_refusals(scarce: &mut Scarcity, mut copies: Vec<Parts>) -> Option<(usize, Zone)> {
-    for step in 0..ROOMS {
-        if !scarce.leave(step.saturating_mul(STEP)) {
-            return None;
-        }
+    let (refused, zone) = scarce.until_given(STEP, || {
         let parts = copies.pop()?;
         let zone_type = ZoneType::Primary;
         let policy = AxfrPolicy::Deny;
         match InMemoryZoneHandler::new(parts.origin, parts.sets, zone_type, policy, None, NoHash) {
-            Ok(zone) => return Some((step, zone)),
-            Err(ZoneError::Memory) => {}
-            Err(_) => return None,
+            Ok(zone) => Some(Some(zone)),
+            Err(ZoneError::Memory) => None,
+            Err(_) => Some(None),
         }
-    }
-    None
+    })?;
+    Some((refused, zone?))
 }
 
 #[test]
