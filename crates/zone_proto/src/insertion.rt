@@ -1,4 +1,4 @@
-ghost use Rattle.std.specs.Prelude.{◌≡◌, ◌++◌, ◌∷◌, [], IfErr, OnOk, OnErr};
+ghost use Rattle.std.specs.Prelude.{◌≡◌, ◌++◌, ◌∷◌, [], OnOk, OnErr, IsOkUnless};
 ghost use Rattle.zone_proto.specs.Sets.{soa_serial, first_serial, is_single, stores};
 ghost use Rattle.zone_proto.specs.Insertion.{is_refused, records_with};
 
@@ -54,7 +54,7 @@ fn stores(records: &[Record], new: &RData) -> bool
 /// Puts a record in place of all others where the type has at most one, else behind them.
 pub fn put_record(records: &mut Vec<Record>, new: Record) -> Result<(), ProtoError>
     ensures ok { OnOk result (records.new.items ≡ records_with records.old.items new) }
-    ensures err { IfErr result (λ e. e ≡ ProtoError.Memory) }
+    ensures err { IsOkUnless result ProtoError.Memory }
     ensures same { OnErr result (records.new.items ≡ records.old.items) }
 {
     if is_single(new.record_type()) {
@@ -67,7 +67,7 @@ pub fn put_record(records: &mut Vec<Record>, new: Record) -> Result<(), ProtoErr
 /// Puts a record in place of all others.
 fn put_alone(records: &mut Vec<Record>, new: Record) -> Result<(), ProtoError>
     ensures ok { OnOk result (records.new.items ≡ new ∷ []) }
-    ensures err { IfErr result (λ e. e ≡ ProtoError.Memory) }
+    ensures err { IsOkUnless result ProtoError.Memory }
     ensures same { OnErr result (records.new.items ≡ records.old.items) }
 {
     if records.is_empty() {
@@ -81,7 +81,7 @@ fn put_alone(records: &mut Vec<Record>, new: Record) -> Result<(), ProtoError>
 /// Puts a record behind all others; a list of one has room for one.
 pub fn put_last(records: &mut Vec<Record>, new: Record) -> Result<(), ProtoError>
     ensures ok { OnOk result (records.new.items ≡ records.old.items ++ new ∷ []) }
-    ensures err { IfErr result (λ e. e ≡ ProtoError.Memory) }
+    ensures err { IsOkUnless result ProtoError.Memory }
     ensures same { OnErr result (records.new.items ≡ records.old.items) }
 {
     if records.is_empty() {

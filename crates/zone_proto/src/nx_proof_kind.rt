@@ -1,4 +1,4 @@
-ghost use Rattle.std.specs.Prelude.{◌≡◌, IfOk, IfErr};
+ghost use Rattle.std.specs.Prelude.{◌≡◌, IfOk, IsOkUnless};
 
 use crate::error::ProtoError;
 use crate::seq::Seq;
@@ -25,7 +25,7 @@ impl NxProofKind {
     /// A copy of this kind, all parts alike; `Memory` where none is found.
     pub fn clone(&self) -> Result<NxProofKind, ProtoError>
         ensures ok { IfOk result (λ k. k ≡ self.now) }
-        ensures err { IfErr result (λ e. e ≡ ProtoError.Memory) }
+        ensures err { IsOkUnless result ProtoError.Memory }
     {
         match self {
             NxProofKind::Nsec => Ok(NxProofKind::Nsec),

@@ -1,4 +1,4 @@
-ghost use Rattle.std.specs.Prelude.{◌≡◌, IfOk, IfErr};
+ghost use Rattle.std.specs.Prelude.{◌≡◌, IfOk, IsOkUnless};
 
 mod denial;
 mod equality;
@@ -81,7 +81,7 @@ impl RData {
     /// A copy of these data, all parts alike, the case of letters in names too; `Memory` where none is found.
     pub fn clone(&self) -> Result<RData, ProtoError>
         ensures ok { IfOk result (λ d. d ≡ self.now) }
-        ensures err { IfErr result (λ e. e ≡ ProtoError.Memory) }
+        ensures err { IsOkUnless result ProtoError.Memory }
     {
         match self {
             RData::A(octets) => Ok(RData::A(*octets)),

@@ -1,4 +1,4 @@
-ghost use Rattle.std.specs.Prelude.{◌≡◌, IfOk, IfErr};
+ghost use Rattle.std.specs.Prelude.{◌≡◌, IfOk, IsOkUnless};
 ghost use Rattle.std.specs.Cmp.{partial_equiv_from_equiv};
 ghost use Rattle.zone_proto.specs.Data.{type_of};
 ghost use Rattle.zone_proto.specs.Records.{same_record};
@@ -61,7 +61,7 @@ impl Record {
     /// A copy of the record: all parts alike, the case of letters in names and the TTL too. `Memory` where none is found.
     pub fn clone(&self) -> Result<Record, ProtoError>
         ensures ok { IfOk result (λ r. r ≡ self.now) }
-        ensures err { IfErr result (λ e. e ≡ ProtoError.Memory) }
+        ensures err { IsOkUnless result ProtoError.Memory }
     {
         Ok(Record {
             name: self.name.clone()?,
@@ -75,7 +75,7 @@ impl Record {
 /// Copies of these records in their order, in a list that has room for these alone.
 pub(crate) fn clone_records(alloc: Global, records: &[Record]) -> Result<Vec<Record>, ProtoError>
     ensures ok { IfOk result (λ v. v.items ≡ records.now) }
-    ensures err { IfErr result (λ e. e ≡ ProtoError.Memory) }
+    ensures err { IsOkUnless result ProtoError.Memory }
 {
     let mut copies = Vec::with_capacity(alloc, records.len())?;
     for stored in records {

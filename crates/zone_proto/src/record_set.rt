@@ -1,4 +1,4 @@
-ghost use Rattle.std.specs.Prelude.{◌≡◌, [], ◌++◌, ◌∷◌, true, ◌==◌, IfOk, OnOk, OnErr, IfErr, length, is_some, unwrap_or};
+ghost use Rattle.std.specs.Prelude.{◌≡◌, [], ◌++◌, ◌∷◌, true, ◌==◌, IfOk, OnOk, OnErr, length, is_some, unwrap_or, IsOkUnless};
 ghost use Rattle.zone_proto.specs.Names.{same_name};
 ghost use Rattle.zone_proto.specs.Types.{IN};
 ghost use Rattle.zone_proto.specs.Data.{type_of};
@@ -114,7 +114,7 @@ impl RecordSet {
     /// A copy of the set: all parts alike, the case of letters in names, TTLs and serials too. `Memory` where none is found.
     pub fn clone(&self) -> Result<RecordSet, ProtoError>
         ensures ok { IfOk result (λ s. s ≡ self.now) }
-        ensures err { IfErr result (λ e. e ≡ ProtoError.Memory) }
+        ensures err { IsOkUnless result ProtoError.Memory }
     {
         let alloc = *self.records.allocator();
         Ok(RecordSet {
@@ -212,7 +212,7 @@ impl RecordSet {
         requires kind { type_of new.rdata ≡ self.old.record_type }
         ensures answer { IfOk result (λ taken. taken ≡ is_some (inserted self.old new serial)) }
         ensures after { OnOk result (self.new ≡ unwrap_or (inserted self.old new serial) self.old) }
-        ensures err { IfErr result (λ e. e ≡ ProtoError.Memory) }
+        ensures err { IsOkUnless result ProtoError.Memory }
         ensures same { OnErr result (self.new ≡ self.old) }
     {
         if is_refused(self.records.as_slice(), &new.rdata) {
@@ -231,7 +231,7 @@ impl RecordSet {
         requires { type_of rdata ≡ self.old.record_type }
         ensures answer { IfOk result (λ taken. taken ≡ is_some (inserted self.old (record_of self.old rdata) 0)) }
         ensures after { OnOk result (self.new ≡ unwrap_or (inserted self.old (record_of self.old rdata) 0) self.old) }
-        ensures err { IfErr result (λ e. e ≡ ProtoError.Memory) }
+        ensures err { IsOkUnless result ProtoError.Memory }
         ensures same { OnErr result (self.new ≡ self.old) }
     {
         let new = Record::from_rdata(self.name.clone()?, self.ttl, rdata);
@@ -242,7 +242,7 @@ impl RecordSet {
     /// as it was.
     pub fn insert_rrsig(&mut self, rrsig: Record) -> Result<(), ProtoError>
         ensures ok { OnOk result (self.new ≡ record self.old { signatures = self.old.signatures ++ rrsig ∷ [] }) }
-        ensures err { IfErr result (λ e. e ≡ ProtoError.Memory) }
+        ensures err { IsOkUnless result ProtoError.Memory }
         ensures same { OnErr result (self.new ≡ self.old) }
     {
         put_last(&mut self.rrsigs, rrsig)

@@ -8,7 +8,7 @@ use Rattle.zone_proto.specs.Keys.{key}
 use Rattle.zone_proto.specs.Names.{Name}
 use Rattle.zone_proto.specs.Sets.{RRset}
 use Rattle.zone_proto.specs.Types.{A, NS, CNAME, SOA, TXT, NSEC, DS, AXFR, IN}
-use Rattle.zone_store.specs.Zones.{Sets, owns, types_at}
+use Rattle.zone_store.specs.Zones.{Sets, owns, types_at, owners}
 use Rattle.zone_store.specs.Upserts.{clashes, upserted}
 use Rattle.zone_store.specs.Search.{nearest_delegation, referral, exact, direct}
 use Rattle.zone_store.specs.Handlers.{serial, minimum}
@@ -78,6 +78,9 @@ owns_no_other_type = refl
 
 types_of_inner_apex : types_at zone (at_apex (codes "in")) ≡ NS ∷ SOA ∷ []
 types_of_inner_apex = refl
+
+owners_of_ns : owners zone NS ≡ at_apex (codes "in") ∷ at_apex (codes "sub") ∷ under_sub (codes "deep") ∷ []
+owners_of_ns = refl
 
 serial_of_zone : serial zone apex ≡ 7
 serial_of_zone = refl

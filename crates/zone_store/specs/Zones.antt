@@ -1,5 +1,5 @@
 -- A zone's record sets: a finite map from an owner name and a type to a record set
-use Rattle.std.specs.Prelude.{◌≡◌, ◌≢◌, ℕ, Bool, cond, List, [], map, Option, Some, None, filter_map, is_some}
+use Rattle.std.specs.Prelude.{◌≡◌, ◌≢◌, ℕ, Bool, cond, List, [], map, ◌==◌, Option, Some, None, filter_map, is_some}
 use Rattle.std.specs.List.{list_any}
 use Rattle.std.specs.Map.{lookup, remove_entry}
 use Rattle.std.specs.BTreeMap.{insert_entry}
@@ -23,6 +23,10 @@ owns m n t = is_some (set_at m n t)
 -- the names that own a set, ascending, each as often as it owns a set
 abbrev pub names_of : Sets → List Name
 names_of m = map (λ e. e.0.name) m
+
+-- the names that own a type, ascending
+abbrev pub owners : Sets → ℕ → List Name
+owners m t = filter_map (λ e. cond (t == e.0.record_type.0) (Some e.0.name) None) m
 
 -- the types that a name owns, ascending
 abbrev pub types_at : Sets → Name → List ℕ

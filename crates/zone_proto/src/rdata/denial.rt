@@ -1,4 +1,4 @@
-ghost use Rattle.std.specs.Prelude.{◌≡◌, IfOk, IfErr};
+ghost use Rattle.std.specs.Prelude.{◌≡◌, IfOk, IsOkUnless};
 
 use crate::error::ProtoError;
 use crate::name::Name;
@@ -20,7 +20,7 @@ impl NSEC {
     /// A copy of these data, all parts alike, the case of letters in names too; `Memory` where none is found.
     pub fn clone(&self) -> Result<NSEC, ProtoError>
         ensures ok { IfOk result (λ d. d ≡ self.now) }
-        ensures err { IfErr result (λ e. e ≡ ProtoError.Memory) }
+        ensures err { IsOkUnless result ProtoError.Memory }
     {
         Ok(NSEC {
             next_domain_name: self.next_domain_name.clone()?,
@@ -52,7 +52,7 @@ impl NSEC3 {
     /// A copy of these data, all parts alike; `Memory` where none is found.
     pub fn clone(&self) -> Result<NSEC3, ProtoError>
         ensures ok { IfOk result (λ d. d ≡ self.now) }
-        ensures err { IfErr result (λ e. e ≡ ProtoError.Memory) }
+        ensures err { IsOkUnless result ProtoError.Memory }
     {
         Ok(NSEC3 {
             algorithm: self.algorithm,
@@ -84,7 +84,7 @@ impl NSEC3PARAM {
     /// A copy of these data, all parts alike; `Memory` where none is found.
     pub fn clone(&self) -> Result<NSEC3PARAM, ProtoError>
         ensures ok { IfOk result (λ d. d ≡ self.now) }
-        ensures err { IfErr result (λ e. e ≡ ProtoError.Memory) }
+        ensures err { IsOkUnless result ProtoError.Memory }
     {
         Ok(NSEC3PARAM {
             algorithm: self.algorithm,

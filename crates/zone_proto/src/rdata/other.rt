@@ -1,4 +1,4 @@
-ghost use Rattle.std.specs.Prelude.{◌≡◌, false, true, IsNone, IfSome, ◌↔◌, IfOk, IfErr};
+ghost use Rattle.std.specs.Prelude.{◌≡◌, false, true, IsNone, IfSome, ◌↔◌, IfOk, IsOkUnless};
 ghost use Rattle.zone_proto.specs.Types.{has_own_case};
 
 use crate::error::ProtoError;
@@ -48,7 +48,7 @@ impl OtherData {
     /// A copy of these data, type and octets alike; `Memory` where none is found.
     pub fn clone(&self) -> Result<OtherData, ProtoError>
         ensures ok { IfOk result (λ d. d ≡ self.now) }
-        ensures err { IfErr result (λ e. e ≡ ProtoError.Memory) }
+        ensures err { IsOkUnless result ProtoError.Memory }
     {
         Ok(OtherData {
             record_type: self.record_type,

@@ -1,4 +1,4 @@
-ghost use Rattle.std.specs.Prelude.{◌≡◌, IfOk, IfErr};
+ghost use Rattle.std.specs.Prelude.{◌≡◌, IfOk, IsOkUnless};
 
 use crate::error::ProtoError;
 use crate::name::Name;
@@ -24,7 +24,7 @@ impl DNSKEY {
     /// A copy of these data, all parts alike; `Memory` where none is found.
     pub fn clone(&self) -> Result<DNSKEY, ProtoError>
         ensures ok { IfOk result (λ d. d ≡ self.now) }
-        ensures err { IfErr result (λ e. e ≡ ProtoError.Memory) }
+        ensures err { IsOkUnless result ProtoError.Memory }
     {
         Ok(DNSKEY {
             flags: self.flags,
@@ -64,7 +64,7 @@ impl RRSIG {
     /// A copy of these data, all parts alike, the case of letters in names too; `Memory` where none is found.
     pub fn clone(&self) -> Result<RRSIG, ProtoError>
         ensures ok { IfOk result (λ d. d ≡ self.now) }
-        ensures err { IfErr result (λ e. e ≡ ProtoError.Memory) }
+        ensures err { IsOkUnless result ProtoError.Memory }
     {
         Ok(RRSIG {
             type_covered: self.type_covered,
