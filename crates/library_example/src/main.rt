@@ -6,8 +6,9 @@ mod unsigned;
 use std::alloc::Global;
 use unsigned::{NoHash, NoSigner};
 use zone_handler::{AuthLookup, AxfrPolicy, LookupError, LookupOptions, ZoneHandler, ZoneType};
-use zone_proto::{LowerName, Name, RData, Record, RecordType, SOA};
+use zone_proto::{LowerName, Name, RData, Record, RecordType};
 use zone_store::InMemoryZoneHandler;
+use zone_text::{RecordText, Words, read_record};
 
 /// A zone that is never signed.
 type Zone = InMemoryZoneHandler<NoSigner, NoHash>;
@@ -19,42 +20,26 @@ fn main(rt: HostRuntime) -> anyhow::Result<()> {
     serve(&rt, alloc, &mut zone)
 }
 
-/// Fills the zone, and asks it four questions.
+/// Puts two records into the zone, and asks it four questions.
 fn serve(rt: &impl Print, alloc: Global, zone: &mut Zone) -> anyhow::Result<()> {
-    let soa = RData::SOA(SOA {
-        mname: Name::parse(alloc, "ns.example.com.")?,
-        rname: Name::parse(alloc, "host.example.com.")?,
-        serial: 1,
-        refresh: 7200,
-        retry: 600,
-        expire: 86400,
-        minimum: 300,
-    });
-    add(rt, alloc, zone, "example.com.", soa)?;
-    add(
-        rt,
-        alloc,
-        zone,
-        "www.example.com.",
-        RData::A([192, 0, 2, 1]),
-    )?;
+    // A record read from a line of text.
+    let line = b"example.com. 3600 SOA ns.example.com. host.example.com. 1 7200 600 86400 300";
+    add(rt, zone, read_record(alloc, &mut Words::new(line))?)?;
+    // A record made of its parts.
+    let owner = Name::parse(alloc, "www.example.com.")?;
+    let address = RData::A([192, 0, 2, 1]);
+    add(rt, zone, Record::from_rdata(owner, 60, address))?;
+
     ask(rt, alloc, zone, "WWW.example.com.", RecordType::A)?;
     ask(rt, alloc, zone, "www.example.com.", RecordType::AAAA)?;
     ask(rt, alloc, zone, "ftp.example.com.", RecordType::A)?;
     ask(rt, alloc, zone, "example.org.", RecordType::A)
 }
 
-/// Puts a record with a TTL of an hour into the zone, and prints whether the zone took it.
-fn add(
-    rt: &impl Print,
-    alloc: Global,
-    zone: &mut Zone,
-    owner: &str,
-    rdata: RData,
-) -> anyhow::Result<()> {
-    let owner = Name::parse(alloc, owner)?;
+/// Puts a record into the zone with the zone's serial, and prints whether the zone took it.
+fn add(rt: &impl Print, zone: &mut Zone, record: Record) -> anyhow::Result<()> {
     let serial = zone.serial();
-    let is_taken = zone.upsert(Record::from_rdata(owner, 3600, rdata), serial)?;
+    let is_taken = zone.upsert(record, serial)?;
     println!(rt; "taken: {is_taken}")?;
     Ok(())
 }
@@ -82,12 +67,10 @@ fn ask(
     Ok(())
 }
 
-/// Prints the addresses of an answer, which lends its records.
+/// Prints the records of an answer, which lends them.
 fn print_records(rt: &impl Print, answer: &AuthLookup) -> anyhow::Result<()> {
     for record in answer {
-        if let RData::A([a, b, c, d]) = &record.rdata {
-            println!(rt; "{} {} A {a}.{b}.{c}.{d}", record.name, record.ttl)?;
-        }
+        println!(rt; "{}", RecordText(record))?;
     }
     Ok(())
 }
