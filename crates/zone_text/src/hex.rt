@@ -1,5 +1,5 @@
 ghost use Rattle.std.specs.Prelude.{◌≡◌, IfOk, option_map};
-ghost use Rattle.zone_store.specs.Hex.{hex_digit, hex_octets, hex_word};
+ghost use Rattle.zone_text.specs.Hex.{hex_digit, hex_octets, hex_word};
 
 use std::alloc::{AllocError, Global};
 
@@ -36,7 +36,7 @@ fn read_octets(alloc: Global, digits: &[u8]) -> Result<Option<Vec<u8>>, AllocErr
 }
 
 /// Reads a hex digit in either case.
-pub fn read_hex_digit(octet: u8) -> Option<u8>
+pub(crate) fn read_hex_digit(octet: u8) -> Option<u8>
     ensures { result ≡ hex_digit octet }
 {
     match octet {

@@ -1,25 +1,12 @@
-ghost use Rattle.std.specs.Prelude.{◌<◌};
-
+use crate::addresses::GroupsText;
+use crate::base32_text::Base32Text;
+use crate::hex_text::HexText;
 use std::fmt;
-use zone_proto::{NSEC3, NSEC3PARAM, RData, RRSIG, Record, RecordType, SOA};
-
-/// A record as the program writes it: `NAME TTL CLASS TYPE DATA`, with single spaces between the words.
-#[derive(Drop)]
-pub struct RecordText<'r>(pub &'r Record);
-
-impl fmt::Display for RecordText<'_> {
-    fn fmt<W: fmt::Write>(&self, f: &mut fmt::Formatter<W>) -> fmt::Result {
-        let record = self.0;
-        let ttl = record.ttl;
-        write!(f, "{} {ttl} ", record.name)?;
-        write!(f, "{} {} ", record.dns_class, record.record_type())?;
-        write!(f, "{}", DataText(&record.rdata))
-    }
-}
+use zone_proto::{NSEC3, NSEC3PARAM, RData, RRSIG, RecordType, SOA};
 
 /// The data of a record, their parts in the order in which `add` reads them.
 #[derive(Drop)]
-struct DataText<'r>(&'r RData);
+pub struct DataText<'r>(pub &'r RData);
 
 impl fmt::Display for DataText<'_> {
     fn fmt<W: fmt::Write>(&self, f: &mut fmt::Formatter<W>) -> fmt::Result {
@@ -125,69 +112,6 @@ impl fmt::Display for TypesText<'_> {
     fn fmt<W: fmt::Write>(&self, f: &mut fmt::Formatter<W>) -> fmt::Result {
         for record_type in self.0 {
             write!(f, " {record_type}")?;
-        }
-        Ok(())
-    }
-}
-
-/// Octets in hex, in lower case, and `-` for none.
-#[derive(Drop)]
-struct HexText<'r>(&'r [u8]);
-
-impl fmt::Display for HexText<'_> {
-    fn fmt<W: fmt::Write>(&self, f: &mut fmt::Formatter<W>) -> fmt::Result {
-        if self.0.is_empty() {
-            return write!(f, "-");
-        }
-        for octet in self.0 {
-            write!(f, "{octet:02x}")?;
-        }
-        Ok(())
-    }
-}
-
-/// Octets in base32hex: five bits a character from the highest on, the last one filled with zero bits, in lower
-/// case and without padding (RFC 4648, section 7).
-#[derive(Drop)]
-struct Base32Text<'r>(&'r [u8]);
-
-impl fmt::Display for Base32Text<'_> {
-    fn fmt<W: fmt::Write>(&self, f: &mut fmt::Formatter<W>) -> fmt::Result {
-        let octets = self.0;
-        for i in 0..octets.len().saturating_mul(8).div_ceil(5) {
-            let bit = i.saturating_mul(5);
-            let high = octets.get(bit / 8).copied().unwrap_or(0);
-            let low = octets.get(bit / 8 + 1).copied().unwrap_or(0);
-            let pair = u32::from(high) * 256 + u32::from(low);
-            let digit = (pair >> (11 - bit % 8)) % 32;
-            write!(f, "{}", base32_character(digit as u8))?;
-        }
-        Ok(())
-    }
-}
-
-/// The character of five bits, from `0` to `9` and then from `a` to `v`.
-fn base32_character(digit: u8) -> char
-    requires { digit < 32 }
-{
-    if digit < 10 {
-        (b'0' + digit) as char
-    } else {
-        (b'a' + (digit - 10)) as char
-    }
-}
-
-/// An IPv6 address as eight groups of four hex digits.
-#[derive(Drop)]
-struct GroupsText<'r>(&'r [u8; 16]);
-
-impl fmt::Display for GroupsText<'_> {
-    fn fmt<W: fmt::Write>(&self, f: &mut fmt::Formatter<W>) -> fmt::Result {
-        for (i, octet) in self.0.iter().enumerate() {
-            if i > 0 && i % 2 == 0 {
-                write!(f, ":")?;
-            }
-            write!(f, "{octet:02x}")?;
         }
         Ok(())
     }

@@ -1,4 +1,4 @@
-use crate::program::fault::Fault;
+use crate::error::TextError;
 
 /// The words of a line that are still to be read, which spaces and tabs separate.
 #[derive(Drop)]
@@ -26,15 +26,15 @@ impl<'l> Words<'l> {
     }
 
     /// Takes the next word of a command that must have one.
-    pub fn take_needed(&mut self) -> Result<&'l [u8], Fault> {
-        self.take().ok_or(Fault::Bad)
+    pub fn take_needed(&mut self) -> Result<&'l [u8], TextError> {
+        self.take().ok_or(TextError::BadText)
     }
 
     /// Refuses a line with more words than its command takes.
-    pub fn end(&mut self) -> Result<(), Fault> {
+    pub fn end(&mut self) -> Result<(), TextError> {
         match self.take() {
             None => Ok(()),
-            Some(_) => Err(Fault::Bad),
+            Some(_) => Err(TextError::BadText),
         }
     }
 }

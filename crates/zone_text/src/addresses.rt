@@ -1,5 +1,6 @@
-use crate::program::hex::read_hex_digit;
-use crate::program::numbers::read_u8;
+use crate::hex::read_hex_digit;
+use crate::numbers::read_u8;
+use std::fmt;
 
 /// Reads an IPv4 address: four numbers from 0 to 255 with dots between them (RFC 1035, section 3.4.1).
 pub fn read_ipv4(word: &[u8]) -> Option<[u8; 4]> {
@@ -59,5 +60,21 @@ fn part_before(text: &[u8], separator: u8) -> (&[u8], Option<&[u8]>) {
                 None => (part, None),
             }
         }
+    }
+}
+
+/// An IPv6 address as eight groups of four hex digits.
+#[derive(Drop)]
+pub(crate) struct GroupsText<'r>(pub &'r [u8; 16]);
+
+impl fmt::Display for GroupsText<'_> {
+    fn fmt<W: fmt::Write>(&self, f: &mut fmt::Formatter<W>) -> fmt::Result {
+        for (i, octet) in self.0.iter().enumerate() {
+            if i > 0 && i % 2 == 0 {
+                write!(f, ":")?;
+            }
+            write!(f, "{octet:02x}")?;
+        }
+        Ok(())
     }
 }

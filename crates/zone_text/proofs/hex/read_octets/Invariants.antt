@@ -1,7 +1,7 @@
 use Rattle.std.proofs.Common.{◌≡◌, length}
-use Rattle.zone_store.specs.Hex.{hex_octets}
-use Rattle.zone_store.proofs.HexFacts.{after_octets}
-use Rattle.zone_store.proofs.program.hex.read_octets.Given as goal
+use Rattle.zone_text.specs.Hex.{hex_octets}
+use Rattle.zone_text.proofs.HexFacts.{after_octets}
+use Rattle.zone_text.proofs.hex.read_octets.Given as goal
 
 abbrev pub invariant-loop-high : goal.invariant-loop-high
 invariant-loop-high l = hex_octets l.fn.digits ≡ after_octets l.octets.items (hex_octets l.rest)
