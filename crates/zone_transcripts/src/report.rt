@@ -28,23 +28,49 @@ impl<'p> Report<'p> {
     /// Runs a transcript, whose name is the first line of its text, and answers the line that tells of it.
     pub fn line(&mut self, alloc: Global, text: &str) -> Result<String, AllocError> {
         let (name, lines) = text.split_once("\n").unwrap_or((text, ""));
-        let is_pending = self.pending.lines().any(|line| line == name);
-        match (told_of(alloc, lines)?, is_pending) {
-            (None, false) => {
+        let told = told_of(alloc, lines)?;
+        if self.is_pending(name) {
+            self.pending_line(alloc, name, told.is_some())
+        } else {
+            self.due_line(alloc, name, told)
+        }
+    }
+
+    /// Whether a transcript is to differ still.
+    fn is_pending(&self, name: &str) -> bool {
+        self.pending.lines().any(|line| line == name)
+    }
+
+    /// Counts a transcript that is to differ still, and tells of it.
+    fn pending_line(
+        &mut self,
+        alloc: Global,
+        name: &str,
+        differs: bool,
+    ) -> Result<String, AllocError> {
+        if differs {
+            self.still_pending = self.still_pending.saturating_add(1);
+            return format!(in alloc; "pending {name}");
+        }
+        self.wrong = self.wrong.saturating_add(1);
+        format!(in alloc; "WRONG {name}: it is right, and stands among the pending ones")
+    }
+
+    /// Counts a transcript that is to be right, and tells of it.
+    fn due_line(
+        &mut self,
+        alloc: Global,
+        name: &str,
+        told: Option<String>,
+    ) -> Result<String, AllocError> {
+        match told {
+            None => {
                 self.good = self.good.saturating_add(1);
                 format!(in alloc; "ok {name}")
             }
-            (Some(_), true) => {
-                self.still_pending = self.still_pending.saturating_add(1);
-                format!(in alloc; "pending {name}")
-            }
-            (Some(told), false) => {
+            Some(told) => {
                 self.wrong = self.wrong.saturating_add(1);
                 format!(in alloc; "WRONG {name}: {told}")
-            }
-            (None, true) => {
-                self.wrong = self.wrong.saturating_add(1);
-                format!(in alloc; "WRONG {name}: it is right, and stands among the pending ones")
             }
         }
     }

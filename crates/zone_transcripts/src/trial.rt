@@ -54,7 +54,7 @@ fn try_reads(
 /// A read fails after each of the first lines, and before the line feed of each: what the lines before it bring is
 /// written, and nothing else.
 fn try_failing_reads(alloc: Global, transcript: &Transcript) -> Result<Option<String>, AllocError> {
-    let mut written = 0;
+    let mut written = 0usize;
     for (i, end) in transcript.line_ends.iter().take(FAILURES).enumerate() {
         let within = (end.read.saturating_sub(1), written);
         for (read, output) in [within, (end.read, end.written)] {
@@ -94,8 +94,8 @@ fn try_failing_writes(
     alloc: Global,
     transcript: &Transcript,
 ) -> Result<Option<String>, AllocError> {
-    let mut written = 0;
-    let mut answers = 0;
+    let mut written = 0usize;
+    let mut answers = 0usize;
     for end in transcript.line_ends.iter().take(FAILURES) {
         if end.written > written {
             let told = try_failing_write(alloc, transcript, answers, written)?;
@@ -103,7 +103,7 @@ fn try_failing_writes(
                 return Ok(Some(format!(in alloc; "a write fails after {answers}: {told}")?));
             }
             written = end.written;
-            answers += 1;
+            answers = answers.saturating_add(1);
         }
     }
     Ok(None)
