@@ -1,14 +1,13 @@
-//! What a zone that isn't signed is made with.
+// What an unsigned zone hands in as its signer and its hash: both do nothing.
+ghost use Rattle.std.specs.Prelude.{None};
 
 use zone_proto::{DNSClass, DNSKEY, LowerName, Nsec3Hash, ProtoError, RRSIG, RecordSet, Signer};
 
-/// A signer that has no key and signs nothing.
+/// The signer of a zone that is never signed.
 #[derive(Drop)]
 pub struct NoSigner;
 
 impl Signer for NoSigner {
-    ghost use Rattle.std.specs.Prelude.{None};
-
     ghost key_of = { λ _. None };
 
     ghost signature_of = { λ _ _ _ _. None };
@@ -27,13 +26,11 @@ impl Signer for NoSigner {
     }
 }
 
-/// A hash that has no digests.
+/// The hash of a zone without NSEC3 denials.
 #[derive(Drop)]
 pub struct NoHash;
 
 impl Nsec3Hash for NoHash {
-    ghost use Rattle.std.specs.Prelude.{None};
-
     ghost digest_of = { λ _ _ _ _ _. None };
 
     fn hash(
