@@ -11,7 +11,7 @@ use Rattle.zone_proto.specs.Sets.{RRset}
 use Rattle.zone_proto.proofs.KeyOrder.{key_same, key_itself}
 use Rattle.zone_proto.proofs.Members.{In, any_from_In, In-filter_map, In-from_filter_map, In-map}
 use Rattle.zone_proto.proofs.NameTree.{name_eq-Decides}
-use Rattle.zone_store.specs.Zones.{Sets, set_at, owns, types_at, IsStoredAt, IsRecordMap}
+use Rattle.zone_store.specs.Zones.{Sets, set_at, owns, types_at, IsStoredAt, IsZone}
 
 -- an entry of an owned key stands in the map
 pub has_entry : (m : Sets) (n : Name) (t : ℕ) → owns m n t ≡ true → (s : RRset) × In (key n t, s) m
@@ -56,6 +56,6 @@ type_owned m n t i =
     entry_owned m n t r.0 r.1 (λ j. key (sym ((name_eq-Decides n r.0.0.name).0 g.0) j) (g.1 j))
 
 -- a set that a look-up finds is stored as it is to be
-pub found_stored : (m : Sets) (n : Name) (t : ℕ) (r : Option (Bor RRset)) → option_copied r ≡ set_at m n t → IsRecordMap m → IfSome r (λ s. IsStoredAt n t s.now)
+pub found_stored : (m : Sets) (n : Name) (t : ℕ) (r : Option (Bor RRset)) → option_copied r ≡ set_at m n t → IsZone m → IfSome r (λ s. IsStoredAt n t s.now)
 found_stored m n t None e i = tt
-found_stored m n t (Some s) e i = i n t s.now (sym e)
+found_stored m n t (Some s) e i = i.stored n t s.now (sym e)
