@@ -1,8 +1,9 @@
 ghost use Rattle.std.specs.Prelude.{◌≡◌, ◌⊎◌, false, [], Ok, Err, IfErr, IfOk, OnOk, OnErr, IsOkUnless, IsTrue, is_some, unwrap_or, option_and_then, option_copied};
 ghost use Rattle.zone_proto.specs.Names.{lower};
 ghost use Rattle.zone_proto.specs.Types.{IN, SOA, AXFR};
+ghost use Rattle.zone_handler.specs.Transfers.{IsNoLookup};
 ghost use Rattle.zone_store.specs.Handlers.{soa, serial, minimum};
-ghost use Rattle.zone_store.specs.Lookup.{not_a_lookup, absent, denial, error_of, reply, Says, SaysOrMemory, IsDenied};
+ghost use Rattle.zone_store.specs.Lookup.{absent, denial, error_of, reply, SaysOrMemory, IsDenied};
 ghost use Rattle.zone_store.specs.Construction.{made};
 ghost use Rattle.zone_store.specs.Refusals.{Refuses};
 ghost use Rattle.zone_store.specs.Upserts.{upserted, CnamesStandAlone};
@@ -333,7 +334,7 @@ impl<S: Signer, H: Nsec3Hash> ZoneHandler for InMemoryZoneHandler<S, H> {
         _now: u64,
     ) -> LookupControlFlow<AuthLookup>
         ensures answer { SaysOrMemory lookup_options (reply self.now.origin self.now.inner.records name.now record_type.0) result }
-        ensures transfer { record_type.0 ≡ AXFR → Says lookup_options not_a_lookup result }
+        ensures transfer { record_type.0 ≡ AXFR → IsNoLookup result }
         ensures owned_is_not_denied { IsTrue (owns self.now.inner.records name.now record_type.0) → IsDenied result → ⊥ }
     {
         if record_type == RecordType::AXFR {

@@ -1,5 +1,5 @@
-ghost use Rattle.std.specs.Prelude.{◌≡◌, [], IfOk, IfErr, OnOk, OnErr, IsOkUnless, is_some, unwrap_or, option_map, option_copied};
-ghost use Rattle.zone_store.specs.FoundSets.{found_set};
+ghost use Rattle.std.specs.Prelude.{◌≡◌, [], IfOk, IfErr, IfSome, OnOk, OnErr, IsOkUnless, is_some, unwrap_or, option_map, option_copied};
+ghost use Rattle.zone_store.specs.FoundSets.{found_set, IsLent};
 ghost use Rattle.zone_store.specs.Search.{direct};
 ghost use Rattle.zone_store.specs.Searches.{one_more};
 ghost use Rattle.zone_store.specs.Upserts.{upserted, CnamesStandAlone};
@@ -99,6 +99,7 @@ impl<S: Signer> InnerInMemory<S> {
         searches: &mut Searches,
     ) -> Result<Option<Found<'_>>, LookupError>
         ensures found { IfOk result (λ found. option_map found_set found ≡ direct self.now.records name.now record_type.0) }
+        ensures lent { IfOk result (λ found. IfSome found IsLent) }
         ensures counted { searches.new ≡ one_more searches.old }
         ensures err { IsOkUnless result LookupError.Memory }
     {
