@@ -278,7 +278,7 @@ fn records_are_equal_without_their_ttl(rt: HostRuntime) -> Result<(), Fail> {
     Ok(())
 }
 
-/// Has one key, and gives every set the same signature.
+/// Signs every set by the same signature.
 #[derive(Drop)]
 struct FixedSigner {
     key: DNSKEY,
