@@ -1,5 +1,7 @@
 // What a handler answers: texts of errors and steps, the lists of answers, and a handler through its trait.
 ghost use Rattle.std.specs.Prelude.{◌≡◌, true};
+ghost use Rattle.zone_proto.specs.Types.{AXFR};
+ghost use Rattle.zone_handler.specs.Transfers.{IsNoLookup};
 
 use crate::signatures::signature;
 use std::alloc::Global;
