@@ -1,5 +1,5 @@
 -- The insertion of a record into a zone
-use Rattle.std.specs.Prelude.{◌≡◌, ◌⊎◌, ℕ, Bool, IsTrue, ◌&&◌, ◌||◌, not, cond, ◌==◌, List, [], ◌∷◌, Option, Some, None, unwrap_or, option_map, option_and_then}
+use Rattle.std.specs.Prelude.{◌≡◌, ◌⊎◌, ℕ, Bool, false, IsTrue, IfOk, OnOk, OnErr, IsOkUnless, is_some, Result, ◌&&◌, ◌||◌, not, cond, ◌==◌, List, [], ◌∷◌, Option, Some, None, unwrap_or, option_map, option_and_then}
 use Rattle.std.specs.Bool.{beq}
 use Rattle.std.specs.List.{list_any}
 use Rattle.zone_proto.specs.declared.record.Record.{Record}
@@ -7,6 +7,11 @@ use Rattle.zone_proto.specs.Names.{Name, lower}
 use Rattle.zone_proto.specs.Data.{type_of}
 use Rattle.zone_proto.specs.Types.{CNAME, NSEC, NSEC3}
 use Rattle.zone_proto.specs.Sets.{RRset, inserted, empty_set}
+use Rattle.zone_proto.specs.declared.error.ProtoError.{ProtoError}
+use Rattle.zone_proto.specs.declared.error.ProtoError.TheVariants as proto
+use Rattle.zone_store.specs.declared.zone_error.ZoneError.{ZoneError}
+use Rattle.zone_store.specs.declared.zone_error.ZoneError.TheVariants as error
+use Rattle.zone_store.specs.Handlers.{Zone}
 use Rattle.zone_store.specs.Zones.{Sets, set_at, owns, types_at, put}
 
 -- the types of denial, which may stand beside a CNAME (RFC 4034 section 4, RFC 4035 section 2.5)
@@ -41,3 +46,21 @@ all_upserted m class (r ∷ rs) serial = option_and_then (λ n. all_upserted n c
 -- a name that owns CNAME owns nothing else but types of denial (RFC 1034 section 3.6.2)
 pub record CnamesStandAlone (m : Sets) : Type 0 where
   pub alone : (n : Name) (t : ℕ) → IsTrue (owns m n CNAME) → IsTrue (owns m n t) → (t ≡ CNAME) ⊎ IsTrue (is_denial_type t)
+
+-- ---- what the calls say that insert a record
+
+-- of the sets before, what the insertion makes of them, the answer, and the sets after: the answer tells whether the record was taken, and where it wasn't, or no memory was found, the sets are as they were
+pub record IsInsertion (old : Sets) (made : Option Sets) (result : Result Bool ProtoError) (new : Sets) : Type 0 where
+  pub answer : IfOk result (λ taken. taken ≡ is_some made)
+  pub after : OnOk result (new ≡ unwrap_or made old)
+  pub err : IsOkUnless result proto.Memory
+  pub same : OnErr result (new ≡ old)
+
+-- the same of a zone, a record and a serial: all but the zone's sets stays, and CNAMEs that stood alone still do
+pub record IsUpsert {S H : Type 0} (old : Zone S H) (r : Record) (serial : ℕ) (result : Result Bool ZoneError) (new : Zone S H) : Type 0 where
+  pub answer : IfOk result (λ taken. taken ≡ is_some (upserted old.inner.records old.class r serial))
+  pub after : OnOk result (new ≡ record old { inner = record old.inner { records = unwrap_or (upserted old.inner.records old.class r serial) old.inner.records } })
+  pub untaken : IfOk result (λ taken. taken ≡ false → new ≡ old)
+  pub cnames : CnamesStandAlone old.inner.records → CnamesStandAlone new.inner.records
+  pub err : IsOkUnless result error.Memory
+  pub same : OnErr result (new ≡ old)

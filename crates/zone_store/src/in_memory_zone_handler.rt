@@ -6,7 +6,7 @@ ghost use Rattle.zone_store.specs.Handlers.{soa, serial, minimum};
 ghost use Rattle.zone_store.specs.Lookup.{absent, denial, error_of, reply, SaysOrMemory, IsDenied};
 ghost use Rattle.zone_store.specs.Construction.{made};
 ghost use Rattle.zone_store.specs.Refusals.{Refuses};
-ghost use Rattle.zone_store.specs.Upserts.{upserted, CnamesStandAlone};
+ghost use Rattle.zone_store.specs.Upserts.{IsUpsert, CnamesStandAlone};
 ghost use Rattle.zone_store.specs.Zones.{set_at, owns, put, without, IsZone};
 
 use crate::construction;
@@ -206,26 +206,14 @@ impl<S: Signer, H: Nsec3Hash> InMemoryZoneHandler<S, H> {
     /// set refuses it, as [`RecordSet::insert`] says: an SOA whose serial isn't greater than the stored one's, or
     /// data that the set has. A record that isn't taken changes nothing, and so does a refusal, by `Memory` alone.
     pub fn upsert(&mut self, record: Record, serial: u32) -> Result<bool, ZoneError>
-        ensures answer { IfOk result (λ taken. taken ≡ is_some (upserted self.old.inner.records self.old.class «record» serial)) }
-        ensures after { OnOk result (self.new
-            ≡ record self.old { inner = record self.old.inner { records = unwrap_or (upserted self.old.inner.records self.old.class «record» serial) self.old.inner.records } }) }
-        ensures untaken { IfOk result (λ taken. taken ≡ false → self.new ≡ self.old) }
-        ensures cnames { CnamesStandAlone self.old.inner.records → CnamesStandAlone self.new.inner.records }
-        ensures err { IsOkUnless result ZoneError.Memory }
-        ensures same { OnErr result (self.new ≡ self.old) }
+        ensures { IsUpsert self.old «record» serial result self.new }
     {
         self.inner.upsert(record, serial, self.class)
     }
 
     /// The same as [`InMemoryZoneHandler::upsert`].
     pub fn upsert_mut(&mut self, record: Record, serial: u32) -> Result<bool, ZoneError>
-        ensures answer { IfOk result (λ taken. taken ≡ is_some (upserted self.old.inner.records self.old.class «record» serial)) }
-        ensures after { OnOk result (self.new
-            ≡ record self.old { inner = record self.old.inner { records = unwrap_or (upserted self.old.inner.records self.old.class «record» serial) self.old.inner.records } }) }
-        ensures untaken { IfOk result (λ taken. taken ≡ false → self.new ≡ self.old) }
-        ensures cnames { CnamesStandAlone self.old.inner.records → CnamesStandAlone self.new.inner.records }
-        ensures err { IsOkUnless result ZoneError.Memory }
-        ensures same { OnErr result (self.new ≡ self.old) }
+        ensures { IsUpsert self.old «record» serial result self.new }
     {
         self.upsert(record, serial)
     }

@@ -5,7 +5,7 @@ ghost use Rattle.zone_proto.specs.Types.{CNAME};
 ghost use Rattle.zone_proto.specs.Data.{type_of};
 ghost use Rattle.zone_proto.specs.Sets.{inserted, empty_set};
 ghost use Rattle.zone_store.specs.Zones.{set_at, owns, owns_at_or_below, put, without, IsStoredAt, IsZone};
-ghost use Rattle.zone_store.specs.Upserts.{upserted, with_record, clash, clashes, is_denial_type, CnamesStandAlone};
+ghost use Rattle.zone_store.specs.Upserts.{upserted, with_record, IsInsertion, clash, clashes, is_denial_type, CnamesStandAlone};
 
 use std::alloc::Global;
 use std::collections::BTreeMap;
@@ -122,11 +122,8 @@ impl RecordMap {
         serial: u32,
         dns_class: DNSClass,
     ) -> Result<bool, ProtoError>
-        ensures answer { IfOk result (λ taken. taken ≡ is_some (upserted self.old dns_class.0 «record» serial)) }
-        ensures after { OnOk result (self.new ≡ unwrap_or (upserted self.old dns_class.0 «record» serial) self.old) }
+        ensures insertion { IsInsertion self.old (upserted self.old dns_class.0 «record» serial) result self.new }
         ensures cnames { CnamesStandAlone self.old → CnamesStandAlone self.new }
-        ensures err { IsOkUnless result ProtoError.Memory }
-        ensures same { OnErr result (self.new ≡ self.old) }
     {
         if record.dns_class != dns_class {
             return Ok(false);
@@ -178,10 +175,7 @@ impl RecordMap {
     /// Takes a record into the set under its key, or makes that set.
     fn insert_record(&mut self, key: RrKey, record: Record, serial: u32) -> Result<bool, ProtoError>
         requires { key ≡ key_at (lower «record».name) (type_of «record».rdata) }
-        ensures answer { IfOk result (λ taken. taken ≡ is_some (with_record self.old «record» serial)) }
-        ensures after { OnOk result (self.new ≡ unwrap_or (with_record self.old «record» serial) self.old) }
-        ensures err { IsOkUnless result ProtoError.Memory }
-        ensures same { OnErr result (self.new ≡ self.old) }
+        ensures { IsInsertion self.old (with_record self.old «record» serial) result self.new }
     {
         match self.sets.get_mut(&key) {
             Some(set) => set.insert(record, serial),
@@ -193,10 +187,7 @@ impl RecordMap {
     fn insert_new(&mut self, key: RrKey, record: Record, serial: u32) -> Result<bool, ProtoError>
         requires own_key { key ≡ key_at (lower «record».name) (type_of «record».rdata) }
         requires absent { set_at self.old (lower «record».name) (type_of «record».rdata) ≡ None }
-        ensures answer { IfOk result (λ taken. taken ≡ is_some (with_record self.old «record» serial)) }
-        ensures after { OnOk result (self.new ≡ unwrap_or (with_record self.old «record» serial) self.old) }
-        ensures err { IsOkUnless result ProtoError.Memory }
-        ensures same { OnErr result (self.new ≡ self.old) }
+        ensures { IsInsertion self.old (with_record self.old «record» serial) result self.new }
     {
         let mut set = RecordSet::new(record.name.clone()?, key.record_type, serial);
         if !set.insert(record, serial)? {

@@ -7,4 +7,4 @@ pub invariant_of-self : goal.invariant_of-self
 invariant_of-self g c =
     IsZone-after (λ m. m) c.self.inside.records c.upsert.new.self
     (unwrap_or (upserted c.self.inside.records c.args.dns_class.0 c.args.record c.args.serial) c.self.inside.records) c.upsert.result c.self.invariant
-    (IsZone-or_upserted c.self.inside.records c.args.dns_class.0 c.args.record c.args.serial c.self.invariant) c.upsert.ensures.after c.upsert.ensures.same
+    (IsZone-or_upserted c.self.inside.records c.args.dns_class.0 c.args.record c.args.serial c.self.invariant) c.upsert.ensures.insertion.after c.upsert.ensures.insertion.same

@@ -1,11 +1,11 @@
 use Rattle.std.proofs.Common.{◌≡◌, ap, sym, ◌∙◌, subst}
-use Rattle.std.specs.Prelude.{Some, IfOk, OnOk, OnErr, is_some, unwrap_or}
+use Rattle.std.specs.Prelude.{Some, is_some, unwrap_or}
 use Rattle.std.specs.Map.{lookup, set_value}
 use Rattle.zone_proto.specs.Data.{type_of}
 use Rattle.zone_proto.specs.Keys.{key, key_eq}
 use Rattle.zone_proto.specs.Names.{lower}
 use Rattle.zone_store.specs.Zones.{Sets, set_at, IsStoredAt, IsZone}
-use Rattle.zone_store.specs.Upserts.{with_record}
+use Rattle.zone_store.specs.Upserts.{with_record, IsInsertion}
 use Rattle.zone_store.proofs.Upserting.{same_from_lower, stored_answer, stored_after, stored_same, IsZone-with_record, IsZone-or_same, IsZone-after}
 use Rattle.zone_store.proofs.record_map.RecordMap.insert_record.Goals as goal
 
@@ -44,31 +44,18 @@ invariant_of-self-in-None c =
     let same : c.get_mut.follows.lender-at-none.entries ≡ c.self.inside.sets.entries = ap (λ m. m.entries) c.get_mut.follows.holds-at-none in
     subst IsZone (sym same) c.self.invariant
 
-pub returns-in-Some-clause-answer : goal.returns-in-Some-clause-answer
-returns-in-Some-clause-answer c =
-    let found : set_at c.self.inside.sets.entries (lower c.args.record.name) (type_of c.args.record.rdata) ≡ Some c.in-Some.set.now =
-    ap (λ k. lookup (key_eq k) c.self.inside.sets.entries) (sym c.requires) ∙ sym c.in-Some.ensures.value in
-    let at : c.self.inside.sets.entries ≡ c.args.self.now = c.self.view_is in
-    subst (λ (m : Sets). IfOk c.insert.result (λ taken. taken ≡ is_some (with_record m c.args.record c.args.serial))) at
-    (stored_answer c.self.inside.sets.entries c.args.record c.args.serial c.in-Some.set.now found c.insert.result c.insert.ensures.answer)
-
-pub returns-in-Some-clause-after : goal.returns-in-Some-clause-after
-returns-in-Some-clause-after c =
+pub returns-in-Some : goal.returns-in-Some
+returns-in-Some c =
     let found : set_at c.self.inside.sets.entries (lower c.args.record.name) (type_of c.args.record.rdata) ≡ Some c.in-Some.set.now =
     ap (λ k. lookup (key_eq k) c.self.inside.sets.entries) (sym c.requires) ∙ sym c.in-Some.ensures.value in
     let written : (c.get_mut.follows.lender c.insert.new.self).entries ≡ set_value (key_eq (key (lower c.args.record.name) (type_of c.args.record.rdata))) c.self.inside.sets.entries c.insert.new.self =
     (c.get_mut.follows.holds c.insert.new.self).0 ∙ ap (λ k. set_value (key_eq k) c.self.inside.sets.entries c.insert.new.self) c.requires in
-    let at : c.self.inside.sets.entries ≡ c.args.self.now = c.self.view_is in
-    subst (λ (m : Sets). OnOk c.insert.result ((c.get_mut.follows.lender c.insert.new.self).entries ≡ unwrap_or (with_record m c.args.record c.args.serial) m)) at
-    (subst (λ (n : Sets). OnOk c.insert.result (n ≡ unwrap_or (with_record c.self.inside.sets.entries c.args.record c.args.serial) c.self.inside.sets.entries)) (sym written)
-    (stored_after c.self.inside.sets.entries c.args.record c.args.serial c.in-Some.set.now found c.get_mut.ensures.ordered c.insert.new.self c.insert.result c.insert.ensures.after))
-
-pub returns-in-Some-clause-same : goal.returns-in-Some-clause-same
-returns-in-Some-clause-same c =
-    let found : set_at c.self.inside.sets.entries (lower c.args.record.name) (type_of c.args.record.rdata) ≡ Some c.in-Some.set.now =
-    ap (λ k. lookup (key_eq k) c.self.inside.sets.entries) (sym c.requires) ∙ sym c.in-Some.ensures.value in
-    let written : (c.get_mut.follows.lender c.insert.new.self).entries ≡ set_value (key_eq (key (lower c.args.record.name) (type_of c.args.record.rdata))) c.self.inside.sets.entries c.insert.new.self =
-    (c.get_mut.follows.holds c.insert.new.self).0 ∙ ap (λ k. set_value (key_eq k) c.self.inside.sets.entries c.insert.new.self) c.requires in
-    subst (λ (m : Sets). OnErr c.insert.result ((c.get_mut.follows.lender c.insert.new.self).entries ≡ m)) c.self.view_is
-    (subst (λ (n : Sets). OnErr c.insert.result (n ≡ c.self.inside.sets.entries)) (sym written)
-    (stored_same c.self.inside.sets.entries c.args.record c.args.serial c.in-Some.set.now found c.get_mut.ensures.ordered c.insert.new.self c.insert.result c.insert.ensures.same))
+    subst (λ (m : Sets). IsInsertion m (with_record m c.args.record c.args.serial) c.insert.result (c.get_mut.follows.lender c.insert.new.self).entries) c.self.view_is
+    (subst (λ (n : Sets). IsInsertion c.self.inside.sets.entries (with_record c.self.inside.sets.entries c.args.record c.args.serial) c.insert.result n) (sym written)
+    (record {
+      answer = stored_answer c.self.inside.sets.entries c.args.record c.args.serial c.in-Some.set.now found c.insert.result c.insert.ensures.answer;
+      after =
+          stored_after c.self.inside.sets.entries c.args.record c.args.serial c.in-Some.set.now found c.get_mut.ensures.ordered c.insert.new.self c.insert.result c.insert.ensures.after;
+      err = c.insert.ensures.err;
+      same = stored_same c.self.inside.sets.entries c.args.record c.args.serial c.in-Some.set.now found c.get_mut.ensures.ordered c.insert.new.self c.insert.result c.insert.ensures.same;
+    }))
