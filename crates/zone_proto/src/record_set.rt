@@ -1,6 +1,6 @@
 ghost use Rattle.std.specs.Prelude.{◌≡◌, [], ◌++◌, ◌∷◌, true, ◌==◌, IfOk, OnOk, OnErr, length, is_some, unwrap_or, IsOkUnless};
 ghost use Rattle.zone_proto.specs.Names.{same_name};
-ghost use Rattle.zone_proto.specs.Types.{IN};
+ghost use Rattle.zone_proto.specs.Types.{IN, RRSIG};
 ghost use Rattle.zone_proto.specs.Data.{type_of};
 ghost use Rattle.zone_proto.specs.Sets.{IsSet, inserted, lent, record_of};
 
@@ -69,8 +69,7 @@ impl Eq for RecordSet {
 }
 
 impl RecordSet {
-    /// A set without records, of class IN and TTL 0. `serial` is the zone's serial when the set was last changed, and for a
-    /// set of type SOA that of its record. Takes no memory.
+    /// A set without records, of class IN, TTL 0 and this serial. Takes no memory.
     pub fn new(name: Name, record_type: RecordType, serial: u32) -> RecordSet
         ensures { result ≡ record {
           owner = name;
@@ -238,9 +237,10 @@ impl RecordSet {
         self.insert(new, 0)
     }
 
-    /// Puts a signature, a record of type RRSIG (RFC 4034 section 3), behind those that the set has. `Memory` leaves the set
-    /// as it was.
+    /// Puts a signature behind those that the set has. The caller hands in a record of type RRSIG (RFC 4034 section 3).
+    /// `Memory` leaves the set as it was.
     pub fn insert_rrsig(&mut self, rrsig: Record) -> Result<(), ProtoError>
+        requires kind { type_of rrsig.rdata ≡ RRSIG }
         ensures ok { OnOk result (self.new ≡ record self.old { signatures = self.old.signatures ++ rrsig ∷ [] }) }
         ensures err { IsOkUnless result ProtoError.Memory }
         ensures same { OnErr result (self.new ≡ self.old) }
