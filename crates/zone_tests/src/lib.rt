@@ -6,8 +6,6 @@ mod handler;
 #[cfg(test)]
 mod handler_memory;
 #[cfg(test)]
-mod library;
-#[cfg(test)]
 mod names;
 #[cfg(test)]
 mod names_memory;
