@@ -10,11 +10,7 @@ mod names;
 #[cfg(test)]
 mod names_memory;
 #[cfg(test)]
-mod program_lines;
-#[cfg(test)]
 mod program_memory;
-#[cfg(test)]
-mod program_streams;
 #[cfg(test)]
 mod sets;
 #[cfg(test)]
