@@ -1,7 +1,7 @@
 // Signatures for tests.
 ghost use Rattle.std.specs.Prelude.{◌≡◌, IfOk};
 ghost use Rattle.zone_proto.specs.Data.{type_of};
-ghost use Rattle.zone_proto.specs.Types.{RRSIG};
+ghost use Rattle.zone_proto.specs.Types.{RRSIG as RrsigType};
 
 use std::alloc::Global;
 use zone_proto::{Name, ProtoError, RData, RRSIG, Record, RecordType, Seq};
@@ -29,7 +29,7 @@ pub(crate) fn rrsig(alloc: Global, key_tag: u16) -> Result<RRSIG, ProtoError> {
 
 /// The record of that signature.
 pub(crate) fn signature(alloc: Global, owner: &str, key_tag: u16) -> Result<Record, ProtoError>
-    ensures { IfOk result (λ r. type_of r.rdata ≡ RRSIG) }
+    ensures { IfOk result (λ r. type_of r.rdata ≡ RrsigType) }
 {
     let rdata = RData::RRSIG(rrsig(alloc, key_tag)?);
     Ok(Record::from_rdata(Name::parse(alloc, owner)?, 60, rdata))
@@ -37,7 +37,7 @@ pub(crate) fn signature(alloc: Global, owner: &str, key_tag: u16) -> Result<Reco
 
 /// A signature at the root and by the root, which takes no memory.
 pub(crate) fn root_signature(alloc: Global) -> Record
-    ensures { type_of result.rdata ≡ RRSIG }
+    ensures { type_of result.rdata ≡ RrsigType }
 {
     let rdata = RData::RRSIG(rrsig_of(alloc, Name::root(alloc), 9));
     Record::from_rdata(Name::root(alloc), 60, rdata)
