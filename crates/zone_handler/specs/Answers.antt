@@ -1,7 +1,9 @@
 -- The records that an answer yields, in order
-use Rattle.std.specs.Prelude.{List, [], reverse}
+use Rattle.std.specs.Prelude.{◌≡◌, List, [], reverse}
 use Rattle.std.specs.Slice.Iter.{iter_rest}
 use Rattle.zone_proto.specs.declared.record.Record.{Record}
+use Rattle.zone_proto.specs.Sets.{RRset}
+use Rattle.zone_handler.specs.declared.lookup_options.LookupOptions.{LookupOptions}
 use Rattle.zone_handler.specs.declared.lookup_records.LookupRecords.{LookupRecords}
 use Rattle.zone_handler.specs.declared.lookup_records.LookupRecords.TheVariants as L
 use Rattle.zone_handler.specs.declared.lookup_records_iter.LookupRecordsIter.{LookupRecordsIter}
@@ -14,6 +16,11 @@ records_in L.Empty = []
 records_in (L.Records options set) = set_records options set
 records_in (L.ManyRecords options sets) = sets_records options (reverse sets.items)
 records_in (L.Section records) = records.items
+
+-- several sets as a section keeps them: from the last to the first
+abbrev pub KeepsMany : LookupOptions → List RRset → LookupRecords → Type 0
+KeepsMany options sets (L.ManyRecords kept_options kept) = (kept_options ≡ options) × (kept.items ≡ reverse sets)
+KeepsMany options sets _ = ⊥
 
 -- what an iterator over them has left
 abbrev pub left_in : LookupRecordsIter → List Record

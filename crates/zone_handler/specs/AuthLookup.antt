@@ -18,11 +18,15 @@ records_of A.Empty = []
 records_of (A.Records answers additionals) = records_in answers
 records_of (A.Response message) = message.answers.items
 
--- the records that may help beside the answer, if such a section is there (the additional section)
+-- the section of the records that may help beside the answer, as it is kept, if it is there (the additional section)
+abbrev pub kept_additionals : AuthLookup → Option LookupRecords
+kept_additionals A.Empty = None
+kept_additionals (A.Records answers additionals) = additionals
+kept_additionals (A.Response message) = Some (L.Section message.additionals)
+
+-- the records that it lists
 abbrev pub additionals_of : AuthLookup → Option (List Record)
-additionals_of A.Empty = None
-additionals_of (A.Records answers additionals) = option_map records_in additionals
-additionals_of (A.Response message) = Some message.additionals.items
+additionals_of answer = option_map records_in (kept_additionals answer)
 
 -- what another server said of the authority, if this is its response (the authority section)
 abbrev pub authorities_of : AuthLookup → Option (List Record)

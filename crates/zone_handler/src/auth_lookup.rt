@@ -1,7 +1,7 @@
 ghost use Rattle.std.specs.Prelude.{◌≡◌, ◌↔◌, [], IsTrue, None};
 ghost use Rattle.std.specs.Option.{option_map};
-ghost use Rattle.zone_handler.specs.Answers.{records_in, left_in};
-ghost use Rattle.zone_handler.specs.AuthLookup.{records_of, left_of, additionals_of, authorities_of, zone_answers, WithoutAdditionals};
+ghost use Rattle.zone_handler.specs.Answers.{left_in};
+ghost use Rattle.zone_handler.specs.AuthLookup.{records_of, left_of, kept_additionals, additionals_of, authorities_of, zone_answers, WithoutAdditionals};
 
 use crate::auth_lookup_iter::AuthLookupIter;
 use crate::lookup_records::LookupRecords;
@@ -94,10 +94,10 @@ impl AuthLookup {
         }
     }
 
-    /// Takes out the records that may help beside the answer. Records of the zone are left without
-    /// such a section; another server's response is left with an empty one.
+    /// Takes out the section of the records that may help beside the answer, as it is kept. Records of the zone are left
+    /// without such a section. Another server's response gives its records, also where it has none, and is left with none.
     pub fn take_additionals(&mut self) -> Option<LookupRecords>
-        ensures taken { option_map records_in result ≡ additionals_of self.old }
+        ensures taken { result ≡ kept_additionals self.old }
         ensures left { WithoutAdditionals self.old self.new }
     {
         match self {

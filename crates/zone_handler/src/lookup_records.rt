@@ -1,6 +1,6 @@
 ghost use Rattle.std.specs.Prelude.{◌≡◌, ◌↔◌, [], IsTrue};
 ghost use Rattle.zone_handler.specs.Sets.{set_records, sets_records};
-ghost use Rattle.zone_handler.specs.Answers.{records_in, left_in};
+ghost use Rattle.zone_handler.specs.Answers.{records_in, left_in, KeepsMany};
 
 use crate::lookup_options::LookupOptions;
 use crate::lookup_records_iter::LookupRecordsIter;
@@ -47,10 +47,11 @@ impl LookupRecords {
         }
     }
 
-    /// The records of several sets in the order handed in, each with its signatures if
-    /// `lookup_options` ask for DNSSEC. The list is kept, reversed in place.
+    /// The records of several sets in the order handed in, each with its signatures if `lookup_options` ask for DNSSEC. The
+    /// list is kept as `ManyRecords`, whatever its length, and reversed in place.
     pub fn many(lookup_options: LookupOptions, mut sets: Vec<RecordSet>) -> LookupRecords
-        ensures { records_in result ≡ sets_records lookup_options sets.items }
+        ensures records { records_in result ≡ sets_records lookup_options sets.items }
+        ensures kept { KeepsMany lookup_options sets.items result }
     {
         sets.reverse();
         LookupRecords::ManyRecords(lookup_options, sets)

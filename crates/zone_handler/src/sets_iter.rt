@@ -28,7 +28,7 @@ impl<'r> Model for SetsIter<'r> {
 impl<'r> SetsIter<'r> {
     /// The records of `sets`, which stand from the last to the first, with signatures if `options` ask for DNSSEC; None
     /// where there is no set.
-    pub fn new(options: LookupOptions, sets: &'r [RecordSet]) -> Option<SetsIter<'r>>
+    pub(crate) fn new(options: LookupOptions, sets: &'r [RecordSet]) -> Option<SetsIter<'r>>
         ensures none { IsNone result ↔ (sets.now ≡ []) }
         ensures records { IfSome result (λ it. it ≡ sets_records options (reverse sets.now)) }
     {

@@ -5,11 +5,12 @@ use Rattle.std.proofs.Math.Seq.{drop-append_seam}
 use Rattle.std.proofs.lemmas.Slice.Eq.{slice_eq-Decides, bytes_eq-Decides}
 use Rattle.std.proofs.lemmas.Cmp.{tied_itself}
 use Rattle.std.specs.Bool.{Decides}
+use Rattle.std.specs.Prelude.{◌↔◌, IsTrue}
 use Rattle.std.specs.List.{Contains, drop-map}
 use Rattle.std.specs.declared.cmp.Ordering.{Ordering}
 use Rattle.std.specs.declared.cmp.Ordering.TheVariants.{Less, Equal, Greater}
 use Rattle.std.specs.Ordering.{is_eq, is_gt}
-use Rattle.zone_proto.specs.Names.{Name, Label, lower, lower_label, name_cmp, caseless_cmp, name_eq, is_at_or_above, IsAtOrAbove, IsAbove, suffixes}
+use Rattle.zone_proto.specs.Names.{Name, Label, lower, lower_label, name_cmp, caseless_cmp, name_eq, is_at_or_above, is_above, IsAtOrAbove, IsAbove, suffixes}
 use Rattle.zone_proto.specs.Before.{IsBefore}
 use Rattle.zone_proto.specs.NameLaws.{name_cmp_total, exact_names, ancestor_first, descendants_together}
 use Rattle.zone_proto.proofs.BeforeLaws.{less_from_before}
@@ -65,6 +66,19 @@ is_at_or_above_complete a (l ∷ ls) w = by w.0 w.1 (is_at_or_above_complete a l
     by : (f : Name) → l ∷ ls ≡ f ++ a → (IsAtOrAbove a ls → is_at_or_above a ls ≡ true) → is_at_or_above a (l ∷ ls) ≡ true
     by [] e more = first (name_eq a (l ∷ ls)) (is_at_or_above a ls) ((name_eq-Decides a (l ∷ ls)).1 (sym e))
     by (k ∷ f) e more = second (name_eq a (l ∷ ls)) (is_at_or_above a ls) (more (f, tail_of a f ls l k e))
+
+pub at_or_above_test : (a n : Name) → IsTrue (is_at_or_above a n) ↔ IsAtOrAbove a n
+at_or_above_test a n = (is_at_or_above_sound a n, is_at_or_above_complete a n)
+
+below_first : (a f ls : Name) (l k : Label) → l ∷ ls ≡ (k ∷ f) ++ a → IsAtOrAbove a ls
+below_first a f ls l k e = (f, tail_of a f ls l k e)
+
+pub above_test : (a n : Name) → IsTrue (is_above a n) ↔ IsAbove a n
+above_test a [] = (λ h. cc, λ w. absurd (no_front a w.1 w.0 w.2))
+above_test a (l ∷ ls) = (
+  λ h. let up : IsAtOrAbove a ls = is_at_or_above_sound a ls h in (l, up.0, ap (λ s. l ∷ s) up.1),
+  λ w. is_at_or_above_complete a ls (below_first a w.1 ls l w.0 w.2),
+)
 
 -- ---- the suffixes of a name are the names at or above it
 

@@ -1,11 +1,13 @@
 -- What a total order that tells all values apart gives: trichotomy, and what the greatest and the least of a list are
-use Rattle.std.proofs.Common.{◌≡◌, Bool, true, false, cond, List, [], ◌∷◌, refl, sym, ap, ◌∙◌, subst, true≢false, ◌⊎◌, inl, inr, Ordering, Less, Equal, Greater, is_lt, is_le}
-use Rattle.std.specs.Prelude.{Option, Some, None}
-use Rattle.std.specs.Ordering.{ordering_reverse}
+use Rattle.std.proofs.Common.{◌≡◌, ◌↔◌, Bool, true, false, cond, List, [], ◌∷◌, refl, sym, ap, ◌∙◌, subst, true≢false, ◌⊎◌, inl, inr, Ordering, Less, Equal, Greater, is_lt, is_le}
+use Rattle.std.specs.Prelude.{Option, Some, None, IsFalse}
+use Rattle.std.specs.List.{Contains}
+use Rattle.std.specs.Ordering.{ordering_reverse, flip_args, nat_cmp}
 use Rattle.std.specs.Cmp.{IsTotalOrder}
-use Rattle.std.proofs.lemmas.Cmp.{tied_itself}
-use Rattle.zone_proto.specs.Order.{is_before, is_upto, greater, greatest}
-use Rattle.zone_proto.proofs.Members.{In}
+use Rattle.std.proofs.lemmas.Cmp.{tied_itself, back_total, nat_cmp_total}
+use Rattle.std.proofs.lemmas.Map.Lookups.{exact_unsigned}
+use Rattle.zone_proto.specs.Order.{is_before, is_upto, greater, greatest, least, IsGreatest, IsLeast}
+use Rattle.zone_proto.proofs.Members.{In, In-Contains, Contains-In}
 
 pub less_test : (r : Ordering) → is_lt r ≡ true → r ≡ Less
 less_test Less e = refl
@@ -21,6 +23,10 @@ pub data Side {K : Type 0} (R : K → K → Ordering) (x y : K) : Type 0 where
 pub record IsOrder {K : Type 0} (R : K → K → Ordering) : Type 0 where
   pub total : IsTotalOrder R
   pub exact : (x y : K) → R x y ≡ Equal → x ≡ y
+
+-- the order of numbers
+pub number_order : IsOrder nat_cmp
+number_order = record { total = nat_cmp_total; exact = exact_unsigned }
 
 module _ {K : Type 0} {R : K → K → Ordering} (o : IsOrder R) where
   pub irrefl : (x : K) → R x x ≡ Less → ⊥
@@ -67,17 +73,17 @@ module _ {K : Type 0} {R : K → K → Ordering} (o : IsOrder R) where
       by (inl e) = ap (λ w. R w z) e ∙ k
       by (inr e) = o.total.trans x y z e k
 
-  -- m is an element, and none is greater
-  pub record IsGreatest (xs : List K) (m : K) : Type 0 where
+  -- the same as `IsGreatest`, element by element
+  pub record IsTop (xs : List K) (m : K) : Type 0 where
     pub among : In m xs
     pub none_greater : (y : K) → In y xs → R m y ≡ Less → ⊥
 
   -- what `greatest` answers
   abbrev GreatestOf : List K → Option K → Type 0
   GreatestOf xs None = (y : K) → In y xs → ⊥
-  GreatestOf xs (Some m) = IsGreatest xs m
+  GreatestOf xs (Some m) = IsTop xs m
 
-  step : (x : K) (xs : List K) (g : Option K) → GreatestOf xs g → IsGreatest (x ∷ xs) (greater R x g)
+  step : (x : K) (xs : List K) (g : Option K) → GreatestOf xs g → IsTop (x ∷ xs) (greater R x g)
   step x xs None h = record { among = inl refl; none_greater = only }
     where
       only : (y : K) → In y (x ∷ xs) → R x y ≡ Less → ⊥
@@ -93,7 +99,7 @@ module _ {K : Type 0} {R : K → K → Ordering} (o : IsOrder R) where
       itself e y (inl q) l = irrefl x (ap (R x) q ∙ l)
       itself e y (inr i) l = h.none_greater y i (before_from_upto m x y (upto_from_not_before m x (λ k. true≢false (sym (ap is_lt k) ∙ e))) l)
 
-      by : (b : Bool) → is_before R x m ≡ b → IsGreatest (x ∷ xs) (cond b m x)
+      by : (b : Bool) → is_before R x m ≡ b → IsTop (x ∷ xs) (cond b m x)
       by true e = record { among = inr h.among; none_greater = above e }
       by false e = record { among = inl refl; none_greater = itself e }
 
@@ -101,25 +107,25 @@ module _ {K : Type 0} {R : K → K → Ordering} (o : IsOrder R) where
   greatest_of [] = λ y i. i
   greatest_of (x ∷ xs) = step x xs (greatest R xs) (greatest_of xs)
 
-  pub greatest_is : (xs : List K) (m : K) → greatest R xs ≡ Some m → IsGreatest xs m
+  pub greatest_is : (xs : List K) (m : K) → greatest R xs ≡ Some m → IsTop xs m
   greatest_is xs m e = subst (GreatestOf xs) e (greatest_of xs)
 
   pub greatest_none : (xs : List K) → greatest R xs ≡ None → (y : K) → In y xs → ⊥
   greatest_none xs e = subst (GreatestOf xs) e (greatest_of xs)
 
   -- there is one where there is an element
-  pub has_greatest : (xs : List K) (x : K) → In x xs → (m : K) × (greatest R xs ≡ Some m) × IsGreatest xs m
+  pub has_greatest : (xs : List K) (x : K) → In x xs → (m : K) × (greatest R xs ≡ Some m) × IsTop xs m
   has_greatest xs x i = by (greatest R xs) refl
     where
-      by : (g : Option K) → greatest R xs ≡ g → (m : K) × (greatest R xs ≡ Some m) × IsGreatest xs m
+      by : (g : Option K) → greatest R xs ≡ g → (m : K) × (greatest R xs ≡ Some m) × IsTop xs m
       by None e = absurd (greatest_none xs e x i)
       by (Some m) e = (m, e, greatest_is xs m e)
 
   -- only one
-  pub greatest_from : (xs : List K) (m : K) → IsGreatest xs m → greatest R xs ≡ Some m
+  pub greatest_from : (xs : List K) (m : K) → IsTop xs m → greatest R xs ≡ Some m
   greatest_from xs m h = by (has_greatest xs m h.among)
     where
-      by : (p : (q : K) × (greatest R xs ≡ Some q) × IsGreatest xs q) → greatest R xs ≡ Some m
+      by : (p : (q : K) × (greatest R xs ≡ Some q) × IsTop xs q) → greatest R xs ≡ Some m
       by p = p.1 ∙ ap Some (even (side p.0 m))
         where
           even : Side R p.0 m → p.0 ≡ m
@@ -136,3 +142,36 @@ module _ {K : Type 0} {R : K → K → Ordering} (o : IsOrder R) where
       by None e (Some n) d = absurd (greatest_none xs e n (g n (greatest_is ys n d).among))
       by (Some m) e None d = absurd (greatest_none ys d m (f m (greatest_is xs m e).among))
       by (Some m) e (Some n) d = sym e ∙ greatest_from xs n (record { among = g n (greatest_is ys n d).among; none_greater = λ y i l. (greatest_is ys n d).none_greater y (f y i) l })
+
+  not_before : (x y : K) → (R x y ≡ Less → ⊥) → is_before R x y ≡ false
+  not_before x y h = by (is_before R x y) refl
+    where
+      by : (b : Bool) → is_before R x y ≡ b → is_before R x y ≡ false
+      by true e = absurd (h (less_test (R x y) e))
+      by false e = e
+
+  top_is : (xs : List K) (m : K) → IsTop xs m → IsGreatest R xs m
+  top_is xs m h = record { element = In-Contains m xs h.among; last = λ x i. not_before m x (h.none_greater x (Contains-In x xs i)) }
+
+  top_from : (xs : List K) (m : K) → IsGreatest R xs m → IsTop xs m
+  top_from xs m h = record { among = Contains-In m xs h.element; none_greater = λ x i e. true≢false (sym (ap is_lt e) ∙ h.last x (In-Contains x xs i)) }
+
+  pub greatest_law : (xs : List K) (m : K) → (greatest R xs ≡ Some m) ↔ IsGreatest R xs m
+  greatest_law xs m = (λ e. top_is xs m (greatest_is xs m e), λ h. greatest_from xs m (top_from xs m h))
+
+pub greatest_there : {K : Type 0} (R : K → K → Ordering) (xs : List K) → (greatest R xs ≡ None) ↔ (xs ≡ [])
+greatest_there R [] = (λ e. refl, λ e. refl)
+greatest_there R (x ∷ xs) = (λ e. cc, λ e. cc)
+
+-- ---- the least is the greatest of the order the other way round
+
+pub least_law : {K : Type 0} {R : K → K → Ordering} → IsOrder R → (xs : List K) (m : K) → (least R xs ≡ Some m) ↔ IsLeast R xs m
+least_law {R = R} o xs m =
+    let back : IsOrder (flip_args R) = record { total = back_total o.total; exact = λ x y e. sym (o.exact y x e) } in
+    let both : (least R xs ≡ Some m) ↔ IsGreatest (flip_args R) xs m = greatest_law back xs m in (
+      λ e. let h = both.0 e in record { element = h.element; first = h.last },
+      λ h. both.1 (record { element = h.element; last = h.first }),
+    )
+
+pub least_there : {K : Type 0} (R : K → K → Ordering) (xs : List K) → (least R xs ≡ None) ↔ (xs ≡ [])
+least_there R xs = greatest_there (flip_args R) xs

@@ -1,5 +1,6 @@
 -- Words on values under an order: the least and the greatest of a list
-use Rattle.std.specs.Prelude.{Bool, cond, List, [], ◌∷◌, Option, Some, None}
+use Rattle.std.specs.Prelude.{Bool, IsFalse, cond, List, [], ◌∷◌, Option, Some, None}
+use Rattle.std.specs.List.{Contains}
 use Rattle.std.specs.declared.cmp.Ordering.{Ordering}
 use Rattle.std.specs.Ordering.{is_lt, is_le, flip_args}
 
@@ -21,6 +22,16 @@ module _ {K : Type 0} (cmp : K → K → Ordering) where
   abbrev pub greatest : List K → Option K
   greatest [] = None
   greatest (x ∷ xs) = Some (greater x (greatest xs))
+
+  -- what these words mean: an element that none stands after
+  pub record IsGreatest (xs : List K) (m : K) : Type 0 where
+    pub element : Contains xs m
+    pub last : (x : K) → Contains xs x → IsFalse (is_before m x)
+
+  -- an element that none stands before
+  pub record IsLeast (xs : List K) (m : K) : Type 0 where
+    pub element : Contains xs m
+    pub first : (x : K) → Contains xs x → IsFalse (is_before x m)
 
 -- the least element of a list
 abbrev pub least : {K : Type 0} → (K → K → Ordering) → List K → Option K

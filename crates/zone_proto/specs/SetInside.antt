@@ -1,5 +1,5 @@
 -- Record sets as the program keeps them
-use Rattle.zone_proto.specs.Sets.{RRset, IsSet}
+use Rattle.zone_proto.specs.Sets.{RRset, IsSet, AreSignatures}
 use Rattle.zone_proto.specs.declared.record_set.RecordSet.TheInside.{Inside}
 
 -- the fields of a record set as a value
@@ -15,5 +15,7 @@ set_of s =
       signatures = s.rrsigs.items;
     }
 
-abbrev pub IsSetInside : Inside → Type 0
-IsSetInside s = IsSet s.name s.record_type.0 s.records.items
+-- the records are a set, and the signatures are signatures
+pub record IsSetInside (s : Inside) : Type 0 where
+  pub set : IsSet s.name s.record_type.0 s.records.items
+  pub signed : AreSignatures s.rrsigs.items

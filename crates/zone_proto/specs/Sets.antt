@@ -35,6 +35,10 @@ pub record IsSet (owner : Name) (record_type : ℕ) (records : List Record) : Ty
   pub differ : AllPairs (λ (a b : Record). same_data a.rdata b.rdata ≡ false) records
   pub single : is_single record_type ≡ true → length records ≤ 1
 
+-- records of type RRSIG (RFC 4034 section 3)
+abbrev pub AreSignatures : List Record → Type 0
+AreSignatures rs = All (λ (r : Record). type_of r.rdata ≡ types.RRSIG) rs
+
 -- sets are equal by all seven parts, names without case, records as records are equal
 abbrev pub same_set : RRset → RRset → Bool
 same_set a b = same_name a.owner b.owner && (a.record_type == b.record_type && (a.class == b.class && (a.ttl == b.ttl && (a.serial == b.serial && (pointwise same_record a.records b.records && (pointwise same_record a.signatures b.signatures))))))

@@ -18,7 +18,7 @@ fn is_single(record_type: RecordType) -> bool
 }
 
 /// Whether these data are refused beside the stored records.
-pub fn is_refused(records: &[Record], new: &RData) -> bool
+pub(crate) fn is_refused(records: &[Record], new: &RData) -> bool
     ensures { result ≡ is_refused records.now new.now }
 {
     if let Some(serial) = soa_serial(new) {
@@ -52,7 +52,7 @@ fn stores(records: &[Record], new: &RData) -> bool
 }
 
 /// Puts a record in place of all others where the type has at most one, else behind them.
-pub fn put_record(records: &mut Vec<Record>, new: Record) -> Result<(), ProtoError>
+pub(crate) fn put_record(records: &mut Vec<Record>, new: Record) -> Result<(), ProtoError>
     ensures ok { OnOk result (records.new.items ≡ records_with records.old.items new) }
     ensures err { IsOkUnless result ProtoError.Memory }
     ensures same { OnErr result (records.new.items ≡ records.old.items) }
@@ -79,7 +79,7 @@ fn put_alone(records: &mut Vec<Record>, new: Record) -> Result<(), ProtoError>
 }
 
 /// Puts a record behind all others; a list of one has room for one.
-pub fn put_last(records: &mut Vec<Record>, new: Record) -> Result<(), ProtoError>
+pub(crate) fn put_last(records: &mut Vec<Record>, new: Record) -> Result<(), ProtoError>
     ensures ok { OnOk result (records.new.items ≡ records.old.items ++ new ∷ []) }
     ensures err { IsOkUnless result ProtoError.Memory }
     ensures same { OnErr result (records.new.items ≡ records.old.items) }

@@ -1,10 +1,12 @@
 //! Laws of the definitions that the calls of this crate are proved to meet. Each is an empty function whose contract is
 //! the law, for every value, so a program has no need to call one.
-ghost use Rattle.std.specs.Prelude.{◌≡◌, ◌↔◌, ◌⊎◌, ℕ, List, reverse};
+ghost use Rattle.std.specs.Prelude.{◌≡◌, ◌↔◌, ◌⊎◌, ℕ, List, [], Some, None, IsTrue};
 ghost use Rattle.std.specs.declared.cmp.Ordering.TheVariants.{Less, Equal};
 ghost use Rattle.std.specs.Cmp.{IsTotalOrder};
+ghost use Rattle.std.specs.Ordering.{nat_cmp};
 ghost use Rattle.zone_proto.specs.Before.{IsBefore};
-ghost use Rattle.zone_proto.specs.Names.{Name, name_cmp, caseless_cmp, lower, IsAbove, IsAtOrAbove, IsName};
+ghost use Rattle.zone_proto.specs.Names.{Name, name_cmp, caseless_cmp, lower, is_above, is_at_or_above, IsAbove, IsAtOrAbove, IsName};
+ghost use Rattle.zone_proto.specs.Order.{greatest, least, IsGreatest, IsLeast};
 ghost use Rattle.zone_proto.specs.Faults.{IsTextFault};
 ghost use Rattle.zone_proto.specs.Text.{name_text};
 ghost use Rattle.zone_proto.specs.TextForm.{IsNameText};
@@ -53,6 +55,30 @@ pub fn ancestor_is_first()
 /// The names at and below a name stand together: a name between two of them is one of them.
 pub fn descendants_are_together()
     ensures { (a l x r : Name) → IsAtOrAbove a l → IsAtOrAbove a r → IsBefore l x → IsBefore x r → IsAtOrAbove a x }
+{}
+
+/// The tests whether a name is at or above another, or above it, hold exactly where it is.
+pub fn tests_of_the_tree_are_exact()
+    ensures at_or_above { (a n : Name) → IsTrue (is_at_or_above a n) ↔ IsAtOrAbove a n }
+    ensures above { (a n : Name) → IsTrue (is_above a n) ↔ IsAbove a n }
+{}
+
+/// The greatest of names in lower case or of types is the one that none stands after, and it is there exactly where the
+/// list isn't empty.
+pub fn greatest_stands_last()
+    ensures name { (ns : List Name) (n : Name) → (greatest name_cmp ns ≡ Some n) ↔ IsGreatest name_cmp ns n }
+    ensures no_name { (ns : List Name) → (greatest name_cmp ns ≡ None) ↔ (ns ≡ []) }
+    ensures number { (ts : List ℕ) (t : ℕ) → (greatest nat_cmp ts ≡ Some t) ↔ IsGreatest nat_cmp ts t }
+    ensures no_number { (ts : List ℕ) → (greatest nat_cmp ts ≡ None) ↔ (ts ≡ []) }
+{}
+
+/// The least of names in lower case or of types is the one that none stands before, and it is there exactly where the list
+/// isn't empty.
+pub fn least_stands_first()
+    ensures name { (ns : List Name) (n : Name) → (least name_cmp ns ≡ Some n) ↔ IsLeast name_cmp ns n }
+    ensures no_name { (ns : List Name) → (least name_cmp ns ≡ None) ↔ (ns ≡ []) }
+    ensures number { (ts : List ℕ) (t : ℕ) → (least nat_cmp ts ≡ Some t) ↔ IsLeast nat_cmp ts t }
+    ensures no_number { (ts : List ℕ) → (least nat_cmp ts ≡ None) ↔ (ts ≡ []) }
 {}
 
 /// A text is the text form of one list of labels at most (RFC 1035 section 5.1). Either these are a name, which `parse`

@@ -1,8 +1,8 @@
 ghost use Rattle.std.specs.Prelude.{◌≡◌, [], ◌++◌, ◌∷◌, true, ◌==◌, IfOk, OnOk, OnErr, length, is_some, unwrap_or, IsOkUnless};
 ghost use Rattle.zone_proto.specs.Names.{same_name};
-ghost use Rattle.zone_proto.specs.Types.{IN};
+ghost use Rattle.zone_proto.specs.Types.{IN, RRSIG};
 ghost use Rattle.zone_proto.specs.Data.{type_of};
-ghost use Rattle.zone_proto.specs.Sets.{IsSet, inserted, lent, record_of};
+ghost use Rattle.zone_proto.specs.Sets.{IsSet, AreSignatures, inserted, lent, record_of};
 
 use crate::dns_class::DNSClass;
 use crate::error::ProtoError;
@@ -16,8 +16,8 @@ use std::marker::Model;
 
 /// The records of one owner and type, with the set's TTL, serial and signatures (RFC 2181 section 5).
 ///
-/// Of every set: its records have the set's owner, the case of letters aside, and its type; no two have equal data;
-/// and a set of type SOA, CNAME or ANAME has at most one.
+/// Of every set: its records have the set's owner, the case of letters aside, and its type; no two have equal data; a set
+/// of type SOA, CNAME or ANAME has at most one; and its signatures are of type RRSIG.
 #[derive(Debug, Drop)]
 pub struct RecordSet {
     name: Name,
@@ -163,9 +163,10 @@ impl RecordSet {
         self.serial
     }
 
-    /// The signatures in order.
+    /// The signatures in order, records of type RRSIG.
     pub fn rrsigs(&self) -> &[Record]
-        ensures { result.now ≡ self.now.signatures }
+        ensures value { result.now ≡ self.now.signatures }
+        ensures kind { AreSignatures self.now.signatures }
     {
         self.rrsigs.as_slice()
     }
@@ -238,9 +239,10 @@ impl RecordSet {
         self.insert(new, 0)
     }
 
-    /// Puts a signature, a record of type RRSIG (RFC 4034 section 3), behind those that the set has. `Memory` leaves the set
-    /// as it was.
+    /// Puts a signature behind those that the set has. The caller hands in a record of type RRSIG (RFC 4034 section 3).
+    /// `Memory` leaves the set as it was.
     pub fn insert_rrsig(&mut self, rrsig: Record) -> Result<(), ProtoError>
+        requires kind { type_of rrsig.rdata ≡ RRSIG }
         ensures ok { OnOk result (self.new ≡ record self.old { signatures = self.old.signatures ++ rrsig ∷ [] }) }
         ensures err { IsOkUnless result ProtoError.Memory }
         ensures same { OnErr result (self.new ≡ self.old) }

@@ -64,7 +64,7 @@ impl RecordType {
     pub const ANAME: RecordType = RecordType(65305);
 
     /// Whether `RData` has a case of its own for the type. Takes no memory.
-    pub fn has_own_case(self) -> bool
+    pub(crate) fn has_own_case(self) -> bool
         ensures { result ≡ has_own_case self.0 }
     {
         matches!(

@@ -1,4 +1,7 @@
 // Records and zones for tests, and what a zone answers, as text.
+ghost use Rattle.std.specs.Prelude.{◌≡◌, IfOk};
+ghost use Rattle.zone_proto.specs.Data.{type_of};
+
 use std::alloc::Global;
 use std::test::Fail;
 use zone_handler::{
@@ -99,7 +102,9 @@ pub(crate) fn record(
     alloc: Global,
     owner: &str,
     record_type: RecordType,
-) -> Result<Record, ProtoError> {
+) -> Result<Record, ProtoError>
+    ensures { IfOk result (λ r. type_of r.rdata ≡ record_type.0) }
+{
     let target = Name::parse(alloc, "host.example.com.")?;
     let rdata = match record_type {
         RecordType::A => RData::A([192, 0, 2, 1]),

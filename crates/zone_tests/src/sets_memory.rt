@@ -1,4 +1,5 @@
 // Data and record sets where growths are refused: what takes no memory succeeds, and what takes some is refused whole.
+use crate::signatures::{root_signature, signature};
 use scarce::Scarcity;
 use std::alloc::Global;
 use std::test::Fail;
@@ -176,7 +177,7 @@ fn copies_of_sets_are_refused_whole(rt: HostRuntime) -> Result<(), Fail> {
             2
         )?
     );
-    set.insert_rrsig(Record::from_rdata(name(alloc)?, 60, RData::A([192, 0, 2, 3])))?;
+    set.insert_rrsig(signature(alloc, "a.example.com.", 7)?)?;
     let stored = Record::from_rdata(name(alloc)?, 60, RData::NS(name(alloc)?));
 
     let mut scarce = Scarcity::begin(alloc, 2 * ROOMS)?;
@@ -210,7 +211,7 @@ fn a_refused_record_leaves_a_set_and_its_signatures(rt: HostRuntime) -> Result<(
     let alloc = rt.alloc();
     let mut set = RecordSet::new(Name::root(alloc), RecordType::A, 1);
     assert!(rt; put(&mut set, root_address(alloc, 1), 2)?);
-    set.insert_rrsig(root_address(alloc, 9))?;
+    set.insert_rrsig(root_signature(alloc))?;
     let before = set.clone()?;
     let mut scarce = Scarcity::begin(alloc, ROOMS)?;
     let tried = scarce.until_given(STEP, || {
@@ -227,7 +228,7 @@ fn a_refused_record_leaves_a_set_and_its_signatures(rt: HostRuntime) -> Result<(
 fn refused_data_leave_a_set_and_its_signatures(rt: HostRuntime) -> Result<(), Fail> {
     let alloc = rt.alloc();
     let mut set = RecordSet::with_ttl(name(alloc)?, RecordType::A, 60);
-    set.insert_rrsig(root_address(alloc, 9))?;
+    set.insert_rrsig(root_signature(alloc))?;
     let before = set.clone()?;
     let mut scarce = Scarcity::begin(alloc, ROOMS)?;
     let tried = scarce.until_given(STEP, || {
@@ -246,7 +247,7 @@ fn a_refused_signature_leaves_a_set_unsigned(rt: HostRuntime) -> Result<(), Fail
     let mut set = RecordSet::new(Name::root(alloc), RecordType::A, 1);
     let mut scarce = Scarcity::begin(alloc, ROOMS)?;
     let tried = scarce.until_given(STEP, || {
-        let answer = set.insert_rrsig(root_address(alloc, 9));
+        let answer = set.insert_rrsig(root_signature(alloc));
         done_or_same(answer, set.rrsigs().is_empty())
     });
     drop(scarce);
@@ -286,7 +287,7 @@ fn signed_set(alloc: Global) -> Result<RecordSet, ProtoError> {
         Record::from_rdata(name(alloc)?, 60, RData::NS(name(alloc)?)),
         2,
     )?;
-    set.insert_rrsig(root_address(alloc, 9))?;
+    set.insert_rrsig(root_signature(alloc))?;
     Ok(set)
 }
 

@@ -15,7 +15,10 @@ invariant_of-self-2 c =
     c.requires.kind ∙ sym (ap (λ (s : RRset). s.record_type) c.self.view_is) in
     let new : is_refused c.self.inside.records.items c.args.new.rdata ≡ false =
     ap (λ rs. is_refused rs c.args.new.rdata) (sym c.as_slice.ensures.value) ∙ sym c.is_refused.ensures ∙ c.if-is_refused.false in
-    rw c.in_ok-put_record.ensures.ok (IsSet-with c.self.inside.name c.self.inside.record_type.0 c.self.inside.records.items c.args.new owner kind c.self.invariant new)
+    record {
+      set = rw c.in_ok-put_record.ensures.ok (IsSet-with c.self.inside.name c.self.inside.record_type.0 c.self.inside.records.items c.args.new owner kind c.self.invariant.set new);
+      signed = c.self.invariant.signed;
+    }
 
 pub returns-clause-after : goal.returns-clause-after
 returns-clause-after c =
@@ -23,5 +26,5 @@ returns-clause-after c =
     c.requires.kind ∙ sym (ap (λ (s : RRset). s.record_type) c.self.view_is) in
     let new : is_refused c.self.inside.records.items c.args.new.rdata ≡ false =
     ap (λ rs. is_refused rs c.args.new.rdata) (sym c.as_slice.ensures.value) ∙ sym c.is_refused.ensures ∙ c.if-is_refused.false in
-    let taken = inserted_taken (set_of c.self.inside) c.args.new c.args.serial c.self.invariant kind new in
+    let taken = inserted_taken (set_of c.self.inside) c.args.new c.args.serial c.self.invariant.set kind new in
     rw (c.clear_rrsigs.ensures, ← c.self.view_is, taken, c.in_ok-put_record.ensures.ok) refl
