@@ -6,6 +6,8 @@ pub mod Stored
 pub mod Upserting
 pub mod Clashing
 pub mod Delegations
+pub mod Fronts
+pub mod Wildcards
 pub mod Denials
 pub mod Examples
 pub mod CnamesAlone
