@@ -1,5 +1,3 @@
-pub mod Digits
-pub mod HexFacts
 pub mod Owned
 pub mod Neighbours
 pub mod Stored

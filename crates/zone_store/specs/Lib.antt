@@ -1,4 +1,3 @@
-pub mod Hex
 pub mod Zones
 pub mod Upserts
 pub mod Construction

@@ -1,30 +1,23 @@
 //! The program: reads a command from each line, and writes an answer to each.
 ghost use Rattle.std.specs.Prelude.{◌≡◌, ◌≢◌, ◌≤◌, length, IsErrOf};
 
-mod addresses;
 mod answers;
 mod command;
-mod data;
 mod demo_signer;
-mod fault;
-mod hex;
 mod lines;
-mod numbers;
-mod record_text;
 mod sha1_hash;
-mod words;
 
 use crate::InMemoryZoneHandler;
 use answers::{Zone, carry_out};
 use command::read_command;
 pub use demo_signer::DemoSigner;
-use fault::Fault;
 use lines::{Line, Lines};
 pub use sha1_hash::Sha1Hash;
 use std::alloc::{AllocError, Global};
 use std::io::{Read, Write};
 use zone_handler::{AxfrPolicy, ZoneType};
 use zone_proto::{Name, ProtoError};
+use zone_text::TextError;
 
 /// How many octets of an answer have room from the start.
 const ANSWER_ROOM: usize = 4_096;
@@ -146,8 +139,8 @@ fn answer_line(
     match read_command(alloc, line) {
         Ok(Some(command)) => carry_out(zone, command, answer)?,
         Ok(None) => {}
-        Err(Fault::Memory) => answer.push_str("error Memory\n")?,
-        Err(Fault::Bad) => return answer_bad_line(number, answer),
+        Err(TextError::Memory) => answer.push_str("error Memory\n")?,
+        Err(TextError::BadText) => return answer_bad_line(number, answer),
     }
     Ok(true)
 }

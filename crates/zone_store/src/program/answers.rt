@@ -1,7 +1,6 @@
 use crate::InMemoryZoneHandler;
 use crate::program::command::Command;
 use crate::program::demo_signer::DemoSigner;
-use crate::program::record_text::RecordText;
 use crate::program::sha1_hash::Sha1Hash;
 use std::alloc::AllocError;
 use std::fmt;
@@ -9,6 +8,7 @@ use zone_handler::{
     AuthLookup, LookupControlFlow, LookupError, LookupOptions, LookupRecordsIter, ZoneHandler,
 };
 use zone_proto::{LowerName, Record, RecordType, RrKey};
+use zone_text::RecordText;
 
 /// The zone that the program keeps.
 pub type Zone = InMemoryZoneHandler<DemoSigner, Sha1Hash>;
