@@ -6,7 +6,15 @@ pub mod Clashing
 pub mod Delegations
 pub mod Fronts
 pub mod Wildcards
+pub mod Walks
+pub mod Renaming
+pub mod AnyTypes
+pub mod Chains
+pub mod ChainSearches
+pub mod Chasing
 pub mod Denials
+pub mod Replies
 pub mod Examples
+pub mod SearchExamples
 pub mod CnamesAlone
 pub mod Constructing

@@ -1,14 +1,18 @@
 -- A walk up the suffixes of a name looks for the nearest delegation once at each
 use Rattle.std.proofs.Common.{◌≡◌, ℕ, zero, suc, ◌+◌, ◌-◌, ◌<◌, ◌≤◌, Bool, true, false, cond, not, ◌&&◌, List, [], ◌∷◌, length, drop, refl, sym, ap, ◌∙◌, subst, arith, ◌⊎◌, inl, inr}
-use Rattle.std.specs.Prelude.{Option, Some, None, find, ◌==◌, is_some, unwrap_or}
-use Rattle.zone_proto.specs.Names.{Name, Label, name_eq, suffixes}
+use Rattle.std.specs.Prelude.{Option, Some, None, find, ◌||◌, ◌==◌, is_some, unwrap_or, option_map, option_and_then, option_copied}
+use Rattle.std.specs.Borrow.{Bor}
+use Rattle.std.specs.Option.{option_or, option_map_or}
+use Rattle.zone_proto.specs.Names.{Name, Label, label_eq, name_eq, suffixes, is_root, star_label, wildcard_of, IsWildcard}
 use Rattle.zone_proto.specs.Sets.{RRset}
 use Rattle.zone_proto.specs.Types.{NS, SOA, DS}
+use Rattle.std.proofs.lemmas.Slice.Eq.{bytes_eq-Decides}
 use Rattle.zone_proto.proofs.Members.{In}
 use Rattle.zone_proto.proofs.Tree.{name_eq_itself}
 use Rattle.zone_store.specs.Zones.{Sets, set_at, owns}
-use Rattle.zone_store.specs.Search.{is_delegated, is_delegated_for, referral_at, referral}
-use Rattle.zone_store.specs.Walks.{referral_above, own_referral, IsWalked, IsSettled}
+use Rattle.zone_store.specs.Search.{is_delegated, is_delegated_for, referral_at, referral, exact, direct}
+use Rattle.zone_store.specs.Wildcards.{star_under, proper_ancestors, is_starred, renamed, star_source, from_star, wildcard}
+use Rattle.zone_store.specs.Walks.{referral_above, own_referral, star_and_set, nearest_star, IsWalked, IsSettled}
 use Rattle.zone_store.proofs.Delegations.{find_same, suffix_length, shorter_differs, others_count, and_true}
 
 -- ---- what the name itself says
@@ -73,10 +77,6 @@ drop_more zero xs = refl
 drop_more (suc i) [] = refl
 drop_more (suc i) (x ∷ xs) = drop_more i xs
 
-drop_all : (i : ℕ) → drop i ([] {A = Label}) ≡ []
-drop_all zero = refl
-drop_all (suc i) = refl
-
 length_rest : (n : Name) → length (drop 1 n) ≡ length n - 1
 length_rest [] = refl
 length_rest (l ∷ n) = omega arith
@@ -122,6 +122,11 @@ walk_goes_on m a e w h none =
 pub walk_says : (m : Sets) (a e : Name) (r s : Option RRset) → IsWalked m a e r → r ≡ s → IsWalked m a e s
 walk_says m a e r s w h = subst (λ x. IsWalked m a e x) h w
 
+-- a look-up that finds no set
+pub not_found : (o : Option (Bor RRset)) → ((s : Bor RRset) → o ≡ Some s → ⊥) → option_copied o ≡ None
+not_found None h = refl
+not_found (Some s) h = absurd (h s refl)
+
 -- all of the walk has one referral
 pub walk_referral : (m : Sets) (a e : Name) (r : Option RRset) → IsWalked m a e r → referral_above m a ≡ r
 walk_referral m a e r w = w.same 0 (omega arith)
@@ -154,3 +159,97 @@ settled_above m (l ∷ a) e r w =
           let z : suc (length a) - length e ≡ 0 = omega (arith, w.upward) in
           ap (drop 1) (w.suffix ∙ ap (λ i. drop i (l ∷ a)) z);
     }
+
+-- a walk that stopped at or below a name goes on one label above
+pub goes_on_above : (m : Sets) (n e : Name) (r : Option RRset) → 0 < length n → length n ≤ length e → IsSettled m (drop 1 n) e r → drop 1 e ≡ drop 1 n
+goes_on_above m n e r some long s = s.next (omega (arith, length_rest n))
+
+-- or is known already
+pub known_above : (m : Sets) (n e : Name) (r : Option RRset) → length e < length n → IsSettled m (drop 1 n) e r → IsWalked m (drop 1 n) e r
+known_above m n e r short s = s.walked (omega (arith, length_rest n))
+
+-- ---- the direct set
+
+direct_split : (m : Sets) (n : Name) (t : ℕ) → direct m n t ≡ option_or (unwrap_or (own_referral m n t) (referral_above m (drop 1 n))) (exact m n t)
+direct_split m n t = ap (λ r. option_or r (exact m n t)) (referral_split m n t)
+
+pub direct_own : (m : Sets) (n : Name) (t : ℕ) (r : Option RRset) → own_referral m n t ≡ Some r → direct m n t ≡ option_or r (exact m n t)
+direct_own m n t r e = direct_split m n t ∙ ap (λ o. option_or (unwrap_or o (referral_above m (drop 1 n))) (exact m n t)) e
+
+pub direct_above : (m : Sets) (n : Name) (t : ℕ) (r : Option RRset) → own_referral m n t ≡ None → referral_above m (drop 1 n) ≡ r → direct m n t ≡ option_or r (exact m n t)
+direct_above m n t r e h =
+    direct_split m n t
+    ∙ ap (λ o. option_or (unwrap_or o (referral_above m (drop 1 n))) (exact m n t)) e
+    ∙ ap (λ p. option_or p (exact m n t)) h
+
+-- ---- stars, the nearest first
+
+suffixes_are : (n : Name) → suffixes n ≡ n ∷ proper_ancestors n
+suffixes_are [] = refl
+suffixes_are (l ∷ n) = refl
+
+module _ (m : Sets) (t : ℕ) where
+  abbrev answers : Name → Bool
+  answers a = is_some (direct m (star_under a) t)
+
+  next_star : (n : Name) → (n ≡ [] → ⊥) → nearest_star m n t ≡ star_and_set m t (drop 1 n ∷ proper_ancestors (drop 1 n))
+  next_star [] h = absurd (h refl)
+  next_star (l ∷ n) h = ap (star_and_set m t) (suffixes_are n)
+
+  of_found : (o : Option RRset) (a : Name) → direct m (star_under a) t ≡ o → (ps : List Name)
+      → star_and_set m t (a ∷ ps) ≡ option_map_or (λ s. Some (star_under a, s)) o (star_and_set m t ps)
+  of_found None a e ps =
+      ap (λ b. option_and_then (λ a. option_map (λ s. (star_under a, s)) (direct m (star_under a) t)) (cond b (Some a) (find answers ps))) (ap is_some e)
+  of_found (Some s) a e ps =
+      ap (λ b. option_and_then (λ a. option_map (λ s. (star_under a, s)) (direct m (star_under a) t)) (cond b (Some a) (find answers ps))) (ap is_some e)
+      ∙ ap (option_map (λ s. (star_under a, s))) e
+
+  pub star_found : (n star : Name) (s : RRset) → (n ≡ [] → ⊥) → star ≡ wildcard_of n → direct m star t ≡ Some s → nearest_star m n t ≡ Some (star, s)
+  star_found [] star s h k e = absurd (h refl)
+  star_found (l ∷ n) star s h k e =
+      next_star (l ∷ n) h ∙ of_found (Some s) n (ap (λ x. direct m x t) (sym k) ∙ e) (proper_ancestors n) ∙ ap (λ x. Some (x, s)) (sym k)
+
+  pub star_passed : (n star : Name) → (n ≡ [] → ⊥) → star ≡ wildcard_of n → direct m star t ≡ None → nearest_star m n t ≡ nearest_star m (drop 1 n) t
+  star_passed [] star h k e = absurd (h refl)
+  star_passed (l ∷ n) star h k e = next_star (l ∷ n) h ∙ of_found None n (ap (λ x. direct m x t) (sym k) ∙ e) (proper_ancestors n)
+
+-- the wildcard's set is the star's under the queried name
+pub wildcard_is : (m : Sets) (signed : Bool) (n : Name) (t : ℕ) (o : Option (Name × RRset)) → nearest_star m n t ≡ o → is_root n || is_starred n ≡ false
+    → wildcard m signed n t ≡ option_map (λ (f : Name × RRset). renamed signed f.0 n f.1) o
+wildcard_is m signed n t o e h =
+    ap (λ b. cond b None (from_star m signed n t)) h
+    ∙ by (star_source m n t)
+    ∙ ap (option_map (λ (f : Name × RRset). renamed signed f.0 n f.1)) e
+  where
+    one : (a : Name) (p : Option RRset) → option_map (renamed signed (star_under a) n) p ≡ option_map (λ (f : Name × RRset). renamed signed f.0 n f.1) (option_map (λ s. (star_under a, s)) p)
+    one a None = refl
+    one a (Some s) = refl
+
+    by : (p : Option Name) → option_and_then (λ a. option_map (renamed signed (star_under a) n) (direct m (star_under a) t)) p
+        ≡ option_map (λ (f : Name × RRset). renamed signed f.0 n f.1) (option_and_then (λ a. option_map (λ s. (star_under a, s)) (direct m (star_under a) t)) p)
+    by None = refl
+    by (Some a) = one a (direct m (star_under a) t)
+
+-- the tests of the root and of a starred name
+pub neither_test : (n : Name) → (n ≡ [] → ⊥) → (IsWildcard n → ⊥) → is_root n || is_starred n ≡ false
+neither_test [] h k = absurd (h refl)
+neither_test (l ∷ n) h k = by (label_eq l star_label) refl
+  where
+    by : (b : Bool) → label_eq l star_label ≡ b → b ≡ false
+    by true e = absurd (k (n, ap (λ x. x ∷ n) ((bytes_eq-Decides l star_label).0 e)))
+    by false e = refl
+
+pub root_test : (m : Sets) (signed : Bool) (n : Name) (t : ℕ) → n ≡ [] → wildcard m signed n t ≡ None
+root_test m signed n t e = ap (λ x. wildcard m signed x t) e
+
+pub starred_test : (m : Sets) (signed : Bool) (n : Name) (t : ℕ) → IsWildcard n → wildcard m signed n t ≡ None
+starred_test m signed n t (base, e) = ap (λ x. wildcard m signed x t) e
+
+-- a star stands where the name's first label was
+pub base_of_star : (n : Name) → drop 1 (wildcard_of n) ≡ drop 1 n
+base_of_star [] = refl
+base_of_star (l ∷ n) = refl
+
+pub star_has_label : (n : Name) → (n ≡ [] → ⊥) → 0 < length (wildcard_of n)
+star_has_label [] h = absurd (h refl)
+star_has_label (l ∷ n) h = omega arith

@@ -12,18 +12,26 @@ use Rattle.zone_store.specs.SearchLaws.{IsNearestStar, StarIsNearest}
 
 -- ---- the first suffix that passes a test is the longest
 
+root_alone : (b : Name) → IsAtOrAbove b [] → b ≡ []
+root_alone b ([], g) = sym g
+root_alone b (x ∷ f, g) = absurd cc
+
+unless_given : (c : Bool) (x : Name) → cond c (Some x) None ≡ None → c ≡ false
+unless_given true x h = absurd cc
+unless_given false x h = refl
+
 module _ (p : Name → Bool) where
   pub found_suffix : (n a : Name) → find p (suffixes n) ≡ Some a → IsAtOrAbove a n × (p a ≡ true) × ((b : Name) → IsAtOrAbove b n → length a < length b → p b ≡ false)
   found_suffix [] a e = by (p []) refl e
     where
+      too_long : (b : Name) → IsAtOrAbove b [] → 0 < length b → ⊥
+      too_long b u l = omega (arith, ap length (root_alone b u))
+
       by : (c : Bool) → p [] ≡ c → cond c (Some []) None ≡ Some a → IsAtOrAbove a [] × (p a ≡ true) × ((b : Name) → IsAtOrAbove b [] → length a < length b → p b ≡ false)
       by true q h =
           let s : [] ≡ a = cc in
           (([], s), ap p (sym s) ∙ q, λ b u l. absurd (too_long b u (omega (arith, ap length s))))
       by false q h = absurd cc
-
-      too_long : (b : Name) → IsAtOrAbove b [] → 0 < length b → ⊥
-      too_long b (f, g) l = omega (arith, ap length g ∙ length-append f b)
   found_suffix (l ∷ n) a e = by (p (l ∷ n)) refl e (λ h. found_suffix n a h)
     where
       longest : (b : Name) → IsAtOrAbove b (l ∷ n) → length b ≤ length (l ∷ n)
@@ -48,15 +56,7 @@ module _ (p : Name → Bool) where
           other b (inr v) h = h v
 
   pub no_suffix : (n : Name) → find p (suffixes n) ≡ None → (b : Name) → IsAtOrAbove b n → p b ≡ false
-  no_suffix [] e b u = by (p []) refl e u
-    where
-      root : (f : Name) → [] ≡ f ++ b → b ≡ []
-      root [] g = sym g
-      root (x ∷ f) g = absurd cc
-
-      by : (c : Bool) → p [] ≡ c → cond c (Some []) None ≡ None → IsAtOrAbove b [] → p b ≡ false
-      by true q h u = absurd cc
-      by false q h u = ap p (root u.0 u.1) ∙ q
+  no_suffix [] e b u = ap p (root_alone b u) ∙ unless_given (p []) [] e
   no_suffix (l ∷ n) e b u = by (p (l ∷ n)) refl e (λ h v. no_suffix n h b v) u.0 u.1
     where
       by : (c : Bool) → p (l ∷ n) ≡ c → cond c (Some (l ∷ n)) (find p (suffixes n)) ≡ None → (find p (suffixes n) ≡ None → IsAtOrAbove b n → p b ≡ false)

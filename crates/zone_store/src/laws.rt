@@ -7,3 +7,10 @@ ghost use Rattle.zone_store.specs.SearchLaws.{StarIsNearest, ChainIsLongestFront
 pub fn star_is_nearest()
     ensures { StarIsNearest }
 {}
+
+/// However far the sets along CNAME targets are followed, the chain from a name and its set is the longest front of them
+/// that has at most 8 sets and no name twice (RFC 1034 section 3.6.2).
+pub fn chain_is_longest_front()
+    ensures front { ChainIsLongestFront }
+    ensures at_most { ChainHasAtMost8 }
+{}

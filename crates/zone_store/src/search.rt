@@ -123,11 +123,13 @@ fn own_referral<'m>(records: &'m RecordMap, key: &mut RrKey) -> Option<Option<&'
     }
     let record_type = key.record_type;
     key.record_type = RecordType::NS;
-    let servers = records.get(key);
+    let Some(cut) = records.get(key) else {
+        key.record_type = record_type;
+        return None;
+    };
     key.record_type = RecordType::SOA;
-    let is_apex = servers.is_some() && records.owns(key);
+    let is_apex = records.owns(key);
     key.record_type = record_type;
-    let cut = servers?;
     if is_apex {
         return Some(None);
     }
