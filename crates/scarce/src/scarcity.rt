@@ -13,6 +13,9 @@ const POT: usize = 65_536;
 /// Octets: the C library keeps free blocks below this size in lists by their size.
 const SMALL: usize = 1_100;
 
+/// Octets: the sizes of the C library's blocks are multiples of this.
+const GRAIN: usize = 16;
+
 /// Holds the memory of the process until it is dropped.
 #[derive(Drop)]
 pub struct Scarcity {
@@ -111,10 +114,10 @@ impl Scarcity {
         let mut small = SMALL;
         for _ in 0..BLOCKS {
             if !self.take_one(small) {
-                if small <= 8 {
+                if small <= GRAIN {
                     break;
                 }
-                small -= 4;
+                small -= GRAIN;
             }
         }
     }

@@ -16,7 +16,7 @@ is_some n h = grind (arith, nat_tests)
 is_less : (m n : ℕ) → m < n → nat_lt m n ≡ true
 is_less m n h = grind (arith, nat_tests)
 
-is_not_less : (m n : ℕ) → n ≤ m → nat_lt m n ≡ false
+pub is_not_less : (m n : ℕ) → n ≤ m → nat_lt m n ≡ false
 is_not_less m n h = grind (arith, nat_tests)
 
 -- what is left to look at after a label that is one

@@ -7,6 +7,7 @@ pub mod Lower
 pub mod FromFront
 pub mod LabelFacts
 pub mod TextForms
+pub mod TextFaults
 pub mod RoundTrip
 pub mod BeforeLaws
 pub mod TypeTextLaws

@@ -4,10 +4,10 @@ use Rattle.std.specs.Prelude.{codes, replicate, unwrap_or}
 use Rattle.std.specs.declared.cmp.Ordering.TheVariants.{Less, Equal}
 use Rattle.zone_proto.specs.declared.error.ProtoError.TheVariants.{EmptyLabel, LabelTooLong, NameTooLong, BadText}
 use Rattle.zone_proto.specs.Names.{Name, Label, caseless_cmp, is_above, is_at_or_above, lower, suffixes, wildcard_of, wire_form}
-use Rattle.zone_proto.specs.Faults.{fault_of}
+use Rattle.zone_proto.specs.Faults.{fault_of, IsTextFault, no_labels, no_name}
 use Rattle.zone_proto.specs.Parse.{labels_of_text}
-use Rattle.zone_proto.specs.Reading.{fault_of_text}
 use Rattle.zone_proto.specs.Text.{name_text}
+use Rattle.zone_proto.proofs.TextForms.{read_form, bad_form}
 
 -- the name of a text, or the root
 abbrev name : List ℕ → Name
@@ -69,27 +69,27 @@ final_dot = refl
 
 -- ---- texts that are refused
 
-empty_text : fault_of_text [] ≡ Some BadText
-empty_text = refl
+empty_text : IsTextFault [] BadText
+empty_text = no_labels (bad_form [] refl) refl
 
-over_255 : fault_of_text (92 ∷ codes "256.") ≡ Some BadText
-over_255 = refl
+over_255 : IsTextFault (92 ∷ codes "256.") BadText
+over_255 = no_labels (bad_form (92 ∷ codes "256.") refl) refl
 
-no_digit : fault_of_text (92 ∷ codes "1a2.") ≡ Some BadText
-no_digit = refl
+no_digit : IsTextFault (92 ∷ codes "1a2.") BadText
+no_digit = no_labels (bad_form (92 ∷ codes "1a2.") refl) refl
 
-broken_off : fault_of_text (codes "a" ++ 92 ∷ codes "06") ≡ Some BadText
-broken_off = refl
+broken_off : IsTextFault (codes "a" ++ 92 ∷ codes "06") BadText
+broken_off = no_labels (bad_form (codes "a" ++ 92 ∷ codes "06") refl) refl
 
-blank : fault_of_text (codes "a b.") ≡ Some BadText
-blank = refl
+blank : IsTextFault (codes "a b.") BadText
+blank = no_labels (bad_form (codes "a b.") refl) refl
 
-empty_label : fault_of_text (codes "a..b.") ≡ Some EmptyLabel
-empty_label = refl
+empty_label : IsTextFault (codes "a..b.") EmptyLabel
+empty_label = no_name (codes "a" ∷ [] ∷ codes "b" ∷ []) (read_form (codes "a..b.") (codes "a" ∷ [] ∷ codes "b" ∷ []) refl) refl
 
 -- bad text is found first, wherever it stands
-blank_after_empty_label : fault_of_text (codes "a..b c.") ≡ Some BadText
-blank_after_empty_label = refl
+blank_after_empty_label : IsTextFault (codes "a..b c.") BadText
+blank_after_empty_label = no_labels (bad_form (codes "a..b c.") refl) refl
 
 -- ---- lengths
 

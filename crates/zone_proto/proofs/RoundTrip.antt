@@ -1,5 +1,5 @@
 -- What is printed of a name is of its text form, so it is read again.
-use Rattle.std.proofs.Common.{◌≡◌, ◌≢◌, inl, ℕ, ◌<◌, ◌≤◌, List, [], ◌∷◌, ◌++◌, length, Bool, true, false, cond, refl, ap, arith, Some}
+use Rattle.std.proofs.Common.{◌≡◌, ◌≢◌, ◌↔◌, inl, ℕ, ◌<◌, ◌≤◌, List, [], ◌∷◌, ◌++◌, length, Bool, true, false, cond, refl, sym, ap, subst, arith}
 use Rattle.std.proofs.lemmas.Bool.Decides.{nat_tests}
 use Rattle.std.proofs.lemmas.List.{append_assoc, length-append}
 use Rattle.std.specs.Prelude.{IsTrue}
@@ -7,9 +7,11 @@ use Rattle.std.specs.List.{flat_map, AllByRecursion}
 use Rattle.zone_proto.specs.Names.{Name, Label, IsLabel, IsName}
 use Rattle.zone_proto.specs.Ranges.{IsOctet}
 use Rattle.zone_proto.specs.Text.{is_plain, octet_text, label_text, name_text}
-use Rattle.zone_proto.specs.Parse.{labels_of_text}
+use Rattle.zone_proto.specs.Faults.{IsTextFault}
+use Rattle.zone_proto.specs.declared.error.ProtoError.{ProtoError}
 use Rattle.zone_proto.specs.TextForm.{is_graphic, three_digits, IsOctetText, itself, by_value, IsLabelText, IsLabelsText, IsNameText}
-use Rattle.zone_proto.proofs.TextForms.{form_read}
+use Rattle.zone_proto.proofs.TextForms.{one_form}
+use Rattle.zone_proto.proofs.TextFaults.{name_has_no_fault}
 
 plain_graphic : (b : ℕ) → is_plain b ≡ true → IsTrue (is_graphic b)
 plain_graphic b h = grind (arith, nat_tests)
@@ -60,5 +62,8 @@ printed_form (l ∷ ls) h = (
   not_dot (name_text (l ∷ ls)) (label_long l (flat_map label_text ls) h.labels.0.some),
 )
 
-pub printed_read : (n : Name) → IsName n → labels_of_text (name_text n) ≡ Some n
-printed_read n h = form_read (name_text n) n (printed_form n h)
+pub printed_read : (n m : Name) → IsName n → (IsNameText (name_text n) m ↔ (m ≡ n))
+printed_read n m h = (λ f. one_form (name_text n) m n f (printed_form n h), λ e. subst (IsNameText (name_text n)) (sym e) (printed_form n h))
+
+pub printed_accepted : (n : Name) (e : ProtoError) → IsName n → ¬ IsTextFault (name_text n) e
+printed_accepted n e h = name_has_no_fault (name_text n) n e (printed_form n h) h

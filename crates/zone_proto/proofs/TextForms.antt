@@ -6,6 +6,7 @@ use Rattle.std.specs.Prelude.{◌==◌, Option, nat_le, ◌&&◌, IsTrue, IsFals
 use Rattle.zone_proto.specs.declared.parser.Mode.{Mode}
 use Rattle.zone_proto.specs.declared.parser.Mode.TheVariants.{Start, AfterDot, InLabel, Escaped, OneDigit, TwoDigits}
 use Rattle.zone_proto.specs.Names.{Name, Label}
+use Rattle.zone_proto.specs.Faults.{IsBadText}
 use Rattle.zone_proto.specs.TextForm.{is_digit, is_graphic, three_digits, IsOctetText, itself, escaped, by_value, IsLabelText, IsLabelsText, IsNameText}
 use Rattle.zone_proto.specs.Parse.{Reader, with_octet, plain_step, step_in, read_on, start, labels_of_text, next_or_none}
 
@@ -354,9 +355,5 @@ read_form (b ∷ []) n e = by (b == 46) refl e
 pub one_form : (s : List ℕ) (n m : Name) → IsNameText s n → IsNameText s m → n ≡ m
 one_form s n m h k = same _ _ (sym (form_read s m k) ∙ form_read s n h)
 
-pub unread_form : (s : List ℕ) → (labels_of_text s ≡ None) ↔ ((n : Name) → ¬ IsNameText s n)
-unread_form s = ((λ e n h. nothing n (sym e ∙ form_read s n h)), by (labels_of_text s) refl)
-  where
-    by : (o : Option Name) → labels_of_text s ≡ o → ((n : Name) → ¬ IsNameText s n) → labels_of_text s ≡ None
-    by None e none = e
-    by (Some n) e none = absurd (none n (read_form s n e))
+pub bad_form : (s : List ℕ) → labels_of_text s ≡ None → IsBadText s
+bad_form s e n h = nothing n (sym e ∙ form_read s n h)

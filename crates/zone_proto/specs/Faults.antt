@@ -1,8 +1,9 @@
--- Which fault keeps labels from being a name
-use Rattle.std.specs.Prelude.{◌≡◌, ◌⊎◌, [], ◌∷◌, length, nat_lt, ◌==◌, Option, Some, None, if◌then◌else◌}
+-- Which fault keeps labels from being a name, and a text from being read
+use Rattle.std.specs.Prelude.{◌≡◌, ◌⊎◌, ℕ, List, [], ◌∷◌, length, nat_lt, ◌==◌, Option, Some, None, if◌then◌else◌}
 use Rattle.zone_proto.specs.declared.error.ProtoError.{ProtoError}
-use Rattle.zone_proto.specs.declared.error.ProtoError.TheVariants.{EmptyLabel, LabelTooLong, NameTooLong, Memory}
+use Rattle.zone_proto.specs.declared.error.ProtoError.TheVariants.{EmptyLabel, LabelTooLong, NameTooLong, BadText, Memory}
 use Rattle.zone_proto.specs.Names.{Name, wire_length}
+use Rattle.zone_proto.specs.TextForm.{IsNameText}
 
 -- from the left, the first label that is empty or has more than 63 octets (RFC 1035 section 2.3.4)
 abbrev pub label_fault : Name → Option ProtoError
@@ -24,3 +25,12 @@ fault_of ls = first_of_faults (label_fault ls) (length_fault ls)
 -- a refusal is the fault if there is one, or want of memory
 abbrev pub IsFaultOrMemory : Option ProtoError → ProtoError → Type 0
 IsFaultOrMemory f e = (e ≡ Memory) ⊎ (f ≡ Some e)
+
+-- the text is of no labels' form
+abbrev pub IsBadText : List ℕ → Type 0
+IsBadText s = (ls : Name) → ¬ IsNameText s ls
+
+-- why a text is not read: it is of no labels' form, which is bad text, or the labels of whose form it is have a fault
+pub data IsTextFault (s : List ℕ) (e : ProtoError) : Type 0 where
+  no_labels : IsBadText s → e ≡ BadText → IsTextFault s e
+  no_name : (ls : Name) → IsNameText s ls → fault_of ls ≡ Some e → IsTextFault s e

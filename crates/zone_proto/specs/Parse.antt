@@ -1,5 +1,5 @@
--- How a text is read as a name, octet by octet from the left. The text form itself is in `TextForm`, and the law
--- `text_is_read_by_its_form` says that a text is read as a name exactly if it is of that name's form.
+-- How the program reads a text, octet by octet from the left. No public call speaks of it: what is read is said by the
+-- text form, in `TextForm`.
 use Rattle.std.specs.Prelude.{ℕ, ◌+◌, ◌*◌, ◌-◌, ◌++◌, List, [], ◌∷◌, ◌&&◌, ◌==◌, nat_le, if◌then◌else◌, Option, Some, None}
 use Rattle.zone_proto.specs.Names.{Name, Label}
 use Rattle.zone_proto.specs.TextForm.{dot, backslash, is_digit, is_graphic}

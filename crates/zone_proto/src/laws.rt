@@ -1,14 +1,15 @@
 //! Laws of the definitions that the calls of this crate are proved to meet. Each is an empty function whose contract is
 //! the law, for every value, so a program has no need to call one.
-ghost use Rattle.std.specs.Prelude.{◌≡◌, ◌↔◌, ℕ, List, Some, None, reverse};
+ghost use Rattle.std.specs.Prelude.{◌≡◌, ◌↔◌, ◌⊎◌, ℕ, List, reverse};
 ghost use Rattle.std.specs.declared.cmp.Ordering.TheVariants.{Less, Equal};
 ghost use Rattle.std.specs.Cmp.{IsTotalOrder};
 ghost use Rattle.zone_proto.specs.Before.{IsBefore};
 ghost use Rattle.zone_proto.specs.Names.{Name, name_cmp, caseless_cmp, lower, IsAbove, IsAtOrAbove, IsName};
-ghost use Rattle.zone_proto.specs.Parse.{labels_of_text};
+ghost use Rattle.zone_proto.specs.Faults.{IsTextFault};
 ghost use Rattle.zone_proto.specs.Text.{name_text};
 ghost use Rattle.zone_proto.specs.TextForm.{IsNameText};
 ghost use Rattle.zone_proto.specs.Keys.{key_cmp};
+ghost use Rattle.zone_proto.specs.declared.error.ProtoError.{ProtoError};
 ghost use Rattle.zone_proto.specs.declared.rr_key.RrKey.{RrKey};
 
 /// The orders of names in lower case, of any names and of keys are total: of two values exactly one is before the
@@ -54,15 +55,17 @@ pub fn descendants_are_together()
     ensures { (a l x r : Name) → IsAtOrAbove a l → IsAtOrAbove a r → IsBefore l x → IsBefore x r → IsAtOrAbove a x }
 {}
 
-/// A text is read as a name exactly if it is of that name's text form (RFC 1035 section 5.1), and it is of one name's
-/// form at most. It is read as none exactly if it is of no name's form.
-pub fn text_is_read_by_its_form()
-    ensures read { (s : List ℕ) (n : Name) → (labels_of_text s ≡ Some n) ↔ IsNameText s n }
-    ensures unique { (s : List ℕ) (n m : Name) → IsNameText s n → IsNameText s m → n ≡ m }
-    ensures unread { (s : List ℕ) → (labels_of_text s ≡ None) ↔ ((n : Name) → ¬ IsNameText s n) }
+/// A text is the text form of one list of labels at most (RFC 1035 section 5.1). Either these are a name, which `parse`
+/// reads, or the text has a fault, by which `parse` refuses it; never both, and never two faults.
+pub fn text_is_read_or_refused()
+    ensures one_name { (s : List ℕ) (n m : Name) → IsNameText s n → IsNameText s m → n ≡ m }
+    ensures either { (s : List ℕ) → ((n : Name) × IsNameText s n × IsName n) ⊎ ((e : ProtoError) × IsTextFault s e) }
+    ensures not_both { (s : List ℕ) (n : Name) (e : ProtoError) → IsNameText s n → IsName n → ¬ IsTextFault s e }
+    ensures one_fault { (s : List ℕ) (d e : ProtoError) → IsTextFault s d → IsTextFault s e → d ≡ e }
 {}
 
-/// What is printed of a name is read as that name.
+/// What is printed of a name is that name's text form and no other's, and has no fault, so `parse` accepts it.
 pub fn printed_is_read()
-    ensures { (n : Name) → IsName n → labels_of_text (name_text n) ≡ Some n }
+    ensures read { (n m : Name) → IsName n → (IsNameText (name_text n) m ↔ (m ≡ n)) }
+    ensures accepted { (n : Name) (e : ProtoError) → IsName n → ¬ IsTextFault (name_text n) e }
 {}

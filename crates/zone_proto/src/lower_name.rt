@@ -1,12 +1,11 @@
 // Names in lower case, as the owners of record sets are kept.
-ghost use Rattle.std.specs.Prelude.{◌≡◌, ◌↔◌, [], ◌∷◌, length, drop, IsTrue, IfOk, IsOkUnless, MatchResult, Some, None};
+ghost use Rattle.std.specs.Prelude.{◌≡◌, ◌↔◌, ◌⊎◌, [], ◌∷◌, length, drop, IsTrue, IfOk, IfErr, IsOkUnless, MatchResult, Some, None};
 ghost use Rattle.zone_proto.specs.Names.{lower, lower_label, suffixes, wire_form, wildcard_of, IsAtOrAbove, IsLowerName, IsWildcard};
 ghost use Rattle.zone_proto.specs.Ranges.{IsNameInRange};
 ghost use Rattle.zone_proto.specs.Vectors.{octets_of};
-ghost use Rattle.zone_proto.specs.Faults.{fault_of, IsFaultOrMemory};
+ghost use Rattle.zone_proto.specs.Faults.{fault_of, IsFaultOrMemory, IsTextFault};
 ghost use Rattle.zone_proto.specs.Suffixes.{suffixes_left};
 ghost use Rattle.zone_proto.specs.TextForm.{IsNameText};
-ghost use Rattle.zone_proto.specs.Reading.{fault_of_text};
 
 use crate::error::ProtoError;
 use crate::name::Name;
@@ -60,7 +59,7 @@ impl LowerName {
     /// Reads the text form of a name, and puts the name into lower case. Reads and refuses as `Name::parse` does.
     pub fn parse(alloc: Global, text: &str) -> Result<LowerName, ProtoError>
         ensures ok { IfOk result (λ n. (name : Name) × IsNameText text.now name × (n ≡ lower name)) }
-        ensures refusal { MatchResult result (λ _. fault_of_text text.now ≡ None) (IsFaultOrMemory (fault_of_text text.now)) }
+        ensures refusal { IfErr result (λ e. (e ≡ ProtoError.Memory) ⊎ IsTextFault text.now e) }
     {
         Ok(LowerName::from(Name::parse(alloc, text)?))
     }

@@ -1,12 +1,11 @@
 // Names that keep the case of their letters.
-ghost use Rattle.std.specs.Prelude.{◌≡◌, ◌↔◌, [], ◌∷◌, length, drop, IsTrue, IfOk, IsOkUnless, MatchResult, Some, None};
+ghost use Rattle.std.specs.Prelude.{◌≡◌, ◌↔◌, ◌⊎◌, [], ◌∷◌, length, drop, IsTrue, IfOk, IfErr, IsOkUnless, MatchResult, Some, None};
 ghost use Rattle.zone_proto.specs.Names.{lower, suffixes, wire_form, wildcard_of, IsAtOrAbove, IsLowerName, IsName, IsWildcard};
 ghost use Rattle.zone_proto.specs.Ranges.{IsNameInRange};
 ghost use Rattle.zone_proto.specs.Vectors.{octets_of};
-ghost use Rattle.zone_proto.specs.Faults.{fault_of, IsFaultOrMemory};
+ghost use Rattle.zone_proto.specs.Faults.{fault_of, IsFaultOrMemory, IsTextFault};
 ghost use Rattle.zone_proto.specs.Suffixes.{suffixes_left};
 ghost use Rattle.zone_proto.specs.TextForm.{IsNameText};
-ghost use Rattle.zone_proto.specs.Reading.{fault_of_text};
 
 use crate::error::ProtoError;
 use crate::labels::{check_labels, check_prepended, push_copies};
@@ -67,12 +66,11 @@ impl Name {
     /// `.` is the root. Else labels are separated by dots, and one final dot may be left out. A backslash and three
     /// decimal digits of value at most 255 are that octet; a backslash and another octet from 33 to 126 are that octet;
     /// any other octet from 33 to 126 is itself. Everything else, the empty text too, gives `BadText`, wherever it
-    /// stands in the text; then come the refusals of `from_labels`, and `Memory`. That a text is of one name's form at most,
-    /// and which texts are of none, is `laws::text_is_read_by_its_form`.
-    #[tactic(auto, using(crate::proofs::TextForms::read_form))]
+    /// stands in the text; then come the refusals of `from_labels`, and `Memory`. That no text is of two names' forms, and
+    /// that each is read or refused for one cause, is `laws::text_is_read_or_refused`.
     pub fn parse(alloc: Global, text: &str) -> Result<Name, ProtoError>
         ensures ok { IfOk result (IsNameText text.now) }
-        ensures refusal { MatchResult result (λ _. fault_of_text text.now ≡ None) (IsFaultOrMemory (fault_of_text text.now)) }
+        ensures refusal { IfErr result (λ e. (e ≡ ProtoError.Memory) ⊎ IsTextFault text.now e) }
     {
         Name::from_labels(read_labels(alloc, text)?)
     }

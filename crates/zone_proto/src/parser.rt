@@ -1,9 +1,10 @@
 // Reads the text form of a name, octet by octet (RFC 1035 section 5.1).
-ghost use Rattle.std.specs.Prelude.{◌≡◌, ◌++◌, [], ◌∷◌, IfOk, IfErr, OnOk, IsOkUnless, Some};
+ghost use Rattle.std.specs.Prelude.{◌≡◌, ◌⊎◌, ◌++◌, [], ◌∷◌, IfOk, IfErr, OnOk, IsOkUnless, Some};
 ghost use Rattle.zone_proto.specs.Vectors.{octets_of};
-ghost use Rattle.zone_proto.specs.Faults.{IsFaultOrMemory};
-ghost use Rattle.zone_proto.specs.Parse.{labels_of_text, step_in, labels_at_end, with_octet, read_on, start};
-ghost use Rattle.zone_proto.specs.TextForm.{is_digit, is_graphic};
+ghost use Rattle.zone_proto.specs.declared.error.ProtoError.TheVariants.{BadText, Memory};
+ghost use Rattle.zone_proto.specs.Faults.{IsBadText, IsFaultOrMemory};
+ghost use Rattle.zone_proto.specs.Parse.{step_in, labels_at_end, with_octet, read_on, start};
+ghost use Rattle.zone_proto.specs.TextForm.{is_digit, is_graphic, IsNameText};
 ghost use Rattle.zone_proto.specs.Reading.{reader_of, fault_of_none};
 
 use crate::error::ProtoError;
@@ -17,7 +18,7 @@ const MANY_LABELS: usize = 128;
 
 /// In what part of a text its reader stands.
 #[derive(Clone, Copy)]
-pub enum Mode {
+enum Mode {
     /// At the start of the text.
     Start,
     /// After a dot that ends a label.
@@ -44,7 +45,7 @@ impl Reader {
     /// Adds an octet to the current label.
     fn put(&mut self, octet: u8) -> Result<(), ProtoError>
         ensures ok { OnOk result (reader_of self.new ≡ with_octet (reader_of self.old) octet) }
-        ensures err { IsOkUnless result ProtoError.Memory }
+        ensures err { IsOkUnless result Memory }
     {
         self.label.push(octet)?;
         self.mode = Mode::InLabel;
@@ -54,7 +55,7 @@ impl Reader {
     /// Ends the current label, with room for its octets alone.
     fn end_label(&mut self, alloc: Global) -> Result<(), ProtoError>
         ensures ok { OnOk result (reader_of self.new ≡ record { mode = Mode.AfterDot; labels = octets_of self.old.labels.items ++ self.old.label.items ∷ []; label = [] }) }
-        ensures err { IsOkUnless result ProtoError.Memory }
+        ensures err { IsOkUnless result Memory }
     {
         self.labels.push(Vec::from_slice(alloc, &self.label)?)?;
         self.label.clear();
@@ -174,10 +175,11 @@ fn read(alloc: Global, bytes: &[u8]) -> Result<Vec<Vec<u8>>, ProtoError>
     reader.finish(alloc)
 }
 
-/// The labels that a text spells. Gives `BadText` if it spells none, and `Memory`.
+/// The labels of whose text form a text is. Gives `BadText` if it is of none, and `Memory`.
+#[tactic(auto, using(crate::proofs::TextForms::read_form, crate::proofs::TextForms::bad_form))]
 pub(crate) fn read_labels(alloc: Global, text: &str) -> Result<Vec<Vec<u8>>, ProtoError>
-    ensures ok { IfOk result (λ ls. labels_of_text text.now ≡ Some (octets_of ls.items)) }
-    ensures err { IfErr result (IsFaultOrMemory (fault_of_none (labels_of_text text.now))) }
+    ensures ok { IfOk result (λ ls. IsNameText text.now (octets_of ls.items)) }
+    ensures err { IfErr result (λ e. (e ≡ Memory) ⊎ (IsBadText text.now × (e ≡ BadText))) }
 {
     let bytes = text.as_bytes();
     match bytes {

@@ -69,8 +69,8 @@ impl Eq for RecordSet {
 }
 
 impl RecordSet {
-    /// A set without records, of class IN and TTL 0. `serial` is the zone's serial when the set was last changed, and for a
-    /// set of type SOA that of its record. Takes no memory.
+    /// A set without records, of class IN and TTL 0. `serial` is the zone's serial at this moment; each record that the set
+    /// takes later brings a serial of its own. Takes no memory.
     pub fn new(name: Name, record_type: RecordType, serial: u32) -> RecordSet
         ensures { result ≡ record {
           owner = name;

@@ -18,3 +18,4 @@ pub mod Examples
 pub mod SearchExamples
 pub mod CnamesAlone
 pub mod Constructing
+pub mod Lists

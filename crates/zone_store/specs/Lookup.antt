@@ -1,7 +1,6 @@
 -- What a lookup answers
-use Rattle.std.specs.Prelude.{◌≡◌, ℕ, Bool, ◌&&◌, not, cond, ◌==◌, List, [], ◌∷◌, Option, Some, None, Ok, Err, ◌⊎◌, codes}
+use Rattle.std.specs.Prelude.{◌≡◌, ℕ, Bool, ◌&&◌, not, cond, ◌==◌, List, [], ◌∷◌, Option, Some, None, Ok, Err, ◌⊎◌}
 use Rattle.std.specs.Option.{option_map_or}
-use Rattle.std.specs.Borrow.{Bor}
 use Rattle.zone_proto.specs.declared.response_code.ResponseCode.TheVariants as code
 use Rattle.zone_proto.specs.Names.{Name, is_at_or_above}
 use Rattle.zone_proto.specs.Sets.{RRset}
@@ -9,14 +8,14 @@ use Rattle.zone_proto.specs.Types.{CNAME, AXFR}
 use Rattle.zone_handler.specs.declared.auth_lookup.AuthLookup.{AuthLookup}
 use Rattle.zone_handler.specs.declared.auth_lookup.AuthLookup.TheVariants as answer
 use Rattle.zone_handler.specs.declared.control_flow.LookupControlFlow.{LookupControlFlow}
-use Rattle.zone_handler.specs.declared.control_flow.LookupControlFlow.TheVariants.{Continue, Break}
+use Rattle.zone_handler.specs.declared.control_flow.LookupControlFlow.TheVariants.{Continue}
 use Rattle.zone_handler.specs.declared.lookup_error.LookupError.{LookupError}
 use Rattle.zone_handler.specs.declared.lookup_error.LookupError.TheVariants as error
 use Rattle.zone_handler.specs.declared.lookup_options.LookupOptions.{LookupOptions}
 use Rattle.zone_handler.specs.declared.lookup_records.LookupRecords.{LookupRecords}
-use Rattle.zone_handler.specs.declared.net_error.NetError.TheVariants as net
 use Rattle.zone_handler.specs.Answers.{records_in}
 use Rattle.zone_handler.specs.Sets.{sets_records}
+use Rattle.zone_handler.specs.Transfers.{IsNoLookup}
 use Rattle.zone_store.specs.Zones.{Sets, owns_at_or_below}
 use Rattle.zone_store.specs.Wildcards.{found}
 use Rattle.zone_store.specs.Chains.{chain}
@@ -71,7 +70,7 @@ MayList options (s ∷ ss) o = (section : LookupRecords) × (o ≡ Some section)
 
 -- how a step of a chain of handlers says a reply
 abbrev pub Says : LookupOptions → Reply → LookupControlFlow AuthLookup LookupError → Type 0
-Says options not_a_lookup step = (text : Bor (List ℕ)) × (step ≡ Break (Err (error.NetError (net.Message text)))) × (text.now ≡ codes "AXFR must be handled with ZoneHandler::zone_transfer()")
+Says options not_a_lookup step = IsNoLookup step
 Says options (denied d) step = step ≡ Continue (Err (error_of d))
 Says options (answered sets more) step =
     (answers : LookupRecords) × (additionals : Option LookupRecords) × (step ≡ Continue (Ok (answer.Records answers additionals))) × Lists options sets answers × MayList options more additionals

@@ -5,7 +5,7 @@ ghost use Rattle.zone_store.specs.Search.{direct};
 ghost use Rattle.zone_store.specs.Wildcards.{found};
 ghost use Rattle.zone_store.specs.Searches.{one_more};
 ghost use Rattle.zone_store.specs.Upserts.{upserted, CnamesStandAlone};
-ghost use Rattle.zone_store.specs.Zones.{set_at, owns_at_or_below, put, without, IsStoredAt};
+ghost use Rattle.zone_store.specs.Zones.{set_at, owns_at_or_below, put, without, IsStoredAt, IsZone};
 
 use crate::found::Found;
 use crate::record_map::RecordMap;
@@ -28,10 +28,13 @@ pub struct InnerInMemory<S: Signer> {
 
 impl<S: Signer> Model for InnerInMemory<S> {
     ghost use Rattle.zone_store.specs.Handlers.{Inner};
+    ghost use Rattle.zone_store.specs.Zones.{IsZone};
 
     ghost Value = { Inner S };
 
     ghost view = { λ zone. record { records = zone.records; signers = zone.signers.items } };
+
+    ghost invariant = { λ zone. IsZone zone.records };
 }
 
 impl<S: Signer> InnerInMemory<S> {
@@ -47,8 +50,11 @@ impl<S: Signer> InnerInMemory<S> {
 
     /// These record sets, and no signers.
     pub(crate) fn with_records(alloc: Global, records: RecordMap) -> Self
-        ensures { result ≡ record { records = records; signers = [] } }
+        ensures value { result ≡ record { records = records; signers = [] } }
+        ensures zone { IsZone records }
     {
+        // Its clause says that these are the sets of a zone.
+        let _ = records.as_map();
         InnerInMemory {
             records,
             signers: Vec::new(alloc),
@@ -155,7 +161,8 @@ impl<S: Signer> InnerInMemory<S> {
 
     /// The record sets by their keys.
     pub(crate) fn as_map(&self) -> &BTreeMap<RrKey, RecordSet>
-        ensures { result.now.entries ≡ self.now.records }
+        ensures entries { result.now.entries ≡ self.now.records }
+        ensures zone { IsZone self.now.records }
     {
         self.records.as_map()
     }

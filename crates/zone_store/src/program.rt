@@ -37,7 +37,9 @@ enum Stop {
 /// other line is answered by `bad line N`, counted from 1, and passed over. The status is 0, or 1 after a bad
 /// line. It is 2, with one line on `fault`, where the words aren't one name, where the first memory is refused,
 /// and after a read or a write that failed, after which nothing more is written to `output`. Memory that is
-/// refused later on makes the answer of its line `error Memory`, and leaves the zone as it was.
+/// refused later on makes the answer of its line `error Memory`, and leaves the zone as it was. Where it is the
+/// text of an answer that finds no memory, which only one of more than 4,096 octets can meet, nothing of it is
+/// written, and the program ends as after a failed write.
 pub fn run<R: Read, W: Write, E: Write>(
     alloc: Global,
     args: &[String],

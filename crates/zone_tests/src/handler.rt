@@ -1,5 +1,7 @@
 // What a handler answers: texts of errors and steps, the lists of answers, and a handler through its trait.
 ghost use Rattle.std.specs.Prelude.{◌≡◌, true};
+ghost use Rattle.zone_proto.specs.Types.{AXFR};
+ghost use Rattle.zone_handler.specs.Transfers.{IsNoLookup};
 
 use crate::signatures::signature;
 use std::alloc::Global;
@@ -290,7 +292,8 @@ impl ZoneHandler for Parked {
     ghost use Rattle.zone_handler.specs.declared.zone_type.ZoneType.TheVariants.{External};
     ghost use Rattle.zone_handler.specs.declared.axfr_policy.AxfrPolicy.TheVariants.{AllowSigned};
     ghost use Rattle.zone_handler.specs.ControlFlow.{is_break};
-    ghost use Rattle.std.specs.Prelude.{◌≡◌, false};
+    ghost use Rattle.std.specs.Prelude.{◌≡◌, ◌==◌};
+    ghost use Rattle.zone_proto.specs.Types.{AXFR};
 
     ghost zone_type_of = { λ _. External };
 
@@ -298,7 +301,7 @@ impl ZoneHandler for Parked {
 
     ghost origin_of = { λ zone. zone.origin };
 
-    ghost lookup_gives = { λ _ _ _ _ _ flow. is_break flow ≡ false };
+    ghost lookup_gives = { λ _ _ record_type _ _ flow. is_break flow ≡ (record_type == AXFR) };
 
     fn zone_type(&self) -> ZoneType {
         ZoneType::External
@@ -315,11 +318,15 @@ impl ZoneHandler for Parked {
     fn lookup(
         &self,
         name: &LowerName,
-        _record_type: RecordType,
+        record_type: RecordType,
         _request_info: Option<&RequestInfo<'_>>,
         _lookup_options: LookupOptions,
         _now: u64,
     ) -> LookupControlFlow<AuthLookup> {
+        if record_type == RecordType::AXFR {
+            let error = NetError::from("AXFR must be handled with ZoneHandler::zone_transfer()");
+            return LookupControlFlow::Break(Err(LookupError::from(error)));
+        }
         if self.origin.zone_of(name) {
             LookupControlFlow::Continue(Err(LookupError::for_name_exists()))
         } else {
@@ -330,7 +337,8 @@ impl ZoneHandler for Parked {
 
 /// What any zone answers to the query at its origin.
 fn at_origin<Z: ZoneHandler>(zone: &Z, query: &Query) -> LookupControlFlow<AuthLookup>
-    ensures { Z.lookup_gives zone.now (Z.origin_of zone.now) query.now.query_type.0 (record { dnssec_ok = true }) 5 result }
+    ensures answer { Z.lookup_gives zone.now (Z.origin_of zone.now) query.now.query_type.0 (record { dnssec_ok = true }) 5 result }
+    ensures transfer { query.now.query_type.0 ≡ AXFR → IsNoLookup result }
 {
     let info = RequestInfo { query };
     let options = LookupOptions::for_dnssec();
@@ -366,5 +374,10 @@ fn handler_answers_through_its_trait(rt: HostRuntime) -> Result<(), Fail> {
     let step = at_origin(&zone, &query).map_err(|error| error.is_nx_domain());
     assert!(rt; matches!(step, LookupControlFlow::Continue(Err(false))));
     assert!(rt; at_origin(&zone, &query).unwrap_or_default().is_empty());
+    let transfer = Query {
+        query_type: RecordType::AXFR,
+        ..query
+    };
+    assert!(rt; at_origin(&zone, &transfer).is_break());
     Ok(())
 }

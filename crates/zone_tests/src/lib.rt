@@ -6,17 +6,11 @@ mod handler;
 #[cfg(test)]
 mod handler_memory;
 #[cfg(test)]
-mod library;
-#[cfg(test)]
 mod names;
 #[cfg(test)]
 mod names_memory;
 #[cfg(test)]
-mod program_lines;
-#[cfg(test)]
 mod program_memory;
-#[cfg(test)]
-mod program_streams;
 #[cfg(test)]
 mod sets;
 #[cfg(test)]

@@ -278,7 +278,7 @@ fn records_are_equal_without_their_ttl(rt: HostRuntime) -> Result<(), Fail> {
     Ok(())
 }
 
-/// Signs every set but those of the root by a key of a tag, and counts nothing.
+/// Signs every set by the same signature.
 #[derive(Drop)]
 struct FixedSigner {
     key: DNSKEY,

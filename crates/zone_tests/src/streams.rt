@@ -1,9 +1,8 @@
-//! A reader and a writer in memory that fail when they are told to, and runs of the program over them.
+//! A reader and a writer in memory that fail when they are told to, and the words that it is given.
 
 use std::alloc::{AllocError, Global};
 use std::io;
 use std::io::{Read, Write};
-use zone_store::program;
 
 /// Gives its text, at most `step` octets a read, and fails every read after `left` ones.
 #[derive(Drop)]
@@ -61,14 +60,6 @@ impl Write for Capture {
     }
 }
 
-/// What a run of the program ended with and wrote.
-#[derive(Drop)]
-pub struct Run {
-    pub status: u8,
-    pub output: Vec<u8>,
-    pub fault: Vec<u8>,
-}
-
 /// The words after the program's name.
 pub fn words(alloc: Global, texts: &[&str]) -> Result<Vec<String>, AllocError> {
     let mut words = Vec::new(alloc);
@@ -77,49 +68,3 @@ pub fn words(alloc: Global, texts: &[&str]) -> Result<Vec<String>, AllocError> {
     }
     Ok(words)
 }
-
-/// Runs the program for the origin `example.com.`, on an input that comes `step` octets at a time.
-pub fn run_in_steps(alloc: Global, input: &[u8], step: usize) -> Result<Run, AllocError> {
-    let args = words(alloc, &["example.com."])?;
-    let mut feed = Feed {
-        text: input,
-        step,
-        left: u32::MAX,
-    };
-    let mut output = Capture::with_capacity(alloc, 0, u32::MAX)?;
-    let mut fault = Capture::with_capacity(alloc, 0, u32::MAX)?;
-    let status = program::run(alloc, &args, &mut feed, &mut output, &mut fault);
-    Ok(Run {
-        status,
-        output: output.got,
-        fault: fault.got,
-    })
-}
-
-/// Runs the program for the origin `example.com.`.
-pub fn run_on(alloc: Global, input: &[u8]) -> Result<Run, AllocError> {
-    run_in_steps(alloc, input, 1 << 20)
-}
-
-/// The commands of the example of a zone with an address and a delegation.
-pub const FIRST_PATH: &[u8] =
-    b"add example.com. 3600 SOA ns.example.com. host.example.com. 1 7200 600 86400 300
-add www.example.com. 60 A 192.0.2.1
-add sub.example.com. 60 NS ns.example.com.
-lookup www.example.com. A
-lookup a.sub.example.com. A
-lookup no.example.com. A
-";
-
-/// The answers to them.
-pub const FIRST_ANSWERS: &[u8] = b"yes
-yes
-yes
-answer 1
-www.example.com. 60 IN A 192.0.2.1
-additional 0
-answer 1
-sub.example.com. 60 IN NS ns.example.com.
-additional 0
-error NXDomain
-";

@@ -1,0 +1,52 @@
+//! Runs transcripts of `zonectl`, and tells what differs from them. Each line of standard input names a file of transcripts
+//! in the folder where the program runs, `data`; the file `pending` there names the transcripts that are to differ still.
+//!
+//! A file of transcripts is written like this:
+//!
+//! ```text
+//! # A line that begins with # is a comment.
+//! ## the_name_of_a_transcript
+//! $ zonectl example.com.
+//! > lookup www.example.com. A
+//! error Refused
+//! > frobnicate
+//! bad line 2
+//! ! status 1
+//! ```
+//!
+//! `$` is followed by the words that the program is given, `>` by a line of its input, and any other line is what it writes
+//! next. A line that begins with `%>` is one of its input too, in which `%{7f}` is an octet in hex and `%{7f*3}` three of
+//! them; they may stand among the words as well. `! status` and `! standard error:` say how the run ends, if not by status 0
+//! and silence, and `! no last line feed` that its input ends with its last line's last octet.
+//!
+//! Each transcript is run on reads of any length, of seven octets and of one. It is also broken off by a read that fails
+//! before and within each of its first lines, and by a write that fails at each of its first answers.
+#![tactic(auto)]
+
+mod difference;
+mod marks;
+mod report;
+mod streams;
+mod transcript;
+mod trial;
+
+use report::Report;
+use std::{fs, io};
+
+fn main(rt: HostRuntime) -> io::Result<()> {
+    let pending = fs::read_to_string(&rt, "pending")?;
+    let mut report = Report::new(pending.as_str());
+    for file in rt.lines(rt.alloc()) {
+        let file = file?;
+        let text = fs::read_to_string(&rt, file.as_str())?;
+        println!(rt; "{file}")?;
+        for (number, part) in text.split("\n## ").enumerate() {
+            // What stands before the first name are comments.
+            if number > 0 {
+                let line = report.line(rt.alloc(), part)?;
+                println!(rt; "  {line}")?;
+            }
+        }
+    }
+    println!(rt; "{report}")
+}
