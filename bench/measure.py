@@ -58,7 +58,7 @@ def commands(names, lookups, rare):
         adds += [f"add second{i:06d}.{ORIGIN} 300 CNAME third{i:06d}.{ORIGIN}"]
         adds += [f"add third{i:06d}.{ORIGIN} 300 A {address(i)}"]
         rich.append(f"rich{i:06d}.{ORIGIN}")
-        adds += [f"add {rich[i]} 300 {data}" for data in ("TXT 61", "AAAA 2001:db8::1", "SRV 0 0 53 ns", "MX 10 ns")]
+        adds += [f"add {rich[i]} 300 {data}" for data in ("TXT 61", "AAAA 2001:db8:0:0:0:0:0:1", "SRV 0 0 53 ns", "MX 10 ns")]
     pick.shuffle(adds)
     adds.insert(0, f"add {ORIGIN} 3600 SOA ns.{ORIGIN} host.{ORIGIN} 1 7200 600 86400 300")
     aliases = [f"alias{i:06d}.{ORIGIN}" for i in range(max(1, names // 10))]

@@ -25,9 +25,18 @@ last_of (x ∷ y ∷ es) e = last_of (y ∷ es) e
 abbrev leads : List (Name × RRset) → Option Name → Bool
 leads es next = nat_lt (length es) 8 && option_map_or (λ n. not (list_any (name_eq n) (names es))) next false
 
-ended : (b : Bool) → cond (b && false) 1 0 ≡ 0
+ended : (b : Bool) → ◌≡◌ {A = ℕ} (cond (b && false) 1 0) 0
 ended true = refl
 ended false = refl
+
+plus_none : (k : ℕ) → 0 + k ≡ k
+plus_none k = omega arith
+
+suc_plus : (j k : ℕ) → suc j + k ≡ suc (j + k)
+suc_plus j k = omega arith
+
+less_one : (k : ℕ) → suc k - 1 ≡ k
+less_one k = omega arith
 
 full : (k : ℕ) → k ≡ 8 → nat_lt k 8 ≡ false
 full k h = grind (arith, leb_tells)
@@ -42,27 +51,30 @@ module _ (m : Sets) (signed : Bool) (t : ℕ) where
 
   comes : (k : ℕ) (es : List (Name × RRset)) → length es + k ≡ 8 → Comes k es
   comes zero es h =
-      sym (ap (λ w. cond (leads_on w) 1 0) (append-nil es)
+      sym (plus_none (cond (leads_on (es ++ [])) 1 0)
+      ∙ ap (λ w. cond (leads_on w) 1 0) (append-nil es)
       ∙ ap (λ b. cond (b && option_map_or (λ n. not (list_any (name_eq n) (names es))) (last_target es) false) 1 0) (full (length es) (omega (arith, h))))
-  comes (suc k) es h = by (last_target es) refl
+  comes (suc k) es h = by (comes k) (last_target es) refl
     where
       stops : (p : Option Name) → last_target es ≡ p → rest_of m signed t (suc k) (names es) (last_target es) ≡ []
           → length (rest_of m signed t (suc k) (names es) (last_target es)) + cond (leads_on (es ++ rest_of m signed t (suc k) (names es) (last_target es))) 1 0 ≡ cond (leads es p) 1 0
       stops p e none =
           ap (λ r. length r + cond (leads_on (es ++ r)) 1 0) none
+          ∙ plus_none (cond (leads_on (es ++ [])) 1 0)
           ∙ ap (λ w. cond (leads_on w) 1 0) (append-nil es)
           ∙ ap (λ q. cond (leads es q) 1 0) e
 
-      goes : (n : Name) → last_target es ≡ Some n → list_any (name_eq n) (names es) ≡ false → (o : Option RRset) → found m signed n t ≡ o → Comes (suc k) es
-      goes n e new None f =
+      goes : ((longer : List (Name × RRset)) → length longer + k ≡ 8 → Comes k longer) → (n : Name) → last_target es ≡ Some n → list_any (name_eq n) (names es) ≡ false → (o : Option RRset) → found m signed n t ≡ o → Comes (suc k) es
+      goes ih n e new None f =
           searches_unfound m signed t (suc k) k (names es) (last_target es) n refl e new f
           ∙ sym (stops (Some n) e (rest_unfound m signed t (suc k) (names es) (last_target es) n e f)
           ∙ ap (λ b. cond (b && not (list_any (name_eq n) (names es))) 1 0) (room (length es) k h)
           ∙ ap (λ b. cond (not b) 1 0) new)
-      goes n e new (Some s) f =
+      goes ih n e new (Some s) f =
           let longer : List (Name × RRset) = es ++ (n, s) ∷ [] in
           let grown : names es ++ n ∷ [] ≡ names longer = sym (map-append (λ (e : Name × RRset). e.0) es ((n, s) ∷ [])) in
           let leads_to : cname_target s ≡ last_target longer = sym (last_of es (n, s)) in
+          let left_of : List (Name × RRset) = rest_of m signed t k (names longer) (last_target longer) in
           let left : rest_of m signed t k (names es ++ n ∷ []) (cname_target s) ≡ rest_of m signed t k (names longer) (last_target longer) =
           ap (λ x. rest_of m signed t k x (cname_target s)) grown ∙ ap (rest_of m signed t k (names longer)) leads_to in
           let rest : rest_of m signed t (suc k) (names es) (last_target es) ≡ (n, s) ∷ rest_of m signed t k (names longer) (last_target longer) =
@@ -70,26 +82,28 @@ module _ (m : Sets) (signed : Bool) (t : ℕ) where
           searches_step m signed t (suc k) k (names es) (last_target es) n s refl e new f
           ∙ ap (λ x. suc (searches_of m signed t k x (cname_target s))) grown
           ∙ ap (λ p. suc (searches_of m signed t k (names longer) p)) leads_to
-          ∙ ap suc (comes k longer (omega (arith, h, length-append es ((n, s) ∷ []))))
+          ∙ ap suc (ih longer (omega (arith, h, length-append es ((n, s) ∷ []))))
           ∙ sym (ap (λ r. length r + cond (leads_on (es ++ r)) 1 0) rest
-          ∙ ap (λ w. suc (length (rest_of m signed t k (names longer) (last_target longer))) + cond (leads_on w) 1 0) (sym (append_assoc es ((n, s) ∷ []) (rest_of m signed t k (names longer) (last_target longer)))))
+          ∙ suc_plus (length left_of) (cond (leads_on (es ++ (n, s) ∷ left_of)) 1 0)
+          ∙ ap (λ w. suc (length left_of + cond (leads_on w) 1 0)) (sym (append_assoc es ((n, s) ∷ []) left_of)))
 
-      known : (n : Name) → last_target es ≡ Some n → (b : Bool) → list_any (name_eq n) (names es) ≡ b → Comes (suc k) es
-      known n e true h =
+      known : ((longer : List (Name × RRset)) → length longer + k ≡ 8 → Comes k longer) → (n : Name) → last_target es ≡ Some n → (b : Bool) → list_any (name_eq n) (names es) ≡ b → Comes (suc k) es
+      known ih n e true h =
           searches_seen m signed t (suc k) (names es) (last_target es) n e h
           ∙ sym (stops (Some n) e (rest_seen m signed t (suc k) (names es) (last_target es) n e h)
           ∙ ap (λ b. cond (nat_lt (length es) 8 && not b) 1 0) h ∙ ended (nat_lt (length es) 8))
-      known n e false h = goes n e h (found m signed n t) refl
+      known ih n e false h = goes ih n e h (found m signed n t) refl
 
-      by : (p : Option Name) → last_target es ≡ p → Comes (suc k) es
-      by None e =
+      by : ((longer : List (Name × RRset)) → length longer + k ≡ 8 → Comes k longer) → (p : Option Name) → last_target es ≡ p → Comes (suc k) es
+      by ih None e =
           searches_none m signed t (suc k) (names es) (last_target es) e
           ∙ sym (stops None e (rest_none m signed t (suc k) (names es) (last_target es) e) ∙ ended (nat_lt (length es) 8))
-      by (Some n) e = known n e (list_any (name_eq n) (names es)) refl
+      by ih (Some n) e = known ih n e (list_any (name_eq n) (names es)) refl
 
   pub searches_are : (n : Name) (s : RRset) → searches_of m signed t 7 (n ∷ []) (cname_target s) ≡ chain_searches m signed n s t
   searches_are n s =
       comes 7 ((n, s) ∷ []) refl
+      ∙ ap (λ k. k + cond (leads_on ((n, s) ∷ rest_of m signed t 7 (n ∷ []) (cname_target s))) 1 0) (sym (less_one (length (rest_of m signed t 7 (n ∷ []) (cname_target s)))))
       ∙ ap (λ es. length es - 1 + cond (leads_on es) 1 0) (sym (chain_begins m signed t n s))
 
 -- ---- the count
