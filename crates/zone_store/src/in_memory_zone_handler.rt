@@ -299,8 +299,13 @@ impl<S: Signer, H: Nsec3Hash> InMemoryZoneHandler<S, H> {
             .inner_lookup(name, record_type, lookup_options, &mut searches)?
         {
             Some(found) => {
-                let answers =
-                    self.answers(name, record_type, found, lookup_options, &mut searches)?;
+                let answers = self.answers(
+                    name,
+                    record_type,
+                    found,
+                    lookup_options,
+                    &mut searches,
+                )?;
                 Ok(AuthLookup::answers(answers, None))
             }
             None => Err(self.denial(name)),
@@ -324,9 +329,9 @@ impl<S: Signer, H: Nsec3Hash> InMemoryZoneHandler<S, H> {
         if !is_alias || record_type == RecordType::CNAME {
             return Ok(LookupRecords::new(lookup_options, found.into_set()?));
         }
-        let chain =
-            self.inner
-                .chase_cnames(name, found, record_type, lookup_options, searches)?;
+        let chain = self
+            .inner
+            .chase_cnames(name, found, record_type, lookup_options, searches)?;
         Ok(LookupRecords::many(lookup_options, into_sets(chain)?))
     }
 

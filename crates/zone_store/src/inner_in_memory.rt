@@ -9,10 +9,9 @@ ghost use Rattle.zone_store.specs.Zones.{set_at, owns_at_or_below, put, without,
 
 use crate::found::Found;
 use crate::record_map::RecordMap;
-use crate::search;
 use crate::searches::Searches;
-use crate::wildcard;
 use crate::zone_error::ZoneError;
+use crate::{search, wildcard};
 use std::alloc::Global;
 use std::collections::BTreeMap;
 use std::marker::Model;

@@ -80,11 +80,7 @@ fn renamed(
 }
 
 /// A signature of a star's set under the queried name: one that the star owns is the name's.
-fn renamed_signature(
-    rrsig: &Record,
-    star: &Name,
-    name: &LowerName,
-) -> Result<Record, ProtoError>
+fn renamed_signature(rrsig: &Record, star: &Name, name: &LowerName) -> Result<Record, ProtoError>
     ensures made { IfOk result (λ made. made ≡ renamed_signature star.now name.now rrsig.now) }
     ensures err { IsOkUnless result ProtoError.Memory }
 {

@@ -14,13 +14,14 @@ loop-stored-preserved c =
     let done = c.loop-stored.invariant.0 in
     let d = c.in-Some.stored.now in
     let rest = c.next.new.self in
-    let is : c.args.set.now.records ≡ done ++ d ∷ rest = c.loop-stored.invariant.1 ∙ ap (λ w. done ++ w) c.in-Some.ensures.steps in
-    ( done ++ d ∷ []
-    , is ∙ sym (append_assoc done (d ∷ []) rest)
-    , c.in_ok-add_rdata.ensures.after
-    ∙ ap (λ x. unwrap_or (inserted c.loop-stored.made (record_of c.loop-stored.made x) 0) c.loop-stored.made) c.in_ok-clone-2.ensures.ok
-    ∙ ap (λ (s : RRset). unwrap_or (inserted s (record_of s d.rdata) 0) s) c.loop-stored.invariant.2
-    ∙ taken_next c.args.set.now c.args.name.now c.records_without_rrsigs-stored-items.ensures.rule done d rest is)
+    let is : c.args.set.now.records ≡ done ++ d ∷ rest = c.loop-stored.invariant.1 ∙ ap (λ w. done ++ w) c.in-Some.ensures.steps in (
+      done ++ d ∷ [],
+      is ∙ sym (append_assoc done (d ∷ []) rest),
+      c.in_ok-add_rdata.ensures.after
+          ∙ ap (λ x. unwrap_or (inserted c.loop-stored.made (record_of c.loop-stored.made x) 0) c.loop-stored.made) c.in_ok-clone-2.ensures.ok
+          ∙ ap (λ (s : RRset). unwrap_or (inserted s (record_of s d.rdata) 0) s) c.loop-stored.invariant.2
+          ∙ taken_next c.args.set.now c.args.name.now c.records_without_rrsigs-stored-items.ensures.rule done d rest is,
+    )
 
 pub returns-clause-made : goal.returns-clause-made
 returns-clause-made c =
