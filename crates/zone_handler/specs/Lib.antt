@@ -3,3 +3,4 @@ pub mod Sets
 pub mod Errors
 pub mod Answers
 pub mod AuthLookup
+pub mod Transfers

@@ -1,11 +1,13 @@
 ghost use Rattle.std.specs.Prelude.{◌≡◌, ℕ};
 ghost use Rattle.zone_proto.specs.Names.{Name};
+ghost use Rattle.zone_proto.specs.Types.{AXFR};
 ghost use Rattle.zone_handler.specs.declared.zone_type.ZoneType.{ZoneType};
 ghost use Rattle.zone_handler.specs.declared.axfr_policy.AxfrPolicy.{AxfrPolicy};
 ghost use Rattle.zone_handler.specs.declared.lookup_options.LookupOptions.{LookupOptions};
 ghost use Rattle.zone_handler.specs.declared.lookup_error.LookupError.{LookupError};
 ghost use Rattle.zone_handler.specs.declared.auth_lookup.AuthLookup.{AuthLookup};
 ghost use Rattle.zone_handler.specs.declared.control_flow.LookupControlFlow.{LookupControlFlow};
+ghost use Rattle.zone_handler.specs.Transfers.{IsNoLookup};
 
 use crate::auth_lookup::AuthLookup;
 use crate::axfr_policy::AxfrPolicy;
@@ -46,7 +48,8 @@ pub trait ZoneHandler {
     /// the moment in seconds since 1970.
     ///
     /// `Continue` hands the answer, or the refusal that says why there is none, on to the next handler of a chain,
-    /// `Break` makes it final, and `Skip` says that this handler has none.
+    /// `Break` makes it final, and `Skip` says that this handler has none. A query of type AXFR isn't a lookup, and each
+    /// handler breaks it off with the same error, for which it takes no memory.
     fn lookup(
         &self,
         name: &LowerName,
@@ -55,5 +58,6 @@ pub trait ZoneHandler {
         lookup_options: LookupOptions,
         now: u64,
     ) -> LookupControlFlow<AuthLookup>
-        ensures { lookup_gives self.now name.now record_type.0 lookup_options now result };
+        ensures answer { lookup_gives self.now name.now record_type.0 lookup_options now result }
+        ensures transfer { record_type.0 ≡ AXFR → IsNoLookup result };
 }

@@ -25,20 +25,9 @@ use Rattle.zone_store.specs.declared.zone_error.ZoneError.TheVariants.{KeyMismat
 use Rattle.zone_proto.specs.declared.error.ProtoError.{ProtoError}
 use Rattle.zone_proto.specs.declared.rdata.start_of_authority.SOA.{SOA as SoaData}
 use Rattle.zone_store.proofs.Owned.{type_in}
+use Rattle.zone_store.proofs.Stored.{put_apart}
 
 -- ---- what a map owns that has a set put into it
-
-none_more : (m : Sets) (k q : RrKey) (v : RRset) → key_eq q k ≡ false → lookup (key_eq q) (insert_entry key_cmp m k v) ≡ lookup (key_eq q) m
-none_more [] k q v h = ap (λ b. cond b (Some v) None) h
-none_more (e ∷ m) k q v h = by (key_cmp k e.0) refl (none_more m k q v h)
-  where
-    by : (o : Ordering) → key_cmp k e.0 ≡ o → lookup (key_eq q) (insert_entry key_cmp m k v) ≡ lookup (key_eq q) m
-        → lookup (key_eq q) (match_ordering o ((k, v) ∷ e ∷ m) ((e.0, v) ∷ m) (e ∷ insert_entry key_cmp m k v)) ≡ lookup (key_eq q) (e ∷ m)
-    by Less g ih = ap (λ b. cond b (Some v) (lookup (key_eq q) (e ∷ m))) h
-    by Equal g ih =
-        let other : key_eq q e.0 ≡ false = sym (ap (key_eq q) (key_same k e.0 (ap is_eq g))) ∙ h in
-        ap (λ b. cond b (Some v) (lookup (key_eq q) m)) other ∙ sym (ap (λ b. cond b (Some e.1) (lookup (key_eq q) m)) other)
-    by Greater g ih = ap (cond (key_eq q e.0) (Some e.1)) ih
 
 -- an owned key is the one that was put, or was owned before
 owned_after : (m : Sets) (a n : Name) (u t : ℕ) (v : RRset) → owns (put m a u v) n t ≡ true → (key n t ≡ key a u) ⊎ (owns m n t ≡ true)
@@ -46,7 +35,7 @@ owned_after m a n u t v h = by (key_eq (key n t) (key a u)) refl
   where
     by : (b : Bool) → key_eq (key n t) (key a u) ≡ b → (key n t ≡ key a u) ⊎ (owns m n t ≡ true)
     by true e = inl (key_same (key n t) (key a u) e)
-    by false e = inr (sym (ap is_some (none_more m (key a u) (key n t) v e)) ∙ h)
+    by false e = inr (sym (ap is_some (put_apart m (key a u) (key n t) v e)) ∙ h)
 
 -- ---- types that don't clash
 

@@ -8,3 +8,4 @@ pub mod Denials
 pub mod Examples
 pub mod CnamesAlone
 pub mod Constructing
+pub mod Lists

@@ -1,5 +1,5 @@
 -- What the lists of a map's types and names have in them
-use Rattle.std.proofs.Common.{◌≡◌, ℕ, Bool, true, false, cond, [], ◌∷◌, refl, sym, ap, ◌∙◌, inl, inr, true≢false}
+use Rattle.std.proofs.Common.{◌≡◌, ◌==◌, eq-eqb, eqb-true, ℕ, Bool, true, false, cond, [], ◌∷◌, refl, sym, ap, ◌∙◌, inl, inr, true≢false}
 use Rattle.std.specs.Prelude.{Option, Some, None, is_some, IfSome, option_copied}
 use Rattle.std.specs.Borrow.{Bor}
 use Rattle.std.specs.Map.{keys_of}
@@ -9,9 +9,9 @@ use Rattle.zone_proto.specs.Keys.{key, key_eq}
 use Rattle.zone_proto.specs.Names.{Name, name_eq}
 use Rattle.zone_proto.specs.Sets.{RRset}
 use Rattle.zone_proto.proofs.KeyOrder.{key_same, key_itself}
-use Rattle.zone_proto.proofs.Members.{In, any_from_In, In-filter_map, In-from_filter_map, In-map}
+use Rattle.zone_proto.proofs.Members.{In, any_from_In, In-filter_map, In-from_filter_map, In-map, In-from_map}
 use Rattle.zone_proto.proofs.NameTree.{name_eq-Decides}
-use Rattle.zone_store.specs.Zones.{Sets, set_at, owns, types_at, IsStoredAt, IsRecordMap}
+use Rattle.zone_store.specs.Zones.{Sets, set_at, owns, names_of, owners, types_at, IsStoredAt, IsZone}
 
 -- an entry of an owned key stands in the map
 pub has_entry : (m : Sets) (n : Name) (t : ℕ) → owns m n t ≡ true → (s : RRset) × In (key n t, s) m
@@ -55,7 +55,28 @@ type_owned m n t i =
     let g = given (name_eq n r.0.0.name) r.0.0.record_type.0 t r.2 in
     entry_owned m n t r.0 r.1 (λ j. key (sym ((name_eq-Decides n r.0.0.name).0 g.0) j) (g.1 j))
 
+pub owner_in : (m : Sets) (n : Name) (t : ℕ) → owns m n t ≡ true → In n (owners m t)
+owner_in m n t h =
+    let e = has_entry m n t h in
+    In-filter_map (λ (d : RrKey × RRset). cond (t == d.0.record_type.0) (Some d.0.name) None) (key n t, e.0) n m e.1 (passed (t == t) n (eq-eqb t t refl))
+
+pub owner_owned : (m : Sets) (n : Name) (t : ℕ) → In n (owners m t) → owns m n t ≡ true
+owner_owned m n t i =
+    let r = In-from_filter_map (λ (d : RrKey × RRset). cond (t == d.0.record_type.0) (Some d.0.name) None) n m i in
+    let g = given (t == r.0.0.record_type.0) r.0.0.name n r.2 in
+    entry_owned m n t r.0 r.1 (λ j. key (g.1 j) (sym (eqb-true t r.0.0.record_type.0 g.0) j))
+
+pub name_in : (m : Sets) (n : Name) (t : ℕ) → owns m n t ≡ true → In n (names_of m)
+name_in m n t h =
+    let e = has_entry m n t h in
+    In-map (λ (d : RrKey × RRset). d.0.name) (key n t, e.0) m e.1
+
+pub name_owned : (m : Sets) (n : Name) → In n (names_of m) → (t : ℕ) × (owns m n t ≡ true)
+name_owned m n i =
+    let r = In-from_map (λ (d : RrKey × RRset). d.0.name) n m i in
+    (r.0.0.record_type.0, entry_owned m n r.0.0.record_type.0 r.0 r.1 (λ j. key (r.2 j) r.0.0.record_type.0))
+
 -- a set that a look-up finds is stored as it is to be
-pub found_stored : (m : Sets) (n : Name) (t : ℕ) (r : Option (Bor RRset)) → option_copied r ≡ set_at m n t → IsRecordMap m → IfSome r (λ s. IsStoredAt n t s.now)
+pub found_stored : (m : Sets) (n : Name) (t : ℕ) (r : Option (Bor RRset)) → option_copied r ≡ set_at m n t → IsZone m → IfSome r (λ s. IsStoredAt n t s.now)
 found_stored m n t None e i = tt
-found_stored m n t (Some s) e i = i n t s.now (sym e)
+found_stored m n t (Some s) e i = i.stored n t s.now (sym e)

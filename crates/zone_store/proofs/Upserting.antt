@@ -1,5 +1,5 @@
 -- The insertion of a record into the set under its key
-use Rattle.std.proofs.Common.{◌≡◌, ◌≢◌, ℕ, Bool, true, false, cond, List, [], ◌∷◌, ◌++◌, refl, sym, ap, ◌∙◌, subst, true≢false, Ordering, Less, Equal, Greater, Result, Ok, Err}
+use Rattle.std.proofs.Common.{arith, ◌≡◌, ◌≢◌, ◌==◌, ◌&&◌, not, ℕ, Bool, true, false, cond, List, [], ◌∷◌, ◌++◌, refl, sym, ap, ◌∙◌, subst, true≢false, Ordering, Less, Equal, Greater, Result, Ok, Err}
 use Rattle.std.specs.Prelude.{if◌then◌else◌, nat_lt, Option, Some, None, IsSome, IfOk, OnOk, OnErr, is_some, unwrap_or, option_map}
 use Rattle.std.specs.BTreeMap.{insert_entry}
 use Rattle.std.specs.List.Sorted.{IsStrictlySortedBy}
@@ -16,13 +16,15 @@ use Rattle.zone_proto.specs.declared.rr_key.RrKey.{RrKey}
 use Rattle.zone_proto.specs.Data.{type_of}
 use Rattle.zone_proto.specs.Keys.{key, key_cmp, key_eq}
 use Rattle.zone_proto.specs.Names.{Name, name_cmp, lower, same_name}
-use Rattle.zone_proto.specs.Sets.{RRset, inserted, inserted_by, soa_inserted, first_serial, stores, replaced, appended, empty_set}
+use Rattle.zone_proto.specs.Sets.{RRset, IsSet, inserted, inserted_by, soa_inserted, first_serial, stores, replaced, appended, empty_set}
 use Rattle.zone_proto.specs.declared.rdata.RData.{RData}
 use Rattle.zone_proto.specs.declared.rdata.RData.TheVariants as V
 use Rattle.zone_proto.proofs.KeyLaws.{key_cmp_total}
+use Rattle.zone_proto.proofs.SetLaws.{IsSet-inserted}
 use Rattle.zone_proto.proofs.Tree.{name_order}
-use Rattle.zone_store.specs.Zones.{Sets, set_at, put, IsStoredAt}
-use Rattle.zone_store.specs.Upserts.{set_for, with_record}
+use Rattle.zone_store.specs.Zones.{Sets, set_at, put, IsStoredAt, IsZone}
+use Rattle.zone_store.specs.Upserts.{set_for, with_record, clashes, upserted}
+use Rattle.zone_store.proofs.Stored.{IsZone-put}
 
 -- names that are one in lower case are the same, the case of letters aside
 pub same_from_lower : (a b : Name) → lower a ≡ lower b → same_name a b ≡ true
@@ -46,42 +48,106 @@ is_some-map : {A B : Type 0} (f : A → B) (o : Option A) → is_some (option_ma
 is_some-map f None = refl
 is_some-map f (Some x) = refl
 
+-- ---- what a set holds that took a record
+
 filled : (rs : List Record) (r : Record) → rs ++ r ∷ [] ≢ []
 filled [] r e = cc
 filled (x ∷ rs) r e = cc
 
-module _ (n : Name) (t : ℕ) (s : RRset) (r : Record) (serial : ℕ) (w : RRset) (owner : lower s.owner ≡ n) (kind : s.record_type ≡ t) where
-  of_replaced : Some (replaced s r serial) ≡ Some w → IsStoredAt n t w
+module _ (s : RRset) (r : Record) (serial : ℕ) (w : RRset) where
+  of_replaced : Some (replaced s r serial) ≡ Some w → (w.owner ≡ s.owner) × (w.record_type ≡ s.record_type) × (w.records ≢ [])
   of_replaced e =
       let same : replaced s r serial ≡ w = cc in
-      subst (λ (x : RRset). IsStoredAt n t x) same (record { owner = owner; record_type = kind; filled = λ h. cc })
+      subst (λ (x : RRset). (x.owner ≡ s.owner) × (x.record_type ≡ s.record_type) × (x.records ≢ [])) same (refl, refl, λ h. cc)
 
-  of_appended : Some (appended s r serial) ≡ Some w → IsStoredAt n t w
+  of_appended : Some (appended s r serial) ≡ Some w → (w.owner ≡ s.owner) × (w.record_type ≡ s.record_type) × (w.records ≢ [])
   of_appended e =
       let same : appended s r serial ≡ w = cc in
-      subst (λ (x : RRset). IsStoredAt n t x) same (record { owner = owner; record_type = kind; filled = filled s.records r })
+      subst (λ (x : RRset). (x.owner ≡ s.owner) × (x.record_type ≡ s.record_type) × (x.records ≢ [])) same (refl, refl, filled s.records r)
 
-  of_newer : (b : Bool) → (if b then Some (replaced s r serial) else None) ≡ Some w → IsStoredAt n t w
+  of_newer : (b : Bool) → (if b then Some (replaced s r serial) else None) ≡ Some w → (w.owner ≡ s.owner) × (w.record_type ≡ s.record_type) × (w.records ≢ [])
   of_newer true e = of_replaced e
   of_newer false e = absurd cc
 
-  of_soa : (o : Option ℕ) (new : ℕ) → soa_inserted o new s r serial ≡ Some w → IsStoredAt n t w
+  of_soa : (o : Option ℕ) (new : ℕ) → soa_inserted o new s r serial ≡ Some w → (w.owner ≡ s.owner) × (w.record_type ≡ s.record_type) × (w.records ≢ [])
   of_soa None new e = of_appended e
   of_soa (Some old) new e = of_newer (nat_lt old new) e
 
-  of_other : (b : Bool) → (if b then None else Some (appended s r serial)) ≡ Some w → IsStoredAt n t w
+  of_other : (b : Bool) → (if b then None else Some (appended s r serial)) ≡ Some w → (w.owner ≡ s.owner) × (w.record_type ≡ s.record_type) × (w.records ≢ [])
   of_other true e = absurd cc
   of_other false e = of_appended e
 
-  of_data : (d : RData) → inserted_by d s r serial ≡ Some w → IsStoredAt n t w
+  of_data : (d : RData) → inserted_by d s r serial ≡ Some w → (w.owner ≡ s.owner) × (w.record_type ≡ s.record_type) × (w.records ≢ [])
   of_data (V.SOA a) e = of_soa (first_serial s.records) a.serial e
   of_data (V.CNAME a) e = of_replaced e
   of_data (V.ANAME a) e = of_replaced e
   of_data d e = of_other (stores s.records d) e
 
--- a set that took a record may stand under its owner's name and type
-pub inserted_stored : (n : Name) (t : ℕ) (s : RRset) (r : Record) (serial : ℕ) (w : RRset) → lower s.owner ≡ n → s.record_type ≡ t → inserted s r serial ≡ Some w → IsStoredAt n t w
-inserted_stored n t s r serial w o k e = of_data n t s r serial w o k r.rdata e
+-- a set that took a record may stand under the record's name and type
+inserted_stored : (s : RRset) (r : Record) (serial : ℕ) (w : RRset) → lower s.owner ≡ lower r.name → s.record_type ≡ type_of r.rdata → IsSet s.owner s.record_type s.records
+    → inserted s r serial ≡ Some w → IsStoredAt (lower r.name) (type_of r.rdata) w
+inserted_stored s r serial w o k i e =
+    let parts = of_data s r serial w r.rdata e in
+    record {
+      owner = ap lower parts.0 ∙ o;
+      record_type = parts.1 ∙ k;
+      filled = parts.2;
+      set = IsSet-inserted s r serial w (same_from_lower r.name s.owner (sym o)) (sym k) i e;
+    }
+
+IsSet-empty : (owner : Name) (t : ℕ) → IsSet owner t []
+IsSet-empty owner t =
+    record {
+      owners = λ k d h. absurd (omega arith);
+      types = λ k d h. absurd (omega arith);
+      differ = λ i j d h k. absurd (omega arith);
+      single = λ _. omega arith;
+    }
+
+-- the set that takes a record may stand there, records aside
+takes_there : (m : Sets) (r : Record) (serial : ℕ) → IsZone m
+    → (lower (set_for m r serial).owner ≡ lower r.name) × ((set_for m r serial).record_type ≡ type_of r.rdata) × IsSet (set_for m r serial).owner (set_for m r serial).record_type (set_for m r serial).records
+takes_there m r serial zone = by (set_at m (lower r.name) (type_of r.rdata)) refl
+  where
+    by : (o : Option RRset) → set_at m (lower r.name) (type_of r.rdata) ≡ o → (lower (unwrap_or o (empty_set r.name (type_of r.rdata) serial)).owner ≡ lower r.name)
+        × ((unwrap_or o (empty_set r.name (type_of r.rdata) serial)).record_type ≡ type_of r.rdata)
+        × IsSet (unwrap_or o (empty_set r.name (type_of r.rdata) serial)).owner (unwrap_or o (empty_set r.name (type_of r.rdata) serial)).record_type (unwrap_or o (empty_set r.name (type_of r.rdata) serial)).records
+    by None e = (refl, refl, IsSet-empty r.name (type_of r.rdata))
+    by (Some s) e =
+        let there = zone.stored (lower r.name) (type_of r.rdata) s e in
+        (there.owner, there.record_type, there.set)
+
+-- ---- an insertion leaves the sets of a zone
+
+pub IsZone-with_record : (m : Sets) (r : Record) (serial : ℕ) (n : Sets) → IsZone m → with_record m r serial ≡ Some n → IsZone n
+IsZone-with_record m r serial n zone = by (inserted (set_for m r serial) r serial) refl
+  where
+    by : (o : Option RRset) → inserted (set_for m r serial) r serial ≡ o → option_map (put m (lower r.name) (type_of r.rdata)) o ≡ Some n → IsZone n
+    by None e h = absurd cc
+    by (Some w) e h =
+        let there = takes_there m r serial zone in
+        let same : put m (lower r.name) (type_of r.rdata) w ≡ n = cc in
+        subst IsZone same (IsZone-put m (key (lower r.name) (type_of r.rdata)) w zone (inserted_stored (set_for m r serial) r serial w there.0 there.1 there.2 e))
+
+pub IsZone-upserted : (m : Sets) (class : ℕ) (r : Record) (serial : ℕ) (n : Sets) → IsZone m → upserted m class r serial ≡ Some n → IsZone n
+IsZone-upserted m class r serial n zone = by ((r.dns_class.0 == class) && not (clashes m (lower r.name) (type_of r.rdata)))
+  where
+    by : (b : Bool) → cond b (with_record m r serial) None ≡ Some n → IsZone n
+    by true h = IsZone-with_record m r serial n zone h
+    by false h = absurd cc
+
+-- an insertion gives these, or the sets as they were
+pub IsZone-or_same : (m : Sets) (o : Option Sets) → IsZone m → ((n : Sets) → o ≡ Some n → IsZone n) → IsZone (unwrap_or o m)
+IsZone-or_same m None zone taken = zone
+IsZone-or_same m (Some n) zone taken = taken n refl
+
+pub IsZone-or_upserted : (m : Sets) (class : ℕ) (r : Record) (serial : ℕ) → IsZone m → IsZone (unwrap_or (upserted m class r serial) m)
+IsZone-or_upserted m class r serial zone = IsZone-or_same m (upserted m class r serial) zone (λ n e. IsZone-upserted m class r serial n zone e)
+
+-- what holds sets, after a call that may be refused and then leaves it as it was
+pub IsZone-after : {A E V : Type 0} (sets : V → Sets) (old new made : V) (res : Result A E) → IsZone (sets old) → IsZone (sets made) → OnOk res (new ≡ made) → OnErr res (new ≡ old) → IsZone (sets new)
+IsZone-after sets old new made (Ok x) before after h g = subst (λ v. IsZone (sets v)) (sym h) after
+IsZone-after sets old new made (Err e) before after h g = subst (λ v. IsZone (sets v)) (sym g) before
 
 -- ---- into a set that is stored
 
@@ -120,16 +186,6 @@ module _ (m : Sets) (r : Record) (serial : ℕ) (s : RRset) (found : set_at m (l
     stored_same (Ok b) h = h
     stored_same (Err e) h = kept h
 
-    -- what is written back may stand where the set stood
-    pub stored_where : IsStoredAt (lower r.name) (type_of r.rdata) s → (res : Result Bool ProtoError)
-        → OnOk res (w ≡ unwrap_or (inserted s r serial) s) → OnErr res (w ≡ s) → IsStoredAt (lower r.name) (type_of r.rdata) w
-    stored_where i (Ok b) h g = by (inserted s r serial) refl
-      where
-        by : (o : Option RRset) → inserted s r serial ≡ o → IsStoredAt (lower r.name) (type_of r.rdata) w
-        by None e = subst (λ (x : RRset). IsStoredAt (lower r.name) (type_of r.rdata) x) (sym (h ∙ ap (λ p. unwrap_or p s) e)) i
-        by (Some v) e = inserted_stored (lower r.name) (type_of r.rdata) s r serial w i.owner i.record_type (e ∙ ap Some (sym (h ∙ ap (λ p. unwrap_or p s) e)))
-    stored_where i (Err x) h g = subst (λ (y : RRset). IsStoredAt (lower r.name) (type_of r.rdata) y) (sym g) i
-
 -- ---- into a new set
 
 module _ (m : Sets) (r : Record) (serial : ℕ) (absent : set_at m (lower r.name) (type_of r.rdata) ≡ None) where
@@ -139,11 +195,7 @@ module _ (m : Sets) (r : Record) (serial : ℕ) (absent : set_at m (lower r.name
   pub new_answer : is_some (inserted (empty_set r.name (type_of r.rdata) serial) r serial) ≡ is_some (with_record m r serial)
   new_answer = sym (is_some-map (put m (lower r.name) (type_of r.rdata)) (inserted (empty_set r.name (type_of r.rdata) serial) r serial)) ∙ ap is_some (sym with_new)
 
-  -- the set that is put
   module _ (w : RRset) (taken : inserted (empty_set r.name (type_of r.rdata) serial) r serial ≡ Some w) where
-    pub new_stored : IsStoredAt (lower r.name) (type_of r.rdata) w
-    new_stored = inserted_stored (lower r.name) (type_of r.rdata) (empty_set r.name (type_of r.rdata) serial) r serial w refl refl taken
-
     pub new_after : put m (lower r.name) (type_of r.rdata) w ≡ unwrap_or (with_record m r serial) m
     new_after = sym (ap (λ p. unwrap_or (option_map (put m (lower r.name) (type_of r.rdata)) p) m) taken) ∙ sym (ap (λ p. unwrap_or p m) with_new)
 

@@ -1,16 +1,17 @@
 -- A zone as contracts see it
-use Rattle.std.specs.Prelude.{ℕ, List, [], ◌∷◌, Option, Some, None, option_and_then}
+use Rattle.std.specs.Prelude.{◌≡◌, ℕ, List, [], ◌∷◌, Option, Some, None, option_and_then}
 use Rattle.std.specs.Option.{option_map_or}
 use Rattle.zone_proto.specs.declared.nx_proof_kind.NxProofKind.{NxProofKind}
 use Rattle.zone_proto.specs.declared.rdata.RData.{RData}
 use Rattle.zone_proto.specs.declared.rdata.RData.TheVariants as V
 use Rattle.zone_proto.specs.declared.rdata.start_of_authority.SOA.{SOA as SoaData}
 use Rattle.zone_proto.specs.declared.record.Record.{Record}
-use Rattle.zone_proto.specs.Names.{Name}
-use Rattle.zone_proto.specs.Types.{SOA}
+use Rattle.zone_proto.specs.declared.rr_key.RrKey.{RrKey}
+use Rattle.zone_proto.specs.Names.{Name, lower}
+use Rattle.zone_proto.specs.Types.{IN, SOA}
 use Rattle.zone_handler.specs.declared.axfr_policy.AxfrPolicy.{AxfrPolicy}
 use Rattle.zone_handler.specs.declared.zone_type.ZoneType.{ZoneType}
-use Rattle.zone_store.specs.Zones.{Sets, set_at}
+use Rattle.zone_store.specs.Zones.{Sets, set_at, IsZone}
 
 -- the record sets of a zone, and the signers that sign them, in order
 pub record Inner (S : Type 0) : Type 0 where
@@ -47,3 +48,10 @@ serial m origin = option_map_or (λ a. a.serial) (soa m origin) 0
 
 abbrev pub minimum : Sets → Name → ℕ
 minimum m origin = option_map_or (λ a. a.minimum) (soa m origin) 0
+
+-- what holds of every zone in memory: the key of its SOA is that of an origin in lower case, its class is IN, and its sets are those of a zone
+pub record IsHandler (apex : RrKey) (class : ℕ) (m : Sets) : Type 0 where
+  pub origin : lower apex.name ≡ apex.name
+  pub soa : apex.record_type.0 ≡ SOA
+  pub internet : class ≡ IN
+  pub sets : IsZone m

@@ -7,3 +7,4 @@ pub mod Searches
 pub mod FoundSets
 pub mod Handlers
 pub mod Lookup
+pub mod DemoSigners

@@ -1,7 +1,6 @@
 -- What a lookup answers
-use Rattle.std.specs.Prelude.{◌≡◌, ℕ, cond, ◌==◌, List, None, Ok, Err, ◌⊎◌, codes}
+use Rattle.std.specs.Prelude.{◌≡◌, ℕ, cond, ◌==◌, None, Ok, Err, ◌⊎◌}
 use Rattle.std.specs.Option.{option_map_or}
-use Rattle.std.specs.Borrow.{Bor}
 use Rattle.zone_proto.specs.declared.response_code.ResponseCode.TheVariants as code
 use Rattle.zone_proto.specs.Names.{Name, is_at_or_above}
 use Rattle.zone_proto.specs.Sets.{RRset}
@@ -9,12 +8,12 @@ use Rattle.zone_proto.specs.Types.{AXFR}
 use Rattle.zone_handler.specs.declared.auth_lookup.AuthLookup.{AuthLookup}
 use Rattle.zone_handler.specs.declared.auth_lookup.AuthLookup.TheVariants as answer
 use Rattle.zone_handler.specs.declared.control_flow.LookupControlFlow.{LookupControlFlow}
-use Rattle.zone_handler.specs.declared.control_flow.LookupControlFlow.TheVariants.{Continue, Break}
+use Rattle.zone_handler.specs.declared.control_flow.LookupControlFlow.TheVariants.{Continue}
 use Rattle.zone_handler.specs.declared.lookup_error.LookupError.{LookupError}
 use Rattle.zone_handler.specs.declared.lookup_error.LookupError.TheVariants as error
 use Rattle.zone_handler.specs.declared.lookup_options.LookupOptions.{LookupOptions}
 use Rattle.zone_handler.specs.declared.lookup_records.LookupRecords.TheVariants as section
-use Rattle.zone_handler.specs.declared.net_error.NetError.TheVariants as net
+use Rattle.zone_handler.specs.Transfers.{IsNoLookup}
 use Rattle.zone_store.specs.Zones.{Sets, owns_at_or_below}
 use Rattle.zone_store.specs.Search.{direct}
 
@@ -50,7 +49,7 @@ error_of refused = error.ResponseCode code.Refused
 
 -- how a step of a chain of handlers says a reply; a set comes with its signatures where the options ask for DNSSEC
 abbrev pub Says : LookupOptions → Reply → LookupControlFlow AuthLookup LookupError → Type 0
-Says options not_a_lookup step = (text : Bor (List ℕ)) × (step ≡ Break (Err (error.NetError (net.Message text)))) × (text.now ≡ codes "AXFR must be handled with ZoneHandler::zone_transfer()")
+Says options not_a_lookup step = IsNoLookup step
 Says options (denied d) step = step ≡ Continue (Err (error_of d))
 Says options (answered s) step = step ≡ Continue (Ok (answer.Records (section.Records options s) None))
 

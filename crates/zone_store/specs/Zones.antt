@@ -1,12 +1,13 @@
 -- A zone's record sets: a finite map from an owner name and a type to a record set
 use Rattle.std.specs.Prelude.{◌≡◌, ◌≢◌, ℕ, Bool, cond, List, [], map, ◌==◌, Option, Some, None, filter_map, is_some}
 use Rattle.std.specs.List.{list_any}
-use Rattle.std.specs.Map.{lookup, remove_entry}
+use Rattle.std.specs.List.Sorted.{IsStrictlySortedBy}
+use Rattle.std.specs.Map.{lookup, remove_entry, keys_of}
 use Rattle.std.specs.BTreeMap.{insert_entry}
 use Rattle.zone_proto.specs.declared.rr_key.RrKey.{RrKey}
 use Rattle.zone_proto.specs.Keys.{key, key_cmp, key_eq}
 use Rattle.zone_proto.specs.Names.{Name, lower, name_eq, is_at_or_above}
-use Rattle.zone_proto.specs.Sets.{RRset}
+use Rattle.zone_proto.specs.Sets.{RRset, IsSet}
 
 -- the map, as its entries in the order of their keys
 abbrev pub Sets : Type 0
@@ -44,12 +45,14 @@ put m n t s = insert_entry key_cmp m (key n t) s
 abbrev pub without : Sets → Name → ℕ → Sets
 without m n t = remove_entry (key_eq (key n t)) m
 
--- a set stands under its own owner name, in lower case, and type, and it has a record
+-- a set stands under its own owner name, in lower case, and type; it has a record, and its records are those of one set
 pub record IsStoredAt (n : Name) (t : ℕ) (s : RRset) : Type 0 where
   pub owner : lower s.owner ≡ n
   pub record_type : s.record_type ≡ t
   pub filled : s.records ≢ []
+  pub set : IsSet s.owner s.record_type s.records
 
--- so does each set of the map
-abbrev pub IsRecordMap : Sets → Type 0
-IsRecordMap m = (n : Name) (t : ℕ) (s : RRset) → set_at m n t ≡ Some s → IsStoredAt n t s
+-- the sets of a zone: their keys ascend, so that none stands twice, and each set stands under its own
+pub record IsZone (m : Sets) : Type 0 where
+  pub ordered : IsStrictlySortedBy key_cmp (keys_of m)
+  pub stored : (n : Name) (t : ℕ) (s : RRset) → set_at m n t ≡ Some s → IsStoredAt n t s

@@ -1,12 +1,13 @@
 ghost use Rattle.std.specs.Prelude.{◌≡◌, ◌⊎◌, false, [], Ok, Err, IfErr, IfOk, OnOk, OnErr, IsOkUnless, IsTrue, is_some, unwrap_or, option_and_then, option_copied};
 ghost use Rattle.zone_proto.specs.Names.{lower};
 ghost use Rattle.zone_proto.specs.Types.{IN, SOA, AXFR};
+ghost use Rattle.zone_handler.specs.Transfers.{IsNoLookup};
 ghost use Rattle.zone_store.specs.Handlers.{soa, serial, minimum};
-ghost use Rattle.zone_store.specs.Lookup.{not_a_lookup, absent, denial, error_of, reply, Says, SaysOrMemory, IsDenied};
+ghost use Rattle.zone_store.specs.Lookup.{absent, denial, error_of, reply, SaysOrMemory, IsDenied};
 ghost use Rattle.zone_store.specs.Construction.{made};
 ghost use Rattle.zone_store.specs.Refusals.{Refuses};
 ghost use Rattle.zone_store.specs.Upserts.{upserted, CnamesStandAlone};
-ghost use Rattle.zone_store.specs.Zones.{set_at, owns, put, without};
+ghost use Rattle.zone_store.specs.Zones.{set_at, owns, put, without, IsZone};
 
 use crate::construction;
 use crate::inner_in_memory::InnerInMemory;
@@ -44,9 +45,7 @@ pub struct InMemoryZoneHandler<S: Signer, H: Nsec3Hash> {
 }
 
 impl<S: Signer, H: Nsec3Hash> Model for InMemoryZoneHandler<S, H> {
-    ghost use Rattle.std.specs.Prelude.{◌≡◌};
-    ghost use Rattle.zone_proto.specs.Types.{SOA};
-    ghost use Rattle.zone_store.specs.Handlers.{Zone};
+    ghost use Rattle.zone_store.specs.Handlers.{Zone, IsHandler};
 
     ghost Value = { Zone S H };
 
@@ -61,7 +60,7 @@ impl<S: Signer, H: Nsec3Hash> Model for InMemoryZoneHandler<S, H> {
           hash = zone.hash;
         } };
 
-    ghost invariant = { λ zone. zone.apex.record_type.0 ≡ SOA };
+    ghost invariant = { λ zone. IsHandler zone.apex zone.class.0 zone.inner.records };
 }
 
 impl<S: Signer, H: Nsec3Hash> InMemoryZoneHandler<S, H> {
@@ -146,23 +145,27 @@ impl<S: Signer, H: Nsec3Hash> InMemoryZoneHandler<S, H> {
         })
     }
 
-    /// The zone's class.
+    /// The zone's class, which is IN of every zone (RFC 1035 section 3.2.4).
     pub fn class(&self) -> DNSClass
-        ensures { result.0 ≡ self.now.class }
+        ensures zone { result.0 ≡ self.now.class }
+        ensures internet { result.0 ≡ IN }
     {
         self.class
     }
 
     /// The record sets by their keys, in the order of the keys.
     pub fn records(&self) -> &BTreeMap<RrKey, RecordSet>
-        ensures { result.now.entries ≡ self.now.inner.records }
+        ensures entries { result.now.entries ≡ self.now.inner.records }
+        ensures zone { IsZone self.now.inner.records }
+        ensures origin { lower self.now.origin ≡ self.now.origin }
     {
         self.inner.as_map()
     }
 
     /// The record sets and signers.
     pub fn inner(&self) -> &InnerInMemory<S>
-        ensures { result.now ≡ self.now.inner }
+        ensures inner { result.now ≡ self.now.inner }
+        ensures zone { IsZone self.now.inner.records }
     {
         &self.inner
     }
@@ -240,7 +243,7 @@ impl<S: Signer, H: Nsec3Hash> InMemoryZoneHandler<S, H> {
         ensures refused { IfErr result (λ refusal. Refuses refusal set) }
         ensures same { OnErr result (self.new ≡ self.old) }
     {
-        if set.is_empty() {
+        if set.records_without_rrsigs().next().is_none() {
             return Err(PutRefused::Empty(set));
         }
         let Ok(name) = LowerName::new(set.name()) else {
@@ -331,7 +334,7 @@ impl<S: Signer, H: Nsec3Hash> ZoneHandler for InMemoryZoneHandler<S, H> {
         _now: u64,
     ) -> LookupControlFlow<AuthLookup>
         ensures answer { SaysOrMemory lookup_options (reply self.now.origin self.now.inner.records name.now record_type.0) result }
-        ensures transfer { record_type.0 ≡ AXFR → Says lookup_options not_a_lookup result }
+        ensures transfer { record_type.0 ≡ AXFR → IsNoLookup result }
         ensures owned_is_not_denied { IsTrue (owns self.now.inner.records name.now record_type.0) → IsDenied result → ⊥ }
     {
         if record_type == RecordType::AXFR {

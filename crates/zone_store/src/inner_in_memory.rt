@@ -1,9 +1,9 @@
-ghost use Rattle.std.specs.Prelude.{◌≡◌, [], IfOk, IfErr, OnOk, OnErr, IsOkUnless, is_some, unwrap_or, option_map, option_copied};
-ghost use Rattle.zone_store.specs.FoundSets.{found_set};
+ghost use Rattle.std.specs.Prelude.{◌≡◌, [], IfOk, IfErr, IfSome, OnOk, OnErr, IsOkUnless, is_some, unwrap_or, option_map, option_copied};
+ghost use Rattle.zone_store.specs.FoundSets.{found_set, IsLent};
 ghost use Rattle.zone_store.specs.Search.{direct};
 ghost use Rattle.zone_store.specs.Searches.{one_more};
 ghost use Rattle.zone_store.specs.Upserts.{upserted, CnamesStandAlone};
-ghost use Rattle.zone_store.specs.Zones.{set_at, owns_at_or_below, put, without, IsStoredAt};
+ghost use Rattle.zone_store.specs.Zones.{set_at, owns_at_or_below, put, without, IsStoredAt, IsZone};
 
 use crate::found::Found;
 use crate::record_map::RecordMap;
@@ -25,10 +25,13 @@ pub struct InnerInMemory<S: Signer> {
 
 impl<S: Signer> Model for InnerInMemory<S> {
     ghost use Rattle.zone_store.specs.Handlers.{Inner};
+    ghost use Rattle.zone_store.specs.Zones.{IsZone};
 
     ghost Value = { Inner S };
 
     ghost view = { λ zone. record { records = zone.records; signers = zone.signers.items } };
+
+    ghost invariant = { λ zone. IsZone zone.records };
 }
 
 impl<S: Signer> InnerInMemory<S> {
@@ -44,8 +47,11 @@ impl<S: Signer> InnerInMemory<S> {
 
     /// These record sets, and no signers.
     pub(crate) fn with_records(alloc: Global, records: RecordMap) -> Self
-        ensures { result ≡ record { records = records; signers = [] } }
+        ensures value { result ≡ record { records = records; signers = [] } }
+        ensures zone { IsZone records }
     {
+        // Its clause says that these are the sets of a zone.
+        let _ = records.as_map();
         InnerInMemory {
             records,
             signers: Vec::new(alloc),
@@ -93,6 +99,7 @@ impl<S: Signer> InnerInMemory<S> {
         searches: &mut Searches,
     ) -> Result<Option<Found<'_>>, LookupError>
         ensures found { IfOk result (λ found. option_map found_set found ≡ direct self.now.records name.now record_type.0) }
+        ensures lent { IfOk result (λ found. IfSome found IsLent) }
         ensures counted { searches.new ≡ one_more searches.old }
         ensures err { IsOkUnless result LookupError.Memory }
     {
@@ -131,7 +138,8 @@ impl<S: Signer> InnerInMemory<S> {
 
     /// The record sets by their keys.
     pub(crate) fn as_map(&self) -> &BTreeMap<RrKey, RecordSet>
-        ensures { result.now.entries ≡ self.now.records }
+        ensures entries { result.now.entries ≡ self.now.records }
+        ensures zone { IsZone self.now.records }
     {
         self.records.as_map()
     }

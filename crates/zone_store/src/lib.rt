@@ -11,6 +11,7 @@ mod construction;
 mod found;
 mod in_memory_zone_handler;
 mod inner_in_memory;
+pub mod laws;
 pub mod program;
 mod put_refused;
 mod record_map;

@@ -4,7 +4,7 @@ ghost use Rattle.zone_proto.specs.Names.{lower};
 ghost use Rattle.zone_proto.specs.Types.{CNAME};
 ghost use Rattle.zone_proto.specs.Data.{type_of};
 ghost use Rattle.zone_proto.specs.Sets.{inserted, empty_set};
-ghost use Rattle.zone_store.specs.Zones.{set_at, owns, owns_at_or_below, put, without, IsStoredAt};
+ghost use Rattle.zone_store.specs.Zones.{set_at, owns, owns_at_or_below, put, without, IsStoredAt, IsZone};
 ghost use Rattle.zone_store.specs.Upserts.{upserted, with_record, clash, clashes, is_denial_type, CnamesStandAlone};
 
 use std::alloc::Global;
@@ -19,13 +19,13 @@ pub(crate) struct RecordMap {
 }
 
 impl Model for RecordMap {
-    ghost use Rattle.zone_store.specs.Zones.{Sets, IsRecordMap};
+    ghost use Rattle.zone_store.specs.Zones.{Sets, IsZone};
 
     ghost Value = { Sets };
 
     ghost view = { λ m. m.sets.entries };
 
-    ghost invariant = { λ m. IsRecordMap m.sets.entries };
+    ghost invariant = { λ m. IsZone m.sets.entries };
 }
 
 impl RecordMap {
@@ -39,7 +39,8 @@ impl RecordMap {
 
     /// The map itself.
     pub(crate) fn as_map(&self) -> &BTreeMap<RrKey, RecordSet>
-        ensures { result.now.entries ≡ self.now }
+        ensures entries { result.now.entries ≡ self.now }
+        ensures zone { IsZone self.now }
     {
         &self.sets
     }

@@ -1,9 +1,11 @@
 //! A handler through its trait.
 ghost use Rattle.std.specs.Prelude.{◌≡◌, true};
+ghost use Rattle.zone_proto.specs.Types.{AXFR};
+ghost use Rattle.zone_handler.specs.Transfers.{IsNoLookup};
 
 use std::alloc::Global;
 use zone_handler::{
-    AuthLookup, AxfrPolicy, LookupControlFlow, LookupError, LookupOptions, RequestInfo,
+    AuthLookup, AxfrPolicy, LookupControlFlow, LookupError, LookupOptions, NetError, RequestInfo,
     ZoneHandler, ZoneType,
 };
 use zone_proto::{DNSClass, LowerName, Query, RecordType};
@@ -18,7 +20,8 @@ impl ZoneHandler for Parked {
     ghost use Rattle.zone_handler.specs.declared.zone_type.ZoneType.TheVariants.{External};
     ghost use Rattle.zone_handler.specs.declared.axfr_policy.AxfrPolicy.TheVariants.{AllowSigned};
     ghost use Rattle.zone_handler.specs.ControlFlow.{is_break};
-    ghost use Rattle.std.specs.Prelude.{◌≡◌, false};
+    ghost use Rattle.std.specs.Prelude.{◌≡◌, ◌==◌};
+    ghost use Rattle.zone_proto.specs.Types.{AXFR};
 
     ghost zone_type_of = { λ _. External };
 
@@ -26,7 +29,7 @@ impl ZoneHandler for Parked {
 
     ghost origin_of = { λ zone. zone.origin };
 
-    ghost lookup_gives = { λ _ _ _ _ _ flow. is_break flow ≡ false };
+    ghost lookup_gives = { λ _ _ record_type _ _ flow. is_break flow ≡ (record_type == AXFR) };
 
     fn zone_type(&self) -> ZoneType {
         ZoneType::External
@@ -43,11 +46,15 @@ impl ZoneHandler for Parked {
     fn lookup(
         &self,
         name: &LowerName,
-        _record_type: RecordType,
+        record_type: RecordType,
         _request_info: Option<&RequestInfo<'_>>,
         _lookup_options: LookupOptions,
         _now: u64,
     ) -> LookupControlFlow<AuthLookup> {
+        if record_type == RecordType::AXFR {
+            let error = NetError::from("AXFR must be handled with ZoneHandler::zone_transfer()");
+            return LookupControlFlow::Break(Err(LookupError::from(error)));
+        }
         if self.origin.zone_of(name) {
             LookupControlFlow::Continue(Err(LookupError::for_name_exists()))
         } else {
@@ -58,7 +65,8 @@ impl ZoneHandler for Parked {
 
 /// What any zone answers to the query at its origin.
 fn at_origin<Z: ZoneHandler>(zone: &Z, query: &Query) -> LookupControlFlow<AuthLookup>
-    ensures { Z.lookup_gives zone.now (Z.origin_of zone.now) query.now.query_type.0 (record { dnssec_ok = true }) 5 result }
+    ensures answer { Z.lookup_gives zone.now (Z.origin_of zone.now) query.now.query_type.0 (record { dnssec_ok = true }) 5 result }
+    ensures transfer { query.now.query_type.0 ≡ AXFR → IsNoLookup result }
 {
     let info = RequestInfo { query };
     let options = LookupOptions::for_dnssec();
@@ -72,11 +80,11 @@ fn kind_of<Z: ZoneHandler>(zone: &Z) -> ZoneType
     zone.zone_type()
 }
 
-/// The query for the addresses of the root.
-fn query(alloc: Global) -> Query {
+/// The query for a type at the root.
+fn make_query(alloc: Global, query_type: RecordType) -> Query {
     Query {
         name: LowerName::root(alloc),
-        query_type: RecordType::A,
+        query_type,
         query_class: DNSClass::IN,
     }
 }
@@ -94,13 +102,15 @@ fn handler_answers_through_its_trait(rt: HostRuntime) {
     let zone = Parked {
         origin: LowerName::root(alloc),
     };
-    let query = query(alloc);
+    let query = make_query(alloc, RecordType::A);
+    let transfer = make_query(alloc, RecordType::AXFR);
     let is_kind = kind_of(&zone) == ZoneType::External;
     let is_policy = zone.axfr_policy() == AxfrPolicy::AllowSigned;
     let is_kept = is_name_exists(at_origin(&zone, &query));
     let step = at_origin(&zone, &query).map_err(|error| error.is_nx_domain());
     let is_mapped = matches!(step, LookupControlFlow::Continue(Err(false)));
     let is_empty = at_origin(&zone, &query).unwrap_or_default().is_empty();
+    let is_broken_off = at_origin(&zone, &transfer).is_break();
     assert!(rt; is_kind && is_policy && AxfrPolicy::default() == AxfrPolicy::Deny);
-    assert!(rt; is_kept && is_mapped && is_empty);
+    assert!(rt; is_kept && is_mapped && is_empty && is_broken_off);
 }

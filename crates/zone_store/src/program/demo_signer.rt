@@ -1,5 +1,6 @@
 ghost use Rattle.std.specs.Prelude.{None, ◌≡◌, IfOk, IsOkUnless};
 
+use std::marker::Model;
 use zone_proto::{DNSClass, DNSKEY, LowerName, ProtoError, RRSIG, RecordSet, Signer};
 
 /// The signer of the program's demonstrations, which is no cryptography.
@@ -11,11 +12,20 @@ pub struct DemoSigner {
     origin: LowerName,
 }
 
+impl Model for DemoSigner {
+    ghost use Rattle.zone_store.specs.DemoSigners.{Demo};
+
+    ghost Value = { Demo };
+
+    ghost view = { λ signer. record { number = signer.number; origin = signer.origin } };
+}
+
 impl DemoSigner {
     /// The demonstration signer of this number for the zone of this origin, whose name it copies together with
     /// the allocator that the name was made with. `Memory` where that copy is refused.
     pub fn new(number: u16, origin: &LowerName) -> Result<DemoSigner, ProtoError>
-        ensures { IsOkUnless result ProtoError.Memory }
+        ensures made { IfOk result (λ signer. signer ≡ record { number = number; origin = origin.now }) }
+        ensures err { IsOkUnless result ProtoError.Memory }
     {
         Ok(DemoSigner {
             number,

@@ -6,10 +6,9 @@ use Rattle.zone_proto.specs.Keys.{key_cmp}
 use Rattle.zone_proto.specs.Names.{lower}
 use Rattle.zone_proto.specs.Sets.{RRset, inserted, empty_set}
 use Rattle.zone_proto.specs.declared.rr_key.RrKey.{RrKey}
-use Rattle.zone_store.specs.Zones.{Sets, set_at, put, IsStoredAt, IsRecordMap}
+use Rattle.zone_store.specs.Zones.{Sets, set_at, put, IsZone}
 use Rattle.zone_store.specs.Upserts.{with_record}
-use Rattle.zone_store.proofs.Stored.{IsRecordMap-put}
-use Rattle.zone_store.proofs.Upserting.{same_from_lower, new_stored, new_after, taken_set}
+use Rattle.zone_store.proofs.Upserting.{same_from_lower, IsZone-with_record, IsZone-or_same, new_after, taken_set}
 use Rattle.zone_store.proofs.record_map.RecordMap.insert_new.Goals as goal
 
 pub insert-requires-clause-owner : goal.insert-requires-clause-owner
@@ -26,11 +25,11 @@ invariant_of-self c =
     ∙ taken_set (inserted c.new-set.result c.args.record c.args.serial) c.new-set.result c.insert.new.self c.in_ok-insert.field-0 c.in_ok-insert.ensures.answer c.if-not-branch.false c.in_ok-insert.ensures.after in
     let absent : set_at c.self.inside.sets.entries (lower c.args.record.name) (type_of c.args.record.rdata) ≡ None =
     ap (λ (m : Sets). set_at m (lower c.args.record.name) (type_of c.args.record.rdata)) c.self.view_is ∙ c.requires.absent in
-    let there : IsStoredAt (lower c.args.record.name) (type_of c.args.record.rdata) c.insert.new.self =
-    new_stored c.self.inside.sets.entries c.args.record c.args.serial absent c.insert.new.self taken in
-    IsRecordMap-put c.self.inside.sets.entries c.insert-2.new.self.entries c.args.key c.insert.new.self c.self.invariant
-    (subst (λ (k : RrKey). IsStoredAt k.name k.record_type.0 c.insert.new.self) (sym c.requires.own_key) there)
-    (c.in-Ok.ensures.updates).0
+    let written : c.insert-2.new.self.entries ≡ put c.self.inside.sets.entries (lower c.args.record.name) (type_of c.args.record.rdata) c.insert.new.self =
+    c.in-Ok.ensures.entries ∙ ap (λ (k : RrKey). insert_entry key_cmp c.self.inside.sets.entries k c.insert.new.self) c.requires.own_key in
+    subst IsZone (sym (written ∙ new_after c.self.inside.sets.entries c.args.record c.args.serial absent c.insert.new.self taken))
+    (IsZone-or_same c.self.inside.sets.entries (with_record c.self.inside.sets.entries c.args.record c.args.serial) c.self.invariant
+    (λ n e. IsZone-with_record c.self.inside.sets.entries c.args.record c.args.serial n c.self.invariant e))
 
 pub returns-in-Ok-clause-after : goal.returns-in-Ok-clause-after
 returns-in-Ok-clause-after c =
@@ -48,4 +47,4 @@ returns-in-Ok-clause-after c =
     (written ∙ new_after c.self.inside.sets.entries c.args.record c.args.serial absent c.insert.new.self taken)
 
 pub invariant_of-self-2 : goal.invariant_of-self-2
-invariant_of-self-2 c = subst IsRecordMap (sym c.in-Err.ensures.err) c.self.invariant
+invariant_of-self-2 c = subst IsZone (sym c.in-Err.ensures.err) c.self.invariant

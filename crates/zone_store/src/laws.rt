@@ -1,0 +1,53 @@
+//! Laws of the definitions of a zone. Each is an empty function whose contract is the law, so a program has no need to
+//! call one.
+ghost use Rattle.std.specs.Prelude.{◌≡◌, ◌↔◌, ◌<◌, ℕ, List, [], Some, None, IsTrue, false, length};
+ghost use Rattle.std.specs.List.{All, AllPairs, Contains};
+ghost use Rattle.std.specs.List.Sorted.{IsStrictlySortedBy};
+ghost use Rattle.std.specs.Ordering.{nat_cmp};
+ghost use Rattle.zone_proto.specs.declared.record.Record.{Record};
+ghost use Rattle.zone_proto.specs.Data.{type_of};
+ghost use Rattle.zone_proto.specs.Names.{Name, name_cmp, lower, IsAtOrAbove};
+ghost use Rattle.zone_proto.specs.Order.{is_upto};
+ghost use Rattle.zone_proto.specs.Sets.{RRset};
+ghost use Rattle.zone_store.specs.Search.{is_delegated_for, nearest_delegation};
+ghost use Rattle.zone_store.specs.Upserts.{upserted};
+ghost use Rattle.zone_store.specs.Zones.{Sets, set_at, owns, names_of, owners, types_at, put, without, IsStoredAt, IsZone};
+
+/// A zone may have no sets, and its sets stay those of a zone when a set is put under its own owner and type, when one is
+/// taken out, and when a record is inserted.
+pub fn zones_stay_zones()
+    ensures empty { IsZone [] }
+    ensures put { (m : Sets) (n : Name) (t : ℕ) (s : RRset) → IsZone m → IsStoredAt n t s → IsZone (put m n t s) }
+    ensures without { (m : Sets) (n : Name) (t : ℕ) → IsZone m → IsZone (without m n t) }
+    ensures insertion { (m after : Sets) (class : ℕ) (r : Record) (serial : ℕ) → IsZone m → upserted m class r serial ≡ Some after → IsZone after }
+{}
+
+/// In a zone an owner is in lower case, and each record of a set is of the type that the set stands under.
+pub fn sets_stand_under_their_own()
+    ensures owners { (m : Sets) (n : Name) (t : ℕ) → IsZone m → IsTrue (owns m n t) → lower n ≡ n }
+    ensures types { (m : Sets) (n : Name) (t : ℕ) (s : RRset) → IsZone m → set_at m n t ≡ Some s → All (λ (r : Record). type_of r.rdata ≡ t) s.records }
+{}
+
+/// In a zone the types of a name, the owners of a type and the names ascend. The first two have each but once; a name
+/// stands among the names as often as it owns a set.
+pub fn lists_ascend()
+    ensures types { (m : Sets) (n : Name) → IsZone m → IsStrictlySortedBy nat_cmp (types_at m n) }
+    ensures owners { (m : Sets) (t : ℕ) → IsZone m → IsStrictlySortedBy name_cmp (owners m t) }
+    ensures names { (m : Sets) → IsZone m → AllPairs (λ (a b : Name). IsTrue (is_upto name_cmp a b)) (names_of m) }
+{}
+
+/// These lists have exactly what is owned.
+pub fn lists_have_what_is_owned()
+    ensures types { (m : Sets) (n : Name) (t : ℕ) → Contains (types_at m n) t ↔ IsTrue (owns m n t) }
+    ensures owners { (m : Sets) (n : Name) (t : ℕ) → Contains (owners m t) n ↔ IsTrue (owns m n t) }
+    ensures names { (m : Sets) (n : Name) → Contains (names_of m) n ↔ ((t : ℕ) × IsTrue (owns m n t)) }
+{}
+
+/// The nearest delegation of a query is the longest name at or above its own that is one (RFC 1034 section 4.3.2): every
+/// longer one isn't, and where there is none, no name at or above is one.
+pub fn nearest_delegation_is_the_longest()
+    ensures above { (m : Sets) (n a : Name) (t : ℕ) → nearest_delegation m n t ≡ Some a → IsAtOrAbove a n }
+    ensures delegated { (m : Sets) (n a : Name) (t : ℕ) → nearest_delegation m n t ≡ Some a → IsTrue (is_delegated_for m n t a) }
+    ensures longest { (m : Sets) (n a b : Name) (t : ℕ) → nearest_delegation m n t ≡ Some a → IsAtOrAbove b n → length a < length b → is_delegated_for m n t b ≡ false }
+    ensures none { (m : Sets) (n b : Name) (t : ℕ) → nearest_delegation m n t ≡ None → IsAtOrAbove b n → is_delegated_for m n t b ≡ false }
+{}
