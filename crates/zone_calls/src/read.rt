@@ -45,9 +45,10 @@ fn read_type_text(alloc: Global, text: &str) -> Result<Box<Call>, TextError> {
     boxed(alloc, Call::Word(WordCall::Type(text)))
 }
 
-fn boxed(alloc: Global, call: Call) -> Result<Box<Call>, TextError> {
-    match Box::new(alloc, call) {
-        Ok(call) => Ok(call),
+/// Puts a value into a box. It is of any type, so that a proof has nothing to take apart where the box finds no memory.
+fn boxed<T: Drop>(alloc: Global, value: T) -> Result<Box<T>, TextError> {
+    match Box::new(alloc, value) {
+        Ok(boxed) => Ok(boxed),
         Err(_) => Err(TextError::Memory),
     }
 }
