@@ -1,9 +1,94 @@
 //! Runs of the program to which memory is refused.
 
-use crate::streams::{Capture, Feed, words};
+use crate::streams::{Capture, Feed};
 use scarce::Scarcity;
+use std::alloc::{AllocError, Global};
 use std::test::Fail;
 use zone_store::program;
+
+/// How many rooms are tried before a run has to succeed.
+const ROOMS: usize = 4_000;
+
+/// How many octets more each room has.
+const STEP: usize = 16;
+
+/// What a run has to do with, and where it writes.
+#[derive(Drop)]
+struct Desk<'i> {
+    args: Vec<String>,
+    input: &'i [u8],
+    output: Capture,
+    fault: Capture,
+}
+
+impl<'i> Desk<'i> {
+    fn new(alloc: Global, input: &'i [u8]) -> Result<Desk<'i>, AllocError> {
+        Ok(Desk {
+            args: vec![in alloc; String::from_str(alloc, "example.com.")?]?,
+            input,
+            output: Capture::with_capacity(alloc, 16_384)?,
+            fault: Capture::with_capacity(alloc, 4_096)?,
+        })
+    }
+
+    /// Runs the program in this room, and answers its status; none if the room can't be left.
+    fn run(&mut self, alloc: Global, scarce: &mut Scarcity, room: usize) -> Option<u8> {
+        if !scarce.leave(room) {
+            return None;
+        }
+        self.output.got.clear();
+        self.fault.got.clear();
+        let mut feed = Feed(self.input);
+        let (args, output, fault) = (self.args.as_slice(), &mut self.output, &mut self.fault);
+        Some(program::run(alloc, args, &mut feed, output, fault))
+    }
+
+    fn wrote(&self, text: &[u8]) -> bool {
+        self.output.got.as_slice() == text
+    }
+
+    fn complained(&self, text: &[u8]) -> bool {
+        self.fault.got.as_slice() == text
+    }
+}
+
+/// How often memory was refused, by where.
+#[derive(Clone, Copy)]
+struct Refusals {
+    at_the_start: u32,
+    at_the_first_line: u32,
+    at_the_query: u32,
+}
+
+/// Runs the program with ever more room, until it answers: how often memory was refused where; none where a run ended otherwise.
+fn refusals_of_short_answers(
+    alloc: Global,
+    scarce: &mut Scarcity,
+    desk: &mut Desk<'_>,
+) -> Option<Refusals> {
+    let mut refusals = Refusals {
+        at_the_start: 0,
+        at_the_first_line: 0,
+        at_the_query: 0,
+    };
+    for i in 0..ROOMS {
+        let status = desk.run(alloc, scarce, i.saturating_mul(STEP))?;
+        let starts = desk.complained(b"") && status == 0;
+        let both = desk.wrote(b"error Memory\nerror Memory\n");
+        if status == 2 && desk.complained(b"out of memory\n") && desk.wrote(b"") {
+            refusals.at_the_start = refusals.at_the_start.saturating_add(1);
+        } else if starts && (both || desk.wrote(b"error Memory\nerror NXDomain\n")) {
+            refusals.at_the_first_line = refusals.at_the_first_line.saturating_add(1);
+        } else if starts && desk.wrote(b"yes\nerror Memory\n") {
+            refusals.at_the_query = refusals.at_the_query.saturating_add(1);
+        } else if starts && desk.wrote(ANSWERS) {
+            return Some(refusals);
+        } else {
+            return None;
+        }
+    }
+    None
+}
 
 const INPUT: &[u8] = b"add www.example.com. 60 A 192.0.2.1\nlookup www.example.com. A\n";
 
@@ -14,63 +99,19 @@ const ANSWERS: &[u8] = b"yes\nanswer 1\nwww.example.com. 60 IN A 192.0.2.1\naddi
 #[test]
 fn each_growth_is_refused(rt: HostRuntime) -> Result<(), Fail> {
     let alloc = rt.alloc();
-    let args = words(alloc, &["example.com."])?;
-    let mut output = Capture::with_capacity(alloc, 4_096, u32::MAX)?;
-    let mut fault = Capture::with_capacity(alloc, 4_096, u32::MAX)?;
-    let mut scarcity = Scarcity::begin(alloc, 4_000)?;
-    let mut room = 0usize;
-    let mut at_the_start = 0u32;
-    let mut at_the_first_line = 0u32;
-    let mut at_the_query = 0u32;
-    let mut is_done = false;
-    for _ in 0..4_000u32 {
-        assert!(rt; scarcity.leave(room), "room {room}");
-        output.got.clear();
-        fault.got.clear();
-        let mut feed = Feed {
-            text: INPUT,
-            step: 4_096,
-            left: u32::MAX,
-        };
-        let status = program::run(alloc, &args, &mut feed, &mut output, &mut fault);
-        if status == 2 {
-            assert_eq!(rt; fault.got.as_slice(), b"out of memory\n".as_slice());
-            assert!(rt; output.got.is_empty());
-            at_the_start = at_the_start.saturating_add(1);
-        } else {
-            assert_eq!(rt; status, 0);
-            assert!(rt; fault.got.is_empty());
-            if output.got.as_slice() == ANSWERS {
-                is_done = true;
-                break;
-            }
-            if output.got.starts_with(b"yes\n") {
-                assert_eq!(rt; output.got.as_slice(), b"yes\nerror Memory\n".as_slice());
-                at_the_query = at_the_query.saturating_add(1);
-            } else {
-                assert!(rt;
-                    output.got.as_slice() == b"error Memory\nerror Memory\n".as_slice()
-                        || output.got.as_slice() == b"error Memory\nerror NXDomain\n".as_slice()
-                );
-                at_the_first_line = at_the_first_line.saturating_add(1);
-            }
-        }
-        room = room.saturating_add(16);
-    }
-    drop(scarcity);
-    assert!(rt; is_done);
-    assert!(rt; at_the_start > 0);
-    assert!(rt; at_the_first_line > 2);
-    assert!(rt; at_the_query > 0);
+    let mut desk = Desk::new(alloc, INPUT)?;
+    let mut scarce = Scarcity::begin(alloc, ROOMS)?;
+    let refusals = refusals_of_short_answers(alloc, &mut scarce, &mut desk);
+    drop(scarce);
+    let are_all_seen = refusals.is_some_and(|refusals| {
+        refusals.at_the_start > 0 && refusals.at_the_first_line > 2 && refusals.at_the_query > 0
+    });
+    assert!(rt; are_all_seen);
     Ok(())
 }
 
-/// An answer too long for the room that is there from the start needs memory while it is being built. Where that is
-/// refused, nothing of the answer is written, and the program ends as after a failed write.
-#[test]
-fn memory_is_refused_to_a_long_answer(rt: HostRuntime) -> Result<(), Fail> {
-    let alloc = rt.alloc();
-    let args = words(alloc, &["example.com."])?;
+/// Two records of two thousand octets each, and a query for them.
+fn long_input(alloc: Global) -> Result<Vec<u8>, AllocError> {
     let mut input = Vec::with_capacity(alloc, 16_384)?;
     for digits in [b"01", b"02"] {
         input.extend_from_slice(b"add a. 60 TXT ")?;
@@ -80,35 +121,41 @@ fn memory_is_refused_to_a_long_answer(rt: HostRuntime) -> Result<(), Fail> {
         input.push(b'\n')?;
     }
     input.extend_from_slice(b"lookup a. TXT\n")?;
-    let mut output = Capture::with_capacity(alloc, 16_384, u32::MAX)?;
-    let mut fault = Capture::with_capacity(alloc, 4_096, u32::MAX)?;
-    let mut scarcity = Scarcity::begin(alloc, 4_000)?;
-    let mut room = 16_384usize;
-    let mut write_failures = 0u32;
-    let mut is_done = false;
-    for _ in 0..4_000u32 {
-        assert!(rt; scarcity.leave(room), "room {room}");
-        output.got.clear();
-        fault.got.clear();
-        let mut feed = Feed {
-            text: &input,
-            step: 4_096,
-            left: u32::MAX,
-        };
-        let status = program::run(alloc, &args, &mut feed, &mut output, &mut fault);
-        if fault.got.as_slice() == b"write failed\n".as_slice() {
-            assert_eq!(rt; status, 2);
-            assert_eq!(rt; output.got.as_slice(), b"yes\nyes\n".as_slice());
-            write_failures = write_failures.saturating_add(1);
-        } else if output.got.starts_with(b"yes\nyes\nanswer 2\n") {
-            assert_eq!(rt; status, 0);
-            is_done = true;
-            break;
+    Ok(input)
+}
+
+/// Runs the program with ever more room, until it writes the long answer: how often it stopped as after a failed write.
+fn refusals_of_a_long_answer(
+    alloc: Global,
+    scarce: &mut Scarcity,
+    desk: &mut Desk<'_>,
+) -> Option<u32> {
+    let mut stops = 0u32;
+    for i in 0..ROOMS {
+        let room = i.saturating_mul(STEP).saturating_add(16_384);
+        let status = desk.run(alloc, scarce, room)?;
+        if desk.complained(b"write failed\n") {
+            if status != 2 || !desk.wrote(b"yes\nyes\n") {
+                return None;
+            }
+            stops = stops.saturating_add(1);
+        } else if desk.output.got.starts_with(b"yes\nyes\nanswer 2\n") {
+            return (status == 0).then_some(stops);
         }
-        room = room.saturating_add(16);
     }
-    drop(scarcity);
-    assert!(rt; is_done);
-    assert!(rt; write_failures > 0);
+    None
+}
+
+/// An answer too long for the room that is there from the start needs memory while it is being built. Where that is
+/// refused, nothing of the answer is written, and the program ends as after a failed write.
+#[test]
+fn memory_is_refused_to_a_long_answer(rt: HostRuntime) -> Result<(), Fail> {
+    let alloc = rt.alloc();
+    let input = long_input(alloc)?;
+    let mut desk = Desk::new(alloc, input.as_slice())?;
+    let mut scarce = Scarcity::begin(alloc, ROOMS)?;
+    let stops = refusals_of_a_long_answer(alloc, &mut scarce, &mut desk);
+    drop(scarce);
+    assert!(rt; stops.is_some_and(|stops| stops > 0));
     Ok(())
 }

@@ -1,0 +1,119 @@
+//! What a call answers.
+
+use crate::texts::{FlowText, LowerNameDescription, NameDescription, SetText};
+use std::cmp::Ordering;
+use std::fmt;
+use zone_handler::{AuthLookup, LookupControlFlow, LookupError};
+use zone_proto::{
+    DNSClass, LowerName, Name, ProtoError, RData, Record, RecordSet, RecordType, ResponseCode,
+};
+use zone_store::ZoneError;
+use zone_text::{DataText, HexText, RecordText};
+
+/// What a call answers; `Memory` where memory was refused to it, whatever call it is.
+#[derive(Drop)]
+pub enum Answer {
+    Done,
+    Yes,
+    No,
+    Nothing,
+    /// The call can't be made: its caller owes a condition, or nothing is in hand.
+    NotOwed,
+    NotCounted,
+    /// Memory was refused to the call, and it changed something all the same.
+    Changed,
+    Memory,
+    Order(Ordering),
+    Name(Name),
+    LowerName(LowerName),
+    Description(Name),
+    LowerDescription(LowerName),
+    Octets(Vec<u8>),
+    Type(RecordType),
+    Class(DNSClass),
+    Code(ResponseCode),
+    Record(Record),
+    Rdata(RData),
+    Set(RecordSet),
+    Text(String),
+    Flow(LookupControlFlow<AuthLookup>),
+    Proto(ProtoError),
+    Lookup(LookupError),
+    Zone(ZoneError),
+}
+
+impl Answer {
+    /// `yes` or `no`.
+    pub fn of(holds: bool) -> Answer {
+        if holds { Answer::Yes } else { Answer::No }
+    }
+
+    /// A set, or `nothing`.
+    pub fn of_set(given: Option<RecordSet>) -> Answer {
+        match given {
+            Some(set) => Answer::Set(set),
+            None => Answer::Nothing,
+        }
+    }
+}
+
+impl From<ProtoError> for Answer {
+    fn from(error: ProtoError) -> Answer {
+        match error {
+            ProtoError::Memory => Answer::Memory,
+            error => Answer::Proto(error),
+        }
+    }
+}
+
+impl From<LookupError> for Answer {
+    fn from(error: LookupError) -> Answer {
+        match error {
+            LookupError::Memory => Answer::Memory,
+            error => Answer::Lookup(error),
+        }
+    }
+}
+
+impl From<ZoneError> for Answer {
+    fn from(error: ZoneError) -> Answer {
+        match error {
+            ZoneError::Memory => Answer::Memory,
+            error => Answer::Zone(error),
+        }
+    }
+}
+
+impl fmt::Display for Answer {
+    fn fmt<W: fmt::Write>(&self, f: &mut fmt::Formatter<W>) -> fmt::Result {
+        match self {
+            Answer::Done => write!(f, "done"),
+            Answer::Yes => write!(f, "yes"),
+            Answer::No => write!(f, "no"),
+            Answer::Nothing => write!(f, "nothing"),
+            Answer::NotOwed => write!(f, "not for this caller"),
+            Answer::NotCounted => write!(f, "a search that isn't counted"),
+            Answer::Changed => write!(f, "a refusal that changes something"),
+            Answer::Memory => write!(f, "error: out of memory"),
+            Answer::Order(Ordering::Less) => write!(f, "before"),
+            Answer::Order(Ordering::Equal) => write!(f, "same"),
+            Answer::Order(Ordering::Greater) => write!(f, "after"),
+            Answer::Name(name) => write!(f, "{name}"),
+            Answer::LowerName(name) => write!(f, "{name}"),
+            Answer::Description(name) => write!(f, "{}", NameDescription(name)),
+            Answer::LowerDescription(name) => write!(f, "{}", LowerNameDescription(name)),
+            Answer::Octets(octets) => write!(f, "{}", HexText(octets.as_slice())),
+            Answer::Type(record_type) => write!(f, "{record_type} {}", record_type.0),
+            Answer::Class(class) => write!(f, "{class}"),
+            Answer::Code(code) => write!(f, "{code}"),
+            Answer::Record(record) => write!(f, "{}", RecordText(record)),
+            Answer::Rdata(rdata) => write!(f, "{}", DataText(rdata)),
+            Answer::Set(set) => write!(f, "{}", SetText(set)),
+            Answer::Text(text) => write!(f, "{text}"),
+            Answer::Flow(flow) => write!(f, "{}", FlowText(flow)),
+            Answer::Proto(error) => write!(f, "error: {error}"),
+            Answer::Lookup(error) => write!(f, "error: {error}"),
+            Answer::Zone(error) => write!(f, "error: {error}"),
+        }
+    }
+}

@@ -1,0 +1,337 @@
+//! What calls are made on: a zone, a set in hand, and a shelf of sets for the next zone.
+
+use crate::answer::Answer;
+use crate::call::{Call, SetCall, ZoneCall};
+use crate::names::make_name_call;
+use crate::no_signing::{NoHash, NoSigner};
+use crate::records::{make_record_call, make_word_call};
+use crate::texts::{LentText, SetText, ZoneText};
+use std::alloc::{AllocError, Global};
+use std::collections::BTreeMap;
+use zone_handler::{AxfrPolicy, LookupOptions, ZoneHandler, ZoneType};
+use zone_proto::{LowerName, Name, ProtoError, RData, Record, RecordSet, RecordType, RrKey};
+use zone_store::{Found, InMemoryZoneHandler, PutRefused, Searches};
+use zone_text::TextError;
+
+/// The zone of rows.
+pub type Zone = InMemoryZoneHandler<NoSigner, NoHash>;
+
+/// Record sets by their keys.
+type Sets = BTreeMap<RrKey, RecordSet>;
+
+/// A zone, the set in hand, a set that is kept beside it, the sets on the shelf, and the count of searches.
+#[derive(Drop)]
+pub struct Bench {
+    zone: Zone,
+    hand: Option<RecordSet>,
+    kept: Option<RecordSet>,
+    shelf: Sets,
+    searches: Searches,
+}
+
+impl Bench {
+    /// The zone of the root without records, and nothing in hand, kept or on the shelf.
+    pub fn new(alloc: Global) -> Bench {
+        Bench {
+            zone: empty_zone(Name::root(alloc), ZoneType::Primary, AxfrPolicy::AllowAll),
+            hand: None,
+            kept: None,
+            shelf: BTreeMap::new(alloc),
+            searches: Searches::new(),
+        }
+    }
+
+    /// The zone, the set in hand and the shelf as text.
+    pub fn dump(&self, alloc: Global) -> Result<String, AllocError> {
+        let mut text = format!(in alloc; "{}", ZoneText(&self.zone))?;
+        if let Some(set) = &self.hand {
+            write!(text, " in hand: {}", SetText(set))?;
+        }
+        write!(text, " {} on the shelf", self.shelf.len())?;
+        Ok(text)
+    }
+
+    /// Copies the sets on the shelf for a call that takes them.
+    pub fn prepare(&self, call: &mut Call) -> Result<(), TextError> {
+        match call {
+            Call::Zone(ZoneCall::Make(_, _, _, sets)) => copy_sets(&self.shelf, sets),
+            _ => Ok(()),
+        }
+    }
+
+    /// Makes a call. Memory that is refused to it is answered by `Memory`, and no early exit is here or below.
+    pub fn make(&mut self, alloc: Global, call: Call) -> Answer {
+        match call {
+            Call::Name(call) => make_name_call(alloc, call),
+            Call::Word(call) => make_word_call(call),
+            Call::Record(call) => make_record_call(call),
+            Call::Set(call) => self.make_set_call(alloc, call),
+            Call::Zone(call) => self.make_zone_call(alloc, call),
+        }
+    }
+
+    fn make_set_call(&mut self, alloc: Global, call: SetCall) -> Answer {
+        match call {
+            SetCall::New(owner, record_type, serial) => {
+                self.hand = Some(RecordSet::new(owner, record_type, serial));
+                Answer::Done
+            }
+            SetCall::WithTtl(owner, record_type, ttl) => {
+                self.hand = Some(RecordSet::with_ttl(owner, record_type, ttl));
+                Answer::Done
+            }
+            SetCall::Keep => self.keep(),
+            SetCall::Kept => Answer::of(self.hand == self.kept),
+            call => match &mut self.hand {
+                Some(set) => make_on_set(alloc, set, call),
+                None => Answer::NotOwed,
+            },
+        }
+    }
+
+    /// Keeps a copy of the set in hand.
+    fn keep(&mut self) -> Answer {
+        match &self.hand {
+            Some(set) => match set.clone() {
+                Ok(copy) => {
+                    self.kept = Some(copy);
+                    Answer::Done
+                }
+                Err(error) => Answer::from(error),
+            },
+            None => Answer::NotOwed,
+        }
+    }
+
+    fn make_zone_call(&mut self, alloc: Global, call: ZoneCall) -> Answer {
+        match call {
+            ZoneCall::Empty(origin, zone_type, policy) => {
+                self.zone = empty_zone(origin, zone_type, policy);
+                Answer::Done
+            }
+            ZoneCall::Make(origin, zone_type, policy, sets) => {
+                self.make_zone(origin, zone_type, policy, sets)
+            }
+            ZoneCall::Shelve => self.shelve(),
+            ZoneCall::ShelveUnder(key) => self.shelve_under(key),
+            ZoneCall::About => self.about(alloc),
+            ZoneCall::Upsert(record, serial) => match self.zone.upsert(record, serial) {
+                Ok(taken) => Answer::of(taken),
+                Err(error) => Answer::from(error),
+            },
+            ZoneCall::Put => self.put(),
+            ZoneCall::Remove(key) => Answer::of_set(self.zone.remove_set(&key)),
+            ZoneCall::Clear => {
+                self.zone.clear();
+                Answer::Done
+            }
+            ZoneCall::Search(name, record_type) => self.search(&name, record_type),
+            ZoneCall::Lookup(name, record_type) => {
+                let options = LookupOptions::default();
+                Answer::Flow(self.zone.lookup(&name, record_type, None, options, 0))
+            }
+            ZoneCall::Dump => match format!(in alloc; "{}", ZoneText(&self.zone)) {
+                Ok(text) => Answer::Text(text),
+                Err(_) => Answer::Memory,
+            },
+        }
+    }
+
+    /// Makes a zone of sets, which takes the place of the one before.
+    fn make_zone(
+        &mut self,
+        origin: Name,
+        zone_type: ZoneType,
+        policy: AxfrPolicy,
+        sets: Sets,
+    ) -> Answer {
+        match InMemoryZoneHandler::new(origin, sets, zone_type, policy, None, NoHash) {
+            Ok(zone) => {
+                self.zone = zone;
+                Answer::Done
+            }
+            Err(error) => Answer::from(error),
+        }
+    }
+
+    /// Puts the set in hand on the shelf, under its own key.
+    fn shelve(&mut self) -> Answer {
+        match &self.hand {
+            Some(set) => match own_key(set) {
+                Ok(key) => self.shelve_under(key),
+                Err(error) => Answer::from(error),
+            },
+            None => Answer::NotOwed,
+        }
+    }
+
+    fn shelve_under(&mut self, key: RrKey) -> Answer {
+        match self.hand.take() {
+            Some(set) => match self.shelf.insert(key, set) {
+                Ok(_) => Answer::Done,
+                Err(_) => Answer::Memory,
+            },
+            None => Answer::NotOwed,
+        }
+    }
+
+    /// What the zone says of itself.
+    fn about(&self, alloc: Global) -> Answer {
+        let zone = &self.zone;
+        let text = format!(in alloc;
+            "{} {} {:?} {:?}, serial {}, minimum {}",
+            zone.origin(),
+            zone.class(),
+            zone.zone_type(),
+            zone.axfr_policy(),
+            zone.serial(),
+            zone.minimum_ttl()
+        );
+        match text {
+            Ok(text) => Answer::Text(text),
+            Err(_) => Answer::Memory,
+        }
+    }
+
+    /// Stores the set in hand, which comes back into the hand if it is refused.
+    fn put(&mut self) -> Answer {
+        match self.hand.take() {
+            Some(set) => match self.zone.put_set(set) {
+                Ok(before) => Answer::of_set(before),
+                Err(PutRefused::Empty(set)) => {
+                    self.hand = Some(set);
+                    Answer::No
+                }
+                Err(PutRefused::Memory(set)) => {
+                    self.hand = Some(set);
+                    Answer::Memory
+                }
+            },
+            None => Answer::NotOwed,
+        }
+    }
+
+    /// Searches for a set, which has to be counted, and copies what is found.
+    fn search(&mut self, name: &LowerName, record_type: RecordType) -> Answer {
+        let before = self.searches.count();
+        let options = LookupOptions::default();
+        let searches = &mut self.searches;
+        let answer = match self
+            .zone
+            .inner()
+            .inner_lookup(name, record_type, options, searches)
+        {
+            Ok(Some(found)) => copied(found),
+            Ok(None) => Answer::Nothing,
+            Err(error) => Answer::from(error),
+        };
+        if self.searches.count() == before.saturating_add(1) {
+            answer
+        } else {
+            Answer::NotCounted
+        }
+    }
+}
+
+fn empty_zone(origin: Name, zone_type: ZoneType, policy: AxfrPolicy) -> Zone {
+    InMemoryZoneHandler::empty(origin, zone_type, policy, None, NoHash)
+}
+
+/// Copies sets, and puts them beside others.
+fn copy_sets(from: &Sets, to: &mut Sets) -> Result<(), TextError> {
+    for (key, set) in from {
+        copy_set(key, set, to)?;
+    }
+    Ok(())
+}
+
+fn copy_set(key: &RrKey, set: &RecordSet, to: &mut Sets) -> Result<(), TextError> {
+    let key = key.clone()?;
+    match set.clone() {
+        Ok(copy) => match to.insert(key, copy) {
+            Ok(_) => Ok(()),
+            Err(_) => Err(TextError::Memory),
+        },
+        Err(error) => Err(TextError::from(error)),
+    }
+}
+
+/// The key of a set's own name and type.
+fn own_key(set: &RecordSet) -> Result<RrKey, ProtoError> {
+    Ok(RrKey::new(LowerName::new(set.name())?, set.record_type()))
+}
+
+/// A copy of what was found.
+fn copied(found: Found<'_>) -> Answer {
+    match found.into_set() {
+        Ok(set) => Answer::Set(set),
+        Err(error) => Answer::from(error),
+    }
+}
+
+/// Makes a call on the set in hand.
+fn make_on_set(alloc: Global, set: &mut RecordSet, call: SetCall) -> Answer {
+    match call {
+        SetCall::Insert(record, serial) => insert(set, record, serial),
+        SetCall::Add(rdata) => add(set, rdata),
+        SetCall::Sign(record) => sign(set, record),
+        SetCall::Unsign => {
+            set.clear_rrsigs();
+            Answer::Done
+        }
+        SetCall::Copied => match set.clone() {
+            Ok(copy) => Answer::Set(copy),
+            Err(error) => Answer::from(error),
+        },
+        SetCall::Records(signed) => match format!(in alloc; "{}", LentText(set, signed)) {
+            Ok(text) => Answer::Text(text),
+            Err(_) => Answer::Memory,
+        },
+        _ => show(alloc, set),
+    }
+}
+
+/// Inserts a record that has the set's owner and type.
+fn insert(set: &mut RecordSet, record: Record, serial: u32) -> Answer {
+    if record.name == *set.name() && record.record_type() == set.record_type() {
+        match set.insert(record, serial) {
+            Ok(taken) => Answer::of(taken),
+            Err(error) => Answer::from(error),
+        }
+    } else {
+        Answer::NotOwed
+    }
+}
+
+/// Adds data that have the set's type.
+fn add(set: &mut RecordSet, rdata: RData) -> Answer {
+    if rdata.record_type() == set.record_type() {
+        match set.add_rdata(rdata) {
+            Ok(taken) => Answer::of(taken),
+            Err(error) => Answer::from(error),
+        }
+    } else {
+        Answer::NotOwed
+    }
+}
+
+/// Adds a signature.
+fn sign(set: &mut RecordSet, record: Record) -> Answer {
+    if record.record_type() == RecordType::RRSIG {
+        match set.insert_rrsig(record) {
+            Ok(()) => Answer::Done,
+            Err(error) => Answer::from(error),
+        }
+    } else {
+        Answer::NotOwed
+    }
+}
+
+/// All parts of a set.
+fn show(alloc: Global, set: &RecordSet) -> Answer {
+    let (name, class, record_type) = (set.name(), set.dns_class(), set.record_type());
+    match format!(in alloc; "{name} {class} {record_type}: {}", SetText(set)) {
+        Ok(text) => Answer::Text(text),
+        Err(_) => Answer::Memory,
+    }
+}

@@ -1,0 +1,153 @@
+//! The calls that rows can make.
+
+use std::collections::BTreeMap;
+use zone_handler::{AxfrPolicy, ZoneType};
+use zone_proto::{
+    DNSClass, LowerName, Name, NxProofKind, RData, Record, RecordSet, RecordType, ResponseCode,
+    RrKey,
+};
+
+/// A call of the library with what it is passed. In rows a LABEL is octets in hex, `-` for none, and `41*63` is one octet 63
+/// times; a NAME, a TYPE and the DATA of a record are written as in the program's lines. A RECORD is `NAME TTL TYPE DATA`,
+/// or with `CH` before its type.
+#[derive(Drop)]
+pub enum Call {
+    Name(NameCall),
+    Word(WordCall),
+    Record(RecordCall),
+    Set(SetCall),
+    Zone(ZoneCall),
+}
+
+/// Calls on names. After the word `lower` they are made on a `LowerName`.
+#[derive(Drop)]
+pub enum NameCall {
+    /// `parse TEXT`.
+    Parse(String),
+    LowerParse(String),
+    /// `labels LABEL ..`: `from_labels`.
+    Labels(Vec<Vec<u8>>),
+    LowerLabels(Vec<Vec<u8>>),
+    /// One of the calls below on a name.
+    On(Name, OnName),
+    OnLower(LowerName, OnName),
+    /// `shorten NAME`: `LowerName::shorten`.
+    Shorten(LowerName),
+    /// `lowered NAME`: `LowerName::new`.
+    Lowered(Name),
+    /// `converted NAME`: `LowerName::from`, and `Name::from` of that.
+    Converted(Name),
+    /// `holds ZONE NAME`: `zone_of`.
+    Holds(Name, Name),
+    LowerHolds(LowerName, LowerName),
+    /// `order NAME NAME`.
+    Order(Name, Name),
+    LowerOrder(LowerName, LowerName),
+    /// `keys NAME TYPE NAME TYPE`: the order of two keys.
+    Keys(RrKey, RrKey),
+    /// `copy key NAME TYPE`.
+    CopiedKey(RrKey),
+}
+
+/// What is done with one name.
+#[derive(Drop)]
+pub enum OnName {
+    /// `describe NAME`: its labels, and what it is.
+    Describe,
+    /// `base NAME`: `base_name`.
+    Base,
+    /// `star NAME`: `into_wildcard`.
+    Star,
+    /// `prepend LABEL NAME`: `prepend_label`.
+    Prepend(Vec<u8>),
+    /// `wire NAME`: `wire_lower`.
+    Wire,
+    /// `copy name NAME`, `lower copy NAME`: `clone`.
+    Copied,
+}
+
+/// Calls on types, classes and codes.
+#[derive(Drop)]
+pub enum WordCall {
+    /// `type TEXT`: `RecordType::from_text`.
+    Type(String),
+    /// `types TYPE TYPE`: their order.
+    Types(RecordType, RecordType),
+    /// `class NUMBER`: how a class is printed.
+    Class(DNSClass),
+    /// `code NUMBER`: how a response code is printed.
+    Code(ResponseCode),
+}
+
+/// Calls on data and records.
+#[derive(Drop)]
+pub enum RecordCall {
+    /// `record RECORD`: how it is printed.
+    Show(Record),
+    /// `copy record RECORD`.
+    Copied(Record),
+    /// `copy data TYPE DATA`.
+    CopiedData(RData),
+    /// `copy kind ALGORITHM SALT ITERATIONS`: of an `NxProofKind` with opt-out.
+    CopiedKind(NxProofKind),
+    /// `equal RECORD = RECORD`.
+    Equal(Box<Record>, Record),
+    /// `octets TYPE HEX`: `OtherData::new`.
+    Octets(RecordType, Vec<u8>),
+}
+
+/// Calls on the set in hand.
+#[derive(Drop)]
+pub enum SetCall {
+    /// `set OWNER TYPE serial NUMBER`: a set without records comes into the hand.
+    New(Name, RecordType, u32),
+    /// `set OWNER TYPE ttl NUMBER`.
+    WithTtl(Name, RecordType, u32),
+    /// `insert serial NUMBER RECORD`.
+    Insert(Record, u32),
+    /// `add TYPE DATA`: `add_rdata`.
+    Add(RData),
+    /// `sign RECORD`: `insert_rrsig`.
+    Sign(Record),
+    /// `unsign`: `clear_rrsigs`.
+    Unsign,
+    /// `show`: all parts of the set.
+    Show,
+    /// `records`, `records signed`: what the set lends.
+    Records(bool),
+    /// `copy set`: `clone`.
+    Copied,
+    /// `keep`: a copy of the set is kept.
+    Keep,
+    /// `kept`: whether the set is equal to the one that is kept.
+    Kept,
+}
+
+/// Calls on the zone.
+#[derive(Drop)]
+pub enum ZoneCall {
+    /// `empty ORIGIN ZONETYPE POLICY`: a zone without records takes the place of the one before.
+    Empty(Name, ZoneType, AxfrPolicy),
+    /// `make ORIGIN ZONETYPE POLICY`: `new`, of copies of the sets on the shelf.
+    Make(Name, ZoneType, AxfrPolicy, BTreeMap<RrKey, RecordSet>),
+    /// `shelve`: the set in hand goes on the shelf, under its own key.
+    Shelve,
+    /// `shelve under NAME TYPE`: the same under another key.
+    ShelveUnder(RrKey),
+    /// `about`: what the zone says of itself.
+    About,
+    /// `upsert serial NUMBER RECORD`.
+    Upsert(Record, u32),
+    /// `put`: `put_set` of the set in hand, which comes back into the hand if it is refused.
+    Put,
+    /// `remove NAME TYPE`: `remove_set`.
+    Remove(RrKey),
+    /// `clear`.
+    Clear,
+    /// `search NAME TYPE`: `inner_lookup`, and a copy of what was found.
+    Search(LowerName, RecordType),
+    /// `lookup NAME TYPE`.
+    Lookup(LowerName, RecordType),
+    /// `dump`: all sets of the zone.
+    Dump,
+}

@@ -1,0 +1,148 @@
+//! Names, sets, zones and answers as rows write them.
+
+use crate::bench::Zone;
+use std::fmt;
+use zone_handler::{AuthLookup, LookupControlFlow};
+use zone_proto::{LowerName, Name, RecordSet};
+use zone_text::{HexText, RecordText};
+
+/// What a name is, and its labels in hex.
+#[derive(Drop)]
+pub struct NameDescription<'n>(pub &'n Name);
+
+impl fmt::Display for NameDescription<'_> {
+    fn fmt<W: fmt::Write>(&self, f: &mut fmt::Formatter<W>) -> fmt::Result {
+        let name = self.0;
+        write!(f, "{}", Kind(name.is_root(), name.is_wildcard()))?;
+        write!(f, "{} labels{}", name.num_labels(), Labels(name.labels()))
+    }
+}
+
+/// The same of a name in lower case.
+#[derive(Drop)]
+pub struct LowerNameDescription<'n>(pub &'n LowerName);
+
+impl fmt::Display for LowerNameDescription<'_> {
+    fn fmt<W: fmt::Write>(&self, f: &mut fmt::Formatter<W>) -> fmt::Result {
+        let name = self.0;
+        write!(f, "{}", Kind(name.is_root(), name.is_wildcard()))?;
+        write!(f, "{} labels{}", name.num_labels(), Labels(name.labels()))
+    }
+}
+
+/// Whether a name is the root, and whether it is a wildcard.
+#[derive(Drop)]
+struct Kind(bool, bool);
+
+impl fmt::Display for Kind {
+    fn fmt<W: fmt::Write>(&self, f: &mut fmt::Formatter<W>) -> fmt::Result {
+        if self.0 {
+            write!(f, "root, ")?;
+        }
+        if self.1 {
+            write!(f, "wildcard, ")?;
+        }
+        Ok(())
+    }
+}
+
+/// Labels in hex, each after a space.
+#[derive(Drop)]
+struct Labels<'n>(&'n [Vec<u8>]);
+
+impl fmt::Display for Labels<'_> {
+    fn fmt<W: fmt::Write>(&self, f: &mut fmt::Formatter<W>) -> fmt::Result {
+        for label in self.0 {
+            write!(f, " {}", HexText(label.as_slice()))?;
+        }
+        Ok(())
+    }
+}
+
+/// The records of a set, each with a semicolon after it, its signatures, its TTL and its serial.
+#[derive(Drop)]
+pub struct SetText<'s>(pub &'s RecordSet);
+
+impl fmt::Display for SetText<'_> {
+    fn fmt<W: fmt::Write>(&self, f: &mut fmt::Formatter<W>) -> fmt::Result {
+        let set = self.0;
+        if set.is_empty() {
+            write!(f, "no {} of {}; ", set.record_type(), set.name())?;
+        }
+        for record in set.records_without_rrsigs() {
+            write!(f, "{}; ", RecordText(record))?;
+        }
+        for signature in set.rrsigs() {
+            write!(f, "{}; ", RecordText(signature))?;
+        }
+        write!(f, "ttl {}, serial {}", set.ttl(), set.serial())
+    }
+}
+
+/// The records that a set lends, with its signatures or without them.
+#[derive(Drop)]
+pub struct LentText<'s>(pub &'s RecordSet, pub bool);
+
+impl fmt::Display for LentText<'_> {
+    fn fmt<W: fmt::Write>(&self, f: &mut fmt::Formatter<W>) -> fmt::Result {
+        let mut lent = 0u64;
+        for record in self.0.records(self.1) {
+            write!(f, "{}; ", RecordText(record))?;
+            lent = lent.saturating_add(1);
+        }
+        write!(f, "{lent} lent")
+    }
+}
+
+/// What the zone says of itself, and its sets.
+#[derive(Drop)]
+pub struct ZoneText<'z>(pub &'z Zone);
+
+impl fmt::Display for ZoneText<'_> {
+    fn fmt<W: fmt::Write>(&self, f: &mut fmt::Formatter<W>) -> fmt::Result {
+        let sets = self.0.records();
+        write!(f, "{} sets", sets.len())?;
+        for (key, set) in sets {
+            write!(f, " | {} {}: {}", key.name, key.record_type, SetText(set))?;
+        }
+        Ok(())
+    }
+}
+
+/// What a look-up answers: the records, or the error, and whether the chain of handlers is broken off.
+#[derive(Drop)]
+pub struct FlowText<'a>(pub &'a LookupControlFlow<AuthLookup>);
+
+impl fmt::Display for FlowText<'_> {
+    fn fmt<W: fmt::Write>(&self, f: &mut fmt::Formatter<W>) -> fmt::Result {
+        match self.0 {
+            LookupControlFlow::Continue(Ok(answer)) => write!(f, "{}", AnswerText(answer)),
+            LookupControlFlow::Break(Ok(answer)) => write!(f, "break: {}", AnswerText(answer)),
+            LookupControlFlow::Continue(Err(error)) => write!(f, "error: {error}"),
+            LookupControlFlow::Break(Err(error)) => write!(f, "break, error: {error}"),
+            LookupControlFlow::Skip => write!(f, "skip"),
+        }
+    }
+}
+
+/// The records of an answer, and those that may help beside them.
+#[derive(Drop)]
+struct AnswerText<'a>(&'a AuthLookup);
+
+impl fmt::Display for AnswerText<'_> {
+    fn fmt<W: fmt::Write>(&self, f: &mut fmt::Formatter<W>) -> fmt::Result {
+        let mut count = 0u64;
+        for record in self.0.iter() {
+            write!(f, "{}; ", RecordText(record))?;
+            count = count.saturating_add(1);
+        }
+        write!(f, "{count} records")?;
+        if let Some(additionals) = self.0.additionals() {
+            write!(f, ", and additionals")?;
+            for record in additionals {
+                write!(f, "; {}", RecordText(record))?;
+            }
+        }
+        Ok(())
+    }
+}

@@ -1,0 +1,49 @@
+//! What names and sets lend.
+
+use crate::records::{mark, signed_set};
+use std::test::Fail;
+use zone_proto::{LowerName, Name, RecordSet};
+
+/// How many labels the suffixes of a name have in all, and how many suffixes there are.
+fn count_suffixes(name: &Name) -> (usize, usize) {
+    let (mut labels, mut suffixes) = (0usize, 0usize);
+    for suffix in name.suffixes() {
+        labels = labels.saturating_add(suffix.len());
+        suffixes = suffixes.saturating_add(1);
+    }
+    (labels, suffixes)
+}
+
+#[test]
+fn suffixes_end_with_the_root(rt: HostRuntime) -> Result<(), Fail> {
+    let alloc = rt.alloc();
+    let name = Name::parse(alloc, "A.b.c.")?;
+    assert!(rt; count_suffixes(&name) == (6, 4));
+    let lower = LowerName::new(&name)?;
+    let mut firsts = Vec::new(alloc);
+    for suffix in lower.suffixes() {
+        if let [first, ..] = suffix {
+            firsts.extend_from_slice(first.as_slice())?;
+        }
+    }
+    assert!(rt; firsts.as_slice() == b"abc".as_slice());
+    Ok(())
+}
+
+/// Whether a signed set lends its two addresses, its signature, and then nothing again and again.
+fn lends_three(set: &RecordSet) -> bool {
+    let mut lent = set.records(true);
+    let first = lent.next().map_or(0, mark) == 1;
+    let second = lent.next().map_or(0, mark) == 2;
+    let third = lent.next().is_some();
+    first && second && third && lent.next().is_none() && lent.next().is_none()
+}
+
+#[test]
+fn a_set_lends_nothing_after_its_signatures(rt: HostRuntime) -> Result<(), Fail> {
+    let set = signed_set(rt.alloc(), 1, 2)?;
+    let holds = lends_three(&set);
+    drop(set);
+    assert!(rt; holds);
+    Ok(())
+}
