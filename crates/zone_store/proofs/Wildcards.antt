@@ -1,5 +1,5 @@
 -- The star that answers is the nearest
-use Rattle.std.proofs.Common.{◌≡◌, ◌≢◌, ℕ, Bool, true, false, [], ◌∷◌, sym, ap, ◌∙◌}
+use Rattle.std.proofs.Common.{◌≡◌, ◌≢◌, ℕ, Bool, true, false, [], ◌∷◌, refl, sym, ap, ◌∙◌}
 use Rattle.std.specs.Prelude.{Option, Some, None, is_some}
 use Rattle.zone_proto.specs.Names.{Name, IsAbove, IsAtOrAbove}
 use Rattle.zone_proto.specs.Sets.{RRset}
