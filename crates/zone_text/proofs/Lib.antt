@@ -1,2 +1,4 @@
+pub mod WordFacts
 pub mod Digits
 pub mod HexFacts
+pub mod PartFacts

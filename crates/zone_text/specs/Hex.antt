@@ -1,12 +1,10 @@
--- Octets written in hex.
-use Rattle.std.specs.Prelude.{ℕ, ◌+◌, ◌-◌, ◌*◌, List, [], ◌∷◌, Option, Some, None, option_map, option_and_then, if◌then◌else◌, nat_le, ◌&&◌, ◌==◌}
+-- Octets written in hex
+use Rattle.std.specs.Prelude.{ℕ, ◌+◌, ◌*◌, List, [], ◌∷◌, Option, Some, None, option_map, option_and_then, if◌then◌else◌, ◌==◌}
+use Rattle.zone_text.specs.Numbers.{digit_of}
 
 -- the value of a hex digit in either case, and none for any other octet
 abbrev pub hex_digit : ℕ → Option ℕ
-hex_digit c =
-    if nat_le 48 c && nat_le c 57 then Some (c - 48)
-    else (if nat_le 97 c && nat_le c 102 then Some (c - 97 + 10)
-    else (if nat_le 65 c && nat_le c 70 then Some (c - 65 + 10) else None))
+hex_digit = digit_of 16
 
 -- the octet that two hex digits write, the high one first
 abbrev pub hex_octet : ℕ → ℕ → Option ℕ

@@ -1,14 +1,21 @@
-use crate::hex::read_hex_digit;
-use crate::numbers::read_u8;
+ghost use Rattle.std.specs.Prelude.{◌≡◌};
+ghost use Rattle.zone_text.specs.Addresses.{ipv4_of_text, ipv6_of_text, group_of_text};
+
+use crate::numbers::{read_number, read_u8};
+use crate::parts::part_before;
 use std::fmt;
 
-/// Reads an IPv4 address: four numbers from 0 to 255 with dots between them (RFC 1035, section 3.4.1).
-pub fn read_ipv4(word: &[u8]) -> Option<[u8; 4]> {
+/// Reads an IPv4 address: four numbers from 0 to 255 with dots between them (RFC 1035 section 3.4.1). None where the word
+/// isn't that. Takes no memory.
+#[tactic(auto, using(crate::proofs::PartFacts::reading))]
+pub fn read_ipv4(word: &[u8]) -> Option<[u8; 4]>
+    ensures { result ≡ ipv4_of_text word.now }
+{
     let mut address = [0u8; 4];
     let mut rest = Some(word);
-    for octet in address.iter_mut() {
+    for i in 0..4usize {
         let (part, others) = part_before(rest?, b'.');
-        *octet = read_u8(part)?;
+        address[i] = read_u8(part)?;
         rest = others;
     }
     match rest {
@@ -17,9 +24,12 @@ pub fn read_ipv4(word: &[u8]) -> Option<[u8; 4]> {
     }
 }
 
-/// Reads an IPv6 address: eight groups of one to four hex digits with colons between them, none left out
-/// (RFC 4291, section 2.2, its first form).
-pub fn read_ipv6(word: &[u8]) -> Option<[u8; 16]> {
+/// Reads an IPv6 address: eight groups of one to four hex digits with colons between them, none left out (RFC 4291 section
+/// 2.2, its first form). None where the word isn't that. Takes no memory.
+#[tactic(auto, using(crate::proofs::PartFacts::reading))]
+pub fn read_ipv6(word: &[u8]) -> Option<[u8; 16]>
+    ensures { result ≡ ipv6_of_text word.now }
+{
     let mut address = [0u8; 16];
     let mut rest = Some(word);
     for i in 0..8usize {
@@ -36,31 +46,13 @@ pub fn read_ipv6(word: &[u8]) -> Option<[u8; 16]> {
 }
 
 /// Reads one to four hex digits.
-fn read_group(part: &[u8]) -> Option<u16> {
-    if part.is_empty() || part.len() > 4 {
+fn read_group(part: &[u8]) -> Option<u16>
+    ensures { result ≡ group_of_text part.now }
+{
+    if part.len() > 4 {
         return None;
     }
-    let mut group = 0u16;
-    for octet in part {
-        group = group
-            .checked_mul(16)?
-            .checked_add(u16::from(read_hex_digit(*octet)?))?;
-    }
-    Some(group)
-}
-
-/// The part before the first separator, and what stands after it, or None where there is no separator.
-fn part_before(text: &[u8], separator: u8) -> (&[u8], Option<&[u8]>) {
-    match text.iter().position(|octet| *octet == separator) {
-        None => (text, None),
-        Some(at) => {
-            let (part, from) = text.split_at(at);
-            match from.split_first() {
-                Some((_, others)) => (part, Some(others)),
-                None => (part, None),
-            }
-        }
-    }
+    Some(read_number(part, 16, 65535)? as u16)
 }
 
 /// An IPv6 address as eight groups of four hex digits.

@@ -1,6 +1,7 @@
 ghost use Rattle.std.specs.Prelude.{◌≡◌, IfOk, option_map};
 ghost use Rattle.zone_text.specs.Hex.{hex_digit, hex_octets, hex_word};
 
+use crate::numbers::read_digit;
 use std::alloc::{AllocError, Global};
 
 /// Reads the octets that a word of hex writes: two digits each, in either case, and `-` for none.
@@ -36,13 +37,8 @@ fn read_octets(alloc: Global, digits: &[u8]) -> Result<Option<Vec<u8>>, AllocErr
 }
 
 /// Reads a hex digit in either case.
-pub(crate) fn read_hex_digit(octet: u8) -> Option<u8>
+fn read_hex_digit(octet: u8) -> Option<u8>
     ensures { result ≡ hex_digit octet }
 {
-    match octet {
-        b'0'..=b'9' => Some(octet - b'0'),
-        b'a'..=b'f' => Some(octet - b'a' + 10),
-        b'A'..=b'F' => Some(octet - b'A' + 10),
-        _ => None,
-    }
+    Some(read_digit(octet, 16)? as u8)
 }

@@ -14,6 +14,7 @@ mod hex;
 mod hex_text;
 mod names;
 mod numbers;
+mod parts;
 mod record;
 mod record_text;
 mod words;

@@ -1,37 +1,61 @@
-use crate::error::TextError;
+ghost use Rattle.std.specs.Prelude.{◌≡◌, ◌≢◌, ◌∷◌, [], IfSome, IfNone, IfOk, IfErr, OnOk, not};
+ghost use Rattle.std.specs.List.{position_or_len};
+ghost use Rattle.zone_text.specs.Words.{is_blank, words};
 
-/// The words of a line that are still to be read, which spaces and tabs separate.
+use crate::error::TextError;
+use std::marker::Model;
+
+/// The words of a line that are still to be read. Spaces and tabs separate words.
 #[derive(Drop)]
 pub struct Words<'l> {
     rest: &'l [u8],
 }
 
+impl<'l> Model for Words<'l> {
+    ghost use Rattle.std.specs.Prelude.{List, ℕ};
+    ghost use Rattle.zone_text.specs.Words.{words};
+
+    ghost Value = { List (List ℕ) };
+
+    ghost view = { λ w. words w.rest.now };
+}
+
 impl<'l> Words<'l> {
     /// The words of a line, none of them read.
-    pub fn new(line: &'l [u8]) -> Words<'l> {
+    pub fn new(line: &'l [u8]) -> Words<'l>
+        ensures { result ≡ words line.now }
+    {
         Words { rest: line }
     }
 
     /// Takes the next word, or None at the end of the line.
-    pub fn take(&mut self) -> Option<&'l [u8]> {
-        let start = self.rest.iter().position(|octet| !is_blank(*octet))?;
-        let (_, from) = self.rest.split_at(start);
-        let end = match from.iter().position(|octet| is_blank(*octet)) {
-            Some(end) => end,
-            None => from.len(),
-        };
-        let (word, rest) = from.split_at(end);
+    #[tactic(auto, using(crate::proofs::WordFacts::taking))]
+    pub fn take(&mut self) -> Option<&'l [u8]>
+        ensures word { IfSome result (λ word. self.old ≡ word.now ∷ self.new) }
+        ensures end { IfNone result ((self.old ≡ []) × (self.new ≡ [])) }
+    {
+        let (_, from) = self.rest.split_at(blank_count(self.rest));
+        let (word, rest) = from.split_at(word_length(from));
+        if word.is_empty() {
+            return None;
+        }
         self.rest = rest;
         Some(word)
     }
 
-    /// Takes the next word of a command that must have one.
-    pub fn take_needed(&mut self) -> Result<&'l [u8], TextError> {
+    /// Takes the next word of a line that must have one. `BadText` where there is none.
+    pub fn take_needed(&mut self) -> Result<&'l [u8], TextError>
+        ensures ok { IfOk result (λ word. self.old ≡ word.now ∷ self.new) }
+        ensures err { IfErr result (λ e. (e ≡ TextError.BadText) × (self.old ≡ [])) }
+    {
         self.take().ok_or(TextError::BadText)
     }
 
-    /// Refuses a line with more words than its command takes.
-    pub fn end(&mut self) -> Result<(), TextError> {
+    /// Refuses a line with words that weren't taken, by `BadText`.
+    pub fn end(&mut self) -> Result<(), TextError>
+        ensures ok { OnOk result (self.old ≡ []) }
+        ensures err { IfErr result (λ e. (e ≡ TextError.BadText) × (self.old ≢ [])) }
+    {
         match self.take() {
             None => Ok(()),
             Some(_) => Err(TextError::BadText),
@@ -39,7 +63,29 @@ impl<'l> Words<'l> {
     }
 }
 
+/// How many octets of a text stand before its first that is no blank.
+#[tactic(auto, using(crate::proofs::WordFacts::place))]
+fn blank_count(text: &[u8]) -> usize
+    ensures { result ≡ position_or_len (λ octet. not (is_blank octet)) text.now }
+{
+    text.iter()
+        .position(|octet| !is_blank(*octet))
+        .unwrap_or(text.len())
+}
+
+/// How many octets of a text stand before its first blank.
+#[tactic(auto, using(crate::proofs::WordFacts::place))]
+fn word_length(text: &[u8]) -> usize
+    ensures { result ≡ position_or_len is_blank text.now }
+{
+    text.iter()
+        .position(|octet| is_blank(*octet))
+        .unwrap_or(text.len())
+}
+
 /// Whether an octet separates words.
-fn is_blank(octet: u8) -> bool {
+fn is_blank(octet: u8) -> bool
+    ensures { result ≡ is_blank octet }
+{
     octet == b' ' || octet == b'\t'
 }
