@@ -1,10 +1,10 @@
 //! Rows: calls and the answers that are wanted.
 
-use crate::answer::Answer;
 use crate::bench::Bench;
 use crate::read::read_call;
 use crate::scarcely::{make_in_ever_more_memory, make_without_memory};
 use std::alloc::{AllocError, Global};
+use std::fmt::Display;
 use zone_text::TextError;
 
 /// Makes the calls of all rows on one bench. The report counts the rows, and has a line for each with another answer.
@@ -57,16 +57,17 @@ fn split_refusals(row: &str) -> Option<(usize, &str)> {
     Some((least.parse::<usize>().ok()?, call))
 }
 
-fn text_of(alloc: Global, answer: Answer) -> Result<String, AllocError> {
+/// The text of an answer. It is of any type, so that a proof has nothing to take apart where there is no memory for it.
+fn text_of<A: Display + Drop>(alloc: Global, answer: A) -> Result<String, AllocError> {
     format!(in alloc; "{answer}")
 }
 
 /// The text of an answer to which memory was refused so often, and how often that was if it was less than is wanted.
-fn refused_text(
+fn refused_text<A: Display + Drop>(
     alloc: Global,
     least: usize,
     refused: usize,
-    answer: Answer,
+    answer: A,
 ) -> Result<String, AllocError> {
     if refused < least {
         format!(in alloc; "{answer} after {refused} refusals")
