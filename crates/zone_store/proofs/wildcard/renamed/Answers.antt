@@ -32,7 +32,7 @@ returns-clause-made c =
       | then-signed+else-loop-rrsig-test w ↦
           let all : length w.rrsigs-rrsig-items.result.now ≤ w.loop-rrsig.rrsig-index = omega (arith, w.loop-rrsig-test.false) in
           w.made-is ∙ w.loop-rrsig.invariant
-          ∙ ap (λ rs. record (partly c.args.set.now c.args.name.now c.args.set.now.records) { signatures = map (renamed_signature c.args.star.now c.args.name.now) rs }) (take_all w.loop-rrsig.rrsig-index w.rrsigs-rrsig-items.result.now all ∙ w.rrsigs-rrsig-items.ensures)
+          ∙ ap (λ rs. record (partly c.args.set.now c.args.name.now c.args.set.now.records) { signatures = map (renamed_signature c.args.star.now c.args.name.now) rs }) (take_all w.loop-rrsig.rrsig-index w.rrsigs-rrsig-items.result.now all ∙ w.rrsigs-rrsig-items.ensures.value)
           ∙ ap (λ b. renamed b c.args.star.now c.args.name.now c.args.set.now) (sym w.if-signed.true)
       | else-signed w ↦ w.made-is ∙ made ∙ ap (λ b. renamed b c.args.star.now c.args.name.now c.args.set.now) (sym w.if-signed.false)
     ]
