@@ -98,7 +98,10 @@ fn read_names(alloc: Global, words: &mut Words<'_>) -> Result<(Name, Name), Text
 /// Reads the labels that are left of a row.
 fn read_labels(alloc: Global, words: &mut Words<'_>) -> Result<Vec<Vec<u8>>, TextError> {
     let mut labels = Vec::new(alloc);
-    while let Some(word) = words.take() {
+    for _ in 0..u64::MAX {
+        let Some(word) = words.take() else {
+            break;
+        };
         labels.push(read_label(alloc, word)?)?;
     }
     Ok(labels)

@@ -97,10 +97,13 @@ fn read_signature(alloc: Global, words: &mut Words<'_>) -> Result<RRSIG, TextErr
     })
 }
 
-/// Reads the types that stand before the end of the row or a word that names none.
+/// Reads the types that are left of a row.
 fn read_types(alloc: Global, words: &mut Words<'_>) -> Result<Vec<RecordType>, TextError> {
     let mut types = Vec::new(alloc);
-    while let Some(word) = words.take() {
+    for _ in 0..u64::MAX {
+        let Some(word) = words.take() else {
+            break;
+        };
         types.push(type_of(word)?)?;
     }
     Ok(types)
