@@ -20,7 +20,7 @@ use Rattle.zone_proto.specs.Sets.{RRset}
 use Rattle.zone_proto.specs.Types.{A, CNAME, MX, AAAA, ANY}
 use Rattle.zone_proto.proofs.Members.{In, In-filter, In-from_filter, In-from_any, any_from_In}
 use Rattle.zone_proto.proofs.NameTree.{name_eq-Decides}
-use Rattle.zone_proto.proofs.Orders.{IsOrder, IsGreatest, greatest_same, greatest_from, greatest_is, has_greatest}
+use Rattle.zone_proto.proofs.Orders.{IsOrder, IsTop, greatest_same, greatest_from, greatest_is, has_greatest}
 use Rattle.zone_proto.proofs.Tree.{name_order}
 use Rattle.zone_store.specs.Zones.{Sets, set_at, owns, types_at}
 use Rattle.zone_store.specs.Search.{types_for, least_owned, exact, referral, direct, is_address}

@@ -12,7 +12,7 @@ use Rattle.zone_store.proofs.in_memory_zone_handler.InMemoryZoneHandler.answers.
 pub returns-clause-listed : goal.returns-clause-listed
 returns-clause-listed g c =
     let typed = c.record_type.ensures ∙ ap (λ (s : RRset). s.record_type) c.set.ensures in
-    c.many.ensures
+    c.many.ensures.records
     ∙ ap (sets_records c.args.lookup_options)
     (c.in_ok-into_sets.ensures.sets ∙ c.in_ok-chain.ensures.chain
     ∙ ap (λ (m : Sets). chain m c.args.lookup_options.dnssec_ok c.args.name.now (found_set c.args.found) c.args.record_type.0) (ap (λ z. z.inner.records) c.self.view_is)
