@@ -17,6 +17,9 @@ PHASES = (
     "add",
     "exact lookup",
     "referral",
+    "wildcard two levels deep",
+    "chain of three",
+    "ANY at four types",
     "no such name",
     "no such type",
     "add an alias",
@@ -37,7 +40,8 @@ def address(i):
 
 def commands(names, lookups, rare):
     """The commands of each phase for a zone of this many names: 1 % are cuts with glue, and of the others every
-    second one stands one level deeper, below a name that owns nothing."""
+    second one stands one level deeper, below a name that owns nothing. Beside them there is a wildcard, and for each
+    hundred names a chain of two aliases and an address, and a name of four types."""
     pick = random.Random(names)
     cuts = [f"cut{i:06d}.{ORIGIN}" for i in range(max(1, names // 100))]
     hosts = []
@@ -47,6 +51,14 @@ def commands(names, lookups, rare):
     adds = [f"add {host} 300 A {address(i)}" for i, host in enumerate(hosts)]
     for i, cut in enumerate(cuts):
         adds += [f"add {cut} 3600 NS ns.{cut}", f"add ns.{cut} 3600 A {address(i)}"]
+    adds.append(f"add *.wild.{ORIGIN} 300 A 192.0.2.1")
+    rich = []
+    for i in range(len(cuts)):
+        adds += [f"add first{i:06d}.{ORIGIN} 300 CNAME second{i:06d}.{ORIGIN}"]
+        adds += [f"add second{i:06d}.{ORIGIN} 300 CNAME third{i:06d}.{ORIGIN}"]
+        adds += [f"add third{i:06d}.{ORIGIN} 300 A {address(i)}"]
+        rich.append(f"rich{i:06d}.{ORIGIN}")
+        adds += [f"add {rich[i]} 300 {data}" for data in ("TXT 61", "AAAA 2001:db8:0:0:0:0:0:1", "SRV 0 0 53 ns", "MX 10 ns")]
     pick.shuffle(adds)
     adds.insert(0, f"add {ORIGIN} 3600 SOA ns.{ORIGIN} host.{ORIGIN} 1 7200 600 86400 300")
     aliases = [f"alias{i:06d}.{ORIGIN}" for i in range(max(1, names // 10))]
@@ -56,6 +68,9 @@ def commands(names, lookups, rare):
         adds,
         [f"lookup {pick.choice(hosts)} A" for _ in range(lookups)],
         [f"lookup www.{pick.choice(cuts)} A" for _ in range(lookups // 4)],
+        [f"lookup a{i}.b.wild.{ORIGIN} A" for i in range(lookups // 4)],
+        [f"lookup first{pick.randrange(len(cuts)):06d}.{ORIGIN} A" for _ in range(lookups // 4)],
+        [f"lookup {pick.choice(rich)} ANY" for _ in range(lookups // 4)],
         [f"lookup none{i}.{ORIGIN} A" for i in range(rare)],
         [f"lookup {pick.choice(hosts)} TXT" for _ in range(rare)],
         [f"add {alias} 300 CNAME old.{ORIGIN}" for alias in aliases],

@@ -19,28 +19,28 @@ use Rattle.zone_store.specs.Lookup.{denial, reply, name_exists, nx_domain, refus
 abbrev above_apex : Name
 above_apex = codes "com" ∷ []
 
-abbrev apex : Name
+abbrev pub apex : Name
 apex = codes "example" ∷ codes "com" ∷ []
 
-abbrev at_apex : List ℕ → Name
+abbrev pub at_apex : List ℕ → Name
 at_apex label = label ∷ apex
 
 abbrev under_sub : List ℕ → Name
 under_sub label = label ∷ at_apex (codes "sub")
 
-abbrev record_with : Name → RData → Record
+abbrev pub record_with : Name → RData → Record
 record_with n d = record { name = n; dns_class = record { 0 = IN }; ttl = 60; rdata = d }
 
-abbrev set_with : Name → ℕ → RData → RRset
+abbrev pub set_with : Name → ℕ → RData → RRset
 set_with n t d = record { owner = n; record_type = t; class = IN; ttl = 60; serial = 1; records = record_with n d ∷ []; signatures = [] }
 
-abbrev server : RData
+abbrev pub server : RData
 server = V.NS (codes "ns" ∷ apex)
 
 abbrev start : RData
 start = V.SOA (record { mname = codes "ns" ∷ apex; rname = codes "host" ∷ apex; serial = 7; refresh = pos 7200; retry = pos 600; expire = pos 86400; minimum = 300 })
 
-abbrev soa_set : RRset
+abbrev pub soa_set : RRset
 soa_set = set_with apex SOA start
 
 abbrev host_set : RRset
@@ -58,7 +58,7 @@ inner_server = set_with (at_apex (codes "in")) NS server
 abbrev inner_start : RRset
 inner_start = set_with (at_apex (codes "in")) SOA start
 
-abbrev zone : Sets
+abbrev pub zone : Sets
 zone =
     (key apex SOA, soa_set)
     ∷ (key (at_apex (codes "in")) NS, inner_server)
@@ -124,10 +124,10 @@ no_other_type = refl
 
 -- ---- replies
 
-answers_host : reply apex zone (at_apex (codes "www")) A ≡ answered host_set
+answers_host : reply apex zone false (at_apex (codes "www")) A ≡ answered (host_set ∷ []) []
 answers_host = refl
 
-no_such_type : reply apex zone (at_apex (codes "www")) TXT ≡ denied name_exists
+no_such_type : reply apex zone false (at_apex (codes "www")) TXT ≡ denied name_exists
 no_such_type = refl
 
 above_the_zone : denial apex zone above_apex ≡ name_exists
@@ -139,7 +139,7 @@ no_such_name = refl
 outside_the_zone : denial apex zone (codes "example" ∷ codes "org" ∷ []) ≡ refused
 outside_the_zone = refl
 
-no_transfer_by_lookup : reply apex zone apex AXFR ≡ not_a_lookup
+no_transfer_by_lookup : reply apex zone false apex AXFR ≡ not_a_lookup
 no_transfer_by_lookup = refl
 
 -- ---- CNAME beside other types (RFC 1034 section 3.6.2)

@@ -3,6 +3,12 @@ pub mod Upserts
 pub mod Construction
 pub mod Refusals
 pub mod Search
+pub mod Wildcards
+pub mod Walks
+pub mod Fronts
+pub mod Chains
+pub mod AnyTypes
+pub mod SearchLaws
 pub mod Searches
 pub mod FoundSets
 pub mod Handlers

@@ -3,13 +3,17 @@ ghost use Rattle.zone_proto.specs.Names.{lower};
 ghost use Rattle.zone_proto.specs.Types.{IN, SOA, AXFR};
 ghost use Rattle.zone_handler.specs.Transfers.{IsNoLookup};
 ghost use Rattle.zone_store.specs.Handlers.{soa, serial, minimum};
-ghost use Rattle.zone_store.specs.Lookup.{absent, denial, error_of, reply, SaysOrMemory, IsDenied};
+ghost use Rattle.zone_store.specs.Lookup.{absent, answer_sets, denial, error_of, reply, reply_for, Lists, SaysOrMemory, IsDenied};
+ghost use Rattle.zone_store.specs.AnyTypes.{searched_type};
 ghost use Rattle.zone_store.specs.Construction.{made};
+ghost use Rattle.zone_store.specs.FoundSets.{found_set};
 ghost use Rattle.zone_store.specs.Refusals.{Refuses};
 ghost use Rattle.zone_store.specs.Upserts.{upserted, CnamesStandAlone};
 ghost use Rattle.zone_store.specs.Zones.{set_at, owns, put, without, IsZone};
 
+use crate::chain::into_sets;
 use crate::construction;
+use crate::found::Found;
 use crate::inner_in_memory::InnerInMemory;
 use crate::put_refused::PutRefused;
 use crate::searches::Searches;
@@ -273,6 +277,64 @@ impl<S: Signer, H: Nsec3Hash> InMemoryZoneHandler<S, H> {
         self.inner.clear();
     }
 
+    /// The answer to a query of a type other than AXFR.
+    fn answer(
+        &self,
+        name: &LowerName,
+        record_type: RecordType,
+        lookup_options: LookupOptions,
+    ) -> Result<AuthLookup, LookupError>
+        ensures { SaysOrMemory lookup_options
+            (reply_for self.now.origin self.now.inner.records lookup_options.dnssec_ok name.now (searched_type self.now.inner.records name.now record_type.0))
+            (LookupControlFlow.Continue result) }
+    {
+        let record_type = if record_type == RecordType::ANY {
+            self.inner.replace_any(name)?
+        } else {
+            record_type
+        };
+        let mut searches = Searches::new();
+        match self
+            .inner
+            .inner_lookup(name, record_type, lookup_options, &mut searches)?
+        {
+            Some(found) => {
+                let answers = self.answers(
+                    name,
+                    record_type,
+                    found,
+                    lookup_options,
+                    &mut searches,
+                )?;
+                Ok(AuthLookup::answers(answers, None))
+            }
+            None => Err(self.denial(name)),
+        }
+    }
+
+    /// The answer section for a name by the set that was found: the chain from an alias, unless aliases are asked for,
+    /// and else the set alone.
+    fn answers<'z>(
+        &'z self,
+        name: &LowerName,
+        record_type: RecordType,
+        found: Found<'z>,
+        lookup_options: LookupOptions,
+        searches: &mut Searches,
+    ) -> Result<LookupRecords, LookupError>
+        ensures listed { IfOk result (λ section. Lists lookup_options (answer_sets self.now.inner.records lookup_options.dnssec_ok name.now record_type.0 (found_set found.entry)) section) }
+        ensures err { IsOkUnless result LookupError.Memory }
+    {
+        let is_alias = found.set().record_type() == RecordType::CNAME;
+        if !is_alias || record_type == RecordType::CNAME {
+            return Ok(LookupRecords::new(lookup_options, found.into_set()?));
+        }
+        let chain = self
+            .inner
+            .chase_cnames(name, found, record_type, lookup_options, searches)?;
+        Ok(LookupRecords::many(lookup_options, into_sets(chain)?))
+    }
+
     /// The negative answer for a name, or want of memory.
     fn denial(&self, name: &LowerName) -> LookupError
         ensures { (result ≡ error_of (denial self.now.origin self.now.inner.records name.now)) ⊎ (result ≡ LookupError.Memory) }
@@ -303,7 +365,7 @@ impl<S: Signer, H: Nsec3Hash> ZoneHandler for InMemoryZoneHandler<S, H> {
 
     ghost origin_of = { λ zone. zone.origin };
 
-    ghost lookup_gives = { λ zone name type options now step. SaysOrMemory options (reply zone.origin zone.inner.records name type) step };
+    ghost lookup_gives = { λ zone name type options now step. SaysOrMemory options (reply zone.origin zone.inner.records options.dnssec_ok name type) step };
 
     fn zone_type(&self) -> ZoneType {
         self.zone_type
@@ -319,12 +381,16 @@ impl<S: Signer, H: Nsec3Hash> ZoneHandler for InMemoryZoneHandler<S, H> {
 
     /// What the zone answers for `name` and `record_type`.
     ///
-    /// A query of type AXFR is broken off with an error, whatever the zone holds: a transfer isn't a lookup. Any other
-    /// is answered by the referral or the set that [`InnerInMemory::inner_lookup`] finds, with its signatures where
-    /// `lookup_options` ask for DNSSEC, and without one by `NameExists` where the name or a name below it owns a set
-    /// (RFC 2308 section 2.2), else by `NXDomain` for a name at or below the origin (RFC 2308 section 2.1), and else
-    /// by `Refused` (RFC 1035 section 4.1.1). `Memory` may come in place of these, but not of the answer to AXFR.
-    /// Neither `request_info` nor the moment `now`, in seconds since 1970, is used.
+    /// A query of type AXFR is broken off with an error, whatever the zone holds: a transfer isn't a lookup. For a query
+    /// of ANY the type is [`InnerInMemory::replace_any`]'s. Any other is answered by the set that
+    /// [`InnerInMemory::inner_lookup`] finds, or, if that is a CNAME and the query isn't for CNAME, by the chain that
+    /// [`InnerInMemory::chase_cnames`] gives from it (RFC 1034 section 3.6.2). Sets come with their signatures where
+    /// `lookup_options` ask for DNSSEC, and no additional section is given.
+    ///
+    /// Where nothing is found the answer is `NameExists` if the name or a name below it owns a set (RFC 2308 section
+    /// 2.2), else `NXDomain` for a name at or below the origin (RFC 2308 section 2.1), and else `Refused` (RFC 1035
+    /// section 4.1.1). `Memory` may come in place of these, but not of the answer to AXFR. Neither `request_info` nor the
+    /// moment `now`, in seconds since 1970, is used.
     fn lookup(
         &self,
         name: &LowerName,
@@ -333,7 +399,7 @@ impl<S: Signer, H: Nsec3Hash> ZoneHandler for InMemoryZoneHandler<S, H> {
         lookup_options: LookupOptions,
         _now: u64,
     ) -> LookupControlFlow<AuthLookup>
-        ensures answer { SaysOrMemory lookup_options (reply self.now.origin self.now.inner.records name.now record_type.0) result }
+        ensures answer { SaysOrMemory lookup_options (reply self.now.origin self.now.inner.records lookup_options.dnssec_ok name.now record_type.0) result }
         ensures transfer { record_type.0 ≡ AXFR → IsNoLookup result }
         ensures owned_is_not_denied { IsTrue (owns self.now.inner.records name.now record_type.0) → IsDenied result → ⊥ }
     {
@@ -341,20 +407,6 @@ impl<S: Signer, H: Nsec3Hash> ZoneHandler for InMemoryZoneHandler<S, H> {
             let error = NetError::from("AXFR must be handled with ZoneHandler::zone_transfer()");
             return LookupControlFlow::Break(Err(LookupError::from(error)));
         }
-        let mut searches = Searches::new();
-        match self
-            .inner
-            .inner_lookup(name, record_type, lookup_options, &mut searches)
-        {
-            Ok(Some(found)) => match found.into_set() {
-                Ok(set) => LookupControlFlow::Continue(Ok(AuthLookup::answers(
-                    LookupRecords::new(lookup_options, set),
-                    None,
-                ))),
-                Err(error) => LookupControlFlow::Continue(Err(error)),
-            },
-            Ok(None) => LookupControlFlow::Continue(Err(self.denial(name))),
-            Err(error) => LookupControlFlow::Continue(Err(error)),
-        }
+        LookupControlFlow::Continue(self.answer(name, record_type, lookup_options))
     }
 }

@@ -1,15 +1,17 @@
-ghost use Rattle.std.specs.Prelude.{◌≡◌, [], IfOk, IfErr, IfSome, OnOk, OnErr, IsOkUnless, is_some, unwrap_or, option_map, option_copied};
-ghost use Rattle.zone_store.specs.FoundSets.{found_set, IsLent};
+ghost use Rattle.std.specs.Prelude.{◌≡◌, [], IfOk, IfErr, OnOk, OnErr, IsOkUnless, is_some, unwrap_or, option_map, option_and_then, option_copied};
+ghost use Rattle.zone_store.specs.AnyTypes.{any_type};
+ghost use Rattle.zone_store.specs.FoundSets.{found_set, lent_set};
 ghost use Rattle.zone_store.specs.Search.{direct};
+ghost use Rattle.zone_store.specs.Wildcards.{found};
 ghost use Rattle.zone_store.specs.Searches.{one_more};
 ghost use Rattle.zone_store.specs.Upserts.{upserted, CnamesStandAlone};
 ghost use Rattle.zone_store.specs.Zones.{set_at, owns_at_or_below, put, without, IsStoredAt, IsZone};
 
 use crate::found::Found;
 use crate::record_map::RecordMap;
-use crate::search;
 use crate::searches::Searches;
 use crate::zone_error::ZoneError;
+use crate::{search, wildcard};
 use std::alloc::Global;
 use std::collections::BTreeMap;
 use std::marker::Model;
@@ -83,31 +85,51 @@ impl<S: Signer> InnerInMemory<S> {
         }
     }
 
-    /// The set that answers for `name` and `record_type`, if there is one: the referral at the nearest zone cut at
-    /// or above the name (RFC 1034 section 4.2.1), else the set of the least type that the name owns of the type that
-    /// is asked for, CNAME and, for addresses, ANAME. A query for DS at a cut asks the parent's side, so the cut itself
-    /// gives no referral for it (RFC 4035 section 3.1.4.1). Where the nearest name that owns NS owns SOA too, it is an
-    /// apex, and there is no referral.
+    /// The set that answers for `name` and `record_type`, if there is one.
     ///
-    /// It is lent out of the zone with its signatures, whatever the options say, and the call adds one to `searches`.
-    /// Refused by `Memory` alone.
+    /// - The name's direct set: the referral at the nearest zone cut at or above the name (RFC 1034 section 4.2.1), else
+    ///   the set of the least type that the name owns of the type that is asked for, CNAME and, for addresses, ANAME. A
+    ///   query for DS at a cut asks the parent's side, so the cut itself gives no referral for it (RFC 4035 section
+    ///   3.1.4.1). Where the nearest name that owns NS owns SOA too, it is an apex, and there is no referral.
+    /// - Else, for a name that is neither the root nor begins with `*`, the direct set of the star under the longest of
+    ///   its proper ancestors whose star has one, under the queried name (RFC 1034 section 4.3.3): of class IN and
+    ///   serial 0, with each record's TTL that of the set, and with signatures only where `lookup_options` ask for
+    ///   DNSSEC; of these the queried name owns those that the star owned.
+    ///
+    /// A direct set is lent out of the zone with its signatures, whatever the options say. The call adds one to
+    /// `searches`, whatever stars it tries. Refused by `Memory` alone.
     pub fn inner_lookup(
         &self,
         name: &LowerName,
         record_type: RecordType,
-        _lookup_options: LookupOptions,
+        lookup_options: LookupOptions,
         searches: &mut Searches,
     ) -> Result<Option<Found<'_>>, LookupError>
-        ensures found { IfOk result (λ found. option_map found_set found ≡ direct self.now.records name.now record_type.0) }
-        ensures lent { IfOk result (λ found. IfSome found IsLent) }
+        ensures found { IfOk result (λ set. option_map found_set set ≡ found self.now.records lookup_options.dnssec_ok name.now record_type.0) }
+        ensures lent { IfOk result (λ set. option_and_then lent_set set ≡ direct self.now.records name.now record_type.0) }
         ensures counted { searches.new ≡ one_more searches.old }
         ensures err { IsOkUnless result LookupError.Memory }
     {
         searches.add_one();
-        match search::direct(&self.records, name, record_type)? {
-            Some(set) => Ok(Some(Found::Stored(set))),
+        let mut key = RrKey::new(name.clone()?, record_type);
+        if let Some(set) = search::direct(&self.records, &mut key) {
+            return Ok(Some(Found::Stored(set)));
+        }
+        let signed = lookup_options.dnssec_ok;
+        match wildcard::wildcard(&self.records, name, record_type, signed, key)? {
+            Some(set) => Ok(Some(Found::Made(set))),
             None => Ok(None),
         }
+    }
+
+    /// The type that is searched for a query of ANY (RFC 8482 section 4.1): the least of A, CNAME, MX and AAAA that the
+    /// name owns, else the least type that it owns, else A. Refused by `Memory` alone.
+    pub fn replace_any(&self, name: &LowerName) -> Result<RecordType, LookupError>
+        ensures chosen { IfOk result (λ chosen. chosen.0 ≡ any_type self.now.records name.now) }
+        ensures err { IsOkUnless result LookupError.Memory }
+    {
+        let least = RrKey::new(name.clone()?, RecordType(0));
+        Ok(self.records.any_type(&least))
     }
 
     /// Stores a set under its own key; see [`RecordMap::put`].

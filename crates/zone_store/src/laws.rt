@@ -10,6 +10,7 @@ ghost use Rattle.zone_proto.specs.Names.{Name, name_cmp, lower, IsAtOrAbove};
 ghost use Rattle.zone_proto.specs.Order.{is_upto};
 ghost use Rattle.zone_proto.specs.Sets.{RRset};
 ghost use Rattle.zone_store.specs.Search.{is_delegated_for, nearest_delegation};
+ghost use Rattle.zone_store.specs.SearchLaws.{StarIsNearest, ChainIsLongestFront, ChainHasAtMost8};
 ghost use Rattle.zone_store.specs.Upserts.{upserted};
 ghost use Rattle.zone_store.specs.Zones.{Sets, set_at, owns, names_of, owners, types_at, put, without, IsStoredAt, IsZone};
 
@@ -50,4 +51,17 @@ pub fn nearest_delegation_is_the_longest()
     ensures delegated { (m : Sets) (n a : Name) (t : ℕ) → nearest_delegation m n t ≡ Some a → IsTrue (is_delegated_for m n t a) }
     ensures longest { (m : Sets) (n a b : Name) (t : ℕ) → nearest_delegation m n t ≡ Some a → IsAtOrAbove b n → length a < length b → is_delegated_for m n t b ≡ false }
     ensures none { (m : Sets) (n b : Name) (t : ℕ) → nearest_delegation m n t ≡ None → IsAtOrAbove b n → is_delegated_for m n t b ≡ false }
+{}
+
+/// The wildcard that answers for a name stands under the longest of the name's proper ancestors whose star has a set:
+/// no star under a longer one has any (RFC 4592 section 3.3.1).
+pub fn star_is_nearest()
+    ensures { StarIsNearest }
+{}
+
+/// However far the sets along CNAME targets are followed, the chain from a name and its set is the longest front of them
+/// that has at most 8 sets and no name twice (RFC 1034 section 3.6.2).
+pub fn chain_is_longest_front()
+    ensures front { ChainIsLongestFront }
+    ensures at_most { ChainHasAtMost8 }
 {}

@@ -4,6 +4,7 @@ ghost use Rattle.zone_proto.specs.Names.{lower};
 ghost use Rattle.zone_proto.specs.Types.{CNAME};
 ghost use Rattle.zone_proto.specs.Data.{type_of};
 ghost use Rattle.zone_proto.specs.Sets.{inserted, empty_set};
+ghost use Rattle.zone_store.specs.AnyTypes.{is_preferred, any_type};
 ghost use Rattle.zone_store.specs.Zones.{set_at, owns, owns_at_or_below, put, without, IsStoredAt, IsZone};
 ghost use Rattle.zone_store.specs.Upserts.{upserted, with_record, clash, clashes, is_denial_type, CnamesStandAlone};
 
@@ -115,6 +116,26 @@ impl RecordMap {
         }
     }
 
+    /// The type that is searched at the name of its least key for a query of ANY.
+    pub(crate) fn any_type(&self, least: &RrKey) -> RecordType
+        requires { least.now.record_type.0 ≡ 0 }
+        ensures { result.0 ≡ any_type self.now least.now.name }
+    {
+        let mut first = None;
+        for (key, _) in self.sets.range(least..) {
+            if key.name != least.name {
+                break;
+            }
+            if is_preferred(key.record_type) {
+                return key.record_type;
+            }
+            if first.is_none() {
+                first = Some(key.record_type);
+            }
+        }
+        first.unwrap_or(RecordType::A)
+    }
+
     /// Takes a record into the set of its name and type, or makes that set.
     pub(crate) fn upsert(
         &mut self,
@@ -207,6 +228,16 @@ impl RecordMap {
             Err(_) => Err(ProtoError::Memory),
         }
     }
+}
+
+/// Whether a type is preferred to others in an answer to ANY.
+fn is_preferred(record_type: RecordType) -> bool
+    ensures { result ≡ is_preferred record_type.0 }
+{
+    matches!(
+        record_type,
+        RecordType::A | RecordType::CNAME | RecordType::MX | RecordType::AAAA
+    )
 }
 
 /// Whether a type may not stand beside a CNAME.

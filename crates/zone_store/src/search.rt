@@ -1,26 +1,78 @@
 // What a search for one name and type finds: the referral at a zone cut, and else the set of the name.
-ghost use Rattle.std.specs.Prelude.{◌≡◌, option_copied, IfOk, IsOkUnless, find};
-ghost use Rattle.zone_proto.specs.Names.{suffixes};
-ghost use Rattle.zone_store.specs.Search.{is_address, is_delegated, exact, referral, referral_at, direct};
+ghost use Rattle.std.specs.Prelude.{◌≡◌, ◌<◌, option_copied, option_map, drop, length, None};
+ghost use Rattle.zone_store.specs.Search.{is_address, exact, direct};
+ghost use Rattle.zone_store.specs.Walks.{referral_above, own_referral, IsWalked, IsSettled};
 
 use crate::record_map::RecordMap;
-use zone_proto::{LowerName, ProtoError, RecordSet, RecordType, RrKey};
+use zone_proto::{RecordSet, RecordType, RrKey};
 
-/// What a name has for a query of a type: the referral, else the exact set.
-pub(crate) fn direct<'m>(
-    records: &'m RecordMap,
-    name: &LowerName,
-    record_type: RecordType,
-) -> Result<Option<&'m RecordSet>, ProtoError>
-    ensures found { IfOk result (λ set. option_copied set ≡ direct records.now name.now record_type.0) }
-    ensures err { IsOkUnless result ProtoError.Memory }
+/// What the key's name has for a query of the key's type: the referral, else the exact set. The name is shortened to
+/// where the walk up to the nearest delegation stopped.
+pub(crate) fn direct<'m>(records: &'m RecordMap, key: &mut RrKey) -> Option<&'m RecordSet>
+    ensures found { option_copied result ≡ direct records.now key.old.name key.old.record_type.0 }
+    ensures settled { option_copied result ≡ None → IsSettled records.now (drop 1 key.old.name) key.new.name None }
 {
-    let mut key = RrKey::new(name.clone()?, record_type);
-    let exact = exact(records, &mut key);
-    match referral(records, key, record_type) {
-        Some(set) => Ok(Some(set)),
-        None => Ok(exact),
+    match own_referral(records, key) {
+        Some(Some(cut)) => Some(cut),
+        Some(None) => exact(records, key),
+        None => {
+            let exact = exact(records, key);
+            key.name.shorten();
+            match referral_above(records, key) {
+                Some(cut) => Some(cut),
+                None => exact,
+            }
+        }
     }
+}
+
+/// The nearest delegation at or above a name, and the referral that it gives.
+#[derive(Drop)]
+pub(crate) struct Above<'m> {
+    pub(crate) key: RrKey,
+    pub(crate) referral: Option<&'m RecordSet>,
+}
+
+/// The same as [`direct`] for a star's key, which keeps its name. `above` is where the walk from the names below it
+/// stopped; it goes on from there.
+pub(crate) fn direct_of_star<'m>(
+    records: &'m RecordMap,
+    star: &mut RrKey,
+    above: &mut Above<'m>,
+) -> Option<&'m RecordSet>
+    requires below { 0 < length star.old.name }
+    requires settled { IsSettled records.now (drop 1 star.old.name) above.old.key.name (option_copied above.old.referral) }
+    ensures found { option_copied result ≡ direct records.now star.old.name star.old.record_type.0 }
+    ensures walked { IsWalked records.now (drop 1 star.old.name) above.new.key.name (option_copied above.new.referral) }
+    ensures same { star.new.name ≡ star.old.name }
+{
+    let referral = referral_of_base(records, star, above);
+    match own_referral(records, star) {
+        Some(Some(cut)) => Some(cut),
+        Some(None) => exact(records, star),
+        None => match referral {
+            Some(cut) => Some(cut),
+            None => exact(records, star),
+        },
+    }
+}
+
+/// The referral that the names above the key's own give. The walk goes on where they are above its end.
+fn referral_of_base<'m>(
+    records: &'m RecordMap,
+    key: &RrKey,
+    above: &mut Above<'m>,
+) -> Option<&'m RecordSet>
+    requires below { 0 < length key.now.name }
+    requires settled { IsSettled records.now (drop 1 key.now.name) above.old.key.name (option_copied above.old.referral) }
+    ensures found { option_copied result ≡ referral_above records.now (drop 1 key.now.name) }
+    ensures walked { IsWalked records.now (drop 1 key.now.name) above.new.key.name (option_copied above.new.referral) }
+{
+    if above.key.name.num_labels() >= key.name.num_labels() {
+        above.key.name.shorten();
+        above.referral = referral_above(records, &mut above.key);
+    }
+    above.referral
 }
 
 /// The set of the least type that answers for the key's type and that its name owns. The key keeps its name.
@@ -60,34 +112,44 @@ fn is_address(record_type: RecordType) -> bool
     record_type == RecordType::A || record_type == RecordType::AAAA
 }
 
-/// The referral for a query of a type at the key's name.
-fn referral<'m>(
-    records: &'m RecordMap,
-    key: RrKey,
-    record_type: RecordType,
-) -> Option<&'m RecordSet>
-    ensures { option_copied result ≡ referral records.now key.name record_type.0 }
+/// What the key's name says itself of the referral for a query of the key's type: nothing where it isn't delegated for
+/// the query, the NS set at a cut, and no referral at an apex. The key stays as it was.
+fn own_referral<'m>(records: &'m RecordMap, key: &mut RrKey) -> Option<Option<&'m RecordSet>>
+    ensures found { option_map option_copied result ≡ own_referral records.now key.old.name key.old.record_type.0 }
+    ensures same { key.new ≡ key.old }
 {
-    let mut key = key;
-    if record_type == RecordType::DS {
-        key.record_type = RecordType::SOA;
-        if !records.owns(&key) {
-            key.name.shorten();
-        }
+    if key.name.is_root() {
+        return None;
     }
-    referral_above(records, key)
+    let record_type = key.record_type;
+    key.record_type = RecordType::NS;
+    let Some(cut) = records.get(key) else {
+        key.record_type = record_type;
+        return None;
+    };
+    key.record_type = RecordType::SOA;
+    let is_apex = records.owns(key);
+    key.record_type = record_type;
+    if is_apex {
+        return Some(None);
+    }
+    if record_type == RecordType::DS {
+        return None;
+    }
+    Some(Some(cut))
 }
 
-/// The referral of the longest suffix of the key's name that owns NS.
-fn referral_above(records: &RecordMap, key: RrKey) -> Option<&RecordSet>
-    ensures { option_copied result ≡ referral_at records.now (find (is_delegated records.now) (suffixes key.name)) }
+/// The referral that the names from the key's own up give. The name is shortened to the nearest of them that is
+/// delegated, or to the root.
+fn referral_above<'m>(records: &'m RecordMap, key: &mut RrKey) -> Option<&'m RecordSet>
+    ensures found { option_copied result ≡ referral_above records.now key.old.name }
+    ensures walked { IsWalked records.now key.old.name key.new.name (option_copied result) }
 {
-    let mut key = key;
     while !key.name.is_root() {
         key.record_type = RecordType::NS;
-        if let Some(set) = records.get(&key) {
+        if let Some(set) = records.get(key) {
             key.record_type = RecordType::SOA;
-            if records.owns(&key) {
+            if records.owns(key) {
                 return None;
             }
             return Some(set);

@@ -12,6 +12,7 @@ mod data_text;
 mod error;
 mod hex;
 mod hex_text;
+pub mod laws;
 mod names;
 mod numbers;
 mod parts;

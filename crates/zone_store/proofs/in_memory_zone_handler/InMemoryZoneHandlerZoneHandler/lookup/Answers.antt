@@ -1,0 +1,7 @@
+use Rattle.zone_handler.specs.declared.control_flow.LookupControlFlow.TheVariants.{Continue}
+use Rattle.zone_store.proofs.Replies.{not_denied}
+use Rattle.zone_store.proofs.in_memory_zone_handler.InMemoryZoneHandlerZoneHandler.lookup.Goals as goal
+
+pub returns-clause-owned_is_not_denied : goal.returns-clause-owned_is_not_denied
+returns-clause-owned_is_not_denied g c owned denied =
+    not_denied c.args.self.now.origin c.args.self.now.inner.records c.args.name.now c.args.record_type.0 c.args.lookup_options (Continue c.answer.result) owned c.answer.ensures denied
