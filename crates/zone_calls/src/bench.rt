@@ -8,7 +8,9 @@ use crate::records::{make_record_call, make_word_call};
 use crate::texts::{LentText, SetText, ZoneText};
 use std::alloc::{AllocError, Global};
 use std::collections::BTreeMap;
-use zone_handler::{AxfrPolicy, LookupOptions, ZoneHandler, ZoneType};
+use zone_handler::{
+    AuthLookup, AxfrPolicy, LookupControlFlow, LookupError, LookupOptions, ZoneHandler, ZoneType,
+};
 use zone_proto::{LowerName, Name, ProtoError, RData, Record, RecordSet, RecordType, RrKey};
 use zone_store::{Found, InMemoryZoneHandler, PutRefused, Searches};
 use zone_text::TextError;
@@ -128,7 +130,7 @@ impl Bench {
             ZoneCall::Search(name, record_type) => self.search(&name, record_type),
             ZoneCall::Lookup(name, record_type) => {
                 let options = LookupOptions::default();
-                Answer::Flow(self.zone.lookup(&name, record_type, None, options, 0))
+                of_flow(self.zone.lookup(&name, record_type, None, options, 0))
             }
             ZoneCall::Dump => match format!(in alloc; "{}", ZoneText(&self.zone)) {
                 Ok(text) => Answer::Text(text),
@@ -259,6 +261,14 @@ fn copy_set(key: &RrKey, set: &RecordSet, to: &mut Sets) -> Result<(), TextError
 /// The key of a set's own name and type.
 fn own_key(set: &RecordSet) -> Result<RrKey, ProtoError> {
     Ok(RrKey::new(LowerName::new(set.name())?, set.record_type()))
+}
+
+/// What a look-up answers.
+fn of_flow(flow: LookupControlFlow<AuthLookup>) -> Answer {
+    match flow {
+        LookupControlFlow::Continue(Err(LookupError::Memory)) => Answer::Memory,
+        flow => Answer::Flow(flow),
+    }
 }
 
 /// A copy of what was found.

@@ -35,6 +35,14 @@ fn lends(records: LookupRecordsIter<'_>, wanted: &[u8]) -> bool {
     left.next().is_none()
 }
 
+/// Whether there is a section, which lends records of these marks.
+fn is_lent(section: Option<LookupRecordsIter<'_>>, wanted: &[u8]) -> bool {
+    match section {
+        Some(records) => lends(records, wanted),
+        None => false,
+    }
+}
+
 /// Whether a section of one set lends records of these marks.
 fn one_lends(options: LookupOptions, set: RecordSet, wanted: &[u8]) -> bool {
     let section = LookupRecords::new(options, set);
@@ -122,8 +130,8 @@ fn list(alloc: Global, first: u8) -> Result<Vec<Record>, ProtoError> {
 fn is_response_taken_apart(message: Message) -> bool {
     let mut answer = AuthLookup::Response(message);
     let answers = lists(&answer, &[1]);
-    let authorities = answer.authorities().is_some_and(|left| lends(left, &[2]));
-    let additionals = answer.additionals().is_some_and(|left| lends(left, &[3]));
+    let authorities = is_lent(answer.authorities(), &[2]);
+    let additionals = is_lent(answer.additionals(), &[3]);
     let is_taken = match answer.take_additionals() {
         Some(taken) => lends((&taken).into_iter(), &[3]),
         None => false,

@@ -79,7 +79,10 @@ fn make(origin: Name, sets: Sets) -> Option<Zone> {
 /// Whether a step has one record.
 fn is_one_record(step: LookupControlFlow<AuthLookup>) -> bool {
     match step.map_result() {
-        Some(Ok(answer)) => answer.iter().count() == 1,
+        Some(Ok(answer)) => {
+            let mut records = answer.iter();
+            records.next().is_some() && records.next().is_none()
+        }
         _ => false,
     }
 }
@@ -126,7 +129,10 @@ fn takes_its_class(alloc: Global, inner: &mut InnerInMemory<DemoSigner>) -> Resu
     let mut searches = Searches::default();
     let options = LookupOptions::for_dnssec();
     let found = inner.inner_lookup(&www, RecordType::A, options, &mut searches)?;
-    let is_found = found.is_some_and(|found| found.set().serial() == 7);
+    let is_found = match found {
+        Some(found) => found.set().serial() == 7,
+        None => false,
+    };
     Ok(takes && !takes_other && is_found && searches.count() == 1)
 }
 
