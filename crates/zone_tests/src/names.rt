@@ -74,7 +74,7 @@ fn texts_are_printed_in_one_form(rt: HostRuntime) -> Result<(), Fail> {
     }
     let name = Name::parse(alloc, "a\\.b.example.")?;
     assert_eq!(rt; name.num_labels(), 2);
-    assert_eq!(rt; name.labels()[0].as_slice(), b"a.b".as_slice());
+    assert!(rt; name.labels().next() == Some(b"a.b".as_slice()));
     Ok(())
 }
 
@@ -294,8 +294,9 @@ fn suffixes_end_with_the_root(rt: HostRuntime) -> Result<(), Fail> {
     assert_eq!(rt; left, 0);
     let mut firsts = Vec::new(alloc);
     for suffix in lower.suffixes() {
-        if let [first, ..] = suffix {
-            firsts.extend_from_slice(first.as_slice())?;
+        let mut labels = suffix;
+        if let Some(first) = labels.next() {
+            firsts.extend_from_slice(first)?;
         }
     }
     assert_eq!(rt; firsts.as_slice(), b"abc".as_slice());
