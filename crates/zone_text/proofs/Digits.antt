@@ -1,6 +1,6 @@
 -- Facts about the digits of a number that are read from the left.
-use Rattle.std.proofs.Common.{◌≡◌, ◌≤◌, ◌<◌, ℕ, ◌+◌, ◌*◌, List, [], ◌∷◌, Bool, true, false, ◌&&◌, nat_lt, nat_le, length, drop, get_or, refl, arith, add-one, drop-cons, sym, ap, ◌∙◌, Option, Some, None, if◌then◌else◌, true≢false}
-use Rattle.std.specs.Str.Parse.{digits_value, digits_value_after}
+use Rattle.std.proofs.Common.{◌≡◌, ◌≤◌, ◌<◌, ℕ, ◌+◌, ◌*◌, List, [], ◌∷◌, Bool, true, false, ◌&&◌, nat_lt, nat_le, length, drop, get_or, refl, arith, add-one, drop-cons, sym, ap, ◌∙◌, subst, Option, Some, None, if◌then◌else◌, true≢false}
+use Rattle.std.specs.Str.Parse.{AllDigits, digits_value, digits_value_after}
 use Rattle.std.specs.Char.{digit_value, is_digit}
 use Rattle.std.specs.List.{list_all}
 use Rattle.std.proofs.lemmas.Bool.Decides.{leb_tells}
@@ -68,7 +68,7 @@ no_value false r e = refl
 above : (most n : ℕ) → most < n → at_most most n ≡ None
 above most n h = let no : nat_le n most ≡ false = grind (arith, leb_tells) in rw no refl
 
-within_most : (most n : ℕ) → n ≤ most → at_most most n ≡ Some n
+pub within_most : (most n : ℕ) → n ≤ most → at_most most n ≡ Some n
 within_most most n h = let yes : nat_le n most ≡ true = grind (arith, leb_tells) in rw yes refl
 
 none_is_above : (most n : ℕ) → at_most most n ≡ None → most < n

@@ -4,3 +4,7 @@ pub mod HexFacts
 pub mod PartFacts
 pub mod Ascii
 pub mod ReadingFacts
+pub mod RoundTrips
+pub mod AddressTexts
+pub mod PrintedWords
+pub mod PrintedRecords

@@ -1,10 +1,10 @@
 -- Facts about parts between separators that are taken from the left.
-use Rattle.std.proofs.Common.{◌≡◌, ◌≤◌, ◌<◌, ℕ, ◌+◌, ◌-◌, take_all, length-drop, drop-drop, List, [], ◌∷◌, ◌++◌, Bool, true, false, cond, length, take, drop, set, ◌==◌, refl, sym, ap, ◌∙◌, arith, Option, Some, None, ltb, if◌then◌else◌, append_assoc, append-nil}
+use Rattle.std.proofs.Common.{◌≡◌, ◌≤◌, ◌<◌, ℕ, ◌+◌, ◌-◌, take_all, length-drop, drop-drop, List, [], ◌∷◌, ◌++◌, Bool, true, false, cond, length, take, drop, get_or, set, ◌==◌, refl, sym, ap, ◌∙◌, arith, Option, Some, None, ltb, if◌then◌else◌, append_assoc, append-nil}
 use Rattle.std.specs.Prelude.{option_map}
-use Rattle.std.specs.List.{position_or_len}
+use Rattle.std.specs.List.{slice_split, position_or_len, All}
 use Rattle.std.proofs.lemmas.Bool.Decides.{leb_tells, nat_tests}
 use Rattle.std.proofs.lemmas.Grind.{common_steps}
-use Rattle.std.proofs.lemmas.List.Sums.{fails_before_first}
+use Rattle.std.proofs.lemmas.List.Sums.{prefix_len-le-length, fails_before_first}
 use Rattle.std.proofs.lemmas.List.Splits.{slice_split_none, slice_split_first, length-slice_split}
 use Rattle.zone_text.specs.Parts.{parts, octets_of_parts}
 use Rattle.zone_text.proofs.HexFacts.{after_octets}

@@ -1,11 +1,11 @@
 -- Facts about the words of a line that are taken from the left.
-use Rattle.std.proofs.Common.{◌≡◌, ◌≤◌, ◌<◌, ℕ, ◌+◌, List, [], ◌∷◌, Bool, true, false, cond, not, length, take, drop, get_or, refl, sym, ap, ◌∙◌, arith, Some, None, unwrap_or, ltb, add-one, drop-cons}
-use Rattle.std.specs.List.{slice_split, filter, position_or_len, All}
+use Rattle.std.proofs.Common.{◌≡◌, ◌≤◌, ◌<◌, ℕ, ◌+◌, List, [], ◌∷◌, ◌++◌, Bool, true, false, cond, not, length, take, drop, get_or, refl, sym, ap, ◌∙◌, arith, rules, Option, Some, None, unwrap_or, ltb, add-one, drop-cons}
+use Rattle.std.specs.List.{slice_split, filter, prefix_len, position_or_len, All, onto_first}
 use Rattle.std.proofs.lemmas.Bool.Decides.{leb_tells}
 use Rattle.std.proofs.lemmas.Grind.{common_steps}
 use Rattle.std.proofs.lemmas.List.{drop_all, take_all}
 use Rattle.std.proofs.lemmas.List.Sums.{prefix_len-le-length, passes_at_first, fails_before_first}
-use Rattle.std.proofs.lemmas.List.Splits.{slice_split-cons_yes, slice_split_none, slice_split_first}
+use Rattle.std.proofs.lemmas.List.Splits.{slice_split-cons_yes, slice_split-cons_no, slice_split_at, slice_split_none, slice_split_first}
 use Rattle.zone_text.specs.Words.{is_blank, words, has_octets}
 
 -- the first place that passes, or the length where there is none
