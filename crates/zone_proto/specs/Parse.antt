@@ -1,5 +1,5 @@
--- How the program reads a text, octet by octet from the left. No public call speaks of it: what is read is said by the
--- text form, in `TextForm`.
+-- How the program reads a text, octet by octet from the left. No public call of this crate speaks of it: what is read is
+-- said by the text form, in `TextForm`.
 use Rattle.std.specs.Prelude.{ℕ, ◌+◌, ◌*◌, ◌-◌, ◌++◌, List, [], ◌∷◌, ◌&&◌, ◌==◌, nat_le, if◌then◌else◌, Option, Some, None}
 use Rattle.zone_proto.specs.Names.{Name, Label}
 use Rattle.zone_proto.specs.TextForm.{dot, backslash, is_digit, is_graphic}
