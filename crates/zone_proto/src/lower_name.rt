@@ -2,12 +2,15 @@
 ghost use Rattle.std.specs.Prelude.{◌≡◌, ◌↔◌, ◌⊎◌, [], ◌∷◌, length, drop, IsTrue, IfOk, IfErr, IsOkUnless, MatchResult, Some, None};
 ghost use Rattle.zone_proto.specs.Names.{lower, lower_label, suffixes, wire_form, wildcard_of, IsAtOrAbove, IsLowerName, IsWildcard};
 ghost use Rattle.zone_proto.specs.Ranges.{IsNameInRange};
+ghost use Rattle.zone_proto.specs.Forms.{labels_of};
 ghost use Rattle.zone_proto.specs.Vectors.{octets_of};
 ghost use Rattle.zone_proto.specs.Faults.{fault_of, IsFaultOrMemory, IsTextFault};
 ghost use Rattle.zone_proto.specs.Suffixes.{suffixes_left};
 ghost use Rattle.zone_proto.specs.TextForm.{IsNameText};
 
 use crate::error::ProtoError;
+use crate::form::Form;
+use crate::labels_iter::Labels;
 use crate::name::Name;
 use crate::suffixes::Suffixes;
 use std::alloc::Global;
@@ -65,12 +68,20 @@ impl LowerName {
     }
 
     /// The labels, leftmost first.
-    pub fn labels(&self) -> &[Vec<u8>]
-        ensures value { octets_of result.now ≡ self.now }
+    pub fn labels(&self) -> Labels<'_>
+        ensures value { result ≡ self.now }
         ensures valid { IsLowerName self.now }
         ensures range { IsNameInRange self.now }
     {
         self.name.labels()
+    }
+
+    /// The form in which the labels are kept.
+    pub(crate) fn form(&self) -> &Form
+        ensures value { labels_of result.now ≡ self.now }
+        ensures lower { lower self.now ≡ self.now }
+    {
+        self.name.form()
     }
 
     /// How many labels there are; a `*` counts like any other label.
@@ -128,7 +139,7 @@ impl LowerName {
     pub fn zone_of(&self, other: &LowerName) -> bool
         ensures { IsTrue result ↔ IsAtOrAbove self.now other.now }
     {
-        other.labels().ends_with(self.labels())
+        self.name.zone_of(&other.name)
     }
 
     /// The name with one more label, put into lower case, before its first. Refused as `Name::prepend_label` is.
