@@ -1,6 +1,6 @@
 -- Two names, compared label by label from the leftmost on: a label further right decides before one further left.
-use Rattle.std.proofs.Common.{◌≡◌, ℕ, zero, suc, ◌+◌, ◌-◌, ◌<◌, ◌≤◌, List, [], ◌∷◌, ◌++◌, length, map, reverse, take, drop, refl, sym, ap, ◌∙◌, arith, min, Bor}
-use Rattle.std.proofs.lemmas.List.{take-append-drop, reverse-append, length-append, length-map, length-drop, length-reverse, length-take, drop-drop}
+use Rattle.std.proofs.Common.{◌≡◌, ℕ, ◌+◌, ◌-◌, ◌<◌, List, [], ◌∷◌, ◌++◌, length, map, reverse, take, drop, refl, sym, ap, ◌∙◌, arith, min, Bor}
+use Rattle.std.proofs.lemmas.List.{take-append-drop, reverse-append, length-map, length-drop, length-reverse, length-take, drop-drop}
 use Rattle.std.specs.Prelude.{Option, Some, None, MatchOption}
 use Rattle.std.specs.declared.cmp.Ordering.{Ordering}
 use Rattle.std.specs.declared.cmp.Ordering.TheVariants.{Less, Equal, Greater}

@@ -1,6 +1,6 @@
 -- The tree of names: ancestors, their tests, and the suffixes of a name.
-use Rattle.std.proofs.Common.{◌≡◌, ℕ, zero, suc, ◌-◌, ◌<◌, List, [], ◌∷◌, ◌++◌, length, map, take, drop, Bool, true, false, ◌||◌, refl, sym, ap, ◌∙◌, inl, inr, ◌⊎◌, arith, get_or}
-use Rattle.std.proofs.lemmas.List.{take-append-drop, take_all, length-append, length-map, length-drop}
+use Rattle.std.proofs.Common.{◌≡◌, ℕ, zero, suc, ◌-◌, ◌<◌, [], ◌∷◌, ◌++◌, length, take, drop, Bool, true, false, ◌||◌, refl, sym, ap, ◌∙◌, inl, inr, ◌⊎◌, arith, get_or}
+use Rattle.std.proofs.lemmas.List.{take-append-drop, length-append, length-map}
 use Rattle.std.proofs.Math.Seq.{drop-append_seam}
 use Rattle.std.proofs.lemmas.Slice.Eq.{slice_eq-Decides, bytes_eq-Decides}
 use Rattle.std.proofs.lemmas.Cmp.{tied_itself}

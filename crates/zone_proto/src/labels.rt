@@ -1,10 +1,10 @@
 // Lists of labels: whether they make a name, and copies of them.
-ghost use Rattle.std.specs.Prelude.{◌≡◌, ◌<◌, ◌≤◌, ◌∷◌, ◌++◌, OnOk, MatchResult, Some, None, length};
+ghost use Rattle.std.specs.Prelude.{◌≡◌, ◌∷◌, ◌++◌, OnOk};
 ghost use Rattle.std.specs.List.{AllByRecursion};
 ghost use Rattle.zone_proto.specs.Names.{IsName};
 ghost use Rattle.zone_proto.specs.Ranges.{IsOctet};
 ghost use Rattle.zone_proto.specs.Vectors.{octets_of};
-ghost use Rattle.zone_proto.specs.Faults.{fault_of};
+ghost use Rattle.zone_proto.specs.Results.{TellsFault};
 
 use crate::error::ProtoError;
 use crate::labels_iter::Labels;
@@ -19,7 +19,7 @@ const LONGEST_NAME: usize = 255;
 
 /// Whether the labels make a name, and else the first fault.
 pub(crate) fn check_labels(labels: &[Vec<u8>]) -> Result<(), ProtoError>
-    ensures fault { MatchResult result (λ _. fault_of (octets_of labels.now) ≡ None) (λ e. fault_of (octets_of labels.now) ≡ Some e) }
+    ensures fault { TellsFault result (octets_of labels.now) }
     ensures valid { OnOk result (IsName (octets_of labels.now)) }
 {
     let mut wire = 0usize;
@@ -42,7 +42,7 @@ pub(crate) fn check_labels(labels: &[Vec<u8>]) -> Result<(), ProtoError>
 /// Whether a name is still one with the label before its labels, and else the first fault.
 pub(crate) fn check_prepended(label: &[u8], labels: Labels<'_>) -> Result<(), ProtoError>
     requires { IsName labels }
-    ensures fault { MatchResult result (λ _. fault_of (label.now ∷ labels.entry) ≡ None) (λ e. fault_of (label.now ∷ labels.entry) ≡ Some e) }
+    ensures fault { TellsFault result (label.now ∷ labels.entry) }
     ensures valid { OnOk result (IsName (label.now ∷ labels.entry)) }
 {
     if label.is_empty() {

@@ -1,12 +1,12 @@
 // Names that keep the case of their letters.
-ghost use Rattle.std.specs.Prelude.{◌≡◌, ◌↔◌, ◌⊎◌, [], ◌∷◌, length, drop, IsTrue, IfOk, IfErr, IsOkUnless, MatchResult, Some, None};
+ghost use Rattle.std.specs.Prelude.{◌≡◌, ◌↔◌, [], ◌∷◌, length, drop, IsTrue, IfOk, IsOkUnless, Some, None};
 ghost use Rattle.zone_proto.specs.Names.{lower, suffixes, wire_form, wildcard_of, IsAtOrAbove, IsLowerName, IsName, IsWildcard};
 ghost use Rattle.zone_proto.specs.Ranges.{IsNameInRange};
 ghost use Rattle.zone_proto.specs.Forms.{labels_of};
 ghost use Rattle.zone_proto.specs.Vectors.{octets_of};
-ghost use Rattle.zone_proto.specs.Faults.{fault_of, IsFaultOrMemory, IsTextFault};
 ghost use Rattle.zone_proto.specs.Suffixes.{suffixes_left};
 ghost use Rattle.zone_proto.specs.TextForm.{IsNameText};
+ghost use Rattle.zone_proto.specs.Results.{IsCopy, TellsFault, TellsFaultOrMemory, TellsTextFault};
 
 use crate::error::ProtoError;
 use crate::form::Form;
@@ -57,7 +57,7 @@ impl Name {
     /// wire form of more than 255 octets gives `NameTooLong`.
     pub fn from_labels(labels: Vec<Vec<u8>>) -> Result<Name, ProtoError>
         ensures ok { IfOk result (λ n. n ≡ octets_of labels.items) }
-        ensures refusal { MatchResult result (λ _. fault_of (octets_of labels.items) ≡ None) (λ e. fault_of (octets_of labels.items) ≡ Some e) }
+        ensures refusal { TellsFault result (octets_of labels.items) }
     {
         check_labels(&labels)?;
         Ok(Name {
@@ -74,7 +74,7 @@ impl Name {
     /// that each is read or refused for one cause, is `laws::text_is_read_or_refused`.
     pub fn parse(alloc: Global, text: &str) -> Result<Name, ProtoError>
         ensures ok { IfOk result (IsNameText text.now) }
-        ensures refusal { IfErr result (λ e. (e ≡ ProtoError.Memory) ⊎ IsTextFault text.now e) }
+        ensures refusal { TellsTextFault result text.now }
     {
         Name::read(alloc, text)?.in_one_piece()
     }
@@ -82,15 +82,14 @@ impl Name {
     /// Reads a name whose labels stand in a list.
     fn read(alloc: Global, text: &str) -> Result<Name, ProtoError>
         ensures ok { IfOk result (IsNameText text.now) }
-        ensures refusal { IfErr result (λ e. (e ≡ ProtoError.Memory) ⊎ IsTextFault text.now e) }
+        ensures refusal { TellsTextFault result text.now }
     {
         Name::from_labels(read_labels(alloc, text)?)
     }
 
     /// The same name, in one piece if no label has an octet 0.
     fn in_one_piece(self) -> Result<Name, ProtoError>
-        ensures ok { IfOk result (λ n. n ≡ self) }
-        ensures err { IsOkUnless result ProtoError.Memory }
+        ensures { IsCopy result self }
     {
         let Name { form } = self;
         Ok(Name {
@@ -141,8 +140,7 @@ impl Name {
 
     /// The name without its first label; the root of the root. Refused only for want of memory.
     pub fn base_name(&self) -> Result<Name, ProtoError>
-        ensures ok { IfOk result (λ n. n ≡ drop 1 self.now) }
-        ensures err { IsOkUnless result ProtoError.Memory }
+        ensures { IsCopy result (drop 1 self.now) }
     {
         let mut name = self.clone()?;
         name.shorten();
@@ -179,7 +177,7 @@ impl Name {
     /// octets `NameTooLong`; then comes `Memory`.
     pub fn prepend_label(&self, label: &[u8]) -> Result<Name, ProtoError>
         ensures ok { IfOk result (λ n. n ≡ label.now ∷ self.now) }
-        ensures refusal { MatchResult result (λ _. fault_of (label.now ∷ self.now) ≡ None) (IsFaultOrMemory (fault_of (label.now ∷ self.now))) }
+        ensures refusal { TellsFaultOrMemory result (label.now ∷ self.now) }
     {
         check_prepended(label, self.labels())?;
         Ok(Name {
@@ -220,8 +218,7 @@ impl Name {
 
     /// A copy of the name, in the same case. Refused only for want of memory.
     pub fn clone(&self) -> Result<Name, ProtoError>
-        ensures ok { IfOk result (λ n. n ≡ self.now) }
-        ensures err { IsOkUnless result ProtoError.Memory }
+        ensures { IsCopy result self.now }
     {
         Ok(Name {
             form: self.form.copy()?,

@@ -1,4 +1,4 @@
-use Rattle.std.proofs.Common.{◌≡◌, ◌≤◌, ◌-◌, length}
+use Rattle.std.proofs.Common.{◌≤◌, ◌-◌, length}
 use Rattle.zone_proto.specs.Packing.{name_of}
 use Rattle.zone_proto.proofs.FirstLabels.{before_first}
 use Rattle.zone_proto.proofs.packed.first_label_at.Given as goal

@@ -1,4 +1,4 @@
-use Rattle.std.proofs.Common.{sym, ◌∙◌, false, true, true≢false}
+use Rattle.std.proofs.Common.{sym, ◌∙◌, true≢false}
 use Rattle.zone_proto.proofs.LabelFacts.{no_labels}
 use Rattle.zone_proto.proofs.form.Form.is_root.Goals as goal
 

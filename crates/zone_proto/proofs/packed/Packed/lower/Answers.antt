@@ -1,7 +1,7 @@
-use Rattle.std.proofs.Common.{◌≡◌, map, ap, ◌∙◌}
+use Rattle.std.proofs.Common.{map, ap, ◌∙◌}
 use Rattle.std.specs.Char.{to_ascii_lowercase}
 use Rattle.zone_proto.specs.Names.{Name, lower}
-use Rattle.zone_proto.specs.Packing.{packing, name_of}
+use Rattle.zone_proto.specs.Packing.{name_of}
 use Rattle.zone_proto.proofs.Packings.{is_packing, is_name_of, packable_lower, packing_lower}
 use Rattle.zone_proto.proofs.packed.Packed.lower.Goals as goal
 
