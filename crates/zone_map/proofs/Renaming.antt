@@ -1,5 +1,5 @@
 -- The records of a set, taken one after the other by a set of another owner
-use Rattle.std.proofs.Common.{◌≡◌, ℕ, ◌<◌, ◌≤◌, Bool, true, false, List, [], ◌∷◌, ◌++◌, length, map, get_or, refl, sym, ap, ◌∙◌, subst, arith, if◌then◌else◌}
+use Rattle.std.proofs.Common.{◌≡◌, ℕ, ◌<◌, ◌≤◌, Bool, true, false, List, [], ◌∷◌, ◌++◌, length, map, get_or, refl, sym, ap, ◌∙◌, subst, arith, if◌then◌else◌, cond}
 use Rattle.std.specs.Prelude.{Option, Some, None, unwrap_or}
 use Rattle.std.specs.List.{All}
 use Rattle.std.proofs.lemmas.List.{get_or-map, get_or_append_left, length-append, length-map, map-append}
@@ -15,7 +15,7 @@ use Rattle.zone_proto.specs.Names.{Name, same_name}
 use Rattle.zone_proto.specs.Sets.{RRset, IsSet, is_single, first_serial, soa_serial, stores, with_records, inserted, record_of}
 use Rattle.zone_proto.specs.Types.{IN}
 use Rattle.zone_proto.proofs.SetLaws.{inserted_taken}
-use Rattle.zone_map.specs.Wildcards.{renamed_record}
+use Rattle.zone_map.specs.Wildcards.{renamed_record, renamed_signature}
 use Rattle.zone_map.proofs.Upserting.{same_from_lower}
 
 -- an empty set refuses nothing
@@ -111,3 +111,10 @@ module _ (set : RRset) (n : Name) where
     taken_next =
         ap (λ o. unwrap_or o (partly done)) (inserted_taken (partly done) (record_of (partly done) d.rdata) 0 part of_type unrefused)
         ∙ ap (λ rs. with_records (partly done) rs (record_of (partly done) d.rdata) 0) placed
+
+-- a renamed signature keeps its data
+pub renamed_data : (star n : Name) (r : Record) → (renamed_signature star n r).rdata ≡ r.rdata
+renamed_data star n r = by (same_name r.name star) where
+  by : (b : Bool) → (cond b (record r { name = n }) r).rdata ≡ r.rdata
+  by true = refl
+  by false = refl

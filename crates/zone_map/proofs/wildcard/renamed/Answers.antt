@@ -1,11 +1,12 @@
-use Rattle.std.proofs.Common.{◌≡◌, List, [], ◌∷◌, ◌++◌, ap, sym, ◌∙◌, append_assoc, map, length, ◌≤◌, arith}
+use Rattle.std.proofs.Common.{rules, ◌≡◌, [], ◌∷◌, ◌++◌, ap, sym, ◌∙◌, append_assoc, map, length, ◌≤◌, arith}
 use Rattle.std.specs.Prelude.{unwrap_or}
 use Rattle.std.proofs.lemmas.List.{append-nil, take_all}
 use Rattle.zone_proto.specs.declared.record.Record.{Record}
-use Rattle.zone_proto.specs.declared.rdata.RData.{RData}
+use Rattle.zone_proto.specs.Data.{type_of}
+use Rattle.zone_proto.specs.Types.{RRSIG}
 use Rattle.zone_proto.specs.Sets.{RRset, inserted, record_of}
 use Rattle.zone_map.specs.Wildcards.{renamed, renamed_signature}
-use Rattle.zone_map.proofs.Renaming.{partly, taken_next}
+use Rattle.zone_map.proofs.Renaming.{partly, taken_next, renamed_data}
 use Rattle.zone_map.proofs.wildcard.renamed.Goals as goal
 use Rattle.zone_map.proofs.wildcard.renamed.Goals.{then-signed+else-loop-rrsig-test, else-signed}
 
@@ -22,6 +23,11 @@ loop-stored-preserved c =
           ∙ ap (λ (s : RRset). unwrap_or (inserted s (record_of s d.rdata) 0) s) c.loop-stored.invariant.2
           ∙ taken_next c.args.set.now c.args.name.now c.records_without_rrsigs-stored-items.ensures.rule done d rest is,
     )
+
+pub insert_rrsig-requires : goal.insert_rrsig-requires
+insert_rrsig-requires c =
+    let stored : type_of c.rrsig-item.result.rdata ≡ RRSIG = search rules in
+    record { kind = ap (λ (r : Record). type_of r.rdata) c.in_ok-renamed_signature.ensures.made ∙ ap type_of (renamed_data c.args.star.now c.args.name.now c.rrsig-item.result) ∙ stored }
 
 pub returns-clause-made : goal.returns-clause-made
 returns-clause-made c =
