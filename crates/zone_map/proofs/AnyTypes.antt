@@ -1,10 +1,10 @@
 -- The type for ANY, as a loop over the types of a name finds it, and that it is owned where anything is
-use Rattle.std.proofs.Common.{◌≡◌, ℕ, zero, suc, ◌<◌, ◌||◌, Bool, true, false, cond, List, [], ◌∷◌, refl, sym, ap, ◌∙◌, subst, true≢false, arith, ◌⊎◌, inl, inr, Ordering, Less, Equal, Greater}
-use Rattle.std.specs.Prelude.{Option, Some, None, find, filter, filter_map, is_some, option_and_then, option_map, unwrap_or, ◌==◌}
+use Rattle.std.proofs.Common.{◌≡◌, ℕ, ◌<◌, Bool, true, false, cond, List, [], ◌∷◌, refl, sym, ap, ◌∙◌, subst, true≢false, arith, inl, Less, Equal, Greater}
+use Rattle.std.specs.Prelude.{Option, Some, None, find, filter, is_some, option_and_then, option_map, unwrap_or, ◌==◌}
 use Rattle.std.specs.Option.{option_or, option_map_or}
 use Rattle.std.specs.Ordering.{nat_cmp, ordering_then, is_lt, flip_args, eq_by_cmp, MatchOrdering}
 use Rattle.std.specs.Cmp.{nat_cmp_is}
-use Rattle.std.specs.List.{cons_option, AllByRecursion, list_any}
+use Rattle.std.specs.List.{cons_option, AllByRecursion}
 use Rattle.std.specs.List.Sorted.{IsStrictlySortedBy}
 use Rattle.std.specs.Map.{keys_of}
 use Rattle.std.proofs.lemmas.Bool.Decides.{nat_tests}
@@ -17,10 +17,10 @@ use Rattle.zone_proto.specs.Keys.{key_cmp}
 use Rattle.zone_proto.specs.Names.{Name, name_cmp, name_eq}
 use Rattle.zone_proto.specs.Order.{least}
 use Rattle.zone_proto.specs.Sets.{RRset}
-use Rattle.zone_proto.specs.Types.{A, CNAME, MX, AAAA, ANY}
+use Rattle.zone_proto.specs.Types.{A, CNAME, ANY}
 use Rattle.zone_proto.proofs.Members.{In, In-filter, In-from_filter, In-from_any, any_from_In}
 use Rattle.zone_proto.proofs.NameTree.{name_eq-Decides}
-use Rattle.zone_proto.proofs.Orders.{IsOrder, IsTop, greatest_same, greatest_from, greatest_is, has_greatest}
+use Rattle.zone_proto.proofs.Orders.{IsOrder, greatest_same, greatest_is, has_greatest}
 use Rattle.zone_proto.proofs.Tree.{name_order}
 use Rattle.zone_map.specs.Zones.{Sets, set_at, owns, types_at}
 use Rattle.zone_map.specs.Search.{types_for, least_owned, exact, referral, direct, is_address}

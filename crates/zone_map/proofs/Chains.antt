@@ -1,6 +1,6 @@
 -- The chain of aliases, step by step: the longest front without a name twice ends where a name stands again
 use Rattle.std.proofs.Common.{◌≡◌, ℕ, zero, suc, ◌+◌, ◌-◌, ◌<◌, ◌≤◌, arith, Bool, true, false, cond, not, ◌&&◌, ◌||◌, List, [], ◌∷◌, ◌++◌, map, length, take, drop, refl, sym, ap, ◌∙◌, append_assoc}
-use Rattle.std.specs.Prelude.{Option, Some, None, nat_le, nat_lt}
+use Rattle.std.specs.Prelude.{Option, Some, None, nat_le}
 use Rattle.std.specs.Option.{option_map_or}
 use Rattle.std.specs.Cmp.{IsEquivalence}
 use Rattle.std.specs.List.{list_any}
@@ -14,7 +14,7 @@ use Rattle.zone_proto.specs.Sets.{RRset}
 use Rattle.zone_map.specs.Zones.{Sets}
 use Rattle.zone_map.specs.Wildcards.{found}
 use Rattle.zone_map.specs.Fronts.{longest_front, IsLongestFront}
-use Rattle.zone_map.specs.Chains.{cname_target, links_from, links, are_distinct, may_be_chain, chain_links, chain, last_target, leads_on, chain_searches}
+use Rattle.zone_map.specs.Chains.{cname_target, links_from, links, are_distinct, may_be_chain, chain_links}
 use Rattle.zone_map.specs.SearchLaws.{ChainIsLongestFront, ChainHasAtMost8}
 use Rattle.zone_map.proofs.Fronts.{longest_front_is, longest_front_law}
 

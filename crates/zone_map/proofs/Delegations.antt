@@ -1,6 +1,6 @@
 -- The nearest delegation above a name, as a walk up its suffixes finds it
-use Rattle.std.proofs.Common.{◌≡◌, ◌++◌, subst, ◌≤◌, ◌<◌, ℕ, Bool, true, false, cond, not, ◌&&◌, List, [], ◌∷◌, length, drop, refl, sym, ap, ◌∙◌, arith, inl, inr}
-use Rattle.std.specs.Prelude.{Option, Some, None, find, ◌==◌, is_some}
+use Rattle.std.proofs.Common.{◌≡◌, ◌++◌, subst, ◌≤◌, ◌<◌, Bool, true, false, cond, not, ◌&&◌, List, [], ◌∷◌, length, refl, sym, ap, ◌∙◌, arith, inl, inr}
+use Rattle.std.specs.Prelude.{Option, Some, None, find, is_some}
 use Rattle.std.proofs.lemmas.List.{length-append}
 use Rattle.zone_proto.specs.Names.{Label, Name, name_eq, suffixes, IsAtOrAbove}
 use Rattle.zone_proto.specs.Sets.{RRset}

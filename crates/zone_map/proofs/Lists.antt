@@ -1,5 +1,5 @@
 -- The lists of a zone's names and types: their order, and what stands in them
-use Rattle.std.proofs.Common.{◌≡◌, ℕ, zero, suc, ◌<◌, ◌==◌, Bool, true, false, cond, List, [], ◌∷◌, length, map, refl, sym, ap, ◌∙◌, subst, arith, get_or, ◌⊎◌, inl, inr, eqb-true, Ordering, Less, Equal, Greater}
+use Rattle.std.proofs.Common.{◌≡◌, ℕ, zero, suc, ◌<◌, ◌==◌, Bool, true, false, cond, List, [], ◌∷◌, length, refl, sym, ap, ◌∙◌, arith, get_or, inl, inr, eqb-true, Ordering, Less, Equal, Greater}
 use Rattle.std.specs.Prelude.{Some, None}
 use Rattle.std.specs.List.{All, AllPairs, AllByRecursion, Contains, cons_option}
 use Rattle.std.specs.List.Sorted.{IsStrictlySortedBy}
@@ -12,7 +12,7 @@ use Rattle.std.proofs.lemmas.List.Kept.{AllPairs-cons}
 use Rattle.std.proofs.lemmas.Map.Keys.{sorted_head, sorted_tail}
 use Rattle.zone_proto.specs.declared.rr_key.RrKey.{RrKey}
 use Rattle.zone_proto.specs.Data.{type_of}
-use Rattle.zone_proto.specs.Keys.{key, key_cmp}
+use Rattle.zone_proto.specs.Keys.{key_cmp}
 use Rattle.zone_proto.specs.Names.{Name, name_cmp, name_eq, lower}
 use Rattle.zone_proto.specs.Order.{is_upto}
 use Rattle.zone_proto.specs.Sets.{RRset}

@@ -1,13 +1,12 @@
 -- A walk up the suffixes of a name looks for the nearest delegation once at each
-use Rattle.std.proofs.Common.{◌≡◌, ℕ, zero, suc, ◌+◌, ◌-◌, ◌<◌, ◌≤◌, Bool, true, false, cond, not, ◌&&◌, List, [], ◌∷◌, length, drop, refl, sym, ap, ◌∙◌, subst, arith, ◌⊎◌, inl, inr}
+use Rattle.std.proofs.Common.{◌≡◌, ℕ, zero, suc, ◌-◌, ◌<◌, ◌≤◌, Bool, true, false, cond, not, ◌&&◌, List, [], ◌∷◌, length, drop, refl, sym, ap, ◌∙◌, subst, arith, ◌⊎◌, inl, inr}
 use Rattle.std.specs.Prelude.{Option, Some, None, find, ◌||◌, ◌==◌, is_some, unwrap_or, option_map, option_and_then, option_copied}
 use Rattle.std.specs.Borrow.{Bor}
 use Rattle.std.specs.Option.{option_or, option_map_or}
-use Rattle.zone_proto.specs.Names.{Name, Label, label_eq, name_eq, suffixes, is_root, star_label, wildcard_of, IsWildcard}
+use Rattle.zone_proto.specs.Names.{Name, label_eq, name_eq, suffixes, is_root, star_label, wildcard_of, IsWildcard}
 use Rattle.zone_proto.specs.Sets.{RRset}
 use Rattle.zone_proto.specs.Types.{NS, SOA, DS}
 use Rattle.std.proofs.lemmas.Slice.Eq.{bytes_eq-Decides}
-use Rattle.zone_proto.proofs.Members.{In}
 use Rattle.zone_proto.proofs.Tree.{name_eq_itself}
 use Rattle.zone_map.specs.Zones.{Sets, set_at, owns}
 use Rattle.zone_map.specs.Search.{is_delegated, is_delegated_for, referral_at, referral, exact, direct}

@@ -1,5 +1,5 @@
 -- Chains of aliases: a CNAME begins the search anew at its target (RFC 1034 section 3.6.2)
-use Rattle.std.specs.Prelude.{ℕ, zero, suc, ◌+◌, ◌-◌, Bool, true, false, ◌&&◌, not, cond, List, [], ◌∷◌, map, length, nat_lt, nat_le, ◌==◌, Option, Some, None, option_and_then}
+use Rattle.std.specs.Prelude.{ℕ, zero, suc, ◌+◌, ◌-◌, Bool, true, false, ◌&&◌, not, cond, List, [], ◌∷◌, map, length, nat_lt, nat_le, Option, Some, None}
 use Rattle.std.specs.Option.{option_map_or}
 use Rattle.std.specs.List.{list_any}
 use Rattle.zone_proto.specs.declared.rdata.RData.{RData}
@@ -7,7 +7,6 @@ use Rattle.zone_proto.specs.declared.rdata.RData.TheVariants as V
 use Rattle.zone_proto.specs.declared.record.Record.{Record}
 use Rattle.zone_proto.specs.Names.{Name, lower, name_eq}
 use Rattle.zone_proto.specs.Sets.{RRset}
-use Rattle.zone_proto.specs.Types.{CNAME}
 use Rattle.zone_map.specs.Zones.{Sets}
 use Rattle.zone_map.specs.Wildcards.{found}
 use Rattle.zone_map.specs.Fronts.{longest_front}

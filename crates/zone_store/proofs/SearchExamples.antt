@@ -8,7 +8,6 @@ use Rattle.zone_proto.specs.Names.{Name, star_label}
 use Rattle.zone_proto.specs.Sets.{RRset}
 use Rattle.zone_proto.specs.Types.{A, NS, CNAME, MX, TXT, SRV, ANY, IN}
 use Rattle.zone_map.specs.Zones.{Sets}
-use Rattle.zone_map.specs.Search.{direct}
 use Rattle.zone_map.specs.Wildcards.{star_under, star_source, found}
 use Rattle.zone_map.specs.Chains.{chain, chain_searches}
 use Rattle.zone_map.specs.AnyTypes.{any_type}

@@ -1,4 +1,4 @@
-use Rattle.std.proofs.Common.{◌≡◌, length}
+use Rattle.std.proofs.Common.{length}
 use Rattle.zone_map.specs.Walks.{referral_above, IsWalked}
 use Rattle.zone_map.proofs.search.referral_above.Given as goal
 

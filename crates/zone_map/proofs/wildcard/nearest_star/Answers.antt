@@ -1,7 +1,7 @@
 use Rattle.std.proofs.Common.{◌≡◌, ap, sym, ◌∙◌, true≢false, [], drop, subst}
-use Rattle.std.specs.Prelude.{Some, None, option_copied}
+use Rattle.std.specs.Prelude.{None, option_copied}
 use Rattle.zone_proto.specs.declared.rr_key.RrKey.{RrKey}
-use Rattle.zone_proto.specs.Names.{Name, wildcard_of}
+use Rattle.zone_proto.specs.Names.{wildcard_of}
 use Rattle.zone_map.specs.Search.{direct}
 use Rattle.zone_map.specs.Walks.{IsSettled, IsWalked, nearest_star}
 use Rattle.zone_map.proofs.Walks.{star_found, star_passed, settled_above, base_of_star, not_found}

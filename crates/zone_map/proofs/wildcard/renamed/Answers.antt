@@ -1,8 +1,6 @@
-use Rattle.std.proofs.Common.{◌≡◌, List, [], ◌∷◌, ◌++◌, ap, sym, ◌∙◌, append_assoc, map, length, ◌≤◌, arith}
+use Rattle.std.proofs.Common.{◌≡◌, [], ◌∷◌, ◌++◌, ap, sym, ◌∙◌, append_assoc, map, length, ◌≤◌, arith}
 use Rattle.std.specs.Prelude.{unwrap_or}
 use Rattle.std.proofs.lemmas.List.{append-nil, take_all}
-use Rattle.zone_proto.specs.declared.record.Record.{Record}
-use Rattle.zone_proto.specs.declared.rdata.RData.{RData}
 use Rattle.zone_proto.specs.Sets.{RRset, inserted, record_of}
 use Rattle.zone_map.specs.Wildcards.{renamed, renamed_signature}
 use Rattle.zone_map.proofs.Renaming.{partly, taken_next}

@@ -3,7 +3,7 @@ use Rattle.std.specs.Prelude.{Option, Some, None, option_map, is_some}
 use Rattle.std.specs.Ordering.{eq_by_cmp}
 use Rattle.zone_proto.specs.declared.record_type.RecordType.{RecordType}
 use Rattle.zone_proto.specs.Names.{name_cmp}
-use Rattle.zone_map.proofs.AnyTypes.{chosen, chosen_end, chosen_over, chosen_here, chosen_first, chosen_later, chosen_whole, first_number}
+use Rattle.zone_map.proofs.AnyTypes.{chosen_end, chosen_over, chosen_here, chosen_first, chosen_later, chosen_whole, first_number}
 use Rattle.zone_map.proofs.Neighbours.{front_types}
 use Rattle.zone_map.proofs.record_map.RecordMap.any_type.Goals as goal
 use Rattle.zone_map.proofs.record_map.RecordMap.any_type.Goals.{in-None, in-Some+then-ne}

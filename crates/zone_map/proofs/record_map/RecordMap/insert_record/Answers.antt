@@ -1,5 +1,5 @@
 use Rattle.std.proofs.Common.{◌≡◌, ap, sym, ◌∙◌, subst}
-use Rattle.std.specs.Prelude.{Some, is_some, unwrap_or}
+use Rattle.std.specs.Prelude.{Some, unwrap_or}
 use Rattle.std.specs.Map.{lookup, set_value}
 use Rattle.zone_proto.specs.Data.{type_of}
 use Rattle.zone_proto.specs.Keys.{key, key_eq}

@@ -1,5 +1,5 @@
 use Rattle.std.proofs.Common.{◌≡◌, ap, sym, ◌∙◌, cond, subst}
-use Rattle.std.specs.Prelude.{Some, None, Ok, Err, option_map}
+use Rattle.std.specs.Prelude.{Ok, Err, option_map}
 use Rattle.zone_proto.specs.declared.record_type.RecordType.{RecordType}
 use Rattle.zone_handler.specs.declared.control_flow.LookupControlFlow.TheVariants.{Continue}
 use Rattle.zone_map.specs.AnyTypes.{any_type, searched_type}
