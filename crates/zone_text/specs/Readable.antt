@@ -15,10 +15,11 @@ abbrev pub without_class : List (List ℕ) → List (List ℕ)
 without_class (owner ∷ ttl ∷ c ∷ ws) = owner ∷ ttl ∷ ws
 without_class ws = ws
 
--- seconds that are not below zero
+-- the seconds of a timer that are not below zero, in a number of 32 bits with a sign
 abbrev pub IsTimer : ℤ → Type 0
 IsTimer z = (n : ℕ) × (z ≡ pos n) × (n < 2147483648)
 
+-- an SOA whose timers are not below zero
 pub record IsReadableSoa (d : SoaData) : Type 0 where
   pub mname : IsName d.mname
   pub rname : IsName d.rname
@@ -28,6 +29,7 @@ pub record IsReadableSoa (d : SoaData) : Type 0 where
   pub expire : IsTimer d.expire
   pub minimum : d.minimum < 4294967296
 
+-- an SRV
 pub record IsReadableSrv (d : SrvData) : Type 0 where
   pub priority : d.priority < 65536
   pub weight : d.weight < 65536
@@ -38,8 +40,8 @@ pub record IsReadableSrv (d : SrvData) : Type 0 where
 abbrev pub IsOctets : ℕ → List ℕ → Type 0
 IsOctets n bs = (length bs ≡ n) × AllByRecursion IsOctet bs
 
--- data of a form that is read: with their parts in the range of their types, which those of each value of the program are,
--- with timers that are not below zero, and of no type of DNSSEC
+-- data of a form that is read: of any type but DNSKEY, NSEC, NSEC3, NSEC3PARAM and RRSIG, with timers that are not below
+-- zero. The parts are in the range of their types, as those of each value of the program are.
 abbrev pub IsReadableData : RData → Type 0
 IsReadableData (V.A a) = IsOctets 4 a
 IsReadableData (V.AAAA a) = IsOctets 16 a

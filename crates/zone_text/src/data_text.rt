@@ -7,7 +7,9 @@ use crate::hex_text::HexText;
 use std::fmt;
 use zone_proto::{DNSKEY, NSEC, NSEC3, NSEC3PARAM, RData, RRSIG, RecordType, SOA, SRV};
 
-/// The data of a record, their parts in the order in which `read_data` reads them.
+/// The data of a record as text: their parts in the order of the type's standard, with single spaces between them, octets in
+/// hex, and the hash of an NSEC3 in base32hex. `read_data` reads this as the same data, of each type that it reads, unless a
+/// timer of an SOA is below zero.
 #[derive(Drop)]
 pub struct DataText<'r>(pub &'r RData);
 

@@ -5,8 +5,8 @@ use crate::data_text::DataText;
 use std::fmt;
 use zone_proto::Record;
 
-/// A record as text: `NAME TTL CLASS TYPE DATA`, with single spaces between the words. Without the class of a record of class
-/// IN, these are the words that `read_record` reads.
+/// A record as text: `NAME TTL CLASS TYPE DATA`, with single spaces between the words. Of a record of class IN, `read_record`
+/// reads these words without the class as the same record, where `read_data` reads its data.
 #[derive(Drop)]
 pub struct RecordText<'r>(pub &'r Record);
 
