@@ -4,6 +4,7 @@ use crate::bench::Zone;
 use std::fmt;
 use zone_handler::{AuthLookup, LookupControlFlow};
 use zone_proto::{LowerName, Name, RecordSet};
+use zone_store::Found;
 use zone_text::{HexText, RecordText};
 
 /// What a name is, and its labels in hex.
@@ -91,6 +92,20 @@ impl fmt::Display for LentText<'_> {
             lent = lent.saturating_add(1);
         }
         write!(f, "{lent} lent")
+    }
+}
+
+/// The sets of a chain, and how many names were searched for it.
+#[derive(Drop)]
+pub struct ChainText<'c, 'z>(pub &'c [Found<'z>], pub u64);
+
+impl fmt::Display for ChainText<'_, '_> {
+    fn fmt<W: fmt::Write>(&self, f: &mut fmt::Formatter<W>) -> fmt::Result {
+        write!(f, "{} searched", self.1)?;
+        for found in self.0 {
+            write!(f, " | {}", SetText(found.set()))?;
+        }
+        Ok(())
     }
 }
 
