@@ -122,7 +122,10 @@ def answers_rightly(program, phases):
     """Whether the program answers these phases, one after the other, as it should."""
     commands = text(command for phase in phases for command in phase.commands)
     answers = text(answer for phase in phases for answer in phase.answers)
-    done = subprocess.run([program, ORIGIN], input=commands, stdout=subprocess.PIPE, stderr=subprocess.DEVNULL)
+    try:
+        done = subprocess.run([program, ORIGIN], input=commands, stdout=subprocess.PIPE, stderr=subprocess.DEVNULL)
+    except OSError as error:
+        sys.exit(f"bench: {program}: {error.strerror}")
     return done.returncode == 0 and done.stdout == answers
 
 
