@@ -1,0 +1,110 @@
+"""The zones of the benchmark, and the commands of each phase with what they are to be answered."""
+
+import random
+from typing import NamedTuple
+
+ORIGIN = "example.com."
+
+
+class Phase(NamedTuple):
+    """Commands of one kind, and the lines that answer each. Without a title they aren't timed."""
+
+    title: str
+    commands: list[str]
+    answers: list[str]
+
+
+class Workload(NamedTuple):
+    """What fills a zone; questions, which leave it as it is; and changes, which leave it so when all are made."""
+
+    load: Phase
+    questions: list[Phase]
+    changes: list[Phase]
+
+    def titles(self):
+        return [phase.title for phase in [self.load, *self.questions, *self.changes] if phase.title]
+
+
+def address(i):
+    return f"10.{i >> 16 & 255}.{i >> 8 & 255}.{i & 255}"
+
+
+def answer(*records):
+    return "\n".join([f"answer {len(records)}", *records, "additional 0"])
+
+
+def taken(title, commands):
+    """Commands that are all answered by yes."""
+    return Phase(title, commands, ["yes"] * len(commands))
+
+
+def asked(title, questions):
+    """Queries, each with its answer."""
+    return Phase(title, [f"lookup {query}" for query, _ in questions], [reply for _, reply in questions])
+
+
+def workload(names, lookups):
+    """A zone of this many names: 1 % are cuts with glue, and of the others every second one stands one level deeper,
+    below a name that owns nothing. Beside them there is a wildcard, and for each hundred names a chain of two aliases
+    and an address, and a name of four types. A tenth of the names are changed, in small zones up to half of them. So
+    many lookups are different ones."""
+    pick = random.Random(names)
+    cuts = [f"cut{i:06d}.{ORIGIN}" for i in range(max(1, names // 100))]
+    hosts = {}
+    for i in range(names - len(cuts)):
+        group = f"group{i % 997:03d}." if i % 2 else ""
+        hosts[f"host{i:06d}.{group}{ORIGIN}"] = address(i)
+    count = max(1, names // 10, min(names // 2, 2500))
+    aliases = [f"alias{i:06d}.{ORIGIN}" for i in range(count)]
+    chains = [
+        (
+            f"first{i:06d}.{ORIGIN} 300 {{}}CNAME second{i:06d}.{ORIGIN}",
+            f"second{i:06d}.{ORIGIN} 300 {{}}CNAME third{i:06d}.{ORIGIN}",
+            f"third{i:06d}.{ORIGIN} 300 {{}}A {address(i)}",
+        )
+        for i in range(len(cuts))
+    ]
+    rich = [f"rich{i:06d}.{ORIGIN}" for i in range(len(cuts))]
+
+    adds = [f"add {host} 300 A {data}" for host, data in hosts.items()]
+    for i, cut in enumerate(cuts):
+        adds += [f"add {cut} 3600 NS ns.{cut}", f"add ns.{cut} 3600 A {address(i)}"]
+        adds += [f"add {link.format('')}" for link in chains[i]]
+        for data in ("TXT 61", "AAAA 2001:db8:0:0:0:0:0:1", "SRV 0 0 53 ns", "MX 10 ns"):
+            adds.append(f"add {rich[i]} 300 {data}")
+    adds.append(f"add *.wild.{ORIGIN} 300 A 192.0.2.1")
+    pick.shuffle(adds)
+    adds.insert(0, f"add {ORIGIN} 3600 SOA ns.{ORIGIN} host.{ORIGIN} 1 7200 600 86400 300")
+
+    known = list(hosts)
+    fewer = range(max(1, lookups // 4))
+    exact = [pick.choice(known) for _ in range(lookups)]
+    cut_off = [pick.choice(cuts) for _ in fewer]
+    starred = [f"a{i}.b.wild.{ORIGIN}" for i in fewer]
+    chained = [pick.choice(chains) for _ in fewer]
+    many_typed = [pick.choice(rich) for _ in fewer]
+    without_text = [pick.choice(known) for _ in fewer]
+    questions = [
+        asked("exact lookup", [(f"{host} A", answer(f"{host} 300 IN A {hosts[host]}")) for host in exact]),
+        asked("referral", [(f"www.{cut} A", answer(f"{cut} 3600 IN NS ns.{cut}")) for cut in cut_off]),
+        asked("wildcard two levels deep", [(f"{name} A", answer(f"{name} 300 IN A 192.0.2.1")) for name in starred]),
+        asked(
+            "chain of three",
+            [(f"{chain[0].split()[0]} A", answer(*(link.format("IN ") for link in chain))) for chain in chained],
+        ),
+        asked("ANY at four types", [(f"{name} ANY", answer(f"{name} 300 IN MX 10 ns.")) for name in many_typed]),
+        asked("no such name", [(f"none{i}.{ORIGIN} A", "error NXDomain") for i in fewer]),
+        asked("no such type", [(f"{host} TXT", "error NameExists") for host in without_text]),
+    ]
+
+    pick.shuffle(aliases)
+    changed = pick.sample(known, min(count, len(known)))
+    changes = [
+        taken("add an alias", [f"add {alias} 300 CNAME old.{ORIGIN}" for alias in aliases]),
+        taken("replace a set", [f"add {alias} 300 CNAME new.{ORIGIN}" for alias in aliases]),
+        taken("append to a set", [f"add {host} 300 A 192.0.2.1" for host in changed]),
+        taken("remove a set", [f"drop {host} A" for host in changed]),
+        taken("", [f"drop {alias} CNAME" for alias in aliases]),
+        taken("", [f"add {host} 300 A {hosts[host]}" for host in changed]),
+    ]
+    return Workload(taken("add", adds), questions, changes)
