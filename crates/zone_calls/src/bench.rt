@@ -1,11 +1,11 @@
 //! What calls are made on: a zone, a set in hand, and a shelf of sets for the next zone.
 
 use crate::answer::Answer;
-use crate::call::{Call, SetCall, ZoneCall};
+use crate::call::{Ask, Call, Question, SetCall, ZoneCall};
 use crate::names::make_name_call;
 use crate::no_signing::{NoHash, NoSigner};
 use crate::records::{make_record_call, make_word_call};
-use crate::texts::{LentText, SetText, ZoneText};
+use crate::texts::{ChainText, LentText, SetText, ZoneText};
 use std::alloc::{AllocError, Global};
 use std::collections::BTreeMap;
 use zone_handler::{
@@ -127,11 +127,11 @@ impl Bench {
                 self.zone.clear();
                 Answer::Done
             }
-            ZoneCall::Search(name, record_type) => self.search(&name, record_type),
-            ZoneCall::Lookup(name, record_type) => {
-                let options = LookupOptions::default();
-                of_flow(self.zone.lookup(&name, record_type, None, options, 0))
-            }
+            ZoneCall::Any(name) => match self.zone.inner().replace_any(&name) {
+                Ok(chosen) => Answer::Type(chosen),
+                Err(error) => Answer::from(error),
+            },
+            ZoneCall::Ask(question, ask) => self.ask(alloc, &question, ask),
             ZoneCall::Dump => match format!(in alloc; "{}", ZoneText(&self.zone)) {
                 Ok(text) => Answer::Text(text),
                 Err(_) => Answer::Memory,
@@ -213,16 +213,25 @@ impl Bench {
         }
     }
 
+    fn ask(&mut self, alloc: Global, question: &Question, ask: Ask) -> Answer {
+        match ask {
+            Ask::Search => self.search(question),
+            Ask::Chase => self.chase(alloc, question),
+            Ask::Lookup => {
+                let (name, options) = (&question.name, question.options);
+                of_flow(
+                    self.zone
+                        .lookup(name, question.record_type, None, options, 0),
+                )
+            }
+        }
+    }
+
     /// Searches for a set, which has to be counted, and copies what is found.
-    fn search(&mut self, name: &LowerName, record_type: RecordType) -> Answer {
+    fn search(&mut self, question: &Question) -> Answer {
         let before = self.searches.count();
-        let options = LookupOptions::default();
         let searches = &mut self.searches;
-        let answer = match self
-            .zone
-            .inner()
-            .inner_lookup(name, record_type, options, searches)
-        {
+        let answer = match find(&self.zone, question, searches) {
             Ok(Some(found)) => copied(found),
             Ok(None) => Answer::Nothing,
             Err(error) => Answer::from(error),
@@ -233,6 +242,43 @@ impl Bench {
             Answer::NotCounted
         }
     }
+
+    /// Follows the aliases from the set that is found.
+    fn chase(&self, alloc: Global, question: &Question) -> Answer {
+        let mut searches = Searches::new();
+        match find(&self.zone, question, &mut searches) {
+            Ok(Some(first)) => self.chase_from(alloc, question, first),
+            Ok(None) => Answer::Nothing,
+            Err(error) => Answer::from(error),
+        }
+    }
+
+    fn chase_from(&self, alloc: Global, question: &Question, first: Found<'_>) -> Answer {
+        let mut searches = Searches::new();
+        let (name, record_type, options) = (&question.name, question.record_type, question.options);
+        let inner = self.zone.inner();
+        match inner.chase_cnames(name, first, record_type, options, &mut searches) {
+            Ok(chain) => {
+                let text = ChainText(chain.as_slice(), searches.count());
+                match format!(in alloc; "{text}") {
+                    Ok(text) => Answer::Text(text),
+                    Err(_) => Answer::Memory,
+                }
+            }
+            Err(error) => Answer::from(error),
+        }
+    }
+}
+
+/// The set that is found for a question.
+fn find<'z>(
+    zone: &'z Zone,
+    question: &Question,
+    searches: &mut Searches,
+) -> Result<Option<Found<'z>>, LookupError> {
+    let (name, options) = (&question.name, question.options);
+    zone.inner()
+        .inner_lookup(name, question.record_type, options, searches)
 }
 
 fn empty_zone(origin: Name, zone_type: ZoneType, policy: AxfrPolicy) -> Zone {

@@ -1,7 +1,7 @@
 //! The calls that rows can make.
 
 use std::collections::BTreeMap;
-use zone_handler::{AxfrPolicy, ZoneType};
+use zone_handler::{AxfrPolicy, LookupOptions, ZoneType};
 use zone_proto::{
     DNSClass, LowerName, Name, NxProofKind, RData, Record, RecordSet, RecordType, ResponseCode,
     RrKey,
@@ -144,10 +144,29 @@ pub enum ZoneCall {
     Remove(RrKey),
     /// `clear`.
     Clear,
-    /// `search NAME TYPE`: `inner_lookup`, and a copy of what was found.
-    Search(LowerName, RecordType),
-    /// `lookup NAME TYPE`.
-    Lookup(LowerName, RecordType),
+    /// One of the calls below, that ask for a name and type.
+    Ask(Question, Ask),
+    /// `any NAME`: `replace_any`.
+    Any(LowerName),
     /// `dump`: all sets of the zone.
     Dump,
+}
+
+/// What is asked for: `NAME TYPE`, or `NAME TYPE dnssec` where signatures are wanted.
+#[derive(Drop)]
+pub struct Question {
+    pub name: LowerName,
+    pub record_type: RecordType,
+    pub options: LookupOptions,
+}
+
+/// What is done with a question.
+#[derive(Clone, Copy)]
+pub enum Ask {
+    /// `search NAME TYPE`: `inner_lookup`, and a copy of what was found.
+    Search,
+    /// `chase NAME TYPE`: `chase_cnames` from what `inner_lookup` finds, and how many names it searches.
+    Chase,
+    /// `lookup NAME TYPE`.
+    Lookup,
 }

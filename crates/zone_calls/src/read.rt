@@ -1,11 +1,11 @@
 //! Reads the calls of rows: the first word says which.
 
-use crate::call::{Call, NameCall, RecordCall, SetCall, WordCall, ZoneCall};
+use crate::call::{Ask, Call, NameCall, Question, RecordCall, SetCall, WordCall, ZoneCall};
 use crate::read_names::{read_copy, read_lower_call, read_name_call};
 use crate::read_records::{read_any_data, read_any_record, read_octets, read_word};
 use std::alloc::Global;
 use std::collections::BTreeMap;
-use zone_handler::{AxfrPolicy, ZoneType};
+use zone_handler::{AxfrPolicy, LookupOptions, ZoneType};
 use zone_proto::{DNSClass, LowerName, ResponseCode};
 use zone_text::{TextError, Words, read_key, read_name, read_type, read_u16, read_u32};
 
@@ -86,7 +86,7 @@ fn read_words(alloc: Global, words: &mut Words<'_>) -> Result<Call, TextError> {
         b"shelve" | b"about" | b"put" | b"clear" | b"dump" => {
             Ok(Call::Zone(read_plain_zone_call(alloc, verb, words)?))
         }
-        b"upsert" | b"remove" | b"search" | b"lookup" => {
+        b"upsert" | b"remove" | b"any" | b"search" | b"chase" | b"lookup" => {
             Ok(Call::Zone(read_zone_call(alloc, verb, words)?))
         }
         verb => Ok(Call::Name(read_name_call(alloc, verb, words)?)),
@@ -200,7 +200,7 @@ fn read_plain_zone_call(
     }
 }
 
-/// Reads a call on the zone that is passed a record or a key.
+/// Reads a call on the zone that is passed a record, a key, a name or a question.
 fn read_zone_call(
     alloc: Global,
     verb: &[u8],
@@ -212,14 +212,25 @@ fn read_zone_call(
             Ok(ZoneCall::Upsert(read_any_record(alloc, words)?, serial))
         }
         b"remove" => Ok(ZoneCall::Remove(read_key(alloc, words)?)),
-        verb => {
-            let name = LowerName::from(read_name(alloc, words)?);
-            let record_type = read_type(words)?;
-            if verb == b"search".as_slice() {
-                Ok(ZoneCall::Search(name, record_type))
-            } else {
-                Ok(ZoneCall::Lookup(name, record_type))
-            }
-        }
+        b"any" => Ok(ZoneCall::Any(LowerName::from(read_name(alloc, words)?))),
+        b"search" => Ok(ZoneCall::Ask(read_question(alloc, words)?, Ask::Search)),
+        b"chase" => Ok(ZoneCall::Ask(read_question(alloc, words)?, Ask::Chase)),
+        _ => Ok(ZoneCall::Ask(read_question(alloc, words)?, Ask::Lookup)),
     }
+}
+
+/// Reads what is asked for.
+fn read_question(alloc: Global, words: &mut Words<'_>) -> Result<Question, TextError> {
+    let name = LowerName::from(read_name(alloc, words)?);
+    let record_type = read_type(words)?;
+    let options = match words.take() {
+        None => LookupOptions::default(),
+        Some(b"dnssec") => LookupOptions::for_dnssec(),
+        Some(_) => return Err(TextError::BadText),
+    };
+    Ok(Question {
+        name,
+        record_type,
+        options,
+    })
 }

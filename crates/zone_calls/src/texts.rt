@@ -3,7 +3,8 @@
 use crate::bench::Zone;
 use std::fmt;
 use zone_handler::{AuthLookup, LookupControlFlow};
-use zone_proto::{LowerName, Name, RecordSet};
+use zone_proto::{Labels, LowerName, Name, RecordSet};
+use zone_store::Found;
 use zone_text::{HexText, RecordText};
 
 /// What a name is, and its labels in hex.
@@ -14,7 +15,12 @@ impl fmt::Display for NameDescription<'_> {
     fn fmt<W: fmt::Write>(&self, f: &mut fmt::Formatter<W>) -> fmt::Result {
         let name = self.0;
         write!(f, "{}", Kind(name.is_root(), name.is_wildcard()))?;
-        write!(f, "{} labels{}", name.num_labels(), Labels(name.labels()))
+        write!(
+            f,
+            "{} labels{}",
+            name.num_labels(),
+            LabelsInHex(name.labels())
+        )
     }
 }
 
@@ -26,7 +32,12 @@ impl fmt::Display for LowerNameDescription<'_> {
     fn fmt<W: fmt::Write>(&self, f: &mut fmt::Formatter<W>) -> fmt::Result {
         let name = self.0;
         write!(f, "{}", Kind(name.is_root(), name.is_wildcard()))?;
-        write!(f, "{} labels{}", name.num_labels(), Labels(name.labels()))
+        write!(
+            f,
+            "{} labels{}",
+            name.num_labels(),
+            LabelsInHex(name.labels())
+        )
     }
 }
 
@@ -48,12 +59,12 @@ impl fmt::Display for Kind {
 
 /// Labels in hex, each after a space.
 #[derive(Drop)]
-struct Labels<'n>(&'n [Vec<u8>]);
+struct LabelsInHex<'n>(Labels<'n>);
 
-impl fmt::Display for Labels<'_> {
+impl fmt::Display for LabelsInHex<'_> {
     fn fmt<W: fmt::Write>(&self, f: &mut fmt::Formatter<W>) -> fmt::Result {
-        for label in self.0 {
-            write!(f, " {}", HexText(label.as_slice()))?;
+        for label in self.0.clone() {
+            write!(f, " {}", HexText(label))?;
         }
         Ok(())
     }
@@ -91,6 +102,20 @@ impl fmt::Display for LentText<'_> {
             lent = lent.saturating_add(1);
         }
         write!(f, "{lent} lent")
+    }
+}
+
+/// The sets of a chain, and how many names were searched for it.
+#[derive(Drop)]
+pub struct ChainText<'c, 'z>(pub &'c [Found<'z>], pub u64);
+
+impl fmt::Display for ChainText<'_, '_> {
+    fn fmt<W: fmt::Write>(&self, f: &mut fmt::Formatter<W>) -> fmt::Result {
+        write!(f, "{} searched", self.1)?;
+        for found in self.0 {
+            write!(f, " | {}", SetText(found.set()))?;
+        }
+        Ok(())
     }
 }
 

@@ -1,29 +1,20 @@
--- One label of a name, as it is kept.
-use Rattle.std.proofs.Common.{◌≡◌, ℕ, zero, suc, ◌<◌, List, [], ◌∷◌, length, map, get_or, sym, ap, ◌∙◌, arith, subst, Bool, true, Some}
-use Rattle.std.specs.List.{AllByRecursion, slice_get}
-use Rattle.std.specs.Cmp.Lexicographic.{pointwise}
-use Rattle.std.specs.Prelude.{nat_eq}
-use Rattle.std.proofs.lemmas.Slice.Eq.{bytes_eq-Decides}
-use Rattle.zone_proto.specs.Names.{IsLabel, IsWildcard}
+-- A list of labels, as it is kept.
+use Rattle.std.proofs.Common.{◌≡◌, ℕ, ◌<◌, List, [], ◌∷◌, ◌++◌, length, refl, sym, ap, ◌∙◌, arith, true, false, true≢false}
+use Rattle.std.proofs.lemmas.Bool.Decides.{nat_tests}
+use Rattle.std.specs.Prelude.{Vec, ◌==◌}
+use Rattle.std.specs.declared.alloc.Global.{Global}
+use Rattle.zone_proto.specs.Names.{Name}
+use Rattle.zone_proto.specs.Vectors.{octets_of}
 
-label_of : {V : Type 0} (items : V → List ℕ) (vs : List V) (i : ℕ) (d : V) → AllByRecursion IsLabel (map items vs) → i < length vs → IsLabel (items (get_or vs i d))
-label_of items [] i d h lt = absurd (omega arith)
-label_of items (v ∷ vs) zero d h lt = h.0
-label_of items (v ∷ vs) (suc i) d h lt = label_of items vs i d h.1 (omega arith)
+-- where no label is left, the list has none
+pub no_labels : (vs : List (Vec ℕ Global)) (p : Name) (k : ℕ) → k ≡ length vs → octets_of vs ++ p ≡ [] → (k == 0) ≡ true
+no_labels [] p k h e = ap (λ z. z == 0) h
+no_labels (v ∷ vs) p k h e = cc
 
-pub label_at : {V : Type 0} (items : V → List ℕ) (vs : List V) (i : ℕ) (x : V) → AllByRecursion IsLabel (map items vs) → i < length vs → x ≡ get_or vs i x → IsLabel (items x)
-label_at items vs i x h lt at = subst (λ v. IsLabel (items v)) (sym at) (label_of items vs i x h lt)
+is_some : (k : ℕ) → 0 < k → (k == 0) ≡ false
+is_some k h = grind (arith, nat_tests)
 
-first_is : {A : Type 0} (k l : A) (ks ls : List A) → k ∷ ks ≡ l ∷ ls → k ≡ l
-first_is k l ks ls h = cc
-
-pub star_test : {V : Type 0} (items : V → List ℕ) (vs : List V) (x : V) (r : Bool) → Some x ≡ slice_get vs 0 → r ≡ pointwise nat_eq (items x) (42 ∷ [])
-    → (r ≡ true → IsWildcard (map items vs)) × (IsWildcard (map items vs) → r ≡ true)
-star_test items [] x r at h = cc
-star_test items (v ∷ vs) x r at h =
-    let one : x ≡ v = cc in
-    let test : r ≡ pointwise nat_eq (items v) (42 ∷ []) = h ∙ ap (λ w. pointwise nat_eq (items w) (42 ∷ [])) one in
-    let decides = bytes_eq-Decides (items v) (42 ∷ []) in (
-      λ t. (map items vs, ap (λ l. l ∷ map items vs) (decides.0 (sym test ∙ t))),
-      λ w. test ∙ decides.1 (first_is (items v) (42 ∷ []) (map items vs) w.0 w.1),
-    )
+-- a list whose length is 0 is empty
+pub no_items : {A : Type 0} (vs : List A) (k : ℕ) → k ≡ length vs → (k == 0) ≡ true → vs ≡ []
+no_items [] k h e = refl
+no_items (v ∷ vs) k h e = absurd (true≢false (sym e ∙ is_some k (omega (arith, h))))

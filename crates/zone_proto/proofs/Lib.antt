@@ -1,8 +1,7 @@
-pub mod FromBack
-pub mod Hashes
-pub mod AtOrAbove
-pub mod LabelClones
+pub mod FromLeft
 pub mod Faults
+pub mod Packings
+pub mod FirstLabels
 pub mod Lower
 pub mod FromFront
 pub mod LabelFacts

@@ -1,6 +1,6 @@
 -- The tree of names: ancestors, their tests, and the suffixes of a name.
-use Rattle.std.proofs.Common.{◌≡◌, ℕ, zero, suc, ◌-◌, ◌<◌, List, [], ◌∷◌, ◌++◌, length, map, take, drop, Bool, true, false, ◌||◌, refl, sym, ap, ◌∙◌, inl, inr, ◌⊎◌, arith, get_or}
-use Rattle.std.proofs.lemmas.List.{take-append-drop, take_all, length-append, length-map, length-drop}
+use Rattle.std.proofs.Common.{◌≡◌, ℕ, zero, suc, ◌-◌, ◌<◌, [], ◌∷◌, ◌++◌, length, take, drop, Bool, true, false, ◌||◌, refl, sym, ap, ◌∙◌, inl, inr, ◌⊎◌, arith, get_or}
+use Rattle.std.proofs.lemmas.List.{take-append-drop, length-append, length-map}
 use Rattle.std.proofs.Math.Seq.{drop-append_seam}
 use Rattle.std.proofs.lemmas.Slice.Eq.{slice_eq-Decides, bytes_eq-Decides}
 use Rattle.std.proofs.lemmas.Cmp.{tied_itself}
@@ -106,21 +106,15 @@ suffix_from_at_or_above (l ∷ ls) a w = by w.0 w.1 (suffix_from_at_or_above ls 
     by [] e more = (0, omega arith, e)
     by (k ∷ f) e more = let up : Contains (suffixes ls) a = more (f, tail_of a f ls l k e) in (suc up.0, omega arith, up.2)
 
--- the last part of a slice, cut at its end
-pub last_part : {V : Type 0} (n : ℕ) (xs : List V) → take (length xs - n) (drop n xs) ≡ drop n xs
-last_part n xs = take_all (length xs - n) (drop n xs) (omega (arith, length-drop n xs))
-
--- ---- the same with the case of letters ignored, for labels as they are kept: f reads the octets of one
-
-pub caseless_suffix_test : {V : Type 0} (f : V → List ℕ) (s p : List V) (r : Bool) → r ≡ is_eq (caseless_cmp (map f p) (map f (drop (length s - length p) s)))
-    → (r ≡ true → IsAtOrAbove (lower (map f p)) (lower (map f s))) × (IsAtOrAbove (lower (map f p)) (lower (map f s)) → r ≡ true)
-caseless_suffix_test f s p r h =
-    let low : Name = lower (map f p) in
-    let all : Name = lower (map f s) in
-    let lens : length s - length p ≡ length all - length low =
-    λ i. sym (length-map (map f s) lower_label ∙ length-map s f) i - sym (length-map (map f p) lower_label ∙ length-map p f) i in
-    let dropped : lower (map f (drop (length s - length p) s)) ≡ drop (length all - length low) all =
-    ap lower (sym (drop-map f (length s - length p) s)) ∙ sym (drop-map lower_label (length s - length p) (map f s)) ∙ ap (λ k. drop k all) lens in
+-- the same with the case of letters ignored
+pub caseless_suffix_test : (s p : Name) (r : Bool) → r ≡ is_eq (caseless_cmp p (drop (length s - length p) s))
+    → (r ≡ true → IsAtOrAbove (lower p) (lower s)) × (IsAtOrAbove (lower p) (lower s) → r ≡ true)
+caseless_suffix_test s p r h =
+    let low : Name = lower p in
+    let all : Name = lower s in
+    let lens : length s - length p ≡ length all - length low = λ i. sym (length-map s lower_label) i - sym (length-map p lower_label) i in
+    let dropped : lower (drop (length s - length p) s) ≡ drop (length all - length low) all =
+    sym (drop-map lower_label (length s - length p) s) ∙ ap (λ k. drop k all) lens in
     let cmp : r ≡ is_eq (name_cmp low (drop (length all - length low) all)) = h ∙ ap (λ z. is_eq (name_cmp low z)) dropped in (
       λ t. at_or_above_from_drop low all (sym (exact_names low _ (equal_from _ (sym cmp ∙ t)))),
       λ w. cmp ∙ ap (λ z. is_eq (name_cmp low z)) (drop_from_at_or_above low all w) ∙ ap is_eq (tied_itself name_cmp_total low),

@@ -1,7 +1,6 @@
 -- What a total order that tells all values apart gives: trichotomy, and what the greatest and the least of a list are
 use Rattle.std.proofs.Common.{◌≡◌, ◌↔◌, Bool, true, false, cond, List, [], ◌∷◌, refl, sym, ap, ◌∙◌, subst, true≢false, ◌⊎◌, inl, inr, Ordering, Less, Equal, Greater, is_lt, is_le}
-use Rattle.std.specs.Prelude.{Option, Some, None, IsFalse}
-use Rattle.std.specs.List.{Contains}
+use Rattle.std.specs.Prelude.{Option, Some, None}
 use Rattle.std.specs.Ordering.{ordering_reverse, flip_args, nat_cmp}
 use Rattle.std.specs.Cmp.{IsTotalOrder}
 use Rattle.std.proofs.lemmas.Cmp.{tied_itself, back_total, nat_cmp_total}

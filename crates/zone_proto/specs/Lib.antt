@@ -1,10 +1,13 @@
 pub mod Order
 pub mod Ranges
 pub mod Names
+pub mod Packing
 pub mod Vectors
 pub mod NameLaws
 pub mod Keys
 pub mod Faults
+pub mod Results
+pub mod Forms
 pub mod Suffixes
 pub mod TextForm
 pub mod Text

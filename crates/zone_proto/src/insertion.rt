@@ -1,6 +1,7 @@
-ghost use Rattle.std.specs.Prelude.{◌≡◌, ◌++◌, ◌∷◌, [], OnOk, OnErr, IsOkUnless};
+ghost use Rattle.std.specs.Prelude.{◌≡◌, ◌++◌, ◌∷◌, []};
 ghost use Rattle.zone_proto.specs.Sets.{soa_serial, first_serial, is_single, stores};
 ghost use Rattle.zone_proto.specs.Insertion.{is_refused, records_with};
+ghost use Rattle.zone_proto.specs.Results.{IsChange};
 
 use crate::error::ProtoError;
 use crate::rdata::RData;
@@ -53,9 +54,7 @@ fn stores(records: &[Record], new: &RData) -> bool
 
 /// Puts a record in place of all others where the type has at most one, else behind them.
 pub(crate) fn put_record(records: &mut Vec<Record>, new: Record) -> Result<(), ProtoError>
-    ensures ok { OnOk result (records.new.items ≡ records_with records.old.items new) }
-    ensures err { IsOkUnless result ProtoError.Memory }
-    ensures same { OnErr result (records.new.items ≡ records.old.items) }
+    ensures { IsChange records.old.items (records_with records.old.items new) result records.new.items }
 {
     if is_single(new.record_type()) {
         put_alone(records, new)
@@ -66,9 +65,7 @@ pub(crate) fn put_record(records: &mut Vec<Record>, new: Record) -> Result<(), P
 
 /// Puts a record in place of all others.
 fn put_alone(records: &mut Vec<Record>, new: Record) -> Result<(), ProtoError>
-    ensures ok { OnOk result (records.new.items ≡ new ∷ []) }
-    ensures err { IsOkUnless result ProtoError.Memory }
-    ensures same { OnErr result (records.new.items ≡ records.old.items) }
+    ensures { IsChange records.old.items (new ∷ []) result records.new.items }
 {
     if records.is_empty() {
         return put_last(records, new);
@@ -80,9 +77,7 @@ fn put_alone(records: &mut Vec<Record>, new: Record) -> Result<(), ProtoError>
 
 /// Puts a record behind all others; a list of one has room for one.
 pub(crate) fn put_last(records: &mut Vec<Record>, new: Record) -> Result<(), ProtoError>
-    ensures ok { OnOk result (records.new.items ≡ records.old.items ++ new ∷ []) }
-    ensures err { IsOkUnless result ProtoError.Memory }
-    ensures same { OnErr result (records.new.items ≡ records.old.items) }
+    ensures { IsChange records.old.items (records.old.items ++ new ∷ []) result records.new.items }
 {
     if records.is_empty() {
         records.reserve_exact(1)?;

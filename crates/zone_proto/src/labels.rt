@@ -1,12 +1,13 @@
 // Lists of labels: whether they make a name, and copies of them.
-ghost use Rattle.std.specs.Prelude.{◌≡◌, ◌<◌, ◌≤◌, ◌∷◌, ◌++◌, OnOk, MatchResult, Some, None, length};
+ghost use Rattle.std.specs.Prelude.{◌≡◌, ◌∷◌, ◌++◌, OnOk};
 ghost use Rattle.std.specs.List.{AllByRecursion};
 ghost use Rattle.zone_proto.specs.Names.{IsName};
 ghost use Rattle.zone_proto.specs.Ranges.{IsOctet};
 ghost use Rattle.zone_proto.specs.Vectors.{octets_of};
-ghost use Rattle.zone_proto.specs.Faults.{fault_of};
+ghost use Rattle.zone_proto.specs.Results.{TellsFault};
 
 use crate::error::ProtoError;
+use crate::labels_iter::Labels;
 use crate::wire::wire_length;
 use std::alloc::AllocError;
 
@@ -18,7 +19,7 @@ const LONGEST_NAME: usize = 255;
 
 /// Whether the labels make a name, and else the first fault.
 pub(crate) fn check_labels(labels: &[Vec<u8>]) -> Result<(), ProtoError>
-    ensures fault { MatchResult result (λ _. fault_of (octets_of labels.now) ≡ None) (λ e. fault_of (octets_of labels.now) ≡ Some e) }
+    ensures fault { TellsFault result (octets_of labels.now) }
     ensures valid { OnOk result (IsName (octets_of labels.now)) }
 {
     let mut wire = 0usize;
@@ -39,10 +40,10 @@ pub(crate) fn check_labels(labels: &[Vec<u8>]) -> Result<(), ProtoError>
 }
 
 /// Whether a name is still one with the label before its labels, and else the first fault.
-pub(crate) fn check_prepended(label: &[u8], labels: &[Vec<u8>]) -> Result<(), ProtoError>
-    requires { IsName (octets_of labels.now) }
-    ensures fault { MatchResult result (λ _. fault_of (label.now ∷ octets_of labels.now) ≡ None) (λ e. fault_of (label.now ∷ octets_of labels.now) ≡ Some e) }
-    ensures valid { OnOk result (IsName (label.now ∷ octets_of labels.now)) }
+pub(crate) fn check_prepended(label: &[u8], labels: Labels<'_>) -> Result<(), ProtoError>
+    requires { IsName labels }
+    ensures fault { TellsFault result (label.now ∷ labels.entry) }
+    ensures valid { OnOk result (IsName (label.now ∷ labels.entry)) }
 {
     if label.is_empty() {
         return Err(ProtoError::EmptyLabel);
@@ -63,8 +64,8 @@ pub(crate) fn octets_fit(label: &[u8])
 {}
 
 /// Appends copies of the labels, each with room for its octets alone.
-pub(crate) fn push_copies(copies: &mut Vec<Vec<u8>>, labels: &[Vec<u8>]) -> Result<(), AllocError>
-    ensures { OnOk result (octets_of copies.new.items ≡ octets_of copies.old.items ++ octets_of labels.now) }
+pub(crate) fn push_copies(copies: &mut Vec<Vec<u8>>, labels: Labels<'_>) -> Result<(), AllocError>
+    ensures { OnOk result (octets_of copies.new.items ≡ octets_of copies.old.items ++ labels.entry) }
 {
     let alloc = *copies.allocator();
     for label in labels {

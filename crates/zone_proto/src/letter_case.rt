@@ -5,7 +5,7 @@ ghost use Rattle.zone_proto.specs.Names.{lower};
 ghost use Rattle.zone_proto.specs.Vectors.{octets_of};
 
 /// Puts the letters of a label into lower case.
-fn lower_label(label: &mut Vec<u8>)
+pub(crate) fn lower_label(label: &mut Vec<u8>)
     ensures { label.new.items ≡ map to_ascii_lowercase label.old.items }
 {
     for octet in label.iter_mut() {

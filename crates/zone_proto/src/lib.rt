@@ -11,8 +11,10 @@
 pub mod data_laws;
 mod dns_class;
 mod error;
+mod form;
 mod insertion;
 mod labels;
+mod labels_iter;
 pub mod laws;
 mod letter_case;
 mod lower_name;
@@ -22,6 +24,7 @@ mod name_hash;
 mod name_order;
 mod nsec3_hash;
 mod nx_proof_kind;
+mod packed;
 mod parser;
 mod rdata;
 mod record;
@@ -39,6 +42,7 @@ mod wire;
 
 pub use dns_class::DNSClass;
 pub use error::ProtoError;
+pub use labels_iter::Labels;
 pub use lower_name::LowerName;
 pub use message::{Edns, EdnsFlags, Message, Query};
 pub use name::Name;

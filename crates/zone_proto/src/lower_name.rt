@@ -1,13 +1,16 @@
 // Names in lower case, as the owners of record sets are kept.
-ghost use Rattle.std.specs.Prelude.{◌≡◌, ◌↔◌, ◌⊎◌, [], ◌∷◌, length, drop, IsTrue, IfOk, IfErr, IsOkUnless, MatchResult, Some, None};
+ghost use Rattle.std.specs.Prelude.{◌≡◌, ◌↔◌, [], ◌∷◌, length, drop, IsTrue, IfOk, IsOkUnless};
 ghost use Rattle.zone_proto.specs.Names.{lower, lower_label, suffixes, wire_form, wildcard_of, IsAtOrAbove, IsLowerName, IsWildcard};
 ghost use Rattle.zone_proto.specs.Ranges.{IsNameInRange};
+ghost use Rattle.zone_proto.specs.Forms.{labels_of};
 ghost use Rattle.zone_proto.specs.Vectors.{octets_of};
-ghost use Rattle.zone_proto.specs.Faults.{fault_of, IsFaultOrMemory, IsTextFault};
 ghost use Rattle.zone_proto.specs.Suffixes.{suffixes_left};
 ghost use Rattle.zone_proto.specs.TextForm.{IsNameText};
+ghost use Rattle.zone_proto.specs.Results.{IsCopy, TellsFault, TellsFaultOrMemory, TellsTextFault};
 
 use crate::error::ProtoError;
+use crate::form::Form;
+use crate::labels_iter::Labels;
 use crate::name::Name;
 use crate::suffixes::Suffixes;
 use std::alloc::Global;
@@ -33,8 +36,7 @@ impl Model for LowerName {
 impl LowerName {
     /// A copy of the name in lower case. Refused only for want of memory.
     pub fn new(name: &Name) -> Result<LowerName, ProtoError>
-        ensures ok { IfOk result (λ n. n ≡ lower name.now) }
-        ensures err { IsOkUnless result ProtoError.Memory }
+        ensures { IsCopy result (lower name.now) }
     {
         Ok(LowerName::from(name.clone()?))
     }
@@ -51,7 +53,7 @@ impl LowerName {
     /// The name of these labels in lower case, leftmost first. Takes no memory. Refused as `Name::from_labels` is.
     pub fn from_labels(labels: Vec<Vec<u8>>) -> Result<LowerName, ProtoError>
         ensures ok { IfOk result (λ n. n ≡ lower (octets_of labels.items)) }
-        ensures refusal { MatchResult result (λ _. fault_of (octets_of labels.items) ≡ None) (λ e. fault_of (octets_of labels.items) ≡ Some e) }
+        ensures refusal { TellsFault result (octets_of labels.items) }
     {
         Ok(LowerName::from(Name::from_labels(labels)?))
     }
@@ -59,18 +61,26 @@ impl LowerName {
     /// Reads the text form of a name, and puts the name into lower case. Reads and refuses as `Name::parse` does.
     pub fn parse(alloc: Global, text: &str) -> Result<LowerName, ProtoError>
         ensures ok { IfOk result (λ n. (name : Name) × IsNameText text.now name × (n ≡ lower name)) }
-        ensures refusal { IfErr result (λ e. (e ≡ ProtoError.Memory) ⊎ IsTextFault text.now e) }
+        ensures refusal { TellsTextFault result text.now }
     {
         Ok(LowerName::from(Name::parse(alloc, text)?))
     }
 
     /// The labels, leftmost first.
-    pub fn labels(&self) -> &[Vec<u8>]
-        ensures value { octets_of result.now ≡ self.now }
+    pub fn labels(&self) -> Labels<'_>
+        ensures value { result ≡ self.now }
         ensures valid { IsLowerName self.now }
         ensures range { IsNameInRange self.now }
     {
         self.name.labels()
+    }
+
+    /// The form in which the labels are kept.
+    pub(crate) fn form(&self) -> &Form
+        ensures value { labels_of result.now ≡ self.now }
+        ensures lower { lower self.now ≡ self.now }
+    {
+        self.name.form()
     }
 
     /// How many labels there are; a `*` counts like any other label.
@@ -97,8 +107,7 @@ impl LowerName {
 
     /// The name without its first label; the root of the root. Refused only for want of memory.
     pub fn base_name(&self) -> Result<LowerName, ProtoError>
-        ensures ok { IfOk result (λ n. n ≡ drop 1 self.now) }
-        ensures err { IsOkUnless result ProtoError.Memory }
+        ensures { IsCopy result (drop 1 self.now) }
     {
         Ok(LowerName {
             name: self.name.base_name()?,
@@ -128,13 +137,13 @@ impl LowerName {
     pub fn zone_of(&self, other: &LowerName) -> bool
         ensures { IsTrue result ↔ IsAtOrAbove self.now other.now }
     {
-        other.labels().ends_with(self.labels())
+        self.name.zone_of(&other.name)
     }
 
     /// The name with one more label, put into lower case, before its first. Refused as `Name::prepend_label` is.
     pub fn prepend_label(&self, label: &[u8]) -> Result<LowerName, ProtoError>
         ensures ok { IfOk result (λ n. n ≡ lower_label label.now ∷ self.now) }
-        ensures refusal { MatchResult result (λ _. fault_of (label.now ∷ self.now) ≡ None) (IsFaultOrMemory (fault_of (label.now ∷ self.now))) }
+        ensures refusal { TellsFaultOrMemory result (label.now ∷ self.now) }
     {
         Ok(LowerName::from(self.name.prepend_label(label)?))
     }
@@ -161,8 +170,7 @@ impl LowerName {
 
     /// A copy of the name. Refused only for want of memory.
     pub fn clone(&self) -> Result<LowerName, ProtoError>
-        ensures ok { IfOk result (λ n. n ≡ self.now) }
-        ensures err { IsOkUnless result ProtoError.Memory }
+        ensures { IsCopy result self.now }
     {
         Ok(LowerName {
             name: self.name.clone()?,

@@ -1,16 +1,17 @@
 // Names that keep the case of their letters.
-ghost use Rattle.std.specs.Prelude.{◌≡◌, ◌↔◌, ◌⊎◌, [], ◌∷◌, length, drop, IsTrue, IfOk, IfErr, IsOkUnless, MatchResult, Some, None};
+ghost use Rattle.std.specs.Prelude.{◌≡◌, ◌↔◌, [], ◌∷◌, length, drop, IsTrue, IfOk, IsOkUnless, Some, None};
 ghost use Rattle.zone_proto.specs.Names.{lower, suffixes, wire_form, wildcard_of, IsAtOrAbove, IsLowerName, IsName, IsWildcard};
 ghost use Rattle.zone_proto.specs.Ranges.{IsNameInRange};
+ghost use Rattle.zone_proto.specs.Forms.{labels_of};
 ghost use Rattle.zone_proto.specs.Vectors.{octets_of};
-ghost use Rattle.zone_proto.specs.Faults.{fault_of, IsFaultOrMemory, IsTextFault};
 ghost use Rattle.zone_proto.specs.Suffixes.{suffixes_left};
 ghost use Rattle.zone_proto.specs.TextForm.{IsNameText};
+ghost use Rattle.zone_proto.specs.Results.{IsCopy, TellsFault, TellsFaultOrMemory, TellsTextFault};
 
 use crate::error::ProtoError;
-use crate::labels::{check_labels, check_prepended, push_copies};
-use crate::letter_case::lower_all;
-use crate::name_order::compare_caseless;
+use crate::form::Form;
+use crate::labels::{check_labels, check_prepended};
+use crate::labels_iter::Labels;
 use crate::parser::read_labels;
 use crate::suffixes::Suffixes;
 use crate::wire::write_wire;
@@ -24,19 +25,20 @@ use std::marker::Model;
 /// hashed without the case of ASCII letters (RFC 4034 section 6.1, RFC 4343).
 #[derive(Debug, Drop)]
 pub struct Name {
-    labels: Vec<Vec<u8>>,
+    form: Form,
 }
 
 impl Model for Name {
     ghost use Rattle.std.specs.Prelude.{List, ℕ};
     ghost use Rattle.zone_proto.specs.Names.{IsName};
-    ghost use Rattle.zone_proto.specs.Vectors.{octets_of};
 
     ghost Value = { List (List ℕ) };
 
-    ghost view = { λ n. octets_of n.labels.items };
+    ghost use Rattle.zone_proto.specs.Forms.{labels_of};
 
-    ghost invariant = { λ n. IsName (octets_of n.labels.items) };
+    ghost view = { λ n. labels_of n.form };
+
+    ghost invariant = { λ n. IsName (labels_of n.form) };
 }
 
 impl Name {
@@ -45,7 +47,7 @@ impl Name {
         ensures { result ≡ [] }
     {
         Name {
-            labels: Vec::new(alloc),
+            form: Form::root(alloc),
         }
     }
 
@@ -55,10 +57,12 @@ impl Name {
     /// wire form of more than 255 octets gives `NameTooLong`.
     pub fn from_labels(labels: Vec<Vec<u8>>) -> Result<Name, ProtoError>
         ensures ok { IfOk result (λ n. n ≡ octets_of labels.items) }
-        ensures refusal { MatchResult result (λ _. fault_of (octets_of labels.items) ≡ None) (λ e. fault_of (octets_of labels.items) ≡ Some e) }
+        ensures refusal { TellsFault result (octets_of labels.items) }
     {
         check_labels(&labels)?;
-        Ok(Name { labels })
+        Ok(Name {
+            form: Form::list(labels),
+        })
     }
 
     /// Reads the text form of a name (RFC 1035 section 5.1).
@@ -70,18 +74,43 @@ impl Name {
     /// that each is read or refused for one cause, is `laws::text_is_read_or_refused`.
     pub fn parse(alloc: Global, text: &str) -> Result<Name, ProtoError>
         ensures ok { IfOk result (IsNameText text.now) }
-        ensures refusal { IfErr result (λ e. (e ≡ ProtoError.Memory) ⊎ IsTextFault text.now e) }
+        ensures refusal { TellsTextFault result text.now }
+    {
+        Name::read(alloc, text)?.in_one_piece()
+    }
+
+    /// Reads a name whose labels stand in a list.
+    fn read(alloc: Global, text: &str) -> Result<Name, ProtoError>
+        ensures ok { IfOk result (IsNameText text.now) }
+        ensures refusal { TellsTextFault result text.now }
     {
         Name::from_labels(read_labels(alloc, text)?)
     }
 
+    /// The same name, in one piece if no label has an octet 0.
+    fn in_one_piece(self) -> Result<Name, ProtoError>
+        ensures { IsCopy result self }
+    {
+        let Name { form } = self;
+        Ok(Name {
+            form: form.in_one_piece()?,
+        })
+    }
+
     /// The labels, leftmost first.
-    pub fn labels(&self) -> &[Vec<u8>]
-        ensures value { octets_of result.now ≡ self.now }
+    pub fn labels(&self) -> Labels<'_>
+        ensures value { result ≡ self.now }
         ensures valid { IsName self.now }
         ensures range { IsNameInRange self.now }
     {
-        self.labels.as_slice()
+        self.form.labels()
+    }
+
+    /// The form in which the labels are kept.
+    pub(crate) fn form(&self) -> &Form
+        ensures { labels_of result.now ≡ self.now }
+    {
+        &self.form
     }
 
     /// How many labels there are; a `*` counts like any other label.
@@ -96,53 +125,42 @@ impl Name {
     pub fn is_root(&self) -> bool
         ensures { IsTrue result ↔ (self.now ≡ []) }
     {
-        self.labels().is_empty()
+        self.form.is_root()
     }
 
     /// Whether the first label is `*` (RFC 4592 section 2.1.1).
     pub fn is_wildcard(&self) -> bool
         ensures { IsTrue result ↔ IsWildcard self.now }
     {
-        match self.labels.first() {
-            Some(label) => label.as_slice() == b"*".as_slice(),
+        match self.labels().next() {
+            Some(label) => label == b"*".as_slice(),
             None => false,
         }
     }
 
     /// The name without its first label; the root of the root. Refused only for want of memory.
     pub fn base_name(&self) -> Result<Name, ProtoError>
-        ensures ok { IfOk result (λ n. n ≡ drop 1 self.now) }
-        ensures err { IsOkUnless result ProtoError.Memory }
+        ensures { IsCopy result (drop 1 self.now) }
     {
-        match self.labels.split_first() {
-            Some((_, rest)) => {
-                let mut labels = Vec::with_capacity(self.alloc(), rest.len())?;
-                push_copies(&mut labels, rest)?;
-                Ok(Name { labels })
-            }
-            None => Ok(Name::root(self.alloc())),
-        }
+        let mut name = self.clone()?;
+        name.shorten();
+        Ok(name)
     }
 
     /// Takes the first label away, in place and without memory; the root stays.
     pub(crate) fn shorten(&mut self)
         ensures { self.new ≡ drop 1 self.old }
     {
-        if !self.labels.is_empty() {
-            let _ = self.labels.remove(0);
-        }
+        self.form.shorten();
     }
 
     /// The name with its first label replaced by `*`, in place and without memory; the root stays.
     pub fn into_wildcard(self) -> Name
         ensures { result ≡ wildcard_of self }
     {
-        let mut name = self;
-        if let Some(label) = name.labels.first_mut() {
-            label.truncate(1);
-            label[0] = b'*';
-        }
-        name
+        let Name { mut form } = self;
+        form.make_wildcard();
+        Name { form }
     }
 
     /// Whether the other name is this one or below it: whether this name's labels are the other's last labels, the
@@ -150,12 +168,7 @@ impl Name {
     pub fn zone_of(&self, other: &Name) -> bool
         ensures { IsTrue result ↔ IsAtOrAbove (lower self.now) (lower other.now) }
     {
-        let own = self.labels();
-        let whole = other.labels();
-        if own.len() > whole.len() {
-            return false;
-        }
-        compare_caseless(own, &whole[whole.len() - own.len()..]).is_eq()
+        self.form.zone_of(&other.form)
     }
 
     /// The name with one more label before its first.
@@ -164,20 +177,19 @@ impl Name {
     /// octets `NameTooLong`; then comes `Memory`.
     pub fn prepend_label(&self, label: &[u8]) -> Result<Name, ProtoError>
         ensures ok { IfOk result (λ n. n ≡ label.now ∷ self.now) }
-        ensures refusal { MatchResult result (λ _. fault_of (label.now ∷ self.now) ≡ None) (IsFaultOrMemory (fault_of (label.now ∷ self.now))) }
+        ensures refusal { TellsFaultOrMemory result (label.now ∷ self.now) }
     {
-        check_prepended(label, &self.labels)?;
-        let mut labels = Vec::with_capacity(self.alloc(), self.labels.len() + 1)?;
-        labels.push(Vec::from_slice(self.alloc(), label)?)?;
-        push_copies(&mut labels, &self.labels)?;
-        Ok(Name { labels })
+        check_prepended(label, self.labels())?;
+        Ok(Name {
+            form: self.form.child(label)?,
+        })
     }
 
     /// Lends the labels of the name and of each of its ancestors, from the whole name down to the root. Takes no memory.
     pub fn suffixes(&self) -> Suffixes<'_>
         ensures { suffixes_left result ≡ suffixes self.now }
     {
-        Suffixes::of(&self.labels)
+        Suffixes::of(self.labels())
     }
 
     /// The wire form in lower case: the canonical form of the name (RFC 4034 section 6.2). Refused only for want of
@@ -186,7 +198,7 @@ impl Name {
         ensures ok { IfOk result (λ bytes. bytes.items ≡ wire_form (lower self.now)) }
         ensures err { IsOkUnless result ProtoError.Memory }
     {
-        Ok(write_wire(self.alloc(), &self.labels)?)
+        Ok(write_wire(self.alloc(), self.labels())?)
     }
 
     /// The name with its letters in lower case, in place and without memory.
@@ -194,23 +206,22 @@ impl Name {
         ensures value { result ≡ lower self }
         ensures valid { IsLowerName result }
     {
-        let Name { mut labels } = self;
-        lower_all(&mut labels);
-        Name { labels }
+        let Name { mut form } = self;
+        form.lower();
+        Name { form }
     }
 
     /// The allocator that the name was made with.
     pub fn alloc(&self) -> Global {
-        *self.labels.allocator()
+        self.form.alloc()
     }
 
     /// A copy of the name, in the same case. Refused only for want of memory.
     pub fn clone(&self) -> Result<Name, ProtoError>
-        ensures ok { IfOk result (λ n. n ≡ self.now) }
-        ensures err { IsOkUnless result ProtoError.Memory }
+        ensures { IsCopy result self.now }
     {
         Ok(Name {
-            labels: self.labels.clone()?,
+            form: self.form.copy()?,
         })
     }
 }

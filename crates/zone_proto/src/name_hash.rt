@@ -5,6 +5,7 @@ ghost use Rattle.std.specs.Hash as fed;
 ghost use Rattle.zone_proto.specs.Names.{lower};
 ghost use Rattle.zone_proto.specs.NameLaws.{name_eq_fed, caseless_eq_fed};
 
+use crate::labels_iter::Labels;
 use crate::lower_name::LowerName;
 use crate::name::Name;
 use std::hash::{Hash, Hasher};
@@ -16,11 +17,7 @@ impl Hash for Name {
     ghost respects_eq = { caseless_eq_fed };
 
     fn hash<H: Hasher>(&self, state: &mut H) {
-        let labels = self.labels();
-        state.write_usize(labels.len());
-        for label in labels {
-            hash_caseless(label, state);
-        }
+        hash_labels(self.labels(), state);
     }
 }
 
@@ -31,7 +28,17 @@ impl Hash for LowerName {
     ghost respects_eq = { name_eq_fed };
 
     fn hash<H: Hasher>(&self, state: &mut H) {
-        self.labels().hash(state);
+        hash_labels(self.labels(), state);
+    }
+}
+
+/// Feeds the count of labels, and each label in lower case.
+fn hash_labels<H: Hasher>(labels: Labels<'_>, state: &mut H)
+    ensures { state.new ≡ fold H.write state.old (fed.slice (fed.slice fed.u8) (lower labels.entry)) }
+{
+    state.write_usize(labels.len());
+    for label in labels {
+        hash_caseless(label, state);
     }
 }
 

@@ -1,14 +1,14 @@
 // The canonical order of names (RFC 4034 section 6.1), and their equality.
-ghost use Rattle.std.specs.Prelude.{◌≡◌, map};
+ghost use Rattle.std.specs.Prelude.{◌≡◌, ◌↔◌, map, length, drop, IsTrue};
 ghost use Rattle.std.specs.Char.{to_ascii_lowercase};
 ghost use Rattle.std.specs.Cmp.{partial_order_from_total, partial_equiv_from_equiv};
 ghost use Rattle.std.specs.Cmp.Lexicographic.{slice_cmp};
 ghost use Rattle.std.specs.Ordering.{as_partial_cmp, eq_by_cmp, nat_cmp};
 ghost use Rattle.std.proofs.Common.{refl};
-ghost use Rattle.zone_proto.specs.Names.{name_cmp, caseless_cmp};
+ghost use Rattle.zone_proto.specs.Names.{name_cmp, caseless_cmp, lower, IsAtOrAbove};
 ghost use Rattle.zone_proto.specs.NameLaws.{name_cmp_total, name_eq_equiv, caseless_cmp_total, caseless_eq_equiv};
-ghost use Rattle.zone_proto.specs.Vectors.{octets_of};
 
+use crate::labels_iter::Labels;
 use crate::lower_name::LowerName;
 use crate::name::Name;
 use std::cmp::Ordering;
@@ -49,7 +49,7 @@ impl Ord for Name {
     ghost matches_eq = { λ x y. refl };
 
     fn cmp(&self, other: &Name) -> Ordering {
-        compare_caseless(self.labels(), other.labels())
+        self.form().compare_caseless(other.form())
     }
 }
 
@@ -89,46 +89,61 @@ impl Ord for LowerName {
     ghost matches_eq = { λ x y. refl };
 
     fn cmp(&self, other: &LowerName) -> Ordering {
-        compare_labels(self.labels(), other.labels())
+        self.form().compare(other.form())
     }
-}
-
-/// The canonical order of two lists of labels in lower case: the rightmost first.
-fn compare_labels(a: &[Vec<u8>], b: &[Vec<u8>]) -> Ordering
-    ensures { result ≡ name_cmp (octets_of a.now) (octets_of b.now) }
-{
-    let mut i = a.len();
-    let mut j = b.len();
-    while i > 0 && j > 0 {
-        i -= 1;
-        j -= 1;
-        let order = a[i].cmp(&b[j]);
-        if !order.is_eq() {
-            return order;
-        }
-    }
-    i.cmp(&j)
 }
 
 /// The canonical order of two lists of labels, the case of letters ignored: the rightmost first.
-pub(crate) fn compare_caseless(a: &[Vec<u8>], b: &[Vec<u8>]) -> Ordering
-    ensures { result ≡ caseless_cmp (octets_of a.now) (octets_of b.now) }
+pub(crate) fn compare_labels(a: Labels<'_>, b: Labels<'_>) -> Ordering
+    ensures { result ≡ caseless_cmp a.entry b.entry }
 {
-    let mut i = a.len();
-    let mut j = b.len();
-    while i > 0 && j > 0 {
-        i -= 1;
-        j -= 1;
-        let order = compare_label(&a[i], &b[j]);
-        if !order.is_eq() {
-            return order;
+    let i = a.len();
+    let j = b.len();
+    let shared = i.min(j);
+    compare_alike(skip(a, i - shared), skip(b, j - shared)).then(i.cmp(&j))
+}
+
+/// Whether the labels of a are the last of b, the case of letters ignored.
+pub(crate) fn labels_are_above(a: Labels<'_>, b: Labels<'_>) -> bool
+    ensures { IsTrue result ↔ IsAtOrAbove (lower a.entry) (lower b.entry) }
+{
+    let i = a.len();
+    let j = b.len();
+    if i > j {
+        return false;
+    }
+    compare_alike(a, skip(b, j - i)).is_eq()
+}
+
+/// The labels after the first ones.
+fn skip<'n>(labels: Labels<'n>, count: usize) -> Labels<'n>
+    ensures { result ≡ drop count labels.entry }
+{
+    let mut rest = labels;
+    for i in 0..count {
+        let _ = rest.next();
+    }
+    rest
+}
+
+/// The canonical order of as many labels, the case of letters ignored. A label further right decides before one further
+/// left.
+fn compare_alike(a: Labels<'_>, b: Labels<'_>) -> Ordering
+    requires { length a ≡ length b }
+    ensures { result ≡ caseless_cmp a.entry b.entry }
+{
+    let mut others = b;
+    let mut order = Ordering::Equal;
+    for label in a {
+        if let Some(other) = others.next() {
+            order = compare_label(label, other).then(order);
         }
     }
-    i.cmp(&j)
+    order
 }
 
 /// The order of two labels, the case of letters ignored.
-fn compare_label(a: &[u8], b: &[u8]) -> Ordering
+pub(crate) fn compare_label(a: &[u8], b: &[u8]) -> Ordering
     ensures { result ≡ slice_cmp nat_cmp (map to_ascii_lowercase a.now) (map to_ascii_lowercase b.now) }
 {
     let mut i = 0;

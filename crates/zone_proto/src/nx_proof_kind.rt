@@ -1,4 +1,4 @@
-ghost use Rattle.std.specs.Prelude.{◌≡◌, IfOk, IsOkUnless};
+ghost use Rattle.zone_proto.specs.Results.{IsCopy};
 
 use crate::error::ProtoError;
 use crate::seq::Seq;
@@ -24,8 +24,7 @@ pub enum NxProofKind {
 impl NxProofKind {
     /// A copy of this kind, all parts alike; `Memory` where none is found.
     pub fn clone(&self) -> Result<NxProofKind, ProtoError>
-        ensures ok { IfOk result (λ k. k ≡ self.now) }
-        ensures err { IsOkUnless result ProtoError.Memory }
+        ensures { IsCopy result self.now }
     {
         match self {
             NxProofKind::Nsec => Ok(NxProofKind::Nsec),

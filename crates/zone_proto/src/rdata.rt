@@ -1,4 +1,5 @@
-ghost use Rattle.std.specs.Prelude.{◌≡◌, IfOk, IsOkUnless};
+ghost use Rattle.std.specs.Prelude.{◌≡◌};
+ghost use Rattle.zone_proto.specs.Results.{IsCopy};
 
 mod denial;
 mod equality;
@@ -80,8 +81,7 @@ impl RData {
 
     /// A copy of these data, all parts alike, the case of letters in names too; `Memory` where none is found.
     pub fn clone(&self) -> Result<RData, ProtoError>
-        ensures ok { IfOk result (λ d. d ≡ self.now) }
-        ensures err { IsOkUnless result ProtoError.Memory }
+        ensures { IsCopy result self.now }
     {
         match self {
             RData::A(octets) => Ok(RData::A(*octets)),

@@ -3,6 +3,7 @@ ghost use Rattle.std.specs.Cmp.{partial_equiv_from_equiv};
 ghost use Rattle.zone_proto.specs.Data.{type_of};
 ghost use Rattle.zone_proto.specs.Records.{same_record};
 ghost use Rattle.zone_proto.specs.DataEquality.{same_record_equiv};
+ghost use Rattle.zone_proto.specs.Results.{IsCopy};
 
 use crate::dns_class::DNSClass;
 use crate::error::ProtoError;
@@ -60,8 +61,7 @@ impl Record {
 
     /// A copy of the record: all parts alike, the case of letters in names and the TTL too. `Memory` where none is found.
     pub fn clone(&self) -> Result<Record, ProtoError>
-        ensures ok { IfOk result (λ r. r ≡ self.now) }
-        ensures err { IsOkUnless result ProtoError.Memory }
+        ensures { IsCopy result self.now }
     {
         Ok(Record {
             name: self.name.clone()?,

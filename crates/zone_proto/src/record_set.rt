@@ -1,8 +1,9 @@
-ghost use Rattle.std.specs.Prelude.{◌≡◌, [], ◌++◌, ◌∷◌, true, ◌==◌, IfOk, OnOk, OnErr, length, is_some, unwrap_or, IsOkUnless};
+ghost use Rattle.std.specs.Prelude.{◌≡◌, [], ◌++◌, ◌∷◌, true, ◌==◌, length};
 ghost use Rattle.zone_proto.specs.Names.{same_name};
 ghost use Rattle.zone_proto.specs.Types.{IN, RRSIG};
 ghost use Rattle.zone_proto.specs.Data.{type_of};
 ghost use Rattle.zone_proto.specs.Sets.{IsSet, AreSignatures, inserted, lent, record_of};
+ghost use Rattle.zone_proto.specs.Results.{IsChange, IsCopy, IsInsertion};
 
 use crate::dns_class::DNSClass;
 use crate::error::ProtoError;
@@ -113,8 +114,7 @@ impl RecordSet {
 
     /// A copy of the set: all parts alike, the case of letters in names, TTLs and serials too. `Memory` where none is found.
     pub fn clone(&self) -> Result<RecordSet, ProtoError>
-        ensures ok { IfOk result (λ s. s ≡ self.now) }
-        ensures err { IsOkUnless result ProtoError.Memory }
+        ensures { IsCopy result self.now }
     {
         let alloc = *self.records.allocator();
         Ok(RecordSet {
@@ -211,10 +211,7 @@ impl RecordSet {
     pub fn insert(&mut self, new: Record, serial: u32) -> Result<bool, ProtoError>
         requires owner { same_name new.name self.old.owner ≡ true }
         requires kind { type_of new.rdata ≡ self.old.record_type }
-        ensures answer { IfOk result (λ taken. taken ≡ is_some (inserted self.old new serial)) }
-        ensures after { OnOk result (self.new ≡ unwrap_or (inserted self.old new serial) self.old) }
-        ensures err { IsOkUnless result ProtoError.Memory }
-        ensures same { OnErr result (self.new ≡ self.old) }
+        ensures { IsInsertion self.old (inserted self.old new serial) result self.new }
     {
         if is_refused(self.records.as_slice(), &new.rdata) {
             return Ok(false);
@@ -230,10 +227,7 @@ impl RecordSet {
     /// Inserts, by the rule of `insert` and with serial 0, a record of these data with the set's owner and TTL and class IN.
     pub fn add_rdata(&mut self, rdata: RData) -> Result<bool, ProtoError>
         requires { type_of rdata ≡ self.old.record_type }
-        ensures answer { IfOk result (λ taken. taken ≡ is_some (inserted self.old (record_of self.old rdata) 0)) }
-        ensures after { OnOk result (self.new ≡ unwrap_or (inserted self.old (record_of self.old rdata) 0) self.old) }
-        ensures err { IsOkUnless result ProtoError.Memory }
-        ensures same { OnErr result (self.new ≡ self.old) }
+        ensures { IsInsertion self.old (inserted self.old (record_of self.old rdata) 0) result self.new }
     {
         let new = Record::from_rdata(self.name.clone()?, self.ttl, rdata);
         self.insert(new, 0)
@@ -243,9 +237,7 @@ impl RecordSet {
     /// `Memory` leaves the set as it was.
     pub fn insert_rrsig(&mut self, rrsig: Record) -> Result<(), ProtoError>
         requires kind { type_of rrsig.rdata ≡ RRSIG }
-        ensures ok { OnOk result (self.new ≡ record self.old { signatures = self.old.signatures ++ rrsig ∷ [] }) }
-        ensures err { IsOkUnless result ProtoError.Memory }
-        ensures same { OnErr result (self.new ≡ self.old) }
+        ensures { IsChange self.old (record self.old { signatures = self.old.signatures ++ rrsig ∷ [] }) result self.new }
     {
         put_last(&mut self.rrsigs, rrsig)
     }

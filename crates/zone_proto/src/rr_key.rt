@@ -1,6 +1,7 @@
 // Keys of record sets, in their order.
-ghost use Rattle.std.specs.Prelude.{◌≡◌, IfOk, IsOkUnless};
+ghost use Rattle.std.specs.Prelude.{◌≡◌};
 ghost use Rattle.zone_proto.specs.Keys.{key, IsKeyInRange};
+ghost use Rattle.zone_proto.specs.Results.{IsCopy};
 
 use crate::error::ProtoError;
 use crate::lower_name::LowerName;
@@ -30,8 +31,7 @@ impl RrKey {
 
     /// A copy of the key. Refused only for want of memory.
     pub fn clone(&self) -> Result<RrKey, ProtoError>
-        ensures ok { IfOk result (λ k. k ≡ self.now) }
-        ensures err { IsOkUnless result ProtoError.Memory }
+        ensures copy { IsCopy result self.now }
         ensures range { IsKeyInRange self.now }
     {
         // Its clauses say that the octets are in range.

@@ -1,8 +1,8 @@
 // How names are printed.
 ghost use Rattle.std.specs.Prelude.{◌≡◌, Some};
-ghost use Rattle.zone_proto.specs.Vectors.{octets_of};
 ghost use Rattle.zone_proto.specs.Text.{is_plain, octet_text, label_text, name_text};
 
+use crate::labels_iter::Labels;
 use crate::lower_name::LowerName;
 use crate::name::Name;
 use std::fmt;
@@ -51,17 +51,16 @@ impl fmt::Display for LabelText<'_> {
 
 /// The labels of a name as they are printed.
 #[derive(Drop)]
-struct NameText<'n>(&'n [Vec<u8>]);
+struct NameText<'n>(Labels<'n>);
 
 impl fmt::Display for NameText<'_> {
-    ghost output = { λ n. Some (name_text (octets_of n.0.now)) };
+    ghost output = { λ n. Some (name_text n.0) };
 
     fn fmt<W: fmt::Write>(&self, f: &mut fmt::Formatter<W>) -> fmt::Result {
-        let labels = self.0;
-        if labels.is_empty() {
+        if self.0.len() == 0 {
             return write!(f, ".");
         }
-        for label in labels {
+        for label in self.0.clone() {
             write!(f, "{}", LabelText(label))?;
         }
         Ok(())

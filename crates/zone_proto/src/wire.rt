@@ -2,14 +2,14 @@
 ghost use Rattle.std.specs.Prelude.{◌≡◌, ◌≤◌, ◌∷◌, ◌++◌, length, map, IfOk, OnOk};
 ghost use Rattle.std.specs.Char.{to_ascii_lowercase};
 ghost use Rattle.zone_proto.specs.Names.{lower, wire_form, wire_length, IsName};
-ghost use Rattle.zone_proto.specs.Vectors.{octets_of};
 
+use crate::labels_iter::Labels;
 use std::alloc::{AllocError, Global};
 
 /// How many octets the wire form of a name has.
-pub(crate) fn wire_length(labels: &[Vec<u8>]) -> usize
-    requires { wire_length (octets_of labels.now) ≤ 255 }
-    ensures { result ≡ wire_length (octets_of labels.now) }
+pub(crate) fn wire_length(labels: Labels<'_>) -> usize
+    requires { wire_length labels ≤ 255 }
+    ensures { result ≡ wire_length labels.entry }
 {
     let mut octets = 0usize;
     for label in labels {
@@ -19,11 +19,11 @@ pub(crate) fn wire_length(labels: &[Vec<u8>]) -> usize
 }
 
 /// The wire form of a name, its letters in lower case.
-pub(crate) fn write_wire(alloc: Global, labels: &[Vec<u8>]) -> Result<Vec<u8>, AllocError>
-    requires { IsName (octets_of labels.now) }
-    ensures { IfOk result (λ bytes. bytes.items ≡ wire_form (lower (octets_of labels.now))) }
+pub(crate) fn write_wire(alloc: Global, labels: Labels<'_>) -> Result<Vec<u8>, AllocError>
+    requires { IsName labels }
+    ensures { IfOk result (λ bytes. bytes.items ≡ wire_form (lower labels.entry)) }
 {
-    let mut bytes = Vec::with_capacity(alloc, wire_length(labels))?;
+    let mut bytes = Vec::with_capacity(alloc, wire_length(labels.clone()))?;
     for label in labels {
         push_label(&mut bytes, label)?;
     }

@@ -1,5 +1,5 @@
 -- How many names a chain searches
-use Rattle.std.proofs.Common.{◌≡◌, ℕ, zero, suc, ◌+◌, ◌-◌, ◌≤◌, arith, Bool, true, false, cond, not, ◌&&◌, List, [], ◌∷◌, ◌++◌, map, length, refl, sym, ap, ◌∙◌, append_assoc}
+use Rattle.std.proofs.Common.{◌≡◌, ℕ, zero, suc, ◌+◌, ◌-◌, arith, Bool, true, false, cond, not, ◌&&◌, List, [], ◌∷◌, ◌++◌, map, length, refl, sym, ap, ◌∙◌, append_assoc}
 use Rattle.std.specs.Prelude.{Option, Some, None, nat_lt}
 use Rattle.std.specs.Option.{option_map_or}
 use Rattle.std.specs.List.{list_any}
@@ -7,11 +7,11 @@ use Rattle.std.proofs.lemmas.Bool.Decides.{leb_tells}
 use Rattle.std.proofs.lemmas.List.{append-nil, map-append, length-append}
 use Rattle.zone_proto.specs.Names.{Name, name_eq}
 use Rattle.zone_proto.specs.Sets.{RRset}
-use Rattle.zone_store.specs.Zones.{Sets}
-use Rattle.zone_store.specs.Wildcards.{found}
-use Rattle.zone_store.specs.Chains.{cname_target, chain_links, last_target, leads_on, chain_searches}
+use Rattle.zone_map.specs.Zones.{Sets}
+use Rattle.zone_map.specs.Wildcards.{found}
+use Rattle.zone_map.specs.Chains.{cname_target, last_target, leads_on, chain_searches}
 use Rattle.zone_store.specs.Searches.{one_more, searches_more}
-use Rattle.zone_store.proofs.Chains.{rest_of, rest_none, rest_seen, rest_unfound, rest_more, searches_of, searches_none, searches_seen, searches_unfound, searches_step, chain_begins}
+use Rattle.zone_map.proofs.Chains.{rest_of, rest_none, rest_seen, rest_unfound, rest_more, searches_of, searches_none, searches_seen, searches_unfound, searches_step, chain_begins}
 
 abbrev names : List (Name × RRset) → List Name
 names es = map (λ e. e.0) es

@@ -1,5 +1,5 @@
 -- A loop that puts the sets of a chain behind one another
-use Rattle.std.proofs.Common.{◌≡◌, ℕ, zero, suc, ◌+◌, ◌-◌, ◌<◌, ◌≤◌, arith, Bool, true, false, List, [], ◌∷◌, ◌++◌, map, length, drop, refl, sym, ap, ◌∙◌, subst, append_assoc, true≢false, Ordering, Less, Equal, Greater, ◌||◌}
+use Rattle.std.proofs.Common.{◌≡◌, ℕ, suc, ◌+◌, ◌-◌, ◌<◌, ◌≤◌, arith, Bool, true, false, List, [], ◌∷◌, ◌++◌, map, length, drop, refl, sym, ap, ◌∙◌, subst, append_assoc, true≢false, Ordering, Less, Equal, Greater, ◌||◌}
 use Rattle.std.specs.Prelude.{Option, Some, None}
 use Rattle.std.specs.Cmp.{both_ways}
 use Rattle.std.specs.List.{list_any}
@@ -12,12 +12,12 @@ use Rattle.zone_proto.proofs.NameTree.{name_eq-Decides}
 use Rattle.zone_proto.proofs.Tree.{name_order}
 use Rattle.zone_store.specs.declared.found.Found.{Found}
 use Rattle.zone_store.specs.FoundSets.{found_set, lent_set}
-use Rattle.zone_store.specs.Zones.{Sets}
-use Rattle.zone_store.specs.Search.{direct}
-use Rattle.zone_store.specs.Wildcards.{found}
-use Rattle.zone_store.specs.Chains.{cname_target, chain, chain_links, chain_searches}
+use Rattle.zone_map.specs.Zones.{Sets}
+use Rattle.zone_map.specs.Search.{direct}
+use Rattle.zone_map.specs.Wildcards.{found}
+use Rattle.zone_map.specs.Chains.{cname_target, chain, chain_links, chain_searches}
 use Rattle.zone_store.specs.Searches.{one_more, searches_more}
-use Rattle.zone_store.proofs.Chains.{rest_of, rest_none, rest_seen, rest_unfound, rest_more, searches_of, searches_none, searches_seen, searches_unfound, searches_step, chain_begins}
+use Rattle.zone_map.proofs.Chains.{rest_of, rest_none, rest_seen, rest_unfound, rest_more, searches_of, searches_none, searches_seen, searches_unfound, searches_step, chain_begins}
 use Rattle.zone_store.proofs.ChainSearches.{searches_are, counted_first}
 
 -- ---- a name among those that were seen

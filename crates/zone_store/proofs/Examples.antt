@@ -8,9 +8,9 @@ use Rattle.zone_proto.specs.Keys.{key}
 use Rattle.zone_proto.specs.Names.{Name}
 use Rattle.zone_proto.specs.Sets.{RRset}
 use Rattle.zone_proto.specs.Types.{A, NS, CNAME, SOA, TXT, NSEC, DS, AXFR, IN}
-use Rattle.zone_store.specs.Zones.{Sets, owns, types_at, owners}
-use Rattle.zone_store.specs.Upserts.{clashes, upserted}
-use Rattle.zone_store.specs.Search.{nearest_delegation, referral, exact, direct}
+use Rattle.zone_map.specs.Zones.{Sets, owns, types_at, owners}
+use Rattle.zone_map.specs.Upserts.{clashes, upserted}
+use Rattle.zone_map.specs.Search.{nearest_delegation, referral, exact, direct}
 use Rattle.zone_store.specs.Handlers.{serial, minimum}
 use Rattle.zone_store.specs.Lookup.{denial, reply, name_exists, nx_domain, refused, not_a_lookup, denied, answered}
 

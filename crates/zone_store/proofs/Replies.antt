@@ -13,12 +13,12 @@ use Rattle.zone_handler.specs.declared.lookup_error.LookupError.{LookupError}
 use Rattle.zone_handler.specs.declared.lookup_error.LookupError.TheVariants as error
 use Rattle.zone_handler.specs.declared.lookup_options.LookupOptions.{LookupOptions}
 use Rattle.zone_handler.specs.declared.lookup_records.LookupRecords.{LookupRecords}
-use Rattle.zone_store.specs.Zones.{Sets, owns}
-use Rattle.zone_store.specs.Wildcards.{found}
-use Rattle.zone_store.specs.Chains.{chain}
-use Rattle.zone_store.specs.AnyTypes.{searched_type}
+use Rattle.zone_map.specs.Zones.{Sets, owns}
+use Rattle.zone_map.specs.Wildcards.{found}
+use Rattle.zone_map.specs.Chains.{chain}
+use Rattle.zone_map.specs.AnyTypes.{searched_type}
 use Rattle.zone_store.specs.Lookup.{Denial, name_exists, nx_domain, refused, denial, error_of, answered, denied, answer_sets, reply_for, Lists, SaysOrMemory, IsDenied}
-use Rattle.zone_store.proofs.AnyTypes.{found_owned, searched_owned}
+use Rattle.zone_map.proofs.AnyTypes.{found_owned, searched_owned}
 
 -- want of memory is no denial
 not_memory : (step : LookupControlFlow AuthLookup LookupError) (d : Denial) → step ≡ Continue (Err error.Memory) → step ≡ Continue (Err (error_of d)) → ⊥

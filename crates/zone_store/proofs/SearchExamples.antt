@@ -7,11 +7,10 @@ use Rattle.zone_proto.specs.Keys.{key}
 use Rattle.zone_proto.specs.Names.{Name, star_label}
 use Rattle.zone_proto.specs.Sets.{RRset}
 use Rattle.zone_proto.specs.Types.{A, NS, CNAME, MX, TXT, SRV, ANY, IN}
-use Rattle.zone_store.specs.Zones.{Sets}
-use Rattle.zone_store.specs.Search.{direct}
-use Rattle.zone_store.specs.Wildcards.{star_under, star_source, found}
-use Rattle.zone_store.specs.Chains.{chain, chain_searches}
-use Rattle.zone_store.specs.AnyTypes.{any_type}
+use Rattle.zone_map.specs.Zones.{Sets}
+use Rattle.zone_map.specs.Wildcards.{star_under, star_source, found}
+use Rattle.zone_map.specs.Chains.{chain, chain_searches}
+use Rattle.zone_map.specs.AnyTypes.{any_type}
 use Rattle.zone_store.specs.Lookup.{reply, answered, denied, nx_domain}
 use Rattle.zone_store.proofs.Examples.{apex, at_apex, record_with, set_with, server}
 

@@ -10,8 +10,8 @@ use Rattle.zone_proto.specs.Types.{IN}
 use Rattle.zone_store.specs.declared.zone_error.ZoneError.{ZoneError}
 use Rattle.zone_store.specs.declared.zone_error.ZoneError.TheVariants.{MissingSoa, KeyMismatch, Refused}
 use Rattle.zone_store.specs.Handlers.{soa}
-use Rattle.zone_store.specs.Upserts.{all_upserted}
-use Rattle.zone_store.specs.Zones.{Sets}
+use Rattle.zone_map.specs.Upserts.{all_upserted}
+use Rattle.zone_map.specs.Zones.{Sets}
 
 -- a key is its set's own name, in lower case, and type
 abbrev pub is_own_key : RrKey × RRset → Bool

@@ -11,7 +11,7 @@ use Rattle.zone_proto.specs.Names.{Name, lower}
 use Rattle.zone_proto.specs.Types.{IN, SOA}
 use Rattle.zone_handler.specs.declared.axfr_policy.AxfrPolicy.{AxfrPolicy}
 use Rattle.zone_handler.specs.declared.zone_type.ZoneType.{ZoneType}
-use Rattle.zone_store.specs.Zones.{Sets, set_at, IsZone}
+use Rattle.zone_map.specs.Zones.{Sets, set_at, IsZone}
 
 -- the record sets of a zone, and the signers that sign them, in order
 pub record Inner (S : Type 0) : Type 0 where

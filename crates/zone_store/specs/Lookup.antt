@@ -16,10 +16,10 @@ use Rattle.zone_handler.specs.declared.lookup_records.LookupRecords.{LookupRecor
 use Rattle.zone_handler.specs.Answers.{records_in}
 use Rattle.zone_handler.specs.Sets.{sets_records}
 use Rattle.zone_handler.specs.Transfers.{IsNoLookup}
-use Rattle.zone_store.specs.Zones.{Sets, owns_at_or_below}
-use Rattle.zone_store.specs.Wildcards.{found}
-use Rattle.zone_store.specs.Chains.{chain}
-use Rattle.zone_store.specs.AnyTypes.{searched_type}
+use Rattle.zone_map.specs.Zones.{Sets, owns_at_or_below}
+use Rattle.zone_map.specs.Wildcards.{found}
+use Rattle.zone_map.specs.Chains.{chain}
+use Rattle.zone_map.specs.AnyTypes.{searched_type}
 
 -- the negative answers: the name is there without the type (RFC 2308 section 2.2), the name isn't there (RFC 2308 section 2.1), the name isn't the zone's (RFC 1035 section 4.1.1)
 pub data Denial : Type 0 where

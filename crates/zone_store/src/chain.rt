@@ -1,8 +1,8 @@
 // Chains of aliases: a CNAME begins the search anew at its target (RFC 1034 section 3.6.2).
 ghost use Rattle.std.specs.Prelude.{◌≡◌, ◌≤◌, ◌+◌, ◌∷◌, ◌++◌, [], IfOk, OnOk, IsOkUnless, map, drop};
-ghost use Rattle.zone_store.specs.Chains.{cname_target, chain, chain_links, chain_searches};
+ghost use Rattle.zone_map.specs.Chains.{cname_target, chain, chain_links, chain_searches};
 ghost use Rattle.zone_store.specs.FoundSets.{found_set, lent_set};
-ghost use Rattle.zone_store.specs.Search.{direct};
+ghost use Rattle.zone_map.specs.Search.{direct};
 ghost use Rattle.zone_store.specs.Searches.{searches_more};
 
 use crate::found::Found;

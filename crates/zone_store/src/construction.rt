@@ -8,12 +8,12 @@ ghost use Rattle.zone_proto.specs.Types.{IN};
 ghost use Rattle.zone_proto.specs.Types as types;
 ghost use Rattle.zone_store.specs.Construction.{is_own_key, inserted_sets, made};
 ghost use Rattle.zone_store.specs.Handlers.{soa};
-ghost use Rattle.zone_store.specs.Upserts.{all_upserted};
+ghost use Rattle.zone_map.specs.Upserts.{all_upserted};
 
-use crate::record_map::RecordMap;
 use crate::start_of_authority::first_soa;
 use crate::zone_error::ZoneError;
 use std::collections::BTreeMap;
+use zone_map::RecordMap;
 use zone_proto::{DNSClass, LowerName, Name, ProtoError, RecordSet, RrKey, SOA};
 
 /// The map of a zone of `origin`, whose SOA stands under the key `apex`, made of sets by their keys; or the first

@@ -4,12 +4,13 @@ ghost use Rattle.zone_proto.specs.Types.{IN, SOA, AXFR};
 ghost use Rattle.zone_handler.specs.Transfers.{IsNoLookup};
 ghost use Rattle.zone_store.specs.Handlers.{soa, serial, minimum};
 ghost use Rattle.zone_store.specs.Lookup.{absent, answer_sets, denial, error_of, reply, reply_for, Lists, SaysOrMemory, IsDenied};
-ghost use Rattle.zone_store.specs.AnyTypes.{searched_type};
+ghost use Rattle.zone_map.specs.AnyTypes.{searched_type};
 ghost use Rattle.zone_store.specs.Construction.{made};
 ghost use Rattle.zone_store.specs.FoundSets.{found_set};
 ghost use Rattle.zone_store.specs.Refusals.{Refuses};
-ghost use Rattle.zone_store.specs.Upserts.{IsUpsert, CnamesStandAlone};
-ghost use Rattle.zone_store.specs.Zones.{set_at, owns, put, without, IsZone};
+ghost use Rattle.zone_map.specs.Upserts.{CnamesStandAlone};
+ghost use Rattle.zone_store.specs.Insertions.{IsUpsert};
+ghost use Rattle.zone_map.specs.Zones.{set_at, owns, put, without, IsZone};
 
 use crate::chain::into_sets;
 use crate::construction;

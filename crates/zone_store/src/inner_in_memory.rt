@@ -1,21 +1,20 @@
 ghost use Rattle.std.specs.Prelude.{◌≡◌, [], IfOk, IfErr, OnOk, OnErr, IsOkUnless, is_some, unwrap_or, option_map, option_and_then, option_copied};
-ghost use Rattle.zone_store.specs.AnyTypes.{any_type};
+ghost use Rattle.zone_map.specs.AnyTypes.{any_type};
 ghost use Rattle.zone_store.specs.FoundSets.{found_set, lent_set};
-ghost use Rattle.zone_store.specs.Search.{direct};
-ghost use Rattle.zone_store.specs.Wildcards.{found};
+ghost use Rattle.zone_map.specs.Search.{direct};
+ghost use Rattle.zone_map.specs.Wildcards.{found};
 ghost use Rattle.zone_store.specs.Searches.{one_more};
-ghost use Rattle.zone_store.specs.Upserts.{upserted, CnamesStandAlone};
-ghost use Rattle.zone_store.specs.Zones.{set_at, owns_at_or_below, put, without, IsStoredAt, IsZone};
+ghost use Rattle.zone_map.specs.Upserts.{upserted, CnamesStandAlone};
+ghost use Rattle.zone_map.specs.Zones.{set_at, owns_at_or_below, put, without, IsStoredAt, IsZone};
 
 use crate::found::Found;
-use crate::record_map::RecordMap;
 use crate::searches::Searches;
 use crate::zone_error::ZoneError;
-use crate::{search, wildcard};
 use std::alloc::Global;
 use std::collections::BTreeMap;
 use std::marker::Model;
 use zone_handler::{LookupError, LookupOptions};
+use zone_map::{RecordMap, search, wildcard};
 use zone_proto::{DNSClass, LowerName, Record, RecordSet, RecordType, RrKey, Signer};
 
 /// The record sets of a zone, by owner name and type, and the signers that sign them.
@@ -27,7 +26,7 @@ pub struct InnerInMemory<S: Signer> {
 
 impl<S: Signer> Model for InnerInMemory<S> {
     ghost use Rattle.zone_store.specs.Handlers.{Inner};
-    ghost use Rattle.zone_store.specs.Zones.{IsZone};
+    ghost use Rattle.zone_map.specs.Zones.{IsZone};
 
     ghost Value = { Inner S };
 

@@ -9,10 +9,10 @@ ghost use Rattle.zone_proto.specs.Data.{type_of};
 ghost use Rattle.zone_proto.specs.Names.{Name, name_cmp, lower, IsAtOrAbove};
 ghost use Rattle.zone_proto.specs.Order.{is_upto};
 ghost use Rattle.zone_proto.specs.Sets.{RRset};
-ghost use Rattle.zone_store.specs.Search.{is_delegated_for, nearest_delegation};
-ghost use Rattle.zone_store.specs.SearchLaws.{StarIsNearest, ChainIsLongestFront, ChainHasAtMost8};
-ghost use Rattle.zone_store.specs.Upserts.{upserted};
-ghost use Rattle.zone_store.specs.Zones.{Sets, set_at, owns, names_of, owners, types_at, put, without, IsStoredAt, IsZone};
+ghost use Rattle.zone_map.specs.Search.{is_delegated_for, nearest_delegation};
+ghost use Rattle.zone_map.specs.SearchLaws.{StarIsNearest, ChainIsLongestFront, ChainHasAtMost8};
+ghost use Rattle.zone_map.specs.Upserts.{upserted};
+ghost use Rattle.zone_map.specs.Zones.{Sets, set_at, owns, names_of, owners, types_at, put, without, IsStoredAt, IsZone};
 
 /// A zone may have no sets, and its sets stay those of a zone when a set is put under its own owner and type, when one is
 /// taken out, and when a record is inserted.

@@ -16,11 +16,8 @@ mod inner_in_memory;
 pub mod laws;
 pub mod program;
 mod put_refused;
-mod record_map;
-mod search;
 mod searches;
 mod start_of_authority;
-mod wildcard;
 mod zone_error;
 
 pub use found::Found;

@@ -22,8 +22,9 @@ fn suffixes_end_with_the_root(rt: HostRuntime) -> Result<(), Fail> {
     let lower = LowerName::new(&name)?;
     let mut firsts = Vec::new(alloc);
     for suffix in lower.suffixes() {
-        if let [first, ..] = suffix {
-            firsts.extend_from_slice(first.as_slice())?;
+        let mut labels = suffix;
+        if let Some(first) = labels.next() {
+            firsts.extend_from_slice(first)?;
         }
     }
     assert!(rt; firsts.as_slice() == b"abc".as_slice());

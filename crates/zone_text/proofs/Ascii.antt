@@ -1,5 +1,5 @@
 -- What is read as a name or as a type has ASCII octets alone.
-use Rattle.std.proofs.Common.{◌≡◌, ◌<◌, ◌≤◌, ◌⊎◌, inl, inr, ℕ, ◌+◌, ◌/◌, ◌%◌, List, [], ◌∷◌, ◌++◌, Bool, true, false, ◌&&◌, nat_lt, nat_eq, if◌then◌else◌, refl, sym, ap, ◌∙◌, subst, arith, Option, Some, None, codes, length, drop, take, take-append-drop}
+use Rattle.std.proofs.Common.{◌≡◌, ◌<◌, inl, inr, ℕ, ◌+◌, ◌/◌, ◌%◌, List, [], ◌∷◌, Bool, true, false, ◌&&◌, nat_lt, nat_eq, if◌then◌else◌, refl, sym, subst, arith, Option, Some, None, codes, length, drop, take, take-append-drop}
 use Rattle.std.specs.Prelude.{IsTrue}
 use Rattle.std.specs.Str.{IsAscii, bytes_eq}
 use Rattle.std.specs.Char.{is_ascii_digit}
@@ -10,7 +10,7 @@ use Rattle.std.proofs.lemmas.Str.{IsAscii-append}
 use Rattle.std.proofs.lemmas.Str.Ascii.{IsAscii-nil, IsAscii-cons}
 use Rattle.std.proofs.lemmas.Slice.Eq.{bytes_eq-Decides}
 use Rattle.zone_proto.specs.Names.{Name, Label}
-use Rattle.zone_proto.specs.TextForm.{dot, is_graphic, three_digits, IsOctetText, itself, escaped, by_value, IsLabelText, IsLabelsText, IsNameText}
+use Rattle.zone_proto.specs.TextForm.{is_graphic, three_digits, IsOctetText, itself, escaped, by_value, IsLabelText, IsLabelsText, IsNameText}
 use Rattle.zone_proto.specs.TypeText.{Word, type_words, number_of, numbered_type, short_number, type_of_text, or_else}
 
 abbrev IsAsciiText : List ℕ → Type 0

@@ -68,7 +68,7 @@ no_value false r e = refl
 above : (most n : ℕ) → most < n → at_most most n ≡ None
 above most n h = let no : nat_le n most ≡ false = grind (arith, leb_tells) in rw no refl
 
-within_most : (most n : ℕ) → n ≤ most → at_most most n ≡ Some n
+pub within_most : (most n : ℕ) → n ≤ most → at_most most n ≡ Some n
 within_most most n h = let yes : nat_le n most ≡ true = grind (arith, leb_tells) in rw yes refl
 
 none_is_above : (most n : ℕ) → at_most most n ≡ None → most < n

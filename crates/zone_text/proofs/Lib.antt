@@ -4,3 +4,9 @@ pub mod HexFacts
 pub mod PartFacts
 pub mod Ascii
 pub mod ReadingFacts
+pub mod RoundTrips
+pub mod AddressTexts
+pub mod Base32Facts
+pub mod PrintedWords
+pub mod PrintedRecords
+mod TextExamples

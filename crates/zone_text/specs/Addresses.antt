@@ -1,7 +1,9 @@
 -- Addresses as text
-use Rattle.std.specs.Prelude.{ℕ, ◌/◌, ◌%◌, List, [], ◌∷◌, ◌==◌, nat_le, length, Option, None, option_map, if◌then◌else◌}
+use Rattle.std.specs.Prelude.{ℕ, ◌/◌, ◌%◌, ◌++◌, List, [], ◌∷◌, ◌==◌, nat_le, length, map, Option, None, option_map, if◌then◌else◌}
+use Rattle.std.specs.Fmt.{decimal}
 use Rattle.zone_text.specs.Numbers.{number_within}
-use Rattle.zone_text.specs.Parts.{parts, octets_of_parts}
+use Rattle.zone_text.specs.Octets.{hex_of_octet}
+use Rattle.zone_text.specs.Parts.{parts, joined, octets_of_parts}
 
 -- a number from 0 to 255 is one octet
 abbrev pub octet_of_text : List ℕ → Option (List ℕ)
@@ -25,3 +27,17 @@ octets_of_group s = option_map group_octets (group_of_text s)
 -- an IPv6 address: eight groups with colons between them, none left out (RFC 4291 section 2.2, its first form)
 abbrev pub ipv6_of_text : List ℕ → Option (List ℕ)
 ipv6_of_text s = if length (parts 58 s) == 8 then octets_of_parts octets_of_group (parts 58 s) else None
+
+-- an IPv4 address is printed as four numbers with dots between them
+abbrev pub ipv4_text : List ℕ → List ℕ
+ipv4_text octets = joined 46 (map decimal octets)
+
+-- the groups of octets, four hex digits for two octets each
+abbrev pub groups : List ℕ → List (List ℕ)
+groups [] = []
+groups (b ∷ []) = []
+groups (b ∷ c ∷ bs) = (hex_of_octet b ++ hex_of_octet c) ∷ groups bs
+
+-- and an IPv6 address as its eight groups with colons between them, letters in lower case
+abbrev pub ipv6_text : List ℕ → List ℕ
+ipv6_text octets = joined 58 (groups octets)

@@ -3,7 +3,6 @@ ghost use Rattle.zone_text.specs.Addresses.{ipv4_of_text, ipv6_of_text, group_of
 
 use crate::numbers::{read_number, read_u8};
 use crate::parts::part_before;
-use std::fmt;
 
 /// Reads an IPv4 address: four numbers from 0 to 255 with dots between them (RFC 1035 section 3.4.1). None where the word
 /// isn't that. Takes no memory.
@@ -53,20 +52,4 @@ fn read_group(part: &[u8]) -> Option<u16>
         return None;
     }
     Some(read_number(part, 16, 65535)? as u16)
-}
-
-/// An IPv6 address as eight groups of four hex digits.
-#[derive(Drop)]
-pub(crate) struct GroupsText<'r>(pub &'r [u8; 16]);
-
-impl fmt::Display for GroupsText<'_> {
-    fn fmt<W: fmt::Write>(&self, f: &mut fmt::Formatter<W>) -> fmt::Result {
-        for (i, octet) in self.0.iter().enumerate() {
-            if i > 0 && i % 2 == 0 {
-                write!(f, ":")?;
-            }
-            write!(f, "{octet:02x}")?;
-        }
-        Ok(())
-    }
 }

@@ -1,34 +1,47 @@
-ghost use Rattle.std.specs.Prelude.{◌<◌};
+ghost use Rattle.std.specs.Prelude.{◌≡◌, ◌<◌, ◌+◌, ◌*◌, ◌/◌, length, slice_index, Some};
+ghost use Rattle.zone_text.specs.Octets.{base32_count, base32_text, five_bits};
 
+use crate::characters::digit_character;
 use std::fmt;
 
 /// Octets in base32hex: five bits a character from the highest on, the last one filled with zero bits, in lower
-/// case and without padding (RFC 4648, section 7).
+/// case and without padding (RFC 4648 section 7).
 #[derive(Drop)]
 pub struct Base32Text<'r>(pub &'r [u8]);
 
 impl fmt::Display for Base32Text<'_> {
+    ghost output = { λ o. Some (base32_text o.0.now) };
+
     fn fmt<W: fmt::Write>(&self, f: &mut fmt::Formatter<W>) -> fmt::Result {
-        let octets = self.0;
-        for i in 0..octets.len().saturating_mul(8).div_ceil(5) {
-            let bit = i.saturating_mul(5);
-            let high = octets.get(bit / 8).copied().unwrap_or(0);
-            let low = octets.get(bit / 8 + 1).copied().unwrap_or(0);
-            let pair = u32::from(high) * 256 + u32::from(low);
-            let digit = (pair >> (11 - bit % 8)) % 32;
-            write!(f, "{}", base32_character(digit as u8))?;
+        for i in 0..character_count(self.0) {
+            write!(f, "{}", digit_character(five_bits(self.0, i)))?;
         }
         Ok(())
     }
 }
 
-/// The character of five bits, from `0` to `9` and then from `a` to `v`.
-fn base32_character(digit: u8) -> char
-    requires { digit < 32 }
+/// How many characters octets take, the last one for what is left over.
+fn character_count(octets: &[u8]) -> usize
+    ensures { result ≡ base32_count (length octets.now) }
 {
-    if digit < 10 {
-        (b'0' + digit) as char
-    } else {
-        (b'a' + (digit - 10)) as char
-    }
+    octets.len() / 5 * 8 + (octets.len() % 5 * 8).div_ceil(5)
+}
+
+/// The number of the five bits that the character at this index stands for; zero bits follow the last octet.
+fn five_bits(octets: &[u8], i: usize) -> u8
+    ensures value { result ≡ five_bits octets.now (i * 5) }
+    ensures small { result < 32 }
+{
+    // Eight characters stand for five octets.
+    let bit = i % 8 * 5;
+    let at = i / 8 * 5 + bit / 8;
+    let pair = u32::from(octet_at(octets, at)) * 256 + u32::from(octet_at(octets, at + 1));
+    ((pair >> (11 - bit % 8)) % 32) as u8
+}
+
+/// The octet at an index, and 0 past the end.
+fn octet_at(octets: &[u8], at: usize) -> u8
+    ensures { result ≡ slice_index octets.now at }
+{
+    octets.get(at).copied().unwrap_or(0)
 }

@@ -5,8 +5,10 @@
 //! that aren't of the form that is read are refused with `BadText`, and a growth that the allocator refused with `Memory`.
 #![tactic(auto)]
 
+mod address_text;
 mod addresses;
 mod base32_text;
+mod characters;
 mod data;
 mod data_text;
 mod error;

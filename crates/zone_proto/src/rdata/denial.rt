@@ -1,4 +1,4 @@
-ghost use Rattle.std.specs.Prelude.{◌≡◌, IfOk, IsOkUnless};
+ghost use Rattle.zone_proto.specs.Results.{IsCopy};
 
 use crate::error::ProtoError;
 use crate::name::Name;
@@ -19,8 +19,7 @@ pub struct NSEC {
 impl NSEC {
     /// A copy of these data, all parts alike, the case of letters in names too; `Memory` where none is found.
     pub fn clone(&self) -> Result<NSEC, ProtoError>
-        ensures ok { IfOk result (λ d. d ≡ self.now) }
-        ensures err { IsOkUnless result ProtoError.Memory }
+        ensures { IsCopy result self.now }
     {
         Ok(NSEC {
             next_domain_name: self.next_domain_name.clone()?,
@@ -51,8 +50,7 @@ pub struct NSEC3 {
 impl NSEC3 {
     /// A copy of these data, all parts alike; `Memory` where none is found.
     pub fn clone(&self) -> Result<NSEC3, ProtoError>
-        ensures ok { IfOk result (λ d. d ≡ self.now) }
-        ensures err { IsOkUnless result ProtoError.Memory }
+        ensures { IsCopy result self.now }
     {
         Ok(NSEC3 {
             algorithm: self.algorithm,
@@ -83,8 +81,7 @@ pub struct NSEC3PARAM {
 impl NSEC3PARAM {
     /// A copy of these data, all parts alike; `Memory` where none is found.
     pub fn clone(&self) -> Result<NSEC3PARAM, ProtoError>
-        ensures ok { IfOk result (λ d. d ≡ self.now) }
-        ensures err { IsOkUnless result ProtoError.Memory }
+        ensures { IsCopy result self.now }
     {
         Ok(NSEC3PARAM {
             algorithm: self.algorithm,

@@ -1,5 +1,6 @@
-ghost use Rattle.std.specs.Prelude.{◌≡◌, false, true, IsNone, IfSome, ◌↔◌, IfOk, IsOkUnless};
+ghost use Rattle.std.specs.Prelude.{◌≡◌, false, true, IsNone, IfSome, ◌↔◌};
 ghost use Rattle.zone_proto.specs.Types.{has_own_case};
+ghost use Rattle.zone_proto.specs.Results.{IsCopy};
 
 use crate::error::ProtoError;
 use crate::record_type::RecordType;
@@ -47,8 +48,7 @@ impl OtherData {
 
     /// A copy of these data, type and octets alike; `Memory` where none is found.
     pub fn clone(&self) -> Result<OtherData, ProtoError>
-        ensures ok { IfOk result (λ d. d ≡ self.now) }
-        ensures err { IsOkUnless result ProtoError.Memory }
+        ensures { IsCopy result self.now }
     {
         Ok(OtherData {
             record_type: self.record_type,

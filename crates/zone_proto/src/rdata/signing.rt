@@ -1,4 +1,4 @@
-ghost use Rattle.std.specs.Prelude.{◌≡◌, IfOk, IsOkUnless};
+ghost use Rattle.zone_proto.specs.Results.{IsCopy};
 
 use crate::error::ProtoError;
 use crate::name::Name;
@@ -23,8 +23,7 @@ pub struct DNSKEY {
 impl DNSKEY {
     /// A copy of these data, all parts alike; `Memory` where none is found.
     pub fn clone(&self) -> Result<DNSKEY, ProtoError>
-        ensures ok { IfOk result (λ d. d ≡ self.now) }
-        ensures err { IsOkUnless result ProtoError.Memory }
+        ensures { IsCopy result self.now }
     {
         Ok(DNSKEY {
             flags: self.flags,
@@ -63,8 +62,7 @@ pub struct RRSIG {
 impl RRSIG {
     /// A copy of these data, all parts alike, the case of letters in names too; `Memory` where none is found.
     pub fn clone(&self) -> Result<RRSIG, ProtoError>
-        ensures ok { IfOk result (λ d. d ≡ self.now) }
-        ensures err { IsOkUnless result ProtoError.Memory }
+        ensures { IsCopy result self.now }
     {
         Ok(RRSIG {
             type_covered: self.type_covered,

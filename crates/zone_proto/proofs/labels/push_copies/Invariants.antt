@@ -1,7 +1,7 @@
-use Rattle.std.proofs.Common.{◌≡◌, ◌++◌, drop}
+use Rattle.std.proofs.Common.{◌≡◌, ◌++◌}
 use Rattle.zone_proto.specs.Vectors.{octets_of}
 use Rattle.zone_proto.proofs.labels.push_copies.Given as goal
 
 abbrev pub invariant-loop-label : goal.invariant-loop-label
 invariant-loop-label l =
-    octets_of l.copies.items ++ octets_of (drop l.label-index l.labels) ≡ octets_of l.fn.copies.items ++ octets_of l.labels
+    octets_of l.copies.items ++ l.label-iterator ≡ octets_of l.fn.copies.items ++ l.fn.labels

@@ -1,12 +1,16 @@
-use Rattle.std.proofs.Common.{◌<◌, arith, sym, ◌∙◌}
-use Rattle.zone_proto.proofs.FromBack.{from_back_end}
+use Rattle.std.proofs.Common.{◌≡◌, ◌-◌, length, drop, min, ◌∙◌, arith}
+use Rattle.std.specs.Ordering.{ordering_then, nat_cmp}
+use Rattle.zone_proto.specs.Names.{caseless_cmp}
+use Rattle.zone_proto.proofs.FromLeft.{caseless_split}
 use Rattle.zone_proto.proofs.name_order.compare_labels.Goals as goal
-use Rattle.zone_proto.proofs.name_order.compare_labels.Goals.{then-loop-i-test+else-j-gt0, else-loop-i-test}
 
 pub returns : goal.returns
 returns c =
-    let ended : 0 < c.loop-i.i → 0 < c.loop-i.j → ⊥ =
-    elim c.loop-i-test.branch [ then-loop-i-test+else-j-gt0 w ↦ λ p q. omega arith | else-loop-i-test w ↦ λ p q. omega arith ] in
-    c.cmp.ensures
-    ∙ sym (from_back_end (λ v. v.items) c.args.a.now c.args.b.now c.loop-i.i c.loop-i.j c.loop-i.invariant.a_in c.loop-i.invariant.b_in ended)
-    ∙ c.loop-i.invariant.same
+    let a = c.args.a in
+    let b = c.args.b in
+    let k = c.min-shared.result in
+    let least : k ≡ min (length a) (length b) = omega (arith, c.min-shared.ensures, c.len-i.ensures, c.len-j.ensures) in
+    c.then.ensures
+    ∙ (λ t. ordering_then ((c.compare_alike.ensures ∙ λ u. caseless_cmp (c.skip.ensures u) (c.skip-2.ensures u)) t) (c.cmp.ensures t))
+    ∙ (λ t. ordering_then (caseless_cmp (drop (c.len-i.ensures t - k) a) (drop (c.len-j.ensures t - k) b)) (nat_cmp (c.len-i.ensures t) (c.len-j.ensures t)))
+    ∙ caseless_split a b k least

@@ -1,8 +1,10 @@
-use Rattle.std.proofs.Common.{◌≡◌, ◌++◌, drop}
-use Rattle.zone_proto.specs.Names.{lower, wire_form}
-use Rattle.zone_proto.specs.Vectors.{octets_of}
+use Rattle.std.proofs.Common.{◌≡◌, ◌++◌}
+use Rattle.std.specs.List.{AllByRecursion}
+use Rattle.zone_proto.specs.Names.{lower, wire_form, IsLabel}
 use Rattle.zone_proto.proofs.wire.write_wire.Given as goal
 
 abbrev pub invariant-loop-label : goal.invariant-loop-label
-invariant-loop-label l =
-    l.bytes.items ++ wire_form (lower (octets_of (drop l.label-index l.labels))) ≡ wire_form (lower (octets_of l.labels))
+invariant-loop-label l = record {
+  written : l.bytes.items ++ wire_form (lower l.label-iterator) ≡ wire_form (lower l.fn.labels);
+  valid : AllByRecursion IsLabel l.label-iterator;
+}

@@ -1,6 +1,6 @@
 use Rattle.std.proofs.Common.{◌≡◌}
 use Rattle.zone_proto.specs.Types.{IN}
-use Rattle.zone_store.specs.Upserts.{all_upserted}
+use Rattle.zone_map.specs.Upserts.{all_upserted}
 use Rattle.zone_store.proofs.construction.insert_records.Given as goal
 
 -- the records that are left make of the map what all make of the map before

@@ -1,4 +1,4 @@
-use Rattle.zone_store.proofs.Chains.{chain_is_longest_front, chain_has_at_most_8}
+use Rattle.zone_map.proofs.Chains.{chain_is_longest_front, chain_has_at_most_8}
 use Rattle.zone_store.proofs.laws.chain_is_longest_front.Goals as goal
 
 pub returns-clause-front : goal.returns-clause-front

@@ -1,4 +1,4 @@
-use Rattle.zone_store.proofs.Lists.{types_ascend, owners_ascend, names_ascend}
+use Rattle.zone_map.proofs.Lists.{types_ascend, owners_ascend, names_ascend}
 use Rattle.zone_store.proofs.laws.lists_ascend.Goals as goal
 
 pub returns-clause-types : goal.returns-clause-types

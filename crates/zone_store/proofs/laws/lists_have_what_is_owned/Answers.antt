@@ -1,4 +1,4 @@
-use Rattle.zone_store.proofs.Lists.{contains_type, contained_type, contains_owner, contained_owner, contains_name, contained_name}
+use Rattle.zone_map.proofs.Lists.{contains_type, contained_type, contains_owner, contained_owner, contains_name, contained_name}
 use Rattle.zone_store.proofs.laws.lists_have_what_is_owned.Goals as goal
 
 pub returns-clause-types : goal.returns-clause-types

@@ -1,5 +1,5 @@
-use Rattle.zone_store.specs.Search.{is_delegated_for}
-use Rattle.zone_store.proofs.Delegations.{found_above, found_longest, none_found}
+use Rattle.zone_map.specs.Search.{is_delegated_for}
+use Rattle.zone_map.proofs.Delegations.{found_above, found_longest, none_found}
 use Rattle.zone_store.proofs.laws.nearest_delegation_is_the_longest.Goals as goal
 
 pub returns-clause-above : goal.returns-clause-above

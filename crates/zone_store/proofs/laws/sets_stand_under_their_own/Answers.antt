@@ -1,4 +1,4 @@
-use Rattle.zone_store.proofs.Lists.{owner_lowered, records_typed}
+use Rattle.zone_map.proofs.Lists.{owner_lowered, records_typed}
 use Rattle.zone_store.proofs.laws.sets_stand_under_their_own.Goals as goal
 
 pub returns-clause-owners : goal.returns-clause-owners

@@ -1,6 +1,6 @@
 use Rattle.zone_proto.specs.Keys.{key}
-use Rattle.zone_store.proofs.Stored.{IsZone-none, IsZone-put, IsZone-without}
-use Rattle.zone_store.proofs.Upserting.{IsZone-upserted}
+use Rattle.zone_map.proofs.Stored.{IsZone-none, IsZone-put, IsZone-without}
+use Rattle.zone_map.proofs.Upserting.{IsZone-upserted}
 use Rattle.zone_store.proofs.laws.zones_stay_zones.Goals as goal
 
 pub returns-clause-empty : goal.returns-clause-empty

@@ -1,13 +1,11 @@
 use Rattle.std.proofs.Common.{subst, sym}
 use Rattle.zone_proto.specs.Names.{IsName, IsLowerName}
-use Rattle.zone_proto.specs.Vectors.{octets_of}
+use Rattle.zone_proto.specs.Forms.{labels_of}
 use Rattle.zone_proto.proofs.Lower.{IsLowerName-lower}
 use Rattle.zone_proto.proofs.name.Name.into_lower_case.Goals as goal
 
 pub invariant_of-result : goal.invariant_of-result
-invariant_of-result c =
-    subst IsName (sym c.lower_all.ensures) (IsLowerName-lower (octets_of c.self.inside.labels.items) c.self.invariant).name
+invariant_of-result c = subst IsName (sym c.lower.ensures) (IsLowerName-lower (labels_of c.self.inside.form) c.self.invariant).name
 
 pub returns-clause-valid : goal.returns-clause-valid
-returns-clause-valid c =
-    subst IsLowerName (sym c.lower_all.ensures) (IsLowerName-lower (octets_of c.self.inside.labels.items) c.self.invariant)
+returns-clause-valid c = subst IsLowerName (sym c.lower.ensures) (IsLowerName-lower (labels_of c.self.inside.form) c.self.invariant)

@@ -1,4 +1,4 @@
-use Rattle.std.proofs.Common.{◌≡◌, ◌∙◌, sym, ap, refl, true, false}
+use Rattle.std.proofs.Common.{◌≡◌, ◌∙◌, sym, ap, refl, true, false, rules}
 use Rattle.zone_proto.specs.Names.{same_name}
 use Rattle.zone_proto.specs.Data.{type_of}
 use Rattle.zone_proto.specs.Sets.{RRset}
@@ -20,11 +20,19 @@ invariant_of-self-2 c =
       signed = c.self.invariant.signed;
     }
 
-pub returns-clause-after : goal.returns-clause-after
-returns-clause-after c =
+pub returns : goal.returns
+returns c =
     let kind : type_of c.args.new.rdata ≡ c.self.inside.record_type.0 =
     c.requires.kind ∙ sym (ap (λ (s : RRset). s.record_type) c.self.view_is) in
     let new : is_refused c.self.inside.records.items c.args.new.rdata ≡ false =
     ap (λ rs. is_refused rs c.args.new.rdata) (sym c.as_slice.ensures.value) ∙ sym c.is_refused.ensures ∙ c.if-is_refused.false in
     let taken = inserted_taken (set_of c.self.inside) c.args.new c.args.serial c.self.invariant.set kind new in
-    rw (c.clear_rrsigs.ensures, ← c.self.view_is, taken, c.in_ok-put_record.ensures.ok) refl
+    record {
+      answer = search rules;
+      after = rw (c.clear_rrsigs.ensures, ← c.self.view_is, taken, c.in_ok-put_record.ensures.ok) refl;
+      err = tt;
+      same = tt;
+    }
+
+pub returns-then-is_refused : goal.returns-then-is_refused
+returns-then-is_refused c = record { answer = search rules; after = search rules; err = tt; same = tt }

@@ -1,11 +1,11 @@
-use Rattle.std.proofs.Common.{◌≡◌, ap, sym, ◌∙◌}
+use Rattle.std.proofs.Common.{ap, sym, ◌∙◌}
 use Rattle.std.specs.Prelude.{◌==◌}
 use Rattle.zone_proto.specs.Sets.{RRset}
 use Rattle.zone_proto.specs.Types.{CNAME}
 use Rattle.zone_handler.specs.Sets.{sets_records}
-use Rattle.zone_store.specs.Chains.{chain}
+use Rattle.zone_map.specs.Chains.{chain}
 use Rattle.zone_store.specs.FoundSets.{found_set}
-use Rattle.zone_store.specs.Zones.{Sets}
+use Rattle.zone_map.specs.Zones.{Sets}
 use Rattle.zone_store.proofs.Replies.{answers_chain}
 use Rattle.zone_store.proofs.in_memory_zone_handler.InMemoryZoneHandler.answers.Goals as goal
 

@@ -1,4 +1,4 @@
-use Rattle.zone_store.proofs.CnamesAlone.{made_alone}
+use Rattle.zone_store.proofs.CnamesMade.{made_alone}
 use Rattle.zone_store.proofs.in_memory_zone_handler.InMemoryZoneHandler.new.Goals as goal
 
 pub returns-clause-cnames : goal.returns-clause-cnames

@@ -1,7 +1,7 @@
 use Rattle.std.proofs.Common.{rules}
-use Rattle.zone_store.specs.Zones.{put, IsStoredAt}
-use Rattle.zone_store.proofs.Stored.{IsZone-put}
-use Rattle.zone_store.proofs.Upserting.{IsZone-after}
+use Rattle.zone_map.specs.Zones.{put, IsStoredAt}
+use Rattle.zone_map.proofs.Stored.{IsZone-put}
+use Rattle.zone_map.proofs.Upserting.{IsZone-after}
 use Rattle.zone_store.proofs.in_memory_zone_handler.InMemoryZoneHandler.put_set.Goals as goal
 
 pub invariant_of-self : goal.invariant_of-self

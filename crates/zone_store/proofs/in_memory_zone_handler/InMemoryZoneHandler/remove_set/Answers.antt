@@ -1,6 +1,6 @@
 use Rattle.std.proofs.Common.{sym, ap, subst}
-use Rattle.zone_store.specs.Zones.{IsZone}
-use Rattle.zone_store.proofs.Stored.{IsZone-without}
+use Rattle.zone_map.specs.Zones.{IsZone}
+use Rattle.zone_map.proofs.Stored.{IsZone-without}
 use Rattle.zone_store.proofs.in_memory_zone_handler.InMemoryZoneHandler.remove_set.Goals as goal
 
 pub invariant_of-self : goal.invariant_of-self

@@ -1,6 +1,6 @@
 use Rattle.std.specs.Prelude.{unwrap_or}
-use Rattle.zone_store.specs.Upserts.{upserted}
-use Rattle.zone_store.proofs.Upserting.{IsZone-after, IsZone-or_upserted}
+use Rattle.zone_map.specs.Upserts.{upserted}
+use Rattle.zone_map.proofs.Upserting.{IsZone-after, IsZone-or_upserted}
 use Rattle.zone_store.proofs.in_memory_zone_handler.InMemoryZoneHandler.upsert.Goals as goal
 
 pub invariant_of-self : goal.invariant_of-self

@@ -1,11 +1,11 @@
-use Rattle.std.proofs.Common.{◌≡◌, ◌<◌, ◌≤◌, arith, ap, sym, ◌∙◌, [], ◌∷◌, ◌++◌, length, true, false}
-use Rattle.std.specs.Prelude.{Some, None, option_map, option_and_then}
+use Rattle.std.proofs.Common.{◌≡◌, ◌<◌, arith, ap, sym, ◌∙◌, [], ◌∷◌, ◌++◌, length, false}
+use Rattle.std.specs.Prelude.{Some, option_map, option_and_then}
 use Rattle.std.specs.List.{list_any}
 use Rattle.std.specs.Ordering.{eq_by_cmp}
-use Rattle.zone_proto.specs.Names.{Name, name_cmp, name_eq}
-use Rattle.zone_store.specs.Chains.{cname_target}
+use Rattle.zone_proto.specs.Names.{name_cmp, name_eq}
+use Rattle.zone_map.specs.Chains.{cname_target}
 use Rattle.zone_store.specs.FoundSets.{found_set, lent_set}
-use Rattle.zone_store.proofs.Chasing.{Goes, Ended, asked, no_value, begins, goes_on, ends_full, ends_at_no_target, ends_at_seen, ends_unfound, is_chain, is_lent, is_counted}
+use Rattle.zone_store.proofs.Chasing.{asked, no_value, begins, goes_on, ends_full, ends_at_no_target, ends_at_seen, ends_unfound, is_chain, is_lent, is_counted}
 use Rattle.zone_store.proofs.inner_in_memory.InnerInMemory.chase_cnames.Goals as goal
 use Rattle.zone_store.proofs.inner_in_memory.InnerInMemory.chase_cnames.Goals.{else-loop-query_type-test, then-loop-query_type-test+in_default, then-loop-query_type-test+in-Some+then-contains, then-loop-query_type-test+in-Some+else-contains+in_ok-found+in_default-2}
 

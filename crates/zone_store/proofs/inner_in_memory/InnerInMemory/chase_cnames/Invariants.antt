@@ -1,4 +1,4 @@
-use Rattle.std.proofs.Common.{ℕ, ◌-◌, length}
+use Rattle.std.proofs.Common.{◌-◌, length}
 use Rattle.zone_store.proofs.Chasing.{Goes}
 use Rattle.zone_store.proofs.inner_in_memory.InnerInMemory.chase_cnames.Given as goal
 

@@ -1,6 +1,6 @@
-use Rattle.zone_store.specs.Zones.{put}
-use Rattle.zone_store.proofs.Stored.{IsZone-put}
-use Rattle.zone_store.proofs.Upserting.{IsZone-after}
+use Rattle.zone_map.specs.Zones.{put}
+use Rattle.zone_map.proofs.Stored.{IsZone-put}
+use Rattle.zone_map.proofs.Upserting.{IsZone-after}
 use Rattle.zone_store.proofs.inner_in_memory.InnerInMemory.put.Goals as goal
 
 pub invariant_of-self : goal.invariant_of-self

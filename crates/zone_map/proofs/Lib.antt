@@ -1,0 +1,14 @@
+pub mod Owned
+pub mod Neighbours
+pub mod Stored
+pub mod Upserting
+pub mod Clashing
+pub mod CnamesAlone
+pub mod Lists
+pub mod Delegations
+pub mod Wildcards
+pub mod Walks
+pub mod Renaming
+pub mod AnyTypes
+pub mod Fronts
+pub mod Chains

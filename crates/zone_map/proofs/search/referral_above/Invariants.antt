@@ -1,0 +1,10 @@
+use Rattle.std.proofs.Common.{length}
+use Rattle.zone_map.specs.Walks.{referral_above, IsWalked}
+use Rattle.zone_map.proofs.search.referral_above.Given as goal
+
+-- the names that were passed have the referral of what is left
+abbrev pub invariant-loop-key : goal.invariant-loop-key
+invariant-loop-key l = IsWalked l.records l.initial.key.name l.key.name (referral_above l.records l.key.name)
+
+abbrev pub decreases-loop-key : goal.decreases-loop-key
+decreases-loop-key l = length l.key.name

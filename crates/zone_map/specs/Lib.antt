@@ -1,0 +1,9 @@
+pub mod Zones
+pub mod Upserts
+pub mod Search
+pub mod Wildcards
+pub mod Walks
+pub mod AnyTypes
+pub mod Fronts
+pub mod Chains
+pub mod SearchLaws

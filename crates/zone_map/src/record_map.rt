@@ -1,0 +1,248 @@
+ghost use Rattle.std.specs.Prelude.{◌≡◌, [], IfOk, IfErr, OnOk, OnErr, IfSome, IsOkUnless, None, Some, is_some, unwrap_or, option_copied};
+ghost use Rattle.zone_proto.specs.Keys.{key as key_at};
+ghost use Rattle.zone_proto.specs.Names.{lower};
+ghost use Rattle.zone_proto.specs.Types.{CNAME};
+ghost use Rattle.zone_proto.specs.Data.{type_of};
+ghost use Rattle.zone_proto.specs.Sets.{inserted, empty_set};
+ghost use Rattle.zone_proto.specs.Results.{IsInsertion};
+ghost use Rattle.zone_map.specs.AnyTypes.{is_preferred, any_type};
+ghost use Rattle.zone_map.specs.Zones.{set_at, owns, owns_at_or_below, put, without, IsStoredAt, IsZone};
+ghost use Rattle.zone_map.specs.Upserts.{upserted, with_record, clash, clashes, is_denial_type, CnamesStandAlone};
+
+use std::alloc::Global;
+use std::collections::BTreeMap;
+use std::marker::Model;
+use zone_proto::{DNSClass, LowerName, ProtoError, Record, RecordSet, RecordType, RrKey};
+
+/// The record sets of a zone by their keys.
+#[derive(Drop)]
+pub struct RecordMap {
+    sets: BTreeMap<RrKey, RecordSet>,
+}
+
+impl Model for RecordMap {
+    ghost use Rattle.zone_map.specs.Zones.{Sets, IsZone};
+
+    ghost Value = { Sets };
+
+    ghost view = { λ m. m.sets.entries };
+
+    ghost invariant = { λ m. IsZone m.sets.entries };
+}
+
+impl RecordMap {
+    /// No record sets. What is put in later takes its memory from `alloc`; this takes none.
+    pub fn new(alloc: Global) -> RecordMap
+        ensures { result ≡ [] }
+    {
+        RecordMap {
+            sets: BTreeMap::new(alloc),
+        }
+    }
+
+    /// The map itself.
+    pub fn as_map(&self) -> &BTreeMap<RrKey, RecordSet>
+        ensures entries { result.now.entries ≡ self.now }
+        ensures zone { IsZone self.now }
+    {
+        &self.sets
+    }
+
+    /// The set under a key.
+    pub fn get(&self, key: &RrKey) -> Option<&RecordSet>
+        ensures found { option_copied result ≡ set_at self.now key.now.name key.now.record_type.0 }
+        ensures stored { IfSome result (λ set. IsStoredAt key.now.name key.now.record_type.0 set.now) }
+    {
+        self.sets.get(key)
+    }
+
+    /// Whether the name of a key owns its type.
+    pub fn owns(&self, key: &RrKey) -> bool
+        ensures { result ≡ owns self.now key.now.name key.now.record_type.0 }
+    {
+        self.sets.contains_key(key)
+    }
+}
+
+impl RecordMap {
+    /// Stores a set under its own key, and gives the one that stood there; a set that is refused for want of memory is
+    /// handed back.
+    pub fn put(&mut self, key: RrKey, set: RecordSet) -> Result<Option<RecordSet>, RecordSet>
+        requires { IsStoredAt key.name key.record_type.0 set }
+        ensures before { IfOk result (λ before. before ≡ set_at self.old key.name key.record_type.0) }
+        ensures stored { OnOk result (self.new ≡ put self.old key.name key.record_type.0 set) }
+        ensures refused { IfErr result (λ refused. refused ≡ set) }
+        ensures same { OnErr result (self.new ≡ self.old) }
+    {
+        match self.sets.insert(key, set) {
+            Ok(before) => Ok(before),
+            Err(failed) => Err(failed.value.1),
+        }
+    }
+
+    /// Takes the set out that stands under a key. This takes no memory.
+    pub fn remove(&mut self, key: &RrKey) -> Option<RecordSet>
+        ensures before { result ≡ set_at self.old key.now.name key.now.record_type.0 }
+        ensures removed { self.new ≡ without self.old key.now.name key.now.record_type.0 }
+    {
+        self.sets.remove(key)
+    }
+
+    /// Takes all sets out. This takes no memory.
+    pub fn clear(&mut self)
+        ensures { self.new ≡ [] }
+    {
+        self.sets.clear();
+    }
+}
+
+impl RecordMap {
+    /// Whether a name, or a name below it, owns a set.
+    pub fn owns_at_or_below(&self, name: &LowerName) -> Result<bool, ProtoError>
+        ensures answer { IfOk result (λ owned. owned ≡ owns_at_or_below self.now name.now) }
+        ensures err { IsOkUnless result ProtoError.Memory }
+    {
+        let least = RrKey::new(name.clone()?, RecordType(0));
+        Ok(self.owns_from(&least))
+    }
+
+    /// Whether the name of its least key, or a name below it, owns a set: descendants stand together, and the first of
+    /// them after the name's least key.
+    fn owns_from(&self, least: &RrKey) -> bool
+        requires { least.now.record_type.0 ≡ 0 }
+        ensures { result ≡ owns_at_or_below self.now least.now.name }
+    {
+        match self.sets.range(least..).next() {
+            Some((first, _)) => least.name.zone_of(&first.name),
+            None => false,
+        }
+    }
+
+    /// The type that is searched at the name of its least key for a query of ANY.
+    pub fn any_type(&self, least: &RrKey) -> RecordType
+        requires { least.now.record_type.0 ≡ 0 }
+        ensures { result.0 ≡ any_type self.now least.now.name }
+    {
+        let mut first = None;
+        for (key, _) in self.sets.range(least..) {
+            if key.name != least.name {
+                break;
+            }
+            if is_preferred(key.record_type) {
+                return key.record_type;
+            }
+            if first.is_none() {
+                first = Some(key.record_type);
+            }
+        }
+        first.unwrap_or(RecordType::A)
+    }
+
+    /// Takes a record into the set of its name and type, or makes that set.
+    pub fn upsert(
+        &mut self,
+        record: Record,
+        serial: u32,
+        dns_class: DNSClass,
+    ) -> Result<bool, ProtoError>
+        ensures insertion { IsInsertion self.old (upserted self.old dns_class.0 «record» serial) result self.new }
+        ensures cnames { CnamesStandAlone self.old → CnamesStandAlone self.new }
+    {
+        if record.dns_class != dns_class {
+            return Ok(false);
+        }
+        let mut key = RrKey::new(LowerName::new(&record.name)?, record.record_type());
+        if self.clashes(&mut key) {
+            return Ok(false);
+        }
+        self.insert_record(key, record, serial)
+    }
+
+    /// Whether the name of a key owns a type that stands against the key's type.
+    fn clashes(&self, key: &mut RrKey) -> bool
+        ensures answer { result ≡ clashes self.now key.old.name key.old.record_type.0 }
+        ensures same { key.new ≡ key.old }
+    {
+        let record_type = key.record_type;
+        if is_denial_type(record_type) {
+            return false;
+        }
+        if record_type == RecordType::CNAME {
+            key.record_type = RecordType(0);
+            let found = self.owns_beside_cname(key);
+            key.record_type = record_type;
+            return found;
+        }
+        key.record_type = RecordType::CNAME;
+        let found = self.owns(key);
+        key.record_type = record_type;
+        found
+    }
+
+    /// Whether the name of its least key owns a type that may not stand beside a CNAME.
+    fn owns_beside_cname(&self, least: &RrKey) -> bool
+        requires { least.now.record_type.0 ≡ 0 }
+        ensures { result ≡ clashes self.now least.now.name CNAME }
+    {
+        for (key, _) in self.sets.range(least..) {
+            if key.name != least.name {
+                return false;
+            }
+            if stands_against_cname(key.record_type) {
+                return true;
+            }
+        }
+        false
+    }
+
+    /// Takes a record into the set under its key, or makes that set.
+    fn insert_record(&mut self, key: RrKey, record: Record, serial: u32) -> Result<bool, ProtoError>
+        requires { key ≡ key_at (lower «record».name) (type_of «record».rdata) }
+        ensures { IsInsertion self.old (with_record self.old «record» serial) result self.new }
+    {
+        match self.sets.get_mut(&key) {
+            Some(set) => set.insert(record, serial),
+            None => self.insert_new(key, record, serial),
+        }
+    }
+
+    /// Makes the set of a record under its key, where there is none.
+    fn insert_new(&mut self, key: RrKey, record: Record, serial: u32) -> Result<bool, ProtoError>
+        requires own_key { key ≡ key_at (lower «record».name) (type_of «record».rdata) }
+        requires absent { set_at self.old (lower «record».name) (type_of «record».rdata) ≡ None }
+        ensures { IsInsertion self.old (with_record self.old «record» serial) result self.new }
+    {
+        let mut set = RecordSet::new(record.name.clone()?, key.record_type, serial);
+        if !set.insert(record, serial)? {
+            return Ok(false);
+        }
+        match self.sets.insert(key, set) {
+            Ok(_) => Ok(true),
+            Err(_) => Err(ProtoError::Memory),
+        }
+    }
+}
+
+/// Whether a type is preferred to others in an answer to ANY.
+fn is_preferred(record_type: RecordType) -> bool
+    ensures { result ≡ is_preferred record_type.0 }
+{
+    matches!(
+        record_type,
+        RecordType::A | RecordType::CNAME | RecordType::MX | RecordType::AAAA
+    )
+}
+
+/// Whether a type may not stand beside a CNAME.
+fn stands_against_cname(record_type: RecordType) -> bool
+    ensures { result ≡ clash CNAME record_type.0 }
+{
+    record_type != RecordType::CNAME && !is_denial_type(record_type)
+}
+
+/// Whether a type is one of denial, which may stand beside a CNAME.
+fn is_denial_type(record_type: RecordType) -> bool
+    ensures { result ≡ is_denial_type record_type.0 }
+{
+    record_type == RecordType::NSEC || record_type == RecordType::NSEC3
+}

@@ -1,0 +1,160 @@
+//! What a search for one name and type finds: the referral at a zone cut, and else the set of the name.
+ghost use Rattle.std.specs.Prelude.{◌≡◌, ◌<◌, option_copied, option_map, drop, length, None};
+ghost use Rattle.zone_map.specs.Search.{is_address, exact, direct};
+ghost use Rattle.zone_map.specs.Walks.{referral_above, own_referral, IsWalked, IsSettled};
+
+use crate::record_map::RecordMap;
+use zone_proto::{RecordSet, RecordType, RrKey};
+
+/// What the key's name has for a query of the key's type: the referral, else the exact set. The name is shortened to
+/// where the walk up to the nearest delegation stopped.
+pub fn direct<'m>(records: &'m RecordMap, key: &mut RrKey) -> Option<&'m RecordSet>
+    ensures found { option_copied result ≡ direct records.now key.old.name key.old.record_type.0 }
+    ensures settled { option_copied result ≡ None → IsSettled records.now (drop 1 key.old.name) key.new.name None }
+{
+    match own_referral(records, key) {
+        Some(Some(cut)) => Some(cut),
+        Some(None) => exact(records, key),
+        None => {
+            let exact = exact(records, key);
+            key.name.shorten();
+            match referral_above(records, key) {
+                Some(cut) => Some(cut),
+                None => exact,
+            }
+        }
+    }
+}
+
+/// The nearest delegation at or above a name, and the referral that it gives.
+#[derive(Drop)]
+pub(crate) struct Above<'m> {
+    pub(crate) key: RrKey,
+    pub(crate) referral: Option<&'m RecordSet>,
+}
+
+/// The same as [`direct`] for a star's key, which keeps its name. `above` is where the walk from the names below it
+/// stopped; it goes on from there.
+pub(crate) fn direct_of_star<'m>(
+    records: &'m RecordMap,
+    star: &mut RrKey,
+    above: &mut Above<'m>,
+) -> Option<&'m RecordSet>
+    requires below { 0 < length star.old.name }
+    requires settled { IsSettled records.now (drop 1 star.old.name) above.old.key.name (option_copied above.old.referral) }
+    ensures found { option_copied result ≡ direct records.now star.old.name star.old.record_type.0 }
+    ensures walked { IsWalked records.now (drop 1 star.old.name) above.new.key.name (option_copied above.new.referral) }
+    ensures same { star.new.name ≡ star.old.name }
+{
+    let referral = referral_of_base(records, star, above);
+    match own_referral(records, star) {
+        Some(Some(cut)) => Some(cut),
+        Some(None) => exact(records, star),
+        None => match referral {
+            Some(cut) => Some(cut),
+            None => exact(records, star),
+        },
+    }
+}
+
+/// The referral that the names above the key's own give. The walk goes on where they are above its end.
+fn referral_of_base<'m>(
+    records: &'m RecordMap,
+    key: &RrKey,
+    above: &mut Above<'m>,
+) -> Option<&'m RecordSet>
+    requires below { 0 < length key.now.name }
+    requires settled { IsSettled records.now (drop 1 key.now.name) above.old.key.name (option_copied above.old.referral) }
+    ensures found { option_copied result ≡ referral_above records.now (drop 1 key.now.name) }
+    ensures walked { IsWalked records.now (drop 1 key.now.name) above.new.key.name (option_copied above.new.referral) }
+{
+    if above.key.name.num_labels() >= key.name.num_labels() {
+        above.key.name.shorten();
+        above.referral = referral_above(records, &mut above.key);
+    }
+    above.referral
+}
+
+/// The set of the least type that answers for the key's type and that its name owns. The key keeps its name.
+fn exact<'m>(records: &'m RecordMap, key: &mut RrKey) -> Option<&'m RecordSet>
+    ensures found { option_copied result ≡ exact records.now key.old.name key.old.record_type.0 }
+    ensures name { key.new.name ≡ key.old.name }
+{
+    let record_type = key.record_type;
+    let is_before_cname = record_type < RecordType::CNAME;
+    if !is_before_cname {
+        key.record_type = RecordType::CNAME;
+        if let Some(set) = records.get(key) {
+            return Some(set);
+        }
+    }
+    key.record_type = record_type;
+    if let Some(set) = records.get(key) {
+        return Some(set);
+    }
+    if is_before_cname {
+        key.record_type = RecordType::CNAME;
+        if let Some(set) = records.get(key) {
+            return Some(set);
+        }
+    }
+    if is_address(record_type) {
+        key.record_type = RecordType::ANAME;
+        return records.get(key);
+    }
+    None
+}
+
+/// Whether an ANAME answers for a type.
+fn is_address(record_type: RecordType) -> bool
+    ensures { result ≡ is_address record_type.0 }
+{
+    record_type == RecordType::A || record_type == RecordType::AAAA
+}
+
+/// What the key's name says itself of the referral for a query of the key's type: nothing where it isn't delegated for
+/// the query, the NS set at a cut, and no referral at an apex. The key stays as it was.
+fn own_referral<'m>(records: &'m RecordMap, key: &mut RrKey) -> Option<Option<&'m RecordSet>>
+    ensures found { option_map option_copied result ≡ own_referral records.now key.old.name key.old.record_type.0 }
+    ensures same { key.new ≡ key.old }
+{
+    if key.name.is_root() {
+        return None;
+    }
+    let record_type = key.record_type;
+    key.record_type = RecordType::NS;
+    let Some(cut) = records.get(key) else {
+        key.record_type = record_type;
+        return None;
+    };
+    key.record_type = RecordType::SOA;
+    let is_apex = records.owns(key);
+    key.record_type = record_type;
+    if is_apex {
+        return Some(None);
+    }
+    if record_type == RecordType::DS {
+        return None;
+    }
+    Some(Some(cut))
+}
+
+/// The referral that the names from the key's own up give. The name is shortened to the nearest of them that is
+/// delegated, or to the root.
+fn referral_above<'m>(records: &'m RecordMap, key: &mut RrKey) -> Option<&'m RecordSet>
+    ensures found { option_copied result ≡ referral_above records.now key.old.name }
+    ensures walked { IsWalked records.now key.old.name key.new.name (option_copied result) }
+{
+    while !key.name.is_root() {
+        key.record_type = RecordType::NS;
+        if let Some(set) = records.get(key) {
+            key.record_type = RecordType::SOA;
+            if records.owns(key) {
+                return None;
+            }
+            return Some(set);
+        }
+        key.name.shorten();
+    }
+    None
+}

@@ -1,0 +1,12 @@
+use Rattle.std.proofs.Common.{◌∙◌}
+use Rattle.std.specs.Cmp.Lexicographic.{slice_cmp}
+use Rattle.std.specs.Ordering.{nat_cmp}
+use Rattle.zone_proto.proofs.Packings.{packing_cmp}
+use Rattle.zone_proto.proofs.packed.Packed.compare.Goals as goal
+
+pub returns : goal.returns
+returns c =
+    rw (← c.self.view_is, ← c.other.view_is)
+    (c.cmp.ensures
+    ∙ (λ i. slice_cmp nat_cmp (c.self.invariant.octets i) (c.other.invariant.octets i))
+    ∙ packing_cmp _ _ c.self.invariant.packable c.other.invariant.packable)

@@ -1,0 +1,73 @@
+// The labels of a name, without memory.
+ghost use Rattle.std.specs.Prelude.{◌≡◌, ◌++◌, length};
+ghost use Rattle.std.specs.Iterator.{YieldsFirstBy, item_count};
+ghost use Rattle.zone_proto.specs.Vectors.{octets_of};
+
+use crate::packed::{Packed, count_labels, split_label};
+use std::marker::Model;
+
+/// Lends the labels of a name, leftmost first. Takes no memory.
+#[derive(Debug, Drop)]
+pub struct Labels<'n> {
+    listed: &'n [Vec<u8>],
+    packed: &'n [u8],
+}
+
+impl<'n> Model for Labels<'n> {
+    ghost use Rattle.std.specs.Prelude.{List, ℕ, ◌++◌};
+    ghost use Rattle.zone_proto.specs.Packing.{name_of, IsPacking};
+    ghost use Rattle.zone_proto.specs.Vectors.{octets_of};
+
+    ghost Value = { List (List ℕ) };
+
+    ghost view = { λ s. octets_of s.listed.now ++ name_of s.packed.now };
+
+    ghost invariant = { λ s. IsPacking s.packed.now (name_of s.packed.now) };
+}
+
+impl<'n> Labels<'n> {
+    /// The labels of a list, and then those of a name in one piece.
+    pub(crate) fn new(listed: &'n [Vec<u8>], packed: &'n Packed) -> Labels<'n>
+        ensures { result ≡ octets_of listed.now ++ packed.now }
+    {
+        Labels {
+            listed,
+            packed: packed.octets(),
+        }
+    }
+
+    /// The labels that are left, lent once more.
+    pub fn clone(&self) -> Labels<'n>
+        ensures { result ≡ self.now }
+    {
+        Labels {
+            listed: self.listed,
+            packed: self.packed,
+        }
+    }
+
+    /// How many labels are left.
+    pub fn len(&self) -> usize
+        ensures { result ≡ length self.now }
+    {
+        self.listed.len() + count_labels(self.packed)
+    }
+}
+
+impl<'n> Iterator for Labels<'n> {
+    type Item = &'n [u8];
+
+    ghost next_gives = { YieldsFirstBy (λ x. x.now) (λ s. s) };
+
+    ghost remaining = { item_count (λ s. s) };
+
+    fn next(&mut self) -> Option<&'n [u8]> {
+        if let Some((first, rest)) = self.listed.split_first() {
+            self.listed = rest;
+            return Some(first);
+        }
+        let (first, rest) = split_label(self.packed)?;
+        self.packed = rest;
+        Some(first)
+    }
+}

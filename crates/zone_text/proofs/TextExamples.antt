@@ -1,0 +1,51 @@
+-- Printed texts, computed by their definitions: base32hex from RFC 4648 section 10, in lower case and without padding, and
+-- the others by hand.
+use Rattle.std.proofs.Common.{◌≡◌, [], ◌∷◌, codes, refl}
+use Rattle.std.specs.Fmt.{digits}
+use Rattle.zone_proto.specs.declared.rdata.RData.TheVariants as V
+use Rattle.zone_text.specs.Octets.{hex_text, base32_text}
+use Rattle.zone_text.specs.Printing.{data_text, record_text}
+use Rattle.zone_text.specs.Words.{words}
+use Rattle.zone_text.specs.Readable.{without_class}
+
+no_octets : base32_text [] ≡ []
+no_octets = refl
+
+one_octet : base32_text (codes "f") ≡ codes "co"
+one_octet = refl
+
+two_octets : base32_text (codes "fo") ≡ codes "cpng"
+two_octets = refl
+
+three_octets : base32_text (codes "foo") ≡ codes "cpnmu"
+three_octets = refl
+
+four_octets : base32_text (codes "foob") ≡ codes "cpnmuog"
+four_octets = refl
+
+five_octets : base32_text (codes "fooba") ≡ codes "cpnmuoj1"
+five_octets = refl
+
+six_octets : base32_text (codes "foobar") ≡ codes "cpnmuoj1e8"
+six_octets = refl
+
+hex : hex_text (0 ∷ 10 ∷ 255 ∷ []) ≡ codes "000aff"
+hex = refl
+
+no_hex : hex_text [] ≡ codes "-"
+no_hex = refl
+
+ipv6 : data_text (V.AAAA (32 ∷ 1 ∷ 13 ∷ 184 ∷ 0 ∷ 0 ∷ 0 ∷ 0 ∷ 0 ∷ 0 ∷ 0 ∷ 0 ∷ 0 ∷ 0 ∷ 0 ∷ 10 ∷ [])) ≡ codes "2001:0db8:0000:0000:0000:0000:0000:000a"
+ipv6 = refl
+
+mail : data_text (V.MX (record { preference = 10; exchange = (codes "mail") ∷ (codes "Example") ∷ [] })) ≡ codes "10 mail.Example."
+unfolding digits
+mail = refl
+
+address : record_text (record { name = (codes "www") ∷ (codes "example") ∷ []; dns_class = record { 0 = 1 }; ttl = 60; rdata = V.A (192 ∷ 0 ∷ 2 ∷ 1 ∷ []) }) ≡ codes "www.example. 60 IN A 192.0.2.1"
+unfolding digits
+address = refl
+
+-- the words that are read, without the class
+address_words : without_class (words (codes "www.example. 60 IN A 192.0.2.1")) ≡ codes "www.example." ∷ codes "60" ∷ codes "A" ∷ codes "192.0.2.1" ∷ []
+address_words = refl
