@@ -3,7 +3,7 @@
 use std::alloc::Global;
 use std::io;
 use std::test::Fail;
-use zone_handler::{AuthLookup, LookupControlFlow, LookupError, NetError};
+use zone_handler::{AuthLookup, LookupControlFlow, LookupError, NetError, NoRecords};
 use zone_proto::{ProtoError, ResponseCode};
 use zone_store::ZoneError;
 
@@ -29,6 +29,11 @@ fn errors_of_look_ups_print_their_words(rt: HostRuntime) {
     let count = LookupError::BadQueryCount(2);
     let code = LookupError::from(ResponseCode::Other(23));
     let message = LookupError::from(NetError::from("no route"));
+    let nothing = LookupError::from(NetError::NoRecordsFound(NoRecords {
+        soa: None,
+        authorities: None,
+        response_code: ResponseCode::NoError,
+    }));
     let name = LookupError::from(ProtoError::NameTooLong);
     let not_found = LookupError::from(io::Error::from(io::ErrorKind::NotFound));
     let memory = LookupError::from(ProtoError::Memory);
@@ -38,6 +43,7 @@ fn errors_of_look_ups_print_their_words(rt: HostRuntime) {
         "there should only be one query per request, got 2",
     ) && error_prints(alloc, code, "Error performing lookup: RCODE23")
         && error_prints(alloc, message, "net error: no route")
+        && error_prints(alloc, nothing, "net error: no records found")
         && error_prints(alloc, name, "net error: name too long")
         && error_prints(alloc, not_found, "io error: entity not found")
         && error_prints(alloc, memory, "out of memory");
