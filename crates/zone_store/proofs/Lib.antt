@@ -1,8 +1,13 @@
 pub mod ChainSearches
+pub mod Paths
+pub mod Targets
+pub mod AdditionalRuns
+pub mod AdditionalLaws
 pub mod Chasing
 pub mod Denials
 pub mod Replies
 pub mod Examples
 pub mod SearchExamples
+pub mod AdditionalExamples
 pub mod CnamesMade
 pub mod Constructing

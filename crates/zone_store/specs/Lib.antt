@@ -3,6 +3,9 @@ pub mod Insertions
 pub mod Construction
 pub mod Refusals
 pub mod Searches
+pub mod Runs
+pub mod Additionals
+pub mod AdditionalLaws
 pub mod FoundSets
 pub mod Lookup
 pub mod DemoSigners

@@ -63,7 +63,7 @@ impl<S: Signer> InnerInMemory<S> {
 }
 
 /// The target of a set whose first record is a CNAME.
-fn cname_target(set: &RecordSet) -> Result<Option<LowerName>, ProtoError>
+pub(crate) fn cname_target(set: &RecordSet) -> Result<Option<LowerName>, ProtoError>
     ensures target { IfOk result (λ target. target ≡ cname_target set.now) }
     ensures err { IsOkUnless result ProtoError.Memory }
 {
@@ -89,7 +89,7 @@ pub(crate) fn into_sets(chain: Vec<Found<'_>>) -> Result<Vec<RecordSet>, LookupE
 }
 
 /// Puts an item last.
-fn push<T: Drop>(list: &mut Vec<T>, item: T) -> Result<(), ProtoError>
+pub(crate) fn push<T: Drop>(list: &mut Vec<T>, item: T) -> Result<(), ProtoError>
     ensures ok { OnOk result (list.new.items ≡ list.old.items ++ item ∷ []) }
     ensures err { IsOkUnless result ProtoError.Memory }
 {

@@ -13,6 +13,7 @@ ghost use Rattle.zone_map.specs.Search.{is_delegated_for, nearest_delegation};
 ghost use Rattle.zone_map.specs.SearchLaws.{StarIsNearest, ChainIsLongestFront, ChainHasAtMost8};
 ghost use Rattle.zone_map.specs.Upserts.{upserted};
 ghost use Rattle.zone_map.specs.Zones.{Sets, set_at, owns, names_of, owners, types_at, put, without, IsStoredAt, IsZone};
+ghost use Rattle.zone_store.specs.AdditionalLaws.{OneRun, NoNameTwice, RunIsShort, SearchesAreFew, OneList};
 
 /// A zone may have no sets, and its sets stay those of a zone when a set is put under its own owner and type, when one is
 /// taken out, and when a record is inserted.
@@ -64,4 +65,18 @@ pub fn star_is_nearest()
 pub fn chain_is_longest_front()
     ensures front { ChainIsLongestFront }
     ensures at_most { ChainHasAtMost8 }
+{}
+
+/// A run of an additional search searches exactly one list of names: no name twice, and none that was seen before. They are
+/// at most one more than the zone has CNAME and ANAME sets.
+pub fn runs_end()
+    ensures one { OneRun }
+    ensures distinct { NoNameTwice }
+    ensures at_most { RunIsShort }
+    ensures together { SearchesAreFew }
+{}
+
+/// A query has exactly one list of additional sets.
+pub fn additionals_are_one_list()
+    ensures { OneList }
 {}

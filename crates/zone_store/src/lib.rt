@@ -8,6 +8,7 @@
 //! there yet.
 #![tactic(auto)]
 
+mod additionals;
 mod chain;
 mod construction;
 mod found;
