@@ -3,6 +3,7 @@ pub mod Paths
 pub mod Targets
 pub mod AdditionalRuns
 pub mod AdditionalLaws
+pub mod SignedSets
 pub mod Chasing
 pub mod Denials
 pub mod Replies

@@ -1,23 +1,27 @@
--- Nothing that is owned is denied
-use Rattle.std.proofs.Common.{◌≡◌, ℕ, Bool, true, false, cond, not, ◌&&◌, [], ◌∷◌, refl, sym, ap, ◌∙◌, true≢false, ◌⊎◌, inl, inr, subst}
-use Rattle.std.specs.Prelude.{Option, Some, None, Ok, Err, ◌==◌, is_some}
-use Rattle.std.specs.Option.{option_map_or}
+-- Nothing that is owned is denied, and what a found set is answered with
+use Rattle.std.proofs.Common.{◌≡◌, ℕ, zero, suc, ◌-◌, ◌<◌, arith, length, ◌==◌, not, ◌&&◌, Bool, true, false, cond, List, [], ◌∷◌, refl, sym, ap, ◌∙◌, eqb-true, true≢false, ◌⊎◌, inl, inr, subst}
+use Rattle.std.specs.Prelude.{Option, Some, None, Ok, Err, is_some, slice_get, MatchOption}
+use Rattle.zone_proto.specs.declared.record.Record.{Record}
 use Rattle.zone_proto.specs.Names.{Name}
 use Rattle.zone_proto.specs.Sets.{RRset}
-use Rattle.zone_proto.specs.Types.{CNAME}
 use Rattle.zone_handler.specs.declared.auth_lookup.AuthLookup.{AuthLookup}
 use Rattle.zone_handler.specs.declared.auth_lookup.AuthLookup.TheVariants as answer
+use Rattle.zone_handler.specs.declared.lookup_records.LookupRecords.{LookupRecords}
+use Rattle.zone_handler.specs.declared.lookup_records.LookupRecords.TheVariants as section
+use Rattle.zone_handler.specs.Answers.{records_in}
+use Rattle.zone_handler.specs.Sets.{set_records, sets_records}
+use Rattle.std.proofs.lemmas.List.{append-nil}
 use Rattle.zone_handler.specs.declared.control_flow.LookupControlFlow.{LookupControlFlow}
 use Rattle.zone_handler.specs.declared.control_flow.LookupControlFlow.TheVariants.{Continue}
 use Rattle.zone_handler.specs.declared.lookup_error.LookupError.{LookupError}
 use Rattle.zone_handler.specs.declared.lookup_error.LookupError.TheVariants as error
 use Rattle.zone_handler.specs.declared.lookup_options.LookupOptions.{LookupOptions}
-use Rattle.zone_handler.specs.declared.lookup_records.LookupRecords.{LookupRecords}
 use Rattle.zone_map.specs.Zones.{Sets, owns}
 use Rattle.zone_map.specs.Wildcards.{found}
 use Rattle.zone_map.specs.Chains.{chain}
 use Rattle.zone_map.specs.AnyTypes.{searched_type}
-use Rattle.zone_store.specs.Lookup.{Denial, name_exists, nx_domain, refused, denial, error_of, answered, denied, answer_sets, reply_for, Lists, SaysOrMemory, IsDenied}
+use Rattle.zone_store.specs.Flattening.{last_set, stands_for_addresses, flattened, alone, beside}
+use Rattle.zone_store.specs.Lookup.{Denial, name_exists, nx_domain, refused, denial, error_of, Reply, answered, denied, is_followed, answer_sets, answer_section, AreFrom, IsAnswer, IsReplyFor, MayList, HasSections, Says, SaysAnswer, SaysOrMemory, IsDenied}
 use Rattle.zone_map.proofs.AnyTypes.{found_owned, searched_owned}
 
 -- want of memory is no denial
@@ -26,37 +30,143 @@ not_memory step name_exists h k = cc
 not_memory step nx_domain h k = cc
 not_memory step refused h k = cc
 
-pub not_denied : (origin : Name) (m : Sets) (n : Name) (t : ℕ) (options : LookupOptions) (step : LookupControlFlow AuthLookup LookupError) → owns m n t ≡ true
-    → SaysOrMemory options (reply_for origin m options.dnssec_ok n (searched_type m n t)) step → IsDenied step → ⊥
-not_denied origin m n t options step h s (d, e) = by (found m options.dnssec_ok n (searched_type m n t)) (found_owned m options.dnssec_ok n (searched_type m n t) (searched_owned m n t h)) s
-  where
-    by : (o : Option RRset) → is_some o ≡ true
-        → SaysOrMemory options (option_map_or (λ s. answered (answer_sets m options.dnssec_ok n (searched_type m n t) s) []) o (denied (denial origin m n))) step → ⊥
-    by None k s = true≢false (sym k)
-    by (Some x) k (inl (answers, additionals, r, listed, more)) = cc
-    by (Some x) k (inr r) = not_memory step d r e
+-- nor is an answer
+not_answer : (step : LookupControlFlow AuthLookup LookupError) (a : AuthLookup) (d : Denial) → step ≡ Continue (Ok a) → step ≡ Continue (Err (error_of d)) → ⊥
+not_answer step a d h k = cc
 
--- from an alias the answer section has the chain, unless aliases are asked for
-pub answers_chain : (m : Sets) (signed : Bool) (n : Name) (t : ℕ) (s : RRset) → (s.record_type == CNAME) ≡ true → (t == CNAME) ≡ false → answer_sets m signed n t s ≡ chain m signed n s t
-answers_chain m signed n t s e h =
-    ap (λ b. cond (b && not (t == CNAME)) (chain m signed n s t) (s ∷ [])) e
-    ∙ ap (λ b. cond (not b) (chain m signed n s t) (s ∷ [])) h
+module _ (sign : RRset → List Record) (m : Sets) (n : Name) (t : ℕ) (options : LookupOptions) where
+  pub not_denied : (origin : Name) (step : LookupControlFlow AuthLookup LookupError) → owns m n t ≡ true
+      → SaysOrMemory options (IsReplyFor sign origin m options.dnssec_ok n (searched_type m n t)) step → IsDenied step → ⊥
+  not_denied origin step h (inr r) (d, e) = not_memory step d r e
+  not_denied origin step h (inl (r, is, says)) (d, e) = by (found m options.dnssec_ok n (searched_type m n t)) (found_owned m options.dnssec_ok n (searched_type m n t) (searched_owned m n t h)) is
+    where
+      told : (r q : Reply) → r ≡ q → Says options r step → Says options q step
+      told r q e s = subst (λ x. Says options x step) e s
 
--- ---- the answer by what is found
+      by : (o : Option RRset) → is_some o ≡ true → MatchOption o (r ≡ denied (denial origin m n)) (λ s. IsAnswer sign m options.dnssec_ok n (searched_type m n t) s r) → ⊥
+      by None k i = true≢false (sym k)
+      by (Some s) k i =
+          let a = told r (answered (answer_section sign m options.dnssec_ok n (searched_type m n t) s i.more) (beside (searched_type m n t) (last_set (answer_sets m options.dnssec_ok n (searched_type m n t) s)) i.more)) i.sections says in
+          not_answer step a.0 d a.1 e
 
--- a found set is answered by a section that lists its sets
-pub says_found : (options : LookupOptions) (origin : Name) (m : Sets) (n : Name) (t : ℕ) (s : RRset) (section : LookupRecords) (r : AuthLookup) → found m options.dnssec_ok n t ≡ Some s
-    → Lists options (answer_sets m options.dnssec_ok n t s) section → r ≡ answer.Records section None → SaysOrMemory options (reply_for origin m options.dnssec_ok n t) (Continue (Ok r))
-says_found options origin m n t s section r f l e =
-    subst (λ o. SaysOrMemory options (option_map_or (λ s. answered (answer_sets m options.dnssec_ok n t s) []) o (denied (denial origin m n))) (Continue (Ok r))) (sym f)
-    (inl (section, None, ap (λ x. Continue (Ok x)) e, l, refl))
+  -- ---- the answer by what is found
 
--- and none is denied
-pub says_none : (options : LookupOptions) (origin : Name) (m : Sets) (n : Name) (t : ℕ) (e : LookupError) → found m options.dnssec_ok n t ≡ None
-    → (e ≡ error_of (denial origin m n)) ⊎ (e ≡ error.Memory) → SaysOrMemory options (reply_for origin m options.dnssec_ok n t) (Continue (Err e))
-says_none options origin m n t e f h =
-    subst (λ o. SaysOrMemory options (option_map_or (λ s. answered (answer_sets m options.dnssec_ok n t s) []) o (denied (denial origin m n))) (Continue (Err e))) (sym f) (by h)
-  where
-    by : (e ≡ error_of (denial origin m n)) ⊎ (e ≡ error.Memory) → SaysOrMemory options (denied (denial origin m n)) (Continue (Err e))
-    by (inl q) = inl (ap (λ x. Continue (Err x)) q)
-    by (inr q) = inr (ap (λ x. Continue (Err x)) q)
+  -- a set alone
+  pub alone_answers : (s : RRset) (a : AuthLookup) → is_followed t s ≡ false
+      → (more : List RRset) × AreFrom m options.dnssec_ok n t (Some s) more × HasSections options (alone sign t s (last_set more) ∷ []) (beside t (Some s) more) a → SaysAnswer options (IsAnswer sign m options.dnssec_ok n t s) a
+  alone_answers s a h (more, from, has) =
+      let e : answer_sets m options.dnssec_ok n t s ≡ s ∷ [] = ap (λ b. cond b (chain m options.dnssec_ok n s t) (s ∷ [])) h in
+      let f : answer_section sign m options.dnssec_ok n t s more ≡ alone sign t s (last_set more) ∷ [] = ap (λ b. cond b (chain m options.dnssec_ok n s t) (alone sign t s (last_set more) ∷ [])) h in (
+        alone sign t s (last_set more) ∷ [],
+        beside t (Some s) more,
+        record {
+          more = more;
+          found = subst (λ ss. AreFrom m options.dnssec_ok n t (last_set ss) more) (sym e) from;
+          sections =
+              ap (λ ss. answered ss (beside t (Some s) more)) (sym f)
+              ∙ ap (λ ss. answered (answer_section sign m options.dnssec_ok n t s more) (beside t (last_set ss) more)) (sym e);
+        },
+        has,
+      )
+
+  -- a chain
+  pub chain_answers : (s : RRset) (sets : List RRset) (a : AuthLookup) → is_followed t s ≡ true → sets ≡ chain m options.dnssec_ok n s t
+      → (more : List RRset) × AreFrom m options.dnssec_ok n t (last_set sets) more × HasSections options sets (beside t (last_set sets) more) a → SaysAnswer options (IsAnswer sign m options.dnssec_ok n t s) a
+  chain_answers s sets a h c (more, from, has) =
+      let e : answer_sets m options.dnssec_ok n t s ≡ sets = ap (λ b. cond b (chain m options.dnssec_ok n s t) (s ∷ [])) h ∙ sym c in
+      let f : answer_section sign m options.dnssec_ok n t s more ≡ sets = ap (λ b. cond b (chain m options.dnssec_ok n s t) (alone sign t s (last_set more) ∷ [])) h ∙ sym c in (
+        sets,
+        beside t (last_set sets) more,
+        record {
+          more = more;
+          found = subst (λ ss. AreFrom m options.dnssec_ok n t (last_set ss) more) (sym e) from;
+          sections =
+              ap (λ ss. answered ss (beside t (last_set sets) more)) (sym f)
+              ∙ ap (λ ss. answered (answer_section sign m options.dnssec_ok n t s more) (beside t (last_set ss) more)) (sym e);
+        },
+        has,
+      )
+
+  -- a found set is answered
+  pub says_found : (origin : Name) (s : RRset) (a : AuthLookup) → found m options.dnssec_ok n t ≡ Some s → SaysAnswer options (IsAnswer sign m options.dnssec_ok n t s) a
+      → SaysOrMemory options (IsReplyFor sign origin m options.dnssec_ok n t) (Continue (Ok a))
+  says_found origin s a f (sets, more, is, has) =
+      inl (answered sets more, subst (λ o. MatchOption o (answered sets more ≡ denied (denial origin m n)) (λ s. IsAnswer sign m options.dnssec_ok n t s (answered sets more))) (sym f) is, (a, refl, has))
+
+  -- and none is denied
+  pub says_none : (origin : Name) (e : LookupError) → found m options.dnssec_ok n t ≡ None → (e ≡ error_of (denial origin m n)) ⊎ (e ≡ error.Memory)
+      → SaysOrMemory options (IsReplyFor sign origin m options.dnssec_ok n t) (Continue (Err e))
+  says_none origin e f (inr q) = inr (ap (λ x. Continue (Err x)) q)
+  says_none origin e f (inl q) =
+      inl (denied (denial origin m n), subst (λ o. MatchOption o (denied (denial origin m n) ≡ denied (denial origin m n)) (λ s. IsAnswer sign m options.dnssec_ok n t s (denied (denial origin m n)))) (sym f) refl, ap (λ x. Continue (Err x)) q)
+
+-- ---- ANAME sets
+
+got : (xs : List RRset) (i : ℕ) → i < length xs → slice_get xs i ≡ None → ⊥
+got [] i h e = absurd (omega (arith, h))
+got (x ∷ xs) zero h e = cc
+got (x ∷ xs) (suc i) h e = got xs i (omega (arith, h)) e
+
+-- where there is no last set there is none
+no_last : (xs : List RRset) → last_set xs ≡ None → xs ≡ []
+no_last [] e = refl
+no_last (x ∷ xs) e = absurd (got (x ∷ xs) (length (x ∷ xs) - 1) (omega arith) e)
+
+pub no_length : (xs : List RRset) → (length xs == 0) ≡ true → xs ≡ []
+no_length [] e = refl
+no_length (x ∷ xs) e = absurd (let k = eqb-true (length (x ∷ xs)) 0 e in omega (arith, k))
+
+module _ (sign : RRset → List Record) (t : ℕ) (s : RRset) (more : List RRset) where
+  -- a set that isn't flattened stays, and nothing comes before the additional sets
+  pub stays_alone : stands_for_addresses t s ≡ false → alone sign t s (last_set more) ≡ s
+  stays_alone h = by (last_set more)
+    where
+      by : (o : Option RRset) → alone sign t s o ≡ s
+      by None = refl
+      by (Some l) = ap (λ b. cond b (flattened sign s t l) s) h
+
+  pub nothing_before : stands_for_addresses t s ≡ false → beside t (Some s) more ≡ more
+  nothing_before h = ap (λ b. cond (b && not (length more == 0)) (s ∷ more) more) h
+
+  -- nor is one without additional sets
+  pub stays_without : last_set more ≡ None → alone sign t s (last_set more) ≡ s
+  stays_without h = ap (alone sign t s) h
+
+  pub nothing_beside : more ≡ [] → beside t (Some s) more ≡ more
+  nothing_beside h = ap (beside t (Some s)) h ∙ both (stands_for_addresses t s) ∙ sym h
+    where
+      both : (b : Bool) → cond (b && false) (s ∷ []) [] ≡ []
+      both true = refl
+      both false = refl
+
+  pub none_beside : last_set more ≡ None → beside t (Some s) more ≡ more
+  none_beside h = nothing_beside (no_last more h)
+
+  -- any other is flattened, and stands first among the additional sets
+  pub is_flattened : (l : RRset) → last_set more ≡ Some l → stands_for_addresses t s ≡ true → alone sign t s (last_set more) ≡ flattened sign s t l
+  is_flattened l e h = ap (alone sign t s) e ∙ ap (λ b. cond b (flattened sign s t l) s) h
+
+  pub stands_first : stands_for_addresses t s ≡ true → (length more == 0) ≡ false → beside t (Some s) more ≡ s ∷ more
+  stands_first h e = ap (λ b. cond (b && not (length more == 0)) (s ∷ more) more) h ∙ ap (λ b. cond (not b) (s ∷ more) more) e
+
+  pub some_left : (l : RRset) → last_set more ≡ Some l → (length more == 0) ≡ false
+  some_left l e = by more e
+    where
+      by : (xs : List RRset) → last_set xs ≡ Some l → (length xs == 0) ≡ false
+      by [] e = absurd cc
+      by (x ∷ xs) e = unless (length (x ∷ xs) == 0) refl
+        where
+          unless : (b : Bool) → (length (x ∷ xs) == 0) ≡ b → (length (x ∷ xs) == 0) ≡ false
+          unless true q = absurd (let k = eqb-true (length (x ∷ xs)) 0 q in omega (arith, k))
+          unless false q = q
+
+-- an answer of one set, with additional sets
+pub has_one : (options : LookupOptions) (set shown : RRset) (listed more : List RRset) (additionals : Option LookupRecords) (a : AuthLookup) → a ≡ answer.Records (section.Records options set) additionals → shown ≡ set → listed ≡ more
+    → MayList options more additionals → HasSections options (shown ∷ []) listed a
+has_one options set shown listed more additionals a e p q l =
+    (section.Records options set, additionals, e, sym (append-nil (set_records options shown) ∙ ap (set_records options) p), subst (λ x. MayList options x additionals) (sym q) l)
+
+-- an answer of several
+pub has_many : (options : LookupOptions) (sets listed more : List RRset) (s : LookupRecords) (additionals : Option LookupRecords) (a : AuthLookup) → a ≡ answer.Records s additionals → records_in s ≡ sets_records options sets → listed ≡ more
+    → MayList options more additionals → HasSections options sets listed a
+has_many options sets listed more s additionals a e r q l = (s, additionals, e, r, subst (λ x. MayList options x additionals) (sym q) l)

@@ -1,7 +1,8 @@
 -- What a lookup answers
-use Rattle.std.specs.Prelude.{◌≡◌, ℕ, Bool, ◌&&◌, not, cond, ◌==◌, List, [], ◌∷◌, Option, Some, None, Ok, Err, ◌⊎◌}
-use Rattle.std.specs.Option.{option_map_or}
+use Rattle.std.specs.Prelude.{◌≡◌, ◌≢◌, ℕ, Bool, ◌&&◌, not, cond, ◌==◌, List, [], ◌∷◌, Option, Ok, Err, ◌⊎◌, MatchOption, option_and_then}
+use Rattle.std.specs.Bool.{MatchBool}
 use Rattle.zone_proto.specs.declared.response_code.ResponseCode.TheVariants as code
+use Rattle.zone_proto.specs.declared.record.Record.{Record}
 use Rattle.zone_proto.specs.Names.{Name, is_at_or_above}
 use Rattle.zone_proto.specs.Sets.{RRset}
 use Rattle.zone_proto.specs.Types.{CNAME, AXFR}
@@ -20,6 +21,8 @@ use Rattle.zone_map.specs.Zones.{Sets, owns_at_or_below}
 use Rattle.zone_map.specs.Wildcards.{found}
 use Rattle.zone_map.specs.Chains.{chain}
 use Rattle.zone_map.specs.AnyTypes.{searched_type}
+use Rattle.zone_store.specs.Additionals.{next_name, AreAdditionals}
+use Rattle.zone_store.specs.Flattening.{last_set, alone, beside}
 
 -- the negative answers: the name is there without the type (RFC 2308 section 2.2), the name isn't there (RFC 2308 section 2.1), the name isn't the zone's (RFC 1035 section 4.1.1)
 pub data Denial : Type 0 where
@@ -40,17 +43,35 @@ pub data Reply : Type 0 where
   denied : Denial → Reply
   answered : (answers additionals : List RRset) → Reply
 
--- the sets of the answer section: the chain from an alias, unless aliases are asked for, and else the found set alone (RFC 1034 section 3.6.2)
-abbrev pub answer_sets : Sets → Bool → Name → ℕ → RRset → List RRset
-answer_sets m signed n t s = cond ((s.record_type == CNAME) && not (t == CNAME)) (chain m signed n s t) (s ∷ [])
+-- an alias is followed, unless aliases are asked for (RFC 1034 section 3.6.2)
+abbrev pub is_followed : ℕ → RRset → Bool
+is_followed t s = (s.record_type == CNAME) && not (t == CNAME)
 
--- the reply by what is found for a type, and without a found set the negative answer
-abbrev pub reply_for : Name → Sets → Bool → Name → ℕ → Reply
-reply_for origin m signed n t = option_map_or (λ s. answered (answer_sets m signed n t s) []) (found m signed n t) (denied (denial origin m n))
+-- the sets that answer: the chain from an alias, and else the found set alone
+abbrev pub answer_sets : Sets → Bool → Name → ℕ → RRset → List RRset
+answer_sets m signed n t s = cond (is_followed t s) (chain m signed n s t) (s ∷ [])
+
+-- the additional sets are those from where the last of these leads, if it leads anywhere
+abbrev pub AreFrom : Sets → Bool → Name → ℕ → Option RRset → List RRset → Type 0
+AreFrom m signed n t terminal more = MatchOption (option_and_then (next_name t) terminal) (more ≡ []) (λ next. AreAdditionals m signed n t next more)
+
+-- the answer section: a chain stays as it is, and a set alone may be flattened; `sign` gives the signatures of a set that the answer makes
+abbrev pub answer_section : (RRset → List Record) → Sets → Bool → Name → ℕ → RRset → List RRset → List RRset
+answer_section sign m signed n t s more = cond (is_followed t s) (chain m signed n s t) (alone sign t s (last_set more) ∷ [])
+
+-- the reply by the set that is found
+pub record IsAnswer (sign : RRset → List Record) (m : Sets) (signed : Bool) (n : Name) (t : ℕ) (s : RRset) (r : Reply) : Type 0 where
+  pub more : List RRset
+  pub found : AreFrom m signed n t (last_set (answer_sets m signed n t s)) more
+  pub sections : r ≡ answered (answer_section sign m signed n t s more) (beside t (last_set (answer_sets m signed n t s)) more)
+
+-- the reply for a type, by what is found, and without a found set the negative answer
+abbrev pub IsReplyFor : (RRset → List Record) → Name → Sets → Bool → Name → ℕ → Reply → Type 0
+IsReplyFor sign origin m signed n t r = MatchOption (found m signed n t) (r ≡ denied (denial origin m n)) (λ s. IsAnswer sign m signed n t s r)
 
 -- a query for the whole zone isn't answered here; for a query of ANY a type is chosen
-abbrev pub reply : Name → Sets → Bool → Name → ℕ → Reply
-reply origin m signed n t = cond (t == AXFR) not_a_lookup (reply_for origin m signed n (searched_type m n t))
+abbrev pub IsReply : (RRset → List Record) → Name → Sets → Bool → Name → ℕ → Reply → Type 0
+IsReply sign origin m signed n t r = MatchBool (t == AXFR) (r ≡ not_a_lookup) (IsReplyFor sign origin m signed n (searched_type m n t) r)
 
 -- ---- the same as the program says it
 
@@ -65,19 +86,25 @@ Lists options sets section = records_in section ≡ sets_records options sets
 
 -- a section that may be left out lists them, and is left out exactly where there are none
 abbrev pub MayList : LookupOptions → List RRset → Option LookupRecords → Type 0
-MayList options [] o = o ≡ None
-MayList options (s ∷ ss) o = (section : LookupRecords) × (o ≡ Some section) × Lists options (s ∷ ss) section
+MayList options sets o = MatchOption o (sets ≡ []) (λ section. (sets ≢ []) × Lists options sets section)
+
+-- an answer that has these sets in its sections
+abbrev pub HasSections : LookupOptions → List RRset → List RRset → AuthLookup → Type 0
+HasSections options sets more a = (answers : LookupRecords) × (additionals : Option LookupRecords) × (a ≡ answer.Records answers additionals) × Lists options sets answers × MayList options more additionals
+
+-- an answer whose sections are those of a reply
+abbrev pub SaysAnswer : LookupOptions → (Reply → Type 0) → AuthLookup → Type 0
+SaysAnswer options IsTheReply a = (sets : List RRset) × (more : List RRset) × IsTheReply (answered sets more) × HasSections options sets more a
 
 -- how a step of a chain of handlers says a reply
 abbrev pub Says : LookupOptions → Reply → LookupControlFlow AuthLookup LookupError → Type 0
 Says options not_a_lookup step = IsNoLookup step
 Says options (denied d) step = step ≡ Continue (Err (error_of d))
-Says options (answered sets more) step =
-    (answers : LookupRecords) × (additionals : Option LookupRecords) × (step ≡ Continue (Ok (answer.Records answers additionals))) × Lists options sets answers × MayList options more additionals
+Says options (answered sets more) step = (a : AuthLookup) × (step ≡ Continue (Ok a)) × HasSections options sets more a
 
--- the reply, or that no memory was found
-abbrev pub SaysOrMemory : LookupOptions → Reply → LookupControlFlow AuthLookup LookupError → Type 0
-SaysOrMemory options r step = Says options r step ⊎ (step ≡ Continue (Err error.Memory))
+-- it says the reply, or that no memory was found
+abbrev pub SaysOrMemory : LookupOptions → (Reply → Type 0) → LookupControlFlow AuthLookup LookupError → Type 0
+SaysOrMemory options IsTheReply step = ((r : Reply) × IsTheReply r × Says options r step) ⊎ (step ≡ Continue (Err error.Memory))
 
 -- a step that denies
 abbrev pub IsDenied : LookupControlFlow AuthLookup LookupError → Type 0

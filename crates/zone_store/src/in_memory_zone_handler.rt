@@ -3,18 +3,16 @@ ghost use Rattle.zone_proto.specs.Names.{lower};
 ghost use Rattle.zone_proto.specs.Types.{IN, SOA, AXFR};
 ghost use Rattle.zone_handler.specs.Transfers.{IsNoLookup};
 ghost use Rattle.zone_store.specs.Handlers.{soa, serial, minimum};
-ghost use Rattle.zone_store.specs.Lookup.{absent, answer_sets, denial, error_of, reply, reply_for, Lists, SaysOrMemory, IsDenied};
+ghost use Rattle.zone_store.specs.Lookup.{absent, denial, error_of, IsReply, IsReplyFor, SaysOrMemory, IsDenied};
 ghost use Rattle.zone_map.specs.AnyTypes.{searched_type};
 ghost use Rattle.zone_store.specs.Construction.{made};
-ghost use Rattle.zone_store.specs.FoundSets.{found_set};
 ghost use Rattle.zone_store.specs.Refusals.{Refuses};
+ghost use Rattle.zone_store.specs.Signatures.{answer_signatures};
 ghost use Rattle.zone_map.specs.Upserts.{CnamesStandAlone};
 ghost use Rattle.zone_store.specs.Insertions.{IsUpsert};
 ghost use Rattle.zone_map.specs.Zones.{set_at, owns, put, without, IsZone};
 
-use crate::chain::into_sets;
 use crate::construction;
-use crate::found::Found;
 use crate::inner_in_memory::InnerInMemory;
 use crate::put_refused::PutRefused;
 use crate::searches::Searches;
@@ -23,8 +21,8 @@ use crate::zone_error::ZoneError;
 use std::collections::BTreeMap;
 use std::marker::Model;
 use zone_handler::{
-    AuthLookup, AxfrPolicy, LookupControlFlow, LookupError, LookupOptions, LookupRecords, NetError,
-    RequestInfo, ZoneHandler, ZoneType,
+    AuthLookup, AxfrPolicy, LookupControlFlow, LookupError, LookupOptions, NetError, RequestInfo,
+    ZoneHandler, ZoneType,
 };
 use zone_proto::{
     DNSClass, LowerName, Name, Nsec3Hash, NxProofKind, Record, RecordSet, RecordType, ResponseCode,
@@ -272,9 +270,10 @@ impl<S: Signer, H: Nsec3Hash> InMemoryZoneHandler<S, H> {
         name: &LowerName,
         record_type: RecordType,
         lookup_options: LookupOptions,
+        now: u64,
     ) -> Result<AuthLookup, LookupError>
         ensures { SaysOrMemory lookup_options
-            (reply_for self.now.origin self.now.inner.records lookup_options.dnssec_ok name.now (searched_type self.now.inner.records name.now record_type.0))
+            (IsReplyFor (answer_signatures S.signature_of now lookup_options.dnssec_ok self.now.inner.signers) self.now.origin self.now.inner.records lookup_options.dnssec_ok name.now (searched_type self.now.inner.records name.now record_type.0))
             (LookupControlFlow.Continue result) }
     {
         let record_type = if record_type == RecordType::ANY {
@@ -283,45 +282,14 @@ impl<S: Signer, H: Nsec3Hash> InMemoryZoneHandler<S, H> {
             record_type
         };
         let mut searches = Searches::new();
-        match self
-            .inner
-            .inner_lookup(name, record_type, lookup_options, &mut searches)?
-        {
+        let inner = &self.inner;
+        match inner.inner_lookup(name, record_type, lookup_options, &mut searches)? {
             Some(found) => {
-                let answers = self.answers(
-                    name,
-                    record_type,
-                    found,
-                    lookup_options,
-                    &mut searches,
-                )?;
-                Ok(AuthLookup::answers(answers, None))
+                let options = lookup_options;
+                Ok(inner.answer(name, record_type, found, options, now, &mut searches)?)
             }
             None => Err(self.denial(name)),
         }
-    }
-
-    /// The answer section for a name by the set that was found: the chain from an alias, unless aliases are asked for,
-    /// and else the set alone.
-    fn answers<'z>(
-        &'z self,
-        name: &LowerName,
-        record_type: RecordType,
-        found: Found<'z>,
-        lookup_options: LookupOptions,
-        searches: &mut Searches,
-    ) -> Result<LookupRecords, LookupError>
-        ensures listed { IfOk result (λ section. Lists lookup_options (answer_sets self.now.inner.records lookup_options.dnssec_ok name.now record_type.0 (found_set found.entry)) section) }
-        ensures err { IsOkUnless result LookupError.Memory }
-    {
-        let is_alias = found.set().record_type() == RecordType::CNAME;
-        if !is_alias || record_type == RecordType::CNAME {
-            return Ok(LookupRecords::new(lookup_options, found.into_set()?));
-        }
-        let chain = self
-            .inner
-            .chase_cnames(name, found, record_type, lookup_options, searches)?;
-        Ok(LookupRecords::many(lookup_options, into_sets(chain)?))
     }
 
     /// The negative answer for a name, or want of memory.
@@ -354,7 +322,7 @@ impl<S: Signer, H: Nsec3Hash> ZoneHandler for InMemoryZoneHandler<S, H> {
 
     ghost origin_of = { λ zone. zone.origin };
 
-    ghost lookup_gives = { λ zone name type options now step. SaysOrMemory options (reply zone.origin zone.inner.records options.dnssec_ok name type) step };
+    ghost lookup_gives = { λ zone name type options now step. SaysOrMemory options (IsReply (answer_signatures S.signature_of now options.dnssec_ok zone.inner.signers) zone.origin zone.inner.records options.dnssec_ok name type) step };
 
     fn zone_type(&self) -> ZoneType {
         self.zone_type
@@ -374,21 +342,28 @@ impl<S: Signer, H: Nsec3Hash> ZoneHandler for InMemoryZoneHandler<S, H> {
     /// of ANY the type is [`InnerInMemory::replace_any`]'s. Any other is answered by the set that
     /// [`InnerInMemory::inner_lookup`] finds, or, if that is a CNAME and the query isn't for CNAME, by the chain that
     /// [`InnerInMemory::chase_cnames`] gives from it (RFC 1034 section 3.6.2). Sets come with their signatures where
-    /// `lookup_options` ask for DNSSEC, and no additional section is given.
+    /// `lookup_options` ask for DNSSEC.
+    ///
+    /// The additional section has what [`InnerInMemory::additional_search`] gives from where the last of these sets leads:
+    /// an ANAME set for A, AAAA and ANAME, and a set of NS, MX or SRV for its own type. Where nothing is found there is no
+    /// such section. If addresses are asked for and that last set is an ANAME set, it stands first among the additional
+    /// sets. An ANAME set that is answered alone is then flattened: in its place stands a set of its owner and the type that
+    /// is asked for, with the data of the last additional set where this is of that type, and with the lesser TTL of both.
+    /// Where DNSSEC is asked for it is signed by each signer of the zone that signs it, unless the moment `now`, in seconds
+    /// since 1970, is past the year 9999.
     ///
     /// Where nothing is found the answer is `NameExists` if the name or a name below it owns a set (RFC 2308 section
     /// 2.2), else `NXDomain` for a name at or below the origin (RFC 2308 section 2.1), and else `Refused` (RFC 1035
-    /// section 4.1.1). `Memory` may come in place of these, but not of the answer to AXFR. Neither `request_info` nor the
-    /// moment `now`, in seconds since 1970, is used.
+    /// section 4.1.1). `Memory` may come in place of these, but not of the answer to AXFR. `request_info` isn't used.
     fn lookup(
         &self,
         name: &LowerName,
         record_type: RecordType,
         _request_info: Option<&RequestInfo<'_>>,
         lookup_options: LookupOptions,
-        _now: u64,
+        now: u64,
     ) -> LookupControlFlow<AuthLookup>
-        ensures answer { SaysOrMemory lookup_options (reply self.now.origin self.now.inner.records lookup_options.dnssec_ok name.now record_type.0) result }
+        ensures answer { SaysOrMemory lookup_options (IsReply (answer_signatures S.signature_of now lookup_options.dnssec_ok self.now.inner.signers) self.now.origin self.now.inner.records lookup_options.dnssec_ok name.now record_type.0) result }
         ensures transfer { record_type.0 ≡ AXFR → IsNoLookup result }
         ensures owned_is_not_denied { IsTrue (owns self.now.inner.records name.now record_type.0) → IsDenied result → ⊥ }
     {
@@ -396,6 +371,6 @@ impl<S: Signer, H: Nsec3Hash> ZoneHandler for InMemoryZoneHandler<S, H> {
             let error = NetError::from("AXFR must be handled with ZoneHandler::zone_transfer()");
             return LookupControlFlow::Break(Err(LookupError::from(error)));
         }
-        LookupControlFlow::Continue(self.answer(name, record_type, lookup_options))
+        LookupControlFlow::Continue(self.answer(name, record_type, lookup_options, now))
     }
 }

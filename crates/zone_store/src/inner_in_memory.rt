@@ -157,6 +157,13 @@ impl<S: Signer> InnerInMemory<S> {
         self.records.clear();
     }
 
+    /// The signers, in order.
+    pub(crate) fn signers(&self) -> &[S]
+        ensures { result.now ≡ self.now.signers }
+    {
+        self.signers.as_slice()
+    }
+
     /// The record sets by their keys.
     pub(crate) fn as_map(&self) -> &BTreeMap<RrKey, RecordSet>
         ensures entries { result.now.entries ≡ self.now.records }

@@ -1,16 +1,18 @@
 //! The store of an authoritative zone: its record sets in one ordered map, what makes and changes it, what a search finds
 //! (referrals at zone cuts, RFC 1034 section 4.2.1, the sets of a name, and those of wildcards, section 4.3.3), chains of
-//! aliases (section 3.6.2), the choice of a type for ANY (RFC 8482), and what a lookup answers. The module `program` is
+//! aliases (section 3.6.2), additional records (section 3.7), ANAME, and what a lookup answers. The module `program` is
 //! the command language of `zonectl`, and `laws` has laws of the definitions.
 //!
 //! Contracts see a zone as its origin, class, kind and policy, the list of its sets by name and type, and its signers. An
-//! insertion that answers false or is refused leaves the zone as it was. Additional records, transfers and signing aren't
+//! insertion that answers false or is refused leaves the zone as it was. Transfers and the signing of a zone aren't
 //! there yet.
 #![tactic(auto)]
 
 mod additionals;
+mod answering;
 mod chain;
 mod construction;
+mod flattening;
 mod found;
 mod in_memory_zone_handler;
 mod inner_in_memory;
@@ -18,6 +20,7 @@ pub mod laws;
 pub mod program;
 mod put_refused;
 mod searches;
+mod signing;
 mod start_of_authority;
 mod zone_error;
 
