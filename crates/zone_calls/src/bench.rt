@@ -253,7 +253,7 @@ impl Bench {
         }
     }
 
-    fn chase_from(&self, alloc: Global, question: &Question, first: Found<'_>) -> Answer {
+    fn chase_from<'z>(&'z self, alloc: Global, question: &Question, first: Found<'z>) -> Answer {
         let mut searches = Searches::new();
         let (name, record_type, options) = (&question.name, question.record_type, question.options);
         let inner = self.zone.inner();
