@@ -11,7 +11,7 @@ use Rattle.zone_map.specs.Wildcards.{found}
 use Rattle.zone_store.specs.declared.found.Found.{Found}
 use Rattle.zone_store.specs.FoundSets.{found_set}
 use Rattle.zone_store.specs.Runs.{with_new}
-use Rattle.zone_store.specs.Additionals.{run_target, names_host, leads_to, found_sets, listed_with, AreSearchedNames, IsFollowed, AreCounted, AreSearches}
+use Rattle.zone_store.specs.Additionals.{run_target, names_host, leads_to, found_sets, listed_with, AreSearchedNames, IsFollowed, AreCounted, AreSearches, AreAdditionals, AreListed}
 use Rattle.zone_store.specs.Searches.{one_more, searches_more}
 use Rattle.zone_map.proofs.Chains.{names_equiv}
 use Rattle.zone_store.proofs.ChainSearches.{counted_first}
@@ -156,6 +156,21 @@ module _ (m : Sets) (signed : Bool) (n : Name) (t : ℕ) (from : Name) where
         subst (λ b. AreCounted m signed (cond b [] (n ∷ [])) from (cond b (A ∷ AAAA ∷ []) (t ∷ [])) k) (sym h) (f.names, 0, fs, refl, refl),
         counted_once before after (length f.names) f.counted,
       )
+
+  -- the sets of the two runs for a host
+  pub two_listed : (start other : List Name) (copy : Name) (had some sets : List RRset) (before between after : ℕ) → names_host t ≡ true → start ≡ [] → other ≡ [] → copy ≡ from → had ≡ []
+      → IsFollowed m signed start A copy had some before between → IsFollowed m signed other AAAA from some sets between after → AreAdditionals m signed n t from sets
+  two_listed start other copy had some sets before between after h p q r e f g =
+      let fs : AreSearchedNames m signed [] A (Some from) f.names = subst (λ x. AreSearchedNames m signed x A (Some from) f.names) p (subst (λ x. AreSearchedNames m signed start A (Some x) f.names) r f.searched) in
+      let gs : AreSearchedNames m signed [] AAAA (Some from) g.names = subst (λ x. AreSearchedNames m signed x AAAA (Some from) g.names) q g.searched in
+      let both = g.listed ∙ ap (λ x. listed_with m signed AAAA x g.names) (f.listed ∙ ap (λ x. listed_with m signed A x f.names) e) in
+      subst (λ b. AreListed m signed (cond b [] (n ∷ [])) from (cond b (A ∷ AAAA ∷ []) (t ∷ [])) [] sets) (sym h) (f.names, fs, (g.names, gs, both))
+
+  -- those of the one run for any other type
+  pub one_listed : (start : List Name) (had sets : List RRset) (before after : ℕ) → names_host t ≡ false → start ≡ n ∷ [] → had ≡ [] → IsFollowed m signed start t from had sets before after → AreAdditionals m signed n t from sets
+  one_listed start had sets before after h p e f =
+      let fs : AreSearchedNames m signed (n ∷ []) t (Some from) f.names = subst (λ x. AreSearchedNames m signed x t (Some from) f.names) p f.searched in
+      subst (λ b. AreListed m signed (cond b [] (n ∷ [])) from (cond b (A ∷ AAAA ∷ []) (t ∷ [])) [] sets) (sym h) (f.names, fs, f.listed ∙ ap (λ x. listed_with m signed t x f.names) e)
 
 -- ---- the list of sets
 
