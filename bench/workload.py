@@ -29,8 +29,8 @@ def address(i):
     return f"10.{i >> 16 & 255}.{i >> 8 & 255}.{i & 255}"
 
 
-def answer(*records):
-    return "\n".join([f"answer {len(records)}", *records, "additional 0"])
+def answer(*records, more=()):
+    return "\n".join([f"answer {len(records)}", *records, f"additional {len(more)}", *more])
 
 
 def taken(title, commands):
@@ -46,7 +46,8 @@ def asked(title, questions):
 def workload(names, lookups):
     """A zone of this many names: 1 % are cuts with glue, and of the others every second one stands one level deeper,
     below a name that owns nothing. Beside them there is a wildcard, and for each hundred names a chain of two aliases
-    and an address, and a name of four types. A tenth of the names are changed, in small zones up to half of them. So
+    and an address, which an SRV and an ANAME lead to too, a name of four types, and one of two mail exchanges with their
+    addresses. A tenth of the names are changed, in small zones up to half of them. So
     many lookups are different ones."""
     pick = random.Random(names)
     cuts = [f"cut{i:06d}.{ORIGIN}" for i in range(max(1, names // 100))]
@@ -65,15 +66,30 @@ def workload(names, lookups):
         for i in range(len(cuts))
     ]
     rich = [f"rich{i:06d}.{ORIGIN}" for i in range(len(cuts))]
+    # (the first of two exchanges is the one that is followed, so these are added in order)
+    mails = [
+        (
+            f"mail{i:06d}.{ORIGIN} 300 {{}}MX 10 one{i:06d}.{ORIGIN}",
+            f"mail{i:06d}.{ORIGIN} 300 {{}}MX 20 two{i:06d}.{ORIGIN}",
+            f"one{i:06d}.{ORIGIN} 300 {{}}A {address(i)}",
+            f"one{i:06d}.{ORIGIN} 300 {{}}AAAA 2001:0db8:0000:0000:0000:0000:0000:0001",
+            f"two{i:06d}.{ORIGIN} 300 {{}}A 192.0.2.1",
+        )
+        for i in range(len(cuts))
+    ]
+    services = [(f"service{i:06d}.{ORIGIN} 300 {{}}SRV 0 0 53 third{i:06d}.{ORIGIN}", chains[i][2]) for i in range(len(cuts))]
+    flats = [(f"flat{i:06d}.{ORIGIN}", f"300 {{}}ANAME third{i:06d}.{ORIGIN}", i) for i in range(len(cuts))]
 
     adds = [f"add {host} 300 A {data}" for host, data in hosts.items()]
     for i, cut in enumerate(cuts):
         adds += [f"add {cut} 3600 NS ns.{cut}", f"add ns.{cut} 3600 A {address(i)}"]
         adds += [f"add {link.format('')}" for link in chains[i]]
+        adds += [f"add {services[i][0].format('')}", f"add {flats[i][0]} {flats[i][1].format('')}"]
         for data in ("TXT 61", "AAAA 2001:db8:0:0:0:0:0:1", "SRV 0 0 53 ns", "MX 10 ns"):
             adds.append(f"add {rich[i]} 300 {data}")
     adds.append(f"add *.wild.{ORIGIN} 300 A 192.0.2.1")
     pick.shuffle(adds)
+    adds += [f"add {record.format('')}" for mail in mails for record in mail]
     adds.insert(0, f"add {ORIGIN} 3600 SOA ns.{ORIGIN} host.{ORIGIN} 1 7200 600 86400 300")
 
     known = list(hosts)
@@ -83,6 +99,9 @@ def workload(names, lookups):
     starred = [f"a{i}.b.wild.{ORIGIN}" for i in fewer]
     chained = [pick.choice(chains) for _ in fewer]
     many_typed = [pick.choice(rich) for _ in fewer]
+    mailed = [pick.choice(mails) for _ in fewer]
+    served = [pick.choice(services) for _ in fewer]
+    flattened = [pick.choice(flats) for _ in fewer]
     without_text = [pick.choice(known) for _ in fewer]
     questions = [
         asked("exact lookup", [(f"{host} A", answer(f"{host} 300 IN A {hosts[host]}")) for host in exact]),
@@ -93,6 +112,24 @@ def workload(names, lookups):
             [(f"{chain[0].split()[0]} A", answer(*(link.format("IN ") for link in chain))) for chain in chained],
         ),
         asked("ANY at four types", [(f"{name} ANY", answer(f"{name} 300 IN MX 10 ns.")) for name in many_typed]),
+        asked(
+            "MX with two targets",
+            [
+                (f"{mail[0].split()[0]} MX", answer(*(it.format("IN ") for it in mail[:2]), more=[it.format("IN ") for it in mail[2:4]]))
+                for mail in mailed
+            ],
+        ),
+        asked("SRV", [(f"{it[0].split()[0]} SRV", answer(it[0].format("IN "), more=[it[1].format("IN ")])) for it in served]),
+        asked(
+            "ANAME with A",
+            [
+                (
+                    f"{name} A",
+                    answer(f"{name} 300 IN A {address(i)}", more=[f"{name} {aname.format('IN ')}", chains[i][2].format("IN ")]),
+                )
+                for name, aname, i in flattened
+            ],
+        ),
         asked("no such name", [(f"none{i}.{ORIGIN} A", "error NXDomain") for i in fewer]),
         asked("no such type", [(f"{host} TXT", "error NameExists") for host in without_text]),
     ]
