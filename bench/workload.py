@@ -7,11 +7,13 @@ ORIGIN = "example.com."
 
 
 class Phase(NamedTuple):
-    """Commands of one kind, and the lines that answer each. Without a title they aren't timed."""
+    """Commands of one kind, and the lines that answer each; and those of hickory-server where they differ. Without a title
+    they aren't timed."""
 
     title: str
     commands: list[str]
     answers: list[str]
+    others: list[str] = []
 
 
 class Workload(NamedTuple):
@@ -38,9 +40,14 @@ def taken(title, commands):
     return Phase(title, commands, ["yes"] * len(commands))
 
 
-def asked(title, questions):
-    """Queries, each with its answer."""
-    return Phase(title, [f"lookup {query}" for query, _ in questions], [reply for _, reply in questions])
+def asked(title, questions, others=()):
+    """Queries, each with its answer, and those of hickory-server where they differ."""
+    return Phase(title, [f"lookup {query}" for query, _ in questions], [reply for _, reply in questions], list(others))
+
+
+def flattened(ttl, name, aname, address):
+    """The answer of an ANAME's owner that has the addresses of its target, with this TTL."""
+    return answer(f"{name} {ttl} IN A {address.split()[-1]}", more=[f"{name} {aname.format('IN ')}", address.format("IN ")])
 
 
 def workload(names, lookups):
@@ -78,7 +85,7 @@ def workload(names, lookups):
         for i in range(len(cuts))
     ]
     services = [(f"service{i:06d}.{ORIGIN} 300 {{}}SRV 0 0 53 third{i:06d}.{ORIGIN}", chains[i][2]) for i in range(len(cuts))]
-    flats = [(f"flat{i:06d}.{ORIGIN}", f"300 {{}}ANAME third{i:06d}.{ORIGIN}", i) for i in range(len(cuts))]
+    flats = [(f"flat{i:06d}.{ORIGIN}", f"300 {{}}ANAME third{i:06d}.{ORIGIN}", chains[i][2]) for i in range(len(cuts))]
 
     adds = [f"add {host} 300 A {data}" for host, data in hosts.items()]
     for i, cut in enumerate(cuts):
@@ -101,7 +108,7 @@ def workload(names, lookups):
     many_typed = [pick.choice(rich) for _ in fewer]
     mailed = [pick.choice(mails) for _ in fewer]
     served = [pick.choice(services) for _ in fewer]
-    flattened = [pick.choice(flats) for _ in fewer]
+    aliased = [pick.choice(flats) for _ in fewer]
     without_text = [pick.choice(known) for _ in fewer]
     questions = [
         asked("exact lookup", [(f"{host} A", answer(f"{host} 300 IN A {hosts[host]}")) for host in exact]),
@@ -122,13 +129,9 @@ def workload(names, lookups):
         asked("SRV", [(f"{it[0].split()[0]} SRV", answer(it[0].format("IN "), more=[it[1].format("IN ")])) for it in served]),
         asked(
             "ANAME with A",
-            [
-                (
-                    f"{name} A",
-                    answer(f"{name} 300 IN A {address(i)}", more=[f"{name} {aname.format('IN ')}", chains[i][2].format("IN ")]),
-                )
-                for name, aname, i in flattened
-            ],
+            [(f"{flat[0]} A", flattened(300, *flat)) for flat in aliased],
+            # (its flattened records have the TTL 0)
+            others=[flattened(0, *flat) for flat in aliased],
         ),
         asked("no such name", [(f"none{i}.{ORIGIN} A", "error NXDomain") for i in fewer]),
         asked("no such type", [(f"{host} TXT", "error NameExists") for host in without_text]),
