@@ -40,7 +40,8 @@ impl RecordMap {
         }
     }
 
-    /// The map itself.
+    /// The map itself, whose entries stand in the order of their keys: names in canonical order (RFC 4034 section 6.1), and of
+    /// one name the types in order.
     pub fn as_map(&self) -> &BTreeMap<RrKey, RecordSet>
         ensures entries { result.now.entries ≡ self.now }
         ensures zone { IsZone self.now }
@@ -48,7 +49,7 @@ impl RecordMap {
         &self.sets
     }
 
-    /// The set under a key.
+    /// The set under a key, if there is one.
     pub fn get(&self, key: &RrKey) -> Option<&RecordSet>
         ensures found { option_copied result ≡ set_at self.now key.now.name key.now.record_type.0 }
         ensures stored { IfSome result (λ set. IsStoredAt key.now.name key.now.record_type.0 set.now) }
@@ -57,7 +58,7 @@ impl RecordMap {
     }
 
     /// Whether the name of a key owns its type.
-    pub fn owns(&self, key: &RrKey) -> bool
+    pub(crate) fn owns(&self, key: &RrKey) -> bool
         ensures { result ≡ owns self.now key.now.name key.now.record_type.0 }
     {
         self.sets.contains_key(key)
@@ -65,8 +66,8 @@ impl RecordMap {
 }
 
 impl RecordMap {
-    /// Stores a set under its own key, and gives the one that stood there; a set that is refused for want of memory is
-    /// handed back.
+    /// Stores a set under its own key, in lower case, and gives the one that stood there. Refused for want of memory alone,
+    /// which hands the set back and leaves the map as it was.
     pub fn put(&mut self, key: RrKey, set: RecordSet) -> Result<Option<RecordSet>, RecordSet>
         requires { IsStoredAt key.name key.record_type.0 set }
         ensures before { IfOk result (λ before. before ≡ set_at self.old key.name key.record_type.0) }
@@ -80,7 +81,7 @@ impl RecordMap {
         }
     }
 
-    /// Takes the set out that stands under a key. This takes no memory.
+    /// Takes the set out that stands under a key, and gives it. This takes no memory.
     pub fn remove(&mut self, key: &RrKey) -> Option<RecordSet>
         ensures before { result ≡ set_at self.old key.now.name key.now.record_type.0 }
         ensures removed { self.new ≡ without self.old key.now.name key.now.record_type.0 }
@@ -97,7 +98,8 @@ impl RecordMap {
 }
 
 impl RecordMap {
-    /// Whether a name, or a name below it, owns a set.
+    /// Whether a name, or a name below it, owns a set, so that it is there, though perhaps as an empty non-terminal (RFC 4592
+    /// section 2.2.2). Refused by `Memory` alone.
     pub fn owns_at_or_below(&self, name: &LowerName) -> Result<bool, ProtoError>
         ensures answer { IfOk result (λ owned. owned ≡ owns_at_or_below self.now name.now) }
         ensures err { IsOkUnless result ProtoError.Memory }
@@ -118,7 +120,8 @@ impl RecordMap {
         }
     }
 
-    /// The type that is searched at the name of its least key for a query of ANY.
+    /// The type that is searched for a query of ANY (RFC 8482 section 4.1) at the name of its least key, that of type 0: the
+    /// least of A, CNAME, MX and AAAA that the name owns, else the least type that it owns, else A.
     pub fn any_type(&self, least: &RrKey) -> RecordType
         requires { least.now.record_type.0 ≡ 0 }
         ensures { result.0 ≡ any_type self.now least.now.name }
@@ -138,7 +141,12 @@ impl RecordMap {
         first.unwrap_or(RecordType::A)
     }
 
-    /// Takes a record into the set of its name and type, or makes that set.
+    /// Takes a record into the set of its owner name and type, or makes that set, which keeps `serial`.
+    ///
+    /// The answer is whether the record was taken. It isn't taken if it is of another class than `dns_class`; if its owner owns
+    /// a type that may not stand beside the record's, one of the two being CNAME and neither NSEC or NSEC3 (RFC 1034 section
+    /// 3.6.2); or if the set refuses it, as [`RecordSet::insert`] says. A record that isn't taken changes nothing, and so does
+    /// a refusal, by `Memory` alone.
     pub fn upsert(
         &mut self,
         record: Record,

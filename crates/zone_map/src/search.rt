@@ -6,8 +6,9 @@ ghost use Rattle.zone_map.specs.Walks.{referral_above, own_referral, IsWalked, I
 use crate::record_map::RecordMap;
 use zone_proto::{RecordSet, RecordType, RrKey};
 
-/// What the key's name has for a query of the key's type: the referral, else the exact set. The name is shortened to
-/// where the walk up to the nearest delegation stopped.
+/// What the key's name has for a query of the key's type: the referral at the nearest zone cut (RFC 1034 section 4.2.1),
+/// else the exact set, the one of the least type that answers. Where neither is there, the key's name is left where the walk
+/// up to the nearest delegation stopped, from which a search for stars goes on. Takes no memory.
 pub fn direct<'m>(records: &'m RecordMap, key: &mut RrKey) -> Option<&'m RecordSet>
     ensures found { option_copied result ≡ direct records.now key.old.name key.old.record_type.0 }
     ensures settled { option_copied result ≡ None → IsSettled records.now (drop 1 key.old.name) key.new.name None }
@@ -105,8 +106,8 @@ fn exact<'m>(records: &'m RecordMap, key: &mut RrKey) -> Option<&'m RecordSet>
     None
 }
 
-/// Whether an ANAME answers for a type.
-fn is_address(record_type: RecordType) -> bool
+/// Whether a type is one of addresses, A or AAAA, for which an ANAME answers.
+pub fn is_address(record_type: RecordType) -> bool
     ensures { result ≡ is_address record_type.0 }
 {
     record_type == RecordType::A || record_type == RecordType::AAAA

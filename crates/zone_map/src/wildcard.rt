@@ -7,8 +7,10 @@ use crate::record_map::RecordMap;
 use crate::search::{Above, direct_of_star};
 use zone_proto::{LowerName, Name, ProtoError, Record, RecordSet, RecordType, RrKey};
 
-/// The set that a wildcard gives a name, and nothing for the root and for a name that begins with `*`. `end` is where
-/// the walk from the name up to the nearest delegation stopped, which gave no referral.
+/// The set that a wildcard gives a name (RFC 1034 section 4.3.3), and nothing for the root and for a name that begins with
+/// `*`: that of the star under the longest of the name's proper ancestors whose star has one, under the name, with
+/// signatures only if `signed`. `end` is where the walk from the name up to the nearest delegation stopped, which gave no
+/// referral. Refused by `Memory` alone.
 pub fn wildcard(
     records: &RecordMap,
     name: &LowerName,

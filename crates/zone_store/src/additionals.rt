@@ -15,6 +15,7 @@ use crate::found::Found;
 use crate::inner_in_memory::InnerInMemory;
 use crate::searches::Searches;
 use zone_handler::{LookupError, LookupOptions};
+use zone_map::search::is_address;
 use zone_proto::{LowerName, Name, ProtoError, RData, RecordSet, RecordType, Signer};
 
 impl<S: Signer> InnerInMemory<S> {
@@ -192,7 +193,5 @@ fn followed(data: &RData, record_type: RecordType) -> Option<&Name>
 fn leads_to_addresses(record_type: RecordType) -> bool
     ensures { result ≡ (is_address record_type.0 || (record_type.0 == ANAME)) }
 {
-    record_type == RecordType::A
-        || record_type == RecordType::AAAA
-        || record_type == RecordType::ANAME
+    is_address(record_type) || record_type == RecordType::ANAME
 }

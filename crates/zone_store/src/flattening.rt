@@ -5,6 +5,7 @@ ghost use Rattle.zone_store.specs.Signatures.{answer_signatures};
 
 use crate::signing::{LAST_MOMENT, sign_set};
 use zone_handler::LookupOptions;
+use zone_map::search::is_address;
 use zone_proto::{ProtoError, RecordSet, RecordType, Signer};
 
 /// An ANAME set flattened for a type by the last additional set, and signed where DNSSEC is asked for and the moment `now`,
@@ -50,6 +51,5 @@ fn unsigned_flattened(
 pub(crate) fn stands_for_addresses(record_type: RecordType, set: &RecordSet) -> bool
     ensures { result ≡ stands_for_addresses record_type.0 set.now }
 {
-    set.record_type() == RecordType::ANAME
-        && (record_type == RecordType::A || record_type == RecordType::AAAA)
+    set.record_type() == RecordType::ANAME && is_address(record_type)
 }

@@ -285,8 +285,7 @@ impl<S: Signer, H: Nsec3Hash> InMemoryZoneHandler<S, H> {
         let inner = &self.inner;
         match inner.inner_lookup(name, record_type, lookup_options, &mut searches)? {
             Some(found) => {
-                let options = lookup_options;
-                Ok(inner.answer(name, record_type, found, options, now, &mut searches)?)
+                Ok(inner.answer(name, record_type, found, lookup_options, now, &mut searches)?)
             }
             None => Err(self.denial(name)),
         }
