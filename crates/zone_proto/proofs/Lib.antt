@@ -11,6 +11,7 @@ pub mod RoundTrip
 pub mod BeforeLaws
 pub mod TypeTextLaws
 pub mod SetLaws
+pub mod Stepped
 mod SetExamples
 mod TypeExamples
 pub mod Members

@@ -23,4 +23,5 @@ pub mod Sets
 pub mod SetEquality
 pub mod SetInside
 pub mod Insertion
+pub mod Stepping
 pub mod Signing

@@ -36,6 +36,7 @@ mod rrset_records;
 mod seq;
 mod signer;
 mod soa_record;
+mod stepping;
 mod suffixes;
 mod text;
 mod wire;

@@ -4,6 +4,7 @@ ghost use Rattle.zone_proto.specs.Types.{IN, RRSIG};
 ghost use Rattle.zone_proto.specs.Data.{type_of};
 ghost use Rattle.zone_proto.specs.Sets.{IsSet, AreSignatures, inserted, lent, record_of};
 ghost use Rattle.zone_proto.specs.Results.{IsChange, IsCopy, IsInsertion};
+ghost use Rattle.zone_proto.specs.Stepping.{stepped};
 
 use crate::dns_class::DNSClass;
 use crate::error::ProtoError;
@@ -13,6 +14,7 @@ use crate::rdata::RData;
 use crate::record::{Record, clone_records};
 use crate::record_type::RecordType;
 use crate::rrset_records::RrsetRecords;
+use crate::stepping::step;
 use std::marker::Model;
 
 /// The records of one owner and type, with the set's TTL, serial and signatures (RFC 2181 section 5).
@@ -116,6 +118,15 @@ impl RecordSet {
     pub fn clone(&self) -> Result<RecordSet, ProtoError>
         ensures { IsCopy result self.now }
     {
+        let mut copy = self.clone_without_rrsigs()?;
+        copy.rrsigs = clone_records(*self.rrsigs.allocator(), self.rrsigs.as_slice())?;
+        Ok(copy)
+    }
+
+    /// A copy of the set without its signatures, as it stands before it is signed anew. `Memory` where none is found.
+    pub fn clone_without_rrsigs(&self) -> Result<RecordSet, ProtoError>
+        ensures { IsCopy result (record self.now { signatures = [] }) }
+    {
         let alloc = *self.records.allocator();
         Ok(RecordSet {
             name: self.name.clone()?,
@@ -124,7 +135,7 @@ impl RecordSet {
             ttl: self.ttl,
             serial: self.serial,
             records: clone_records(alloc, self.records.as_slice())?,
-            rrsigs: clone_records(alloc, self.rrsigs.as_slice())?,
+            rrsigs: Vec::new(alloc),
         })
     }
 
@@ -240,6 +251,18 @@ impl RecordSet {
         ensures { IsChange self.old (record self.old { signatures = self.old.signatures ++ rrsig ∷ [] }) result self.new }
     {
         put_last(&mut self.rrsigs, rrsig)
+    }
+
+    /// Steps the serial of the set's SOA by one modulo 2^32, which becomes the set's serial too; a set that doesn't begin
+    /// with an SOA stays as it is. The signatures stay. Takes no memory.
+    pub fn step_serial(&mut self)
+        ensures { self.new ≡ stepped self.old }
+    {
+        if let Some(first) = self.records.first_mut() {
+            if let Some(next) = step(&mut first.rdata) {
+                self.serial = next;
+            }
+        }
     }
 
     /// Drops the signatures. Takes no memory.
