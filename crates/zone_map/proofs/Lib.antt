@@ -1,6 +1,7 @@
 pub mod Owned
 pub mod Neighbours
 pub mod Stored
+pub mod Entries
 pub mod Upserting
 pub mod Clashing
 pub mod CnamesAlone

@@ -1,8 +1,8 @@
 -- A zone's record sets: a finite map from an owner name and a type to a record set
 use Rattle.std.specs.Prelude.{◌≡◌, ◌≢◌, ℕ, Bool, cond, List, [], map, ◌==◌, Option, Some, None, filter_map, is_some}
-use Rattle.std.specs.List.{list_any}
+use Rattle.std.specs.List.{list_any, All}
 use Rattle.std.specs.List.Sorted.{IsStrictlySortedBy}
-use Rattle.std.specs.Map.{lookup, remove_entry, keys_of}
+use Rattle.std.specs.Map.{lookup, remove_entry, keys_of, update_all}
 use Rattle.std.specs.BTreeMap.{insert_entry}
 use Rattle.zone_proto.specs.declared.rr_key.RrKey.{RrKey}
 use Rattle.zone_proto.specs.Keys.{key, key_cmp, key_eq}
@@ -45,12 +45,20 @@ put m n t s = insert_entry key_cmp m (key n t) s
 abbrev pub without : Sets → Name → ℕ → Sets
 without m n t = remove_entry (key_eq (key n t)) m
 
+-- the set that comes last under a name and a type, among sets by their keys in any order
+abbrev pub last_at : Sets → Name → ℕ → Option RRset
+last_at entries n t = update_all key_eq (λ _. None) entries (key n t)
+
 -- a set stands under its own owner name, in lower case, and type; it has a record, and its records are those of one set
 pub record IsStoredAt (n : Name) (t : ℕ) (s : RRset) : Type 0 where
   pub owner : lower s.owner ≡ n
   pub record_type : s.record_type ≡ t
   pub filled : s.records ≢ []
   pub set : IsSet s.owner s.record_type s.records
+
+-- sets by their keys, in any order, each under its own
+abbrev pub AreStored : Sets → Type 0
+AreStored entries = All (λ e. IsStoredAt e.0.name e.0.record_type.0 e.1) entries
 
 -- the sets of a zone: their keys ascend, so that none stands twice, and each set stands under its own
 pub record IsZone (m : Sets) : Type 0 where

@@ -9,6 +9,8 @@ ghost use Rattle.zone_map.specs.AnyTypes.{is_preferred, any_type};
 ghost use Rattle.zone_map.specs.Zones.{set_at, owns, owns_at_or_below, put, without, IsStoredAt, IsZone};
 ghost use Rattle.zone_map.specs.Upserts.{upserted, with_record, clash, clashes, is_denial_type, CnamesStandAlone};
 
+mod entries;
+
 use std::alloc::Global;
 use std::collections::BTreeMap;
 use std::marker::Model;

@@ -1,0 +1,25 @@
+-- The record map as the list of its sets, and the map of such a list
+use Rattle.std.proofs.Common.{◌≡◌, ℕ, get_or, sym, ◌∙◌, subst}
+use Rattle.std.specs.Prelude.{Option, Some, None, IfSome, All}
+use Rattle.std.specs.List.Sorted.{IsStrictlySortedBy}
+use Rattle.std.specs.Map.{lookup, keys_of, update_all}
+use Rattle.std.proofs.lemmas.Map.Made.{IfSome-update_all}
+use Rattle.zone_proto.specs.declared.rr_key.RrKey.{RrKey}
+use Rattle.zone_proto.specs.Keys.{key, key_cmp, key_eq}
+use Rattle.zone_proto.specs.Sets.{RRset}
+use Rattle.zone_proto.proofs.KeyOrder.{key_same}
+use Rattle.zone_map.specs.Zones.{Sets, IsStoredAt, AreStored, IsZone}
+
+-- sets that stand under their own keys make the sets of a zone
+pub IsZone-last : (es m : Sets) → AreStored es → IsStrictlySortedBy key_cmp (keys_of m) → ((q : RrKey) → lookup (key_eq q) m ≡ update_all key_eq (λ _. None) es q) → IsZone m
+IsZone-last es m h sorted u = record { ordered = sorted; stored = λ n t s e. by (key n t) s e }
+  where
+    by : (q : RrKey) (s : RRset) → lookup (key_eq q) m ≡ Some s → IsStoredAt q.name q.record_type.0 s
+    by q s e =
+        let P = λ (v : RRset). IsStoredAt q.name q.record_type.0 v in
+        let one = IfSome-update_all key_eq P q (λ _. None) es tt (λ k d lt same. subst (λ (x : RrKey). IsStoredAt x.name x.record_type.0 (get_or es k d).1) (key_same _ q same) (h k d lt)) in
+        subst (λ (o : Option RRset). IfSome o P) (sym (u q) ∙ e) one
+
+-- where each entry is found by its key, each set of a zone stands under its key
+pub AreStored-zone : (es : Sets) → IsZone es → All (λ e. lookup (key_eq e.0) es ≡ Some e.1) es → AreStored es
+AreStored-zone es zone found k d lt = let e = get_or es k d in zone.stored e.0.name e.0.record_type.0 e.1 (found k d lt)

@@ -1,0 +1,64 @@
+// The record map as the list of its sets by their keys.
+ghost use Rattle.std.specs.Prelude.{◌≡◌, ℕ, length, IfOk, IsOkUnless};
+ghost use Rattle.std.specs.BTreeMap.{IsFromIterResult};
+ghost use Rattle.zone_proto.specs.Keys.{key_cmp};
+ghost use Rattle.zone_proto.specs.Names.{Name};
+ghost use Rattle.zone_map.specs.Zones.{set_at, last_at, AreStored, IsZone};
+
+use crate::record_map::RecordMap;
+use std::alloc::{AllocError, Global};
+use std::collections::BTreeMap;
+use std::collections::btree_map::{IntoIter, Iter};
+use zone_proto::{ProtoError, RecordSet, RrKey};
+
+impl RecordMap {
+    /// The map of these sets by their keys, of which the last stays where some have one key. Refused for want of memory alone.
+    pub fn from_entries(
+        alloc: Global,
+        entries: Vec<(RrKey, RecordSet)>,
+    ) -> Result<RecordMap, ProtoError>
+        requires { AreStored entries.items }
+        ensures ok { IfOk result (λ map. (n : Name) (t : ℕ) → set_at map n t ≡ last_at entries.items n t) }
+        ensures err { IsOkUnless result ProtoError.Memory }
+    {
+        let sets = collect_entries(alloc, entries)?;
+        Ok(RecordMap { sets })
+    }
+
+    /// The sets by their keys, in the order of the keys. Takes no memory.
+    pub fn iter(&self) -> Iter<'_, RrKey, RecordSet>
+        ensures rest { result ≡ self.now }
+        ensures zone { IsZone self.now }
+        ensures stored { AreStored self.now }
+    {
+        self.sets.iter()
+    }
+
+    /// The sets by their keys, in the order of the keys, handed out. Takes no memory.
+    pub fn into_entries(self) -> IntoIter<RrKey, RecordSet, Global>
+        ensures rest { result ≡ self }
+        ensures zone { IsZone self }
+        ensures stored { AreStored self }
+    {
+        // Its clauses say that each set is found by its key.
+        let _ = self.sets.iter();
+        self.sets.into_iter()
+    }
+
+    /// How many sets there are.
+    pub fn len(&self) -> usize
+        ensures { result ≡ length self.now }
+    {
+        self.sets.len()
+    }
+}
+
+/// The map of these sets by their keys.
+fn collect_entries(
+    alloc: Global,
+    entries: Vec<(RrKey, RecordSet)>,
+) -> Result<BTreeMap<RrKey, RecordSet>, AllocError>
+    ensures { IfOk result (λ sets. IsFromIterResult key_cmp entries.items sets) }
+{
+    entries.into_iter().collect(alloc)
+}
