@@ -3,7 +3,7 @@ use Rattle.std.proofs.Common.{◌≡◌, ℕ, ◌≤◌, ◌<◌, List, [], ◌�
 use Rattle.zone_proto.specs.Names.{Name}
 use Rattle.zone_proto.specs.Data.{type_of}
 use Rattle.zone_proto.specs.Sets.{IsSet, is_single}
-use Rattle.zone_proto.specs.Stepping.{stepped_data}
+use Rattle.zone_proto.specs.Stepping.{stepped_data, stepped_records}
 use Rattle.zone_proto.specs.declared.rdata.RData.{RData}
 use Rattle.zone_proto.specs.declared.rdata.RData.TheVariants as V
 use Rattle.zone_proto.specs.declared.record.Record.{Record}
@@ -18,6 +18,10 @@ IsSet-stepped o t r (x ∷ xs) (V.SOA a) e h =
     let one : length (r ∷ x ∷ xs) ≤ 1 = h.single (subst (λ (n : ℕ). is_single n ≡ true) kind refl) in
     absurd (omega (arith, one))
 IsSet-stepped o t r rs d e h = subst (λ (x : RData). IsSet o t (record r { rdata = x } ∷ rs)) e h
+
+pub IsSet-stepped_set : (o : Name) (t : ℕ) (rs : List Record) → IsSet o t rs → IsSet o t (stepped_records rs)
+IsSet-stepped_set o t [] h = h
+IsSet-stepped_set o t (r ∷ rs) h = IsSet-stepped o t r rs r.rdata refl h
 
 -- the same of the first record of a list, where it is written
 pub IsSet-step_first : (o : Name) (t : ℕ) (rs : List Record) (r : Record) (d : RData) → r ≡ get_or rs 0 r → 0 < length rs → d ≡ stepped_data r.rdata → IsSet o t rs

@@ -1,18 +1,14 @@
-// The signatures of sets.
+//! The signatures of record sets.
 ghost use Rattle.std.specs.Prelude.{◌≡◌, ◌++◌, OnOk, IsOkUnless, option_to_list};
-ghost use Rattle.zone_store.specs.Signatures.{signature, signatures};
+ghost use Rattle.zone_signing.specs.Signatures.{signature, signatures};
 
 use zone_proto::{DNSClass, ProtoError, RData, Record, RecordSet, Signer};
 
 /// The last second of the year 9999, in seconds since 1970: no signature is made past it.
-pub(crate) const LAST_MOMENT: u64 = 253402300799;
+pub const LAST_MOMENT: u64 = 253402300799;
 
 /// Signs a set by each signer in order; one that declines is passed over, and signatures that the set has go.
-pub(crate) fn sign_set<S: Signer>(
-    set: &mut RecordSet,
-    signers: &[S],
-    now: u64,
-) -> Result<(), ProtoError>
+pub fn sign_set<S: Signer>(set: &mut RecordSet, signers: &[S], now: u64) -> Result<(), ProtoError>
     ensures ok { OnOk result (set.new ≡ record set.old { signatures = signatures S.signature_of now signers.now set.old }) }
     ensures err { IsOkUnless result ProtoError.Memory }
 {

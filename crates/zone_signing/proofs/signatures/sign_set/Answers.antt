@@ -2,9 +2,9 @@ use Rattle.std.proofs.Common.{List, ◌++◌, take, ap, sym, ◌∙◌}
 use Rattle.std.specs.Prelude.{filter_map, option_to_list}
 use Rattle.zone_proto.specs.Sets.{RRset}
 use Rattle.zone_proto.specs.declared.record.Record.{Record}
-use Rattle.zone_store.specs.Signatures.{signature}
-use Rattle.zone_store.proofs.SignedSets.{filter_map-take_more}
-use Rattle.zone_store.proofs.signing.sign_set.Goals as goal
+use Rattle.zone_signing.specs.Signatures.{signature}
+use Rattle.zone_signing.proofs.SignedSets.{filter_map-take_more}
+use Rattle.zone_signing.proofs.signatures.sign_set.Goals as goal
 
 -- a signature is made of no signature, so the set that is signed is the one of the start
 pub loop-signer-preserved : goal.loop-signer-preserved

@@ -1,6 +1,6 @@
 use Rattle.std.proofs.Common.{◌≡◌, take}
-use Rattle.zone_store.specs.Signatures.{signatures}
-use Rattle.zone_store.proofs.signing.sign_set.Given as goal
+use Rattle.zone_signing.specs.Signatures.{signatures}
+use Rattle.zone_signing.proofs.signatures.sign_set.Given as goal
 
 -- the set has the signatures of the signers passed
 abbrev pub invariant-loop-signer : goal.invariant-loop-signer

@@ -1,0 +1,4 @@
+pub mod SignedSets
+pub mod Changes
+pub mod SecuredSets
+mod SecuredExamples
