@@ -18,6 +18,7 @@ mod net_error;
 mod request;
 mod request_info;
 mod sets_iter;
+mod tsig_response_context;
 mod zone_type;
 
 pub use auth_lookup::AuthLookup;
@@ -33,4 +34,5 @@ pub use net_error::{NetError, NoRecords};
 pub use request::Request;
 pub use request_info::RequestInfo;
 pub use sets_iter::SetsIter;
+pub use tsig_response_context::TSigResponseContext;
 pub use zone_type::ZoneType;
