@@ -3,7 +3,6 @@ pub mod Paths
 pub mod Targets
 pub mod AdditionalRuns
 pub mod AdditionalLaws
-pub mod SignedSets
 pub mod Chasing
 pub mod Denials
 pub mod Replies

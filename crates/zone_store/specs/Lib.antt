@@ -6,9 +6,9 @@ pub mod Searches
 pub mod Runs
 pub mod Additionals
 pub mod AdditionalLaws
-pub mod Signatures
 pub mod Flattening
 pub mod FoundSets
 pub mod Lookup
 pub mod Requests
+pub mod Signing
 pub mod DemoSigners

@@ -26,7 +26,7 @@ use Rattle.zone_map.specs.AnyTypes.{searched_type}
 use Rattle.zone_store.specs.Additionals.{next_name, AreAdditionals}
 use Rattle.zone_store.specs.Flattening.{last_set, alone, beside}
 use Rattle.zone_store.specs.Handlers.{Zone}
-use Rattle.zone_store.specs.Signatures.{answer_signatures}
+use Rattle.zone_signing.specs.Signatures.{answer_signatures}
 
 -- the negative answers: the name is there without the type (RFC 2308 section 2.2), the name isn't there (RFC 2308 section 2.1), the name isn't the zone's (RFC 1035 section 4.1.1)
 pub data Denial : Type 0 where

@@ -5,7 +5,7 @@ ghost use Rattle.zone_handler.specs.declared.lookup_records.LookupRecords.{Looku
 ghost use Rattle.zone_store.specs.Flattening.{last_set, alone, beside};
 ghost use Rattle.zone_store.specs.FoundSets.{found_set};
 ghost use Rattle.zone_store.specs.Lookup.{is_followed, AreFrom, IsAnswer, HasSections, MayList, SaysAnswer};
-ghost use Rattle.zone_store.specs.Signatures.{answer_signatures};
+ghost use Rattle.zone_signing.specs.Signatures.{answer_signatures};
 
 use crate::additionals::next_name;
 use crate::chain::into_sets;

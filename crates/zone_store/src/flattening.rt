@@ -1,12 +1,12 @@
 // ANAME: an owner that takes the addresses of another name as its own.
 ghost use Rattle.std.specs.Prelude.{◌≡◌, IfOk, IsOkUnless};
 ghost use Rattle.zone_store.specs.Flattening.{flattened, stands_for_addresses, unsigned_flattened};
-ghost use Rattle.zone_store.specs.Signatures.{answer_signatures};
+ghost use Rattle.zone_signing.specs.Signatures.{answer_signatures};
 
-use crate::signing::{LAST_MOMENT, sign_set};
 use zone_handler::LookupOptions;
 use zone_map::search::is_address;
 use zone_proto::{ProtoError, RecordSet, RecordType, Signer};
+use zone_signing::signatures::{LAST_MOMENT, sign_set};
 
 /// An ANAME set flattened for a type by the last additional set, and signed where DNSSEC is asked for and the moment `now`,
 /// in seconds since 1970, isn't past the year 9999.

@@ -8,10 +8,12 @@ ghost use Rattle.zone_store.specs.Requests.{IsSearch};
 ghost use Rattle.zone_map.specs.AnyTypes.{searched_type};
 ghost use Rattle.zone_store.specs.Construction.{made};
 ghost use Rattle.zone_store.specs.Refusals.{Refuses};
-ghost use Rattle.zone_store.specs.Signatures.{answer_signatures};
+ghost use Rattle.zone_signing.specs.Signatures.{answer_signatures};
 ghost use Rattle.zone_map.specs.Upserts.{CnamesStandAlone};
 ghost use Rattle.zone_store.specs.Insertions.{IsUpsert};
 ghost use Rattle.zone_map.specs.Zones.{set_at, owns, put, without, IsZone};
+
+mod signing;
 
 use crate::construction;
 use crate::inner_in_memory::InnerInMemory;

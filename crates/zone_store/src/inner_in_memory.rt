@@ -1,5 +1,7 @@
-ghost use Rattle.std.specs.Prelude.{◌≡◌, [], IfOk, IfErr, OnOk, OnErr, IsOkUnless, is_some, unwrap_or, option_map, option_and_then, option_copied};
+ghost use Rattle.std.specs.Prelude.{◌≡◌, [], ◌∷◌, ◌++◌, IfOk, IfErr, OnOk, OnErr, IsOkUnless, is_some, unwrap_or, option_map, option_and_then, option_copied};
 ghost use Rattle.zone_map.specs.AnyTypes.{any_type};
+ghost use Rattle.zone_proto.specs.Types.{SOA};
+ghost use Rattle.zone_signing.specs.Secured.{IsSecured};
 ghost use Rattle.zone_store.specs.FoundSets.{found_set, lent_set};
 ghost use Rattle.zone_map.specs.Search.{direct};
 ghost use Rattle.zone_map.specs.Wildcards.{found};
@@ -15,7 +17,8 @@ use std::collections::BTreeMap;
 use std::marker::Model;
 use zone_handler::{LookupError, LookupOptions};
 use zone_map::{RecordMap, search, wildcard};
-use zone_proto::{DNSClass, LowerName, Record, RecordSet, RecordType, RrKey, Signer};
+use zone_proto::{DNSClass, LowerName, ProtoError, Record, RecordSet, RecordType, RrKey, Signer};
+use zone_signing::securing;
 
 /// The record sets of a zone, by owner name and type, and the signers that sign them.
 #[derive(Drop)]
@@ -155,6 +158,43 @@ impl<S: Signer> InnerInMemory<S> {
         ensures { self.new ≡ record self.old { records = [] } }
     {
         self.records.clear();
+    }
+
+    /// Inserts the record of a signer's key, unless it isn't taken, and puts the signer behind the others.
+    pub(crate) fn add_signer(
+        &mut self,
+        signer: S,
+        key: Record,
+        serial: u32,
+        dns_class: DNSClass,
+    ) -> Result<(), ProtoError>
+        ensures ok { OnOk result (self.new ≡ record { records = unwrap_or (upserted self.old.records dns_class.0 key serial) self.old.records; signers = self.old.signers ++ signer ∷ [] }) }
+        ensures cnames { CnamesStandAlone self.old.records → CnamesStandAlone self.new.records }
+        ensures err { IsOkUnless result ProtoError.Memory }
+        ensures same { OnErr result (self.new ≡ self.old) }
+    {
+        self.signers.push(signer)?;
+        match self.records.upsert(key, serial, dns_class) {
+            Ok(_) => Ok(()),
+            Err(error) => {
+                let _ = self.signers.pop();
+                Err(error)
+            }
+        }
+    }
+
+    /// Secures the record sets of the zone whose SOA stands under `apex`; see [`securing::secured`].
+    pub(crate) fn secure(&mut self, apex: &RrKey, now: u64) -> Result<(), ProtoError>
+        requires { apex.now.record_type.0 ≡ SOA }
+        ensures ok { OnOk result (IsSecured S.signature_of now apex.now.name self.old.signers (set_at self.old.records) self.new.records) }
+        ensures signers { self.new.signers ≡ self.old.signers }
+        ensures err { IsOkUnless result ProtoError.Memory }
+        ensures same { OnErr result (self.new ≡ self.old) }
+    {
+        let no_denials = RecordMap::new(apex.name.alloc());
+        let signers = self.signers.as_slice();
+        self.records = securing::secured(&self.records, None, no_denials, apex, signers, now)?;
+        Ok(())
     }
 
     /// The signers, in order.

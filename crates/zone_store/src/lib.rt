@@ -20,7 +20,6 @@ pub mod laws;
 pub mod program;
 mod put_refused;
 mod searches;
-mod signing;
 mod start_of_authority;
 mod zone_error;
 

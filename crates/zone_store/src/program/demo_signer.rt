@@ -1,11 +1,17 @@
-ghost use Rattle.std.specs.Prelude.{None, ◌≡◌, IfOk, IsOkUnless};
+ghost use Rattle.std.specs.Prelude.{Some, ◌≡◌, IfOk, IsOkUnless};
+ghost use Rattle.zone_store.specs.DemoSigners.{octets_of, demo_key, demo_signature, signed_labels};
 
 use std::marker::Model;
-use zone_proto::{DNSClass, DNSKEY, LowerName, ProtoError, RRSIG, RecordSet, Signer};
+use zone_proto::{DNSClass, DNSKEY, LowerName, Name, ProtoError, RRSIG, RecordSet, Seq, Signer};
 
-/// The signer of the program's demonstrations, which is no cryptography.
-///
-/// So far it has no key and signs nothing.
+/// The algorithm's number, which is for private use (RFC 4034 appendix A.1.1).
+const ALGORITHM: u8 = 253;
+
+/// For how many seconds a signature holds: a day.
+const VALIDITY: u32 = 86_400;
+
+/// The signer of the program's demonstrations, which is no cryptography: the two octets of its number stand for its key and
+/// for each of its signatures.
 #[derive(Drop)]
 pub struct DemoSigner {
     number: u16,
@@ -32,25 +38,58 @@ impl DemoSigner {
             origin: origin.clone()?,
         })
     }
+
+    /// The two octets of the number, the high one first.
+    fn octets(&self) -> Result<Seq<u8>, ProtoError>
+        ensures ok { IfOk result (λ octets. octets ≡ octets_of self.now) }
+        ensures err { IsOkUnless result ProtoError.Memory }
+    {
+        let mut octets = Vec::with_capacity(self.origin.alloc(), 2)?;
+        octets.push((self.number / 256) as u8)?;
+        octets.push(self.number as u8)?;
+        Ok(Seq::from_vec(octets))
+    }
 }
 
 impl Signer for DemoSigner {
-    ghost key_of = { λ _. None };
+    ghost key_of = { λ signer. Some (demo_key signer) };
 
-    ghost signature_of = { λ _ _ _ _. None };
+    ghost signature_of = { λ signer part _ now. Some (demo_signature signer part now) };
 
-    /// None: the signer has no key yet.
     fn dnskey(&self) -> Result<Option<DNSKEY>, ProtoError> {
-        Ok(None)
+        Ok(Some(DNSKEY {
+            flags: 256,
+            protocol: 3,
+            algorithm: ALGORITHM,
+            public_key: self.octets()?,
+        }))
     }
 
-    /// None: the signer signs nothing yet.
     fn sign(
         &self,
-        _set: &RecordSet,
+        set: &RecordSet,
         _class: DNSClass,
-        _inception: u64,
+        inception: u64,
     ) -> Result<Option<RRSIG>, ProtoError> {
-        Ok(None)
+        let inception = inception as u32;
+        Ok(Some(RRSIG {
+            type_covered: set.record_type(),
+            algorithm: ALGORITHM,
+            num_labels: signed_labels(set.name()),
+            original_ttl: set.ttl(),
+            expiration: inception.wrapping_add(VALIDITY),
+            inception,
+            key_tag: self.number,
+            signer_name: Name::from(self.origin.clone()?),
+            signature: self.octets()?,
+        }))
     }
+}
+
+/// How many labels an owner has, without the root and a leading star (RFC 4034 section 3.1.3).
+fn signed_labels(owner: &Name) -> u8
+    ensures { result ≡ signed_labels owner.now }
+{
+    let stars = if owner.is_wildcard() { 1 } else { 0 };
+    owner.num_labels().saturating_sub(stars) as u8
 }

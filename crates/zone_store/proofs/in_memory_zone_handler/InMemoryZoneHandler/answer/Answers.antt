@@ -5,7 +5,7 @@ use Rattle.zone_handler.specs.declared.control_flow.LookupControlFlow.TheVariant
 use Rattle.zone_map.specs.AnyTypes.{any_type, searched_type}
 use Rattle.zone_store.specs.FoundSets.{found_set}
 use Rattle.zone_store.specs.Lookup.{IsAnswer, IsReplyFor, SaysAnswer, SaysOrMemory}
-use Rattle.zone_store.specs.Signatures.{answer_signatures}
+use Rattle.zone_signing.specs.Signatures.{answer_signatures}
 use Rattle.zone_map.specs.Wildcards.{found}
 use Rattle.zone_map.specs.Zones.{Sets}
 use Rattle.zone_store.proofs.Replies.{says_found, says_none}

@@ -1,5 +1,5 @@
 use Rattle.zone_handler.specs.declared.control_flow.LookupControlFlow.TheVariants.{Continue}
-use Rattle.zone_store.specs.Signatures.{answer_signatures}
+use Rattle.zone_signing.specs.Signatures.{answer_signatures}
 use Rattle.zone_store.proofs.Replies.{owned_is_answered}
 use Rattle.zone_store.proofs.in_memory_zone_handler.InMemoryZoneHandlerZoneHandler.lookup.Goals as goal
 

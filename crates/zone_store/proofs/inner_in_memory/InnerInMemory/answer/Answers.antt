@@ -6,7 +6,7 @@ use Rattle.zone_handler.specs.declared.auth_lookup.AuthLookup.{AuthLookup}
 use Rattle.zone_store.specs.Flattening.{last_set, alone, beside}
 use Rattle.zone_store.specs.FoundSets.{found_set}
 use Rattle.zone_store.specs.Lookup.{is_followed, AreFrom, IsAnswer, HasSections, SaysAnswer}
-use Rattle.zone_store.specs.Signatures.{answer_signatures}
+use Rattle.zone_signing.specs.Signatures.{answer_signatures}
 use Rattle.zone_store.proofs.Replies.{alone_answers}
 use Rattle.zone_store.proofs.inner_in_memory.InnerInMemory.answer.Goals as goal
 

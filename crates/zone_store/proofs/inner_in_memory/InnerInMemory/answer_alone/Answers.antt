@@ -2,7 +2,7 @@ use Rattle.std.proofs.Common.{ap, sym, ◌∙◌}
 use Rattle.std.specs.Prelude.{option_copied}
 use Rattle.zone_handler.specs.declared.auth_lookup.AuthLookup.TheVariants as answer
 use Rattle.zone_store.specs.Flattening.{last_set, flattened}
-use Rattle.zone_store.specs.Signatures.{answer_signatures}
+use Rattle.zone_signing.specs.Signatures.{answer_signatures}
 use Rattle.zone_store.proofs.Chasing.{no_value}
 use Rattle.zone_store.proofs.Replies.{has_one, stays_alone, nothing_before, stays_without, none_beside, is_flattened, stands_first, some_left}
 use Rattle.zone_store.proofs.inner_in_memory.InnerInMemory.answer_alone.Goals as goal

@@ -1,0 +1,15 @@
+/// Why a zone isn't secured. Where there are several causes, the first of them here is told; `Memory` may come instead of any
+/// but `TimeOutOfRange`.
+#[derive(Clone, Copy, PartialEq, Eq, Debug)]
+pub enum SecureError {
+    /// The moment is past the year 9999.
+    TimeOutOfRange,
+    /// The zone is denied by NSEC3, and a CNAME stands at its origin, beside which no NSEC3PARAM may stand.
+    CnameAtOrigin,
+    /// The hash of the zone has no digest of a name.
+    Hash,
+    /// The owner of an NSEC3 would be longer than a name may be.
+    OwnerTooLong,
+    /// No memory was found.
+    Memory,
+}
