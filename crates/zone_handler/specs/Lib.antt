@@ -4,3 +4,4 @@ pub mod Errors
 pub mod Answers
 pub mod AuthLookup
 pub mod Transfers
+pub mod Defaults

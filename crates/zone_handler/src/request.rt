@@ -1,4 +1,4 @@
-ghost use Rattle.std.specs.Prelude.{◌≡◌, ◌∷◌, [], length, IfOk, IfErr};
+ghost use Rattle.std.specs.Prelude.{◌≡◌, ◌↔◌, ◌∷◌, [], length, IsOk, IfOk, IfErr};
 
 use crate::lookup_error::LookupError;
 use crate::request_info::RequestInfo;
@@ -15,6 +15,7 @@ impl Request {
     /// What a handler is told of this request: its only question, since a query has one (RFC 9619 section 4). Refused by
     /// `BadQueryCount`, with the number of questions, for none and for several. Takes no memory.
     pub fn request_info(&self) -> Result<RequestInfo<'_>, LookupError>
+        ensures one { IsOk result ↔ (length self.now.queries.items ≡ 1) }
         ensures ok { IfOk result (λ info. self.now.queries.items ≡ info.query.now ∷ []) }
         ensures err { IfErr result (λ error. error ≡ LookupError.BadQueryCount (length self.now.queries.items)) }
     {

@@ -1,4 +1,4 @@
--- Nothing that is owned is denied, and what a found set is answered with
+-- What is owned is answered, and what a found set is answered with
 use Rattle.std.proofs.Common.{◌≡◌, ℕ, zero, suc, ◌-◌, ◌<◌, arith, length, ◌==◌, not, ◌&&◌, Bool, true, false, cond, List, [], ◌∷◌, refl, sym, ap, ◌∙◌, eqb-true, true≢false, ◌⊎◌, inl, inr, subst}
 use Rattle.std.specs.Prelude.{Option, Some, None, Ok, Err, is_some, slice_get, MatchOption}
 use Rattle.zone_proto.specs.declared.record.Record.{Record}
@@ -21,33 +21,24 @@ use Rattle.zone_map.specs.Wildcards.{found}
 use Rattle.zone_map.specs.Chains.{chain}
 use Rattle.zone_map.specs.AnyTypes.{searched_type}
 use Rattle.zone_store.specs.Flattening.{last_set, stands_for_addresses, flattened, alone, beside}
-use Rattle.zone_store.specs.Lookup.{Denial, name_exists, nx_domain, refused, denial, error_of, Reply, answered, denied, is_followed, answer_sets, answer_section, AreFrom, IsAnswer, IsReplyFor, MayList, HasSections, Says, SaysAnswer, SaysOrMemory, IsDenied}
+use Rattle.zone_store.specs.Lookup.{denial, error_of, Reply, answered, denied, is_followed, answer_sets, answer_section, AreFrom, IsAnswer, IsReplyFor, MayList, HasSections, Says, SaysAnswer, SaysOrMemory, IsAnswered}
 use Rattle.zone_map.proofs.AnyTypes.{found_owned, searched_owned}
 
--- want of memory is no denial
-not_memory : (step : LookupControlFlow AuthLookup LookupError) (d : Denial) → step ≡ Continue (Err error.Memory) → step ≡ Continue (Err (error_of d)) → ⊥
-not_memory step name_exists h k = cc
-not_memory step nx_domain h k = cc
-not_memory step refused h k = cc
-
--- nor is an answer
-not_answer : (step : LookupControlFlow AuthLookup LookupError) (a : AuthLookup) (d : Denial) → step ≡ Continue (Ok a) → step ≡ Continue (Err (error_of d)) → ⊥
-not_answer step a d h k = cc
-
 module _ (sign : RRset → List Record) (m : Sets) (n : Name) (t : ℕ) (options : LookupOptions) where
-  pub not_denied : (origin : Name) (step : LookupControlFlow AuthLookup LookupError) → owns m n t ≡ true
-      → SaysOrMemory options (IsReplyFor sign origin m options.dnssec_ok n (searched_type m n t)) step → IsDenied step → ⊥
-  not_denied origin step h (inr r) (d, e) = not_memory step d r e
-  not_denied origin step h (inl (r, is, says)) (d, e) = by (found m options.dnssec_ok n (searched_type m n t)) (found_owned m options.dnssec_ok n (searched_type m n t) (searched_owned m n t h)) is
+  -- a query for what is owned is answered
+  pub owned_is_answered : (origin : Name) (step : LookupControlFlow AuthLookup LookupError) → owns m n t ≡ true
+      → SaysOrMemory options (IsReplyFor sign origin m options.dnssec_ok n (searched_type m n t)) step → IsAnswered step
+  owned_is_answered origin step h (inr r) = inr r
+  owned_is_answered origin step h (inl (r, is, says)) = by (found m options.dnssec_ok n (searched_type m n t)) (found_owned m options.dnssec_ok n (searched_type m n t) (searched_owned m n t h)) is
     where
       told : (r q : Reply) → r ≡ q → Says options r step → Says options q step
       told r q e s = subst (λ x. Says options x step) e s
 
-      by : (o : Option RRset) → is_some o ≡ true → MatchOption o (r ≡ denied (denial origin m n)) (λ s. IsAnswer sign m options.dnssec_ok n (searched_type m n t) s r) → ⊥
-      by None k i = true≢false (sym k)
+      by : (o : Option RRset) → is_some o ≡ true → MatchOption o (r ≡ denied (denial origin m n)) (λ s. IsAnswer sign m options.dnssec_ok n (searched_type m n t) s r) → IsAnswered step
+      by None k i = absurd (true≢false (sym k))
       by (Some s) k i =
           let a = told r (answered (answer_section sign m options.dnssec_ok n (searched_type m n t) s i.more) (beside (searched_type m n t) (last_set (answer_sets m options.dnssec_ok n (searched_type m n t) s)) i.more)) i.sections says in
-          not_answer step a.0 d a.1 e
+          inl (a.0, a.1)
 
   -- ---- the answer by what is found
 

@@ -10,4 +10,5 @@ pub mod Signatures
 pub mod Flattening
 pub mod FoundSets
 pub mod Lookup
+pub mod Requests
 pub mod DemoSigners

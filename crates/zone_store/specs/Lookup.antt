@@ -2,9 +2,11 @@
 use Rattle.std.specs.Prelude.{◌≡◌, ◌≢◌, ℕ, Bool, ◌&&◌, not, cond, ◌==◌, List, [], ◌∷◌, Option, Ok, Err, ◌⊎◌, MatchOption, option_and_then}
 use Rattle.std.specs.Bool.{MatchBool}
 use Rattle.zone_proto.specs.declared.response_code.ResponseCode.TheVariants as code
+use Rattle.zone_proto.specs.declared.rdata.signing.RRSIG.{RRSIG}
 use Rattle.zone_proto.specs.declared.record.Record.{Record}
 use Rattle.zone_proto.specs.Names.{Name, is_at_or_above}
 use Rattle.zone_proto.specs.Sets.{RRset}
+use Rattle.zone_proto.specs.Signing.{SignedPart}
 use Rattle.zone_proto.specs.Types.{CNAME, AXFR}
 use Rattle.zone_handler.specs.declared.auth_lookup.AuthLookup.{AuthLookup}
 use Rattle.zone_handler.specs.declared.auth_lookup.AuthLookup.TheVariants as answer
@@ -23,6 +25,8 @@ use Rattle.zone_map.specs.Chains.{chain}
 use Rattle.zone_map.specs.AnyTypes.{searched_type}
 use Rattle.zone_store.specs.Additionals.{next_name, AreAdditionals}
 use Rattle.zone_store.specs.Flattening.{last_set, alone, beside}
+use Rattle.zone_store.specs.Handlers.{Zone}
+use Rattle.zone_store.specs.Signatures.{answer_signatures}
 
 -- the negative answers: the name is there without the type (RFC 2308 section 2.2), the name isn't there (RFC 2308 section 2.1), the name isn't the zone's (RFC 1035 section 4.1.1)
 pub data Denial : Type 0 where
@@ -106,6 +110,11 @@ Says options (answered sets more) step = (a : AuthLookup) × (step ≡ Continue 
 abbrev pub SaysOrMemory : LookupOptions → (Reply → Type 0) → LookupControlFlow AuthLookup LookupError → Type 0
 SaysOrMemory options IsTheReply step = ((r : Reply) × IsTheReply r × Says options r step) ⊎ (step ≡ Continue (Err error.Memory))
 
--- a step that denies
-abbrev pub IsDenied : LookupControlFlow AuthLookup LookupError → Type 0
-IsDenied step = (d : Denial) × (step ≡ Continue (Err (error_of d)))
+-- how a lookup in a zone may answer: by its reply, in which a set that the answer makes has the signatures of the zone's signers
+abbrev pub IsLookup : {S H : Type 0} → (S → SignedPart → ℕ → ℕ → Option RRSIG) → Zone S H → Name → ℕ → LookupOptions → ℕ → LookupControlFlow AuthLookup LookupError → Type 0
+IsLookup signature_of zone n t options now step =
+    SaysOrMemory options (IsReply (answer_signatures signature_of now options.dnssec_ok zone.inner.signers) zone.origin zone.inner.records options.dnssec_ok n t) step
+
+-- a step with an answer, or without memory for one
+abbrev pub IsAnswered : LookupControlFlow AuthLookup LookupError → Type 0
+IsAnswered step = ((a : AuthLookup) × (step ≡ Continue (Ok a))) ⊎ (step ≡ Continue (Err error.Memory))

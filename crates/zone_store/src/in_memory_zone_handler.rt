@@ -1,9 +1,10 @@
-ghost use Rattle.std.specs.Prelude.{◌≡◌, ◌⊎◌, false, [], Ok, Err, IfErr, IfOk, OnOk, OnErr, IsOkUnless, IsTrue, is_some, unwrap_or, option_and_then, option_copied};
+ghost use Rattle.std.specs.Prelude.{◌≡◌, ◌≢◌, ◌⊎◌, false, [], Ok, Err, IfErr, IfOk, OnOk, OnErr, IsOkUnless, IsTrue, is_some, unwrap_or, option_and_then, option_copied};
 ghost use Rattle.zone_proto.specs.Names.{lower};
 ghost use Rattle.zone_proto.specs.Types.{IN, SOA, AXFR};
 ghost use Rattle.zone_handler.specs.Transfers.{IsNoLookup};
 ghost use Rattle.zone_store.specs.Handlers.{soa, serial, minimum};
-ghost use Rattle.zone_store.specs.Lookup.{absent, denial, error_of, IsReply, IsReplyFor, SaysOrMemory, IsDenied};
+ghost use Rattle.zone_store.specs.Lookup.{absent, denial, error_of, IsReplyFor, SaysOrMemory, IsLookup, IsAnswered};
+ghost use Rattle.zone_store.specs.Requests.{IsSearch};
 ghost use Rattle.zone_map.specs.AnyTypes.{searched_type};
 ghost use Rattle.zone_store.specs.Construction.{made};
 ghost use Rattle.zone_store.specs.Refusals.{Refuses};
@@ -21,8 +22,8 @@ use crate::zone_error::ZoneError;
 use std::collections::BTreeMap;
 use std::marker::Model;
 use zone_handler::{
-    AuthLookup, AxfrPolicy, LookupControlFlow, LookupError, LookupOptions, NetError, RequestInfo,
-    ZoneHandler, ZoneType,
+    AuthLookup, AxfrPolicy, LookupControlFlow, LookupError, LookupOptions, NetError, Request,
+    RequestInfo, TSigResponseContext, ZoneHandler, ZoneType,
 };
 use zone_proto::{
     DNSClass, LowerName, Name, Nsec3Hash, NxProofKind, Record, RecordSet, RecordType, ResponseCode,
@@ -321,7 +322,9 @@ impl<S: Signer, H: Nsec3Hash> ZoneHandler for InMemoryZoneHandler<S, H> {
 
     ghost origin_of = { λ zone. zone.origin };
 
-    ghost lookup_gives = { λ zone name type options now step. SaysOrMemory options (IsReply (answer_signatures S.signature_of now options.dnssec_ok zone.inner.signers) zone.origin zone.inner.records options.dnssec_ok name type) step };
+    ghost lookup_gives = { IsLookup S.signature_of };
+
+    ghost search_gives = { λ zone request options now answer. IsSearch (λ name type step. IsLookup S.signature_of zone name type options now step) request.queries.items answer };
 
     fn zone_type(&self) -> ZoneType {
         self.zone_type
@@ -362,14 +365,39 @@ impl<S: Signer, H: Nsec3Hash> ZoneHandler for InMemoryZoneHandler<S, H> {
         lookup_options: LookupOptions,
         now: u64,
     ) -> LookupControlFlow<AuthLookup>
-        ensures answer { SaysOrMemory lookup_options (IsReply (answer_signatures S.signature_of now lookup_options.dnssec_ok self.now.inner.signers) self.now.origin self.now.inner.records lookup_options.dnssec_ok name.now record_type.0) result }
+        ensures answer { IsLookup S.signature_of self.now name.now record_type.0 lookup_options now result }
         ensures transfer { record_type.0 ≡ AXFR → IsNoLookup result }
-        ensures owned_is_not_denied { IsTrue (owns self.now.inner.records name.now record_type.0) → IsDenied result → ⊥ }
+        ensures owned_is_answered { IsTrue (owns self.now.inner.records name.now record_type.0) → record_type.0 ≢ AXFR → IsAnswered result }
     {
         if record_type == RecordType::AXFR {
             let error = NetError::from("AXFR must be handled with ZoneHandler::zone_transfer()");
             return LookupControlFlow::Break(Err(LookupError::from(error)));
         }
         LookupControlFlow::Continue(self.answer(name, record_type, lookup_options, now))
+    }
+
+    /// What the zone answers for the only question of `request`: what [`ZoneHandler::lookup`] answers for its name and type,
+    /// with these `lookup_options`, at the moment `now`, in seconds since 1970. A request with no question or with several
+    /// is broken off by `BadQueryCount` with their number, for which no memory is taken (RFC 9619 section 4). No response is
+    /// signed, so that the second part is None.
+    fn search(
+        &self,
+        request: &Request,
+        lookup_options: LookupOptions,
+        now: u64,
+    ) -> (LookupControlFlow<AuthLookup>, Option<TSigResponseContext>) {
+        let info = match request.request_info() {
+            Ok(info) => info,
+            Err(error) => return (LookupControlFlow::Break(Err(error)), None),
+        };
+        let query = info.query;
+        let step = self.lookup(
+            query.name(),
+            query.query_type(),
+            Some(&info),
+            lookup_options,
+            now,
+        );
+        (step, None)
     }
 }

@@ -1,0 +1,3 @@
+/// What it takes to sign the response to a signed request (TSIG, RFC 8945): nothing, since no response is signed.
+#[derive(Clone, Copy, Debug)]
+pub struct TSigResponseContext {}
