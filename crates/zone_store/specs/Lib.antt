@@ -11,4 +11,5 @@ pub mod Flattening
 pub mod FoundSets
 pub mod Lookup
 pub mod Requests
+pub mod Transfers
 pub mod DemoSigners

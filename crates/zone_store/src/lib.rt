@@ -22,6 +22,7 @@ mod put_refused;
 mod searches;
 mod signing;
 mod start_of_authority;
+mod transfer;
 mod zone_error;
 
 pub use found::Found;
