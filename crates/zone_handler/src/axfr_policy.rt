@@ -1,8 +1,10 @@
 ghost use Rattle.zone_handler.specs.declared.axfr_policy.AxfrPolicy.TheVariants.{Deny};
 ghost use Rattle.std.specs.Prelude.{◌≡◌};
 
+use serde::Deserialize;
+
 /// Who may transfer the zone whole (AXFR, RFC 5936).
-#[derive(Clone, Copy, PartialEq, Eq, Debug)]
+#[derive(Clone, Copy, PartialEq, Eq, Debug, Deserialize)]
 pub enum AxfrPolicy {
     /// Nobody. This is the default.
     Deny,

@@ -12,16 +12,19 @@ ghost use Rattle.zone_handler.specs.declared.auth_lookup.AuthLookup.{AuthLookup}
 ghost use Rattle.zone_handler.specs.declared.control_flow.LookupControlFlow.{LookupControlFlow};
 ghost use Rattle.zone_handler.specs.declared.request.Request.{Request};
 ghost use Rattle.zone_handler.specs.declared.tsig_response_context.TSigResponseContext.{TSigResponseContext};
-ghost use Rattle.zone_handler.specs.Defaults.{IsNoUpdate, IsHandedOn};
+ghost use Rattle.zone_handler.specs.declared.zone_transfer.ZoneTransfer.{ZoneTransfer};
+ghost use Rattle.zone_handler.specs.Defaults.{IsNoUpdate, IsHandedOn, IsNoTransfer};
 ghost use Rattle.zone_handler.specs.Transfers.{IsNoLookup};
 
 use crate::auth_lookup::AuthLookup;
 use crate::axfr_policy::AxfrPolicy;
 use crate::control_flow::LookupControlFlow;
+use crate::lookup_error::LookupError;
 use crate::lookup_options::LookupOptions;
 use crate::request::Request;
 use crate::request_info::RequestInfo;
 use crate::tsig_response_context::TSigResponseContext;
+use crate::zone_transfer::ZoneTransfer;
 use crate::zone_type::ZoneType;
 use zone_proto::{LowerName, RecordType, ResponseCode};
 
@@ -55,6 +58,9 @@ pub trait ZoneHandler {
 
     // What may answer a search for a request, with the options, at a moment.
     ghost search_gives: { Self → Request → LookupOptions → ℕ → LookupControlFlow AuthLookup LookupError × Option TSigResponseContext → Type 0 };
+
+    // What may answer a request for the whole zone, with the options, at a moment, besides a refusal as not implemented.
+    ghost transfer_gives: { Self → Request → LookupOptions → ℕ → Option (Result ZoneTransfer LookupError × Option TSigResponseContext) → Type 0 } = { λ _ _ _ _ _. ⊥ };
 
     /// What the server is to this zone.
     fn zone_type(&self) -> ZoneType
@@ -139,4 +145,25 @@ pub trait ZoneHandler {
         now: u64,
     ) -> (LookupControlFlow<AuthLookup>, Option<TSigResponseContext>)
         ensures { search_gives self.now request.now lookup_options now result };
+
+    /// The whole zone, as `request` asks for it (AXFR, RFC 5936), with `lookup_options` and `now` as in
+    /// [`ZoneHandler::lookup`]; and what it takes to sign the response. None where this handler leaves the request to another.
+    ///
+    /// Unless a handler transfers its zone, it refuses each request so by `NotImp` (RFC 1035 section 4.1.1), for which it
+    /// takes no memory.
+    fn zone_transfer(
+        &self,
+        request: &Request,
+        lookup_options: LookupOptions,
+        now: u64,
+    ) -> Option<
+        (
+            Result<ZoneTransfer, LookupError>,
+            Option<TSigResponseContext>,
+        ),
+    >
+        ensures { IsNoTransfer result ⊎ transfer_gives self.now request.now lookup_options now result }
+    {
+        Some((Err(LookupError::from(ResponseCode::NotImp)), None))
+    }
 }

@@ -1,5 +1,7 @@
+use serde::{Deserialize, Serialize};
+
 /// What the server is to the zone (RFC 9499 section 6).
-#[derive(Clone, Copy, PartialEq, Eq, Hash, Debug)]
+#[derive(Clone, Copy, PartialEq, Eq, Hash, Debug, Serialize, Deserialize)]
 pub enum ZoneType {
     /// The zone's source of changes.
     Primary,

@@ -7,6 +7,7 @@ pub mod Chasing
 pub mod Denials
 pub mod Replies
 pub mod Requesting
+pub mod Transferring
 pub mod Examples
 pub mod SearchExamples
 pub mod AdditionalExamples

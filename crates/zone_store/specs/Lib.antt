@@ -10,5 +10,6 @@ pub mod Flattening
 pub mod FoundSets
 pub mod Lookup
 pub mod Requests
+pub mod Transfers
 pub mod Signing
 pub mod DemoSigners

@@ -5,6 +5,7 @@ ghost use Rattle.zone_handler.specs.Transfers.{IsNoLookup};
 ghost use Rattle.zone_store.specs.Handlers.{soa, serial, minimum};
 ghost use Rattle.zone_store.specs.Lookup.{absent, denial, error_of, IsReplyFor, SaysOrMemory, IsLookup, IsAnswered};
 ghost use Rattle.zone_store.specs.Requests.{IsSearch};
+ghost use Rattle.zone_store.specs.Transfers.{IsZoneTransfer};
 ghost use Rattle.zone_map.specs.AnyTypes.{searched_type};
 ghost use Rattle.zone_store.specs.Construction.{made};
 ghost use Rattle.zone_store.specs.Refusals.{Refuses};
@@ -25,7 +26,7 @@ use std::collections::BTreeMap;
 use std::marker::Model;
 use zone_handler::{
     AuthLookup, AxfrPolicy, LookupControlFlow, LookupError, LookupOptions, NetError, Request,
-    RequestInfo, TSigResponseContext, ZoneHandler, ZoneType,
+    RequestInfo, TSigResponseContext, ZoneHandler, ZoneTransfer, ZoneType,
 };
 use zone_proto::{
     DNSClass, LowerName, Name, Nsec3Hash, NxProofKind, Record, RecordSet, RecordType, ResponseCode,
@@ -268,7 +269,7 @@ impl<S: Signer, H: Nsec3Hash> InMemoryZoneHandler<S, H> {
     }
 
     /// The answer to a query of a type other than AXFR.
-    fn answer(
+    pub(crate) fn answer(
         &self,
         name: &LowerName,
         record_type: RecordType,
@@ -325,6 +326,8 @@ impl<S: Signer, H: Nsec3Hash> ZoneHandler for InMemoryZoneHandler<S, H> {
     ghost origin_of = { λ zone. zone.origin };
 
     ghost lookup_gives = { IsLookup S.signature_of };
+
+    ghost transfer_gives = { λ zone request options now answer. IsZoneTransfer S.signature_of zone request.queries.items options now answer };
 
     ghost search_gives = { λ zone request options now answer. IsSearch (λ name type step. IsLookup S.signature_of zone name type options now step) request.queries.items answer };
 
@@ -401,5 +404,31 @@ impl<S: Signer, H: Nsec3Hash> ZoneHandler for InMemoryZoneHandler<S, H> {
             now,
         );
         (step, None)
+    }
+
+    /// The whole zone: what [`ZoneHandler::lookup`] answers for its SOA, with these `lookup_options`, at the moment `now`, in
+    /// seconds since 1970; the records of all sets in the order of their keys, with their signatures where the options ask
+    /// for DNSSEC, but none of type SOA; and the same answer for the SOA again, without signatures (RFC 5936 section 2.2).
+    /// The answer sections alone are listed; such a part is empty where the lookup has no answer.
+    ///
+    /// Refused by `BadQueryCount`, with the number of questions, for none and for several; and, if the only question is of
+    /// type AXFR, by `Refused` unless the policy is `AllowAll`: no signature of a request is tested, so `AllowSigned` lets
+    /// nobody have the zone. Of a question of another type the policy isn't asked. These refusals take no memory. `Memory`
+    /// may come in place of a transfer. The answer is never None, and no response is signed, so that the second part is
+    /// None.
+    fn zone_transfer(
+        &self,
+        request: &Request,
+        lookup_options: LookupOptions,
+        now: u64,
+    ) -> Option<
+        (
+            Result<ZoneTransfer, LookupError>,
+            Option<TSigResponseContext>,
+        ),
+    >
+        ensures { IsZoneTransfer S.signature_of self.now request.now.queries.items lookup_options now result }
+    {
+        Some((self.transfer(request, lookup_options, now), None))
     }
 }

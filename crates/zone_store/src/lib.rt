@@ -21,6 +21,7 @@ pub mod program;
 mod put_refused;
 mod searches;
 mod start_of_authority;
+mod transfer;
 mod zone_error;
 
 pub use found::Found;

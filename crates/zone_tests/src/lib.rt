@@ -9,6 +9,8 @@
 #[cfg(test)]
 mod answers;
 #[cfg(test)]
+mod forms;
+#[cfg(test)]
 mod handler;
 #[cfg(test)]
 mod iterators;

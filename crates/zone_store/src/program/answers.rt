@@ -5,9 +5,10 @@ use crate::program::sha1_hash::Sha1Hash;
 use std::alloc::AllocError;
 use std::fmt;
 use zone_handler::{
-    AuthLookup, LookupControlFlow, LookupError, LookupOptions, LookupRecordsIter, ZoneHandler,
+    AuthLookup, LookupControlFlow, LookupError, LookupOptions, LookupRecordsIter, Request,
+    ZoneHandler, ZoneTransfer,
 };
-use zone_proto::{LowerName, Record, RecordType, RrKey};
+use zone_proto::{DNSClass, LowerName, ProtoError, Query, Record, RecordType, RrKey};
 use zone_text::RecordText;
 
 /// The zone that the program keeps.
@@ -19,6 +20,7 @@ pub fn carry_out(zone: &mut Zone, command: Command, answer: &mut String) -> Resu
         Command::Add(record) => add(zone, record, answer),
         Command::Drop(key) => drop_set(zone, &key, answer),
         Command::Lookup { name, record_type } => lookup(zone, &name, record_type, answer),
+        Command::Transfer(options) => transfer(zone, options, answer),
     }
 }
 
@@ -92,6 +94,47 @@ fn write_additionals(found: &AuthLookup, answer: &mut String) -> Result<(), Allo
 /// Lends the records that may help beside an answer, none where it has no such section.
 fn additionals_of(found: &AuthLookup) -> LookupRecordsIter<'_> {
     found.additionals().unwrap_or(LookupRecordsIter::Empty)
+}
+
+/// Lists the zone as one query for a transfer of it is answered.
+fn transfer(zone: &Zone, options: LookupOptions, answer: &mut String) -> Result<(), AllocError> {
+    match ask_transfer(zone, options) {
+        Ok(transfer) => write_transfer(&transfer, answer),
+        Err(error) => writeln!(answer, "error {}", ErrorWord(&error)),
+    }
+}
+
+fn ask_transfer(zone: &Zone, options: LookupOptions) -> Result<ZoneTransfer, LookupError> {
+    let request = transfer_request(zone.origin())?;
+    match zone.zone_transfer(&request, options, 0) {
+        Some((reply, _)) => reply,
+        None => unreachable!(),
+    }
+}
+
+/// A request of one query, for the transfer of the zone of this name (AXFR, RFC 5936 section 2.1).
+fn transfer_request(zone: &LowerName) -> Result<Request, ProtoError> {
+    let query = Query {
+        name: zone.clone()?,
+        query_type: RecordType::AXFR,
+        query_class: DNSClass::IN,
+    };
+    let mut queries = Vec::new(zone.alloc());
+    queries.push(query)?;
+    Ok(Request { queries })
+}
+
+/// Writes the records of a transfer after their count.
+fn write_transfer(transfer: &ZoneTransfer, answer: &mut String) -> Result<(), AllocError> {
+    let mut count = 0u64;
+    for _ in transfer {
+        count = count.saturating_add(1);
+    }
+    writeln!(answer, "transfer {count}")?;
+    for record in transfer {
+        writeln!(answer, "{}", RecordText(record))?;
+    }
+    Ok(())
 }
 
 /// The word for an error: the name of its case, and for a response code the code's own word.

@@ -1,4 +1,5 @@
 use std::alloc::Global;
+use zone_handler::LookupOptions;
 use zone_proto::{LowerName, Record, RecordType, RrKey};
 use zone_text::{TextError, Words, read_key, read_name, read_record, read_type};
 
@@ -14,6 +15,8 @@ pub enum Command {
         name: LowerName,
         record_type: RecordType,
     },
+    /// `transfer`, or `transfer dnssec` where signatures are wanted: lists the whole zone.
+    Transfer(LookupOptions),
 }
 
 /// Reads the command of a line, or None where the line is blank or a comment.
@@ -30,8 +33,18 @@ pub fn read_command(alloc: Global, line: &[u8]) -> Result<Option<Command>, TextE
             name: LowerName::from(read_name(alloc, &mut words)?),
             record_type: read_type(&mut words)?,
         },
+        b"transfer" => Command::Transfer(read_options(&mut words)?),
         _ => return Err(TextError::BadText),
     };
     words.end()?;
     Ok(Some(command))
+}
+
+/// Reads whether signatures are wanted: they are after the word `dnssec`, and aren't at the end of the line.
+fn read_options(words: &mut Words<'_>) -> Result<LookupOptions, TextError> {
+    match words.take() {
+        None => Ok(LookupOptions::default()),
+        Some(b"dnssec") => Ok(LookupOptions::for_dnssec()),
+        Some(_) => Err(TextError::BadText),
+    }
 }
