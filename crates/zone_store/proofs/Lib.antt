@@ -5,6 +5,8 @@ pub mod AdditionalRuns
 pub mod AdditionalLaws
 pub mod Chasing
 pub mod Denials
+pub mod SecuredZones
+pub mod DemoSigning
 pub mod Replies
 pub mod Requesting
 pub mod Transferring

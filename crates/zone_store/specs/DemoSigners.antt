@@ -13,7 +13,7 @@ pub record Demo : Type 0 where
 
 -- the two octets of its number, the high one first, which stand for its key and for each of its signatures
 abbrev pub octets_of : Demo → List ℕ
-octets_of signer = signer.number / 256 % 256 ∷ signer.number % 256 ∷ []
+octets_of signer = signer.number / 256 ∷ signer.number % 256 ∷ []
 
 -- its key: one for zones (256), of protocol 3, and of the algorithm 253, which is for private use (RFC 4034 appendix A.1.1)
 abbrev pub demo_key : Demo → DNSKEY

@@ -17,6 +17,10 @@ use Rattle.zone_signing.specs.Secured.{IsSecured, KeepsRecords}
 use Rattle.zone_signing.specs.Signatures.{last_moment}
 use Rattle.zone_store.specs.Handlers.{Zone, soa, serial, minimum}
 
+-- SOA data with the next serial, modulo 2^32
+abbrev pub next_soa : SoaData → SoaData
+next_soa a = record a { serial = (a.serial + 1) % 2 ^ 32 }
+
 module _ {S H : Type 0} where
   -- a signer's key as a record (RFC 4034 section 2): at the zone's origin, of class IN, with the zone's minimum as its TTL
   abbrev pub key_record : Zone S H → DNSKEY → Record
@@ -37,10 +41,6 @@ module _ {S H : Type 0} where
     pub cnames : CnamesStandAlone old.inner.records → CnamesStandAlone new.inner.records
     pub err : IfErr result (λ error. (error ≡ key_error.Memory) ⊎ ((error ≡ key_error.NoKey) × (key_of signer ≡ None)))
     pub same : OnErr result (new ≡ old)
-
-  -- SOA data with the next serial, modulo 2^32
-  abbrev pub next_soa : SoaData → SoaData
-  next_soa a = record a { serial = (a.serial + 1) % 2 ^ 32 }
 
   -- of the zone before, the moment, the answer, and the zone after: its sets are secured, so that signatures aside the records are as before and the SOA has the next serial, and all else of the zone stays; a moment past the year 9999 is refused, and else there may be no memory; after a refusal the zone is as it was; CNAMEs that stood alone still do
   pub record IsSecuring {A : Type 0} (signature_of : S → SignedPart → ℕ → ℕ → Option RRSIG) (old : Zone S H) (now : ℕ) (result : Result A SecureError) (new : Zone S H) : Type 0 where

@@ -15,7 +15,7 @@ use crate::zone_error::ZoneError;
 use std::alloc::Global;
 use std::collections::BTreeMap;
 use std::marker::Model;
-use zone_handler::{LookupError, LookupOptions};
+use zone_handler::{LookupError, LookupOptions, SecureError};
 use zone_map::{RecordMap, search, wildcard};
 use zone_proto::{DNSClass, LowerName, ProtoError, Record, RecordSet, RecordType, RrKey, Signer};
 use zone_signing::securing;
@@ -184,17 +184,23 @@ impl<S: Signer> InnerInMemory<S> {
     }
 
     /// Secures the record sets of the zone whose SOA stands under `apex`; see [`securing::secured`].
-    pub(crate) fn secure(&mut self, apex: &RrKey, now: u64) -> Result<(), ProtoError>
+    pub(crate) fn secure(&mut self, apex: &RrKey, now: u64) -> Result<(), SecureError>
         requires { apex.now.record_type.0 ≡ SOA }
+        ensures zone { IsZone self.new.records }
         ensures ok { OnOk result (IsSecured S.signature_of now apex.now.name self.old.signers (set_at self.old.records) self.new.records) }
         ensures signers { self.new.signers ≡ self.old.signers }
-        ensures err { IsOkUnless result ProtoError.Memory }
+        ensures err { IsOkUnless result SecureError.Memory }
         ensures same { OnErr result (self.new ≡ self.old) }
     {
         let no_denials = RecordMap::new(apex.name.alloc());
         let signers = self.signers.as_slice();
-        self.records = securing::secured(&self.records, None, no_denials, apex, signers, now)?;
-        Ok(())
+        match securing::secured(&self.records, None, no_denials, apex, signers, now) {
+            Ok(secured) => {
+                self.records = secured;
+                Ok(())
+            }
+            Err(_) => Err(SecureError::Memory),
+        }
     }
 
     /// The signers, in order.

@@ -50,10 +50,7 @@ impl<S: Signer, H: Nsec3Hash> InMemoryZoneHandler<S, H> {
         if now > LAST_MOMENT {
             return Err(SecureError::TimeOutOfRange);
         }
-        match self.inner.secure(&self.apex, now) {
-            Ok(()) => Ok(()),
-            Err(_) => Err(SecureError::Memory),
-        }
+        self.inner.secure(&self.apex, now)
     }
 }
 

@@ -46,7 +46,7 @@ impl DemoSigner {
     {
         let mut octets = Vec::with_capacity(self.origin.alloc(), 2)?;
         octets.push((self.number / 256) as u8)?;
-        octets.push(self.number as u8)?;
+        octets.push((self.number % 256) as u8)?;
         Ok(Seq::from_vec(octets))
     }
 }
@@ -71,7 +71,7 @@ impl Signer for DemoSigner {
         _class: DNSClass,
         inception: u64,
     ) -> Result<Option<RRSIG>, ProtoError> {
-        let inception = inception as u32;
+        let inception = (inception % (1 << 32)) as u32;
         Ok(Some(RRSIG {
             type_covered: set.record_type(),
             algorithm: ALGORITHM,
@@ -87,6 +87,7 @@ impl Signer for DemoSigner {
 }
 
 /// How many labels an owner has, without the root and a leading star (RFC 4034 section 3.1.3).
+#[tactic(auto, using(crate::proofs::DemoSigning::labels_fit))]
 fn signed_labels(owner: &Name) -> u8
     ensures { result ≡ signed_labels owner.now }
 {
