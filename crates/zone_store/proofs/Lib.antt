@@ -9,6 +9,7 @@ pub mod Denials
 pub mod Replies
 pub mod Requesting
 pub mod Transferring
+pub mod TransferLaws
 pub mod Examples
 pub mod SearchExamples
 pub mod AdditionalExamples

@@ -12,4 +12,5 @@ pub mod FoundSets
 pub mod Lookup
 pub mod Requests
 pub mod Transfers
+pub mod TransferLaws
 pub mod DemoSigners
