@@ -13,5 +13,6 @@ pub mod TransferLaws
 pub mod Examples
 pub mod SearchExamples
 pub mod AdditionalExamples
+pub mod TransferExamples
 pub mod CnamesMade
 pub mod Constructing
