@@ -11,5 +11,6 @@ pub mod Requesting
 pub mod Examples
 pub mod SearchExamples
 pub mod AdditionalExamples
+pub mod RequestExamples
 pub mod CnamesMade
 pub mod Constructing
