@@ -14,5 +14,6 @@ pub mod Examples
 pub mod SearchExamples
 pub mod AdditionalExamples
 pub mod TransferExamples
+pub mod RequestExamples
 pub mod CnamesMade
 pub mod Constructing
