@@ -50,6 +50,34 @@ def flattened(ttl, name, aname, address):
     return answer(f"{name} {ttl} IN A {address.split()[-1]}", more=[f"{name} {aname.format('IN ')}", address.format("IN ")])
 
 
+# The numbers of the types that stand in the zones.
+NUMBERS = {"A": 1, "NS": 2, "SOA": 6, "CNAME": 5, "MX": 15, "TXT": 16, "AAAA": 28, "SRV": 33, "ANAME": 65305}
+
+
+def key(record):
+    """What the sets of a zone are ordered by: the labels of the owner from the last on, and the number of the type."""
+    owner, _, kind, *_ = record.split()
+    return owner.encode().split(b".")[-2::-1], NUMBERS[kind]
+
+
+def written(record):
+    """A record of a line that adds it, as the program writes it."""
+    owner, ttl, kind, *data = record.split()
+    if kind == "AAAA":
+        data = [":".join(f"{int(group, 16):04x}" for group in data[0].split(":"))]
+    if kind in ("MX", "SRV"):
+        data[-1] = data[-1].rstrip(".") + "."
+    return " ".join([owner, ttl, "IN", kind, *data])
+
+
+def transferred(adds):
+    """The answer to a transfer of the zone that these lines fill: its records between two of the SOA."""
+    records = [line.removeprefix("add ") for line in adds]
+    soa = [written(record) for record in records if record.split()[2] == "SOA"]
+    others = [written(record) for record in sorted(records, key=key) if record.split()[2] != "SOA"]
+    return "\n".join([f"transfer {2 * len(soa) + len(others)}", *soa, *others, *soa])
+
+
 def workload(names, lookups):
     """A zone of this many names: 1 % are cuts with glue, and of the others every second one stands one level deeper,
     below a name that owns nothing. Beside them there is a wildcard, and for each hundred names a chain of two aliases
@@ -135,6 +163,7 @@ def workload(names, lookups):
         ),
         asked("no such name", [(f"none{i}.{ORIGIN} A", "error NXDomain") for i in fewer]),
         asked("no such type", [(f"{host} TXT", "error NameExists") for host in without_text]),
+        Phase("transfer", ["transfer"], [transferred(adds)]),
     ]
 
     pick.shuffle(aliases)

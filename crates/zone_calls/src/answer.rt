@@ -1,9 +1,10 @@
 //! What a call answers.
 
 use crate::texts::{FlowText, LowerNameDescription, NameDescription, SetText};
+use crate::transfers::TransferText;
 use std::cmp::Ordering;
 use std::fmt;
-use zone_handler::{AuthLookup, LookupControlFlow, LookupError};
+use zone_handler::{AuthLookup, LookupControlFlow, LookupError, ZoneTransfer};
 use zone_proto::{
     DNSClass, LowerName, Name, ProtoError, RData, Record, RecordSet, RecordType, ResponseCode,
 };
@@ -37,6 +38,7 @@ pub enum Answer {
     Set(RecordSet),
     Text(String),
     Flow(LookupControlFlow<AuthLookup>),
+    Transfer(ZoneTransfer),
     Proto(ProtoError),
     Lookup(LookupError),
     Zone(ZoneError),
@@ -111,6 +113,7 @@ impl fmt::Display for Answer {
             Answer::Set(set) => write!(f, "{}", SetText(set)),
             Answer::Text(text) => write!(f, "{text}"),
             Answer::Flow(flow) => write!(f, "{}", FlowText(flow)),
+            Answer::Transfer(transfer) => write!(f, "{}", TransferText(transfer)),
             Answer::Proto(error) => write!(f, "error: {error}"),
             Answer::Lookup(error) => write!(f, "error: {error}"),
             Answer::Zone(error) => write!(f, "error: {error}"),

@@ -6,6 +6,7 @@ use crate::names::make_name_call;
 use crate::no_signing::{NoHash, NoSigner};
 use crate::records::{make_record_call, make_word_call};
 use crate::texts::{ChainText, LentText, SetText, ZoneText};
+use crate::transfers::make_transfer;
 use std::alloc::{AllocError, Global};
 use std::collections::BTreeMap;
 use zone_handler::{
@@ -69,6 +70,7 @@ impl Bench {
             Call::Record(call) => make_record_call(call),
             Call::Set(call) => self.make_set_call(alloc, call),
             Call::Zone(call) => self.make_zone_call(alloc, call),
+            Call::Transfer(request, options) => make_transfer(&self.zone, &request, options),
         }
     }
 

@@ -1,7 +1,7 @@
 //! The calls that rows can make.
 
 use std::collections::BTreeMap;
-use zone_handler::{AxfrPolicy, LookupOptions, ZoneType};
+use zone_handler::{AxfrPolicy, LookupOptions, Request, ZoneType};
 use zone_proto::{
     DNSClass, LowerName, Name, NxProofKind, RData, Record, RecordSet, RecordType, ResponseCode,
     RrKey,
@@ -17,6 +17,8 @@ pub enum Call {
     Record(RecordCall),
     Set(SetCall),
     Zone(ZoneCall),
+    /// `transfer NUMBER TYPE`, `transfer NUMBER TYPE dnssec`: `zone_transfer`, for a request of so many questions of the type.
+    Transfer(Request, LookupOptions),
 }
 
 /// Calls on names. After the word `lower` they are made on a `LowerName`.

@@ -25,6 +25,7 @@ mod records;
 mod rows;
 mod scarcely;
 mod texts;
+mod transfers;
 
 use std::{fs, io};
 

@@ -10,8 +10,11 @@ pub mod DemoSigning
 pub mod Replies
 pub mod Requesting
 pub mod Transferring
+pub mod TransferLaws
 pub mod Examples
 pub mod SearchExamples
 pub mod AdditionalExamples
+pub mod TransferExamples
+pub mod RequestExamples
 pub mod CnamesMade
 pub mod Constructing

@@ -11,5 +11,6 @@ pub mod FoundSets
 pub mod Lookup
 pub mod Requests
 pub mod Transfers
+pub mod TransferLaws
 pub mod Signing
 pub mod DemoSigners

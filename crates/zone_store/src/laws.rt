@@ -14,6 +14,7 @@ ghost use Rattle.zone_map.specs.SearchLaws.{StarIsNearest, ChainIsLongestFront, 
 ghost use Rattle.zone_map.specs.Upserts.{upserted};
 ghost use Rattle.zone_map.specs.Zones.{Sets, set_at, owns, names_of, owners, types_at, put, without, IsStoredAt, IsZone};
 ghost use Rattle.zone_store.specs.AdditionalLaws.{OneRun, NoNameTwice, RunIsShort, SearchesAreFew, OneList};
+ghost use Rattle.zone_store.specs.TransferLaws.{BeginsAndEndsWithSoa, HasEachRecord, HasNoneTwice};
 
 /// A zone may have no sets, and its sets stay those of a zone when a set is put under its own owner and type, when one is
 /// taken out, and when a record is inserted.
@@ -79,4 +80,12 @@ pub fn runs_end()
 /// A query has exactly one list of additional sets.
 pub fn additionals_are_one_list()
     ensures { OneList }
+{}
+
+/// The transfer of a zone begins and ends with its SOA record, where it has one that a lookup finds, and has between the two
+/// every record of the zone that isn't an SOA, and no other (RFC 5936 section 2.2). Without signatures it has none twice.
+pub fn transfers_have_each_record()
+    ensures ends { BeginsAndEndsWithSoa }
+    ensures each { HasEachRecord }
+    ensures once { HasNoneTwice }
 {}

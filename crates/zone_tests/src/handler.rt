@@ -1,14 +1,14 @@
 //! A handler through its trait.
-ghost use Rattle.std.specs.Prelude.{◌≡◌, true};
+ghost use Rattle.std.specs.Prelude.{◌≡◌, true, false};
 ghost use Rattle.zone_proto.specs.Types.{AXFR};
 ghost use Rattle.zone_handler.specs.Transfers.{IsNoLookup};
 
 use std::alloc::Global;
 use zone_handler::{
-    AuthLookup, AxfrPolicy, LookupControlFlow, LookupError, LookupOptions, NetError, RequestInfo,
-    ZoneHandler, ZoneType,
+    AuthLookup, AxfrPolicy, LookupControlFlow, LookupError, LookupOptions, NetError, Request,
+    RequestInfo, TSigResponseContext, ZoneHandler, ZoneType,
 };
-use zone_proto::{DNSClass, LowerName, Query, RecordType};
+use zone_proto::{DNSClass, LowerName, Query, RecordType, ResponseCode};
 
 /// A zone that exists and owns nothing that anybody asks for.
 #[derive(Drop)]
@@ -20,7 +20,9 @@ impl ZoneHandler for Parked {
     ghost use Rattle.zone_handler.specs.declared.zone_type.ZoneType.TheVariants.{External};
     ghost use Rattle.zone_handler.specs.declared.axfr_policy.AxfrPolicy.TheVariants.{AllowSigned};
     ghost use Rattle.zone_handler.specs.ControlFlow.{is_break};
-    ghost use Rattle.std.specs.Prelude.{◌≡◌, ◌==◌};
+    ghost use Rattle.zone_handler.specs.declared.control_flow.LookupControlFlow.TheVariants.{Break, Skip};
+    ghost use Rattle.zone_handler.specs.declared.lookup_error.LookupError.TheVariants.{NameExists};
+    ghost use Rattle.std.specs.Prelude.{◌≡◌, ◌==◌, true, Err, None};
     ghost use Rattle.zone_proto.specs.Types.{AXFR};
 
     ghost zone_type_of = { λ _. External };
@@ -30,6 +32,10 @@ impl ZoneHandler for Parked {
     ghost origin_of = { λ zone. zone.origin };
 
     ghost lookup_gives = { λ _ _ record_type _ _ flow. is_break flow ≡ (record_type == AXFR) };
+
+    ghost consult_gives = { λ _ _ _ _ _ last answer. (last ≡ Skip) × (answer ≡ (Break (Err NameExists), None)) };
+
+    ghost search_gives = { λ _ _ _ _ answer. is_break answer.0 ≡ true };
 
     fn zone_type(&self) -> ZoneType {
         ZoneType::External
@@ -61,6 +67,33 @@ impl ZoneHandler for Parked {
             LookupControlFlow::Skip
         }
     }
+
+    fn consult(
+        &self,
+        _name: &LowerName,
+        _record_type: RecordType,
+        _request_info: Option<&RequestInfo<'_>>,
+        _lookup_options: LookupOptions,
+        last_result: LookupControlFlow<AuthLookup>,
+    ) -> (LookupControlFlow<AuthLookup>, Option<TSigResponseContext>) {
+        match last_result {
+            LookupControlFlow::Skip => (
+                LookupControlFlow::Break(Err(LookupError::NameExists)),
+                None,
+            ),
+            step => (step, None),
+        }
+    }
+
+    fn search(
+        &self,
+        _request: &Request,
+        _lookup_options: LookupOptions,
+        _now: u64,
+    ) -> (LookupControlFlow<AuthLookup>, Option<TSigResponseContext>) {
+        let refused = LookupError::from(ResponseCode::Refused);
+        (LookupControlFlow::Break(Err(refused)), None)
+    }
 }
 
 /// What any zone answers to the query at its origin.
@@ -71,6 +104,32 @@ fn at_origin<Z: ZoneHandler>(zone: &Z, query: &Query) -> LookupControlFlow<AuthL
     let info = RequestInfo { query };
     let options = LookupOptions::for_dnssec();
     zone.lookup(zone.origin(), query.query_type(), Some(&info), options, 5)
+}
+
+/// What any zone makes of a step, for the root.
+fn consulted<Z: ZoneHandler>(
+    alloc: Global,
+    zone: &Z,
+    step: LookupControlFlow<AuthLookup>,
+) -> LookupControlFlow<AuthLookup> {
+    let name = LowerName::root(alloc);
+    let options = LookupOptions::default();
+    zone.consult(&name, RecordType::A, None, options, step).0
+}
+
+/// What any zone answers to a request.
+fn searched<Z: ZoneHandler>(
+    zone: &Z,
+    request: &Request,
+) -> (LookupControlFlow<AuthLookup>, Option<TSigResponseContext>)
+    ensures { Z.search_gives zone.now request.now (record { dnssec_ok = false }) 5 result }
+{
+    zone.search(request, LookupOptions::default(), 5)
+}
+
+/// Whether any zone refuses an update as not implemented.
+fn refuses_updates<Z: ZoneHandler>(zone: &mut Z, request: &Request) -> bool {
+    matches!(zone.update(request, 5), (Err(ResponseCode::NotImp), None))
 }
 
 /// What a server is to any zone.
@@ -113,4 +172,22 @@ fn handler_answers_through_its_trait(rt: HostRuntime) {
     let is_broken_off = at_origin(&zone, &transfer).is_break();
     assert!(rt; is_kind && is_policy && AxfrPolicy::default() == AxfrPolicy::Deny);
     assert!(rt; is_kept && is_mapped && is_empty && is_broken_off);
+}
+
+#[test]
+fn handler_has_the_calls_that_it_leaves_to_its_trait(rt: HostRuntime) {
+    let alloc = rt.alloc();
+    let mut zone = Parked {
+        origin: LowerName::root(alloc),
+    };
+    let request = Request {
+        queries: Vec::new(alloc),
+    };
+    let is_refused = refuses_updates(&mut zone, &request);
+    let is_broken_off = searched(&zone, &request).0.is_break();
+    let is_final = consulted(alloc, &zone, LookupControlFlow::Skip).is_break();
+    let last = LookupControlFlow::Continue(Ok(AuthLookup::Empty));
+    let is_handed_on = consulted(alloc, &zone, last).is_continue();
+    assert!(rt; !zone.can_validate_dnssec() && is_refused);
+    assert!(rt; is_broken_off && is_final && is_handed_on);
 }
