@@ -2,7 +2,6 @@ pub mod Owned
 pub mod Neighbours
 pub mod Stored
 pub mod Upserting
-pub mod Clashing
 pub mod CnamesAlone
 pub mod Lists
 pub mod Delegations
@@ -10,5 +9,6 @@ pub mod Wildcards
 pub mod Walks
 pub mod Renaming
 pub mod AnyTypes
+pub mod AtName
 pub mod Fronts
 pub mod Chains
