@@ -4,7 +4,7 @@ use Rattle.std.specs.Prelude.{Option, Some, None, find, filter, is_some, option_
 use Rattle.std.specs.Option.{option_or, option_map_or}
 use Rattle.std.specs.Ordering.{nat_cmp, ordering_then, is_lt, flip_args, eq_by_cmp, MatchOrdering}
 use Rattle.std.specs.Cmp.{nat_cmp_is}
-use Rattle.std.specs.List.{cons_option, AllByRecursion}
+use Rattle.std.specs.List.{list_any, cons_option, AllByRecursion}
 use Rattle.std.specs.List.Sorted.{IsStrictlySortedBy}
 use Rattle.std.specs.Map.{keys_of}
 use Rattle.std.proofs.lemmas.Bool.Decides.{nat_tests}
@@ -115,31 +115,31 @@ module _ (n : Name) where
 abbrev pub chosen : Option ℕ → List ℕ → ℕ
 chosen first ts = unwrap_or (option_or (find is_preferred ts) (option_or first (first_of ts))) A
 
-preferred_in : (t : ℕ) → is_preferred t ≡ true → In t preferred_types
-preferred_in t h =
-    let r = In-from_any (λ u. t == u) preferred_types h in
-    subst (λ x. In x preferred_types) (sym (told t r.0 r.2)) r.1
+in_itself : (t : ℕ) → (t == t) ≡ true
+in_itself t = grind (arith, nat_tests)
+
+-- of the types of a list the least that the name owns is the first of the name's types that is listed
+pub least_is_first : (m : Sets) (n : Name) (ts : List ℕ) → IsStrictlySortedBy key_cmp (keys_of m) → least_owned m n ts ≡ find (λ u. list_any (λ v. u == v) ts) (types_at m n)
+least_is_first m n ts s =
+    greatest_same down (filter (owns m n) ts) (filter listed (types_at m n))
+    (λ t i. let r = In-from_filter (owns m n) t ts i in In-filter listed t (types_at m n) (type_in m n t r.1) (any_from_In (λ v. t == v) t ts r.0 (in_itself t)))
+    (λ t i. let r = In-from_filter listed t (types_at m n) i in In-filter (owns m n) t ts (among t (In-from_any (λ v. t == v) ts r.1)) (type_owned m n t r.0))
+    ∙ least_first (filter listed (types_at m n)) (kept_ascends listed (types_at m n) (types_ascend n m s))
+    ∙ first_kept listed (types_at m n)
   where
+    listed : ℕ → Bool
+    listed u = list_any (λ v. u == v) ts
+
     told : (t u : ℕ) → (t == u) ≡ true → t ≡ u
     told t u h = grind (arith, nat_tests)
 
-in_preferred : (t : ℕ) → In t preferred_types → is_preferred t ≡ true
-in_preferred t i = any_from_In (λ u. t == u) t preferred_types i (itself t)
-  where
-    itself : (t : ℕ) → (t == t) ≡ true
-    itself t = grind (arith, nat_tests)
+    among : (t : ℕ) → (u : ℕ) × In u ts × ((t == u) ≡ true) → In t ts
+    among t r = subst (λ x. In x ts) (sym (told t r.0 r.2)) r.1
 
 pub any_is : (m : Sets) (n : Name) → IsStrictlySortedBy key_cmp (keys_of m) → any_type m n ≡ chosen None (types_at m n)
 any_is m n s =
-    let up : Ascends (types_at m n) = types_ascend n m s in
-    let same : least_owned m n preferred_types ≡ find is_preferred (types_at m n) =
-    greatest_same down (filter (owns m n) preferred_types) (filter is_preferred (types_at m n))
-    (λ t i. let r = In-from_filter (owns m n) t preferred_types i in In-filter is_preferred t (types_at m n) (type_in m n t r.1) (in_preferred t r.0))
-    (λ t i. let r = In-from_filter is_preferred t (types_at m n) i in In-filter (owns m n) t preferred_types (preferred_in t r.1) (type_owned m n t r.0))
-    ∙ least_first (filter is_preferred (types_at m n)) (kept_ascends is_preferred (types_at m n) up)
-    ∙ first_kept is_preferred (types_at m n) in
-    ap (λ o. unwrap_or (option_or o (least nat_cmp (types_at m n))) A) same
-    ∙ ap (λ o. unwrap_or (option_or (find is_preferred (types_at m n)) o) A) (least_first (types_at m n) up)
+    ap (λ o. unwrap_or (option_or o (least nat_cmp (types_at m n))) A) (least_is_first m n preferred_types s)
+    ∙ ap (λ o. unwrap_or (option_or (find is_preferred (types_at m n)) o) A) (least_first (types_at m n) (types_ascend n m s))
 
 pub chosen_end : (first : Option ℕ) (ts : List ℕ) → ts ≡ [] → chosen first ts ≡ unwrap_or first A
 chosen_end first ts e = ap (chosen first) e ∙ by first

@@ -3,7 +3,6 @@ pub mod Neighbours
 pub mod Stored
 pub mod Entries
 pub mod Upserting
-pub mod Clashing
 pub mod CnamesAlone
 pub mod Lists
 pub mod Delegations
@@ -11,5 +10,6 @@ pub mod Wildcards
 pub mod Walks
 pub mod Renaming
 pub mod AnyTypes
+pub mod AtName
 pub mod Fronts
 pub mod Chains

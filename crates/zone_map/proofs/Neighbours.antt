@@ -1,6 +1,6 @@
 -- What the entries from a name's least key on say of the name, and of the names below it
-use Rattle.std.proofs.Common.{◌≡◌, ℕ, zero, suc, ◌&&◌, ◌||◌, Bool, true, false, cond, List, [], ◌∷◌, map, refl, sym, ap, ◌∙◌, subst, true≢false, arith, ◌⊎◌, inl, inr, Ordering, Less, Equal, Greater}
-use Rattle.std.specs.Prelude.{Some, None, take_while}
+use Rattle.std.proofs.Common.{◌≡◌, ℕ, zero, suc, ◌&&◌, ◌||◌, not, Bool, true, false, cond, List, [], ◌∷◌, map, refl, sym, ap, ◌∙◌, subst, true≢false, arith, ◌⊎◌, inl, inr, Ordering, Less, Equal, Greater}
+use Rattle.std.specs.Prelude.{Some, None, filter, take_while}
 use Rattle.std.specs.Ordering.{nat_cmp, ordering_then, ordering_reverse, is_le, is_eq, is_lt, is_gt, eq_by_cmp}
 use Rattle.std.specs.Cmp.{nat_cmp_is, both_ways}
 use Rattle.std.specs.List.{list_any, cons_option, AllByRecursion}
@@ -23,26 +23,40 @@ use Rattle.zone_map.specs.Zones.{Sets, types_at, owns_at_or_below}
 abbrev pub from_key : RrKey → Sets → Sets
 from_key k m = entries_between key_cmp (Included k) Unbounded m
 
--- the types of the entries in front that are of a name
+-- the entries in front that are of a name
+abbrev pub front : Name → Sets → Sets
+front n m = take_while (λ e. eq_by_cmp name_cmp e.0.name n) m
+
+-- the types of these
 abbrev pub front_types : Name → Sets → List ℕ
-front_types n m = map (λ e. e.0.record_type.0) (take_while (λ e. eq_by_cmp name_cmp e.0.name n) m)
+front_types n m = map (λ e. e.0.record_type.0) (front n m)
+
+-- all entries of a name
+abbrev pub entries_of : Name → Sets → Sets
+entries_of n m = filter (λ e. name_eq n e.0.name) m
 
 -- ---- a front, and its first entry
 
 of_name : (n : Name) (e : RrKey × RRset) → name_cmp n e.0.name ≡ Equal → eq_by_cmp name_cmp e.0.name n ≡ true
 of_name n e h = ap is_eq (name_order.total.antisymm e.0.name n ∙ ap ordering_reverse h)
 
+pub front_goes_on : (n : Name) (e : RrKey × RRset) (m : Sets) → eq_by_cmp name_cmp e.0.name n ≡ true → front n (e ∷ m) ≡ e ∷ front n m
+front_goes_on n e m h =
+    take_while-cons (λ (d : RrKey × RRset). eq_by_cmp name_cmp d.0.name n) e m
+    ∙ ap (λ b. cond b (e ∷ take_while (λ d. eq_by_cmp name_cmp d.0.name n) m) []) h
+
+pub front_stops : (n : Name) (e : RrKey × RRset) (m : Sets) → eq_by_cmp name_cmp e.0.name n ≡ false → front n (e ∷ m) ≡ []
+front_stops n e m h =
+    take_while-cons (λ (d : RrKey × RRset). eq_by_cmp name_cmp d.0.name n) e m
+    ∙ ap (λ b. cond b (e ∷ take_while (λ d. eq_by_cmp name_cmp d.0.name n) m) []) h
+
 pub front_taken : (n : Name) (e : RrKey × RRset) (m : Sets) → eq_by_cmp name_cmp e.0.name n ≡ true → front_types n (e ∷ m) ≡ e.0.record_type.0 ∷ front_types n m
-front_taken n e m h =
-    ap (map (λ (d : RrKey × RRset). d.0.record_type.0)) (take_while-cons (λ (d : RrKey × RRset). eq_by_cmp name_cmp d.0.name n) e m)
-    ∙ ap (λ b. map (λ (d : RrKey × RRset). d.0.record_type.0) (cond b (e ∷ take_while (λ d. eq_by_cmp name_cmp d.0.name n) m) [])) h
+front_taken n e m h = ap (map (λ (d : RrKey × RRset). d.0.record_type.0)) (front_goes_on n e m h)
 
 pub front_ended : (n : Name) (e : RrKey × RRset) (m : Sets) → eq_by_cmp name_cmp e.0.name n ≡ false → front_types n (e ∷ m) ≡ []
-front_ended n e m h =
-    ap (map (λ (d : RrKey × RRset). d.0.record_type.0)) (take_while-cons (λ (d : RrKey × RRset). eq_by_cmp name_cmp d.0.name n) e m)
-    ∙ ap (λ b. map (λ (d : RrKey × RRset). d.0.record_type.0) (cond b (e ∷ take_while (λ d. eq_by_cmp name_cmp d.0.name n) m) [])) h
+front_ended n e m h = ap (map (λ (d : RrKey × RRset). d.0.record_type.0)) (front_stops n e m h)
 
--- ---- in a map in order, the front from a name's least key on has the name's types
+-- ---- in a map in order, the front from a name's least key on has the name's entries
 
 zero_first : (t : ℕ) → is_le (nat_cmp 0 t) ≡ true
 zero_first zero = refl
@@ -95,32 +109,45 @@ apart n e h = by (name_eq n e.0.name) refl
     by false g = refl
 
 -- no entry of a map in order is of a name that stands before the first
-none_later : (n : Name) (e : RrKey × RRset) (m : Sets) → name_cmp n e.0.name ≡ Less → AllByRecursion (λ k. key_cmp e.0 k ≡ Less) (keys_of m) → types_at m n ≡ []
+none_later : (n : Name) (e : RrKey × RRset) (m : Sets) → name_cmp n e.0.name ≡ Less → AllByRecursion (λ k. key_cmp e.0 k ≡ Less) (keys_of m) → entries_of n m ≡ []
 none_later n e [] h a = refl
 none_later n e (f ∷ m) h a =
-    ap (λ b. cons_option (cond b (Some f.0.record_type.0) None) (types_at m n)) (differs n f.0.name (later_name n e.0 f.0 h a.0))
+    ap (λ b. cond b (f ∷ entries_of n m) (entries_of n m)) (differs n f.0.name (later_name n e.0 f.0 h a.0))
     ∙ none_later n e m h a.1
 
--- the front from the least key of a name on has the types that the name owns
-pub front_is_types : (n : Name) (m : Sets) → IsStrictlySortedBy key_cmp (keys_of m) → front_types n (from_key (key n 0) m) ≡ types_at m n
-front_is_types n [] s = refl
-front_is_types n (e ∷ m) s = by (name_cmp n e.0.name) refl (front_is_types n m (sorted_tail key_cmp e.0 (keys_of m) s))
+-- the front from the least key of a name on has the entries of the name
+pub front_is_whole_name : (n : Name) (m : Sets) → IsStrictlySortedBy key_cmp (keys_of m) → front n (from_key (key n 0) m) ≡ entries_of n m
+front_is_whole_name n [] s = refl
+front_is_whole_name n (e ∷ m) s = by (name_cmp n e.0.name) refl (front_is_whole_name n m (sorted_tail key_cmp e.0 (keys_of m) s))
   where
-    by : (o : Ordering) → name_cmp n e.0.name ≡ o → front_types n (from_key (key n 0) m) ≡ types_at m n → front_types n (from_key (key n 0) (e ∷ m)) ≡ types_at (e ∷ m) n
+    by : (o : Ordering) → name_cmp n e.0.name ≡ o → front n (from_key (key n 0) m) ≡ entries_of n m → front n (from_key (key n 0) (e ∷ m)) ≡ entries_of n (e ∷ m)
     by Less h ih =
-        ap (λ b. front_types n (cond b (e ∷ from_key (key n 0) m) (from_key (key n 0) m))) (at_or_after n e (ap is_le h))
-        ∙ front_ended n e (from_key (key n 0) m) (not_of_name n e h)
+        ap (λ b. front n (cond b (e ∷ from_key (key n 0) m) (from_key (key n 0) m))) (at_or_after n e (ap is_le h))
+        ∙ front_stops n e (from_key (key n 0) m) (not_of_name n e h)
         ∙ sym (none_later n e m h (sorted_head key_cmp e.0 (keys_of m) s))
-        ∙ ap (λ b. cons_option (cond b (Some e.0.record_type.0) None) (types_at m n)) (sym (differs n e.0.name h))
+        ∙ ap (λ b. cond b (e ∷ entries_of n m) (entries_of n m)) (sym (differs n e.0.name h))
     by Equal h ih =
-        ap (λ b. front_types n (cond b (e ∷ from_key (key n 0) m) (from_key (key n 0) m))) (at_or_after n e (ap is_le h))
-        ∙ front_taken n e (from_key (key n 0) m) (of_name n e h)
-        ∙ ap (λ ts. e.0.record_type.0 ∷ ts) ih
-        ∙ ap (λ b. cons_option (cond b (Some e.0.record_type.0) None) (types_at m n)) (sym ((name_eq-Decides n e.0.name).1 (name_order.exact n e.0.name h)))
+        ap (λ b. front n (cond b (e ∷ from_key (key n 0) m) (from_key (key n 0) m))) (at_or_after n e (ap is_le h))
+        ∙ front_goes_on n e (from_key (key n 0) m) (of_name n e h)
+        ∙ ap (λ es. e ∷ es) ih
+        ∙ ap (λ b. cond b (e ∷ entries_of n m) (entries_of n m)) (sym ((name_eq-Decides n e.0.name).1 (name_order.exact n e.0.name h)))
     by Greater h ih =
-        ap (λ b. front_types n (cond b (e ∷ from_key (key n 0) m) (from_key (key n 0) m))) (earlier n e h)
+        ap (λ b. front n (cond b (e ∷ from_key (key n 0) m) (from_key (key n 0) m))) (earlier n e h)
         ∙ ih
-        ∙ ap (λ b. cons_option (cond b (Some e.0.record_type.0) None) (types_at m n)) (sym (apart n e h))
+        ∙ ap (λ b. cond b (e ∷ entries_of n m) (entries_of n m)) (sym (apart n e h))
+
+-- these have the types that the name owns
+types_of_entries : (n : Name) (m : Sets) → map (λ e. e.0.record_type.0) (entries_of n m) ≡ types_at m n
+types_of_entries n [] = refl
+types_of_entries n (e ∷ m) = by (name_eq n e.0.name) (types_of_entries n m)
+  where
+    by : (b : Bool) → map (λ e. e.0.record_type.0) (entries_of n m) ≡ types_at m n
+        → map (λ e. e.0.record_type.0) (cond b (e ∷ entries_of n m) (entries_of n m)) ≡ cons_option (cond b (Some e.0.record_type.0) None) (types_at m n)
+    by true ih = ap (λ ts. e.0.record_type.0 ∷ ts) ih
+    by false ih = ih
+
+pub front_is_types : (n : Name) (m : Sets) → IsStrictlySortedBy key_cmp (keys_of m) → front_types n (from_key (key n 0) m) ≡ types_at m n
+front_is_types n m s = ap (map (λ (d : RrKey × RRset). d.0.record_type.0)) (front_is_whole_name n m s) ∙ types_of_entries n m
 
 -- ---- the first entry from a name's least key on tells whether the name or a name below it owns a set
 
@@ -181,18 +208,38 @@ below_is_first n (e ∷ m) s = by (name_cmp n e.0.name) refl (below_is_first n m
         ∙ ih
         ∙ ap (λ b. first_is_below n (cond b (e ∷ from_key (key n 0) m) (from_key (key n 0) m))) (sym (earlier n e h))
 
--- ---- a loop over a front that looks for a type which passes a test
+-- ---- a loop over a front that notes whether a type passes a test
 
 module _ (p : ℕ → Bool) (n : Name) where
-  pub front_found : (s t : Sets) (e : RrKey × RRset) → s ≡ e ∷ t → eq_by_cmp name_cmp e.0.name n ≡ true → p e.0.record_type.0 ≡ true → list_any p (front_types n s) ≡ true
-  front_found s t e is h g = ap (λ r. list_any p (front_types n r)) is ∙ ap (list_any p) (front_taken n e t h) ∙ ap (λ b. b || list_any p (front_types n t)) g
-
-  pub front_passed : (s t : Sets) (e : RrKey × RRset) → s ≡ e ∷ t → eq_by_cmp name_cmp e.0.name n ≡ true → p e.0.record_type.0 ≡ false
-      → list_any p (front_types n t) ≡ list_any p (front_types n s)
-  front_passed s t e is h g = sym (ap (λ r. list_any p (front_types n r)) is ∙ ap (list_any p) (front_taken n e t h) ∙ ap (λ b. b || list_any p (front_types n t)) g)
+  -- a test of all types that were passed, with that of a further one
+  pub front_noted : (s t : Sets) (e : RrKey × RRset) → s ≡ e ∷ t → (before after whole : Bool) → eq_by_cmp name_cmp e.0.name n ≡ true
+      → after ≡ before || p e.0.record_type.0 → before || list_any p (front_types n s) ≡ whole → after || list_any p (front_types n t) ≡ whole
+  front_noted s t e is before after whole h g i =
+      ap (λ b. b || list_any p (front_types n t)) g
+      ∙ by before
+      ∙ sym (ap (λ r. before || list_any p (front_types n r)) is ∙ ap (λ ts. before || list_any p ts) (front_taken n e t h))
+      ∙ i
+    where
+      by : (b : Bool) → (b || p e.0.record_type.0) || list_any p (front_types n t) ≡ b || (p e.0.record_type.0 || list_any p (front_types n t))
+      by true = refl
+      by false = refl
 
   pub front_over : (s t : Sets) (e : RrKey × RRset) → s ≡ e ∷ t → eq_by_cmp name_cmp e.0.name n ≡ false → list_any p (front_types n s) ≡ false
   front_over s t e is h = ap (λ r. list_any p (front_types n r)) is ∙ ap (list_any p) (front_ended n e t h)
+
+-- where nothing is left, what was noted is the whole
+pub all_noted : (b rest whole : Bool) → rest ≡ false → b || rest ≡ whole → b ≡ whole
+all_noted true rest whole e h = h
+all_noted false rest whole e h = sym e ∙ h
+
+-- a test that names differ
+pub not_false : (b : Bool) → not b ≡ false → b ≡ true
+not_false true h = refl
+not_false false h = cc
+
+pub not_true : (b : Bool) → not b ≡ true → b ≡ false
+not_true true h = cc
+not_true false h = refl
 
 -- from the least key on, a loop over the front sees the types that the name owns
 pub front_is_whole : (p : ℕ → Bool) (least : RrKey) (m es : Sets) → least.record_type.0 ≡ 0 → IsStrictlySortedBy key_cmp (keys_of es) → es ≡ m

@@ -6,6 +6,7 @@
 //! or is refused leaves it as it was.
 #![tactic(auto)]
 
+mod at_name;
 mod record_map;
 pub mod search;
 pub mod wildcard;

@@ -1,4 +1,4 @@
-ghost use Rattle.std.specs.Prelude.{◌≡◌, [], IfOk, IfErr, OnOk, OnErr, IfSome, IsOkUnless, None, Some, is_some, unwrap_or, option_copied};
+ghost use Rattle.std.specs.Prelude.{◌≡◌, [], true, IfOk, IfErr, OnOk, OnErr, IfSome, IsOkUnless, None, Some, is_some, unwrap_or, option_copied};
 ghost use Rattle.zone_proto.specs.Keys.{key as key_at};
 ghost use Rattle.zone_proto.specs.Names.{lower};
 ghost use Rattle.zone_proto.specs.Types.{CNAME};
@@ -30,6 +30,15 @@ impl Model for RecordMap {
     ghost view = { λ m. m.sets.entries };
 
     ghost invariant = { λ m. IsZone m.sets.entries };
+}
+
+/// What stands at a name for a record that is to be inserted there.
+#[derive(Clone, Copy, Drop)]
+struct Standing {
+    /// Whether the name owns a type that may not stand beside the record's.
+    clashes: bool,
+    /// Whether the name owns the record's type.
+    is_there: bool,
 }
 
 impl RecordMap {
@@ -161,58 +170,47 @@ impl RecordMap {
         if record.dns_class != dns_class {
             return Ok(false);
         }
-        let mut key = RrKey::new(LowerName::new(&record.name)?, record.record_type());
-        if self.clashes(&mut key) {
+        let record_type = record.record_type();
+        let mut key = RrKey::new(LowerName::new(&record.name)?, RecordType(0));
+        let standing = self.standing_at(&key, record_type);
+        if standing.clashes {
             return Ok(false);
         }
-        self.insert_record(key, record, serial)
-    }
-
-    /// Whether the name of a key owns a type that stands against the key's type.
-    fn clashes(&self, key: &mut RrKey) -> bool
-        ensures answer { result ≡ clashes self.now key.old.name key.old.record_type.0 }
-        ensures same { key.new ≡ key.old }
-    {
-        let record_type = key.record_type;
-        if is_denial_type(record_type) {
-            return false;
-        }
-        if record_type == RecordType::CNAME {
-            key.record_type = RecordType(0);
-            let found = self.owns_beside_cname(key);
-            key.record_type = record_type;
-            return found;
-        }
-        key.record_type = RecordType::CNAME;
-        let found = self.owns(key);
         key.record_type = record_type;
-        found
+        if standing.is_there {
+            self.insert_into(&key, record, serial)
+        } else {
+            self.insert_new(key, record, serial)
+        }
     }
 
-    /// Whether the name of its least key owns a type that may not stand beside a CNAME.
-    fn owns_beside_cname(&self, least: &RrKey) -> bool
+    /// What stands at the name of its least key, that of type 0, for a record of a type.
+    fn standing_at(&self, least: &RrKey, record_type: RecordType) -> Standing
         requires { least.now.record_type.0 ≡ 0 }
-        ensures { result ≡ clashes self.now least.now.name CNAME }
+        ensures clashes { result.clashes ≡ clashes self.now least.now.name record_type.0 }
+        ensures there { result.is_there ≡ owns self.now least.now.name record_type.0 }
     {
+        let mut clashes = false;
+        let mut is_there = false;
         for (key, _) in self.sets.range(least..) {
             if key.name != least.name {
-                return false;
+                break;
             }
-            if stands_against_cname(key.record_type) {
-                return true;
-            }
+            clashes |= clash(record_type, key.record_type);
+            is_there |= record_type == key.record_type;
         }
-        false
+        Standing { clashes, is_there }
     }
 
-    /// Takes a record into the set under its key, or makes that set.
-    fn insert_record(&mut self, key: RrKey, record: Record, serial: u32) -> Result<bool, ProtoError>
-        requires { key ≡ key_at (lower «record».name) (type_of «record».rdata) }
+    /// Takes a record into the set under its key, which is there.
+    fn insert_into(&mut self, key: &RrKey, record: Record, serial: u32) -> Result<bool, ProtoError>
+        requires own_key { key.now ≡ key_at (lower «record».name) (type_of «record».rdata) }
+        requires there { owns self.old (lower «record».name) (type_of «record».rdata) ≡ true }
         ensures { IsInsertion self.old (with_record self.old «record» serial) result self.new }
     {
-        match self.sets.get_mut(&key) {
+        match self.sets.get_mut(key) {
             Some(set) => set.insert(record, serial),
-            None => self.insert_new(key, record, serial),
+            None => unreachable!(),
         }
     }
 
@@ -243,11 +241,13 @@ fn is_preferred(record_type: RecordType) -> bool
     )
 }
 
-/// Whether a type may not stand beside a CNAME.
-fn stands_against_cname(record_type: RecordType) -> bool
-    ensures { result ≡ clash CNAME record_type.0 }
+/// Whether one name may not own both types: one of them is CNAME, the other isn't, and neither is a type of denial.
+fn clash(one: RecordType, other: RecordType) -> bool
+    ensures { result ≡ clash one.0 other.0 }
 {
-    record_type != RecordType::CNAME && !is_denial_type(record_type)
+    (one == RecordType::CNAME) != (other == RecordType::CNAME)
+        && !is_denial_type(one)
+        && !is_denial_type(other)
 }
 
 /// Whether a type is one of denial, which may stand beside a CNAME.

@@ -1,10 +1,13 @@
 //! What a search for one name and type finds: the referral at a zone cut, and else the set of the name.
 ghost use Rattle.std.specs.Prelude.{◌≡◌, ◌<◌, option_copied, option_map, drop, length, None};
-ghost use Rattle.zone_map.specs.Search.{is_address, exact, direct};
+ghost use Rattle.zone_proto.specs.Types.{NS, SOA};
+ghost use Rattle.zone_map.specs.Zones.{Sets, set_at, owns};
+ghost use Rattle.zone_map.specs.Search.{is_address, direct};
 ghost use Rattle.zone_map.specs.Walks.{referral_above, own_referral, IsWalked, IsSettled};
 
+use crate::at_name::{AtName, at_name};
 use crate::record_map::RecordMap;
-use zone_proto::{RecordSet, RecordType, RrKey};
+use zone_proto::{LowerName, RecordSet, RecordType, RrKey};
 
 /// What the key's name has for a query of the key's type: the referral at the nearest zone cut (RFC 1034 section 4.2.1),
 /// else the exact set, the one of the least type that answers. Where neither is there, the key's name is left where the walk
@@ -13,15 +16,17 @@ pub fn direct<'m>(records: &'m RecordMap, key: &mut RrKey) -> Option<&'m RecordS
     ensures found { option_copied result ≡ direct records.now key.old.name key.old.record_type.0 }
     ensures settled { option_copied result ≡ None → IsSettled records.now (drop 1 key.old.name) key.new.name None }
 {
-    match own_referral(records, key) {
+    let record_type = key.record_type;
+    key.record_type = RecordType(0);
+    let here = at_name(records, key, record_type);
+    match own_referral(here, &key.name, record_type) {
         Some(Some(cut)) => Some(cut),
-        Some(None) => exact(records, key),
+        Some(None) => here.exact,
         None => {
-            let exact = exact(records, key);
             key.name.shorten();
             match referral_above(records, key) {
                 Some(cut) => Some(cut),
-                None => exact,
+                None => here.exact,
             }
         }
     }
@@ -48,12 +53,15 @@ pub(crate) fn direct_of_star<'m>(
     ensures same { star.new.name ≡ star.old.name }
 {
     let referral = referral_of_base(records, star, above);
-    match own_referral(records, star) {
+    let record_type = star.record_type;
+    star.record_type = RecordType(0);
+    let here = at_name(records, star, record_type);
+    match own_referral(here, &star.name, record_type) {
         Some(Some(cut)) => Some(cut),
-        Some(None) => exact(records, star),
+        Some(None) => here.exact,
         None => match referral {
             Some(cut) => Some(cut),
-            None => exact(records, star),
+            None => here.exact,
         },
     }
 }
@@ -76,36 +84,6 @@ fn referral_of_base<'m>(
     above.referral
 }
 
-/// The set of the least type that answers for the key's type and that its name owns. The key keeps its name.
-fn exact<'m>(records: &'m RecordMap, key: &mut RrKey) -> Option<&'m RecordSet>
-    ensures found { option_copied result ≡ exact records.now key.old.name key.old.record_type.0 }
-    ensures name { key.new.name ≡ key.old.name }
-{
-    let record_type = key.record_type;
-    let is_before_cname = record_type < RecordType::CNAME;
-    if !is_before_cname {
-        key.record_type = RecordType::CNAME;
-        if let Some(set) = records.get(key) {
-            return Some(set);
-        }
-    }
-    key.record_type = record_type;
-    if let Some(set) = records.get(key) {
-        return Some(set);
-    }
-    if is_before_cname {
-        key.record_type = RecordType::CNAME;
-        if let Some(set) = records.get(key) {
-            return Some(set);
-        }
-    }
-    if is_address(record_type) {
-        key.record_type = RecordType::ANAME;
-        return records.get(key);
-    }
-    None
-}
-
 /// Whether a type is one of addresses, A or AAAA, for which an ANAME answers.
 pub fn is_address(record_type: RecordType) -> bool
     ensures { result ≡ is_address record_type.0 }
@@ -113,25 +91,23 @@ pub fn is_address(record_type: RecordType) -> bool
     record_type == RecordType::A || record_type == RecordType::AAAA
 }
 
-/// What the key's name says itself of the referral for a query of the key's type: nothing where it isn't delegated for
-/// the query, the NS set at a cut, and no referral at an apex. The key stays as it was.
-fn own_referral<'m>(records: &'m RecordMap, key: &mut RrKey) -> Option<Option<&'m RecordSet>>
-    ensures found { option_map option_copied result ≡ own_referral records.now key.old.name key.old.record_type.0 }
-    ensures same { key.new ≡ key.old }
+/// What a name says itself of the referral for a query of a type, where `here` is what stands there: nothing where it isn't
+/// delegated for the query, the NS set at a cut, and no referral at an apex.
+fn own_referral<'m>(
+    here: AtName<'m>,
+    name: &LowerName,
+    record_type: RecordType,
+) -> Option<Option<&'m RecordSet>>
+    ensures { (m : Sets) → option_copied here.entry.ns ≡ set_at m name.now NS → here.entry.owns_soa ≡ owns m name.now SOA
+        → option_map option_copied result ≡ own_referral m name.now record_type.0 }
 {
-    if key.name.is_root() {
+    if name.is_root() {
         return None;
     }
-    let record_type = key.record_type;
-    key.record_type = RecordType::NS;
-    let Some(cut) = records.get(key) else {
-        key.record_type = record_type;
+    let Some(cut) = here.ns else {
         return None;
     };
-    key.record_type = RecordType::SOA;
-    let is_apex = records.owns(key);
-    key.record_type = record_type;
-    if is_apex {
+    if here.owns_soa {
         return Some(None);
     }
     if record_type == RecordType::DS {

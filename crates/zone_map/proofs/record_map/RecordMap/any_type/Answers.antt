@@ -1,20 +1,12 @@
-use Rattle.std.proofs.Common.{◌≡◌, Bool, true, false, not, refl, sym, ap, ◌∙◌}
+use Rattle.std.proofs.Common.{◌≡◌, true, false, refl, sym, ap, ◌∙◌}
 use Rattle.std.specs.Prelude.{Option, Some, None, option_map, is_some}
 use Rattle.std.specs.Ordering.{eq_by_cmp}
 use Rattle.zone_proto.specs.declared.record_type.RecordType.{RecordType}
 use Rattle.zone_proto.specs.Names.{name_cmp}
 use Rattle.zone_map.proofs.AnyTypes.{chosen_end, chosen_over, chosen_here, chosen_first, chosen_later, chosen_whole, first_number}
-use Rattle.zone_map.proofs.Neighbours.{front_types}
+use Rattle.zone_map.proofs.Neighbours.{not_false, not_true, front_types}
 use Rattle.zone_map.proofs.record_map.RecordMap.any_type.Goals as goal
 use Rattle.zone_map.proofs.record_map.RecordMap.any_type.Goals.{in-None, in-Some+then-ne}
-
-not_false : (b : Bool) → not b ≡ false → b ≡ true
-not_false true h = refl
-not_false false h = cc
-
-not_true : (b : Bool) → not b ≡ true → b ≡ false
-not_true true h = cc
-not_true false h = refl
 
 none_passed : (first : Option RecordType) → is_some first ≡ false → option_map (λ (t : RecordType). t.0) first ≡ None
 none_passed None h = refl

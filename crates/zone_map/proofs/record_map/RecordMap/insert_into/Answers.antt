@@ -8,12 +8,12 @@ use Rattle.zone_map.specs.Zones.{Sets, set_at, IsStoredAt, IsZone}
 use Rattle.zone_proto.specs.Results.{IsInsertion}
 use Rattle.zone_map.specs.Upserts.{with_record}
 use Rattle.zone_map.proofs.Upserting.{same_from_lower, stored_answer, stored_after, stored_same, IsZone-with_record, IsZone-or_same, IsZone-after}
-use Rattle.zone_map.proofs.record_map.RecordMap.insert_record.Goals as goal
+use Rattle.zone_map.proofs.record_map.RecordMap.insert_into.Goals as goal
 
 pub insert-requires-clause-owner : goal.insert-requires-clause-owner
 insert-requires-clause-owner c =
     let found : set_at c.self.inside.sets.entries (lower c.args.record.name) (type_of c.args.record.rdata) ≡ Some c.in-Some.set.now =
-    ap (λ k. lookup (key_eq k) c.self.inside.sets.entries) (sym c.requires) ∙ sym c.in-Some.ensures.value in
+    ap (λ k. lookup (key_eq k) c.self.inside.sets.entries) (sym c.requires.own_key) ∙ sym c.in-Some.ensures.value in
     let stored : IsStoredAt (lower c.args.record.name) (type_of c.args.record.rdata) c.in-Some.set.now =
     c.self.invariant.stored (lower c.args.record.name) (type_of c.args.record.rdata) c.in-Some.set.now found in
     same_from_lower c.args.record.name c.in-Some.set.now.owner (sym stored.owner)
@@ -21,7 +21,7 @@ insert-requires-clause-owner c =
 pub insert-requires-clause-kind : goal.insert-requires-clause-kind
 insert-requires-clause-kind c =
     let found : set_at c.self.inside.sets.entries (lower c.args.record.name) (type_of c.args.record.rdata) ≡ Some c.in-Some.set.now =
-    ap (λ k. lookup (key_eq k) c.self.inside.sets.entries) (sym c.requires) ∙ sym c.in-Some.ensures.value in
+    ap (λ k. lookup (key_eq k) c.self.inside.sets.entries) (sym c.requires.own_key) ∙ sym c.in-Some.ensures.value in
     let stored : IsStoredAt (lower c.args.record.name) (type_of c.args.record.rdata) c.in-Some.set.now =
     c.self.invariant.stored (lower c.args.record.name) (type_of c.args.record.rdata) c.in-Some.set.now found in
     sym stored.record_type
@@ -29,9 +29,9 @@ insert-requires-clause-kind c =
 pub invariant_of-self : goal.invariant_of-self
 invariant_of-self c =
     let found : set_at c.self.inside.sets.entries (lower c.args.record.name) (type_of c.args.record.rdata) ≡ Some c.in-Some.set.now =
-    ap (λ k. lookup (key_eq k) c.self.inside.sets.entries) (sym c.requires) ∙ sym c.in-Some.ensures.value in
+    ap (λ k. lookup (key_eq k) c.self.inside.sets.entries) (sym c.requires.own_key) ∙ sym c.in-Some.ensures.value in
     let written : (c.get_mut.follows.lender c.insert.new.self).entries ≡ set_value (key_eq (key (lower c.args.record.name) (type_of c.args.record.rdata))) c.self.inside.sets.entries c.insert.new.self =
-    (c.get_mut.follows.holds c.insert.new.self).0 ∙ ap (λ k. set_value (key_eq k) c.self.inside.sets.entries c.insert.new.self) c.requires in
+    (c.get_mut.follows.holds c.insert.new.self).0 ∙ ap (λ k. set_value (key_eq k) c.self.inside.sets.entries c.insert.new.self) c.requires.own_key in
     subst IsZone (sym written)
     (IsZone-after (λ m. m) c.self.inside.sets.entries (set_value (key_eq (key (lower c.args.record.name) (type_of c.args.record.rdata))) c.self.inside.sets.entries c.insert.new.self)
     (unwrap_or (with_record c.self.inside.sets.entries c.args.record c.args.serial) c.self.inside.sets.entries) c.insert.result c.self.invariant
@@ -40,17 +40,12 @@ invariant_of-self c =
     (stored_after c.self.inside.sets.entries c.args.record c.args.serial c.in-Some.set.now found c.get_mut.ensures.ordered c.insert.new.self c.insert.result c.insert.ensures.after)
     (stored_same c.self.inside.sets.entries c.args.record c.args.serial c.in-Some.set.now found c.get_mut.ensures.ordered c.insert.new.self c.insert.result c.insert.ensures.same))
 
-pub invariant_of-self-in-None : goal.invariant_of-self-in-None
-invariant_of-self-in-None c =
-    let same : c.get_mut.follows.lender-at-none.entries ≡ c.self.inside.sets.entries = ap (λ m. m.entries) c.get_mut.follows.holds-at-none in
-    subst IsZone (sym same) c.self.invariant
-
-pub returns-in-Some : goal.returns-in-Some
-returns-in-Some c =
+pub returns : goal.returns
+returns c =
     let found : set_at c.self.inside.sets.entries (lower c.args.record.name) (type_of c.args.record.rdata) ≡ Some c.in-Some.set.now =
-    ap (λ k. lookup (key_eq k) c.self.inside.sets.entries) (sym c.requires) ∙ sym c.in-Some.ensures.value in
+    ap (λ k. lookup (key_eq k) c.self.inside.sets.entries) (sym c.requires.own_key) ∙ sym c.in-Some.ensures.value in
     let written : (c.get_mut.follows.lender c.insert.new.self).entries ≡ set_value (key_eq (key (lower c.args.record.name) (type_of c.args.record.rdata))) c.self.inside.sets.entries c.insert.new.self =
-    (c.get_mut.follows.holds c.insert.new.self).0 ∙ ap (λ k. set_value (key_eq k) c.self.inside.sets.entries c.insert.new.self) c.requires in
+    (c.get_mut.follows.holds c.insert.new.self).0 ∙ ap (λ k. set_value (key_eq k) c.self.inside.sets.entries c.insert.new.self) c.requires.own_key in
     subst (λ (m : Sets). IsInsertion m (with_record m c.args.record c.args.serial) c.insert.result (c.get_mut.follows.lender c.insert.new.self).entries) c.self.view_is
     (subst (λ (n : Sets). IsInsertion c.self.inside.sets.entries (with_record c.self.inside.sets.entries c.args.record c.args.serial) c.insert.result n) (sym written)
     (record {

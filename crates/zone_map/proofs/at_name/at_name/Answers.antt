@@ -1,0 +1,71 @@
+use Rattle.std.proofs.Common.{◌≡◌, ◌==◌, true, false, sym, ap, ◌∙◌}
+use Rattle.std.specs.Prelude.{Option, Some, None, option_copied}
+use Rattle.std.specs.List.{list_any}
+use Rattle.std.specs.Option.{option_or}
+use Rattle.std.specs.Ordering.{eq_by_cmp}
+use Rattle.zone_proto.specs.Names.{name_cmp}
+use Rattle.zone_proto.specs.Types.{NS, SOA}
+use Rattle.zone_map.specs.Search.{types_for}
+use Rattle.zone_map.proofs.AtName.{first_set, first_over, first_passed, whole_type, whole_exact, type_listed}
+use Rattle.zone_map.proofs.Neighbours.{not_false, not_true, front_types, front_over, front_noted, all_noted, front_is_whole}
+use Rattle.zone_map.proofs.at_name.at_name.Goals as goal
+
+-- where nothing is left, what was found is the whole
+alone : {X : Type 0} (o rest whole : Option X) → rest ≡ None → option_or o rest ≡ whole → o ≡ whole
+alone None rest whole e h = sym e ∙ h
+alone (Some x) rest whole e h = h
+
+pub loop-key-preserved : goal.loop-key-preserved
+loop-key-preserved c =
+    let same : eq_by_cmp name_cmp c.in-Some.key.now.name c.args.least.now.name ≡ true = not_false _ (sym c.ne.ensures ∙ c.if-ne.false) in
+    record {
+      exact =
+          first_passed (λ u. list_any (λ v. u == v) (types_for c.args.record_type.0)) c.args.least.now.name _ c.next.new.self (c.in-Some.key.now, c.in-Some.set.now) (option_copied c.loop-key.here.exact) _ _
+          c.in-Some.ensures.steps same c.with-here.ensures.exact c.loop-key.invariant.exact;
+      ns =
+          first_passed (λ u. NS == u) c.args.least.now.name _ c.next.new.self (c.in-Some.key.now, c.in-Some.set.now) (option_copied c.loop-key.here.ns) _ _
+          c.in-Some.ensures.steps same c.with-here.ensures.ns c.loop-key.invariant.ns;
+      soa =
+          front_noted (λ u. SOA == u) c.args.least.now.name _ c.next.new.self (c.in-Some.key.now, c.in-Some.set.now) c.in-Some.ensures.steps c.loop-key.here.owns_soa _ _
+          same c.with-here.ensures.soa c.loop-key.invariant.soa;
+    }
+
+pub returns-in-None-clause-exact : goal.returns-in-None-clause-exact
+returns-in-None-clause-exact c =
+    alone (option_copied c.loop-key.here.exact) _ _
+    (ap (first_set (λ u. list_any (λ v. u == v) (types_for c.args.record_type.0)) c.args.least.now.name) c.in-None.ensures.steps.0) c.loop-key.invariant.exact
+    ∙ whole_exact c.args.least.now c.args.records.now c.as_map.result.now.entries c.requires c.range-key-items.ensures.ordered c.as_map.ensures.entries c.args.record_type.0
+
+pub returns-in-None-clause-ns : goal.returns-in-None-clause-ns
+returns-in-None-clause-ns c =
+    alone (option_copied c.loop-key.here.ns) _ _ (ap (first_set (λ u. NS == u) c.args.least.now.name) c.in-None.ensures.steps.0) c.loop-key.invariant.ns
+    ∙ whole_type c.args.least.now c.args.records.now c.as_map.result.now.entries c.requires c.range-key-items.ensures.ordered c.as_map.ensures.entries NS
+
+pub returns-in-None-clause-soa : goal.returns-in-None-clause-soa
+returns-in-None-clause-soa c =
+    all_noted c.loop-key.here.owns_soa _ _ (ap (λ es. list_any (λ u. SOA == u) (front_types c.args.least.now.name es)) c.in-None.ensures.steps.0) c.loop-key.invariant.soa
+    ∙ front_is_whole (λ u. SOA == u) c.args.least.now c.args.records.now c.as_map.result.now.entries c.requires c.range-key-items.ensures.ordered c.as_map.ensures.entries
+    ∙ type_listed c.args.records.now c.args.least.now.name SOA
+
+pub returns-then-ne-clause-exact : goal.returns-then-ne-clause-exact
+returns-then-ne-clause-exact c =
+    let other : eq_by_cmp name_cmp c.in-Some.key.now.name c.args.least.now.name ≡ false = not_true _ (sym c.ne.ensures ∙ c.if-ne.true) in
+    alone (option_copied c.loop-key.here.exact) _ _
+    (first_over (λ u. list_any (λ v. u == v) (types_for c.args.record_type.0)) c.args.least.now.name _ c.next.new.self (c.in-Some.key.now, c.in-Some.set.now) c.in-Some.ensures.steps other)
+    c.loop-key.invariant.exact
+    ∙ whole_exact c.args.least.now c.args.records.now c.as_map.result.now.entries c.requires c.range-key-items.ensures.ordered c.as_map.ensures.entries c.args.record_type.0
+
+pub returns-then-ne-clause-ns : goal.returns-then-ne-clause-ns
+returns-then-ne-clause-ns c =
+    let other : eq_by_cmp name_cmp c.in-Some.key.now.name c.args.least.now.name ≡ false = not_true _ (sym c.ne.ensures ∙ c.if-ne.true) in
+    alone (option_copied c.loop-key.here.ns) _ _
+    (first_over (λ u. NS == u) c.args.least.now.name _ c.next.new.self (c.in-Some.key.now, c.in-Some.set.now) c.in-Some.ensures.steps other) c.loop-key.invariant.ns
+    ∙ whole_type c.args.least.now c.args.records.now c.as_map.result.now.entries c.requires c.range-key-items.ensures.ordered c.as_map.ensures.entries NS
+
+pub returns-then-ne-clause-soa : goal.returns-then-ne-clause-soa
+returns-then-ne-clause-soa c =
+    let other : eq_by_cmp name_cmp c.in-Some.key.now.name c.args.least.now.name ≡ false = not_true _ (sym c.ne.ensures ∙ c.if-ne.true) in
+    all_noted c.loop-key.here.owns_soa _ _
+    (front_over (λ u. SOA == u) c.args.least.now.name _ c.next.new.self (c.in-Some.key.now, c.in-Some.set.now) c.in-Some.ensures.steps other) c.loop-key.invariant.soa
+    ∙ front_is_whole (λ u. SOA == u) c.args.least.now c.args.records.now c.as_map.result.now.entries c.requires c.range-key-items.ensures.ordered c.as_map.ensures.entries
+    ∙ type_listed c.args.records.now c.args.least.now.name SOA

@@ -1,0 +1,76 @@
+//! What stands at one name, seen in one walk of the map: the sets of a name stand together in it, the least type first.
+ghost use Rattle.std.specs.Prelude.{◌≡◌, ◌==◌, ◌||◌, cond, Some, None, option_copied};
+ghost use Rattle.std.specs.List.{list_any};
+ghost use Rattle.std.specs.Option.{option_or};
+ghost use Rattle.zone_proto.specs.Types.{NS, SOA};
+ghost use Rattle.zone_map.specs.Zones.{set_at, owns};
+ghost use Rattle.zone_map.specs.Search.{exact, types_for};
+
+use crate::record_map::RecordMap;
+use crate::search::is_address;
+use zone_proto::{RecordSet, RecordType, RrKey};
+
+/// What a search for a type needs of what stands at a name.
+#[derive(Clone, Copy, Drop)]
+pub(crate) struct AtName<'m> {
+    /// The set of the least type that answers for the one that is searched for.
+    pub(crate) exact: Option<&'m RecordSet>,
+    /// The set of type NS.
+    pub(crate) ns: Option<&'m RecordSet>,
+    /// Whether there is a set of type SOA.
+    pub(crate) owns_soa: bool,
+}
+
+/// What stands at the name of its least key, that of type 0, for a query of `record_type`.
+pub(crate) fn at_name<'m>(
+    records: &'m RecordMap,
+    least: &RrKey,
+    record_type: RecordType,
+) -> AtName<'m>
+    requires { least.now.record_type.0 ≡ 0 }
+    ensures exact { option_copied result.exact ≡ exact records.now least.now.name record_type.0 }
+    ensures ns { option_copied result.ns ≡ set_at records.now least.now.name NS }
+    ensures soa { result.owns_soa ≡ owns records.now least.now.name SOA }
+{
+    let mut here = AtName {
+        exact: None,
+        ns: None,
+        owns_soa: false,
+    };
+    for (key, set) in records.as_map().range(least..) {
+        if key.name != least.name {
+            break;
+        }
+        here = here.with(key.record_type, set, record_type);
+    }
+    here
+}
+
+impl<'m> AtName<'m> {
+    /// The same with the set of a further type.
+    fn with(self, set_type: RecordType, set: &'m RecordSet, record_type: RecordType) -> AtName<'m>
+        ensures exact { option_copied result.exact
+            ≡ option_or (option_copied self.entry.exact) (cond (list_any (λ u. set_type.0 == u) (types_for record_type.0)) (Some set.now) None) }
+        ensures ns { option_copied result.ns ≡ option_or (option_copied self.entry.ns) (cond (NS == set_type.0) (Some set.now) None) }
+        ensures soa { result.owns_soa ≡ (self.entry.owns_soa || (SOA == set_type.0)) }
+    {
+        let mut here = self;
+        if here.exact.is_none() && answers(set_type, record_type) {
+            here.exact = Some(set);
+        }
+        if here.ns.is_none() && set_type == RecordType::NS {
+            here.ns = Some(set);
+        }
+        here.owns_soa |= set_type == RecordType::SOA;
+        here
+    }
+}
+
+/// Whether a set of `set_type` answers a query of `record_type`.
+fn answers(set_type: RecordType, record_type: RecordType) -> bool
+    ensures { result ≡ list_any (λ u. set_type.0 == u) (types_for record_type.0) }
+{
+    set_type == record_type
+        || set_type == RecordType::CNAME
+        || set_type == RecordType::ANAME && is_address(record_type)
+}
