@@ -6,16 +6,15 @@ mod command;
 mod demo_signer;
 mod lines;
 mod sha1_hash;
+mod signing;
 
-use crate::InMemoryZoneHandler;
-use answers::{Zone, carry_out};
+use answers::{Served, carry_out, empty_zone};
 use command::read_command;
 pub use demo_signer::DemoSigner;
 use lines::{Line, Lines};
 pub use sha1_hash::Sha1Hash;
 use std::alloc::{AllocError, Global};
 use std::io::{Read, Write};
-use zone_handler::{AxfrPolicy, ZoneType};
 use zone_proto::{Name, ProtoError};
 use zone_text::TextError;
 
@@ -79,7 +78,7 @@ fn serve<R: Read, W: Write>(
 ) -> Result<bool, Stop>
     ensures usage { length args.now ≢ 1 → IsErrOf result Stop.Usage }
 {
-    let mut zone = make_zone(alloc, args)?;
+    let mut served = make_zone(alloc, args)?;
     let Ok(mut lines) = Lines::new(alloc) else {
         return Err(Stop::Memory);
     };
@@ -90,7 +89,7 @@ fn serve<R: Read, W: Write>(
     for i in 0..u64::MAX {
         answer.clear();
         let built = match lines.next(input) {
-            Ok(Line::Whole) => answer_line(alloc, &mut zone, lines.line(), i + 1, &mut answer),
+            Ok(Line::Whole) => answer_line(alloc, &mut served, lines.line(), i + 1, &mut answer),
             Ok(Line::Bad) => answer_bad_line(i + 1, &mut answer),
             Ok(Line::End) => break,
             Err(_) => return Err(Stop::Read),
@@ -110,20 +109,17 @@ fn serve<R: Read, W: Write>(
 }
 
 /// Makes the zone without records, whose origin is the one word.
-fn make_zone(alloc: Global, args: &[String]) -> Result<Zone, Stop>
+fn make_zone(alloc: Global, args: &[String]) -> Result<Served, Stop>
     ensures usage { length args.now ≢ 1 → IsErrOf result Stop.Usage }
 {
     let [origin] = args else {
         return Err(Stop::Usage);
     };
     match Name::parse(alloc, origin.as_str()) {
-        Ok(origin) => Ok(InMemoryZoneHandler::empty(
-            origin,
-            ZoneType::Primary,
-            AxfrPolicy::AllowAll,
-            None,
-            Sha1Hash,
-        )),
+        Ok(origin) => Ok(Served {
+            zone: empty_zone(origin),
+            moment: 0,
+        }),
         Err(ProtoError::Memory) => Err(Stop::Memory),
         Err(_) => Err(Stop::Usage),
     }
@@ -133,13 +129,13 @@ fn make_zone(alloc: Global, args: &[String]) -> Result<Zone, Stop>
 /// memory was refused for the text.
 fn answer_line(
     alloc: Global,
-    zone: &mut Zone,
+    served: &mut Served,
     line: &[u8],
     number: u64,
     answer: &mut String,
 ) -> Result<bool, AllocError> {
     match read_command(alloc, line) {
-        Ok(Some(command)) => carry_out(zone, command, answer)?,
+        Ok(Some(command)) => carry_out(served, command, answer)?,
         Ok(None) => {}
         Err(TextError::Memory) => answer.push_str("error Memory\n")?,
         Err(TextError::BadText) => return answer_bad_line(number, answer),

@@ -30,7 +30,7 @@ pub use error::TextError;
 pub use hex::read_hex;
 pub use hex_text::HexText;
 pub use names::{read_key, read_name, read_type};
-pub use numbers::{read_timer, read_u8, read_u16, read_u32};
+pub use numbers::{read_timer, read_u8, read_u16, read_u32, read_u64};
 pub use record::read_record;
 pub use record_text::RecordText;
 pub use words::Words;

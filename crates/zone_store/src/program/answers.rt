@@ -2,25 +2,55 @@ use crate::InMemoryZoneHandler;
 use crate::program::command::Command;
 use crate::program::demo_signer::DemoSigner;
 use crate::program::sha1_hash::Sha1Hash;
+use crate::program::signing::{add_key, renew, secure};
 use std::alloc::AllocError;
 use std::fmt;
 use zone_handler::{
-    AuthLookup, LookupControlFlow, LookupError, LookupOptions, LookupRecordsIter, Request,
-    ZoneHandler, ZoneTransfer,
+    AuthLookup, AxfrPolicy, LookupControlFlow, LookupError, LookupOptions, LookupRecordsIter,
+    Request, ZoneHandler, ZoneTransfer, ZoneType,
 };
-use zone_proto::{DNSClass, LowerName, ProtoError, Query, Record, RecordType, RrKey};
+use zone_proto::{DNSClass, LowerName, Name, ProtoError, Query, Record, RecordType, RrKey};
 use zone_text::RecordText;
 
 /// The zone that the program keeps.
 pub type Zone = InMemoryZoneHandler<DemoSigner, Sha1Hash>;
 
+/// A zone without records and signers, of which the program is the source, and which it transfers to anybody.
+pub fn empty_zone(origin: Name) -> Zone {
+    InMemoryZoneHandler::empty(
+        origin,
+        ZoneType::Primary,
+        AxfrPolicy::AllowAll,
+        None,
+        Sha1Hash,
+    )
+}
+
+/// The zone that the program keeps, and the moment at which it was last secured, in seconds since 1970; 0 before that.
+#[derive(Drop)]
+pub struct Served {
+    pub zone: Zone,
+    pub moment: u64,
+}
+
 /// Carries out a command, and adds its answer to the text. An error says that memory was refused for the text.
-pub fn carry_out(zone: &mut Zone, command: Command, answer: &mut String) -> Result<(), AllocError> {
+pub fn carry_out(
+    served: &mut Served,
+    command: Command,
+    answer: &mut String,
+) -> Result<(), AllocError> {
     match command {
-        Command::Add(record) => add(zone, record, answer),
-        Command::Drop(key) => drop_set(zone, &key, answer),
-        Command::Lookup { name, record_type } => lookup(zone, &name, record_type, answer),
-        Command::Transfer(options) => transfer(zone, options, answer),
+        Command::Add(record) => add(&mut served.zone, record, answer),
+        Command::Drop(key) => drop_set(&mut served.zone, &key, answer),
+        Command::Renew => renew(served, answer),
+        Command::Key(number) => add_key(served, number, answer),
+        Command::Secure(now) => secure(served, now, answer),
+        Command::Lookup {
+            name,
+            record_type,
+            options,
+        } => lookup(served, &name, record_type, options, answer),
+        Command::Transfer(options) => transfer(served, options, answer),
     }
 }
 
@@ -44,15 +74,18 @@ fn drop_set(zone: &mut Zone, key: &RrKey, answer: &mut String) -> Result<(), All
     answer.push_str(reply)
 }
 
-/// Answers a query without DNSSEC.
+/// Answers a query at the moment of the last `secure`.
 fn lookup(
-    zone: &Zone,
+    served: &Served,
     name: &LowerName,
     record_type: RecordType,
+    options: LookupOptions,
     answer: &mut String,
 ) -> Result<(), AllocError> {
-    let options = LookupOptions::default();
-    match zone.lookup(name, record_type, None, options, 0) {
+    match served
+        .zone
+        .lookup(name, record_type, None, options, served.moment)
+    {
         LookupControlFlow::Continue(Ok(found)) | LookupControlFlow::Break(Ok(found)) => write_found(
             &found, answer,
         ),
@@ -97,16 +130,20 @@ fn additionals_of(found: &AuthLookup) -> LookupRecordsIter<'_> {
 }
 
 /// Lists the zone as one query for a transfer of it is answered.
-fn transfer(zone: &Zone, options: LookupOptions, answer: &mut String) -> Result<(), AllocError> {
-    match ask_transfer(zone, options) {
+fn transfer(
+    served: &Served,
+    options: LookupOptions,
+    answer: &mut String,
+) -> Result<(), AllocError> {
+    match ask_transfer(served, options) {
         Ok(transfer) => write_transfer(&transfer, answer),
         Err(error) => writeln!(answer, "error {}", ErrorWord(&error)),
     }
 }
 
-fn ask_transfer(zone: &Zone, options: LookupOptions) -> Result<ZoneTransfer, LookupError> {
-    let request = transfer_request(zone.origin())?;
-    match zone.zone_transfer(&request, options, 0) {
+fn ask_transfer(served: &Served, options: LookupOptions) -> Result<ZoneTransfer, LookupError> {
+    let request = transfer_request(served.zone.origin())?;
+    match served.zone.zone_transfer(&request, options, served.moment) {
         Some((reply, _)) => reply,
         None => unreachable!(),
     }

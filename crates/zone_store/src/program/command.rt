@@ -1,7 +1,9 @@
 use std::alloc::Global;
 use zone_handler::LookupOptions;
 use zone_proto::{LowerName, Record, RecordType, RrKey};
-use zone_text::{TextError, Words, read_key, read_name, read_record, read_type};
+use zone_text::{
+    TextError, Words, read_key, read_name, read_record, read_type, read_u16, read_u64,
+};
 
 /// What a line tells the program to do.
 #[derive(Drop)]
@@ -10,10 +12,17 @@ pub enum Command {
     Add(Record),
     /// `drop NAME TYPE`: takes a record set out.
     Drop(RrKey),
-    /// `lookup NAME TYPE`: answers a query.
+    /// `kind none`: makes the zone anew, without records and signers.
+    Renew,
+    /// `key N`: adds the demonstration signer of this number.
+    Key(u16),
+    /// `secure NOW`: secures the zone at this moment, in seconds since 1970.
+    Secure(u64),
+    /// `lookup NAME TYPE`, or with `dnssec` after it where signatures are wanted: answers a query.
     Lookup {
         name: LowerName,
         record_type: RecordType,
+        options: LookupOptions,
     },
     /// `transfer`, or `transfer dnssec` where signatures are wanted: lists the whole zone.
     Transfer(LookupOptions),
@@ -29,15 +38,27 @@ pub fn read_command(alloc: Global, line: &[u8]) -> Result<Option<Command>, TextE
         [b'#', ..] => return Ok(None),
         b"add" => Command::Add(read_record(alloc, &mut words)?),
         b"drop" => Command::Drop(read_key(alloc, &mut words)?),
+        b"kind" => read_kind(&mut words)?,
+        b"key" => Command::Key(read_u16(words.take_needed()?).ok_or(TextError::BadText)?),
+        b"secure" => Command::Secure(read_u64(words.take_needed()?).ok_or(TextError::BadText)?),
         b"lookup" => Command::Lookup {
             name: LowerName::from(read_name(alloc, &mut words)?),
             record_type: read_type(&mut words)?,
+            options: read_options(&mut words)?,
         },
         b"transfer" => Command::Transfer(read_options(&mut words)?),
         _ => return Err(TextError::BadText),
     };
     words.end()?;
     Ok(Some(command))
+}
+
+/// Reads how a zone is to be denied: so far by neither NSEC nor NSEC3.
+fn read_kind(words: &mut Words<'_>) -> Result<Command, TextError> {
+    match words.take_needed()? {
+        b"none" => Ok(Command::Renew),
+        _ => Err(TextError::BadText),
+    }
 }
 
 /// Reads whether signatures are wanted: they are after the word `dnssec`, and aren't at the end of the line.
