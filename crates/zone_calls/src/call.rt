@@ -1,7 +1,7 @@
 //! The calls that rows can make.
 
 use std::collections::BTreeMap;
-use zone_handler::{AxfrPolicy, LookupOptions, ZoneType};
+use zone_handler::{AxfrPolicy, LookupOptions, Request, ZoneType};
 use zone_proto::{
     DNSClass, LowerName, Name, NxProofKind, RData, Record, RecordSet, RecordType, ResponseCode,
     RrKey,
@@ -17,6 +17,7 @@ pub enum Call {
     Record(RecordCall),
     Set(SetCall),
     Zone(ZoneCall),
+    Search(SearchCall),
 }
 
 /// Calls on names. After the word `lower` they are made on a `LowerName`.
@@ -169,4 +170,13 @@ pub enum Ask {
     Chase,
     /// `lookup NAME TYPE`.
     Lookup,
+}
+
+/// Calls that search the zone for more than a name and a type.
+#[derive(Drop)]
+pub enum SearchCall {
+    /// `additionals NEXT NAME TYPE`: `additional_search` for a question from the next name on, and how many names it searches.
+    Additionals(LowerName, Question),
+    /// `request NUMBER NAME TYPE ..`: `search` for a request of so many questions.
+    Request(Request),
 }
