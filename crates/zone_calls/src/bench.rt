@@ -5,6 +5,7 @@ use crate::call::{Ask, Call, Question, SetCall, ZoneCall};
 use crate::names::make_name_call;
 use crate::no_signing::{NoHash, NoSigner};
 use crate::records::{make_record_call, make_word_call};
+use crate::searches::make_search_call;
 use crate::texts::{ChainText, LentText, SetText, ZoneText};
 use crate::transfers::make_transfer;
 use std::alloc::{AllocError, Global};
@@ -70,6 +71,7 @@ impl Bench {
             Call::Record(call) => make_record_call(call),
             Call::Set(call) => self.make_set_call(alloc, call),
             Call::Zone(call) => self.make_zone_call(alloc, call),
+            Call::Search(call) => make_search_call(alloc, &self.zone, call),
             Call::Transfer(request, options) => make_transfer(&self.zone, &request, options),
         }
     }
@@ -312,7 +314,7 @@ fn own_key(set: &RecordSet) -> Result<RrKey, ProtoError> {
 }
 
 /// What a look-up answers.
-fn of_flow(flow: LookupControlFlow<AuthLookup>) -> Answer {
+pub fn of_flow(flow: LookupControlFlow<AuthLookup>) -> Answer {
     match flow {
         LookupControlFlow::Continue(Err(LookupError::Memory)) => Answer::Memory,
         flow => Answer::Flow(flow),

@@ -17,6 +17,7 @@ pub enum Call {
     Record(RecordCall),
     Set(SetCall),
     Zone(ZoneCall),
+    Search(SearchCall),
     /// `transfer NUMBER TYPE`, `transfer NUMBER TYPE dnssec`: `zone_transfer`, for a request of so many questions of the type.
     Transfer(Request, LookupOptions),
 }
@@ -171,4 +172,13 @@ pub enum Ask {
     Chase,
     /// `lookup NAME TYPE`.
     Lookup,
+}
+
+/// Calls that search the zone for more than a name and a type.
+#[derive(Drop)]
+pub enum SearchCall {
+    /// `additionals NEXT NAME TYPE`: `additional_search` for a question from the next name on, and how many names it searches.
+    Additionals(LowerName, Question),
+    /// `request NUMBER NAME TYPE ..`: `search` for a request of so many questions.
+    Request(Request),
 }

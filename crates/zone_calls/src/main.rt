@@ -21,9 +21,11 @@ mod no_signing;
 mod read;
 mod read_names;
 mod read_records;
+mod read_searches;
 mod records;
 mod rows;
 mod scarcely;
+mod searches;
 mod texts;
 mod transfers;
 

@@ -3,6 +3,7 @@
 use crate::call::{Ask, Call, NameCall, Question, RecordCall, SetCall, WordCall, ZoneCall};
 use crate::read_names::{read_copy, read_lower_call, read_name_call};
 use crate::read_records::{read_any_data, read_any_record, read_octets, read_word};
+use crate::read_searches::read_search_call;
 use crate::transfers::read_transfer;
 use std::alloc::Global;
 use std::collections::BTreeMap;
@@ -90,6 +91,7 @@ fn read_words(alloc: Global, words: &mut Words<'_>) -> Result<Call, TextError> {
         b"upsert" | b"remove" | b"any" | b"search" | b"chase" | b"lookup" => {
             Ok(Call::Zone(read_zone_call(alloc, verb, words)?))
         }
+        b"additionals" | b"request" => Ok(Call::Search(read_search_call(alloc, verb, words)?)),
         b"transfer" => read_transfer(alloc, words),
         verb => Ok(Call::Name(read_name_call(alloc, verb, words)?)),
     }
@@ -222,7 +224,7 @@ fn read_zone_call(
 }
 
 /// Reads what is asked for.
-fn read_question(alloc: Global, words: &mut Words<'_>) -> Result<Question, TextError> {
+pub fn read_question(alloc: Global, words: &mut Words<'_>) -> Result<Question, TextError> {
     let name = LowerName::from(read_name(alloc, words)?);
     let record_type = read_type(words)?;
     let options = match words.take() {

@@ -1,5 +1,5 @@
 //! Tests of what no row of text can say: iterators and what they lend, answers taken apart, signers and hashes through their
-//! bounds, a zone of a thousand sets, and the program where growths are refused. Whatever a row can
+//! bounds, the words of `serde`, a zone of a thousand sets, and the program where growths are refused. Whatever a row can
 //! say stands in `zone_transcripts` and `zone_calls`.
 //!
 //! An early exit where a zone, a set or an answer is owned takes long to prove, so these are owned in functions without
@@ -24,5 +24,7 @@ mod signers;
 mod streams;
 #[cfg(test)]
 mod texts;
+#[cfg(test)]
+mod transfers;
 #[cfg(test)]
 mod zones;

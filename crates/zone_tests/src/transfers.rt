@@ -1,0 +1,92 @@
+//! Transfers that are made by hand, and what they lend.
+
+use crate::records::{mark, signed_set};
+use scarce::Scarcity;
+use std::alloc::Global;
+use std::test::Fail;
+use zone_handler::{AxfrRecords, LookupOptions, LookupRecords, ZoneTransfer};
+use zone_proto::{Name, ProtoError, RData, RecordSet, RecordType, SOA};
+
+/// The set of an SOA of the root.
+fn soa_set(alloc: Global) -> Result<RecordSet, ProtoError> {
+    let soa = RData::SOA(SOA {
+        mname: Name::root(alloc),
+        rname: Name::root(alloc),
+        serial: 1,
+        refresh: 2,
+        retry: 3,
+        expire: 4,
+        minimum: 5,
+    });
+    let mut set = RecordSet::with_ttl(Name::root(alloc), RecordType::SOA, 60);
+    match set.add_rdata(soa) {
+        Ok(_) => Ok(set),
+        Err(error) => Err(error),
+    }
+}
+
+/// Two signed sets, with an SOA between them.
+fn sets(alloc: Global) -> Result<Vec<RecordSet>, Fail> {
+    let mut sets = Vec::new(alloc);
+    sets.push(signed_set(alloc, 3, 4)?)?;
+    sets.push(soa_set(alloc)?)?;
+    sets.push(signed_set(alloc, 5, 6)?)?;
+    Ok(sets)
+}
+
+/// Whether a transfer lends records of these marks, and then nothing again and again.
+fn lends(transfer: &ZoneTransfer, wanted: &[u8]) -> bool {
+    let mut left = wanted.iter();
+    let mut records = transfer.iter();
+    for record in records.by_ref() {
+        if left.next().copied() != Some(mark(record)) {
+            return false;
+        }
+    }
+    left.next().is_none() && records.next().is_none() && records.next().is_none()
+}
+
+/// Whether a transfer lends its three parts one after the other, and no SOA among the records.
+fn lends_its_parts(start: RecordSet, sets: Vec<RecordSet>, end: RecordSet) -> bool {
+    let transfer = ZoneTransfer {
+        start_soa: LookupRecords::new(LookupOptions::for_dnssec(), start),
+        records: AxfrRecords::new(true, sets),
+        end_soa: LookupRecords::new(LookupOptions::default(), end),
+    };
+    lends(&transfer, &[1, 2, 0, 3, 4, 0, 5, 6, 0, 7, 8])
+}
+
+#[test]
+fn a_transfer_lends_its_parts_and_takes_no_memory(rt: HostRuntime) -> Result<(), Fail> {
+    let alloc = rt.alloc();
+    let sets = sets(alloc)?;
+    let (start, end) = (signed_set(alloc, 1, 2)?, signed_set(alloc, 7, 8)?);
+    let holds = match Scarcity::of_all(alloc) {
+        Ok(scarce) => {
+            let holds = lends_its_parts(start, sets, end);
+            drop(scarce);
+            holds
+        }
+        Err(_) => false,
+    };
+    assert!(rt; holds);
+    Ok(())
+}
+
+/// Whether sets without records, and no sets, lend nothing.
+fn lend_nothing(empty: RecordSet, none: Vec<RecordSet>) -> bool {
+    let transfer = ZoneTransfer {
+        start_soa: LookupRecords::new(LookupOptions::default(), empty),
+        records: AxfrRecords::new(true, none),
+        end_soa: LookupRecords::Empty,
+    };
+    transfer.start_soa.was_empty() && lends(&transfer, &[])
+}
+
+#[test]
+fn a_transfer_may_have_empty_parts(rt: HostRuntime) {
+    let alloc = rt.alloc();
+    let empty = RecordSet::new(Name::root(alloc), RecordType::TXT, 0);
+    let holds = lend_nothing(empty, Vec::new(alloc));
+    assert!(rt; holds);
+}
