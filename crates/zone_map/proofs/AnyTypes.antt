@@ -102,7 +102,7 @@ module _ (n : Name) where
       by true q ih = (later_type e.0 f.0 h q a.0, ih)
       by false q ih = ih
 
-  types_ascend : (m : Sets) → IsStrictlySortedBy key_cmp (keys_of m) → Ascends (types_at m n)
+  pub types_ascend : (m : Sets) → IsStrictlySortedBy key_cmp (keys_of m) → Ascends (types_at m n)
   types_ascend [] s = tt
   types_ascend (e ∷ m) s = by (name_eq n e.0.name) refl (types_ascend m (sorted_tail key_cmp e.0 (keys_of m) s))
     where

@@ -1,12 +1,13 @@
 -- What stands at a name, as one pass over its entries finds it
-use Rattle.std.proofs.Common.{◌≡◌, ◌==◌, ◌||◌, eq-eqb, eqb-true, ℕ, Bool, true, false, cond, List, [], ◌∷◌, refl, sym, ap, ◌∙◌, subst, true≢false}
+use Rattle.std.proofs.Common.{◌≡◌, ◌==◌, ◌||◌, eq-eqb, eqb-true, arith, ℕ, ◌<◌, ◌≤◌, map, Bool, true, false, cond, List, [], ◌∷◌, refl, sym, ap, ◌∙◌, subst, true≢false}
 use Rattle.std.specs.Prelude.{Option, Some, None, find, is_some, option_and_then, option_map}
 use Rattle.std.specs.Cmp.{both_ways}
-use Rattle.std.specs.List.{list_any, cons_option}
+use Rattle.std.specs.List.{list_any, cons_option, AllByRecursion}
 use Rattle.std.specs.List.Sorted.{IsStrictlySortedBy}
 use Rattle.std.specs.Map.{keys_of}
 use Rattle.std.specs.Option.{option_or}
 use Rattle.std.specs.Ordering.{eq_by_cmp}
+use Rattle.std.proofs.lemmas.Bool.Decides.{nat_tests}
 use Rattle.zone_proto.specs.declared.rr_key.RrKey.{RrKey}
 use Rattle.zone_proto.specs.Keys.{key, key_cmp, key_eq}
 use Rattle.zone_proto.specs.Names.{Name, name_cmp, name_eq}
@@ -16,8 +17,8 @@ use Rattle.zone_proto.proofs.Members.{In-from_any, any_from_In}
 use Rattle.zone_proto.proofs.NameTree.{name_eq-Decides}
 use Rattle.zone_map.specs.Zones.{Sets, set_at, owns, types_at}
 use Rattle.zone_map.specs.Search.{types_for, exact}
-use Rattle.zone_map.proofs.AnyTypes.{least_is_first}
-use Rattle.zone_map.proofs.Neighbours.{front, from_key, entries_of, front_goes_on, front_stops, front_is_whole_name}
+use Rattle.zone_map.proofs.AnyTypes.{Ascends, types_ascend, least_is_first}
+use Rattle.zone_map.proofs.Neighbours.{front, front_types, from_key, entries_of, front_goes_on, front_stops, front_taken, front_is_whole_name, front_is_types}
 use Rattle.zone_map.proofs.Owned.{type_in, type_owned}
 
 -- the first set in front whose type passes a test
@@ -132,6 +133,38 @@ only_type m n t = by (find (λ u. t == u) (types_at m n)) refl
     by None e = nothing (set_at m n t) (sym (type_listed m n t) ∙ none (types_at m n) e)
     by (Some u) e = ap (set_at m n) (sym (eqb-true t u (found_passes (λ u. t == u) (types_at m n) u e)))
 
+-- ---- where a greater type was passed
+
+not_later : (t u : ℕ) (ts : List ℕ) → t ≤ u → AllByRecursion (λ v. u < v) ts → list_any (λ v. t == v) ts ≡ false
+not_later t u [] h a = refl
+not_later t u (v ∷ ts) h a = ap (λ b. b || list_any (λ v. t == v) ts) (other t v (omega (arith, h, a.0))) ∙ not_later t u ts h a.1
+  where
+    other : (t v : ℕ) → t < v → (t == v) ≡ false
+    other t v h = grind (arith, nat_tests)
+
+none_found : (p : ℕ → Bool) (es : Sets) → list_any p (map (λ e. e.0.record_type.0) es) ≡ false → option_map (λ e. e.1) (find (λ e. p e.0.record_type.0) es) ≡ None
+none_found p [] h = refl
+none_found p (e ∷ es) h = by (p e.0.record_type.0) h (none_found p es)
+  where
+    by : (b : Bool) → b || list_any p (map (λ e. e.0.record_type.0) es) ≡ false
+        → (list_any p (map (λ e. e.0.record_type.0) es) ≡ false → option_map (λ e. e.1) (find (λ e. p e.0.record_type.0) es) ≡ None)
+        → option_map (λ e. e.1) (cond b (Some e) (find (λ e. p e.0.record_type.0) es)) ≡ None
+    by true g ih = cc
+    by false g ih = ih g
+
+module _ (n : Name) (s t : Sets) (e : RrKey × RRset) (is : s ≡ e ∷ t) (same : eq_by_cmp name_cmp e.0.name n ≡ true) (up : Ascends (front_types n s)) where
+  ascend_on : Ascends (e.0.record_type.0 ∷ front_types n t)
+  ascend_on = subst Ascends (ap (front_types n) is ∙ front_taken n e t same) up
+
+  pub rest_ascends : Ascends (front_types n t)
+  rest_ascends = ascend_on.1
+
+  pub none_noted : (u : ℕ) → u ≤ e.0.record_type.0 → list_any (λ v. u == v) (front_types n t) ≡ false
+  none_noted u h = not_later u e.0.record_type.0 (front_types n t) h ascend_on.0
+
+  pub none_left : (u : ℕ) → u ≤ e.0.record_type.0 → first_set (λ v. u == v) n t ≡ None
+  none_left u h = none_found (λ v. u == v) (front n t) (none_noted u h)
+
 -- ---- a whole loop, from the name's least key on
 
 module _ (least : RrKey) (m es : Sets) (type_zero : least.record_type.0 ≡ 0) (sorted : IsStrictlySortedBy key_cmp (keys_of es)) (same : es ≡ m) where
@@ -147,3 +180,10 @@ module _ (least : RrKey) (m es : Sets) (type_zero : least.record_type.0 ≡ 0) (
   whole_exact t =
       whole (λ u. list_any (λ v. u == v) (types_for t))
       ∙ ap (option_and_then (set_at m least.name)) (sym (least_is_first m least.name (types_for t) (subst (λ (x : Sets). IsStrictlySortedBy key_cmp (keys_of x)) same sorted)))
+
+  pub whole_ascends : Ascends (front_types least.name (from_key least m))
+  whole_ascends =
+      let in_order : IsStrictlySortedBy key_cmp (keys_of m) = subst (λ (x : Sets). IsStrictlySortedBy key_cmp (keys_of x)) same sorted in
+      subst Ascends
+      (sym (ap (λ t. front_types least.name (from_key (key least.name t) m)) type_zero ∙ front_is_types least.name m in_order))
+      (types_ascend least.name m in_order)

@@ -42,6 +42,10 @@ pub(crate) fn at_name<'m>(
             break;
         }
         here = here.with(key.record_type, set, record_type);
+        // Further types are greater, and so neither NS nor SOA.
+        if here.exact.is_some() && key.record_type >= RecordType::SOA {
+            break;
+        }
     }
     here
 }

@@ -1,19 +1,49 @@
-use Rattle.std.proofs.Common.{◌≡◌, ◌==◌, true, false, sym, ap, ◌∙◌}
-use Rattle.std.specs.Prelude.{Option, Some, None, option_copied}
+use Rattle.std.proofs.Common.{arith, refl, ℕ, ◌<◌, ◌≤◌, subst, true≢false, Ordering, Less, Equal, Greater, ◌≡◌, ◌==◌, true, false, sym, ap, ◌∙◌}
+use Rattle.std.specs.Prelude.{Option, Some, None, is_some, option_copied}
+use Rattle.std.specs.Borrow.{Bor}
 use Rattle.std.specs.List.{list_any}
 use Rattle.std.specs.Option.{option_or}
-use Rattle.std.specs.Ordering.{eq_by_cmp}
+use Rattle.std.specs.Ordering.{eq_by_cmp, nat_cmp, is_ge, MatchOrdering}
+use Rattle.std.proofs.lemmas.Cmp.{ranked}
 use Rattle.zone_proto.specs.Names.{name_cmp}
+use Rattle.zone_proto.specs.Sets.{RRset}
 use Rattle.zone_proto.specs.Types.{NS, SOA}
 use Rattle.zone_map.specs.Search.{types_for}
-use Rattle.zone_map.proofs.AtName.{first_set, first_over, first_passed, whole_type, whole_exact, type_listed}
-use Rattle.zone_map.proofs.Neighbours.{not_false, not_true, front_types, front_over, front_noted, all_noted, front_is_whole}
+use Rattle.zone_map.proofs.AnyTypes.{Ascends}
+use Rattle.zone_map.proofs.AtName.{first_set, first_over, first_passed, rest_ascends, none_noted, none_left, whole_type, whole_exact, whole_ascends, type_listed}
+use Rattle.zone_map.proofs.Neighbours.{not_false, not_true, from_key, front_types, front_over, front_noted, all_noted, front_is_whole}
 use Rattle.zone_map.proofs.at_name.at_name.Goals as goal
 
 -- where nothing is left, what was found is the whole
 alone : {X : Type 0} (o rest whole : Option X) → rest ≡ None → option_or o rest ≡ whole → o ≡ whole
 alone None rest whole e h = sym e ∙ h
 alone (Some x) rest whole e h = h
+
+-- where something was found, what is left adds nothing
+kept : (o : Option (Bor RRset)) (rest whole : Option RRset) → is_some o ≡ true → option_or (option_copied o) rest ≡ whole → option_copied o ≡ whole
+kept None rest whole e h = cc
+kept (Some s) rest whole e h = h
+
+at_least : (t u : ℕ) → true ≡ is_ge (nat_cmp t u) → u ≤ t
+at_least t u h = by (nat_cmp t u) refl h
+  where
+    by : (o : Ordering) → o ≡ nat_cmp t u → true ≡ is_ge o → u ≤ t
+    by Less e g = absurd (true≢false g)
+    by Equal e g = let told : MatchOrdering Equal (t < u) (t ≡ u) (u < t) = ranked t u Equal e in let same : t ≡ u = told in omega (arith, same)
+    by Greater e g = let told : MatchOrdering Greater (t < u) (t ≡ u) (u < t) = ranked t u Greater e in let later : u < t = told in omega (arith, later)
+
+pub loop-key-init : goal.loop-key-init
+loop-key-init c =
+    let first : c.into_iter-key-iterator.result ≡ from_key c.args.least.now c.args.records.now =
+    c.into_iter-key-iterator.ensures.into_iter_gives ∙ c.range-key-items.ensures.between tt ∙ ap (from_key c.args.least.now) c.as_map.ensures.entries in
+    record {
+      exact = ap (first_set (λ u. list_any (λ v. u == v) (types_for c.args.record_type.0)) c.args.least.now.name) first;
+      ns = ap (first_set (λ u. NS == u) c.args.least.now.name) first;
+      soa = ap (λ es. list_any (λ u. SOA == u) (front_types c.args.least.now.name es)) first;
+      ascend =
+          subst (λ es. Ascends (front_types c.args.least.now.name es)) (sym first)
+          (whole_ascends c.args.least.now c.args.records.now c.as_map.result.now.entries c.requires c.range-key-items.ensures.ordered c.as_map.ensures.entries);
+    }
 
 pub loop-key-preserved : goal.loop-key-preserved
 loop-key-preserved c =
@@ -28,6 +58,7 @@ loop-key-preserved c =
       soa =
           front_noted (λ u. SOA == u) c.args.least.now.name _ c.next.new.self (c.in-Some.key.now, c.in-Some.set.now) c.in-Some.ensures.steps c.loop-key.here.owns_soa _ _
           same c.with-here.ensures.soa c.loop-key.invariant.soa;
+      ascend = rest_ascends c.args.least.now.name _ c.next.new.self (c.in-Some.key.now, c.in-Some.set.now) c.in-Some.ensures.steps same c.loop-key.invariant.ascend;
     }
 
 pub returns-in-None-clause-exact : goal.returns-in-None-clause-exact
@@ -67,5 +98,34 @@ returns-then-ne-clause-soa c =
     let other : eq_by_cmp name_cmp c.in-Some.key.now.name c.args.least.now.name ≡ false = not_true _ (sym c.ne.ensures ∙ c.if-ne.true) in
     all_noted c.loop-key.here.owns_soa _ _
     (front_over (λ u. SOA == u) c.args.least.now.name _ c.next.new.self (c.in-Some.key.now, c.in-Some.set.now) c.in-Some.ensures.steps other) c.loop-key.invariant.soa
+    ∙ front_is_whole (λ u. SOA == u) c.args.least.now c.args.records.now c.as_map.result.now.entries c.requires c.range-key-items.ensures.ordered c.as_map.ensures.entries
+    ∙ type_listed c.args.records.now c.args.least.now.name SOA
+
+pub returns-then-ge-clause-exact : goal.returns-then-ge-clause-exact
+returns-then-ge-clause-exact c =
+    let same : eq_by_cmp name_cmp c.in-Some.key.now.name c.args.least.now.name ≡ true = not_false _ (sym c.ne.ensures ∙ c.if-ne.false) in
+    kept c.with-here.result.exact _ _ (sym c.if-is_some.ensures)
+    (first_passed (λ u. list_any (λ v. u == v) (types_for c.args.record_type.0)) c.args.least.now.name _ c.next.new.self (c.in-Some.key.now, c.in-Some.set.now) (option_copied c.loop-key.here.exact) _ _
+    c.in-Some.ensures.steps same c.with-here.ensures.exact c.loop-key.invariant.exact)
+    ∙ whole_exact c.args.least.now c.args.records.now c.as_map.result.now.entries c.requires c.range-key-items.ensures.ordered c.as_map.ensures.entries c.args.record_type.0
+
+pub returns-then-ge-clause-ns : goal.returns-then-ge-clause-ns
+returns-then-ge-clause-ns c =
+    let same : eq_by_cmp name_cmp c.in-Some.key.now.name c.args.least.now.name ≡ true = not_false _ (sym c.ne.ensures ∙ c.if-ne.false) in
+    let high : SOA ≤ c.in-Some.key.now.record_type.0 = at_least c.in-Some.key.now.record_type.0 SOA c.if-ge.ensures in
+    alone (option_copied c.with-here.result.ns) _ _
+    (none_left c.args.least.now.name _ c.next.new.self (c.in-Some.key.now, c.in-Some.set.now) c.in-Some.ensures.steps same c.loop-key.invariant.ascend NS (omega (arith, high)))
+    (first_passed (λ u. NS == u) c.args.least.now.name _ c.next.new.self (c.in-Some.key.now, c.in-Some.set.now) (option_copied c.loop-key.here.ns) _ _
+    c.in-Some.ensures.steps same c.with-here.ensures.ns c.loop-key.invariant.ns)
+    ∙ whole_type c.args.least.now c.args.records.now c.as_map.result.now.entries c.requires c.range-key-items.ensures.ordered c.as_map.ensures.entries NS
+
+pub returns-then-ge-clause-soa : goal.returns-then-ge-clause-soa
+returns-then-ge-clause-soa c =
+    let same : eq_by_cmp name_cmp c.in-Some.key.now.name c.args.least.now.name ≡ true = not_false _ (sym c.ne.ensures ∙ c.if-ne.false) in
+    let high : SOA ≤ c.in-Some.key.now.record_type.0 = at_least c.in-Some.key.now.record_type.0 SOA c.if-ge.ensures in
+    all_noted c.with-here.result.owns_soa _ _
+    (none_noted c.args.least.now.name _ c.next.new.self (c.in-Some.key.now, c.in-Some.set.now) c.in-Some.ensures.steps same c.loop-key.invariant.ascend SOA high)
+    (front_noted (λ u. SOA == u) c.args.least.now.name _ c.next.new.self (c.in-Some.key.now, c.in-Some.set.now) c.in-Some.ensures.steps c.loop-key.here.owns_soa _ _
+    same c.with-here.ensures.soa c.loop-key.invariant.soa)
     ∙ front_is_whole (λ u. SOA == u) c.args.least.now c.args.records.now c.as_map.result.now.entries c.requires c.range-key-items.ensures.ordered c.as_map.ensures.entries
     ∙ type_listed c.args.records.now c.args.least.now.name SOA
