@@ -6,7 +6,8 @@ mod unsigned;
 use std::alloc::Global;
 use unsigned::{NoHash, NoSigner};
 use zone_handler::{
-    AuthLookup, AxfrPolicy, LookupError, LookupOptions, Request, ZoneHandler, ZoneTransfer, ZoneType,
+    AuthLookup, AxfrPolicy, LookupError, LookupOptions, Request, ZoneHandler, ZoneTransfer,
+    ZoneType,
 };
 use zone_proto::{DNSClass, LowerName, Name, Query, RData, Record, RecordType};
 use zone_store::InMemoryZoneHandler;
@@ -18,7 +19,13 @@ type Zone = InMemoryZoneHandler<NoSigner, NoHash>;
 fn main(rt: HostRuntime) -> anyhow::Result<()> {
     let alloc = rt.alloc();
     let origin = Name::parse(alloc, "example.com.")?;
-    let mut zone = Zone::empty(origin, ZoneType::Primary, AxfrPolicy::AllowAll, None, NoHash);
+    let mut zone = Zone::empty(
+        origin,
+        ZoneType::Primary,
+        AxfrPolicy::AllowAll,
+        None,
+        NoHash,
+    );
     serve(&rt, alloc, &mut zone)
 }
 
