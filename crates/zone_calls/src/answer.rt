@@ -4,7 +4,7 @@ use crate::texts::{FlowText, LowerNameDescription, NameDescription, SetText};
 use crate::transfers::TransferText;
 use std::cmp::Ordering;
 use std::fmt;
-use zone_handler::{AuthLookup, LookupControlFlow, LookupError, ZoneTransfer};
+use zone_handler::{AuthLookup, LookupControlFlow, LookupError, SecureError, ZoneTransfer};
 use zone_proto::{
     DNSClass, LowerName, Name, ProtoError, RData, Record, RecordSet, RecordType, ResponseCode,
 };
@@ -24,6 +24,9 @@ pub enum Answer {
     /// Memory was refused to the call, and it changed something all the same.
     Changed,
     Memory,
+    /// A signer was refused that has no key.
+    NoKey,
+    Count(usize),
     Order(Ordering),
     Name(Name),
     LowerName(LowerName),
@@ -42,6 +45,7 @@ pub enum Answer {
     Proto(ProtoError),
     Lookup(LookupError),
     Zone(ZoneError),
+    Secure(SecureError),
 }
 
 impl Answer {
@@ -97,6 +101,8 @@ impl fmt::Display for Answer {
             Answer::NotCounted => write!(f, "a search that isn't counted"),
             Answer::Changed => write!(f, "a refusal that changes something"),
             Answer::Memory => write!(f, "error: out of memory"),
+            Answer::NoKey => write!(f, "error: NoKey"),
+            Answer::Count(count) => write!(f, "{count}"),
             Answer::Order(Ordering::Less) => write!(f, "before"),
             Answer::Order(Ordering::Equal) => write!(f, "same"),
             Answer::Order(Ordering::Greater) => write!(f, "after"),
@@ -117,6 +123,7 @@ impl fmt::Display for Answer {
             Answer::Proto(error) => write!(f, "error: {error}"),
             Answer::Lookup(error) => write!(f, "error: {error}"),
             Answer::Zone(error) => write!(f, "error: {error}"),
+            Answer::Secure(error) => write!(f, "error: {error:?}"),
         }
     }
 }

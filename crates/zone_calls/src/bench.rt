@@ -3,9 +3,10 @@
 use crate::answer::Answer;
 use crate::call::{Ask, Call, Question, SetCall, ZoneCall};
 use crate::names::make_name_call;
-use crate::no_signing::{NoHash, NoSigner};
 use crate::records::{make_record_call, make_word_call};
 use crate::searches::make_search_call;
+use crate::signers::{NoHash, RowSigner};
+use crate::signing::make_signing_call;
 use crate::texts::{ChainText, LentText, SetText, ZoneText};
 use crate::transfers::make_transfer;
 use std::alloc::{AllocError, Global};
@@ -18,7 +19,7 @@ use zone_store::{Found, InMemoryZoneHandler, PutRefused, Searches};
 use zone_text::TextError;
 
 /// The zone of rows.
-pub type Zone = InMemoryZoneHandler<NoSigner, NoHash>;
+pub type Zone = InMemoryZoneHandler<RowSigner, NoHash>;
 
 /// Record sets by their keys.
 type Sets = BTreeMap<RrKey, RecordSet>;
@@ -45,13 +46,14 @@ impl Bench {
         }
     }
 
-    /// The zone, the set in hand and the shelf as text.
+    /// The zone, the set in hand, the shelf and how many signers the zone has, as text.
     pub fn dump(&self, alloc: Global) -> Result<String, AllocError> {
         let mut text = format!(in alloc; "{}", ZoneText(&self.zone))?;
         if let Some(set) = &self.hand {
             write!(text, " in hand: {}", SetText(set))?;
         }
         write!(text, " {} on the shelf", self.shelf.len())?;
+        write!(text, " {} signers", self.zone.secure_keys().len())?;
         Ok(text)
     }
 
@@ -72,6 +74,7 @@ impl Bench {
             Call::Set(call) => self.make_set_call(alloc, call),
             Call::Zone(call) => self.make_zone_call(alloc, call),
             Call::Search(call) => make_search_call(alloc, &self.zone, call),
+            Call::Signing(call) => make_signing_call(&mut self.zone, call),
             Call::Transfer(request, options) => make_transfer(&self.zone, &request, options),
         }
     }

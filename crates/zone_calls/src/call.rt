@@ -1,5 +1,6 @@
 //! The calls that rows can make.
 
+use crate::signers::RowSigner;
 use std::collections::BTreeMap;
 use zone_handler::{AxfrPolicy, LookupOptions, Request, ZoneType};
 use zone_proto::{
@@ -20,6 +21,7 @@ pub enum Call {
     Search(SearchCall),
     /// `transfer NUMBER TYPE`, `transfer NUMBER TYPE dnssec`: `zone_transfer`, for a request of so many questions of the type.
     Transfer(Request, LookupOptions),
+    Signing(SigningCall),
 }
 
 /// Calls on names. After the word `lower` they are made on a `LowerName`.
@@ -172,6 +174,21 @@ pub enum Ask {
     Chase,
     /// `lookup NAME TYPE`.
     Lookup,
+}
+
+/// Calls that sign the zone.
+#[derive(Drop)]
+pub enum SigningCall {
+    /// `key NUMBER ORIGIN`: `add_zone_signing_key_mut` of the demonstration signer of that number and origin; with `keyless`,
+    /// `idle` or `choosy` after it of one that has no key, signs nothing, or signs sets of odd types alone; with `for NUMBER`
+    /// of one that finds memory for so many calls.
+    Key(RowSigner),
+    /// `signers`: how many signers the zone has.
+    Signers,
+    /// `secure NUMBER`: `secure_zone_mut` at that moment.
+    Secure(u64),
+    /// `at NUMBER NAME TYPE`, `at NUMBER NAME TYPE dnssec`: `lookup` at that moment.
+    LookupAt(u64, Question),
 }
 
 /// Calls that search the zone for more than a name and a type.

@@ -17,7 +17,6 @@ mod answer;
 mod bench;
 mod call;
 mod names;
-mod no_signing;
 mod read;
 mod read_names;
 mod read_records;
@@ -26,6 +25,8 @@ mod records;
 mod rows;
 mod scarcely;
 mod searches;
+mod signers;
+mod signing;
 mod texts;
 mod transfers;
 

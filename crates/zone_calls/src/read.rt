@@ -4,6 +4,7 @@ use crate::call::{Ask, Call, NameCall, Question, RecordCall, SetCall, WordCall, 
 use crate::read_names::{read_copy, read_lower_call, read_name_call};
 use crate::read_records::{read_any_data, read_any_record, read_octets, read_word};
 use crate::read_searches::read_search_call;
+use crate::signing::read_signing_call;
 use crate::transfers::read_transfer;
 use std::alloc::Global;
 use std::collections::BTreeMap;
@@ -92,6 +93,9 @@ fn read_words(alloc: Global, words: &mut Words<'_>) -> Result<Call, TextError> {
             Ok(Call::Zone(read_zone_call(alloc, verb, words)?))
         }
         b"additionals" | b"request" => Ok(Call::Search(read_search_call(alloc, verb, words)?)),
+        b"key" | b"signers" | b"secure" | b"at" => {
+            Ok(Call::Signing(read_signing_call(alloc, verb, words)?))
+        }
         b"transfer" => read_transfer(alloc, words),
         verb => Ok(Call::Name(read_name_call(alloc, verb, words)?)),
     }
