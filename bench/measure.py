@@ -24,6 +24,8 @@ from workload import ORIGIN, workload
 ENOUGH = 0.2
 PADDING = (b"#" + b"." * 126 + b"\n") * 1280
 MEMORY = ("peak memory, KB", "memory for a record, octets")
+PEAK_TRANSFERRED = "peak memory with a transfer, KB"
+PEAK_SECURED = "peak memory with securing, KB"
 
 
 def text(commands):
@@ -80,10 +82,9 @@ def time_load(program, load):
         session.end()
 
 
-def time_question(session, question):
-    """Microseconds for a query: of so many, asked in one go, that they take long enough."""
+def time_question(session, question, count=10):
+    """Microseconds for a query: of so many, asked in one go, that they take long enough; of this many at first."""
     queries = itertools.cycle(question.commands)
-    count = 10
     while True:
         seconds = session.time(text(itertools.islice(queries, count)))
         if seconds >= ENOUGH:
@@ -107,6 +108,20 @@ def time_changes(session, changes):
     return {phase.title: 1e6 * seconds[phase.title] / rounds / len(phase.commands) for phase in changes if phase.title}
 
 
+def time_securings(program, work):
+    """Microseconds to secure the zone with one more signer each time, and the most memory that it takes, by their titles."""
+    session = Session(program)
+    session.carry_out(text(work.load.commands))
+    figures = {}
+    for phase in work.securings:
+        key, secure = phase.commands
+        session.carry_out(text([key]))
+        figures[phase.title] = time_question(session, phase._replace(commands=[secure]), 1)
+    figures[PEAK_SECURED] = session.memory("VmHWM")
+    session.end()
+    return figures
+
+
 def run(program, work):
     """The figures of one run, by their rows' titles."""
     session, per_record, memory_of_record = time_load(program, work.load)
@@ -114,7 +129,12 @@ def run(program, work):
     figures |= {question.title: time_question(session, question) for question in work.questions}
     figures |= time_changes(session, work.changes)
     figures |= dict(zip(MEMORY, (session.memory("VmHWM"), memory_of_record)))
+    if work.transfer:
+        figures[work.transfer.title] = time_question(session, work.transfer, 1)
+        figures[PEAK_TRANSFERRED] = session.memory("VmHWM")
     session.end()
+    if work.securings:
+        figures |= time_securings(program, work)
     return figures
 
 
@@ -137,12 +157,20 @@ def known_phases(program):
     known = {question.title for question in work.questions if answers_rightly(program, [work.load, question])}
     if answers_rightly(program, [work.load, *work.changes, *work.changes]):
         known |= {change.title for change in work.changes}
+    if answers_rightly(program, [work.load, work.transfer]):
+        known |= {PEAK_TRANSFERRED, work.transfer.title}
+    if answers_rightly(program, [work.load, *work.securings]):
+        known |= {PEAK_SECURED, *(securing.title for securing in work.securings)}
     return {work.load.title, *MEMORY, *known}
 
 
 def measure(program, work, known, runs):
     """The least of each figure in these runs. The figures of what the program doesn't know are left out."""
-    work = work._replace(questions=[question for question in work.questions if question.title in known])
+    work = work._replace(
+        questions=[question for question in work.questions if question.title in known],
+        transfer=work.transfer if PEAK_TRANSFERRED in known else None,
+        securings=work.securings if PEAK_SECURED in known else [],
+    )
     taken = [run(program, work) for _ in range(runs)]
     return {title: min(figures[title] for figures in taken) for title in taken[0]}
 
@@ -151,7 +179,7 @@ def shown(figure, title=""):
     """Two decimals, or as many as show two digits; whole numbers for memory."""
     if figure is None:
         return ""
-    if title in MEMORY:
+    if title in (*MEMORY, PEAK_TRANSFERRED, PEAK_SECURED):
         return f"{figure:.0f}"
     return f"{figure:.{max(2, 1 - math.floor(math.log10(figure)))}f}"
 
@@ -179,7 +207,7 @@ def main():
     for names in sizes:
         work = workload(names, lookups)
         found.append([measure(*each, runs) for each in zip(programs, itertools.repeat(work), known)])
-    for title in [*work.titles(), *MEMORY]:
+    for title in [*work.titles(), *MEMORY, PEAK_TRANSFERRED, PEAK_SECURED]:
         before = [None] * len(programs)
         for names, figures in zip(sizes, found):
             row = [each.get(title) for each in figures]

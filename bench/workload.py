@@ -17,14 +17,17 @@ class Phase(NamedTuple):
 
 
 class Workload(NamedTuple):
-    """What fills a zone; questions, which leave it as it is; and changes, which leave it so when all are made."""
+    """What fills a zone; questions, which leave it as it is; changes, which leave it so when all are made; a
+    transfer of it whole; and securings, each of which follows one more signer."""
 
     load: Phase
     questions: list[Phase]
     changes: list[Phase]
+    transfer: Phase
+    securings: list[Phase]
 
     def titles(self):
-        return [phase.title for phase in [self.load, *self.questions, *self.changes] if phase.title]
+        return [phase.title for phase in [self.load, *self.questions, *self.changes, self.transfer, *self.securings] if phase.title]
 
 
 def address(i):
@@ -163,7 +166,6 @@ def workload(names, lookups):
         ),
         asked("no such name", [(f"none{i}.{ORIGIN} A", "error NXDomain") for i in fewer]),
         asked("no such type", [(f"{host} TXT", "error NameExists") for host in without_text]),
-        Phase("transfer", ["transfer"], [transferred(adds)]),
     ]
 
     pick.shuffle(aliases)
@@ -176,4 +178,10 @@ def workload(names, lookups):
         taken("", [f"drop {alias} CNAME" for alias in aliases]),
         taken("", [f"add {host} 300 A {hosts[host]}" for host in changed]),
     ]
-    return Workload(taken("add", adds), questions, changes)
+    # (the first command adds a signer, and isn't timed)
+    securings = [
+        Phase("secure with one signer", ["key 7", "secure 1000"], ["ok", "ok 2"]),
+        Phase("secure with two signers", ["key 8", "secure 1000"], ["ok", "ok 3"]),
+    ]
+    transfer = Phase("transfer", ["transfer"], [transferred(adds)])
+    return Workload(taken("add", adds), questions, changes, transfer, securings)
