@@ -1,5 +1,5 @@
 //! The signers of rows, and a hash that has no digests.
-ghost use Rattle.std.specs.Prelude.{◌≡◌};
+ghost use Rattle.std.specs.Prelude.{◌≡◌, IsOkUnless};
 ghost use Rattle.zone_calls.specs.RowSigners.{signs_type};
 
 use std::cell::Cell;
@@ -38,7 +38,9 @@ impl RowSigner {
     }
 
     /// Counts a call, which finds no memory once there were so many.
-    fn call(&self) -> Result<(), ProtoError> {
+    fn call(&self) -> Result<(), ProtoError>
+        ensures { IsOkUnless result ProtoError.Memory }
+    {
         let left = self.calls.get();
         if left == 0 {
             return Err(ProtoError::Memory);
