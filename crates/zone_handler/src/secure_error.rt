@@ -1,8 +1,8 @@
 /// Why a zone isn't secured. Where there are several causes, the first of them here is told; `Memory` may come instead of any
-/// but `TimeOutOfRange`.
+/// but `TimeOutOfRange`. `CnameAtOrigin`, `Hash` and `OwnerTooLong` are of zones that are denied by NSEC3 (RFC 5155).
 #[derive(Clone, Copy, PartialEq, Eq, Debug)]
 pub enum SecureError {
-    /// The moment is past the year 9999.
+    /// The moment is past the year 9999 (253402300799 seconds since 1970).
     TimeOutOfRange,
     /// The zone is denied by NSEC3, and a CNAME stands at its origin, beside which no NSEC3PARAM may stand.
     CnameAtOrigin,

@@ -37,6 +37,7 @@ impl<'r> IntoIterator for &'r ZoneTransfer {
 
     ghost into_iter_gives = { λ transfer it. it ≡ transfer_records transfer.now };
 
+    /// The same as [`ZoneTransfer::iter`].
     fn into_iter(self) -> ZoneTransferIter<'r> {
         self.iter()
     }

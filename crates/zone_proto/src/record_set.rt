@@ -253,8 +253,8 @@ impl RecordSet {
         put_last(&mut self.rrsigs, rrsig)
     }
 
-    /// Steps the serial of the set's SOA by one modulo 2^32, which becomes the set's serial too; a set that doesn't begin
-    /// with an SOA stays as it is. The signatures stay. Takes no memory.
+    /// Steps the serial of the set's SOA by one modulo 2^32 (RFC 1982 section 3.1), which becomes the set's serial too; a set
+    /// that doesn't begin with an SOA stays as it is. The signatures stay. Takes no memory.
     pub fn step_serial(&mut self)
         ensures { self.new ≡ stepped self.old }
     {

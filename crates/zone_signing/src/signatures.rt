@@ -7,7 +7,9 @@ use zone_proto::{DNSClass, ProtoError, RData, Record, RecordSet, Signer};
 /// The last second of the year 9999, in seconds since 1970: no signature is made past it.
 pub const LAST_MOMENT: u64 = 253402300799;
 
-/// Signs a set by each signer in order; one that declines is passed over, and signatures that the set has go.
+/// Signs a set by each signer in order, at the moment `now`, in seconds since 1970 (RFC 4034 section 3); one that declines is
+/// passed over, and signatures that the set has go. Refused by `Memory` alone, of a signer too, which leaves the set with the
+/// signatures that were made until then.
 pub fn sign_set<S: Signer>(set: &mut RecordSet, signers: &[S], now: u64) -> Result<(), ProtoError>
     ensures ok { OnOk result (set.new ≡ record set.old { signatures = signatures S.signature_of now signers.now set.old }) }
     ensures err { IsOkUnless result ProtoError.Memory }

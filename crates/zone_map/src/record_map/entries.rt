@@ -45,7 +45,7 @@ impl RecordMap {
         self.sets.into_iter()
     }
 
-    /// How many sets there are.
+    /// How many sets there are. Takes no memory.
     pub fn len(&self) -> usize
         ensures { result ≡ length self.now }
     {
