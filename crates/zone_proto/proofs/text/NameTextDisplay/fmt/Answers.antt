@@ -11,10 +11,10 @@ loop-label-init g c = ([], search rules, λ p. search rules)
 pub loop-label-preserved : goal.loop-label-preserved
 loop-label-preserved g c =
     let written = c.loop-label.invariant.0 in
-    let one = label_text c.in-Some.label.now in (
+    let one = label_text c.in-Some-label.label.now in (
       written ++ one,
       c.loop-label.invariant.1
-          ∙ ap (λ z. written ++ flat_map label_text z) c.in-Some.ensures.steps
+          ∙ ap (λ z. written ++ flat_map label_text z) c.in-Some-label.ensures.steps
           ∙ sym (append_assoc written one (flat_map label_text c.next.new.self)),
       λ p. let before = c.loop-label.invariant.2 p in
           let plain : IsPlainFormatter c.loop-label.f = before.plain in
