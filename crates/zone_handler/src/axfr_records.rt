@@ -1,5 +1,5 @@
 ghost use Rattle.std.specs.Prelude.{◌≡◌};
-ghost use Rattle.zone_handler.specs.Sets.{axfr_records};
+ghost use Rattle.zone_handler.specs.Sets.{without_soa, axfr_records};
 
 use crate::axfr_records_iter::AxfrRecordsIter;
 use crate::lookup_options::LookupOptions;
@@ -33,6 +33,15 @@ impl AxfrRecords {
     {
         AxfrRecords {
             records: LookupRecords::many(LookupOptions { dnssec_ok }, sets),
+        }
+    }
+
+    /// These records in their order, but none of type SOA. Takes no memory.
+    pub fn of_records(records: Vec<Record>) -> AxfrRecords
+        ensures { result ≡ without_soa records.items }
+    {
+        AxfrRecords {
+            records: LookupRecords::Section(records),
         }
     }
 }

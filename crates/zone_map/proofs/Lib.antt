@@ -2,6 +2,7 @@ pub mod Owned
 pub mod Neighbours
 pub mod Stored
 pub mod Entries
+pub mod Renewing
 pub mod Upserting
 pub mod CnamesAlone
 pub mod Lists

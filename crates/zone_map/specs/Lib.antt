@@ -7,3 +7,4 @@ pub mod AnyTypes
 pub mod Fronts
 pub mod Chains
 pub mod SearchLaws
+pub mod Renewals

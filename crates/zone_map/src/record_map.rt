@@ -9,6 +9,7 @@ ghost use Rattle.zone_map.specs.Zones.{set_at, owns, owns_at_or_below, put, with
 ghost use Rattle.zone_map.specs.Upserts.{upserted, with_record, clash, clashes, is_denial_type, CnamesStandAlone};
 
 mod entries;
+mod renewal;
 
 use std::alloc::Global;
 use std::collections::BTreeMap;

@@ -14,6 +14,7 @@ use crate::rdata::RData;
 use crate::record::{Record, clone_records};
 use crate::record_type::RecordType;
 use crate::rrset_records::RrsetRecords;
+use crate::rrsigs::Rrsigs;
 use crate::stepping::step;
 use std::marker::Model;
 
@@ -251,6 +252,13 @@ impl RecordSet {
         ensures { IsChange self.old (record self.old { signatures = self.old.signatures ++ rrsig ∷ [] }) result self.new }
     {
         put_last(&mut self.rrsigs, rrsig)
+    }
+
+    /// Puts these signatures in the place of those that the set has. Takes no memory.
+    pub fn replace_rrsigs(&mut self, rrsigs: Rrsigs)
+        ensures { self.new ≡ record self.old { signatures = rrsigs } }
+    {
+        self.rrsigs = rrsigs.into_records();
     }
 
     /// Steps the serial of the set's SOA by one modulo 2^32 (RFC 1982 section 3.1), which becomes the set's serial too; a set

@@ -31,7 +31,7 @@ kept denials es = filter (λ (e : RrKey × RRset). stays denials e.0.record_type
 abbrev pub changed : (RrKey → RRset → RRset) → Sets → Sets
 changed h es = map (λ (e : RrKey × RRset). (e.0, h e.0 e.1)) es
 
-lookup-changed : (h : RrKey → RRset → RRset) (q : RrKey) (es : Sets) → lookup (key_eq q) (changed h es) ≡ option_map (h q) (lookup (key_eq q) es)
+pub lookup-changed : (h : RrKey → RRset → RRset) (q : RrKey) (es : Sets) → lookup (key_eq q) (changed h es) ≡ option_map (h q) (lookup (key_eq q) es)
 lookup-changed h q [] = refl
 lookup-changed h q (e ∷ es) = by (key_eq q e.0) refl (lookup-changed h q es)
   where

@@ -1,56 +1,39 @@
 -- Each set of a zone, secured, makes the zone secured
-use Rattle.std.proofs.Common.{◌≡◌, ℕ, Bool, true, false, List, [], ◌∷◌, ◌++◌, refl, ap, ◌∙◌}
+use Rattle.std.proofs.Common.{◌≡◌, ℕ, Bool, true, false, List, [], ◌∷◌, map, refl, sym, ap, ◌∙◌}
 use Rattle.std.specs.Prelude.{Option, Some, None, option_map, if◌then◌else◌}
 use Rattle.zone_proto.specs.declared.rdata.signing.RRSIG.{RRSIG}
 use Rattle.zone_proto.specs.declared.rr_key.RrKey.{RrKey}
 use Rattle.zone_proto.specs.Keys.{key, key_eq}
 use Rattle.zone_proto.specs.Names.{Name}
-use Rattle.zone_proto.specs.Sets.{RRset, IsSet}
+use Rattle.zone_proto.specs.Sets.{RRset}
 use Rattle.zone_proto.specs.declared.record.Record.{Record}
 use Rattle.zone_proto.specs.Signing.{SignedPart}
-use Rattle.zone_proto.specs.Stepping.{stepped, stepped_records}
+use Rattle.zone_proto.specs.Stepping.{stepped}
 use Rattle.zone_proto.specs.Types.{SOA}
 use Rattle.zone_proto.proofs.KeyOrder.{key_itself}
-use Rattle.zone_proto.proofs.Stepped.{IsSet-stepped_set}
-use Rattle.zone_map.specs.Zones.{Sets, set_at, last_at, IsStoredAt, IsZone}
-use Rattle.zone_signing.specs.Secured.{SetsBy, bare, signed, secured_set, unsigned_at, IsSecured, KeepsRecords}
-use Rattle.zone_signing.proofs.Changes.{changed, kept, last_at-unsigned}
-
--- a set whose serial is stepped stays under its key
-IsStoredAt-stepped : (n : Name) (t : ℕ) (s : RRset) → IsStoredAt n t s → IsStoredAt n t (stepped s)
-IsStoredAt-stepped n t s h = record { owner = h.owner; record_type = h.record_type; filled = by s.records h.filled; set = IsSet-stepped_set s.owner s.record_type s.records h.set }
-  where
-    by : (rs : List Record) → (rs ≡ [] → ⊥) → stepped_records rs ≡ [] → ⊥
-    by [] f e = f refl
-    by (r ∷ rs) f e = cc
+use Rattle.zone_map.specs.Renewals.{renewed}
+use Rattle.zone_map.specs.Zones.{Sets, set_at}
+use Rattle.zone_signing.specs.Signatures.{signatures}
+use Rattle.zone_signing.specs.Secured.{SetsBy, bare, signed, secured_set, IsSecured, KeepsRecords}
+use Rattle.zone_signing.proofs.Changes.{changed, lookup-changed}
 
 module _ {S : Type 0} (signature_of : S → SignedPart → ℕ → ℕ → Option RRSIG) (now : ℕ) (apex : RrKey) (signers : List S) where
-  -- and so does one that is secured
-  pub IsStoredAt-secured : (k : RrKey) (s : RRset) → IsStoredAt k.name k.record_type.0 s → IsStoredAt k.name k.record_type.0 (secured_set signature_of now apex signers k s)
-  IsStoredAt-secured k s h = by (key_eq apex k)
-    where
-      by : (b : Bool) → IsStoredAt k.name k.record_type.0 (signed signature_of now signers (if b then stepped s else s))
-      by true = let g = IsStoredAt-stepped k.name k.record_type.0 s h in record { owner = g.owner; record_type = g.record_type; filled = g.filled; set = g.set }
-      by false = record { owner = h.owner; record_type = h.record_type; filled = h.filled; set = h.set }
+  -- the signatures of the zone's SOA are those of its copy with the next serial
+  pub signed_next : (k : RrKey) (s next : RRset) (made : List Record) → key_eq apex k ≡ true → next ≡ stepped (bare s) → made ≡ signatures signature_of now signers next
+      → made ≡ (secured_set signature_of now apex signers k s).signatures
+  signed_next k s next made e n m =
+      m ∙ ap (signatures signature_of now signers) n ∙ ap (λ (b : Bool). signatures signature_of now signers (if b then stepped s else s)) (sym e)
 
-  -- a set is secured as its copy without signatures is
-  pub secured_unsigned : (k : RrKey) (s : RRset) → secured_set signature_of now apex signers k (record s { signatures = [] }) ≡ secured_set signature_of now apex signers k s
-  secured_unsigned k s = by (key_eq apex k)
-    where
-      by : (b : Bool) → signed signature_of now signers (if b then stepped (record s { signatures = [] }) else record s { signatures = [] }) ≡ signed signature_of now signers (if b then stepped s else s)
-      by true = refl
-      by false = refl
+  -- sets with the next serial and the signatures of all are the sets secured
+  all_renewed : (es : Sets) → renewed apex es (map (λ (e : RrKey × RRset). (secured_set signature_of now apex signers e.0 e.1).signatures) es) ≡ changed (secured_set signature_of now apex signers) es
+  all_renewed [] = refl
+  all_renewed (e ∷ es) = ap (λ (rest : Sets). (e.0, secured_set signature_of now apex signers e.0 e.1) ∷ rest) (all_renewed es)
 
-  -- the map of all sets that stay and of the new ones, each secured
-  pub IsSecured-made : (denials : Option ℕ) (zone fresh made after : Sets) → apex.record_type.0 ≡ SOA → IsZone zone → IsZone fresh
-      → made ≡ changed (secured_set signature_of now apex signers) (kept denials zone) ++ changed (secured_set signature_of now apex signers) fresh
-      → ((n : Name) (t : ℕ) → set_at after n t ≡ last_at made n t) → IsSecured signature_of now apex.name signers (unsigned_at denials zone fresh) after
-  IsSecured-made denials zone fresh made after soa of_zone of_fresh all is =
-      record {
-        each = λ n t.
-            is n t ∙ ap (λ (es : Sets). last_at es n t) all ∙ last_at-unsigned (secured_set signature_of now apex signers) denials zone fresh n t of_zone of_fresh
-            ∙ ap (λ (a : RrKey). option_map (secured_set signature_of now a signers (key n t)) (unsigned_at denials zone fresh n t)) (ap (key apex.name) soa);
-      }
+  -- so each is found secured
+  pub each_renewed : (es after : Sets) (made : List (List Record)) → made ≡ map (λ (e : RrKey × RRset). (secured_set signature_of now apex signers e.0 e.1).signatures) es → after ≡ renewed apex es made
+      → (n : Name) (t : ℕ) → set_at after n t ≡ option_map (secured_set signature_of now apex signers (key n t)) (set_at es n t)
+  each_renewed es after made all is n t =
+      ap (λ (m : Sets). set_at m n t) (is ∙ ap (renewed apex es) all ∙ all_renewed es) ∙ lookup-changed (secured_set signature_of now apex signers) (key n t) es
 
 -- a zone that is secured keeps its records
 pub IsSecured-keeps : {S : Type 0} (signature_of : S → SignedPart → ℕ → ℕ → Option RRSIG) (now : ℕ) (origin : Name) (signers : List S) (sets : SetsBy) (after : Sets)

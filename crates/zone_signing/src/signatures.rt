@@ -1,36 +1,54 @@
 //! The signatures of record sets.
-ghost use Rattle.std.specs.Prelude.{◌≡◌, ◌++◌, OnOk, IsOkUnless, option_to_list};
+ghost use Rattle.std.specs.Prelude.{◌≡◌, ◌++◌, IfOk, OnOk, OnErr, IsOkUnless, option_to_list};
 ghost use Rattle.zone_signing.specs.Signatures.{signature, signatures};
 
-use zone_proto::{DNSClass, ProtoError, RData, Record, RecordSet, Signer};
+use zone_proto::{DNSClass, ProtoError, RData, Record, RecordSet, Rrsigs, Signer};
 
 /// The last second of the year 9999, in seconds since 1970: no signature is made past it.
 pub const LAST_MOMENT: u64 = 253402300799;
 
 /// Signs a set by each signer in order, at the moment `now`, in seconds since 1970 (RFC 4034 section 3); one that declines is
-/// passed over, and signatures that the set has go. Refused by `Memory` alone, of a signer too, which leaves the set with the
-/// signatures that were made until then.
+/// passed over, and signatures that the set has go. Refused by `Memory` alone, of a signer too, which leaves the set as it
+/// was.
 pub fn sign_set<S: Signer>(set: &mut RecordSet, signers: &[S], now: u64) -> Result<(), ProtoError>
     ensures ok { OnOk result (set.new ≡ record set.old { signatures = signatures S.signature_of now signers.now set.old }) }
     ensures err { IsOkUnless result ProtoError.Memory }
+    ensures same { OnErr result (set.new ≡ set.old) }
 {
-    set.clear_rrsigs();
-    for signer in signers {
-        add_signature(set, signer, now)?;
-    }
+    set.replace_rrsigs(signatures_of(set, signers, now)?);
     Ok(())
 }
 
-/// Puts the signature of one signer behind those that a set has, unless the signer declines.
-fn add_signature<S: Signer>(set: &mut RecordSet, signer: &S, now: u64) -> Result<(), ProtoError>
-    ensures ok { OnOk result (set.new
-        ≡ record set.old { signatures = set.old.signatures ++ option_to_list (signature S.signature_of now set.old signer.now) }) }
+/// The signatures of a set by each signer in order, at the moment `now`; one that declines is passed over. Those that the set
+/// has are never signed. Refused by `Memory` alone, of a signer too.
+pub fn signatures_of<S: Signer>(
+    set: &RecordSet,
+    signers: &[S],
+    now: u64,
+) -> Result<Rrsigs, ProtoError>
+    ensures ok { IfOk result (λ made. made ≡ signatures S.signature_of now signers.now set.now) }
+    ensures err { IsOkUnless result ProtoError.Memory }
+{
+    let mut made = Rrsigs::with_capacity(set.name().alloc(), signers.len())?;
+    for signer in signers {
+        add_signature(&mut made, set, signer, now)?;
+    }
+    Ok(made)
+}
+
+/// Puts the signature of a set by one signer behind those that were made, unless the signer declines.
+fn add_signature<S: Signer>(
+    made: &mut Rrsigs,
+    set: &RecordSet,
+    signer: &S,
+    now: u64,
+) -> Result<(), ProtoError>
+    ensures ok { OnOk result (made.new ≡ made.old ++ option_to_list (signature S.signature_of now set.now signer.now)) }
     ensures err { IsOkUnless result ProtoError.Memory }
 {
     let Some(rrsig) = signer.sign(set, DNSClass::IN, now)? else {
         return Ok(());
     };
     let name = set.name().clone()?;
-    let signature = Record::from_rdata(name, set.ttl(), RData::RRSIG(rrsig));
-    set.insert_rrsig(signature)
+    made.push(Record::from_rdata(name, set.ttl(), RData::RRSIG(rrsig)))
 }

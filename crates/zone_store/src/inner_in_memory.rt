@@ -183,7 +183,7 @@ impl<S: Signer> InnerInMemory<S> {
         }
     }
 
-    /// Secures the record sets of the zone whose SOA stands under `apex`; see [`securing::secured`].
+    /// Secures the record sets of the zone whose SOA stands under `apex`; see [`securing::secure`].
     pub(crate) fn secure(&mut self, apex: &RrKey, now: u64) -> Result<(), SecureError>
         requires { apex.now.record_type.0 ≡ SOA }
         ensures zone { IsZone self.new.records }
@@ -194,11 +194,8 @@ impl<S: Signer> InnerInMemory<S> {
     {
         let no_denials = RecordMap::new(apex.name.alloc());
         let signers = self.signers.as_slice();
-        match securing::secured(&self.records, None, no_denials, apex, signers, now) {
-            Ok(secured) => {
-                self.records = secured;
-                Ok(())
-            }
+        match securing::secure(&mut self.records, None, no_denials, apex, signers, now) {
+            Ok(()) => Ok(()),
             Err(_) => Err(SecureError::Memory),
         }
     }

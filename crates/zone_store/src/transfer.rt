@@ -1,6 +1,7 @@
 // The transfer of a zone.
-ghost use Rattle.std.specs.Prelude.{◌≡◌, ◌≢◌, IfOk, IsOkUnless};
+ghost use Rattle.std.specs.Prelude.{◌≡◌, ◌≢◌, ◌++◌, IfOk, OnOk, IsOkUnless};
 ghost use Rattle.std.specs.BTreeMap.{values};
+ghost use Rattle.zone_handler.specs.Sets.{sets_records};
 ghost use Rattle.zone_signing.specs.Signatures.{answer_signatures};
 ghost use Rattle.zone_store.specs.Transfers.{refusal, IsSoaPart, IsTransfer, AnswersTransfer};
 
@@ -11,7 +12,9 @@ use zone_handler::{
     AxfrPolicy, AxfrRecords, LookupError, LookupOptions, LookupRecords, Request, ZoneHandler,
     ZoneTransfer,
 };
-use zone_proto::{Nsec3Hash, ProtoError, RecordSet, RecordType, ResponseCode, RrKey, Signer};
+use zone_proto::{
+    Nsec3Hash, ProtoError, Record, RecordSet, RecordType, ResponseCode, RrKey, RrsetRecords, Signer,
+};
 
 impl<S: Signer, H: Nsec3Hash> InMemoryZoneHandler<S, H> {
     /// The transfer of the zone that a request asks for, or its refusal.
@@ -38,12 +41,12 @@ impl<S: Signer, H: Nsec3Hash> InMemoryZoneHandler<S, H> {
         ensures ok { IfOk result (IsTransfer (λ options. answer_signatures S.signature_of now options.dnssec_ok self.now.inner.signers) self.now.origin self.now.inner.records lookup_options) }
         ensures err { IsOkUnless result LookupError.Memory }
     {
-        let sets = copies(self.origin().alloc(), self.records())?;
+        let records = copies(self.origin().alloc(), self.records(), lookup_options)?;
         let start_soa = self.soa_part(lookup_options, now)?;
         let end_soa = self.soa_part(LookupOptions::default(), now)?;
         Ok(ZoneTransfer {
             start_soa,
-            records: AxfrRecords::new(lookup_options.dnssec_ok, sets),
+            records: AxfrRecords::of_records(records),
             end_soa,
         })
     }
@@ -88,14 +91,29 @@ fn refusal(policy: AxfrPolicy, request: &Request) -> Option<LookupError>
     }
 }
 
-/// Copies of all sets, in the order of their keys.
-fn copies(alloc: Global, sets: &BTreeMap<RrKey, RecordSet>) -> Result<Vec<RecordSet>, ProtoError>
-    ensures copies { IfOk result (λ copies. copies.items ≡ values sets.now) }
+/// Copies of the records of all sets in the order of their keys, each set's with its signatures if `options` ask for DNSSEC.
+fn copies(
+    alloc: Global,
+    sets: &BTreeMap<RrKey, RecordSet>,
+    options: LookupOptions,
+) -> Result<Vec<Record>, ProtoError>
+    ensures copies { IfOk result (λ copies. copies.items ≡ sets_records options (values sets.now)) }
     ensures err { IsOkUnless result ProtoError.Memory }
 {
     let mut copies = Vec::with_capacity(alloc, sets.len())?;
     for set in sets.values() {
-        copies.push(set.clone()?)?;
+        push_copies(&mut copies, options.rrset_with_rrigs(set))?;
     }
     Ok(copies)
+}
+
+/// Puts copies of records behind those that were made.
+fn push_copies(copies: &mut Vec<Record>, records: RrsetRecords<'_>) -> Result<(), ProtoError>
+    ensures ok { OnOk result (copies.new.items ≡ copies.old.items ++ records.entry) }
+    ensures err { IsOkUnless result ProtoError.Memory }
+{
+    for record in records {
+        copies.push(record.clone()?)?;
+    }
+    Ok(())
 }

@@ -1,5 +1,5 @@
 // The record map as the list of its sets by their keys.
-ghost use Rattle.std.specs.Prelude.{◌≡◌, ℕ, length, IfOk, IsOkUnless};
+ghost use Rattle.std.specs.Prelude.{◌≡◌, ◌↔◌, ℕ, [], length, IsTrue, IfOk, IsOkUnless};
 ghost use Rattle.std.specs.BTreeMap.{IsFromIterResult};
 ghost use Rattle.zone_proto.specs.Keys.{key_cmp};
 ghost use Rattle.zone_proto.specs.Names.{Name};
@@ -43,6 +43,13 @@ impl RecordMap {
         // Its clauses say that each set is found by its key.
         let _ = self.sets.iter();
         self.sets.into_iter()
+    }
+
+    /// Whether there are no sets. Takes no memory.
+    pub fn is_empty(&self) -> bool
+        ensures { IsTrue result ↔ (self.now ≡ []) }
+    {
+        self.sets.is_empty()
     }
 
     /// How many sets there are. Takes no memory.

@@ -1,0 +1,18 @@
+-- The record sets of a zone with new signatures
+use Rattle.std.specs.Prelude.{if◌then◌else◌, List, [], ◌∷◌}
+use Rattle.zone_proto.specs.declared.record.Record.{Record}
+use Rattle.zone_proto.specs.declared.rr_key.RrKey.{RrKey}
+use Rattle.zone_proto.specs.Keys.{key_eq}
+use Rattle.zone_proto.specs.Sets.{RRset}
+use Rattle.zone_proto.specs.Stepping.{stepped}
+use Rattle.zone_map.specs.Zones.{Sets}
+
+-- a set with these signatures in the place of those that it has, and with the next serial if its key is `apex`
+abbrev pub renewed_set : RrKey → RrKey → RRset → List Record → RRset
+renewed_set apex k s signatures = record (if key_eq apex k then stepped s else s) { signatures = signatures }
+
+-- sets in the order of their keys, each with the signatures of its place in the list
+abbrev pub renewed : RrKey → Sets → List (List Record) → Sets
+renewed apex [] made = []
+renewed apex (e ∷ es) [] = e ∷ es
+renewed apex (e ∷ es) (signatures ∷ made) = (e.0, renewed_set apex e.0 e.1 signatures) ∷ renewed apex es made
