@@ -1,6 +1,6 @@
 // Keys of record sets, in their order.
 ghost use Rattle.std.specs.Prelude.{◌≡◌};
-ghost use Rattle.zone_proto.specs.Keys.{key, IsKeyInRange};
+ghost use Rattle.zone_proto.specs.Keys.{key, key_eq, IsKeyInRange};
 ghost use Rattle.zone_proto.specs.Results.{IsCopy};
 
 use crate::error::ProtoError;
@@ -27,6 +27,14 @@ impl RrKey {
         // Its clauses say that the octets are in range.
         let _ = name.labels();
         RrKey { name, record_type }
+    }
+
+    /// Whether the keys are equal, as `==` says. The types are compared first, so that of keys of different types no name is
+    /// looked at, whose octets stand elsewhere in memory.
+    pub fn same_as(&self, other: &RrKey) -> bool
+        ensures { result ≡ key_eq self.now other.now }
+    {
+        self.record_type == other.record_type && self.name == other.name
     }
 
     /// A copy of the key. Refused only for want of memory.

@@ -86,7 +86,7 @@ fn signatures_under<S: Signer>(
     ensures ok { IfOk result (λ made. made ≡ (secured_set S.signature_of now apex.now signers.now key.now set.now).signatures) }
     ensures err { IsOkUnless result ProtoError.Memory }
 {
-    if apex == key {
+    if apex.same_as(key) {
         let mut next = set.clone_without_rrsigs()?;
         next.step_serial();
         return signatures_of(&next, signers, now);

@@ -18,7 +18,7 @@ impl RecordMap {
         let mut left = rrsigs.into_iter();
         self.sets.retain(|key, set| {
             if let Some(next) = left.next() {
-                renew_set(set, apex == key, next);
+                renew_set(set, apex.same_as(key), next);
             }
             true
         });

@@ -8,7 +8,7 @@ use Rattle.zone_map.proofs.record_map.RecordMap.renew.Goals as goal
 -- the entries of the map once the pass is over
 is_renewed : (c : goal.After-drop-left) → c.retain.new.self.entries ≡ renewed c.args.apex.now c.self.inside.sets.entries c.args.rrsigs.items
 is_renewed c =
-    renewed_by _ (λ f. into_iter_items f.0.now) (λ f. f.1.now.now) (λ f k v b w f' t x xs r. search rules) c.args.apex.now _ c.self.inside.sets.entries
+    renewed_by _ (λ f. into_iter_items f.0.now) (λ f. f.1.now) (λ f k v b w f' t x xs r. search rules) c.args.apex.now _ c.self.inside.sets.entries
     c.retain.new.self.entries c.args.rrsigs.items refl c.into_iter-left.ensures.rest (c.requires ∙ ap length (sym c.self.view_is)) c.retain.ensures.filtered
 
 pub returns-clause-sets : goal.returns-clause-sets
