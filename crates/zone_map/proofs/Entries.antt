@@ -1,5 +1,5 @@
 -- The record map as the list of its sets, and the map of such a list
-use Rattle.std.proofs.Common.{◌≡◌, ℕ, get_or, sym, ◌∙◌, subst}
+use Rattle.std.proofs.Common.{◌≡◌, get_or, sym, ◌∙◌, subst}
 use Rattle.std.specs.Prelude.{Option, Some, None, IfSome, All}
 use Rattle.std.specs.List.Sorted.{IsStrictlySortedBy}
 use Rattle.std.specs.Map.{lookup, keys_of, update_all}

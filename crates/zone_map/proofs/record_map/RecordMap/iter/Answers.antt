@@ -1,5 +1,5 @@
 use Rattle.std.proofs.Common.{subst}
-use Rattle.zone_map.specs.Zones.{Sets, AreStored}
+use Rattle.zone_map.specs.Zones.{AreStored}
 use Rattle.zone_map.proofs.Entries.{AreStored-zone}
 use Rattle.zone_map.proofs.record_map.RecordMap.iter.Goals as goal
 

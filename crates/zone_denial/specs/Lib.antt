@@ -1,0 +1,10 @@
+pub mod Covering
+pub mod Authority
+pub mod AuthoritativeKeys
+pub mod TypeLists
+pub mod NsecCircle
+pub mod NsecSets
+pub mod NsecLinks
+pub mod NsecDenial
+pub mod DenialSets
+pub mod NsecLaws

@@ -1,0 +1,47 @@
+-- The NSEC sets that answer a query for a denial, in any zone, whether its NSEC sets are a circle or not
+use Rattle.std.specs.Prelude.{Bool, false, ◌&&◌, ◌||◌, cond, List, [], ◌∷◌, Option, Some, None, filter, filter_map, option_and_then, option_to_list}
+use Rattle.std.specs.Option.{option_map_or}
+use Rattle.zone_proto.specs.Names.{Name, name_eq, name_cmp, base_name, is_at_or_above}
+use Rattle.zone_proto.specs.Order.{is_upto, is_before, greatest}
+use Rattle.zone_proto.specs.Sets.{RRset}
+use Rattle.zone_proto.specs.Types.{NSEC}
+use Rattle.zone_map.specs.Zones.{Sets, set_at, owns, owners}
+use Rattle.zone_denial.specs.NsecCircle.{next_of}
+
+-- the next name n of an owner o stands after x, or goes back to o or before it, as that of the last owner does
+abbrev pub goes_past : Name → Name → Name → Bool
+goes_past o x n = is_before name_cmp x n || is_upto name_cmp n o
+
+-- an owner of NSEC reaches x: it isn't after x, and its next name goes past x
+abbrev pub reaches : Sets → Name → Name → Bool
+reaches m x o = is_upto name_cmp o x && option_map_or (goes_past o x) (option_and_then next_of (set_at m o NSEC)) false
+
+-- the greatest owner of NSEC that reaches x
+abbrev pub closest_owner : Sets → Name → Option Name
+closest_owner m x = greatest name_cmp (filter (reaches m x) (owners m NSEC))
+
+-- its set
+abbrev pub closest_nsec : Sets → Name → Option RRset
+closest_nsec m x = option_and_then (λ o. set_at m o NSEC) (closest_owner m x)
+
+-- two owners that may be there, the one of them where they are the same
+abbrev pub both_of : Option Name → Option Name → List Name
+both_of None q = option_to_list q
+both_of (Some a) None = a ∷ []
+both_of (Some a) (Some b) = cond (name_eq a b) (b ∷ []) (a ∷ b ∷ [])
+
+-- the parent of x, or the origin where the parent is outside the zone
+abbrev pub parent_in_zone : Name → Name → Name
+parent_in_zone origin x = cond (is_at_or_above origin (base_name x)) (base_name x) origin
+
+-- the same, below which a wildcard that could answer for x might stand; none where it is x itself
+abbrev pub parent_of : Name → Name → Option Name
+parent_of origin x = cond (name_eq (parent_in_zone origin x) x) None (Some (parent_in_zone origin x))
+
+-- the owners of the sets that deny: x itself if it owns NSEC; else the closest owner of the parent, and then that of x (RFC 4035 sections 3.1.3.1 and 3.1.3.2)
+abbrev pub denial_owners : Name → Sets → Name → List Name
+denial_owners origin m x = cond (owns m x NSEC) (x ∷ []) (both_of (option_and_then (closest_owner m) (parent_of origin x)) (closest_owner m x))
+
+-- these sets
+abbrev pub nsec_denial : Name → Sets → Name → List RRset
+nsec_denial origin m x = filter_map (λ o. set_at m o NSEC) (denial_owners origin m x)

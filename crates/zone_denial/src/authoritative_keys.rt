@@ -1,0 +1,68 @@
+//! The keys of the sets that the names of a zone's circle own, found in one pass over the zone.
+ghost use Rattle.std.specs.Prelude.{◌≡◌, ◌==◌, ◌&&◌, not, false, map, IfOk, OnOk, IsOkUnless};
+ghost use Rattle.std.specs.Option.{option_map_or};
+ghost use Rattle.zone_proto.specs.Names.{is_above, is_at_or_above};
+ghost use Rattle.zone_proto.specs.Types.{NS, NSEC};
+ghost use Rattle.zone_map.specs.Zones.{IsZone};
+ghost use Rattle.zone_denial.specs.AuthoritativeKeys.{authoritative_keys};
+
+use zone_map::RecordMap;
+use zone_proto::{LowerName, ProtoError, RecordType, RrKey};
+
+/// The keys of the sets at the names that the zone of this origin is authoritative for, in order; those of NSEC sets are left
+/// out (RFC 4035 section 2.3). Refused by `Memory` alone.
+pub(crate) fn authoritative_keys<'a>(
+    records: &'a RecordMap,
+    origin: &LowerName,
+) -> Result<Vec<&'a RrKey>, ProtoError>
+    ensures ok { IfOk result (λ keys. map (λ k. k.now) keys.items ≡ authoritative_keys origin.now records.now) }
+    ensures zone { OnOk result (IsZone records.now) }
+    ensures err { IsOkUnless result ProtoError.Memory }
+{
+    let mut keys = Vec::with_capacity(origin.alloc(), records.len())?;
+    // The names below a zone cut stand together after it, so the last cut that has none above it tells of all that follow.
+    let mut cut = None;
+    for (key, _) in records.iter() {
+        if is_below(cut, &key.name) {
+            continue;
+        }
+        if is_cut(origin, key) {
+            cut = Some(&key.name);
+        }
+        if is_listed(origin, key) {
+            keys.push(key)?;
+        }
+    }
+    Ok(keys)
+}
+
+/// Whether a key makes its name a zone cut: that of an NS set strictly below the origin (RFC 1034 section 4.2).
+fn is_cut(origin: &LowerName, key: &RrKey) -> bool
+    ensures { result ≡ (key.now.record_type.0 == NS) && is_above origin.now key.now.name }
+{
+    key.record_type == RecordType::NS && is_above(origin, &key.name)
+}
+
+/// Whether the NSEC set of its name lists the type of a key, where no zone cut stands above the name.
+fn is_listed(origin: &LowerName, key: &RrKey) -> bool
+    ensures { result ≡ not (key.now.record_type.0 == NSEC) && is_at_or_above origin.now key.now.name }
+{
+    key.record_type != RecordType::NSEC && origin.zone_of(&key.name)
+}
+
+/// Whether a name stands below a zone cut, if there is one.
+fn is_below(cut: Option<&LowerName>, name: &LowerName) -> bool
+    ensures { result ≡ option_map_or (λ a. is_above a.now name.now) cut.entry false }
+{
+    match cut {
+        Some(cut) => is_above(cut, name),
+        None => false,
+    }
+}
+
+/// Whether a name is a proper ancestor of another.
+fn is_above(ancestor: &LowerName, name: &LowerName) -> bool
+    ensures { result ≡ is_above ancestor.now name.now }
+{
+    ancestor.zone_of(name) && ancestor != name
+}

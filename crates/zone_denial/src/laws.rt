@@ -1,0 +1,68 @@
+//! Laws of the definitions of denials: what a reader of a negative answer may conclude from NSEC sets. Each is an empty
+//! function whose contract is the law, so a program has no need to call one.
+//!
+//! They are about zones whose NSEC sets are a circle, as they are once the zone is secured, and whose origin is on it, as it
+//! is where it owns any other set. A set and its next name cover a name that stands strictly between the two in canonical
+//! order; the set of the last owner, whose next name goes back to the origin (RFC 4034 section 4.1.1), covers a name that
+//! stands after its owner or before the origin.
+ghost use Rattle.std.specs.Prelude.{◌≡◌, ◌↔◌, ◌⊎◌, ℕ, IsTrue};
+ghost use Rattle.std.specs.List.{Contains};
+ghost use Rattle.std.specs.List.Sorted.{IsStrictlySortedBy};
+ghost use Rattle.std.specs.Ordering.{nat_cmp};
+ghost use Rattle.zone_proto.specs.Names.{Name};
+ghost use Rattle.zone_proto.specs.Types.{NSEC, RRSIG};
+ghost use Rattle.zone_map.specs.Zones.{Sets, owns};
+ghost use Rattle.zone_denial.specs.TypeLists.{nsec_types};
+ghost use Rattle.zone_denial.specs.NsecLaws.{SecuredIsCircle, DenialFindsOrCovers, CircleListsAllOwned, DenialsAgree, NoNextBelowAbsent, NextBelowEmpty};
+
+/// The types that the NSEC set of a name lists ascend, each stands there once, and they are exactly those that the name owns,
+/// RRSIG and NSEC (RFC 4034 section 4.1.2).
+pub fn type_lists_are_exact()
+    ensures ascending { (m : Sets) (n : Name) → IsStrictlySortedBy nat_cmp (nsec_types m n) }
+    ensures types { (m : Sets) (n : Name) (t : ℕ) → Contains (nsec_types m n) t ↔ (IsTrue (owns m n t) ⊎ (t ≡ RRSIG) ⊎ (t ≡ NSEC)) }
+{}
+
+/// A zone that gets its NSEC sets, in the place of those that it had, has a circle of them: one for each name that it is
+/// authoritative for and no other, each with the next of these names and the types of its own (RFC 4035 section 2.3). Its
+/// other sets may change, in data, serials and signatures, as long as each name owns the same types.
+#[tactic(auto, using(crate::proofs::NsecSecured::secured_is_circle))]
+pub fn secured_is_circle()
+    ensures { SecuredIsCircle }
+{}
+
+/// The denial of a name of the zone is the name's own NSEC set alone, or its last set covers the name (RFC 4035 sections
+/// 3.1.3.1 and 3.1.3.2).
+#[tactic(auto, using(crate::proofs::NsecClosest::finds_or_covers))]
+pub fn denial_finds_or_covers()
+    ensures { DenialFindsOrCovers }
+{}
+
+/// What a name owns is in the list of types of its NSEC set. A name of the zone that owns a set and has no NSEC set stands
+/// below a zone cut, so that it is glue, or of a child's zone (RFC 4035 section 2.3).
+#[tactic(auto, using(crate::proofs::NsecLists::lists_all_owned))]
+pub fn circle_lists_all_owned()
+    ensures { CircleListsAllOwned }
+{}
+
+/// A negative answer and the NSEC sets agree: a name of which the answer is that there is no such name has no NSEC set, and a
+/// type of which the answer is that the name has no such set isn't in the list of the name's NSEC set. RRSIG is the
+/// exception: it is listed, since there are signatures, and they stand in the sets that they sign and in no set of their own.
+pub fn denials_agree()
+    ensures { DenialsAgree }
+{}
+
+/// Where neither a name of the zone nor a name below it owns a set, so that there is no such name, the last set of its denial
+/// covers it, and the next name of that set is neither it nor below it: so the name isn't an empty one either (RFC 4035
+/// section 5.4).
+#[tactic(auto, using(crate::proofs::NsecBelow::no_next_below))]
+pub fn no_next_below_absent()
+    ensures { NoNextBelowAbsent }
+{}
+
+/// Where a name of the zone owns no set but a name below it does, and no zone cut stands above it, so that it is an empty name
+/// (RFC 4592 section 2.2.2), the last set of its denial covers it, and the next name of that set stands below it. So a reader
+/// can tell an empty name from none.
+#[tactic(auto, using(crate::proofs::NsecBelow::next_below_empty))]
+pub fn next_below_empty()
+    ensures { NextBelowEmpty }
+{}
