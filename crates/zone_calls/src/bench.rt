@@ -1,7 +1,8 @@
 //! What calls are made on: a zone, a set in hand, and a shelf of sets for the next zone.
 
 use crate::answer::Answer;
-use crate::call::{Ask, Call, Question, SetCall, ZoneCall};
+use crate::call::{Ask, Call, Head, Question, SetCall, ZoneCall};
+use crate::denials::make_denial_call;
 use crate::names::make_name_call;
 use crate::records::{make_record_call, make_word_call};
 use crate::searches::make_search_call;
@@ -38,7 +39,12 @@ impl Bench {
     /// The zone of the root without records, and nothing in hand, kept or on the shelf.
     pub fn new(alloc: Global) -> Bench {
         Bench {
-            zone: empty_zone(Name::root(alloc), ZoneType::Primary, AxfrPolicy::AllowAll),
+            zone: empty_zone(Head {
+                origin: Name::root(alloc),
+                zone_type: ZoneType::Primary,
+                policy: AxfrPolicy::AllowAll,
+                kind: None,
+            }),
             hand: None,
             kept: None,
             shelf: BTreeMap::new(alloc),
@@ -60,7 +66,7 @@ impl Bench {
     /// Copies the sets on the shelf for a call that takes them.
     pub fn prepare(&self, call: &mut Call) -> Result<(), TextError> {
         match call {
-            Call::Zone(ZoneCall::Make(_, _, _, sets)) => copy_sets(&self.shelf, sets),
+            Call::Zone(ZoneCall::Make(_, sets)) => copy_sets(&self.shelf, sets),
             _ => Ok(()),
         }
     }
@@ -75,6 +81,7 @@ impl Bench {
             Call::Zone(call) => self.make_zone_call(alloc, call),
             Call::Search(call) => make_search_call(alloc, &self.zone, call),
             Call::Signing(call) => make_signing_call(&mut self.zone, call),
+            Call::Denial(call) => make_denial_call(&self.zone, call),
             Call::Transfer(request, options) => make_transfer(&self.zone, &request, options),
         }
     }
@@ -114,13 +121,11 @@ impl Bench {
 
     fn make_zone_call(&mut self, alloc: Global, call: ZoneCall) -> Answer {
         match call {
-            ZoneCall::Empty(origin, zone_type, policy) => {
-                self.zone = empty_zone(origin, zone_type, policy);
+            ZoneCall::Empty(head) => {
+                self.zone = empty_zone(head);
                 Answer::Done
             }
-            ZoneCall::Make(origin, zone_type, policy, sets) => {
-                self.make_zone(origin, zone_type, policy, sets)
-            }
+            ZoneCall::Make(head, sets) => self.make_zone(head, sets),
             ZoneCall::Shelve => self.shelve(),
             ZoneCall::ShelveUnder(key) => self.shelve_under(key),
             ZoneCall::About => self.about(alloc),
@@ -139,22 +144,14 @@ impl Bench {
                 Err(error) => Answer::from(error),
             },
             ZoneCall::Ask(question, ask) => self.ask(alloc, &question, ask),
-            ZoneCall::Dump => match format!(in alloc; "{}", ZoneText(&self.zone)) {
-                Ok(text) => Answer::Text(text),
-                Err(_) => Answer::Memory,
-            },
+            ZoneCall::Dump => of_text(format!(in alloc; "{}", ZoneText(&self.zone))),
         }
     }
 
     /// Makes a zone of sets, which takes the place of the one before.
-    fn make_zone(
-        &mut self,
-        origin: Name,
-        zone_type: ZoneType,
-        policy: AxfrPolicy,
-        sets: Sets,
-    ) -> Answer {
-        match InMemoryZoneHandler::new(origin, sets, zone_type, policy, None, NoHash) {
+    fn make_zone(&mut self, head: Head, sets: Sets) -> Answer {
+        let (zone_type, policy, kind) = (head.zone_type, head.policy, head.kind);
+        match InMemoryZoneHandler::new(head.origin, sets, zone_type, policy, kind, NoHash) {
             Ok(zone) => {
                 self.zone = zone;
                 Answer::Done
@@ -187,7 +184,7 @@ impl Bench {
     /// What the zone says of itself.
     fn about(&self, alloc: Global) -> Answer {
         let zone = &self.zone;
-        let text = format!(in alloc;
+        of_text(format!(in alloc;
             "{} {} {:?} {:?}, serial {}, minimum {}",
             zone.origin(),
             zone.class(),
@@ -195,11 +192,7 @@ impl Bench {
             zone.axfr_policy(),
             zone.serial(),
             zone.minimum_ttl()
-        );
-        match text {
-            Ok(text) => Answer::Text(text),
-            Err(_) => Answer::Memory,
-        }
+        ))
     }
 
     /// Stores the set in hand, which comes back into the hand if it is refused.
@@ -267,10 +260,7 @@ impl Bench {
         match inner.chase_cnames(name, first, record_type, options, &mut searches) {
             Ok(chain) => {
                 let text = ChainText(chain.as_slice(), searches.count());
-                match format!(in alloc; "{text}") {
-                    Ok(text) => Answer::Text(text),
-                    Err(_) => Answer::Memory,
-                }
+                of_text(format!(in alloc; "{text}"))
             }
             Err(error) => Answer::from(error),
         }
@@ -288,8 +278,9 @@ fn find<'z>(
         .inner_lookup(name, question.record_type, options, searches)
 }
 
-fn empty_zone(origin: Name, zone_type: ZoneType, policy: AxfrPolicy) -> Zone {
-    InMemoryZoneHandler::empty(origin, zone_type, policy, None, NoHash)
+fn empty_zone(head: Head) -> Zone {
+    let (zone_type, policy, kind) = (head.zone_type, head.policy, head.kind);
+    InMemoryZoneHandler::empty(head.origin, zone_type, policy, kind, NoHash)
 }
 
 /// Copies sets, and puts them beside others.
@@ -324,6 +315,14 @@ pub fn of_flow(flow: LookupControlFlow<AuthLookup>) -> Answer {
     }
 }
 
+/// A text, or want of memory for it.
+pub fn of_text(text: Result<String, AllocError>) -> Answer {
+    match text {
+        Ok(text) => Answer::Text(text),
+        Err(_) => Answer::Memory,
+    }
+}
+
 /// A copy of what was found.
 fn copied(found: Found<'_>) -> Answer {
     match found.into_set() {
@@ -346,10 +345,7 @@ fn make_on_set(alloc: Global, set: &mut RecordSet, call: SetCall) -> Answer {
             Ok(copy) => Answer::Set(copy),
             Err(error) => Answer::from(error),
         },
-        SetCall::Records(signed) => match format!(in alloc; "{}", LentText(set, signed)) {
-            Ok(text) => Answer::Text(text),
-            Err(_) => Answer::Memory,
-        },
+        SetCall::Records(signed) => of_text(format!(in alloc; "{}", LentText(set, signed))),
         _ => show(alloc, set),
     }
 }
@@ -393,8 +389,5 @@ fn sign(set: &mut RecordSet, record: Record) -> Answer {
 /// All parts of a set.
 fn show(alloc: Global, set: &RecordSet) -> Answer {
     let (name, class, record_type) = (set.name(), set.dns_class(), set.record_type());
-    match format!(in alloc; "{name} {class} {record_type}: {}", SetText(set)) {
-        Ok(text) => Answer::Text(text),
-        Err(_) => Answer::Memory,
-    }
+    of_text(format!(in alloc; "{name} {class} {record_type}: {}", SetText(set)))
 }

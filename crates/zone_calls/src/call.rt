@@ -22,6 +22,7 @@ pub enum Call {
     /// `transfer NUMBER TYPE`, `transfer NUMBER TYPE dnssec`: `zone_transfer`, for a request of so many questions of the type.
     Transfer(Request, LookupOptions),
     Signing(SigningCall),
+    Denial(DenialCall),
 }
 
 /// Calls on names. After the word `lower` they are made on a `LowerName`.
@@ -131,10 +132,11 @@ pub enum SetCall {
 /// Calls on the zone.
 #[derive(Drop)]
 pub enum ZoneCall {
-    /// `empty ORIGIN ZONETYPE POLICY`: a zone without records takes the place of the one before.
-    Empty(Name, ZoneType, AxfrPolicy),
-    /// `make ORIGIN ZONETYPE POLICY`: `new`, of copies of the sets on the shelf.
-    Make(Name, ZoneType, AxfrPolicy, BTreeMap<RrKey, RecordSet>),
+    /// `empty ORIGIN ZONETYPE POLICY`, or with `nsec` after it where it denies by NSEC: a zone without records takes the place of
+    /// the one before.
+    Empty(Head),
+    /// `make ORIGIN ZONETYPE POLICY`, or with `nsec` after it: `new`, of copies of the sets on the shelf.
+    Make(Head, BTreeMap<RrKey, RecordSet>),
     /// `shelve`: the set in hand goes on the shelf, under its own key.
     Shelve,
     /// `shelve under NAME TYPE`: the same under another key.
@@ -155,6 +157,15 @@ pub enum ZoneCall {
     Any(LowerName),
     /// `dump`: all sets of the zone.
     Dump,
+}
+
+/// What a zone is made with besides its sets.
+#[derive(Drop)]
+pub struct Head {
+    pub origin: Name,
+    pub zone_type: ZoneType,
+    pub policy: AxfrPolicy,
+    pub kind: Option<NxProofKind>,
 }
 
 /// What is asked for: `NAME TYPE`, or `NAME TYPE dnssec` where signatures are wanted.
@@ -189,6 +200,17 @@ pub enum SigningCall {
     Secure(u64),
     /// `at NUMBER NAME TYPE`, `at NUMBER NAME TYPE dnssec`: `lookup` at that moment.
     LookupAt(u64, Question),
+}
+
+/// Calls on how the zone denies what it doesn't hold.
+#[derive(Drop)]
+pub enum DenialCall {
+    /// `kind`: `nx_proof_kind`, as the type of the sets that deny.
+    Kind,
+    /// `closest NAME`: `closest_nsec`.
+    Closest(LowerName),
+    /// `deny NAME`, `deny NAME dnssec`: `nsec_records`.
+    Deny(LowerName, LookupOptions),
 }
 
 /// Calls that search the zone for more than a name and a type.

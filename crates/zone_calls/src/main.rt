@@ -16,6 +16,7 @@
 mod answer;
 mod bench;
 mod call;
+mod denials;
 mod names;
 mod read;
 mod read_names;

@@ -1,6 +1,7 @@
 //! Reads the calls of rows: the first word says which.
 
-use crate::call::{Ask, Call, NameCall, Question, RecordCall, SetCall, WordCall, ZoneCall};
+use crate::call::{Ask, Call, Head, NameCall, Question, RecordCall, SetCall, WordCall, ZoneCall};
+use crate::denials::{read_denial_call, read_kind};
 use crate::read_names::{read_copy, read_lower_call, read_name_call};
 use crate::read_records::{read_any_data, read_any_record, read_octets, read_word};
 use crate::read_searches::read_search_call;
@@ -96,6 +97,9 @@ fn read_words(alloc: Global, words: &mut Words<'_>) -> Result<Call, TextError> {
         b"key" | b"signers" | b"secure" | b"at" => {
             Ok(Call::Signing(read_signing_call(alloc, verb, words)?))
         }
+        b"kind" | b"closest" | b"deny" => {
+            Ok(Call::Denial(read_denial_call(alloc, verb, words)?))
+        }
         b"transfer" => read_transfer(alloc, words),
         verb => Ok(Call::Name(read_name_call(alloc, verb, words)?)),
     }
@@ -166,8 +170,18 @@ fn read_serial(words: &mut Words<'_>) -> Result<u32, TextError> {
     read_u32(words.take_needed()?).ok_or(TextError::BadText)
 }
 
-/// Reads an origin, what the server is to the zone, and who may transfer it.
+/// Reads what a zone is made with.
 fn read_zone(alloc: Global, verb: &[u8], words: &mut Words<'_>) -> Result<ZoneCall, TextError> {
+    let head = read_head(alloc, words)?;
+    if verb == b"empty".as_slice() {
+        Ok(ZoneCall::Empty(head))
+    } else {
+        Ok(ZoneCall::Make(head, BTreeMap::new(alloc)))
+    }
+}
+
+/// Reads an origin, what the server is to the zone, who may transfer it, and how it denies.
+fn read_head(alloc: Global, words: &mut Words<'_>) -> Result<Head, TextError> {
     let origin = read_name(alloc, words)?;
     let zone_type = match words.take_needed()? {
         b"Primary" => ZoneType::Primary,
@@ -181,12 +195,13 @@ fn read_zone(alloc: Global, verb: &[u8], words: &mut Words<'_>) -> Result<ZoneCa
         b"AllowSigned" => AxfrPolicy::AllowSigned,
         _ => return Err(TextError::BadText),
     };
-    if verb == b"empty".as_slice() {
-        Ok(ZoneCall::Empty(origin, zone_type, policy))
-    } else {
-        let sets = BTreeMap::new(alloc);
-        Ok(ZoneCall::Make(origin, zone_type, policy, sets))
-    }
+    let kind = read_kind(words)?;
+    Ok(Head {
+        origin,
+        zone_type,
+        policy,
+        kind,
+    })
 }
 
 /// Reads a call on the zone that is passed nothing, or a key for the shelf.
@@ -231,14 +246,19 @@ fn read_zone_call(
 pub fn read_question(alloc: Global, words: &mut Words<'_>) -> Result<Question, TextError> {
     let name = LowerName::from(read_name(alloc, words)?);
     let record_type = read_type(words)?;
-    let options = match words.take() {
-        None => LookupOptions::default(),
-        Some(b"dnssec") => LookupOptions::for_dnssec(),
-        Some(_) => return Err(TextError::BadText),
-    };
+    let options = read_options(words)?;
     Ok(Question {
         name,
         record_type,
         options,
     })
+}
+
+/// Reads whether signatures are wanted: they are if `dnssec` follows.
+pub fn read_options(words: &mut Words<'_>) -> Result<LookupOptions, TextError> {
+    match words.take() {
+        None => Ok(LookupOptions::default()),
+        Some(b"dnssec") => Ok(LookupOptions::for_dnssec()),
+        Some(_) => Err(TextError::BadText),
+    }
 }

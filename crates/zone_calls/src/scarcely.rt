@@ -8,7 +8,7 @@ use std::alloc::Global;
 use zone_text::TextError;
 
 /// How many rooms are tried before a call has to succeed.
-const ROOMS: usize = 400;
+const ROOMS: usize = 800;
 
 /// How many octets more each room has.
 const STEP: usize = 16;

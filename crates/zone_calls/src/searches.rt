@@ -1,10 +1,10 @@
 //! Makes the calls that search the zone for more than a name and a type.
 
 use crate::answer::Answer;
-use crate::bench::{Zone, of_flow};
+use crate::bench::{Zone, of_flow, of_text};
 use crate::call::{Question, SearchCall};
 use crate::texts::ChainText;
-use std::alloc::{AllocError, Global};
+use std::alloc::Global;
 use zone_handler::{LookupOptions, Request, ZoneHandler};
 use zone_proto::LowerName;
 use zone_store::Searches;
@@ -37,12 +37,5 @@ fn search(alloc: Global, zone: &Zone, request: &Request) -> Answer {
     match zone.search(request, LookupOptions::default(), 0) {
         (flow, None) => of_flow(flow),
         (_, Some(context)) => of_text(format!(in alloc; "{context:?}")),
-    }
-}
-
-fn of_text(text: Result<String, AllocError>) -> Answer {
-    match text {
-        Ok(text) => Answer::Text(text),
-        Err(_) => Answer::Memory,
     }
 }

@@ -3,6 +3,7 @@
 use crate::answer::Answer;
 use crate::bench::Zone;
 use crate::call::Call;
+use crate::read::read_options;
 use std::alloc::Global;
 use std::fmt;
 use zone_handler::{LookupOptions, Request, ZoneHandler, ZoneTransfer};
@@ -13,11 +14,7 @@ use zone_text::{RecordText, TextError, Words, read_type, read_u16};
 pub fn read_transfer(alloc: Global, words: &mut Words<'_>) -> Result<Call, TextError> {
     let count = read_u16(words.take_needed()?).ok_or(TextError::BadText)?;
     let query_type = read_type(words)?;
-    let options = match words.take() {
-        None => LookupOptions::default(),
-        Some(b"dnssec") => LookupOptions::for_dnssec(),
-        Some(_) => return Err(TextError::BadText),
-    };
+    let options = read_options(words)?;
     let queries = equal_queries(alloc, count, query_type)?;
     Ok(Call::Transfer(Request { queries }, options))
 }

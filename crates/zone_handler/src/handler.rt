@@ -1,8 +1,9 @@
 ghost use Rattle.std.specs.Prelude.{◌≡◌, ◌⊎◌, ℕ, Bool, Option, Result, IsTrue};
-ghost use Rattle.std.specs.Option.{option_map};
+ghost use Rattle.std.specs.Option.{option_map, option_copied};
 ghost use Rattle.zone_proto.specs.Names.{Name};
 ghost use Rattle.zone_proto.specs.Types.{AXFR};
 ghost use Rattle.zone_proto.specs.declared.message.Query.{Query};
+ghost use Rattle.zone_proto.specs.declared.nx_proof_kind.NxProofKind.{NxProofKind};
 ghost use Rattle.zone_proto.specs.declared.response_code.ResponseCode.{ResponseCode};
 ghost use Rattle.zone_handler.specs.declared.zone_type.ZoneType.{ZoneType};
 ghost use Rattle.zone_handler.specs.declared.axfr_policy.AxfrPolicy.{AxfrPolicy};
@@ -26,7 +27,7 @@ use crate::request_info::RequestInfo;
 use crate::tsig_response_context::TSigResponseContext;
 use crate::zone_transfer::ZoneTransfer;
 use crate::zone_type::ZoneType;
-use zone_proto::{LowerName, RecordType, ResponseCode};
+use zone_proto::{LowerName, NxProofKind, RecordType, ResponseCode};
 
 /// A zone that a server answers from.
 ///
@@ -41,6 +42,9 @@ pub trait ZoneHandler {
 
     // The name at the zone's top, in lower case.
     ghost origin_of: { Self → Name };
+
+    // How the zone denies what it doesn't hold once it is signed, if it does.
+    ghost kind_of: { Self → Option NxProofKind };
 
     // When the handler may say that it validates.
     ghost may_validate: { Self → Type 0 } = { λ _. ⊥ };
@@ -59,6 +63,9 @@ pub trait ZoneHandler {
     // What may answer a search for a request, with the options, at a moment.
     ghost search_gives: { Self → Request → LookupOptions → ℕ → LookupControlFlow AuthLookup LookupError × Option TSigResponseContext → Type 0 };
 
+    // Which steps may answer a query for the NSEC records that deny a name, with the options.
+    ghost denial_gives: { Self → Name → LookupOptions → LookupControlFlow AuthLookup LookupError → Type 0 };
+
     // What may answer a request for the whole zone, with the options, at a moment, besides a refusal as not implemented.
     ghost transfer_gives: { Self → Request → LookupOptions → ℕ → Option (Result ZoneTransfer LookupError × Option TSigResponseContext) → Type 0 } = { λ _ _ _ _ _. ⊥ };
 
@@ -73,6 +80,11 @@ pub trait ZoneHandler {
     /// The name at the zone's top.
     fn origin(&self) -> &LowerName
         ensures { result.now ≡ origin_of self.now };
+
+    /// How this zone denies what it doesn't hold once it is signed: by NSEC records (RFC 4034 section 4), by NSEC3 records
+    /// (RFC 5155), or not at all.
+    fn nx_proof_kind(&self) -> Option<&NxProofKind>
+        ensures { option_copied result ≡ kind_of self.now };
 
     /// Whether this handler validates what it answers with (DNSSEC, RFC 4035 section 5). If it says nothing of this, it
     /// doesn't.
@@ -145,6 +157,15 @@ pub trait ZoneHandler {
         now: u64,
     ) -> (LookupControlFlow<AuthLookup>, Option<TSigResponseContext>)
         ensures { search_gives self.now request.now lookup_options now result };
+
+    /// The NSEC records that deny what `name` doesn't own, or that there is such a name (RFC 4035 section 3.1.3), with
+    /// `lookup_options` as in [`ZoneHandler::lookup`].
+    fn nsec_records(
+        &self,
+        name: &LowerName,
+        lookup_options: LookupOptions,
+    ) -> LookupControlFlow<AuthLookup>
+        ensures { denial_gives self.now name.now lookup_options result };
 
     /// The whole zone, as `request` asks for it (AXFR, RFC 5936), with `lookup_options` and `now` as in
     /// [`ZoneHandler::lookup`]; and what it takes to sign the response. None where this handler leaves the request to another.

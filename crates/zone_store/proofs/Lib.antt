@@ -6,8 +6,10 @@ pub mod AdditionalLaws
 pub mod Chasing
 pub mod Denials
 pub mod SecuredZones
+pub mod KeptCircles
 pub mod DemoSigning
 pub mod Replies
+pub mod CircleAgreement
 pub mod Requesting
 pub mod Transferring
 pub mod TransferLaws

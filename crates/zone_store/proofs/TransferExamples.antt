@@ -1,5 +1,5 @@
 -- Worked examples of transfers, computed from the definitions
-use Rattle.std.proofs.Common.{◌≡◌, ℕ, true, false, List, [], ◌∷◌, refl}
+use Rattle.std.proofs.Common.{◌≡◌, ℕ, true, false, [], ◌∷◌, refl}
 use Rattle.std.specs.Prelude.{codes, Some, None}
 use Rattle.std.specs.Map.{values_of}
 use Rattle.zone_proto.specs.declared.message.Query.{Query}
@@ -8,7 +8,7 @@ use Rattle.zone_proto.specs.declared.rdata.RData.TheVariants as V
 use Rattle.zone_proto.specs.declared.record.Record.{Record}
 use Rattle.zone_proto.specs.Keys.{key}
 use Rattle.zone_proto.specs.Sets.{RRset}
-use Rattle.zone_proto.specs.Types.{A, NS, SOA, IN, AXFR}
+use Rattle.zone_proto.specs.Types.{NS, SOA, IN, AXFR}
 use Rattle.zone_handler.specs.declared.axfr_policy.AxfrPolicy.TheVariants.{Deny, AllowAll, AllowSigned}
 use Rattle.zone_handler.specs.declared.lookup_error.LookupError.TheVariants as error
 use Rattle.zone_handler.specs.Sets.{axfr_records}

@@ -9,8 +9,10 @@ pub mod AdditionalLaws
 pub mod Flattening
 pub mod FoundSets
 pub mod Lookup
+pub mod NsecAnswers
 pub mod Requests
 pub mod Transfers
 pub mod TransferLaws
 pub mod Signing
+pub mod CircleLaws
 pub mod DemoSigners

@@ -1,9 +1,11 @@
 ghost use Rattle.std.specs.Prelude.{◌≡◌, ◌≢◌, ◌⊎◌, false, [], Ok, Err, IfErr, IfOk, OnOk, OnErr, IsOkUnless, IsTrue, is_some, unwrap_or, option_and_then, option_copied};
-ghost use Rattle.zone_proto.specs.Names.{lower};
+ghost use Rattle.zone_proto.specs.Names.{lower, is_at_or_above};
 ghost use Rattle.zone_proto.specs.Types.{IN, SOA, AXFR};
+ghost use Rattle.zone_denial.specs.NsecLaws.{IsNsecZone};
 ghost use Rattle.zone_handler.specs.Transfers.{IsNoLookup};
 ghost use Rattle.zone_store.specs.Handlers.{soa, serial, minimum};
 ghost use Rattle.zone_store.specs.Lookup.{absent, denial, error_of, IsReplyFor, SaysOrMemory, IsLookup, IsAnswered};
+ghost use Rattle.zone_store.specs.NsecAnswers.{IsNsecAnswer, IsNsecProof, AgreesWithCircle};
 ghost use Rattle.zone_store.specs.Requests.{IsSearch};
 ghost use Rattle.zone_store.specs.Transfers.{IsZoneTransfer};
 ghost use Rattle.zone_map.specs.AnyTypes.{searched_type};
@@ -14,6 +16,7 @@ ghost use Rattle.zone_map.specs.Upserts.{CnamesStandAlone};
 ghost use Rattle.zone_store.specs.Insertions.{IsUpsert};
 ghost use Rattle.zone_map.specs.Zones.{set_at, owns, put, without, IsZone};
 
+mod denial;
 mod signing;
 
 use crate::construction;
@@ -325,7 +328,11 @@ impl<S: Signer, H: Nsec3Hash> ZoneHandler for InMemoryZoneHandler<S, H> {
 
     ghost origin_of = { λ zone. zone.origin };
 
+    ghost kind_of = { λ zone. zone.kind };
+
     ghost lookup_gives = { IsLookup S.signature_of };
+
+    ghost denial_gives = { IsNsecAnswer };
 
     ghost transfer_gives = { λ zone request options now answer. IsZoneTransfer S.signature_of zone request.queries.items options now answer };
 
@@ -341,6 +348,10 @@ impl<S: Signer, H: Nsec3Hash> ZoneHandler for InMemoryZoneHandler<S, H> {
 
     fn origin(&self) -> &LowerName {
         &self.apex.name
+    }
+
+    fn nx_proof_kind(&self) -> Option<&NxProofKind> {
+        self.nx_proof_kind.as_ref()
     }
 
     /// What the zone answers for `name` and `record_type`.
@@ -373,6 +384,7 @@ impl<S: Signer, H: Nsec3Hash> ZoneHandler for InMemoryZoneHandler<S, H> {
         ensures answer { IsLookup S.signature_of self.now name.now record_type.0 lookup_options now result }
         ensures transfer { record_type.0 ≡ AXFR → IsNoLookup result }
         ensures owned_is_answered { IsTrue (owns self.now.inner.records name.now record_type.0) → record_type.0 ≢ AXFR → IsAnswered result }
+        ensures circle { IsNsecZone self.now.origin self.now.inner.records → AgreesWithCircle self.now.origin self.now.inner.records name.now record_type.0 result }
     {
         if record_type == RecordType::AXFR {
             let error = NetError::from("AXFR must be handled with ZoneHandler::zone_transfer()");
@@ -404,6 +416,29 @@ impl<S: Signer, H: Nsec3Hash> ZoneHandler for InMemoryZoneHandler<S, H> {
             now,
         );
         (step, None)
+    }
+
+    /// The NSEC records that deny what `name` doesn't own, or that there is such a name, with their signatures where
+    /// `lookup_options` ask for DNSSEC.
+    ///
+    /// A name that owns an NSEC set is denied by that one, whose list tells what the name owns (RFC 4035 section 3.1.3.1).
+    /// Any other is denied by the closest NSEC sets, as [`InnerInMemory::closest_nsec`] says, of its parent and of the name
+    /// itself, in this order, or by one where they are the same (section 3.1.3.2). Where the parent is outside the zone, the
+    /// origin stands for it, and nothing where that is the name itself. A set that isn't found is left out. So it is in any
+    /// zone, and whatever its kind; the answer has no additional section. `Memory` may come in place of it.
+    ///
+    /// In a zone whose NSEC sets are a circle, as they are once [`InMemoryZoneHandler::secure_zone_mut`] made them, these
+    /// deny each name of the zone: the name's own set is found, or the last set covers the name. Of names outside the zone
+    /// nothing is said, nor of a wildcard at the closest encloser.
+    fn nsec_records(
+        &self,
+        name: &LowerName,
+        lookup_options: LookupOptions,
+    ) -> LookupControlFlow<AuthLookup>
+        ensures answer { IsNsecAnswer self.now name.now lookup_options result }
+        ensures proof { IsNsecZone self.now.origin self.now.inner.records → IsTrue (is_at_or_above self.now.origin name.now) → IsNsecProof self.now.origin self.now.inner.records name.now }
+    {
+        LookupControlFlow::Continue(self.nsec_answer(name, lookup_options))
     }
 
     /// The whole zone: what [`ZoneHandler::lookup`] answers for its SOA, with these `lookup_options`, at the moment `now`, in

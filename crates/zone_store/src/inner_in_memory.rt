@@ -1,7 +1,8 @@
 ghost use Rattle.std.specs.Prelude.{◌≡◌, [], ◌∷◌, ◌++◌, IfOk, IfErr, OnOk, OnErr, IsOkUnless, is_some, unwrap_or, option_map, option_and_then, option_copied};
 ghost use Rattle.zone_map.specs.AnyTypes.{any_type};
-ghost use Rattle.zone_proto.specs.Types.{SOA};
-ghost use Rattle.zone_signing.specs.Secured.{IsSecured};
+ghost use Rattle.zone_proto.specs.Types.{NSEC};
+ghost use Rattle.zone_denial.specs.DenialSets.{denial_sets, own_set};
+ghost use Rattle.zone_denial.specs.NsecDenial.{closest_nsec, nsec_denial};
 ghost use Rattle.zone_store.specs.FoundSets.{found_set, lent_set};
 ghost use Rattle.zone_map.specs.Search.{direct};
 ghost use Rattle.zone_map.specs.Wildcards.{found};
@@ -9,16 +10,19 @@ ghost use Rattle.zone_store.specs.Searches.{one_more};
 ghost use Rattle.zone_map.specs.Upserts.{upserted, CnamesStandAlone};
 ghost use Rattle.zone_map.specs.Zones.{set_at, owns_at_or_below, put, without, IsStoredAt, IsZone};
 
+mod securing;
+
 use crate::found::Found;
 use crate::searches::Searches;
 use crate::zone_error::ZoneError;
 use std::alloc::Global;
 use std::collections::BTreeMap;
 use std::marker::Model;
-use zone_handler::{LookupError, LookupOptions, SecureError};
+use zone_denial::closest;
+use zone_denial::denial::{self, NsecDenial};
+use zone_handler::{LookupError, LookupOptions};
 use zone_map::{RecordMap, search, wildcard};
 use zone_proto::{DNSClass, LowerName, ProtoError, Record, RecordSet, RecordType, RrKey, Signer};
-use zone_signing::securing;
 
 /// The record sets of a zone, by owner name and type, and the signers that sign them.
 #[derive(Drop)]
@@ -134,6 +138,31 @@ impl<S: Signer> InnerInMemory<S> {
         Ok(self.records.any_type(&least))
     }
 
+    /// The NSEC set whose owner is the greatest, in canonical order (RFC 4034 section 6.1), of those that aren't after `name`
+    /// and whose next name, as the first record says it, stands after `name`, or isn't after the owner; if there is one.
+    /// Refused by `Memory` alone.
+    ///
+    /// In a zone that was secured by NSEC it covers each name of the zone that has no such set of its own.
+    pub fn closest_nsec(&self, name: &LowerName) -> Result<Option<&RecordSet>, LookupError>
+        ensures found { IfOk result (λ set. option_copied set ≡ closest_nsec self.now.records name.now) }
+        ensures err { IsOkUnless result LookupError.Memory }
+    {
+        Ok(closest::closest_nsec(&self.records, name)?)
+    }
+
+    /// The NSEC sets that deny a name in the zone of `origin`; see [`denial::nsec_denial`].
+    pub(crate) fn nsec_denial(
+        &self,
+        origin: &LowerName,
+        name: &LowerName,
+    ) -> Result<NsecDenial<'_>, LookupError>
+        ensures sets { IfOk result (λ denial. denial_sets denial ≡ nsec_denial origin.now self.now.records name.now) }
+        ensures own { IfOk result (λ denial. own_set denial ≡ set_at self.now.records name.now NSEC) }
+        ensures err { IsOkUnless result LookupError.Memory }
+    {
+        Ok(denial::nsec_denial(&self.records, origin, name)?)
+    }
+
     /// Stores a set under its own key; see [`RecordMap::put`].
     pub(crate) fn put(&mut self, key: RrKey, set: RecordSet) -> Result<Option<RecordSet>, RecordSet>
         requires { IsStoredAt key.name key.record_type.0 set }
@@ -180,23 +209,6 @@ impl<S: Signer> InnerInMemory<S> {
                 let _ = self.signers.pop();
                 Err(error)
             }
-        }
-    }
-
-    /// Secures the record sets of the zone whose SOA stands under `apex`; see [`securing::secure`].
-    pub(crate) fn secure(&mut self, apex: &RrKey, now: u64) -> Result<(), SecureError>
-        requires { apex.now.record_type.0 ≡ SOA }
-        ensures zone { IsZone self.new.records }
-        ensures ok { OnOk result (IsSecured S.signature_of now apex.now.name self.old.signers (set_at self.old.records) self.new.records) }
-        ensures signers { self.new.signers ≡ self.old.signers }
-        ensures err { IsOkUnless result SecureError.Memory }
-        ensures same { OnErr result (self.new ≡ self.old) }
-    {
-        let no_denials = RecordMap::new(apex.name.alloc());
-        let signers = self.signers.as_slice();
-        match securing::secure(&mut self.records, None, no_denials, apex, signers, now) {
-            Ok(()) => Ok(()),
-            Err(_) => Err(SecureError::Memory),
         }
     }
 

@@ -14,7 +14,10 @@ ghost use Rattle.zone_map.specs.SearchLaws.{StarIsNearest, ChainIsLongestFront, 
 ghost use Rattle.zone_map.specs.Upserts.{upserted};
 ghost use Rattle.zone_map.specs.Zones.{Sets, set_at, owns, names_of, owners, types_at, put, without, IsStoredAt, IsZone};
 ghost use Rattle.zone_store.specs.AdditionalLaws.{OneRun, NoNameTwice, RunIsShort, SearchesAreFew, OneList};
+ghost use Rattle.zone_store.specs.CircleLaws.{UntakenKeepsCircle, RefusedKeyKeepsCircle, RefusedSecuringKeepsCircle};
 ghost use Rattle.zone_store.specs.TransferLaws.{BeginsAndEndsWithSoa, HasEachRecord, HasNoneTwice};
+
+use zone_proto::{Nsec3Hash, Signer};
 
 /// A zone may have no sets, and its sets stay those of a zone when a set is put under its own owner and type, when one is
 /// taken out, and when a record is inserted.
@@ -88,4 +91,12 @@ pub fn transfers_have_each_record()
     ensures ends { BeginsAndEndsWithSoa }
     ensures each { HasEachRecord }
     ensures once { HasNoneTwice }
+{}
+
+/// In a zone whose NSEC sets are a closed circle with the origin on it they stay one after an insertion that is answered by
+/// false, and after one that is refused, as where a signer isn't added or the zone isn't secured.
+pub fn refused_writes_keep_the_circle<S: Signer, H: Nsec3Hash>()
+    ensures insertion { UntakenKeepsCircle S H }
+    ensures key { RefusedKeyKeepsCircle S H }
+    ensures securing { RefusedSecuringKeepsCircle S H }
 {}

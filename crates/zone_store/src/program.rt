@@ -117,7 +117,7 @@ fn make_zone(alloc: Global, args: &[String]) -> Result<Served, Stop>
     };
     match Name::parse(alloc, origin.as_str()) {
         Ok(origin) => Ok(Served {
-            zone: empty_zone(origin),
+            zone: empty_zone(origin, None),
             moment: 0,
         }),
         Err(ProtoError::Memory) => Err(Stop::Memory),

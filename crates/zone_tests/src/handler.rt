@@ -8,12 +8,23 @@ use zone_handler::{
     AuthLookup, AxfrPolicy, LookupControlFlow, LookupError, LookupOptions, NetError, Request,
     RequestInfo, TSigResponseContext, ZoneHandler, ZoneType,
 };
-use zone_proto::{DNSClass, LowerName, Query, RecordType, ResponseCode};
+use zone_proto::{DNSClass, LowerName, NxProofKind, Query, RecordType, ResponseCode};
 
 /// A zone that exists and owns nothing that anybody asks for.
 #[derive(Drop)]
 struct Parked {
     origin: LowerName,
+    nx_proof_kind: Option<NxProofKind>,
+}
+
+impl Parked {
+    /// The one at the root, which says that it denies by NSEC.
+    fn new(alloc: Global) -> Parked {
+        Parked {
+            origin: LowerName::root(alloc),
+            nx_proof_kind: Some(NxProofKind::Nsec),
+        }
+    }
 }
 
 impl ZoneHandler for Parked {
@@ -31,11 +42,15 @@ impl ZoneHandler for Parked {
 
     ghost origin_of = { λ zone. zone.origin };
 
+    ghost kind_of = { λ zone. zone.nx_proof_kind };
+
     ghost lookup_gives = { λ _ _ record_type _ _ flow. is_break flow ≡ (record_type == AXFR) };
 
     ghost consult_gives = { λ _ _ _ _ _ last answer. (last ≡ Skip) × (answer ≡ (Break (Err NameExists), None)) };
 
     ghost search_gives = { λ _ _ _ _ answer. is_break answer.0 ≡ true };
+
+    ghost denial_gives = { λ _ _ _ flow. flow ≡ Skip };
 
     fn zone_type(&self) -> ZoneType {
         ZoneType::External
@@ -47,6 +62,10 @@ impl ZoneHandler for Parked {
 
     fn origin(&self) -> &LowerName {
         &self.origin
+    }
+
+    fn nx_proof_kind(&self) -> Option<&NxProofKind> {
+        self.nx_proof_kind.as_ref()
     }
 
     fn lookup(
@@ -94,6 +113,14 @@ impl ZoneHandler for Parked {
         let refused = LookupError::from(ResponseCode::Refused);
         (LookupControlFlow::Break(Err(refused)), None)
     }
+
+    fn nsec_records(
+        &self,
+        _name: &LowerName,
+        _lookup_options: LookupOptions,
+    ) -> LookupControlFlow<AuthLookup> {
+        LookupControlFlow::Skip
+    }
 }
 
 /// What any zone answers to the query at its origin.
@@ -127,13 +154,25 @@ fn searched<Z: ZoneHandler>(
     zone.search(request, LookupOptions::default(), 5)
 }
 
+/// What any zone denies its origin by.
+fn denied<Z: ZoneHandler>(zone: &Z) -> LookupControlFlow<AuthLookup>
+    ensures { Z.denial_gives zone.now (Z.origin_of zone.now) (record { dnssec_ok = true }) result }
+{
+    zone.nsec_records(zone.origin(), LookupOptions::for_dnssec())
+}
+
+/// Whether any zone says that it denies by NSEC.
+fn denies_by_nsec<Z: ZoneHandler>(zone: &Z) -> bool {
+    matches!(zone.nx_proof_kind(), Some(NxProofKind::Nsec))
+}
+
 /// Whether any zone refuses an update as not implemented.
 fn refuses_updates<Z: ZoneHandler>(zone: &mut Z, request: &Request) -> bool {
     matches!(zone.update(request, 5), (Err(ResponseCode::NotImp), None))
 }
 
 /// What a server is to any zone.
-fn kind_of<Z: ZoneHandler>(zone: &Z) -> ZoneType
+fn type_of<Z: ZoneHandler>(zone: &Z) -> ZoneType
     ensures { result ≡ Z.zone_type_of zone.now }
 {
     zone.zone_type()
@@ -158,28 +197,24 @@ fn is_name_exists(step: LookupControlFlow<AuthLookup>) -> bool {
 #[test]
 fn handler_answers_through_its_trait(rt: HostRuntime) {
     let alloc = rt.alloc();
-    let zone = Parked {
-        origin: LowerName::root(alloc),
-    };
+    let zone = Parked::new(alloc);
     let query = make_query(alloc, RecordType::A);
     let transfer = make_query(alloc, RecordType::AXFR);
-    let is_kind = kind_of(&zone) == ZoneType::External;
+    let is_type = type_of(&zone) == ZoneType::External;
     let is_policy = zone.axfr_policy() == AxfrPolicy::AllowSigned;
     let is_kept = is_name_exists(at_origin(&zone, &query));
     let step = at_origin(&zone, &query).map_err(|error| error.is_nx_domain());
     let is_mapped = matches!(step, LookupControlFlow::Continue(Err(false)));
     let is_empty = at_origin(&zone, &query).unwrap_or_default().is_empty();
     let is_broken_off = at_origin(&zone, &transfer).is_break();
-    assert!(rt; is_kind && is_policy && AxfrPolicy::default() == AxfrPolicy::Deny);
+    assert!(rt; is_type && is_policy && AxfrPolicy::default() == AxfrPolicy::Deny);
     assert!(rt; is_kept && is_mapped && is_empty && is_broken_off);
 }
 
 #[test]
 fn handler_has_the_calls_that_it_leaves_to_its_trait(rt: HostRuntime) {
     let alloc = rt.alloc();
-    let mut zone = Parked {
-        origin: LowerName::root(alloc),
-    };
+    let mut zone = Parked::new(alloc);
     let request = Request {
         queries: Vec::new(alloc),
     };
@@ -190,4 +225,12 @@ fn handler_has_the_calls_that_it_leaves_to_its_trait(rt: HostRuntime) {
     let is_handed_on = consulted(alloc, &zone, last).is_continue();
     assert!(rt; !zone.can_validate_dnssec() && is_refused);
     assert!(rt; is_broken_off && is_final && is_handed_on);
+}
+
+#[test]
+fn handler_denies_through_its_trait(rt: HostRuntime) {
+    let zone = Parked::new(rt.alloc());
+    let is_denied_by_nsec = denies_by_nsec(&zone);
+    let is_left_to_others = matches!(denied(&zone), LookupControlFlow::Skip);
+    assert!(rt; is_denied_by_nsec && is_left_to_others);
 }

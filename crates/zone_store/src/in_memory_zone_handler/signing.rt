@@ -40,7 +40,15 @@ impl<S: Signer, H: Nsec3Hash> InMemoryZoneHandler<S, H> {
     ///
     /// Each set loses the signatures that it has, and gets those of the signers that sign it, in the order of the signers
     /// (RFC 4034 section 3): of its owner and TTL, and class IN. Without an SOA no serial is stepped. All else stays as it
-    /// was. A zone that is to be denied by NSEC or NSEC3 is secured as if it were not: no denial sets are made yet.
+    /// was.
+    ///
+    /// Of a zone that NSEC denies, and that has a signer, the NSEC sets are first made anew, wherever old ones stand: one for
+    /// each name that the zone is authoritative for (RFC 4035 section 2.3), that is each one at or below the origin that owns
+    /// a set, NSEC sets aside, and that no zone cut stands above. It has one record, with the next of these names, or the
+    /// origin after the last, and with the types that the name owns, NSEC and RRSIG among them (RFC 4034 section 4). Its TTL
+    /// is the zone's minimum, and its serial that of before. So where the origin owns a set besides, the NSEC sets are one
+    /// closed circle through exactly these names. Without a signer NSEC sets stay as they are. A zone that is to be denied by
+    /// NSEC3 is secured as if it were not: no NSEC3 sets are made yet.
     ///
     /// Refused by `TimeOutOfRange` for a moment past the year 9999 (253402300799), which takes no memory, and by `Memory`, of
     /// a signer too; both leave the zone as it was.
@@ -50,7 +58,8 @@ impl<S: Signer, H: Nsec3Hash> InMemoryZoneHandler<S, H> {
         if now > LAST_MOMENT {
             return Err(SecureError::TimeOutOfRange);
         }
-        self.inner.secure(&self.apex, now)
+        self.inner
+            .secure(&self.apex, self.nx_proof_kind.as_ref(), now)
     }
 }
 

@@ -9,19 +9,22 @@ use zone_handler::{
     AuthLookup, AxfrPolicy, LookupControlFlow, LookupError, LookupOptions, LookupRecordsIter,
     Request, ZoneHandler, ZoneTransfer, ZoneType,
 };
-use zone_proto::{DNSClass, LowerName, Name, ProtoError, Query, Record, RecordType, RrKey};
+use zone_proto::{
+    DNSClass, LowerName, Name, NxProofKind, ProtoError, Query, Record, RecordType, RrKey,
+};
 use zone_text::RecordText;
 
 /// The zone that the program keeps.
 pub type Zone = InMemoryZoneHandler<DemoSigner, Sha1Hash>;
 
-/// A zone without records and signers, of which the program is the source, and which it transfers to anybody.
-pub fn empty_zone(origin: Name) -> Zone {
+/// A zone without records and signers, which denies what it doesn't hold in this way once it is secured. The program is its
+/// source, and transfers it to anybody.
+pub fn empty_zone(origin: Name, nx_proof_kind: Option<NxProofKind>) -> Zone {
     InMemoryZoneHandler::empty(
         origin,
         ZoneType::Primary,
         AxfrPolicy::AllowAll,
-        None,
+        nx_proof_kind,
         Sha1Hash,
     )
 }
@@ -42,7 +45,7 @@ pub fn carry_out(
     match command {
         Command::Add(record) => add(&mut served.zone, record, answer),
         Command::Drop(key) => drop_set(&mut served.zone, &key, answer),
-        Command::Renew => renew(served, answer),
+        Command::Renew(nx_proof_kind) => renew(served, nx_proof_kind, answer),
         Command::Key(number) => add_key(served, number, answer),
         Command::Secure(now) => secure(served, now, answer),
         Command::Lookup {
@@ -50,6 +53,7 @@ pub fn carry_out(
             record_type,
             options,
         } => lookup(served, &name, record_type, options, answer),
+        Command::Deny(key) => deny(&served.zone, &key.name, answer),
         Command::Transfer(options) => transfer(served, options, answer),
     }
 }
@@ -101,15 +105,21 @@ fn lookup(
 
 /// Writes the records that answer a question, and those that may help beside them, each after their count.
 fn write_found(found: &AuthLookup, answer: &mut String) -> Result<(), AllocError> {
+    write_records("answer", found, answer)?;
+    write_additionals(found, answer)
+}
+
+/// Writes the records of an answer after a word and their count.
+fn write_records(word: &str, found: &AuthLookup, answer: &mut String) -> Result<(), AllocError> {
     let mut count = 0u64;
     for _ in found.iter() {
         count = count.saturating_add(1);
     }
-    writeln!(answer, "answer {count}")?;
+    writeln!(answer, "{word} {count}")?;
     for record in found.iter() {
         writeln!(answer, "{}", RecordText(record))?;
     }
-    write_additionals(found, answer)
+    Ok(())
 }
 
 fn write_additionals(found: &AuthLookup, answer: &mut String) -> Result<(), AllocError> {
@@ -127,6 +137,18 @@ fn write_additionals(found: &AuthLookup, answer: &mut String) -> Result<(), Allo
 /// Lends the records that may help beside an answer, none where it has no such section.
 fn additionals_of(found: &AuthLookup) -> LookupRecordsIter<'_> {
     found.additionals().unwrap_or(LookupRecordsIter::Empty)
+}
+
+/// Lists the NSEC records that deny a name, and that it owns a type, whichever that is.
+fn deny(zone: &Zone, name: &LowerName, answer: &mut String) -> Result<(), AllocError> {
+    match zone
+        .nsec_records(name, LookupOptions::default())
+        .map_result()
+    {
+        Some(Ok(proof)) => write_records("proof", &proof, answer),
+        Some(Err(error)) => writeln!(answer, "error {}", ErrorWord(&error)),
+        None => unreachable!(),
+    }
 }
 
 /// Lists the zone as one query for a transfer of it is answered.

@@ -1,6 +1,6 @@
 use std::alloc::Global;
 use zone_handler::LookupOptions;
-use zone_proto::{LowerName, Record, RecordType, RrKey};
+use zone_proto::{LowerName, NxProofKind, Record, RecordType, RrKey};
 use zone_text::{
     TextError, Words, read_key, read_name, read_record, read_type, read_u16, read_u64,
 };
@@ -12,8 +12,9 @@ pub enum Command {
     Add(Record),
     /// `drop NAME TYPE`: takes a record set out.
     Drop(RrKey),
-    /// `kind none`: makes the zone anew, without records and signers.
-    Renew,
+    /// `kind none` or `kind nsec`: makes the zone anew, without records and signers, and says how it denies what it doesn't
+    /// hold once it is secured: not at all, or by NSEC records.
+    Renew(Option<NxProofKind>),
     /// `key N`: adds the demonstration signer of this number.
     Key(u16),
     /// `secure NOW`: secures the zone at this moment, in seconds since 1970.
@@ -24,6 +25,8 @@ pub enum Command {
         record_type: RecordType,
         options: LookupOptions,
     },
+    /// `deny NAME TYPE`: lists the records that deny a name, or a type of it.
+    Deny(RrKey),
     /// `transfer`, or `transfer dnssec` where signatures are wanted: lists the whole zone.
     Transfer(LookupOptions),
 }
@@ -38,7 +41,7 @@ pub fn read_command(alloc: Global, line: &[u8]) -> Result<Option<Command>, TextE
         [b'#', ..] => return Ok(None),
         b"add" => Command::Add(read_record(alloc, &mut words)?),
         b"drop" => Command::Drop(read_key(alloc, &mut words)?),
-        b"kind" => read_kind(&mut words)?,
+        b"kind" => Command::Renew(read_kind(&mut words)?),
         b"key" => Command::Key(read_u16(words.take_needed()?).ok_or(TextError::BadText)?),
         b"secure" => Command::Secure(read_u64(words.take_needed()?).ok_or(TextError::BadText)?),
         b"lookup" => Command::Lookup {
@@ -46,6 +49,7 @@ pub fn read_command(alloc: Global, line: &[u8]) -> Result<Option<Command>, TextE
             record_type: read_type(&mut words)?,
             options: read_options(&mut words)?,
         },
+        b"deny" => Command::Deny(read_key(alloc, &mut words)?),
         b"transfer" => Command::Transfer(read_options(&mut words)?),
         _ => return Err(TextError::BadText),
     };
@@ -53,10 +57,11 @@ pub fn read_command(alloc: Global, line: &[u8]) -> Result<Option<Command>, TextE
     Ok(Some(command))
 }
 
-/// Reads how a zone is to be denied: so far by neither NSEC nor NSEC3.
-fn read_kind(words: &mut Words<'_>) -> Result<Command, TextError> {
+/// Reads how a zone denies what it doesn't hold.
+fn read_kind(words: &mut Words<'_>) -> Result<Option<NxProofKind>, TextError> {
     match words.take_needed()? {
-        b"none" => Ok(Command::Renew),
+        b"none" => Ok(None),
+        b"nsec" => Ok(Some(NxProofKind::Nsec)),
         _ => Err(TextError::BadText),
     }
 }

@@ -3,13 +3,17 @@ use crate::program::answers::{Served, empty_zone};
 use crate::program::demo_signer::DemoSigner;
 use std::alloc::AllocError;
 use zone_handler::{KeyError, SecureError, ZoneHandler};
-use zone_proto::{Name, ProtoError};
+use zone_proto::{Name, NxProofKind, ProtoError};
 
-/// Makes the zone anew, without records and signers. The moment of the last `secure` stays.
-pub fn renew(served: &mut Served, answer: &mut String) -> Result<(), AllocError> {
+/// Makes the zone anew, without records and signers, and of this kind. The moment of the last `secure` stays.
+pub fn renew(
+    served: &mut Served,
+    nx_proof_kind: Option<NxProofKind>,
+    answer: &mut String,
+) -> Result<(), AllocError> {
     let reply = match origin_of(served) {
         Ok(origin) => {
-            served.zone = empty_zone(origin);
+            served.zone = empty_zone(origin, nx_proof_kind);
             "ok\n"
         }
         Err(_) => "error Memory\n",

@@ -1,6 +1,8 @@
 use Rattle.std.proofs.Common.{subst}
 use Rattle.zone_store.specs.Handlers.{Zone}
-use Rattle.zone_store.specs.Signing.{IsSecuring}
+use Rattle.std.specs.Prelude.{OnOk}
+use Rattle.zone_signing.specs.Secured.{IsSecured}
+use Rattle.zone_store.specs.Signing.{to_be_signed, IsSecuring}
 use Rattle.zone_store.proofs.SecuredZones.{IsSecuring-made}
 use Rattle.zone_store.proofs.in_memory_zone_handler.InMemoryZoneHandler.secure_zone_mut.Goals as goal
 
@@ -25,5 +27,5 @@ returns g c =
       hash = c.self.inside.hash;
     } in
     subst (λ old. IsSecuring g.S.Signer.signature_of old c.args.now c.secure.result (record zone { inner = c.secure.new.self })) c.self.view_is
-    (IsSecuring-made g.S.Signer.signature_of zone c.args.now c.secure.result c.secure.new.self c.if-now-gt-LAST_MOMENT.false
-    c.secure.ensures.ok c.secure.ensures.signers c.secure.ensures.err c.secure.ensures.same)
+    (IsSecuring-made g.S.Signer.signature_of zone c.args.now c.secure.result c.secure.new.self c.if-now-gt-LAST_MOMENT.false c.self.invariant.origin c.self.invariant.sets c.secure.ensures.zone
+    (subst (λ k. OnOk c.secure.result (IsSecured g.S.Signer.signature_of c.args.now zone.origin zone.inner.signers (to_be_signed k zone.inner.signers zone.origin zone.inner.records) c.secure.new.self.records)) c.as_ref.ensures.value c.secure.ensures.ok) c.secure.ensures.signers c.secure.ensures.err c.secure.ensures.same)
