@@ -10,6 +10,9 @@ the zone as it was.
 
 Before a program is timed, it has to answer all phases in a small zone. Where it doesn't give the right answers, its
 figure is left out.
+
+A zone that takes long to secure by NSEC is made in the first run alone. hickory-server goes over all cuts for each set:
+with a fifth of the names cuts it takes a minute or more for 100,000 names, and would take hours for a million.
 """
 
 import itertools
@@ -22,6 +25,7 @@ import time
 from workload import ORIGIN, workload
 
 ENOUGH = 0.2
+LONG = 10.0
 PADDING = (b"#" + b"." * 126 + b"\n") * 1280
 MEMORY = ("peak memory, KB", "memory for a record, octets")
 PEAK_TRANSFERRED = "peak memory with a transfer, KB"
@@ -122,6 +126,22 @@ def time_securings(program, work):
     return figures
 
 
+def peak_denied(zone):
+    return f"peak memory with {zone.title}, KB"
+
+
+def time_denied(program, zone):
+    """Microseconds to secure a zone that NSEC denies and for each kind of query for a denial, and the most memory that it
+    takes, by their titles."""
+    session = Session(program)
+    session.carry_out(text(zone.load.commands))
+    figures = {zone.secure.title: time_question(session, zone.secure, 1)}
+    figures |= {question.title: time_question(session, question) for question in zone.questions}
+    figures[peak_denied(zone)] = session.memory("VmHWM")
+    session.end()
+    return figures
+
+
 def run(program, work):
     """The figures of one run, by their rows' titles."""
     session, per_record, memory_of_record = time_load(program, work.load)
@@ -135,6 +155,8 @@ def run(program, work):
     session.end()
     if work.securings:
         figures |= time_securings(program, work)
+    for zone in work.denied:
+        figures |= time_denied(program, zone)
     return figures
 
 
@@ -161,6 +183,9 @@ def known_phases(program):
         known |= {PEAK_TRANSFERRED, work.transfer.title}
     if answers_rightly(program, [work.load, *work.securings]):
         known |= {PEAK_SECURED, *(securing.title for securing in work.securings)}
+    for zone in work.denied:
+        if answers_rightly(program, [zone.load, *zone.phases()]):
+            known |= {peak_denied(zone), *(phase.title for phase in zone.phases())}
     return {work.load.title, *MEMORY, *known}
 
 
@@ -170,16 +195,19 @@ def measure(program, work, known, runs):
         questions=[question for question in work.questions if question.title in known],
         transfer=work.transfer if PEAK_TRANSFERRED in known else None,
         securings=work.securings if PEAK_SECURED in known else [],
+        denied=[zone for zone in work.denied if zone.secure.title in known],
     )
-    taken = [run(program, work) for _ in range(runs)]
-    return {title: min(figures[title] for figures in taken) for title in taken[0]}
+    taken = [run(program, work)]
+    work = work._replace(denied=[zone for zone in work.denied if taken[0][zone.secure.title] < 1e6 * LONG])
+    taken += [run(program, work) for _ in range(runs - 1)]
+    return {title: min(figures[title] for figures in taken if title in figures) for title in taken[0]}
 
 
 def shown(figure, title=""):
     """Two decimals, or as many as show two digits; whole numbers for memory."""
     if figure is None:
         return ""
-    if title in (*MEMORY, PEAK_TRANSFERRED, PEAK_SECURED):
+    if "memory" in title:
         return f"{figure:.0f}"
     return f"{figure:.{max(2, 1 - math.floor(math.log10(figure)))}f}"
 
@@ -207,7 +235,7 @@ def main():
     for names in sizes:
         work = workload(names, lookups)
         found.append([measure(*each, runs) for each in zip(programs, itertools.repeat(work), known)])
-    for title in [*work.titles(), *MEMORY, PEAK_TRANSFERRED, PEAK_SECURED]:
+    for title in [*work.titles(), *MEMORY, PEAK_TRANSFERRED, PEAK_SECURED, *map(peak_denied, work.denied)]:
         before = [None] * len(programs)
         for names, figures in zip(sizes, found):
             row = [each.get(title) for each in figures]

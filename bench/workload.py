@@ -1,5 +1,6 @@
 """The zones of the benchmark, and the commands of each phase with what they are to be answered."""
 
+import bisect
 import random
 from typing import NamedTuple
 
@@ -16,18 +17,35 @@ class Phase(NamedTuple):
     others: list[str] = []
 
 
+class DeniedZone(NamedTuple):
+    """A zone that NSEC records deny: what makes it, fills it and adds a signer; how it is secured; and queries for a
+    denial, which leave it as it is."""
+
+    title: str
+    load: Phase
+    secure: Phase
+    questions: list[Phase]
+
+    def phases(self):
+        return [self.secure, *self.questions]
+
+
 class Workload(NamedTuple):
     """What fills a zone; questions, which leave it as it is; changes, which leave it so when all are made; a
-    transfer of it whole; and securings, each of which follows one more signer."""
+    transfer of it whole; securings, each of which follows one more signer; and zones of their own that NSEC records
+    deny."""
 
     load: Phase
     questions: list[Phase]
     changes: list[Phase]
     transfer: Phase
     securings: list[Phase]
+    denied: list[DeniedZone]
 
     def titles(self):
-        return [phase.title for phase in [self.load, *self.questions, *self.changes, self.transfer, *self.securings] if phase.title]
+        phases = [self.load, *self.questions, *self.changes, self.transfer, *self.securings]
+        phases += [phase for zone in self.denied for phase in zone.phases()]
+        return [phase.title for phase in phases if phase.title]
 
 
 def address(i):
@@ -54,13 +72,31 @@ def flattened(ttl, name, aname, address):
 
 
 # The numbers of the types that stand in the zones.
-NUMBERS = {"A": 1, "NS": 2, "SOA": 6, "CNAME": 5, "MX": 15, "TXT": 16, "AAAA": 28, "SRV": 33, "ANAME": 65305}
+NUMBERS = {
+    "A": 1,
+    "NS": 2,
+    "CNAME": 5,
+    "SOA": 6,
+    "MX": 15,
+    "TXT": 16,
+    "AAAA": 28,
+    "SRV": 33,
+    "RRSIG": 46,
+    "NSEC": 47,
+    "DNSKEY": 48,
+    "ANAME": 65305,
+}
+
+
+def place(name):
+    """What names are ordered by: the labels from the last on."""
+    return name.encode().split(b".")[-2::-1]
 
 
 def key(record):
-    """What the sets of a zone are ordered by: the labels of the owner from the last on, and the number of the type."""
+    """What the sets of a zone are ordered by: the place of the owner, and the number of the type."""
     owner, _, kind, *_ = record.split()
-    return owner.encode().split(b".")[-2::-1], NUMBERS[kind]
+    return place(owner), NUMBERS[kind]
 
 
 def written(record):
@@ -81,6 +117,86 @@ def transferred(adds):
     return "\n".join([f"transfer {2 * len(soa) + len(others)}", *soa, *others, *soa])
 
 
+def parent(name):
+    return name.split(".", 1)[1]
+
+
+def nsec_records(adds):
+    """The NSEC records of the zone that these lines fill, whose origin has a key beside them, by their owners and in the
+    order of these: one for each name that stands below no cut, with the next such name and the types that it owns."""
+    types = {ORIGIN: {"DNSKEY"}}
+    for line in adds:
+        _, owner, _, kind, *_ = line.split()
+        types.setdefault(owner, set()).add(kind)
+    cuts = {owner for owner, kinds in types.items() if "NS" in kinds}
+    # (what stands below a cut is its glue, one label longer)
+    owners = sorted((owner for owner in types if parent(owner) not in cuts), key=place)
+    records = {}
+    for owner, after in zip(owners, [*owners[1:], ORIGIN]):
+        listed = sorted(types[owner] | {"RRSIG", "NSEC"}, key=NUMBERS.get)
+        records[owner] = f"{owner} 300 IN NSEC {after} {' '.join(listed)}"
+    return records
+
+
+def proof(*records):
+    """The answer to a query for a denial, each record once."""
+    records = list(dict.fromkeys(records))
+    return "\n".join([f"proof {len(records)}", *records])
+
+
+def denials(adds, absent, present):
+    """Queries for a denial of names that aren't in the zone that these lines fill, and of names that are there and own no
+    TXT."""
+    records = nsec_records(adds)
+    owners = list(records)
+    places = [place(owner) for owner in owners]
+
+    def closest(name):
+        return records[owners[bisect.bisect(places, place(name)) - 1]]
+
+    return [
+        Phase("deny a name", [f"deny {name} A" for name in absent], [proof(closest(parent(name)), closest(name)) for name in absent]),
+        Phase("deny a type", [f"deny {name} TXT" for name in present], [proof(records[name]) for name in present]),
+    ]
+
+
+def denied_zone(title, adds, questions):
+    """The zone that these lines fill, denied by NSEC."""
+    load = Phase("", ["kind nsec", *adds, "key 7"], ["ok", *["yes"] * len(adds), "ok"])
+    return DeniedZone(title, load, Phase(f"secure with {title}", ["secure 1000"], ["ok 2"]), questions)
+
+
+def hosts_and_cuts(names, percent):
+    """The addresses of this many names without the cuts among them, of which every second stands one level deeper, below
+    a name that owns nothing; and the cuts, so many in a hundred."""
+    cuts = [f"cut{i:06d}.{ORIGIN}" for i in range(max(1, names * percent // 100))]
+    hosts = {}
+    for i in range(names - len(cuts)):
+        group = f"group{i % 997:03d}." if i % 2 else ""
+        hosts[f"host{i:06d}.{group}{ORIGIN}"] = address(i)
+    return hosts, cuts
+
+
+def addresses(hosts):
+    return [f"add {host} 300 A {data}" for host, data in hosts.items()]
+
+
+def delegation(i, cut):
+    """A cut and its glue."""
+    return [f"add {cut} 3600 NS ns.{cut}", f"add ns.{cut} 3600 A {address(i)}"]
+
+
+SOA = f"add {ORIGIN} 3600 SOA ns.{ORIGIN} host.{ORIGIN} 1 7200 600 86400 300"
+
+
+def delegations(names):
+    """Lines that fill a zone of this many names, of which a fifth are cuts."""
+    hosts, cuts = hosts_and_cuts(names, 20)
+    adds = addresses(hosts) + [line for i, cut in enumerate(cuts) for line in delegation(i, cut)]
+    random.Random(names).shuffle(adds)
+    return [SOA, *adds]
+
+
 def workload(names, lookups):
     """A zone of this many names: 1 % are cuts with glue, and of the others every second one stands one level deeper,
     below a name that owns nothing. Beside them there is a wildcard, and for each hundred names a chain of two aliases
@@ -88,11 +204,7 @@ def workload(names, lookups):
     addresses. A tenth of the names are changed, in small zones up to half of them. So
     many lookups are different ones."""
     pick = random.Random(names)
-    cuts = [f"cut{i:06d}.{ORIGIN}" for i in range(max(1, names // 100))]
-    hosts = {}
-    for i in range(names - len(cuts)):
-        group = f"group{i % 997:03d}." if i % 2 else ""
-        hosts[f"host{i:06d}.{group}{ORIGIN}"] = address(i)
+    hosts, cuts = hosts_and_cuts(names, 1)
     count = max(1, names // 10, min(names // 2, 2500))
     aliases = [f"alias{i:06d}.{ORIGIN}" for i in range(count)]
     chains = [
@@ -118,9 +230,9 @@ def workload(names, lookups):
     services = [(f"service{i:06d}.{ORIGIN} 300 {{}}SRV 0 0 53 third{i:06d}.{ORIGIN}", chains[i][2]) for i in range(len(cuts))]
     flats = [(f"flat{i:06d}.{ORIGIN}", f"300 {{}}ANAME third{i:06d}.{ORIGIN}", chains[i][2]) for i in range(len(cuts))]
 
-    adds = [f"add {host} 300 A {data}" for host, data in hosts.items()]
+    adds = addresses(hosts)
     for i, cut in enumerate(cuts):
-        adds += [f"add {cut} 3600 NS ns.{cut}", f"add ns.{cut} 3600 A {address(i)}"]
+        adds += delegation(i, cut)
         adds += [f"add {link.format('')}" for link in chains[i]]
         adds += [f"add {services[i][0].format('')}", f"add {flats[i][0]} {flats[i][1].format('')}"]
         for data in ("TXT 61", "AAAA 2001:db8:0:0:0:0:0:1", "SRV 0 0 53 ns", "MX 10 ns"):
@@ -128,7 +240,7 @@ def workload(names, lookups):
     adds.append(f"add *.wild.{ORIGIN} 300 A 192.0.2.1")
     pick.shuffle(adds)
     adds += [f"add {record.format('')}" for mail in mails for record in mail]
-    adds.insert(0, f"add {ORIGIN} 3600 SOA ns.{ORIGIN} host.{ORIGIN} 1 7200 600 86400 300")
+    adds.insert(0, SOA)
 
     known = list(hosts)
     fewer = range(max(1, lookups // 4))
@@ -184,4 +296,10 @@ def workload(names, lookups):
         Phase("secure with two signers", ["key 8", "secure 1000"], ["ok", "ok 3"]),
     ]
     transfer = Phase("transfer", ["transfer"], [transferred(adds)])
-    return Workload(taken("add", adds), questions, changes, transfer, securings)
+    # (a name beside that of a host stands behind it, before all others)
+    beside = [host.replace(".", "x.", 1) for host in (pick.choice(known) for _ in fewer)]
+    denied = [
+        denied_zone("NSEC at 1 % cuts", adds, denials(adds, beside, without_text)),
+        denied_zone("NSEC at 20 % cuts", delegations(names), []),
+    ]
+    return Workload(taken("add", adds), questions, changes, transfer, securings, denied)
