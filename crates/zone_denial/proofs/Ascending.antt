@@ -28,7 +28,7 @@ Ascends-apart R (w ∷ xs) ys a x y (inr i) j = Ascends-apart R xs ys a.1 x y i 
 
 -- ---- as lists are sorted
 
-in_all : {K : Type 0} (P : K → Type 0) (xs : List K) → AllByRecursion P xs → (x : K) → In x xs → P x
+pub in_all : {K : Type 0} (P : K → Type 0) (xs : List K) → AllByRecursion P xs → (x : K) → In x xs → P x
 in_all P [] a x i = absurd i
 in_all P (y ∷ xs) a x (inl e) = subst P e a.0
 in_all P (y ∷ xs) a x (inr i) = in_all P xs a.1 x i

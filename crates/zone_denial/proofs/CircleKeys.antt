@@ -1,12 +1,13 @@
 -- One pass over the entries of a zone that finds the keys of the circle
-use Rattle.std.proofs.Common.{◌≡◌, ℕ, ◌==◌, ◌&&◌, ◌||◌, not, Bool, true, false, cond, List, [], ◌∷◌, ◌++◌, refl, sym, ap, ◌∙◌, true≢false, arith, ◌⊎◌, inl, inr, append_assoc, append-nil, Ordering, Less, Equal, Greater}
+use Rattle.std.proofs.Common.{◌≡◌, ℕ, ◌==◌, ◌&&◌, ◌||◌, not, Bool, true, false, cond, List, [], ◌∷◌, ◌++◌, refl, sym, ap, ◌∙◌, true≢false, arith, ◌⊎◌, inl, inr, append_assoc, append-nil, Less}
 use Rattle.std.specs.Prelude.{Option, Some, None, filter, option_map}
 use Rattle.std.specs.Borrow.{Bor}
 use Rattle.std.specs.Option.{option_map_or}
+use Rattle.std.specs.Cmp.{both_ways}
 use Rattle.std.specs.List.{list_any, cons_option}
 use Rattle.std.specs.List.Sorted.{IsStrictlySortedBy}
 use Rattle.std.specs.Map.{keys_of}
-use Rattle.std.specs.Ordering.{nat_cmp, ordering_then, is_le}
+use Rattle.std.specs.Ordering.{nat_cmp}
 use Rattle.std.proofs.lemmas.Bool.Decides.{nat_tests}
 use Rattle.zone_proto.specs.declared.rr_key.RrKey.{RrKey}
 use Rattle.zone_proto.specs.Keys.{key_cmp}
@@ -19,6 +20,7 @@ use Rattle.zone_proto.proofs.NameTree.{above_test, above_is_less}
 use Rattle.zone_proto.proofs.Orders.{irrefl, before_from_upto, upto_same}
 use Rattle.zone_proto.proofs.Tree.{name_order, together, above_cases}
 use Rattle.zone_map.specs.Zones.{Sets, owners, owns}
+use Rattle.zone_map.proofs.Lists.{then_upto}
 use Rattle.zone_map.proofs.Owned.{entry_owned}
 use Rattle.zone_denial.specs.Authority.{owns_besides}
 use Rattle.zone_denial.specs.AuthoritativeKeys.{is_circle_key, authoritative_keys}
@@ -42,11 +44,6 @@ kept origin cut [] = []
 kept origin cut (k ∷ ks) = cond (counts origin cut k) (k ∷ kept origin (next_cut origin cut k) ks) (kept origin (next_cut origin cut k) ks)
 
 -- ---- keys that ascend
-
-then_upto : (o p : Ordering) → ordering_then o p ≡ Less → is_le o ≡ true
-then_upto Less p h = refl
-then_upto Equal p h = refl
-then_upto Greater p h = absurd cc
 
 pub names_upto : (j k : RrKey) → key_cmp j k ≡ Less → is_upto name_cmp j.name k.name ≡ true
 names_upto j k h = then_upto (name_cmp j.name k.name) (nat_cmp j.record_type.0 k.record_type.0) h
@@ -105,11 +102,6 @@ abbrev Upto : Option Name → Name → Type 0
 Upto None n = Unit {0}
 Upto (Some a) n = is_upto name_cmp a n ≡ true
 
-same_tests : (p q : Bool) → (p ≡ true → q ≡ true) → (q ≡ true → p ≡ true) → p ≡ q
-same_tests true q f g = sym (f refl)
-same_tests false true f g = g refl
-same_tests false false f g = refl
-
 or_false : (b : Bool) → b || false ≡ b
 or_false true = refl
 or_false false = refl
@@ -134,7 +126,7 @@ module _ (origin : Name) where
   carried (Some a) k n before after = by (is_above a k.name) refl ((k.record_type.0 == NS) && is_above origin k.name)
     where
       by : (c : Bool) → is_above a k.name ≡ c → (b : Bool) → is_above a n || (b && is_above k.name n) ≡ below (cond c (Some a) (cond b (Some k.name) (Some a))) n
-      by true e true = same_tests (is_above a n || is_above k.name n) (is_above a n) (λ h. split h) (λ h. ap (λ x. x || is_above k.name n) h)
+      by true e true = both_ways (is_above a n || is_above k.name n) (is_above a n) (λ h. split h) (λ h. ap (λ x. x || is_above k.name n) h)
         where
           split : is_above a n || is_above k.name n ≡ true → is_above a n ≡ true
           split h = from (is_above a n) refl h
@@ -143,7 +135,7 @@ module _ (origin : Name) where
               from true q h = q
               from false q h = above_above a k.name n e h
       by true e false = or_false (is_above a n)
-      by false e true = same_tests (is_above a n || is_above k.name n) (is_above k.name n) (λ h. split (is_above a n) refl h) (λ h. later h)
+      by false e true = both_ways (is_above a n || is_above k.name n) (is_above k.name n) (λ h. split (is_above a n) refl h) (λ h. later h)
         where
           split : (d : Bool) → is_above a n ≡ d → d || is_above k.name n ≡ true → is_above k.name n ≡ true
           split true q h = below_later a k.name n before after e q

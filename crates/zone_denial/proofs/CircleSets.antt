@@ -16,6 +16,7 @@ use Rattle.zone_proto.proofs.KeyOrder.{key_same, key_itself}
 use Rattle.zone_proto.proofs.Members.{In, Contains-In, In-Contains, In-map, In-from_map, In-filter, In-from_filter, In-filter_map, In-from_filter_map, any_from_In, and_left, and_right}
 use Rattle.zone_proto.proofs.NameTree.{name_eq-Decides}
 use Rattle.zone_proto.proofs.Orders.{number_order, greatest_same}
+use Rattle.zone_proto.proofs.Tree.{name_order}
 use Rattle.zone_proto.proofs.SetLaws.{IsSet-alone}
 use Rattle.zone_map.specs.Zones.{Sets, last_at, names_of, types_at, owns, IsStoredAt, AreStored, IsZone}
 use Rattle.zone_map.proofs.Lists.{owner_lowered}
@@ -27,10 +28,10 @@ use Rattle.zone_denial.specs.NsecCircle.{nsec_next}
 use Rattle.zone_denial.specs.NsecLinks.{key_names, key_types, next_key_name, linked_set, AreLinked}
 use Rattle.zone_denial.specs.NsecSets.{nsec_data, new_set, nsec_set, nsec_set_at}
 use Rattle.zone_denial.specs.TypeLists.{in_order, nsec_types}
-use Rattle.zone_denial.proofs.InOrder.{in_order_same}
+use Rattle.zone_denial.proofs.InOrder.{flipped, in_order_same}
 use Rattle.zone_denial.proofs.AuthoritativeNames.{authoritative_listed, from_besides}
 use Rattle.zone_denial.proofs.CircleKeys.{key_owned}
-use Rattle.zone_denial.proofs.Linking.{back_names, linked}
+use Rattle.zone_denial.proofs.Linking.{linked}
 
 module _ (origin : Name) (m : Sets) (ks : List RrKey) (are : ks ≡ authoritative_keys origin m) where
   -- ---- the keys, and the names and types that they have
@@ -60,7 +61,7 @@ module _ (origin : Name) (m : Sets) (ks : List RrKey) (are : ks ≡ authoritativ
       let p = is_before name_cmp n in
       let on = authoritative_names origin m NSEC in
       ap (λ o. unwrap_or o origin)
-      (greatest_same back_names (filter p (key_names ks)) (filter p on)
+      (greatest_same (flipped name_order) (filter p (key_names ks)) (filter p on)
       (λ x i. let r = In-from_filter p x (key_names ks) i in In-filter p x on (authoritative_listed origin m NSEC x (name_from x r.0)) r.1)
       (λ x i. let r = In-from_filter p x on i in In-filter p x (key_names ks) (name_in x (In-from_filter (is_authoritative origin m NSEC) x (names_of m) r.0).1) r.1))
 

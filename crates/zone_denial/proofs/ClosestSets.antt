@@ -20,11 +20,12 @@ use Rattle.zone_proto.specs.Sets.{RRset}
 use Rattle.zone_proto.specs.Types.{NSEC}
 use Rattle.zone_proto.proofs.KeyLaws.{key_cmp_total}
 use Rattle.zone_proto.proofs.KeyOrder.{key_same}
-use Rattle.zone_proto.proofs.Members.{In, In-Contains, Contains-In, In-filter, In-from_filter, and_left, and_right}
+use Rattle.zone_proto.proofs.Members.{In, In-Contains, Contains-In, In-map, In-filter, In-from_filter, and_left, and_right}
 use Rattle.zone_proto.proofs.Orders.{greatest_from, greatest_is, IsTop}
 use Rattle.zone_proto.proofs.Tree.{name_order}
 use Rattle.zone_map.specs.Zones.{Sets, set_at, owners}
 use Rattle.zone_map.proofs.Owned.{entry_owned, owner_in, owner_owned, set_of}
+use Rattle.zone_denial.proofs.Ascending.{in_all}
 use Rattle.zone_denial.specs.NsecCircle.{next_of}
 use Rattle.zone_denial.specs.NsecDenial.{goes_past, reaches, closest_owner, closest_nsec}
 
@@ -60,9 +61,7 @@ module _ {A : Type 0} (p : A → Bool) where
 -- ---- the last entry of a map in order
 
 above_all : (k : RrKey) (m : Sets) (f : RrKey × RRset) → AllByRecursion (λ q. key_cmp k q ≡ Less) (keys_of m) → In f m → key_cmp k f.0 ≡ Less
-above_all k [] f a i = absurd i
-above_all k (e ∷ m) f a (inl same) = ap (λ (x : RrKey × RRset). key_cmp k x.0) (sym same) ∙ a.0
-above_all k (e ∷ m) f a (inr i) = above_all k m f a.1 i
+above_all k m f a i = in_all (λ q. key_cmp k q ≡ Less) (keys_of m) a f.0 (In-map (λ (e : RrKey × RRset). e.0) f m i)
 
 not_itself : (k : RrKey) → key_cmp k k ≡ Less → ⊥
 not_itself k less = true≢false (sym (ap is_lt less) ∙ ap is_lt (tied_itself key_cmp_total k))

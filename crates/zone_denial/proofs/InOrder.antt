@@ -7,15 +7,11 @@ use Rattle.std.proofs.lemmas.Cmp.{back_total}
 use Rattle.zone_proto.proofs.Members.{In, In-Contains, Contains-In}
 use Rattle.zone_proto.proofs.Orders.{IsOrder, Side, before, same, after, side, irrefl, asym}
 use Rattle.zone_denial.specs.TypeLists.{joined, in_order}
+use Rattle.zone_denial.proofs.Ascending.{in_all}
 
 -- the least of a list is the greatest of the order the other way round
 pub flipped : {K : Type 0} {R : K → K → Ordering} → IsOrder R → IsOrder (flip_args R)
 flipped o = record { total = back_total o.total; exact = λ x y e. sym (o.exact y x e) }
-
-element_has : {K : Type 0} (P : K → Type 0) (x : K) (xs : List K) → AllByRecursion P xs → In x xs → P x
-element_has P x [] a i = absurd i
-element_has P x (y ∷ xs) a (inl e) = subst P e a.0
-element_has P x (y ∷ xs) a (inr i) = element_has P x xs a.1 i
 
 module _ {K : Type 0} {R : K → K → Ordering} (o : IsOrder R) where
   -- ---- a list in order has the elements of the list
@@ -106,7 +102,7 @@ module _ {K : Type 0} {R : K → K → Ordering} (o : IsOrder R) where
 
   first_not_later : (u v : K) (vs : List K) → AllByRecursion (λ w. R v w ≡ Less) vs → R u v ≡ Less → In u (v ∷ vs) → ⊥
   first_not_later u v vs a e (inl q) = irrefl o u (ap (R u) (sym q) ∙ e)
-  first_not_later u v vs a e (inr i) = asym o u v e (element_has (λ w. R v w ≡ Less) u vs a i)
+  first_not_later u v vs a e (inr i) = asym o u v e (in_all (λ w. R v w ≡ Less) vs a u i)
 
   among_later : (u v : K) (vs : List K) (w : K) → R u w ≡ Less → u ≡ v → In w (v ∷ vs) → In w vs
   among_later u v vs w l e (inl q) = absurd (irrefl o u (ap (R u) (e ∙ q) ∙ l))
@@ -120,8 +116,8 @@ module _ {K : Type 0} {R : K → K → Ordering} (o : IsOrder R) where
   ascending_same (x ∷ xs) (y ∷ ys) a b f g =
       let e = first (side o x y) in
       let rest = ascending_same xs ys a.1 b.1
-      (λ w i. among_later x y ys w (element_has (λ w. R x w ≡ Less) w xs a.0 i) e (f w (inr i)))
-      (λ w i. among_later y x xs w (element_has (λ w. R y w ≡ Less) w ys b.0 i) (sym e) (g w (inr i))) in
+      (λ w i. among_later x y ys w (in_all (λ w. R x w ≡ Less) xs a.0 w i) e (f w (inr i)))
+      (λ w i. among_later y x xs w (in_all (λ w. R y w ≡ Less) ys b.0 w i) (sym e) (g w (inr i))) in
       λ i. e i ∷ rest i
     where
       first : Side R x y → x ≡ y

@@ -2,7 +2,7 @@
 use Rattle.std.proofs.Common.{◌≡◌, ℕ, Bool, true, false, cond, List, [], ◌∷◌, ◌++◌, map, get_or, refl, sym, ap, ◌∙◌, subst, ◌⊎◌, inl, inr, Less, is_lt}
 use Rattle.std.specs.Prelude.{Option, Some, None, filter, unwrap_or}
 use Rattle.std.specs.List.{Contains}
-use Rattle.std.specs.Ordering.{nat_cmp, ordering_then, flip_args}
+use Rattle.std.specs.Ordering.{nat_cmp, ordering_then}
 use Rattle.std.proofs.lemmas.List.Elements.{Contains-get_or}
 use Rattle.zone_proto.specs.declared.rr_key.RrKey.{RrKey}
 use Rattle.zone_proto.specs.Keys.{key, key_cmp}
@@ -12,7 +12,7 @@ use Rattle.zone_proto.specs.Sets.{RRset}
 use Rattle.zone_proto.specs.Types.{RRSIG, NSEC}
 use Rattle.zone_proto.proofs.Members.{In, In-Contains, Contains-In, In-map, In-from_map, In-filter, In-from_filter, In-filter_map, In-from_filter_map, In-from_append, In-append_left, In-append_right}
 use Rattle.zone_proto.proofs.NameTree.{name_eq-Decides, name_itself}
-use Rattle.zone_proto.proofs.Orders.{IsOrder, irrefl, asym, upto_cases, before_from_upto, less_test, greatest_is, greatest_from, number_order}
+use Rattle.zone_proto.proofs.Orders.{irrefl, asym, upto_cases, before_from_upto, less_test, greatest_is, greatest_from, number_order}
 use Rattle.zone_proto.proofs.Tree.{name_order}
 use Rattle.zone_map.specs.Zones.{Sets, names_of}
 use Rattle.zone_denial.specs.NsecSets.{nsec_data, new_set}
@@ -34,16 +34,12 @@ before_upto x y z h k = by (upto_cases name_order y z k)
     by (inl e) = ap (name_cmp x) (sym e) ∙ h
     by (inr e) = name_order.total.trans x y z h e
 
--- the order of names the other way round
-pub back_names : IsOrder (flip_args name_cmp)
-back_names = flipped name_order
-
 least_of_none : (xs : List Name) → ((x : Name) → In x xs → ⊥) → least name_cmp xs ≡ None
 least_of_none xs h = by (least name_cmp xs) refl
   where
     by : (o : Option Name) → least name_cmp xs ≡ o → o ≡ None
     by None e = refl
-    by (Some x) e = absurd (h x (greatest_is back_names xs x e).among)
+    by (Some x) e = absurd (h x (greatest_is (flipped name_order) xs x e).among)
 
 -- ---- the keys of one name in front of others
 
@@ -147,7 +143,7 @@ module _ (origin : Name) (ks : List RrKey) (ttl serial : ℕ) where
             let among : In q others = subst (λ (rs : List RrKey). In q rs) (sym e) (inl refl) in
             let listed = In-map (λ (k : RrKey). k.name) q ks (so_far.within q (In-append_right q own others among)) in
             ap (λ o. unwrap_or o origin)
-            (greatest_from back_names (filter (is_before name_cmp n) (key_names ks)) q.name (record {
+            (greatest_from (flipped name_order) (filter (is_before name_cmp n) (key_names ks)) q.name (record {
               among = In-filter (is_before name_cmp n) q.name (key_names ks) listed (ap is_lt (after q among));
               none_greater = λ x i l. none_less q qs e x i l;
             }))

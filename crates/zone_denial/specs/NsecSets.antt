@@ -29,7 +29,7 @@ module _ (origin : Name) (m : Sets) (ttl serial : ℕ) where
   abbrev pub nsec_set_at : Name → ℕ → Option RRset
   nsec_set_at n t = cond ((t == NSEC) && is_authoritative origin m NSEC n) (Some (nsec_set n)) None
 
-  -- a map in which they stand in the place of the NSEC sets that were there, and each other set as it was, changes of data, serials and signatures in the other ones aside
+  -- a map in which they stand in the place of the NSEC sets that were there, signatures aside, and in which each name owns the same other types as before
   pub record HasNsecSets (after : Sets) : Type 0 where
     pub others : (n : Name) (t : ℕ) → (t == NSEC) ≡ Bool.false → owns after n t ≡ owns m n t
     pub denials : (n : Name) → option_map (λ (s : RRset). s.records) (set_at after n NSEC) ≡ option_map (λ (s : RRset). s.records) (nsec_set_at n NSEC)

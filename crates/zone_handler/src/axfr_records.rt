@@ -36,7 +36,7 @@ impl AxfrRecords {
         }
     }
 
-    /// These records in their order, but none of type SOA. Takes no memory.
+    /// These records in their order, but none of type SOA (RFC 5936 section 2.2). Takes no memory.
     pub fn of_records(records: Vec<Record>) -> AxfrRecords
         ensures { result ≡ without_soa records.items }
     {

@@ -75,7 +75,7 @@ owners_ascend (e ∷ m) t s = by (t == e.0.record_type.0) refl (owners_ascend m 
 
 -- ---- the names ascend
 
-then_upto : (o p : Ordering) → ordering_then o p ≡ Less → is_le o ≡ true
+pub then_upto : (o p : Ordering) → ordering_then o p ≡ Less → is_le o ≡ true
 then_upto Less p h = refl
 then_upto Equal p h = refl
 then_upto Greater p h = absurd cc

@@ -19,8 +19,8 @@ pub fn sign_set<S: Signer>(set: &mut RecordSet, signers: &[S], now: u64) -> Resu
     Ok(())
 }
 
-/// The signatures of a set by each signer in order, at the moment `now`; one that declines is passed over. Those that the set
-/// has are never signed. Refused by `Memory` alone, of a signer too.
+/// The signatures of a set by each signer in order, at the moment `now`, in seconds since 1970 (RFC 4034 section 3); one that
+/// declines is passed over. Those that the set has are never signed. Refused by `Memory` alone, of a signer too.
 pub fn signatures_of<S: Signer>(
     set: &RecordSet,
     signers: &[S],

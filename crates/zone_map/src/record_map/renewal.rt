@@ -9,7 +9,8 @@ use zone_proto::{RecordSet, RrKey, Rrsigs};
 
 impl RecordMap {
     /// Puts signatures in the place of those that the sets have: the first ones into the first set in the order of the keys,
-    /// and so on. The set under `apex` has its serial stepped as [`RecordSet::step_serial`] says. Takes no memory.
+    /// and so on; the caller hands in as many as there are sets. The set under `apex` has its serial stepped as
+    /// [`RecordSet::step_serial`] says. Takes no memory.
     pub fn renew(&mut self, apex: &RrKey, rrsigs: Vec<Rrsigs>)
         requires { length rrsigs.items ≡ length self.old }
         ensures sets { self.new ≡ renewed apex.now self.old rrsigs.items }
