@@ -203,3 +203,13 @@ module _ (m : Sets) (r : Record) (serial : ℕ) (absent : set_at m (lower r.name
 pub taken_set : (o : Option RRset) (s w : RRset) (b : Bool) → b ≡ is_some o → b ≡ true → w ≡ unwrap_or o s → o ≡ Some w
 taken_set None s w b e t h = absurd (true≢false (sym t ∙ e))
 taken_set (Some v) s w b e t h = ap Some (sym h)
+
+-- ---- a record whose type clashes with one that its name owns isn't taken
+
+pub clash_is_not_taken : (m : Sets) (class : ℕ) (r : Record) (serial : ℕ) → clashes m (lower r.name) (type_of r.rdata) ≡ true → upserted m class r serial ≡ None
+clash_is_not_taken m class r serial h =
+    ap (λ (b : Bool). cond ((r.dns_class.0 == class) && not b) (with_record m r serial) None) h ∙ by (r.dns_class.0 == class)
+  where
+    by : (same : Bool) → cond (same && not true) (with_record m r serial) None ≡ None
+    by true = refl
+    by false = refl

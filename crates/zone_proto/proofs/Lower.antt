@@ -1,11 +1,11 @@
 -- A loop that writes f of each element in its place.
 use Rattle.std.proofs.Common.{◌≡◌, ℕ, zero, suc, ◌+◌, ◌<◌, List, [], ◌∷◌, ◌++◌, length, map, take, drop, get_or, set, refl, sym, ap, ◌∙◌, arith}
-use Rattle.std.specs.List.{AllByRecursion}
+use Rattle.std.specs.List.{AllByRecursion, refill}
 use Rattle.zone_proto.specs.Ranges.{IsOctet}
 use Rattle.zone_proto.specs.Names.{IsLabel, IsName, IsLowerName, lower, wire_length}
 use Rattle.std.specs.Char.{to_ascii_lowercase}
 use Rattle.std.proofs.lemmas.Bool.Decides.{nat_tests}
-use Rattle.std.proofs.lemmas.List.{map-set, length-map, take_more_set, drop-set-lt, drop_more, append_assoc, take_all, drop_all, append-nil}
+use Rattle.std.proofs.lemmas.List.{map-set, length-map, take_more_set, drop-set-lt, drop_more, append_assoc, take_all, take_at, drop_all, append-nil}
 
 module _ {A : Type 0} (f : A → A) where
   -- the first i are written
@@ -38,6 +38,10 @@ label_written items vs i x y h at low =
     (λ t. written (map to_ascii_lowercase) (map-set items vs i y t) (i + 1))
     ∙ (λ t. written (map to_ascii_lowercase) (set (map items vs) i (same t)) (i + 1))
     ∙ written_more (map to_ascii_lowercase) (map items vs) i [] l
+
+-- octets that are written again, in lower case, in the place of all that were there
+pub lowered : (n : ℕ) (xs ws : List ℕ) → length xs ≡ n → ws ≡ map to_ascii_lowercase xs → refill n xs ws ≡ map to_ascii_lowercase xs
+lowered n xs ws h low = take_at ws (drop (length ws) xs) n (omega (arith, ap length low, length-map xs to_ascii_lowercase, h)) ∙ low
 
 -- ---- lower case keeps a name a name, and putting into lower case again changes nothing
 

@@ -142,6 +142,15 @@ inserted_taken s r serial i k p =
     inserted_is s r serial i k
     ∙ ap (λ (b : Bool). if b then None else Some (with_records s (records_with s.records r) r serial)) p
 
+pub inserted_refused : (s : RRset) (r : Record) (serial : ℕ)
+    → IsSet s.owner s.record_type s.records
+    → type_of r.rdata ≡ s.record_type
+    → is_refused s.records r.rdata ≡ true
+    → inserted s r serial ≡ None
+inserted_refused s r serial i k p =
+    inserted_is s r serial i k
+    ∙ ap (λ (b : Bool). if b then None else Some (with_records s (records_with s.records r) r serial)) p
+
 -- what is common to all insertions that take a record
 pub record IsAfter (s : RRset) (r : Record) (n : ℕ) (t : RRset) : Type 0 where
   pub owner : t.owner ≡ s.owner

@@ -14,12 +14,13 @@ use crate::packed::Packed;
 use std::alloc::{AllocError, Global};
 use std::cmp::Ordering;
 
-/// How the labels of a name are kept: the first ones each by itself, as they were handed over or because one has an
-/// octet 0, and the rest in one piece. What takes memory leaves no label to the list if none has an octet 0.
+/// How the labels of a name are kept.
 #[derive(Debug, Drop)]
-pub(crate) struct Form {
-    listed: Vec<Vec<u8>>,
-    packed: Packed,
+pub(crate) enum Form {
+    /// Each by itself, as they were handed over, or because one has an octet 0.
+    Listed(Vec<Vec<u8>>),
+    /// All in one piece.
+    InOnePiece(Packed),
 }
 
 impl Form {
@@ -27,82 +28,63 @@ impl Form {
     pub(crate) fn root(alloc: Global) -> Form
         ensures { labels_of result ≡ [] }
     {
-        Form {
-            listed: Vec::new(alloc),
-            packed: Packed::root(alloc),
-        }
-    }
-
-    /// These labels, as they are. Takes no memory.
-    pub(crate) fn list(labels: Vec<Vec<u8>>) -> Form
-        ensures { labels_of result ≡ octets_of labels.items }
-    {
-        let packed = Packed::root(*labels.allocator());
-        Form {
-            listed: labels,
-            packed,
-        }
-    }
-
-    /// The labels of one piece.
-    fn piece(packed: Packed) -> Form
-        ensures { labels_of result ≡ packed }
-    {
-        Form {
-            listed: Vec::new(packed.alloc()),
-            packed,
-        }
+        Form::InOnePiece(Packed::root(alloc))
     }
 
     /// Lends the labels.
     pub(crate) fn labels(&self) -> Labels<'_>
         ensures { result ≡ labels_of self.now }
     {
-        Labels::new(&self.listed, &self.packed)
+        match self {
+            Form::Listed(listed) => Labels::of_list(listed),
+            Form::InOnePiece(packed) => Labels::of_piece(packed),
+        }
     }
 
     /// Whether there is no label.
     pub(crate) fn is_root(&self) -> bool
         ensures { IsTrue result ↔ (labels_of self.now ≡ []) }
     {
-        self.listed.is_empty() && self.packed.is_root()
+        match self {
+            Form::Listed(listed) => listed.is_empty(),
+            Form::InOnePiece(packed) => packed.is_root(),
+        }
     }
 
     /// The allocator that the labels were made with.
     pub(crate) fn alloc(&self) -> Global {
-        *self.listed.allocator()
+        match self {
+            Form::Listed(listed) => *listed.allocator(),
+            Form::InOnePiece(packed) => packed.alloc(),
+        }
     }
 
     /// The same labels, in one piece if none has an octet 0.
     pub(crate) fn in_one_piece(self) -> Result<Form, AllocError>
         ensures { IfOk result (λ f. labels_of f ≡ labels_of self) }
     {
-        let Form { listed, packed } = self;
-        if packed.is_root() {
-            return pack_list(listed);
+        match self {
+            Form::Listed(listed) => pack_list(listed),
+            Form::InOnePiece(packed) => Ok(Form::InOnePiece(packed)),
         }
-        Ok(Form { listed, packed })
     }
 
-    /// A copy.
+    /// A copy, in one piece if no label has an octet 0.
     pub(crate) fn copy(&self) -> Result<Form, AllocError>
         ensures { IfOk result (λ f. labels_of f ≡ labels_of self.now) }
     {
-        if self.listed.is_empty() {
-            return Ok(Form::piece(self.packed.clone()?));
+        match self {
+            Form::Listed(listed) => copy_list(listed),
+            Form::InOnePiece(packed) => Ok(Form::InOnePiece(packed.clone()?)),
         }
-        let labels = self.labels();
-        let mut copies = Vec::with_capacity(self.alloc(), labels.len())?;
-        push_copies(&mut copies, labels)?;
-        pack_list(copies)
     }
 
     /// A copy with one more label before the first.
     pub(crate) fn child(&self, label: &[u8]) -> Result<Form, AllocError>
         ensures { IfOk result (λ f. labels_of f ≡ label.now ∷ labels_of self.now) }
     {
-        if self.listed.is_empty() && is_inner(label) {
-            return Ok(Form::piece(self.packed.child(label)?));
+        if let Form::InOnePiece(packed) = self && is_inner(label) {
+            return Ok(Form::InOnePiece(packed.child(label)?));
         }
         let labels = self.labels();
         let mut copies = Vec::with_capacity(self.alloc(), 1)?;
@@ -115,10 +97,9 @@ impl Form {
     pub(crate) fn shorten(&mut self)
         ensures { labels_of self.new ≡ drop 1 (labels_of self.old) }
     {
-        if self.listed.is_empty() {
-            self.packed.shorten();
-        } else {
-            let _ = self.listed.remove(0);
+        match self {
+            Form::Listed(listed) => drop_first(listed),
+            Form::InOnePiece(packed) => packed.shorten(),
         }
     }
 
@@ -127,11 +108,9 @@ impl Form {
         requires { IsName (labels_of self.old) }
         ensures { labels_of self.new ≡ wildcard_of (labels_of self.old) }
     {
-        if let Some(label) = self.listed.first_mut() {
-            label.truncate(1);
-            label[0] = b'*';
-        } else {
-            self.packed.make_wildcard();
+        match self {
+            Form::Listed(listed) => star_first(listed),
+            Form::InOnePiece(packed) => packed.make_wildcard(),
         }
     }
 
@@ -139,8 +118,10 @@ impl Form {
     pub(crate) fn lower(&mut self)
         ensures { labels_of self.new ≡ lower (labels_of self.old) }
     {
-        lower_all(&mut self.listed);
-        self.packed.lower();
+        match self {
+            Form::Listed(listed) => lower_all(listed),
+            Form::InOnePiece(packed) => packed.lower(),
+        }
     }
 
     /// The canonical order, of names in lower case.
@@ -149,30 +130,59 @@ impl Form {
         requires other { lower (labels_of other.now) ≡ labels_of other.now }
         ensures { result ≡ name_cmp (labels_of self.now) (labels_of other.now) }
     {
-        if self.listed.is_empty() && other.listed.is_empty() {
-            return self.packed.compare(&other.packed);
+        match (self, other) {
+            (Form::InOnePiece(own), Form::InOnePiece(theirs)) => own.compare(theirs),
+            _ => compare_labels(self.labels(), other.labels()),
         }
-        compare_labels(self.labels(), other.labels())
     }
 
     /// The canonical order, the case of letters ignored.
     pub(crate) fn compare_caseless(&self, other: &Form) -> Ordering
         ensures { result ≡ caseless_cmp (labels_of self.now) (labels_of other.now) }
     {
-        if self.listed.is_empty() && other.listed.is_empty() {
-            return self.packed.compare_caseless(&other.packed);
+        match (self, other) {
+            (Form::InOnePiece(own), Form::InOnePiece(theirs)) => own.compare_caseless(theirs),
+            _ => compare_labels(self.labels(), other.labels()),
         }
-        compare_labels(self.labels(), other.labels())
     }
 
     /// Whether the other name is this one or below it, the case of letters ignored.
     pub(crate) fn zone_of(&self, other: &Form) -> bool
         ensures { IsTrue result ↔ IsAtOrAbove (lower (labels_of self.now)) (lower (labels_of other.now)) }
     {
-        if self.listed.is_empty() && other.listed.is_empty() {
-            return self.packed.zone_of(&other.packed);
+        match (self, other) {
+            (Form::InOnePiece(own), Form::InOnePiece(theirs)) => own.zone_of(theirs),
+            _ => labels_are_above(self.labels(), other.labels()),
         }
-        labels_are_above(self.labels(), other.labels())
+    }
+}
+
+/// A copy of the labels, in one piece if none has an octet 0.
+fn copy_list(labels: &Vec<Vec<u8>>) -> Result<Form, AllocError>
+    ensures { IfOk result (λ f. labels_of f ≡ octets_of labels.now.items) }
+{
+    let mut copies = Vec::with_capacity(*labels.allocator(), labels.len())?;
+    push_copies(&mut copies, Labels::of_list(labels))?;
+    pack_list(copies)
+}
+
+/// Takes the first label away, if there is one.
+fn drop_first(labels: &mut Vec<Vec<u8>>)
+    ensures { octets_of labels.new.items ≡ drop 1 (octets_of labels.old.items) }
+{
+    if !labels.is_empty() {
+        let _ = labels.remove(0);
+    }
+}
+
+/// Replaces the first label by `*`, if there is one.
+fn star_first(labels: &mut Vec<Vec<u8>>)
+    requires { IsName (octets_of labels.old.items) }
+    ensures { octets_of labels.new.items ≡ wildcard_of (octets_of labels.old.items) }
+{
+    if let Some(label) = labels.first_mut() {
+        label.truncate(1);
+        label[0] = b'*';
     }
 }
 
@@ -181,9 +191,9 @@ fn pack_list(labels: Vec<Vec<u8>>) -> Result<Form, AllocError>
     ensures { IfOk result (λ f. labels_of f ≡ octets_of labels.items) }
 {
     if is_packable(&labels) {
-        return Ok(Form::piece(Packed::pack(*labels.allocator(), &labels)?));
+        return Ok(Form::InOnePiece(Packed::pack(*labels.allocator(), &labels)?));
     }
-    Ok(Form::list(labels))
+    Ok(Form::Listed(labels))
 }
 
 /// Whether the label has no octet 0.

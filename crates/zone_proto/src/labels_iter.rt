@@ -26,12 +26,22 @@ impl<'n> Model for Labels<'n> {
 }
 
 impl<'n> Labels<'n> {
-    /// The labels of a list, and then those of a name in one piece.
-    pub(crate) fn new(listed: &'n [Vec<u8>], packed: &'n Packed) -> Labels<'n>
-        ensures { result ≡ octets_of listed.now ++ packed.now }
+    /// The labels of a list.
+    pub(crate) fn of_list(listed: &'n [Vec<u8>]) -> Labels<'n>
+        ensures { result ≡ octets_of listed.now }
     {
         Labels {
             listed,
+            packed: &[],
+        }
+    }
+
+    /// The labels of a name in one piece.
+    pub(crate) fn of_piece(packed: &'n Packed) -> Labels<'n>
+        ensures { result ≡ packed.now }
+    {
+        Labels {
+            listed: &[],
             packed: packed.octets(),
         }
     }

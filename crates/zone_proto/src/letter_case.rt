@@ -4,11 +4,11 @@ ghost use Rattle.std.specs.Char.{to_ascii_lowercase};
 ghost use Rattle.zone_proto.specs.Names.{lower};
 ghost use Rattle.zone_proto.specs.Vectors.{octets_of};
 
-/// Puts the letters of a label into lower case.
-pub(crate) fn lower_label(label: &mut Vec<u8>)
-    ensures { label.new.items ≡ map to_ascii_lowercase label.old.items }
+/// Puts the letters among octets into lower case.
+pub(crate) fn lower_octets(octets: &mut [u8])
+    ensures { octets.new ≡ map to_ascii_lowercase octets.old }
 {
-    for octet in label.iter_mut() {
+    for octet in octets.iter_mut() {
         octet.make_ascii_lowercase();
     }
 }
@@ -18,6 +18,6 @@ pub(crate) fn lower_all(labels: &mut Vec<Vec<u8>>)
     ensures { octets_of labels.new.items ≡ lower (octets_of labels.old.items) }
 {
     for i in 0..labels.len() {
-        lower_label(&mut labels[i]);
+        lower_octets(&mut labels[i]);
     }
 }

@@ -61,7 +61,7 @@ impl Name {
     {
         check_labels(&labels)?;
         Ok(Name {
-            form: Form::list(labels),
+            form: Form::Listed(labels),
         })
     }
 

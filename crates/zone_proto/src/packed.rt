@@ -9,16 +9,17 @@ ghost use Rattle.zone_proto.specs.Names.{lower, name_cmp, caseless_cmp, wildcard
 ghost use Rattle.zone_proto.specs.Packing.{packing, name_of, IsPacking, IsPackable, IsInner};
 ghost use Rattle.zone_proto.specs.Vectors.{octets_of};
 
-use crate::letter_case::lower_label;
+use crate::letter_case::lower_octets;
 use crate::name_order::compare_label;
+use smallvec::SmallVec;
 use std::alloc::{AllocError, Global};
 use std::cmp::Ordering;
 use std::marker::Model;
 
-/// A name in one piece.
+/// A name in one piece. Up to 32 octets stand in the value itself, and take no memory.
 #[derive(Debug, Drop)]
 pub(crate) struct Packed {
-    octets: Vec<u8>,
+    octets: SmallVec<u8, 32>,
 }
 
 impl Model for Packed {
@@ -38,7 +39,7 @@ impl Packed {
         ensures { result ≡ [] }
     {
         Packed {
-            octets: Vec::new(alloc),
+            octets: SmallVec::new(alloc),
         }
     }
 
@@ -54,7 +55,7 @@ impl Packed {
         requires { IsPackable (octets_of labels.now) }
         ensures { IfOk result (λ p. p ≡ octets_of labels.now) }
     {
-        let mut octets = Vec::with_capacity(alloc, packed_length(labels))?;
+        let mut octets = SmallVec::with_capacity(alloc, packed_length(labels))?;
         let mut i = labels.len();
         while i > 0 {
             i -= 1;
@@ -69,7 +70,7 @@ impl Packed {
         requires { AllByRecursion IsInner label.now }
         ensures { IfOk result (λ p. p ≡ label.now ∷ self.now) }
     {
-        let mut octets = Vec::with_capacity(self.alloc(), self.octets.len() + label.len() + 1)?;
+        let mut octets = SmallVec::with_capacity(self.alloc(), self.octets.len().saturating_add(label.len()).saturating_add(1))?;
         octets.extend_from_slice(&self.octets)?;
         octets.extend_from_slice(label)?;
         octets.push(0)?;
@@ -99,7 +100,7 @@ impl Packed {
     pub(crate) fn lower(&mut self)
         ensures { self.new ≡ lower self.old }
     {
-        lower_label(&mut self.octets);
+        lower_octets(self.octets.as_mut_slice());
     }
 
     /// The canonical order, of names in lower case.
@@ -145,7 +146,7 @@ impl Packed {
         ensures { IfOk result (λ p. p ≡ self.now) }
     {
         Ok(Packed {
-            octets: Vec::from_slice(self.alloc(), &self.octets)?,
+            octets: SmallVec::from_slice(self.alloc(), &self.octets)?,
         })
     }
 }
@@ -172,7 +173,7 @@ fn first_label_at(octets: &[u8]) -> usize
 }
 
 /// Writes the label `*` from a place on, in place of all that stands there.
-fn overwrite(octets: &mut Vec<u8>, start: usize)
+fn overwrite(octets: &mut SmallVec<u8, 32>, start: usize)
     requires { start + 1 < length octets.old.items }
     ensures { octets.new.items ≡ take (start + 2) (set (set octets.old.items start 42) (start + 1) 0) }
 {

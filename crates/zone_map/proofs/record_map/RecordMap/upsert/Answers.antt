@@ -1,10 +1,21 @@
-use Rattle.std.proofs.Common.{◌≡◌, false, ap, sym, ◌∙◌}
+use Rattle.std.proofs.Common.{◌≡◌, true, false, is_some, unwrap_or, ap, sym, ◌∙◌}
 use Rattle.zone_proto.specs.declared.rr_key.RrKey.{RrKey}
 use Rattle.zone_proto.specs.Data.{type_of}
 use Rattle.zone_proto.specs.Names.{lower}
 use Rattle.zone_map.specs.Upserts.{clashes}
 use Rattle.zone_map.proofs.CnamesAlone.{alone_after}
+use Rattle.zone_map.proofs.Upserting.{clash_is_not_taken}
 use Rattle.zone_map.proofs.record_map.RecordMap.upsert.Goals as goal
+
+pub returns-then-standing-clause-insertion : goal.returns-then-standing-clause-insertion
+returns-then-standing-clause-insertion c =
+    let m = c.args.self.now in
+    let r = c.args.record in
+    let name : c.new-key.result.name ≡ lower r.name = ap (λ (k : RrKey). k.name) c.new-key.ensures.value ∙ c.in_ok-new.ensures.ok in
+    let clash : clashes m (lower r.name) (type_of r.rdata) ≡ true =
+    sym (λ i. clashes m (name i) (c.record_type-record_type.ensures i)) ∙ sym c.standing_at-standing.ensures.clashes ∙ c.if-standing.true in
+    let kept = clash_is_not_taken m c.args.dns_class.0 r c.args.serial clash in
+    record { answer = ap is_some (sym kept); after = ap (λ made. unwrap_or made m) (sym kept); err = tt; same = tt }
 
 pub returns-then-standing-2-clause-cnames : goal.returns-then-standing-2-clause-cnames
 returns-then-standing-2-clause-cnames c =

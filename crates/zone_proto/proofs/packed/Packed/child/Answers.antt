@@ -9,9 +9,9 @@ invariant_of-result c =
     let n : Name = name_of c.self.inside.octets.items in
     let l : List ℕ = c.args.label.now in
     let all : c.push.new.self.items ≡ packing (l ∷ n) =
-    c.in_ok-push.ensures.items
-    ∙ ap (λ z. z ++ 0 ∷ []) (c.in_ok-extend_from_slice-2.ensures.items
-    ∙ ap (λ z. z ++ l) (c.in_ok-extend_from_slice.ensures.items ∙ λ i. c.in_ok-octets.ensures.items i ++ (c.deref.ensures.value ∙ c.self.invariant.octets) i))
+    c.in_ok-push.ensures.ok
+    ∙ ap (λ z. z ++ 0 ∷ []) (c.in_ok-extend_from_slice-2.ensures.ok
+    ∙ ap (λ z. z ++ l) (c.in_ok-extend_from_slice.ensures.ok ∙ λ i. c.in_ok-octets.ensures.items i ++ (c.deref.ensures ∙ c.self.invariant.octets) i))
     ∙ append_assoc (packing n) l (0 ∷ []) in
     is_packing c.push.new.self.items (l ∷ n) (c.requires, c.self.invariant.packable) all
 
@@ -20,8 +20,8 @@ returns c =
     let n : Name = name_of c.self.inside.octets.items in
     let l : List ℕ = c.args.label.now in
     let all : c.push.new.self.items ≡ packing (l ∷ n) =
-    c.in_ok-push.ensures.items
-    ∙ ap (λ z. z ++ 0 ∷ []) (c.in_ok-extend_from_slice-2.ensures.items
-    ∙ ap (λ z. z ++ l) (c.in_ok-extend_from_slice.ensures.items ∙ λ i. c.in_ok-octets.ensures.items i ++ (c.deref.ensures.value ∙ c.self.invariant.octets) i))
+    c.in_ok-push.ensures.ok
+    ∙ ap (λ z. z ++ 0 ∷ []) (c.in_ok-extend_from_slice-2.ensures.ok
+    ∙ ap (λ z. z ++ l) (c.in_ok-extend_from_slice.ensures.ok ∙ λ i. c.in_ok-octets.ensures.items i ++ (c.deref.ensures ∙ c.self.invariant.octets) i))
     ∙ append_assoc (packing n) l (0 ∷ []) in
     is_name_of c.push.new.self.items (l ∷ n) (c.requires, c.self.invariant.packable) all ∙ ap (λ z. l ∷ z) c.self.view_is

@@ -9,5 +9,5 @@ pub returns : goal.returns
 returns c =
     rw (← c.self.view_is, ← c.other.view_is)
     (c.compare_label.ensures
-    ∙ (λ i. slice_cmp nat_cmp (map to_ascii_lowercase ((c.deref.ensures.value ∙ c.self.invariant.octets) i)) (map to_ascii_lowercase ((c.deref-2.ensures.value ∙ c.other.invariant.octets) i)))
+    ∙ (λ i. slice_cmp nat_cmp (map to_ascii_lowercase ((c.deref.ensures ∙ c.self.invariant.octets) i)) (map to_ascii_lowercase ((c.deref-2.ensures ∙ c.other.invariant.octets) i)))
     ∙ packing_caseless _ _ c.self.invariant.packable c.other.invariant.packable)

@@ -10,7 +10,7 @@ returns-then-own-len c =
     rw (← c.self.view_is, ← c.other.view_is) (
       λ t. cc,
       λ w. absurd (no_room c.self.inside.octets.items c.other.inside.octets.items _ _ c.self.invariant.octets c.other.invariant.octets
-          (omega (arith, c.if-own-len.true, c.len-own.ensures, c.len.ensures, c.self.inside.octets.ok.0, c.other.inside.octets.ok.0)) w),
+          (omega (arith, c.if-own-len.true, c.len-own.ensures.value, c.len.ensures.value)) w),
     )
 
 pub returns : goal.returns
@@ -19,4 +19,4 @@ returns c =
     (front_test c.self.inside.octets.items c.other.inside.octets.items _ _ c.is_eq.result c.self.invariant c.other.invariant
     (c.is_eq.ensures
     ∙ ap is_eq (c.compare_label.ensures
-    ∙ λ i. slice_cmp nat_cmp (map to_ascii_lowercase (c.deref.ensures.value i)) (map to_ascii_lowercase (take ((c.len-own.ensures ∙ c.self.inside.octets.ok.0) i) (c.deref-2.ensures.value i))))))
+    ∙ λ i. slice_cmp nat_cmp (map to_ascii_lowercase (c.deref.ensures i)) (map to_ascii_lowercase (take (c.len-own.ensures.value i) (c.deref-2.ensures i))))))

@@ -4,7 +4,7 @@ use Rattle.zone_proto.specs.Data.{type_of}
 use Rattle.zone_proto.specs.Sets.{RRset}
 use Rattle.zone_proto.specs.SetInside.{set_of}
 use Rattle.zone_proto.specs.Insertion.{is_refused}
-use Rattle.zone_proto.proofs.SetLaws.{IsSet-with, inserted_taken}
+use Rattle.zone_proto.proofs.SetLaws.{IsSet-with, inserted_taken, inserted_refused}
 use Rattle.zone_proto.proofs.record_set.RecordSet.insert.Goals as goal
 
 pub invariant_of-self-2 : goal.invariant_of-self-2
@@ -35,4 +35,10 @@ returns c =
     }
 
 pub returns-then-is_refused : goal.returns-then-is_refused
-returns-then-is_refused c = record { answer = search rules; after = search rules; err = tt; same = tt }
+returns-then-is_refused c =
+    let kind : type_of c.args.new.rdata ≡ c.self.inside.record_type.0 =
+    c.requires.kind ∙ sym (ap (λ (s : RRset). s.record_type) c.self.view_is) in
+    let refused : is_refused c.self.inside.records.items c.args.new.rdata ≡ true =
+    ap (λ rs. is_refused rs c.args.new.rdata) (sym c.as_slice.ensures.value) ∙ sym c.is_refused.ensures ∙ c.if-is_refused.true in
+    let kept = inserted_refused (set_of c.self.inside) c.args.new c.args.serial c.self.invariant.set kind refused in
+    record { answer = rw (← c.self.view_is, kept) refl; after = rw (← c.self.view_is, kept) refl; err = tt; same = tt }
