@@ -11,7 +11,7 @@ ghost use Rattle.zone_map.specs.Upserts.{upserted, with_record, clash, clashes, 
 mod entries;
 mod renewal;
 
-use std::alloc::{AllocFailed, Global};
+use std::alloc::Global;
 use std::collections::BTreeMap;
 use std::marker::Model;
 use zone_proto::{DNSClass, LowerName, ProtoError, Record, RecordSet, RecordType, RrKey};
@@ -88,7 +88,7 @@ impl RecordMap {
     {
         match self.sets.insert(key, set) {
             Ok(before) => Ok(before),
-            Err(refused) => Err(refused_set(refused)),
+            Err(failed) => Err(failed.value.1),
         }
     }
 
@@ -229,13 +229,6 @@ impl RecordMap {
             Err(_) => Err(ProtoError::Memory),
         }
     }
-}
-
-/// The set that found no room.
-fn refused_set(refused: AllocFailed<(RrKey, RecordSet)>) -> RecordSet
-    ensures { result ≡ refused.value.1 }
-{
-    refused.value.1
 }
 
 /// Whether a type is preferred to others in an answer to ANY.

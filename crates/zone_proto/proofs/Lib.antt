@@ -4,7 +4,6 @@ pub mod Packings
 pub mod FirstLabels
 pub mod Lower
 pub mod FromFront
-pub mod LabelFacts
 pub mod TextForms
 pub mod TextFaults
 pub mod RoundTrip

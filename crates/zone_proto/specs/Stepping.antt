@@ -1,5 +1,5 @@
 -- The next serial of a zone
-use Rattle.std.specs.Prelude.{ℕ, List, [], ◌∷◌, ◌+◌, ◌%◌, ◌^◌, unwrap_or}
+use Rattle.std.specs.Prelude.{List, [], ◌∷◌, ◌+◌, ◌%◌, ◌^◌, unwrap_or}
 use Rattle.zone_proto.specs.Sets.{RRset, first_serial}
 use Rattle.zone_proto.specs.declared.rdata.RData.{RData}
 use Rattle.zone_proto.specs.declared.rdata.RData.TheVariants as V

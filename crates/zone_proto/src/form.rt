@@ -15,12 +15,21 @@ use std::alloc::{AllocError, Global};
 use std::cmp::Ordering;
 
 /// How the labels of a name are kept.
-#[derive(Debug, Drop)]
+#[derive(Debug)]
 pub(crate) enum Form {
     /// Each by itself, as they were handed over, or because one has an octet 0.
     Listed(Vec<Vec<u8>>),
     /// All in one piece.
     InOnePiece(Packed),
+}
+
+/// A call of its own, so that the proofs of all that drop a name don't go into its forms.
+impl Drop for Form {
+    fn drop(self) {
+        match self {
+            Form::Listed(_) | Form::InOnePiece(_) => {}
+        }
+    }
 }
 
 impl Form {
@@ -83,7 +92,9 @@ impl Form {
     pub(crate) fn child(&self, label: &[u8]) -> Result<Form, AllocError>
         ensures { IfOk result (λ f. labels_of f ≡ label.now ∷ labels_of self.now) }
     {
-        if let Form::InOnePiece(packed) = self && is_inner(label) {
+        if let Form::InOnePiece(packed) = self
+            && is_inner(label)
+        {
             return Ok(Form::InOnePiece(packed.child(label)?));
         }
         let labels = self.labels();

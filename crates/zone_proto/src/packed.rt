@@ -70,7 +70,13 @@ impl Packed {
         requires { AllByRecursion IsInner label.now }
         ensures { IfOk result (λ p. p ≡ label.now ∷ self.now) }
     {
-        let mut octets = SmallVec::with_capacity(self.alloc(), self.octets.len().saturating_add(label.len()).saturating_add(1))?;
+        let mut octets = SmallVec::with_capacity(
+            self.alloc(),
+            self.octets
+                .len()
+                .saturating_add(label.len())
+                .saturating_add(1),
+        )?;
         octets.extend_from_slice(&self.octets)?;
         octets.extend_from_slice(label)?;
         octets.push(0)?;

@@ -22,7 +22,7 @@ use std::marker::Model;
 ///
 /// Of every set: its records have the set's owner, the case of letters aside, and its type; no two have equal data; a set
 /// of type SOA, CNAME or ANAME has at most one; and its signatures are of type RRSIG.
-#[derive(Debug, Drop)]
+#[derive(Debug)]
 pub struct RecordSet {
     name: Name,
     record_type: RecordType,
@@ -43,6 +43,21 @@ impl Model for RecordSet {
     ghost view = { set_of };
 
     ghost invariant = { IsSetInside };
+}
+
+/// A call of its own, so that the proofs of all that drop a set don't go into its parts.
+impl Drop for RecordSet {
+    fn drop(self) {
+        let RecordSet {
+            name: _,
+            record_type: _,
+            dns_class: _,
+            ttl: _,
+            serial: _,
+            records: _,
+            rrsigs: _,
+        } = self;
+    }
 }
 
 /// Sets are equal by owner, type, class, TTL, serial, records and signatures.

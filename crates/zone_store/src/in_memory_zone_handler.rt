@@ -42,7 +42,6 @@ const CLASS: DNSClass = DNSClass::IN;
 /// An authoritative zone in memory.
 ///
 /// `S` is what signs its record sets, and `H` hashes the names of NSEC3 denials.
-#[derive(Drop)]
 pub struct InMemoryZoneHandler<S: Signer, H: Nsec3Hash> {
     // The key of the zone's SOA, whose name is the origin: a look-up of the serial then needs no key of its own.
     apex: RrKey,
@@ -52,6 +51,21 @@ pub struct InMemoryZoneHandler<S: Signer, H: Nsec3Hash> {
     nx_proof_kind: Option<NxProofKind>,
     inner: InnerInMemory<S>,
     hash: H,
+}
+
+/// A call of its own, so that the proofs of all that drop a zone don't go into its parts.
+impl<S: Signer, H: Nsec3Hash> Drop for InMemoryZoneHandler<S, H> {
+    fn drop(self) {
+        let InMemoryZoneHandler {
+            apex: _,
+            class: _,
+            zone_type: _,
+            axfr_policy: _,
+            nx_proof_kind: _,
+            inner: _,
+            hash: _,
+        } = self;
+    }
 }
 
 impl<S: Signer, H: Nsec3Hash> Model for InMemoryZoneHandler<S, H> {

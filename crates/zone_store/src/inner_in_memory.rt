@@ -25,10 +25,19 @@ use zone_map::{RecordMap, search, wildcard};
 use zone_proto::{DNSClass, LowerName, ProtoError, Record, RecordSet, RecordType, RrKey, Signer};
 
 /// The record sets of a zone, by owner name and type, and the signers that sign them.
-#[derive(Drop)]
 pub struct InnerInMemory<S: Signer> {
     records: RecordMap,
     signers: Vec<S>,
+}
+
+/// A call of its own, so that the proofs of all that drop the sets of a zone don't go into its parts.
+impl<S: Signer> Drop for InnerInMemory<S> {
+    fn drop(self) {
+        let InnerInMemory {
+            records: _,
+            signers: _,
+        } = self;
+    }
 }
 
 impl<S: Signer> Model for InnerInMemory<S> {

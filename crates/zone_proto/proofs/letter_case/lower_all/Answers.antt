@@ -1,4 +1,4 @@
-use Rattle.std.proofs.Common.{◌≡◌, map, ap, sym, ◌<◌, length, ◌∙◌, rules}
+use Rattle.std.proofs.Common.{map, ap, sym, ◌<◌, length, ◌∙◌, rules}
 use Rattle.std.specs.Vec.{with_items}
 use Rattle.std.specs.Char.{to_ascii_lowercase}
 use Rattle.zone_proto.proofs.Lower.{label_written, lowered}

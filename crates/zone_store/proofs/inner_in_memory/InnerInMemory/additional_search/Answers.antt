@@ -2,7 +2,7 @@ use Rattle.std.proofs.Common.{◌≡◌, ◌==◌, true, ap, sym, ◌∙◌, sub
 use Rattle.std.specs.declared.alloc.Global.{Global}
 use Rattle.std.specs.declared.vec.Vec.{Vec}
 use Rattle.zone_store.specs.declared.found.Found.{Found}
-use Rattle.zone_proto.proofs.LabelFacts.{no_items}
+use Rattle.zone_proto.proofs.Members.{no_items}
 use Rattle.zone_store.specs.FoundSets.{found_set}
 use Rattle.zone_store.proofs.AdditionalRuns.{two_runs, one_run, two_listed, one_listed}
 use Rattle.zone_store.specs.Additionals.{AreAdditionals}
