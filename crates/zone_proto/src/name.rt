@@ -23,6 +23,8 @@ use std::marker::Model;
 /// A name is the list of its labels, leftmost first, and always absolute; the root has no label. A label has 1 to 63
 /// octets, and the wire form of the name at most 255 (RFC 1035 sections 2.3.4 and 3.1). Names are equal, ordered and
 /// hashed without the case of ASCII letters (RFC 4034 section 6.1, RFC 4343).
+///
+/// A name that was read or copied is copied without memory if its wire form has at most 33 octets and no label an octet 0.
 #[derive(Debug, Drop)]
 pub struct Name {
     form: Form,

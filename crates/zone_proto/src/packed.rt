@@ -16,10 +16,13 @@ use std::alloc::{AllocError, Global};
 use std::cmp::Ordering;
 use std::marker::Model;
 
-/// A name in one piece. Up to 32 octets stand in the value itself, and take no memory.
+/// Octets, of which up to 32 stand in the value itself and take no memory.
+type Octets = SmallVec<u8, 32>;
+
+/// A name in one piece.
 #[derive(Debug, Drop)]
 pub(crate) struct Packed {
-    octets: SmallVec<u8, 32>,
+    octets: Octets,
 }
 
 impl Model for Packed {
@@ -179,7 +182,7 @@ fn first_label_at(octets: &[u8]) -> usize
 }
 
 /// Writes the label `*` from a place on, in place of all that stands there.
-fn overwrite(octets: &mut SmallVec<u8, 32>, start: usize)
+fn overwrite(octets: &mut Octets, start: usize)
     requires { start + 1 < length octets.old.items }
     ensures { octets.new.items ≡ take (start + 2) (set (set octets.old.items start 42) (start + 1) 0) }
 {

@@ -90,9 +90,16 @@ fn refusals_of_short_answers(
     None
 }
 
-const INPUT: &[u8] = b"add www.example.com. 60 A 192.0.2.1\nlookup www.example.com. A\n";
+/// The name has more than 32 octets, so that its copies take memory.
+const INPUT: &[u8] = b"add www.names-of-more-than-32-octets.example.com. 60 A 192.0.2.1
+lookup www.names-of-more-than-32-octets.example.com. A
+";
 
-const ANSWERS: &[u8] = b"yes\nanswer 1\nwww.example.com. 60 IN A 192.0.2.1\nadditional 0\n";
+const ANSWERS: &[u8] = b"yes
+answer 1
+www.names-of-more-than-32-octets.example.com. 60 IN A 192.0.2.1
+additional 0
+";
 
 /// With ever more room: no memory for the first buffers, then none for the line, then for the query, then enough.
 /// A line to which memory is refused changes nothing, so the query after it finds nothing.
