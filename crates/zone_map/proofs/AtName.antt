@@ -1,5 +1,5 @@
 -- What stands at a name, as one pass over its entries finds it
-use Rattle.std.proofs.Common.{◌≡◌, ◌==◌, ◌||◌, eq-eqb, eqb-true, arith, ℕ, ◌<◌, ◌≤◌, map, Bool, true, false, cond, List, [], ◌∷◌, refl, sym, ap, ◌∙◌, subst, true≢false}
+use Rattle.std.proofs.Common.{◌≡◌, ◌==◌, ◌||◌, eq-eqb, eqb-true, arith, ℕ, ◌<◌, map, Bool, true, false, cond, List, [], ◌∷◌, refl, sym, ap, ◌∙◌, subst, true≢false}
 use Rattle.std.specs.Prelude.{Option, Some, None, find, is_some, option_and_then, option_map}
 use Rattle.std.specs.Cmp.{both_ways}
 use Rattle.std.specs.List.{list_any, cons_option, AllByRecursion}
@@ -135,12 +135,12 @@ only_type m n t = by (find (λ u. t == u) (types_at m n)) refl
 
 -- ---- where a greater type was passed
 
-not_later : (t u : ℕ) (ts : List ℕ) → t ≤ u → AllByRecursion (λ v. u < v) ts → list_any (λ v. t == v) ts ≡ false
-not_later t u [] h a = refl
-not_later t u (v ∷ ts) h a = ap (λ b. b || list_any (λ v. t == v) ts) (other t v (omega (arith, h, a.0))) ∙ not_later t u ts h a.1
-  where
-    other : (t v : ℕ) → t < v → (t == v) ≡ false
-    other t v h = grind (arith, nat_tests)
+pub later_differs : (t v : ℕ) → t < v → (t == v) ≡ false
+later_differs t v h = grind (arith, nat_tests)
+
+not_later : (p : ℕ → Bool) (u : ℕ) (ts : List ℕ) → ((v : ℕ) → u < v → p v ≡ false) → AllByRecursion (λ v. u < v) ts → list_any p ts ≡ false
+not_later p u [] h a = refl
+not_later p u (v ∷ ts) h a = ap (λ b. b || list_any p ts) (h v a.0) ∙ not_later p u ts h a.1
 
 none_found : (p : ℕ → Bool) (es : Sets) → list_any p (map (λ e. e.0.record_type.0) es) ≡ false → option_map (λ e. e.1) (find (λ e. p e.0.record_type.0) es) ≡ None
 none_found p [] h = refl
@@ -159,11 +159,12 @@ module _ (n : Name) (s t : Sets) (e : RrKey × RRset) (is : s ≡ e ∷ t) (same
   pub rest_ascends : Ascends (front_types n t)
   rest_ascends = ascend_on.1
 
-  pub none_noted : (u : ℕ) → u ≤ e.0.record_type.0 → list_any (λ v. u == v) (front_types n t) ≡ false
-  none_noted u h = not_later u e.0.record_type.0 (front_types n t) h ascend_on.0
+  module _ (p : ℕ → Bool) (past : (u : ℕ) → e.0.record_type.0 < u → p u ≡ false) where
+    pub none_noted : list_any p (front_types n t) ≡ false
+    none_noted = not_later p e.0.record_type.0 (front_types n t) past ascend_on.0
 
-  pub none_left : (u : ℕ) → u ≤ e.0.record_type.0 → first_set (λ v. u == v) n t ≡ None
-  none_left u h = none_found (λ v. u == v) (front n t) (none_noted u h)
+    pub none_left : first_set p n t ≡ None
+    none_left = none_found p (front n t) none_noted
 
 -- ---- a whole loop, from the name's least key on
 

@@ -1,14 +1,10 @@
 -- The nearest delegation above a name, as a walk up its suffixes finds it
 use Rattle.std.proofs.Common.{◌≡◌, ◌++◌, subst, ◌≤◌, ◌<◌, Bool, true, false, cond, not, ◌&&◌, List, [], ◌∷◌, length, refl, sym, ap, ◌∙◌, arith, inl, inr}
-use Rattle.std.specs.Prelude.{Option, Some, None, find, is_some}
+use Rattle.std.specs.Prelude.{Option, Some, None, find}
 use Rattle.std.proofs.lemmas.List.{length-append}
 use Rattle.zone_proto.specs.Names.{Label, Name, name_eq, suffixes, IsAtOrAbove}
-use Rattle.zone_proto.specs.Sets.{RRset}
-use Rattle.zone_proto.specs.Types.{NS, SOA}
 use Rattle.zone_proto.proofs.Members.{In}
 use Rattle.zone_proto.proofs.NameTree.{name_eq-Decides}
-use Rattle.zone_map.specs.Zones.{Sets, set_at, owns}
-use Rattle.zone_map.specs.Search.{is_delegated, referral_at}
 
 -- ---- tests that agree on a list find the same
 
@@ -40,15 +36,6 @@ pub others_count : (d e o : Bool) → e ≡ false → not (d && e && not o) ≡ 
 others_count true true o h = cc
 others_count true false o h = refl
 others_count false e o h = refl
-
--- ---- where the name owns NS
-
-pub at_delegation : (m : Sets) (n : Name) (s : RRset) → (n ≡ [] → ⊥) → set_at m n NS ≡ Some s
-    → referral_at m (find (is_delegated m) (suffixes n)) ≡ cond (owns m n SOA) None (Some s)
-at_delegation m [] s h e = absurd (h refl)
-at_delegation m (l ∷ n) s h e =
-    ap (λ b. referral_at m (cond b (Some (l ∷ n)) (find (is_delegated m) (suffixes n)))) (ap is_some e)
-    ∙ ap (cond (owns m (l ∷ n) SOA) None) e
 
 -- ---- the nearest is the longest
 

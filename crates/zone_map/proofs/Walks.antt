@@ -69,6 +69,18 @@ referral_split m (l ∷ n) t = by (is_delegated_for m (l ∷ n) t (l ∷ n))
     by true = refl
     by false = ap (referral_at m) above
 
+-- the referral above a name is that for a query of NS, which the name passes on where it says nothing itself
+above_split : (m : Sets) (n : Name) → referral_above m n ≡ unwrap_or (own_referral m n NS) (referral_above m (drop 1 n))
+above_split m n =
+    ap (referral_at m) (find_same (is_delegated m) (is_delegated_for m n NS) (suffixes n) (λ a i. sym (and_true (is_delegated m a) true refl)))
+    ∙ referral_split m n NS
+
+above_passed : (m : Sets) (n : Name) → own_referral m n NS ≡ None → referral_above m n ≡ referral_above m (drop 1 n)
+above_passed m n e = above_split m n ∙ ap (λ o. unwrap_or o (referral_above m (drop 1 n))) e
+
+pub above_own : (m : Sets) (n : Name) (r : Option RRset) → own_referral m n NS ≡ Some r → referral_above m n ≡ r
+above_own m n r e = above_split m n ∙ ap (λ o. unwrap_or o (referral_above m (drop 1 n))) e
+
 -- ---- the walk, suffix by suffix
 
 pub drop_more : (i : ℕ) (xs : Name) → drop 1 (drop i xs) ≡ drop (suc i) xs
@@ -84,10 +96,6 @@ some_label : (n : Name) → (n ≡ [] → ⊥) → 0 < length n
 some_label [] h = absurd (h refl)
 some_label (l ∷ n) h = omega arith
 
-not_delegated : (m : Sets) (n : Name) → set_at m n NS ≡ None → referral_above m n ≡ referral_above m (drop 1 n)
-not_delegated m [] e = refl
-not_delegated m (l ∷ n) e = ap (λ (o : Option RRset). referral_at m (cond (is_some o) (Some (l ∷ n)) (find (is_delegated m) (suffixes n)))) e
-
 pub walk_begins : (m : Sets) (a : Name) → IsWalked m a a (referral_above m a)
 walk_begins m a =
     let none : length a - length a ≡ 0 = omega arith in
@@ -100,7 +108,7 @@ walk_begins m a =
 one_more : (j k : ℕ) → j ≤ suc k → (j ≤ k) ⊎ (j ≡ suc k)
 one_more j k h = grind arith
 
-pub walk_goes_on : (m : Sets) (a e : Name) → IsWalked m a e (referral_above m e) → (e ≡ [] → ⊥) → set_at m e NS ≡ None → IsWalked m a (drop 1 e) (referral_above m (drop 1 e))
+pub walk_goes_on : (m : Sets) (a e : Name) → IsWalked m a e (referral_above m e) → (e ≡ [] → ⊥) → own_referral m e NS ≡ None → IsWalked m a (drop 1 e) (referral_above m (drop 1 e))
 walk_goes_on m a e w h none =
     let k : ℕ = length a - length e in
     let some : 0 < length e = some_label e h in
@@ -110,7 +118,7 @@ walk_goes_on m a e w h none =
       upward = omega (arith, w.upward, length_rest e);
       suffix = sym here ∙ ap (λ i. drop i a) (sym next);
       same = λ j b.
-          by j k here (λ c. w.same j c ∙ not_delegated m e none) (one_more j k (subst (λ i. j ≤ i) next b));
+          by j k here (λ c. w.same j c ∙ above_passed m e none) (one_more j k (subst (λ i. j ≤ i) next b));
     }
   where
     by : (j k : ℕ) → drop (suc k) a ≡ drop 1 e → (j ≤ k → referral_above m (drop j a) ≡ referral_above m (drop 1 e)) → (j ≤ k) ⊎ (j ≡ suc k)

@@ -1,5 +1,5 @@
 //! What stands at one name, seen in one walk of the map: the sets of a name stand together in it, the least type first.
-ghost use Rattle.std.specs.Prelude.{◌≡◌, ◌==◌, ◌||◌, cond, Some, None, option_copied};
+ghost use Rattle.std.specs.Prelude.{◌≡◌, ℕ, ◌<◌, ◌≤◌, ◌==◌, ◌||◌, false, cond, Some, None, option_copied};
 ghost use Rattle.std.specs.List.{list_any};
 ghost use Rattle.std.specs.Option.{option_or};
 ghost use Rattle.zone_proto.specs.Types.{NS, SOA};
@@ -42,8 +42,8 @@ pub(crate) fn at_name<'m>(
             break;
         }
         here = here.with(key.record_type, set, record_type);
-        // Further types are greater, and so neither NS nor SOA.
-        if here.exact.is_some() && key.record_type >= RecordType::SOA {
+        // Further types are greater.
+        if key.record_type >= here.last_awaited(record_type) {
             break;
         }
     }
@@ -67,6 +67,20 @@ impl<'m> AtName<'m> {
         }
         here.owns_soa |= set_type == RecordType::SOA;
         here
+    }
+
+    /// The greatest type whose set may still count: one that answers does only while there is none, NS and SOA always.
+    fn last_awaited(self, record_type: RecordType) -> RecordType
+        ensures known { SOA ≤ result.0 }
+        ensures exact { option_copied self.entry.exact ≡ None → (u : ℕ) → result.0 < u → list_any (λ v. u == v) (types_for record_type.0) ≡ false }
+    {
+        if self.exact.is_some() {
+            RecordType::SOA
+        } else if is_address(record_type) {
+            RecordType::ANAME
+        } else {
+            record_type.max(RecordType::SOA)
+        }
     }
 }
 

@@ -67,13 +67,6 @@ impl RecordMap {
     {
         self.sets.get(key)
     }
-
-    /// Whether the name of a key owns its type.
-    pub(crate) fn owns(&self, key: &RrKey) -> bool
-        ensures { result ≡ owns self.now key.now.name key.now.record_type.0 }
-    {
-        self.sets.contains_key(key)
-    }
 }
 
 impl RecordMap {

@@ -122,14 +122,12 @@ fn referral_above<'m>(records: &'m RecordMap, key: &mut RrKey) -> Option<&'m Rec
     ensures found { option_copied result ≡ referral_above records.now key.old.name }
     ensures walked { IsWalked records.now key.old.name key.new.name (option_copied result) }
 {
+    key.record_type = RecordType(0);
     while !key.name.is_root() {
-        key.record_type = RecordType::NS;
-        if let Some(set) = records.get(key) {
-            key.record_type = RecordType::SOA;
-            if records.owns(key) {
-                return None;
-            }
-            return Some(set);
+        // An ancestor refers queries of all types alike, as it would one of NS.
+        let here = at_name(records, key, RecordType::NS);
+        if let Some(referral) = own_referral(here, &key.name, RecordType::NS) {
+            return referral;
         }
         key.name.shorten();
     }

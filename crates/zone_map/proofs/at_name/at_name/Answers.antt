@@ -1,28 +1,24 @@
 use Rattle.std.proofs.Common.{arith, refl, ℕ, ◌<◌, ◌≤◌, subst, true≢false, Ordering, Less, Equal, Greater, ◌≡◌, ◌==◌, true, false, sym, ap, ◌∙◌}
-use Rattle.std.specs.Prelude.{Option, Some, None, is_some, option_copied}
-use Rattle.std.specs.Borrow.{Bor}
+use Rattle.std.specs.Prelude.{Option, Some, None, option_copied}
 use Rattle.std.specs.List.{list_any}
 use Rattle.std.specs.Option.{option_or}
 use Rattle.std.specs.Ordering.{eq_by_cmp, nat_cmp, is_ge, MatchOrdering}
 use Rattle.std.proofs.lemmas.Cmp.{ranked}
 use Rattle.zone_proto.specs.Names.{name_cmp}
-use Rattle.zone_proto.specs.Sets.{RRset}
 use Rattle.zone_proto.specs.Types.{NS, SOA}
 use Rattle.zone_map.specs.Search.{types_for}
 use Rattle.zone_map.proofs.AnyTypes.{Ascends}
-use Rattle.zone_map.proofs.AtName.{first_set, first_over, first_passed, rest_ascends, none_noted, none_left, whole_type, whole_exact, whole_ascends, type_listed}
+use Rattle.zone_map.proofs.AtName.{first_set, first_over, first_passed, rest_ascends, later_differs, none_noted, none_left, whole_type, whole_exact, whole_ascends, type_listed}
 use Rattle.zone_map.proofs.Neighbours.{not_false, not_true, from_key, front_types, front_over, front_noted, all_noted, front_is_whole}
 use Rattle.zone_map.proofs.at_name.at_name.Goals as goal
 
--- where nothing is left, what was found is the whole
-alone : {X : Type 0} (o rest whole : Option X) → rest ≡ None → option_or o rest ≡ whole → o ≡ whole
-alone None rest whole e h = sym e ∙ h
-alone (Some x) rest whole e h = h
+-- where nothing was found and nothing is left, or something was found, that is the whole
+enough : {X : Type 0} (o rest whole : Option X) → (o ≡ None → rest ≡ None) → option_or o rest ≡ whole → o ≡ whole
+enough None rest whole e h = sym (e refl) ∙ h
+enough (Some x) rest whole e h = h
 
--- where something was found, what is left adds nothing
-kept : (o : Option (Bor RRset)) (rest whole : Option RRset) → is_some o ≡ true → option_or (option_copied o) rest ≡ whole → option_copied o ≡ whole
-kept None rest whole e h = cc
-kept (Some s) rest whole e h = h
+alone : {X : Type 0} (o rest whole : Option X) → rest ≡ None → option_or o rest ≡ whole → o ≡ whole
+alone o rest whole e h = enough o rest whole (λ _. e) h
 
 at_least : (t u : ℕ) → true ≡ is_ge (nat_cmp t u) → u ≤ t
 at_least t u h = by (nat_cmp t u) refl h
@@ -104,7 +100,11 @@ returns-then-ne-clause-soa c =
 pub returns-then-ge-clause-exact : goal.returns-then-ge-clause-exact
 returns-then-ge-clause-exact c =
     let same : eq_by_cmp name_cmp c.in-Some.key.now.name c.args.least.now.name ≡ true = not_false _ (sym c.ne.ensures ∙ c.if-ne.false) in
-    kept c.with-here.result.exact _ _ (sym c.if-is_some.ensures)
+    let high : c.last_awaited.result.0 ≤ c.in-Some.key.now.record_type.0 = at_least c.in-Some.key.now.record_type.0 c.last_awaited.result.0 c.if-ge.ensures in
+    enough (option_copied c.with-here.result.exact) _ _
+    (λ none.
+    none_left c.args.least.now.name _ c.next.new.self (c.in-Some.key.now, c.in-Some.set.now) c.in-Some.ensures.steps same c.loop-key.invariant.ascend
+    (λ u. list_any (λ v. u == v) (types_for c.args.record_type.0)) (λ u h. c.last_awaited.ensures.exact none u (omega (arith, h, high))))
     (first_passed (λ u. list_any (λ v. u == v) (types_for c.args.record_type.0)) c.args.least.now.name _ c.next.new.self (c.in-Some.key.now, c.in-Some.set.now) (option_copied c.loop-key.here.exact) _ _
     c.in-Some.ensures.steps same c.with-here.ensures.exact c.loop-key.invariant.exact)
     ∙ whole_exact c.args.least.now c.args.records.now c.as_map.result.now.entries c.requires c.range-key-items.ensures.ordered c.as_map.ensures.entries c.args.record_type.0
@@ -112,9 +112,10 @@ returns-then-ge-clause-exact c =
 pub returns-then-ge-clause-ns : goal.returns-then-ge-clause-ns
 returns-then-ge-clause-ns c =
     let same : eq_by_cmp name_cmp c.in-Some.key.now.name c.args.least.now.name ≡ true = not_false _ (sym c.ne.ensures ∙ c.if-ne.false) in
-    let high : SOA ≤ c.in-Some.key.now.record_type.0 = at_least c.in-Some.key.now.record_type.0 SOA c.if-ge.ensures in
+    let high : c.last_awaited.result.0 ≤ c.in-Some.key.now.record_type.0 = at_least c.in-Some.key.now.record_type.0 c.last_awaited.result.0 c.if-ge.ensures in
     alone (option_copied c.with-here.result.ns) _ _
-    (none_left c.args.least.now.name _ c.next.new.self (c.in-Some.key.now, c.in-Some.set.now) c.in-Some.ensures.steps same c.loop-key.invariant.ascend NS (omega (arith, high)))
+    (none_left c.args.least.now.name _ c.next.new.self (c.in-Some.key.now, c.in-Some.set.now) c.in-Some.ensures.steps same c.loop-key.invariant.ascend
+    (λ u. NS == u) (λ u h. later_differs NS u (omega (arith, h, high, c.last_awaited.ensures.known))))
     (first_passed (λ u. NS == u) c.args.least.now.name _ c.next.new.self (c.in-Some.key.now, c.in-Some.set.now) (option_copied c.loop-key.here.ns) _ _
     c.in-Some.ensures.steps same c.with-here.ensures.ns c.loop-key.invariant.ns)
     ∙ whole_type c.args.least.now c.args.records.now c.as_map.result.now.entries c.requires c.range-key-items.ensures.ordered c.as_map.ensures.entries NS
@@ -122,9 +123,10 @@ returns-then-ge-clause-ns c =
 pub returns-then-ge-clause-soa : goal.returns-then-ge-clause-soa
 returns-then-ge-clause-soa c =
     let same : eq_by_cmp name_cmp c.in-Some.key.now.name c.args.least.now.name ≡ true = not_false _ (sym c.ne.ensures ∙ c.if-ne.false) in
-    let high : SOA ≤ c.in-Some.key.now.record_type.0 = at_least c.in-Some.key.now.record_type.0 SOA c.if-ge.ensures in
+    let high : c.last_awaited.result.0 ≤ c.in-Some.key.now.record_type.0 = at_least c.in-Some.key.now.record_type.0 c.last_awaited.result.0 c.if-ge.ensures in
     all_noted c.with-here.result.owns_soa _ _
-    (none_noted c.args.least.now.name _ c.next.new.self (c.in-Some.key.now, c.in-Some.set.now) c.in-Some.ensures.steps same c.loop-key.invariant.ascend SOA high)
+    (none_noted c.args.least.now.name _ c.next.new.self (c.in-Some.key.now, c.in-Some.set.now) c.in-Some.ensures.steps same c.loop-key.invariant.ascend
+    (λ u. SOA == u) (λ u h. later_differs SOA u (omega (arith, h, high, c.last_awaited.ensures.known))))
     (front_noted (λ u. SOA == u) c.args.least.now.name _ c.next.new.self (c.in-Some.key.now, c.in-Some.set.now) c.in-Some.ensures.steps c.loop-key.here.owns_soa _ _
     same c.with-here.ensures.soa c.loop-key.invariant.soa)
     ∙ front_is_whole (λ u. SOA == u) c.args.least.now c.args.records.now c.as_map.result.now.entries c.requires c.range-key-items.ensures.ordered c.as_map.ensures.entries
