@@ -6,6 +6,7 @@ pub mod Lower
 pub mod FromFront
 pub mod TextForms
 pub mod TextFaults
+pub mod UnescapedTexts
 pub mod RoundTrip
 pub mod BeforeLaws
 pub mod TypeTextLaws

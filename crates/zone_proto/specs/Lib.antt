@@ -10,6 +10,7 @@ pub mod Results
 pub mod Forms
 pub mod Suffixes
 pub mod TextForm
+pub mod Unescaped
 pub mod Text
 pub mod Parse
 pub mod Reading

@@ -12,7 +12,7 @@ use crate::wire::wire_length;
 use std::alloc::AllocError;
 
 /// The most octets that a label may have (RFC 1035 section 2.3.4).
-const LONGEST_LABEL: usize = 63;
+pub(crate) const LONGEST_LABEL: usize = 63;
 
 /// The most octets that the wire form of a name may have (RFC 1035 section 2.3.4).
 const LONGEST_NAME: usize = 255;

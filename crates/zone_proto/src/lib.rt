@@ -40,6 +40,7 @@ mod soa_record;
 mod stepping;
 mod suffixes;
 mod text;
+mod unescaped;
 mod wire;
 
 pub use dns_class::DNSClass;

@@ -14,6 +14,7 @@ use crate::labels::{check_labels, check_prepended};
 use crate::labels_iter::Labels;
 use crate::parser::read_labels;
 use crate::suffixes::Suffixes;
+use crate::unescaped::read_unescaped;
 use crate::wire::write_wire;
 use std::alloc::Global;
 use std::marker::Model;
@@ -73,11 +74,17 @@ impl Name {
     /// decimal digits of value at most 255 are that octet; a backslash and another octet from 33 to 126 are that octet;
     /// any other octet from 33 to 126 is itself. Everything else, the empty text too, gives `BadText`, wherever it
     /// stands in the text; then come the refusals of `from_labels`, and `Memory`. That no text is of two names' forms, and
-    /// that each is read or refused for one cause, is `laws::text_is_read_or_refused`.
+    /// that each is read or refused for one cause, is `laws::text_is_read_or_refused`. A text without a backslash takes no
+    /// memory if the wire form of its name has at most 33 octets.
     pub fn parse(alloc: Global, text: &str) -> Result<Name, ProtoError>
         ensures ok { IfOk result (IsNameText text.now) }
         ensures refusal { TellsTextFault result text.now }
     {
+        if let Some(packed) = read_unescaped(alloc, text.as_bytes())? {
+            return Ok(Name {
+                form: Form::InOnePiece(packed),
+            });
+        }
         Name::read(alloc, text)?.in_one_piece()
     }
 

@@ -17,7 +17,7 @@ use std::cmp::Ordering;
 use std::marker::Model;
 
 /// Octets, of which up to 32 stand in the value itself and take no memory.
-type Octets = SmallVec<u8, 32>;
+pub(crate) type Octets = SmallVec<u8, 32>;
 
 /// A name in one piece.
 #[derive(Debug, Drop)]
@@ -66,6 +66,14 @@ impl Packed {
             octets.push(0)?;
         }
         Ok(Packed { octets })
+    }
+
+    /// The name whose labels stand in these octets.
+    pub(crate) fn of_octets(octets: Octets) -> Packed
+        requires { IsPacking octets.items (name_of octets.items) }
+        ensures { result ≡ name_of octets.items }
+    {
+        Packed { octets }
     }
 
     /// The name with one more label before its first.
