@@ -18,8 +18,12 @@ use std::io::{Read, Write};
 use zone_proto::{Name, ProtoError};
 use zone_text::TextError;
 
-/// How many octets of an answer have room from the start.
-const ANSWER_ROOM: usize = 4_096;
+/// From how many octets on answers are written without waiting for the next read.
+const WAITING_LIMIT: usize = 4_096;
+
+/// How many octets of answers have room from the start. Behind those that wait, an answer of up to 4,096 octets always
+/// has room, and takes no memory.
+const ANSWERS_ROOM: usize = 8_192;
 
 /// Why the program stops before its input ends.
 enum Stop {
@@ -33,12 +37,16 @@ enum Stop {
 /// writes the answers to `output`.
 ///
 /// `args` is one word, the zone's origin. A line is a command, blank, or a comment that begins with `#`; any
-/// other line is answered by `bad line N`, counted from 1, and passed over. The status is 0, or 1 after a bad
-/// line. It is 2, with one line on `fault`, where the words aren't one name, where the first memory is refused,
-/// and after a read or a write that failed, after which nothing more is written to `output`. Memory that is
-/// refused later on makes the answer of its line `error Memory`, and leaves the zone as it was. Where it is the
-/// text of an answer that finds no memory, which only one of more than 4,096 octets can meet, nothing of it is
-/// written, and the program ends as after a failed write.
+/// other line is answered by `bad line N`, counted from 1, and passed over. The answers to lines that were read
+/// together are written together: those that wait are written in one piece before `input` is read again and at its
+/// end, and as soon as they have 4,096 octets or more.
+///
+/// The status is 0, or 1 after a bad line. It is 2, with one line on `fault`, where the words aren't one name, where
+/// the first memory is refused, and after a read or a write that failed. When a read fails, the answers to all lines
+/// before it are written; after a write that failed nothing more is. Memory that is refused later on makes the
+/// answer of its line `error Memory`, and leaves the zone as it was. Where it is the text of an answer that finds no
+/// memory, which only one of more than 4,096 octets can meet, the answers before it are written and nothing of it,
+/// and the program ends as after a failed write.
 pub fn run<R: Read, W: Write, E: Write>(
     alloc: Global,
     args: &[String],
@@ -82,30 +90,64 @@ fn serve<R: Read, W: Write>(
     let Ok(mut lines) = Lines::new(alloc) else {
         return Err(Stop::Memory);
     };
-    let Ok(mut answer) = String::with_capacity(alloc, ANSWER_ROOM) else {
+    let Ok(mut answers) = String::with_capacity(alloc, ANSWERS_ROOM) else {
         return Err(Stop::Memory);
     };
     let mut all_good = true;
     for i in 0..u64::MAX {
-        answer.clear();
-        let built = match lines.next(input) {
-            Ok(Line::Whole) => answer_line(alloc, &mut served, lines.line(), i + 1, &mut answer),
-            Ok(Line::Bad) => answer_bad_line(i + 1, &mut answer),
-            Ok(Line::End) => break,
-            Err(_) => return Err(Stop::Read),
+        let Some(line) = next_line(&mut lines, input, &mut answers, output)? else {
+            break;
+        };
+        let waiting = answers.len();
+        let built = match line {
+            Line::Whole => answer_line(alloc, &mut served, lines.line(), i + 1, &mut answers),
+            Line::Bad => answer_bad_line(i + 1, &mut answers),
         };
         let Ok(is_good) = built else {
+            // What stands of this line's answer isn't written.
+            let _ = output.write_all(answers.as_bytes().get(..waiting).unwrap_or(&[]));
             return Err(Stop::Write);
         };
         all_good = all_good && is_good;
-        if !answer.is_empty() && output.write_all(answer.as_bytes()).is_err() {
-            return Err(Stop::Write);
+        if answers.len() >= WAITING_LIMIT {
+            write_out(&mut answers, output)?;
         }
     }
     match output.flush() {
         Ok(()) => Ok(all_good),
         Err(_) => Err(Stop::Write),
     }
+}
+
+/// Takes the next line, if there is one. The answers that wait are written before each read of the input, so that none
+/// waits when there is no further line.
+fn next_line<R: Read, W: Write>(
+    lines: &mut Lines,
+    input: &mut R,
+    answers: &mut String,
+    output: &mut W,
+) -> Result<Option<Line>, Stop> {
+    for _ in 0..u64::MAX {
+        if let Some(line) = lines.take() {
+            return Ok(Some(line));
+        }
+        write_out(answers, output)?;
+        match lines.fill(input) {
+            Ok(true) => {}
+            Ok(false) => return Ok(lines.take_last()),
+            Err(_) => return Err(Stop::Read),
+        }
+    }
+    Ok(None)
+}
+
+/// Writes the answers that wait, if any do.
+fn write_out<W: Write>(answers: &mut String, output: &mut W) -> Result<(), Stop> {
+    if !answers.is_empty() && output.write_all(answers.as_bytes()).is_err() {
+        return Err(Stop::Write);
+    }
+    answers.clear();
+    Ok(())
 }
 
 /// Makes the zone without records, whose origin is the one word.

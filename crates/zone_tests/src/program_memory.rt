@@ -117,10 +117,10 @@ fn each_growth_is_refused(rt: HostRuntime) -> Result<(), Fail> {
     Ok(())
 }
 
-/// Two records of two thousand octets each, and a query for them.
+/// Three records of two thousand octets each, and a query for them.
 fn long_input(alloc: Global) -> Result<Vec<u8>, AllocError> {
     let mut input = Vec::with_capacity(alloc, 16_384)?;
-    for digits in [b"01", b"02"] {
+    for digits in [b"01", b"02", b"03"] {
         input.extend_from_slice(b"add a. 60 TXT ")?;
         for _ in 0..2_000 {
             input.extend_from_slice(digits)?;
@@ -142,11 +142,11 @@ fn refusals_of_a_long_answer(
         let room = i.saturating_mul(STEP).saturating_add(16_384);
         let status = desk.run(alloc, scarce, room)?;
         if desk.complained(b"write failed\n") {
-            if status != 2 || !desk.wrote(b"yes\nyes\n") {
+            if status != 2 || !desk.wrote(b"yes\nyes\nyes\n") {
                 return None;
             }
             stops = stops.saturating_add(1);
-        } else if desk.output.got.starts_with(b"yes\nyes\nanswer 2\n") {
+        } else if desk.output.got.starts_with(b"yes\nyes\nyes\nanswer 3\n") {
             return (status == 0).then_some(stops);
         }
     }
@@ -154,7 +154,8 @@ fn refusals_of_a_long_answer(
 }
 
 /// An answer too long for the room that is there from the start needs memory while it is being built. Where that is
-/// refused, nothing of the answer is written, and the program ends as after a failed write.
+/// refused, the answers before it are written, though their lines were read together with its own, and nothing of it is.
+/// The program ends as after a failed write.
 #[test]
 fn memory_is_refused_to_a_long_answer(rt: HostRuntime) -> Result<(), Fail> {
     let alloc = rt.alloc();

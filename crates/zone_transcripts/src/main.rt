@@ -20,7 +20,8 @@
 //! and silence, and `! no last line feed` that its input ends with its last line's last octet.
 //!
 //! Each transcript is run on reads of any length, of seven octets and of one. It is also broken off by a read that fails
-//! before and within each of its first lines, and by a write that fails at each of its first answers.
+//! before and within each of its first lines, and, on reads of one line each, by a write that fails at each of its first
+//! answers. In each run the answers to lines that were read together have to come in one write, unless they are long.
 #![tactic(auto)]
 
 mod difference;

@@ -1,7 +1,7 @@
 //! Runs of the program that a transcript is compared with.
 
 use crate::difference::{Ending, first_difference};
-use crate::streams::{Capture, Feed};
+use crate::streams::{Capture, Feed, Portion};
 use crate::transcript::Transcript;
 use std::alloc::{AllocError, Global};
 use zone_store::program;
@@ -12,15 +12,13 @@ const FAILURES: usize = 16;
 /// The longest reads, in octets.
 const WHOLE: usize = 1 << 20;
 
+/// From how many octets on answers are written without waiting for the next read.
+const WAITING_LIMIT: usize = 4_096;
+
 /// Runs a transcript, and tells what differs first, if anything does.
 pub fn try_all(alloc: Global, transcript: &Transcript) -> Result<Option<String>, AllocError> {
     for step in [WHOLE, 7, 1] {
-        let feed = Feed {
-            text: transcript.input.as_slice(),
-            step,
-            fails: false,
-        };
-        if let Some(told) = try_reads(alloc, transcript, feed)? {
+        if let Some(told) = try_reads(alloc, transcript, step)? {
             return Ok(Some(told));
         }
     }
@@ -33,13 +31,18 @@ pub fn try_all(alloc: Global, transcript: &Transcript) -> Result<Option<String>,
     try_failing_writes(alloc, transcript)
 }
 
-/// Runs a transcript on reads of some length.
+/// Runs a transcript on reads of at most `step` octets.
 fn try_reads(
     alloc: Global,
     transcript: &Transcript,
-    feed: Feed<'_>,
+    step: usize,
 ) -> Result<Option<String>, AllocError> {
-    let step = feed.step;
+    let feed = Feed {
+        text: transcript.input.as_slice(),
+        portion: Portion::Octets(step),
+        fails: false,
+        reads: 0,
+    };
     let wanted = Ending {
         output: transcript.output.as_slice(),
         fault: transcript.fault.as_slice(),
@@ -78,8 +81,9 @@ fn try_failing_read(
 ) -> Result<Option<String>, AllocError> {
     let feed = Feed {
         text: up_to(transcript.input.as_slice(), read),
-        step: WHOLE,
+        portion: Portion::Octets(WHOLE),
         fails: true,
+        reads: 0,
     };
     let wanted = Ending {
         output: up_to(transcript.output.as_slice(), written),
@@ -89,7 +93,8 @@ fn try_failing_read(
     compare(alloc, transcript, feed, usize::MAX, &wanted)
 }
 
-/// A write fails at each of the first answers: what was written before it stands, and nothing else.
+/// A write fails at each of the first answers: what was written before it stands, and nothing else. Each read brings one
+/// line, so that each answer is a write.
 fn try_failing_writes(
     alloc: Global,
     transcript: &Transcript,
@@ -118,8 +123,9 @@ fn try_failing_write(
 ) -> Result<Option<String>, AllocError> {
     let feed = Feed {
         text: transcript.input.as_slice(),
-        step: WHOLE,
+        portion: Portion::Line,
         fails: false,
+        reads: 0,
     };
     let wanted = Ending {
         output: up_to(transcript.output.as_slice(), written),
@@ -133,8 +139,9 @@ fn try_failing_write(
 fn try_silent_fault(alloc: Global, transcript: &Transcript) -> Result<Option<String>, AllocError> {
     let mut feed = Feed {
         text: transcript.input.as_slice(),
-        step: WHOLE,
+        portion: Portion::Octets(WHOLE),
         fails: false,
+        reads: 0,
     };
     let (mut output, mut fault) = (Capture::new(alloc, 0), Capture::new(alloc, 0));
     let args = transcript.args.as_slice();
@@ -161,10 +168,21 @@ fn compare(
         fault: fault.got.as_slice(),
         status,
     };
-    match first_difference(wanted, &came) {
-        Some(difference) => Ok(Some(format!(in alloc; "{difference}")?)),
-        None => Ok(None),
+    if let Some(difference) = first_difference(wanted, &came) {
+        return Ok(Some(format!(in alloc; "{difference}")?));
     }
+    if output.writes > most_writes(feed.reads, output.got.len()) {
+        return Ok(Some(format!(in alloc; "{} writes for {} reads", output.writes, feed.reads)?));
+    }
+    Ok(None)
+}
+
+/// How many writes a run may make that makes so many reads and writes so many octets: one before each read but the first,
+/// and one for each `WAITING_LIMIT` octets.
+fn most_writes(reads: usize, octets: usize) -> usize {
+    reads
+        .saturating_sub(1)
+        .saturating_add(octets / WAITING_LIMIT)
 }
 
 /// The first octets.
