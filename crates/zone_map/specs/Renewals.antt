@@ -7,11 +7,17 @@ use Rattle.zone_proto.specs.Sets.{RRset}
 use Rattle.zone_proto.specs.Stepping.{stepped}
 use Rattle.zone_map.specs.Zones.{Sets}
 
+-- sets in the order of their keys, each with the signatures of its place in the list
+abbrev pub resigned : Sets → List (List Record) → Sets
+resigned [] made = []
+resigned (e ∷ es) [] = e ∷ es
+resigned (e ∷ es) (signatures ∷ made) = (e.0, record e.1 { signatures = signatures }) ∷ resigned es made
+
 -- a set with these signatures in the place of those that it has, and with the next serial if its key is `apex`
 abbrev pub renewed_set : RrKey → RrKey → RRset → List Record → RRset
 renewed_set apex k s signatures = record (if key_eq apex k then stepped s else s) { signatures = signatures }
 
--- sets in the order of their keys, each with the signatures of its place in the list
+-- the same, and the set under `apex` with the next serial
 abbrev pub renewed : RrKey → Sets → List (List Record) → Sets
 renewed apex [] made = []
 renewed apex (e ∷ es) [] = e ∷ es

@@ -3,7 +3,7 @@ ghost use Rattle.std.specs.Prelude.{◌≡◌, ℕ, [], IfOk, OnOk, OnErr, IsOkU
 ghost use Rattle.zone_proto.specs.Keys.{key as key_at};
 ghost use Rattle.zone_proto.specs.Names.{Name};
 ghost use Rattle.zone_proto.specs.Types.{SOA};
-ghost use Rattle.zone_map.specs.Zones.{set_at, IsZone};
+ghost use Rattle.zone_map.specs.Zones.{set_at, IsStoredAt, IsZone};
 ghost use Rattle.zone_signing.specs.Secured.{bare, stays, unsigned_at, secured_set, IsSecured};
 
 use crate::signatures::signatures_of;
@@ -83,10 +83,12 @@ fn signatures_under<S: Signer>(
     signers: &[S],
     now: u64,
 ) -> Result<Rrsigs, ProtoError>
+    requires { IsStoredAt key.now.name key.now.record_type.0 set.now }
     ensures ok { IfOk result (λ made. made ≡ (secured_set S.signature_of now apex.now signers.now key.now set.now).signatures) }
     ensures err { IsOkUnless result ProtoError.Memory }
 {
-    if apex.same_as(key) {
+    // The set is asked first, as it is read in any case: the key stands elsewhere in memory.
+    if set.record_type() == apex.record_type && apex.same_as(key) {
         let mut next = set.clone_without_rrsigs()?;
         next.step_serial();
         return signatures_of(&next, signers, now);

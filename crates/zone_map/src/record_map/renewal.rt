@@ -1,10 +1,10 @@
 // The sets of the record map with new signatures, in place.
-ghost use Rattle.std.specs.Prelude.{◌≡◌, length, if◌then◌else◌};
-ghost use Rattle.zone_proto.specs.Stepping.{stepped};
-ghost use Rattle.zone_map.specs.Renewals.{renewed};
+ghost use Rattle.std.specs.Prelude.{◌≡◌, length};
+ghost use Rattle.zone_map.specs.Renewals.{resigned, renewed};
 ghost use Rattle.zone_map.specs.Zones.{IsZone};
 
 use crate::record_map::RecordMap;
+use std::collections::BTreeMap;
 use zone_proto::{RecordSet, RrKey, Rrsigs};
 
 impl RecordMap {
@@ -16,22 +16,24 @@ impl RecordMap {
         ensures sets { self.new ≡ renewed apex.now self.old rrsigs.items }
         ensures zone { IsZone self.new }
     {
-        let mut left = rrsigs.into_iter();
-        self.sets.retain(|key, set| {
-            if let Some(next) = left.next() {
-                renew_set(set, apex.same_as(key), next);
-            }
-            true
-        });
+        resign(&mut self.sets, rrsigs);
+        // One look-up waits for fewer keys, which stand elsewhere in memory, than a pass that asks each.
+        if let Some(set) = self.sets.get_mut(apex) {
+            set.step_serial();
+        }
     }
 }
 
-/// Puts signatures in the place of those that a set has, and steps its serial where that is asked for.
-fn renew_set(set: &mut RecordSet, steps: bool, rrsigs: Rrsigs)
-    ensures { set.new ≡ record (if steps then stepped set.old else set.old) { signatures = rrsigs } }
+/// Puts signatures in the place of those that sets have, in the order of the keys, of which none is looked at.
+fn resign(sets: &mut BTreeMap<RrKey, RecordSet>, rrsigs: Vec<Rrsigs>)
+    requires { length rrsigs.items ≡ length sets.old.entries }
+    ensures { sets.new.entries ≡ resigned sets.old.entries rrsigs.items }
 {
-    if steps {
-        set.step_serial();
-    }
-    set.replace_rrsigs(rrsigs);
+    let mut left = rrsigs.into_iter();
+    sets.retain(|_, set| {
+        if let Some(next) = left.next() {
+            set.replace_rrsigs(next);
+        }
+        true
+    });
 }

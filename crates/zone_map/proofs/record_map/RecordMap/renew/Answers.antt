@@ -1,15 +1,32 @@
-use Rattle.std.proofs.Common.{◌≡◌, length, refl, sym, ap, ◌∙◌, subst, rules}
-use Rattle.std.specs.Vec.Iter.{into_iter_items}
-use Rattle.zone_map.specs.Renewals.{renewed}
+use Rattle.std.proofs.Common.{◌≡◌, length, sym, ap, ◌∙◌, subst}
+use Rattle.std.specs.Map.{lookup, set_value}
+use Rattle.std.specs.Prelude.{Some, None}
+use Rattle.zone_proto.specs.Keys.{key_eq}
+use Rattle.zone_map.specs.Renewals.{resigned, renewed}
 use Rattle.zone_map.specs.Zones.{Sets, IsZone}
-use Rattle.zone_map.proofs.Renewing.{IsZone-renewed, renewed_by}
+use Rattle.zone_map.proofs.Renewing.{IsZone-renewed, renewed_with, renewed_without}
 use Rattle.zone_map.proofs.record_map.RecordMap.renew.Goals as goal
+use Rattle.zone_map.proofs.record_map.RecordMap.renew.Goals.{in-Some, in_default}
 
--- the entries of the map once the pass is over
-is_renewed : (c : goal.After-drop-left) → c.retain.new.self.entries ≡ renewed c.args.apex.now c.self.inside.sets.entries c.args.rrsigs.items
+-- the entries of the map at the end
+is_renewed : (c : goal.Joined-get_mut) → c.match-get_mut.self-inside.sets.entries ≡ renewed c.args.apex.now c.self.inside.sets.entries c.args.rrsigs.items
 is_renewed c =
-    renewed_by _ (λ f. into_iter_items f.0.now) (λ f. f.1.now) (λ f k v b w f' t x xs r. search rules) c.args.apex.now _ c.self.inside.sets.entries
-    c.retain.new.self.entries c.args.rrsigs.items refl c.into_iter-left.ensures.rest (c.requires ∙ ap length (sym c.self.view_is)) c.retain.ensures.filtered
+    let before = c.self.inside.sets.entries in
+    let made = c.args.rrsigs.items in
+    let same_length : length made ≡ length before = c.requires ∙ ap length (sym c.self.view_is) in
+    elim c.match-get_mut.branch [
+      | in-Some w ↦
+          let found : lookup (key_eq c.args.apex.now) (resigned before made) ≡ Some w.in-Some.set.now =
+          ap (lookup (key_eq c.args.apex.now)) (sym c.resign.ensures) ∙ sym w.in-Some.ensures.value in
+          ap (λ i. i.sets.entries) w.self-inside-is ∙ (c.get_mut.follows.holds w.step_serial.new.self).0
+          ∙ ap (λ (m : Sets). set_value (key_eq c.args.apex.now) m w.step_serial.new.self) c.resign.ensures
+          ∙ ap (set_value (key_eq c.args.apex.now) (resigned before made)) w.step_serial.ensures
+          ∙ renewed_with c.args.apex.now before made w.in-Some.set.now c.self.invariant.ordered found same_length
+      | in_default w ↦
+          let absent : lookup (key_eq c.args.apex.now) (resigned before made) ≡ None =
+          ap (lookup (key_eq c.args.apex.now)) (sym c.resign.ensures) ∙ sym w.in_default.ensures.value in
+          ap (λ i. i.sets.entries) w.self-inside-is ∙ ap (λ m. m.entries) c.get_mut.follows.holds-at-none ∙ c.resign.ensures ∙ renewed_without c.args.apex.now before made absent
+    ]
 
 pub returns-clause-sets : goal.returns-clause-sets
 returns-clause-sets c = is_renewed c ∙ ap (λ (m : Sets). renewed c.args.apex.now m c.args.rrsigs.items) c.self.view_is
