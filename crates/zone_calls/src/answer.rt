@@ -90,22 +90,31 @@ impl From<ZoneError> for Answer {
     }
 }
 
+impl Answer {
+    /// The text of an answer that has nothing in it.
+    fn plain_text(&self) -> Option<&'static str> {
+        match self {
+            Answer::Done => Some("done"),
+            Answer::Yes => Some("yes"),
+            Answer::No => Some("no"),
+            Answer::Nothing => Some("nothing"),
+            Answer::NotOwed => Some("not for this caller"),
+            Answer::NotCounted => Some("a search that isn't counted"),
+            Answer::Changed => Some("a refusal that changes something"),
+            Answer::Memory => Some("error: out of memory"),
+            Answer::NoKey => Some("error: NoKey"),
+            Answer::Order(Ordering::Less) => Some("before"),
+            Answer::Order(Ordering::Equal) => Some("same"),
+            Answer::Order(Ordering::Greater) => Some("after"),
+            _ => None,
+        }
+    }
+}
+
 impl fmt::Display for Answer {
     fn fmt<W: fmt::Write>(&self, f: &mut fmt::Formatter<W>) -> fmt::Result {
         match self {
-            Answer::Done => write!(f, "done"),
-            Answer::Yes => write!(f, "yes"),
-            Answer::No => write!(f, "no"),
-            Answer::Nothing => write!(f, "nothing"),
-            Answer::NotOwed => write!(f, "not for this caller"),
-            Answer::NotCounted => write!(f, "a search that isn't counted"),
-            Answer::Changed => write!(f, "a refusal that changes something"),
-            Answer::Memory => write!(f, "error: out of memory"),
-            Answer::NoKey => write!(f, "error: NoKey"),
             Answer::Count(count) => write!(f, "{count}"),
-            Answer::Order(Ordering::Less) => write!(f, "before"),
-            Answer::Order(Ordering::Equal) => write!(f, "same"),
-            Answer::Order(Ordering::Greater) => write!(f, "after"),
             Answer::Name(name) => write!(f, "{name}"),
             Answer::LowerName(name) => write!(f, "{name}"),
             Answer::Description(name) => write!(f, "{}", NameDescription(name)),
@@ -124,6 +133,10 @@ impl fmt::Display for Answer {
             Answer::Lookup(error) => write!(f, "error: {error}"),
             Answer::Zone(error) => write!(f, "error: {error}"),
             Answer::Secure(error) => write!(f, "error: {error:?}"),
+            plain => match plain.plain_text() {
+                Some(text) => write!(f, "{text}"),
+                None => Ok(()),
+            },
         }
     }
 }

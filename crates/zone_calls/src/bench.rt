@@ -4,6 +4,7 @@ use crate::answer::Answer;
 use crate::call::{Ask, Call, Head, Question, SetCall, ZoneCall};
 use crate::denials::make_denial_call;
 use crate::names::make_name_call;
+use crate::read::{once_done, read_call};
 use crate::records::{make_record_call, make_word_call};
 use crate::searches::make_search_call;
 use crate::signers::{NoHash, RowSigner};
@@ -64,7 +65,7 @@ impl Bench {
     }
 
     /// Copies the sets on the shelf for a call that takes them.
-    pub fn prepare(&self, call: &mut Call) -> Result<(), TextError> {
+    fn prepare(&self, call: &mut Call) -> Result<(), TextError> {
         match call {
             Call::Zone(ZoneCall::Make(_, sets)) => copy_sets(&self.shelf, sets),
             _ => Ok(()),
@@ -100,7 +101,7 @@ impl Bench {
             SetCall::Kept => Answer::of(self.hand == self.kept),
             call => match &mut self.hand {
                 Some(set) => make_on_set(alloc, set, call),
-                None => Answer::NotOwed,
+                None => not_owed(call),
             },
         }
     }
@@ -230,16 +231,14 @@ impl Bench {
     /// Searches for a set, which has to be counted, and copies what is found.
     fn search(&mut self, question: &Question) -> Answer {
         let before = self.searches.count();
-        let searches = &mut self.searches;
-        let answer = match find(&self.zone, question, searches) {
+        let found = find(&self.zone, question, &mut self.searches);
+        if self.searches.count() != before.saturating_add(1) {
+            return Answer::NotCounted;
+        }
+        match found {
             Ok(Some(found)) => copied(found),
             Ok(None) => Answer::Nothing,
             Err(error) => Answer::from(error),
-        };
-        if self.searches.count() == before.saturating_add(1) {
-            answer
-        } else {
-            Answer::NotCounted
         }
     }
 
@@ -265,6 +264,13 @@ impl Bench {
             Err(error) => Answer::from(error),
         }
     }
+}
+
+/// Reads a call, and copies the sets on the shelf if it takes them.
+pub fn read_prepared_call(alloc: Global, bench: &Bench, row: &str) -> Result<Box<Call>, TextError> {
+    let mut call = read_call(alloc, row)?;
+    let prepared = bench.prepare(&mut call);
+    once_done(prepared, call)
 }
 
 /// The set that is found for a question.
@@ -331,6 +337,11 @@ fn copied(found: Found<'_>) -> Answer {
     }
 }
 
+/// Drops what a call was passed whose caller owes a condition. It is of any type, so that a proof has nothing to take apart.
+fn not_owed<T: Drop>(_passed: T) -> Answer {
+    Answer::NotOwed
+}
+
 /// Makes a call on the set in hand.
 fn make_on_set(alloc: Global, set: &mut RecordSet, call: SetCall) -> Answer {
     match call {
@@ -358,7 +369,7 @@ fn insert(set: &mut RecordSet, record: Record, serial: u32) -> Answer {
             Err(error) => Answer::from(error),
         }
     } else {
-        Answer::NotOwed
+        not_owed(record)
     }
 }
 
@@ -370,7 +381,7 @@ fn add(set: &mut RecordSet, rdata: RData) -> Answer {
             Err(error) => Answer::from(error),
         }
     } else {
-        Answer::NotOwed
+        not_owed(rdata)
     }
 }
 
@@ -382,7 +393,7 @@ fn sign(set: &mut RecordSet, record: Record) -> Answer {
             Err(error) => Answer::from(error),
         }
     } else {
-        Answer::NotOwed
+        not_owed(record)
     }
 }
 

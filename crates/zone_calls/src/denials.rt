@@ -12,14 +12,14 @@ use zone_text::{TextError, Words, read_name};
 /// Reads the words after the verb of such a call.
 pub fn read_denial_call(
     alloc: Global,
-    verb: &[u8],
+    verb: &str,
     words: &mut Words<'_>,
 ) -> Result<DenialCall, TextError> {
-    if verb == b"kind".as_slice() {
+    if verb == "kind" {
         return Ok(DenialCall::Kind);
     }
     let name = LowerName::from(read_name(alloc, words)?);
-    if verb == b"closest".as_slice() {
+    if verb == "closest" {
         return Ok(DenialCall::Closest(name));
     }
     Ok(DenialCall::Deny(name, read_options(words)?))

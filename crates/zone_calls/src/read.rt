@@ -9,6 +9,7 @@ use crate::signing::read_signing_call;
 use crate::transfers::read_transfer;
 use std::alloc::Global;
 use std::collections::BTreeMap;
+use std::str;
 use zone_handler::{AxfrPolicy, LookupOptions, ZoneType};
 use zone_proto::{DNSClass, LowerName, ResponseCode};
 use zone_text::{TextError, Words, read_key, read_name, read_type, read_u16, read_u32};
@@ -30,8 +31,15 @@ pub fn read_call(alloc: Global, row: &str) -> Result<Box<Call>, TextError> {
         Err(error) => Err(error),
     };
     let call = call?;
-    words.end()?;
-    Ok(call)
+    once_done(words.end(), call)
+}
+
+/// Hands a value on once something else is done. It is of any type, so that a proof has nothing to take apart where that fails.
+pub fn once_done<T: Drop>(done: Result<(), TextError>, value: T) -> Result<T, TextError> {
+    match done {
+        Ok(()) => Ok(value),
+        Err(error) => Err(error),
+    }
 }
 
 fn read_parse(alloc: Global, text: &str) -> Result<Box<Call>, TextError> {
@@ -66,42 +74,106 @@ fn text_after<'r>(row: &'r str, verb: &str) -> Option<&'r str> {
     rest.strip_prefix(" ")
 }
 
+/// What a call is made on.
+#[derive(Clone, Copy)]
+enum Subject {
+    Name,
+    Lower,
+    Copy,
+    Word,
+    Record,
+    Set,
+    Zone,
+    Question,
+    Search,
+    Signing,
+    Denial,
+    Transfer,
+}
+
+/// What the call of a verb is made on. The verbs stand in lists, since a `match` with many words takes long to prove.
+fn subject_of(verb: &str) -> Subject {
+    if is_among(verb, "lower") {
+        Subject::Lower
+    } else if is_among(verb, "copy") {
+        Subject::Copy
+    } else if is_among(verb, "types class code") {
+        Subject::Word
+    } else if is_among(verb, "record equal octets") {
+        Subject::Record
+    } else if is_among(verb, "set insert add sign unsign show records keep kept") {
+        Subject::Set
+    } else if is_among(
+        verb,
+        "empty make shelve about put clear dump upsert remove any",
+    ) {
+        Subject::Zone
+    } else if is_among(verb, "search chase lookup") {
+        Subject::Question
+    } else if is_among(verb, "additionals request") {
+        Subject::Search
+    } else if is_among(verb, "key signers secure at") {
+        Subject::Signing
+    } else if is_among(verb, "kind closest deny") {
+        Subject::Denial
+    } else if is_among(verb, "transfer") {
+        Subject::Transfer
+    } else {
+        Subject::Name
+    }
+}
+
+/// Whether a verb is among these, which have spaces between them.
+fn is_among(verb: &str, verbs: &str) -> bool {
+    verbs.split(' ').any(|other| other == verb)
+}
+
 /// Reads the words of a call.
 fn read_words(alloc: Global, words: &mut Words<'_>) -> Result<Call, TextError> {
-    let verb = words.take_needed()?;
+    let verb = take_text(words)?;
+    match subject_of(verb) {
+        Subject::Name => Ok(Call::Name(read_name_call(alloc, verb, words)?)),
+        Subject::Lower => Ok(Call::Name(read_lower_call(alloc, words)?)),
+        Subject::Copy => read_copy(alloc, words),
+        Subject::Word => Ok(Call::Word(read_word_call(verb, words)?)),
+        Subject::Record => Ok(Call::Record(read_record_call(alloc, verb, words)?)),
+        Subject::Set => Ok(Call::Set(read_set_call(alloc, verb, words)?)),
+        Subject::Zone => Ok(Call::Zone(read_zone_call(alloc, verb, words)?)),
+        Subject::Question => Ok(Call::Zone(read_asking_call(alloc, verb, words)?)),
+        Subject::Search => Ok(Call::Search(read_search_call(alloc, verb, words)?)),
+        Subject::Signing => Ok(Call::Signing(read_signing_call(alloc, verb, words)?)),
+        Subject::Denial => Ok(Call::Denial(read_denial_call(alloc, verb, words)?)),
+        Subject::Transfer => read_transfer(alloc, words),
+    }
+}
+
+/// Takes a word as text: a `match` on a text takes a third of the time to prove that one on octets does.
+pub fn take_text<'w>(words: &mut Words<'w>) -> Result<&'w str, TextError> {
+    match str::from_utf8(words.take_needed()?) {
+        Ok(text) => Ok(text),
+        Err(_) => Err(TextError::BadText),
+    }
+}
+
+/// Reads a call on types, classes and codes.
+fn read_word_call(verb: &str, words: &mut Words<'_>) -> Result<WordCall, TextError> {
     match verb {
-        b"lower" => Ok(Call::Name(read_lower_call(alloc, words)?)),
-        b"copy" => read_copy(alloc, words),
-        b"types" => Ok(Call::Word(WordCall::Types(read_type(words)?, read_type(words)?))),
-        b"class" => Ok(Call::Word(WordCall::Class(DNSClass(read_short(words)?)))),
-        b"code" => Ok(Call::Word(WordCall::Code(code_of(read_short(words)?)))),
-        b"record" => Ok(Call::Record(RecordCall::Show(read_any_record(alloc, words)?))),
-        b"equal" => read_equal(alloc, words),
-        b"octets" => {
-            let record_type = read_type(words)?;
-            let octets = read_octets(alloc, words)?;
-            Ok(Call::Record(RecordCall::Octets(record_type, octets)))
-        }
-        b"set" => Ok(Call::Set(read_set(alloc, words)?)),
-        b"insert" | b"add" | b"sign" | b"unsign" | b"show" | b"records" | b"keep" | b"kept" => {
-            Ok(Call::Set(read_set_call(alloc, verb, words)?))
-        }
-        b"empty" | b"make" => Ok(Call::Zone(read_zone(alloc, verb, words)?)),
-        b"shelve" | b"about" | b"put" | b"clear" | b"dump" => {
-            Ok(Call::Zone(read_plain_zone_call(alloc, verb, words)?))
-        }
-        b"upsert" | b"remove" | b"any" | b"search" | b"chase" | b"lookup" => {
-            Ok(Call::Zone(read_zone_call(alloc, verb, words)?))
-        }
-        b"additionals" | b"request" => Ok(Call::Search(read_search_call(alloc, verb, words)?)),
-        b"key" | b"signers" | b"secure" | b"at" => {
-            Ok(Call::Signing(read_signing_call(alloc, verb, words)?))
-        }
-        b"kind" | b"closest" | b"deny" => {
-            Ok(Call::Denial(read_denial_call(alloc, verb, words)?))
-        }
-        b"transfer" => read_transfer(alloc, words),
-        verb => Ok(Call::Name(read_name_call(alloc, verb, words)?)),
+        "types" => Ok(WordCall::Types(read_type(words)?, read_type(words)?)),
+        "class" => Ok(WordCall::Class(DNSClass(read_short(words)?))),
+        _ => Ok(WordCall::Code(code_of(read_short(words)?))),
+    }
+}
+
+/// Reads a call on data and records.
+fn read_record_call(
+    alloc: Global,
+    verb: &str,
+    words: &mut Words<'_>,
+) -> Result<RecordCall, TextError> {
+    match verb {
+        "record" => Ok(RecordCall::Show(read_any_record(alloc, words)?)),
+        "equal" => read_equal(alloc, words),
+        _ => Ok(RecordCall::Octets(read_type(words)?, read_octets(alloc, words)?)),
     }
 }
 
@@ -124,42 +196,42 @@ fn code_of(number: u16) -> ResponseCode {
 }
 
 /// Reads two records with `=` between them.
-fn read_equal(alloc: Global, words: &mut Words<'_>) -> Result<Call, TextError> {
+fn read_equal(alloc: Global, words: &mut Words<'_>) -> Result<RecordCall, TextError> {
     let first = Box::new(alloc, read_any_record(alloc, words)?)?;
     read_word(words, b"=")?;
-    let second = read_any_record(alloc, words)?;
-    Ok(Call::Record(RecordCall::Equal(first, second)))
+    Ok(RecordCall::Equal(first, read_any_record(alloc, words)?))
 }
 
 /// Reads the owner, the type, and the serial or the TTL of a set.
 fn read_set(alloc: Global, words: &mut Words<'_>) -> Result<SetCall, TextError> {
     let owner = read_name(alloc, words)?;
     let record_type = read_type(words)?;
-    let part = words.take_needed()?;
+    let part = take_text(words)?;
     let number = read_u32(words.take_needed()?).ok_or(TextError::BadText)?;
     match part {
-        b"serial" => Ok(SetCall::New(owner, record_type, number)),
-        b"ttl" => Ok(SetCall::WithTtl(owner, record_type, number)),
+        "serial" => Ok(SetCall::New(owner, record_type, number)),
+        "ttl" => Ok(SetCall::WithTtl(owner, record_type, number)),
         _ => Err(TextError::BadText),
     }
 }
 
 /// Reads a call on the set in hand.
-fn read_set_call(alloc: Global, verb: &[u8], words: &mut Words<'_>) -> Result<SetCall, TextError> {
+fn read_set_call(alloc: Global, verb: &str, words: &mut Words<'_>) -> Result<SetCall, TextError> {
     match verb {
-        b"insert" => {
+        "set" => read_set(alloc, words),
+        "insert" => {
             let serial = read_serial(words)?;
             Ok(SetCall::Insert(read_any_record(alloc, words)?, serial))
         }
-        b"add" => {
+        "add" => {
             let record_type = read_type(words)?;
             Ok(SetCall::Add(read_any_data(alloc, record_type, words)?))
         }
-        b"sign" => Ok(SetCall::Sign(read_any_record(alloc, words)?)),
-        b"unsign" => Ok(SetCall::Unsign),
-        b"show" => Ok(SetCall::Show),
-        b"records" => Ok(SetCall::Records(words.take() == Some(b"signed".as_slice()))),
-        b"keep" => Ok(SetCall::Keep),
+        "sign" => Ok(SetCall::Sign(read_any_record(alloc, words)?)),
+        "unsign" => Ok(SetCall::Unsign),
+        "show" => Ok(SetCall::Show),
+        "records" => Ok(SetCall::Records(words.take() == Some(b"signed".as_slice()))),
+        "keep" => Ok(SetCall::Keep),
         _ => Ok(SetCall::Kept),
     }
 }
@@ -170,31 +242,11 @@ fn read_serial(words: &mut Words<'_>) -> Result<u32, TextError> {
     read_u32(words.take_needed()?).ok_or(TextError::BadText)
 }
 
-/// Reads what a zone is made with.
-fn read_zone(alloc: Global, verb: &[u8], words: &mut Words<'_>) -> Result<ZoneCall, TextError> {
-    let head = read_head(alloc, words)?;
-    if verb == b"empty".as_slice() {
-        Ok(ZoneCall::Empty(head))
-    } else {
-        Ok(ZoneCall::Make(head, BTreeMap::new(alloc)))
-    }
-}
-
 /// Reads an origin, what the server is to the zone, who may transfer it, and how it denies.
 fn read_head(alloc: Global, words: &mut Words<'_>) -> Result<Head, TextError> {
     let origin = read_name(alloc, words)?;
-    let zone_type = match words.take_needed()? {
-        b"Primary" => ZoneType::Primary,
-        b"Secondary" => ZoneType::Secondary,
-        b"External" => ZoneType::External,
-        _ => return Err(TextError::BadText),
-    };
-    let policy = match words.take_needed()? {
-        b"Deny" => AxfrPolicy::Deny,
-        b"AllowAll" => AxfrPolicy::AllowAll,
-        b"AllowSigned" => AxfrPolicy::AllowSigned,
-        _ => return Err(TextError::BadText),
-    };
+    let zone_type = read_zone_type(words)?;
+    let policy = read_policy(words)?;
     let kind = read_kind(words)?;
     Ok(Head {
         origin,
@@ -204,42 +256,70 @@ fn read_head(alloc: Global, words: &mut Words<'_>) -> Result<Head, TextError> {
     })
 }
 
+fn read_zone_type(words: &mut Words<'_>) -> Result<ZoneType, TextError> {
+    match take_text(words)? {
+        "Primary" => Ok(ZoneType::Primary),
+        "Secondary" => Ok(ZoneType::Secondary),
+        "External" => Ok(ZoneType::External),
+        _ => Err(TextError::BadText),
+    }
+}
+
+fn read_policy(words: &mut Words<'_>) -> Result<AxfrPolicy, TextError> {
+    match take_text(words)? {
+        "Deny" => Ok(AxfrPolicy::Deny),
+        "AllowAll" => Ok(AxfrPolicy::AllowAll),
+        "AllowSigned" => Ok(AxfrPolicy::AllowSigned),
+        _ => Err(TextError::BadText),
+    }
+}
+
+/// Reads a call on the zone, which asks for nothing.
+fn read_zone_call(alloc: Global, verb: &str, words: &mut Words<'_>) -> Result<ZoneCall, TextError> {
+    match verb {
+        "empty" => Ok(ZoneCall::Empty(read_head(alloc, words)?)),
+        "make" => Ok(ZoneCall::Make(read_head(alloc, words)?, BTreeMap::new(alloc))),
+        "upsert" => {
+            let serial = read_serial(words)?;
+            Ok(ZoneCall::Upsert(read_any_record(alloc, words)?, serial))
+        }
+        "remove" => Ok(ZoneCall::Remove(read_key(alloc, words)?)),
+        "any" => Ok(ZoneCall::Any(LowerName::from(read_name(alloc, words)?))),
+        _ => read_plain_zone_call(alloc, verb, words),
+    }
+}
+
 /// Reads a call on the zone that is passed nothing, or a key for the shelf.
 fn read_plain_zone_call(
     alloc: Global,
-    verb: &[u8],
+    verb: &str,
     words: &mut Words<'_>,
 ) -> Result<ZoneCall, TextError> {
     match verb {
-        b"shelve" => match words.take() {
+        "shelve" => match words.take() {
             None => Ok(ZoneCall::Shelve),
             Some(b"under") => Ok(ZoneCall::ShelveUnder(read_key(alloc, words)?)),
             Some(_) => Err(TextError::BadText),
         },
-        b"about" => Ok(ZoneCall::About),
-        b"put" => Ok(ZoneCall::Put),
-        b"clear" => Ok(ZoneCall::Clear),
+        "about" => Ok(ZoneCall::About),
+        "put" => Ok(ZoneCall::Put),
+        "clear" => Ok(ZoneCall::Clear),
         _ => Ok(ZoneCall::Dump),
     }
 }
 
-/// Reads a call on the zone that is passed a record, a key, a name or a question.
-fn read_zone_call(
+/// Reads a call on the zone that asks a question.
+fn read_asking_call(
     alloc: Global,
-    verb: &[u8],
+    verb: &str,
     words: &mut Words<'_>,
 ) -> Result<ZoneCall, TextError> {
-    match verb {
-        b"upsert" => {
-            let serial = read_serial(words)?;
-            Ok(ZoneCall::Upsert(read_any_record(alloc, words)?, serial))
-        }
-        b"remove" => Ok(ZoneCall::Remove(read_key(alloc, words)?)),
-        b"any" => Ok(ZoneCall::Any(LowerName::from(read_name(alloc, words)?))),
-        b"search" => Ok(ZoneCall::Ask(read_question(alloc, words)?, Ask::Search)),
-        b"chase" => Ok(ZoneCall::Ask(read_question(alloc, words)?, Ask::Chase)),
-        _ => Ok(ZoneCall::Ask(read_question(alloc, words)?, Ask::Lookup)),
-    }
+    let ask = match verb {
+        "search" => Ask::Search,
+        "chase" => Ask::Chase,
+        _ => Ask::Lookup,
+    };
+    Ok(ZoneCall::Ask(read_question(alloc, words)?, ask))
 }
 
 /// Reads what is asked for.

@@ -1,6 +1,7 @@
 //! Reads calls on names, and calls that copy.
 
 use crate::call::{Call, NameCall, OnName, RecordCall, SetCall};
+use crate::read::take_text;
 use crate::read_records::{read_any_data, read_any_record, read_kind, read_label};
 use std::alloc::Global;
 use zone_proto::{LowerName, Name};
@@ -9,23 +10,23 @@ use zone_text::{TextError, Words, read_key, read_name, read_type};
 /// Reads the words after the verb of a call on names.
 pub fn read_name_call(
     alloc: Global,
-    verb: &[u8],
+    verb: &str,
     words: &mut Words<'_>,
 ) -> Result<NameCall, TextError> {
     match verb {
-        b"labels" => Ok(NameCall::Labels(read_labels(alloc, words)?)),
-        b"shorten" => Ok(NameCall::Shorten(read_lower(alloc, words)?)),
-        b"lowered" => Ok(NameCall::Lowered(read_name(alloc, words)?)),
-        b"converted" => Ok(NameCall::Converted(read_name(alloc, words)?)),
-        b"holds" => {
+        "labels" => Ok(NameCall::Labels(read_labels(alloc, words)?)),
+        "shorten" => Ok(NameCall::Shorten(read_lower(alloc, words)?)),
+        "lowered" => Ok(NameCall::Lowered(read_name(alloc, words)?)),
+        "converted" => Ok(NameCall::Converted(read_name(alloc, words)?)),
+        "holds" => {
             let (zone, name) = read_names(alloc, words)?;
             Ok(NameCall::Holds(zone, name))
         }
-        b"order" => {
+        "order" => {
             let (first, second) = read_names(alloc, words)?;
             Ok(NameCall::Order(first, second))
         }
-        b"keys" => {
+        "keys" => {
             let first = read_key(alloc, words)?;
             Ok(NameCall::Keys(first, read_key(alloc, words)?))
         }
@@ -38,13 +39,13 @@ pub fn read_name_call(
 
 /// Reads a call on names in lower case.
 pub fn read_lower_call(alloc: Global, words: &mut Words<'_>) -> Result<NameCall, TextError> {
-    match words.take_needed()? {
-        b"labels" => Ok(NameCall::LowerLabels(read_labels(alloc, words)?)),
-        b"holds" => {
+    match take_text(words)? {
+        "labels" => Ok(NameCall::LowerLabels(read_labels(alloc, words)?)),
+        "holds" => {
             let zone = read_lower(alloc, words)?;
             Ok(NameCall::LowerHolds(zone, read_lower(alloc, words)?))
         }
-        b"order" => {
+        "order" => {
             let first = read_lower(alloc, words)?;
             Ok(NameCall::LowerOrder(first, read_lower(alloc, words)?))
         }
@@ -56,31 +57,31 @@ pub fn read_lower_call(alloc: Global, words: &mut Words<'_>) -> Result<NameCall,
 }
 
 /// Reads what is done with one name.
-fn read_on_name(alloc: Global, verb: &[u8], words: &mut Words<'_>) -> Result<OnName, TextError> {
+fn read_on_name(alloc: Global, verb: &str, words: &mut Words<'_>) -> Result<OnName, TextError> {
     match verb {
-        b"describe" => Ok(OnName::Describe),
-        b"base" => Ok(OnName::Base),
-        b"star" => Ok(OnName::Star),
-        b"wire" => Ok(OnName::Wire),
-        b"copy" => Ok(OnName::Copied),
-        b"prepend" => Ok(OnName::Prepend(read_label(alloc, words.take_needed()?)?)),
+        "describe" => Ok(OnName::Describe),
+        "base" => Ok(OnName::Base),
+        "star" => Ok(OnName::Star),
+        "wire" => Ok(OnName::Wire),
+        "copy" => Ok(OnName::Copied),
+        "prepend" => Ok(OnName::Prepend(read_label(alloc, words.take_needed()?)?)),
         _ => Err(TextError::BadText),
     }
 }
 
 /// Reads what is copied.
 pub fn read_copy(alloc: Global, words: &mut Words<'_>) -> Result<Call, TextError> {
-    match words.take_needed()? {
-        b"name" => Ok(Call::Name(NameCall::On(read_name(alloc, words)?, OnName::Copied))),
-        b"key" => Ok(Call::Name(NameCall::CopiedKey(read_key(alloc, words)?))),
-        b"record" => Ok(Call::Record(RecordCall::Copied(read_any_record(alloc, words)?))),
-        b"data" => {
+    match take_text(words)? {
+        "name" => Ok(Call::Name(NameCall::On(read_name(alloc, words)?, OnName::Copied))),
+        "key" => Ok(Call::Name(NameCall::CopiedKey(read_key(alloc, words)?))),
+        "record" => Ok(Call::Record(RecordCall::Copied(read_any_record(alloc, words)?))),
+        "data" => {
             let record_type = read_type(words)?;
             let rdata = read_any_data(alloc, record_type, words)?;
             Ok(Call::Record(RecordCall::CopiedData(rdata)))
         }
-        b"kind" => Ok(Call::Record(RecordCall::CopiedKind(read_kind(alloc, words)?))),
-        b"set" => Ok(Call::Set(SetCall::Copied)),
+        "kind" => Ok(Call::Record(RecordCall::CopiedKind(read_kind(alloc, words)?))),
+        "set" => Ok(Call::Set(SetCall::Copied)),
         _ => Err(TextError::BadText),
     }
 }

@@ -10,11 +10,11 @@ use zone_text::{TextError, Words, read_name, read_type, read_u16};
 /// Reads the words after the verb of such a call.
 pub fn read_search_call(
     alloc: Global,
-    verb: &[u8],
+    verb: &str,
     words: &mut Words<'_>,
 ) -> Result<SearchCall, TextError> {
     match verb {
-        b"request" => Ok(SearchCall::Request(read_request(alloc, words)?)),
+        "request" => Ok(SearchCall::Request(read_request(alloc, words)?)),
         _ => {
             let next = LowerName::from(read_name(alloc, words)?);
             Ok(SearchCall::Additionals(next, read_question(alloc, words)?))

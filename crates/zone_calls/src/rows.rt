@@ -1,30 +1,53 @@
 //! Rows: calls and the answers that are wanted.
 
-use crate::bench::Bench;
-use crate::read::read_call;
+use crate::bench::{Bench, read_prepared_call};
 use crate::scarcely::{make_in_ever_more_memory, make_without_memory};
 use std::alloc::{AllocError, Global};
 use std::fmt::Display;
 use zone_text::TextError;
 
-/// Makes the calls of all rows on one bench. The report counts the rows, and has a line for each with another answer.
+/// Makes the calls of all rows on one bench. The report counts the rows, and has a line for each with another answer. What it
+/// is made of is lent, so no early exit within the loop has to drop it.
 pub fn report(alloc: Global, text: &str) -> Result<String, AllocError> {
     let mut bench = Box::new(alloc, Bench::new(alloc))?;
-    let mut report = String::new(alloc);
+    let mut faults = String::new(alloc);
+    let (rows, wrong) = make_rows(alloc, &mut bench, text, &mut faults)?;
+    format!(in alloc; "{rows} rows, {wrong} wrong{faults}")
+}
+
+/// Makes the calls of all rows: how many rows there are, and how many have another answer.
+fn make_rows(
+    alloc: Global,
+    bench: &mut Bench,
+    text: &str,
+    faults: &mut String,
+) -> Result<(usize, usize), AllocError> {
     let (mut rows, mut wrong) = (0usize, 0usize);
     for row in text.lines() {
-        let Some((call, wanted)) = row.split_once(" => ") else {
-            continue;
-        };
-        rows = rows.saturating_add(1);
-        let got = answer(alloc, &mut bench, call)?;
-        if got.as_str() != wanted {
-            wrong = wrong.saturating_add(1);
-            writeln!(report)?;
-            write!(report, "  WRONG {call} => {got}, and not {wanted}")?;
+        if let Some((call, wanted)) = row.split_once(" => ") {
+            rows = rows.saturating_add(1);
+            if !answers(alloc, bench, call, wanted, faults)? {
+                wrong = wrong.saturating_add(1);
+            }
         }
     }
-    format!(in alloc; "{rows} rows, {wrong} wrong{report}")
+    Ok((rows, wrong))
+}
+
+/// Whether a row has the answer that is wanted. If not, a line is added to the faults.
+fn answers(
+    alloc: Global,
+    bench: &mut Bench,
+    call: &str,
+    wanted: &str,
+    faults: &mut String,
+) -> Result<bool, AllocError> {
+    let got = answer(alloc, bench, call)?;
+    if got.as_str() == wanted {
+        return Ok(true);
+    }
+    write!(faults, "\n  WRONG {call} => {got}, and not {wanted}")?;
+    Ok(false)
 }
 
 /// The answer to a row.
@@ -45,8 +68,7 @@ fn answer_or_fault(alloc: Global, bench: &mut Bench, row: &str) -> Result<String
         let (refused, answer) = make_in_ever_more_memory(alloc, bench, call)?;
         return Ok(refused_text(alloc, least, refused, answer)?);
     }
-    let mut call = read_call(alloc, row)?;
-    bench.prepare(&mut call)?;
+    let call = read_prepared_call(alloc, bench, row)?;
     let answer = bench.make(alloc, Box::into_inner(call));
     Ok(text_of(alloc, answer)?)
 }

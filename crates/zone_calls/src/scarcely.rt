@@ -1,8 +1,7 @@
 //! Calls to which memory is refused.
 
 use crate::answer::Answer;
-use crate::bench::Bench;
-use crate::read::read_call;
+use crate::bench::{Bench, read_prepared_call};
 use scarce::Scarcity;
 use std::alloc::Global;
 use zone_text::TextError;
@@ -75,11 +74,9 @@ fn make_in_room(
     room: usize,
 ) -> Result<Answer, TextError> {
     scarce.leave(DESK);
-    let mut call = read_call(alloc, row)?;
-    bench.prepare(&mut call)?;
-    let call = Box::into_inner(call);
+    let call = read_prepared_call(alloc, bench, row)?;
     scarce.leave(room);
-    Ok(bench.make(alloc, call))
+    Ok(bench.make(alloc, Box::into_inner(call)))
 }
 
 /// Whether a refusal left all as it was.

@@ -14,13 +14,13 @@ use zone_text::{TextError, Words, read_name, read_u16, read_u64};
 /// Reads the words after the verb of such a call.
 pub fn read_signing_call(
     alloc: Global,
-    verb: &[u8],
+    verb: &str,
     words: &mut Words<'_>,
 ) -> Result<SigningCall, TextError> {
     match verb {
-        b"key" => Ok(SigningCall::Key(read_signer(alloc, words)?)),
-        b"signers" => Ok(SigningCall::Signers),
-        b"secure" => Ok(SigningCall::Secure(read_moment(words)?)),
+        "key" => Ok(SigningCall::Key(read_signer(alloc, words)?)),
+        "signers" => Ok(SigningCall::Signers),
+        "secure" => Ok(SigningCall::Secure(read_moment(words)?)),
         _ => {
             let moment = read_moment(words)?;
             Ok(SigningCall::LookupAt(moment, read_question(alloc, words)?))
