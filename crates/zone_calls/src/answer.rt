@@ -133,6 +133,7 @@ impl fmt::Display for Answer {
             Answer::Lookup(error) => write!(f, "error: {error}"),
             Answer::Zone(error) => write!(f, "error: {error}"),
             Answer::Secure(error) => write!(f, "error: {error:?}"),
+            // All others have nothing in them, and so a text of their own.
             plain => match plain.plain_text() {
                 Some(text) => write!(f, "{text}"),
                 None => Ok(()),

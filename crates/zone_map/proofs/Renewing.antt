@@ -16,7 +16,7 @@ use Rattle.zone_proto.specs.Sets.{RRset}
 use Rattle.zone_proto.specs.Stepping.{stepped, stepped_records}
 use Rattle.zone_proto.proofs.KeyLaws.{key_cmp_total}
 use Rattle.zone_proto.proofs.Stepped.{IsSet-stepped_set}
-use Rattle.zone_map.specs.Renewals.{resigned, renewed_set, renewed}
+use Rattle.zone_map.specs.Renewals.{with_signatures, renewed_set, renewed}
 use Rattle.zone_map.specs.Zones.{Sets, set_at, IsStoredAt, IsZone}
 
 -- a set whose serial is stepped stays under its key
@@ -63,53 +63,53 @@ IsZone-renewed apex es made zone =
       stored = λ n t s h. let before = found_renewed apex n t es made s h in before.2 (zone.stored n t before.0 before.1);
     }
 
-keys_of-resigned : (es : Sets) (made : List (List Record)) → keys_of (resigned es made) ≡ keys_of es
-keys_of-resigned [] made = refl
-keys_of-resigned (e ∷ es) [] = refl
-keys_of-resigned (e ∷ es) (x ∷ made) = ap (λ ks. e.0 ∷ ks) (keys_of-resigned es made)
+keys_of-with_signatures : (es : Sets) (made : List (List Record)) → keys_of (with_signatures es made) ≡ keys_of es
+keys_of-with_signatures [] made = refl
+keys_of-with_signatures (e ∷ es) [] = refl
+keys_of-with_signatures (e ∷ es) (x ∷ made) = ap (λ ks. e.0 ∷ ks) (keys_of-with_signatures es made)
 
 -- where no set stands under `apex`, new signatures are all
-pub renewed_without : (apex : RrKey) (es : Sets) (made : List (List Record)) → lookup (key_eq apex) (resigned es made) ≡ None → resigned es made ≡ renewed apex es made
+pub renewed_without : (apex : RrKey) (es : Sets) (made : List (List Record)) → lookup (key_eq apex) (with_signatures es made) ≡ None → with_signatures es made ≡ renewed apex es made
 renewed_without apex [] made h = refl
 renewed_without apex (e ∷ es) [] h = refl
 renewed_without apex (e ∷ es) (x ∷ made) h = by (key_eq apex e.0) h (renewed_without apex es made)
   where
-    by : (b : Bool) → cond b (Some (record e.1 { signatures = x })) (lookup (key_eq apex) (resigned es made)) ≡ None
-        → (lookup (key_eq apex) (resigned es made) ≡ None → resigned es made ≡ renewed apex es made)
-        → (e.0, record e.1 { signatures = x }) ∷ resigned es made ≡ (e.0, record (if b then stepped e.1 else e.1) { signatures = x }) ∷ renewed apex es made
+    by : (b : Bool) → cond b (Some (record e.1 { signatures = x })) (lookup (key_eq apex) (with_signatures es made)) ≡ None
+        → (lookup (key_eq apex) (with_signatures es made) ≡ None → with_signatures es made ≡ renewed apex es made)
+        → (e.0, record e.1 { signatures = x }) ∷ with_signatures es made ≡ (e.0, record (if b then stepped e.1 else e.1) { signatures = x }) ∷ renewed apex es made
     by true g i = absurd cc
     by false g i = ap (λ rest. (e.0, record e.1 { signatures = x }) ∷ rest) (i g)
 
 -- else they are all once the serial of the set there is stepped, as no key stands twice
-pub renewed_with : (apex : RrKey) (es : Sets) (made : List (List Record)) (s : RRset) → IsStrictlySortedBy key_cmp (keys_of es) → lookup (key_eq apex) (resigned es made) ≡ Some s
-    → length made ≡ length es → set_value (key_eq apex) (resigned es made) (stepped s) ≡ renewed apex es made
+pub renewed_with : (apex : RrKey) (es : Sets) (made : List (List Record)) (s : RRset) → IsStrictlySortedBy key_cmp (keys_of es) → lookup (key_eq apex) (with_signatures es made) ≡ Some s
+    → length made ≡ length es → set_value (key_eq apex) (with_signatures es made) (stepped s) ≡ renewed apex es made
 renewed_with apex [] made s sorted h l = refl
 renewed_with apex (e ∷ es) [] s sorted h l = absurd (omega (arith, l))
 renewed_with apex (e ∷ es) (x ∷ made) s sorted h l =
     by (key_eq apex e.0) refl h (λ g. renewed_with apex es made s (sorted_tail key_cmp e.0 (keys_of es) sorted) g (omega (arith, l)))
   where
-    by : (b : Bool) → key_eq apex e.0 ≡ b → cond b (Some (record e.1 { signatures = x })) (lookup (key_eq apex) (resigned es made)) ≡ Some s
-        → (lookup (key_eq apex) (resigned es made) ≡ Some s → set_value (key_eq apex) (resigned es made) (stepped s) ≡ renewed apex es made)
-        → cond b ((e.0, stepped s) ∷ resigned es made) ((e.0, record e.1 { signatures = x }) ∷ set_value (key_eq apex) (resigned es made) (stepped s))
+    by : (b : Bool) → key_eq apex e.0 ≡ b → cond b (Some (record e.1 { signatures = x })) (lookup (key_eq apex) (with_signatures es made)) ≡ Some s
+        → (lookup (key_eq apex) (with_signatures es made) ≡ Some s → set_value (key_eq apex) (with_signatures es made) (stepped s) ≡ renewed apex es made)
+        → cond b ((e.0, stepped s) ∷ with_signatures es made) ((e.0, record e.1 { signatures = x }) ∷ set_value (key_eq apex) (with_signatures es made) (stepped s))
         ≡ (e.0, record (if b then stepped e.1 else e.1) { signatures = x }) ∷ renewed apex es made
     by true k g i =
         let same : s ≡ record e.1 { signatures = x } = cc in
-        let others = none_past_head (eq_by_cmp_equiv key_cmp_total) apex (e.0, s) (resigned es made)
-        (IsDistinct-from_sorted key_cmp _ (subst (IsStrictlySortedBy key_cmp) (sym (keys_of-resigned (e ∷ es) (x ∷ made))) sorted)) k in
-        ap (λ (v : RRset). (e.0, stepped v) ∷ resigned es made) same
-        ∙ ap (λ rest. (e.0, record (stepped e.1) { signatures = x }) ∷ rest) (renewed_without apex es made (lookup-none (key_eq apex) (resigned es made) others))
+        let others = none_past_head (eq_by_cmp_equiv key_cmp_total) apex (e.0, s) (with_signatures es made)
+        (IsDistinct-from_sorted key_cmp _ (subst (IsStrictlySortedBy key_cmp) (sym (keys_of-with_signatures (e ∷ es) (x ∷ made))) sorted)) k in
+        ap (λ (v : RRset). (e.0, stepped v) ∷ with_signatures es made) same
+        ∙ ap (λ rest. (e.0, record (stepped e.1) { signatures = x }) ∷ rest) (renewed_without apex es made (lookup-none (key_eq apex) (with_signatures es made) others))
     by false k g i = ap (λ rest. (e.0, record e.1 { signatures = x }) ∷ rest) (i g)
 
 -- a pass over a map that puts the next signatures of a list into each set
 module _ {F : Type 0} (T : F → RrKey → RRset → Bool → RRset → F → Type 0) (left : F → List (List Record))
     (steps : (f : F) (k : RrKey) (v : RRset) (b : Bool) (w : RRset) (f' : F) → T f k v b w f' → (x : List Record) (xs : List (List Record)) → left f ≡ x ∷ xs
     → (b ≡ true) × (w ≡ record v { signatures = x }) × (left f' ≡ xs)) where
-  pub resigned_by : (f : F) (es kept : Sets) (xs : List (List Record)) → left f ≡ xs → length xs ≡ length es → RetainsPairs T f es kept → kept ≡ resigned es xs
-  resigned_by f [] kept xs r l h = h
-  resigned_by f (e ∷ es) kept [] r l h = absurd (omega (arith, l))
-  resigned_by f (e ∷ es) kept (x ∷ xs) r l (b, w, f', others, t, more, k) =
+  pub signatures_put : (f : F) (es kept : Sets) (xs : List (List Record)) → left f ≡ xs → length xs ≡ length es → RetainsPairs T f es kept → kept ≡ with_signatures es xs
+  signatures_put f [] kept xs r l h = h
+  signatures_put f (e ∷ es) kept [] r l h = absurd (omega (arith, l))
+  signatures_put f (e ∷ es) kept (x ∷ xs) r l (b, w, f', others, t, more, k) =
       let s = steps f e.0 e.1 b w f' t x xs r in
-      let i = resigned_by f' es others xs s.2 (omega (arith, l)) more in
+      let i = signatures_put f' es others xs s.2 (omega (arith, l)) more in
       k ∙ ap (λ (c : Bool). cond c ((e.0, w) ∷ others) others) s.0
       ∙ ap (λ (y : RRset). (e.0, y) ∷ others) s.1
       ∙ ap (λ (ys : Sets). (e.0, record e.1 { signatures = x }) ∷ ys) i

@@ -30,21 +30,6 @@ own_is : (m : Sets) (n : Name) (t : ℕ) → (n ≡ [] → ⊥)
 own_is m [] t h = absurd (h refl)
 own_is m (l ∷ n) t h = own_case (set_at m (l ∷ n) NS) (owns m (l ∷ n) NS) (owns m (l ∷ n) SOA) (t == DS) (name_eq (l ∷ n) (l ∷ n)) (name_eq_itself (l ∷ n))
 
--- the root says nothing
-pub own_root : (m : Sets) (n : Name) (t : ℕ) → n ≡ [] → own_referral m n t ≡ None
-own_root m n t e = ap (λ x. own_referral m x t) e
-
-pub own_none : (m : Sets) (n : Name) (t : ℕ) → (n ≡ [] → ⊥) → set_at m n NS ≡ None → own_referral m n t ≡ None
-own_none m n t h e =
-    own_is m n t h
-    ∙ ap (λ (o : Option RRset). cond (is_some o) (cond (owns m n SOA) (Some None) (cond (t == DS) None (Some (set_at m n NS)))) None) e
-
-pub own_apex : (m : Sets) (n : Name) (t : ℕ) (s : RRset) → (n ≡ [] → ⊥) → set_at m n NS ≡ Some s → owns m n SOA ≡ true → own_referral m n t ≡ Some None
-own_apex m n t s h e a =
-    own_is m n t h
-    ∙ ap (λ (o : Option RRset). cond (is_some o) (cond (owns m n SOA) (Some None) (cond (t == DS) None (Some (set_at m n NS)))) None) e
-    ∙ ap (λ b. cond b (Some None) (cond (t == DS) None (Some (set_at m n NS)))) a
-
 pub own_cut : (m : Sets) (n : Name) (t : ℕ) (s : RRset) → (n ≡ [] → ⊥) → set_at m n NS ≡ Some s → owns m n SOA ≡ false
     → own_referral m n t ≡ cond (t == DS) None (Some (Some s))
 own_cut m n t s h e a =
@@ -138,18 +123,10 @@ not_found (Some s) h = absurd (h s refl)
 pub walk_referral : (m : Sets) (a e : Name) (r : Option RRset) → IsWalked m a e r → referral_above m a ≡ r
 walk_referral m a e r w = w.same 0 (omega arith)
 
-pub root_refers_nowhere : (m : Sets) (e : Name) → e ≡ [] → referral_above m e ≡ None
-root_refers_nowhere m e h = ap (referral_above m) h
-
 -- ---- walks that stopped at or below a name
 
 pub settled : (m : Sets) (a e : Name) (r : Option RRset) → IsWalked m a e r → IsSettled m a e r
 settled m a e r w = record { walked = λ h. w; next = λ h. absurd (omega (arith, w.upward)) }
-
--- a name that is itself delegated
-pub settled_itself : (m : Sets) (n : Name) → IsSettled m (drop 1 n) n None
-settled_itself m [] = record { walked = λ h. walk_begins m []; next = λ h. refl }
-settled_itself m (l ∷ n) = record { walked = λ h. absurd (omega arith); next = λ h. refl }
 
 pub settled_above : (m : Sets) (a e : Name) (r : Option RRset) → IsWalked m a e r → IsSettled m (drop 1 a) e r
 settled_above m [] e r w = settled m [] e r w
@@ -167,21 +144,10 @@ settled_above m (l ∷ a) e r w =
           ap (drop 1) (w.suffix ∙ ap (λ i. drop i (l ∷ a)) z);
     }
 
--- a walk that stopped at or below a name goes on one label above
-pub goes_on_above : (m : Sets) (n e : Name) (r : Option RRset) → 0 < length n → length n ≤ length e → IsSettled m (drop 1 n) e r → drop 1 e ≡ drop 1 n
-goes_on_above m n e r some long s = s.next (omega (arith, length_rest n))
-
--- or is known already
-pub known_above : (m : Sets) (n e : Name) (r : Option RRset) → length e < length n → IsSettled m (drop 1 n) e r → IsWalked m (drop 1 n) e r
-known_above m n e r short s = s.walked (omega (arith, length_rest n))
-
 -- ---- the direct set
 
 direct_split : (m : Sets) (n : Name) (t : ℕ) → direct m n t ≡ option_or (unwrap_or (own_referral m n t) (referral_above m (drop 1 n))) (exact m n t)
 direct_split m n t = ap (λ r. option_or r (exact m n t)) (referral_split m n t)
-
-pub direct_own : (m : Sets) (n : Name) (t : ℕ) (r : Option RRset) → own_referral m n t ≡ Some r → direct m n t ≡ option_or r (exact m n t)
-direct_own m n t r e = direct_split m n t ∙ ap (λ o. option_or (unwrap_or o (referral_above m (drop 1 n))) (exact m n t)) e
 
 pub direct_above : (m : Sets) (n : Name) (t : ℕ) (r : Option RRset) → own_referral m n t ≡ None → referral_above m (drop 1 n) ≡ r → direct m n t ≡ option_or r (exact m n t)
 direct_above m n t r e h =
@@ -246,17 +212,7 @@ neither_test (l ∷ n) h k = by (label_eq l star_label) refl
     by true e = absurd (k (n, ap (λ x. x ∷ n) ((bytes_eq-Decides l star_label).0 e)))
     by false e = refl
 
-pub root_test : (m : Sets) (signed : Bool) (n : Name) (t : ℕ) → n ≡ [] → wildcard m signed n t ≡ None
-root_test m signed n t e = ap (λ x. wildcard m signed x t) e
-
-pub starred_test : (m : Sets) (signed : Bool) (n : Name) (t : ℕ) → IsWildcard n → wildcard m signed n t ≡ None
-starred_test m signed n t (base, e) = ap (λ x. wildcard m signed x t) e
-
 -- a star stands where the name's first label was
 pub base_of_star : (n : Name) → drop 1 (wildcard_of n) ≡ drop 1 n
 base_of_star [] = refl
 base_of_star (l ∷ n) = refl
-
-pub star_has_label : (n : Name) → (n ≡ [] → ⊥) → 0 < length (wildcard_of n)
-star_has_label [] h = absurd (h refl)
-star_has_label (l ∷ n) h = omega arith

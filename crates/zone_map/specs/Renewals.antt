@@ -8,16 +8,16 @@ use Rattle.zone_proto.specs.Stepping.{stepped}
 use Rattle.zone_map.specs.Zones.{Sets}
 
 -- sets in the order of their keys, each with the signatures of its place in the list
-abbrev pub resigned : Sets → List (List Record) → Sets
-resigned [] made = []
-resigned (e ∷ es) [] = e ∷ es
-resigned (e ∷ es) (signatures ∷ made) = (e.0, record e.1 { signatures = signatures }) ∷ resigned es made
+abbrev pub with_signatures : Sets → List (List Record) → Sets
+with_signatures [] made = []
+with_signatures (e ∷ es) [] = e ∷ es
+with_signatures (e ∷ es) (signatures ∷ made) = (e.0, record e.1 { signatures = signatures }) ∷ with_signatures es made
 
 -- a set with these signatures in the place of those that it has, and with the next serial if its key is `apex`
 abbrev pub renewed_set : RrKey → RrKey → RRset → List Record → RRset
 renewed_set apex k s signatures = record (if key_eq apex k then stepped s else s) { signatures = signatures }
 
--- the same, and the set under `apex` with the next serial
+-- sets in the order of their keys, each renewed with the signatures of its place in the list
 abbrev pub renewed : RrKey → Sets → List (List Record) → Sets
 renewed apex [] made = []
 renewed apex (e ∷ es) [] = e ∷ es

@@ -29,7 +29,7 @@ octet_text s b (itself f h g k) = graphic_octet b h
 octet_text s b (escaped f h g) = graphic_octet b h
 octet_text s b (by_value f h) = omega arith
 
-label_text : (s : List ℕ) (l : Label) → IsLabelText s l → AllByRecursion IsOctet l
+pub label_text : (s : List ℕ) (l : Label) → IsLabelText s l → AllByRecursion IsOctet l
 label_text s [] h = tt
 label_text s (b ∷ l) (first, rest, e, h, more) = (octet_text first b h, label_text rest l more)
 

@@ -6,30 +6,26 @@ use Rattle.std.proofs.Math.Seq.{take-append_seam}
 use Rattle.std.specs.Prelude.{IsTrue}
 use Rattle.std.specs.List.{AllByRecursion}
 use Rattle.zone_proto.specs.Names.{Name, Label, IsLabel, IsName, wire_length}
-use Rattle.zone_proto.specs.Ranges.{IsOctet}
 use Rattle.zone_proto.specs.Packing.{IsInner, IsPackable, packing, name_of, IsPacking}
 use Rattle.zone_proto.specs.TextForm.{is_graphic, itself, IsLabelText, IsLabelsText, IsNameText}
 use Rattle.zone_proto.specs.Unescaped.{IsUnescaped, IsUnescapedLabel, IsFront}
 use Rattle.zone_proto.proofs.Packings.{is_packing, is_name_of}
+use Rattle.zone_proto.proofs.TextFaults.{label_text}
 
-graphic_octet : (b : ℕ) → IsTrue (is_graphic b) → (0 < b) × (b < 256)
-graphic_octet b h = (grind (arith, nat_tests), grind (arith, nat_tests))
+inner_octet : (b : ℕ) → IsTrue (is_graphic b) → 0 < b
+inner_octet b h = grind (arith, nat_tests)
 
 inner_octets : (l : Label) → AllByRecursion IsUnescaped l → AllByRecursion IsInner l
 inner_octets [] h = tt
-inner_octets (b ∷ l) h = ((graphic_octet b h.0.0).0, inner_octets l h.1)
-
-octets : (l : Label) → AllByRecursion IsUnescaped l → AllByRecursion IsOctet l
-octets [] h = tt
-octets (b ∷ l) h = ((graphic_octet b h.0.0).1, octets l h.1)
-
-is_label : (l : Label) → IsUnescapedLabel l → IsLabel l
-is_label l h = record { some = h.some; short = h.short; octets = octets l h.octets }
+inner_octets (b ∷ l) h = (inner_octet b h.0.0, inner_octets l h.1)
 
 -- octets that are themselves are the text of the label that they are
 label_itself : (l : Label) → AllByRecursion IsUnescaped l → IsLabelText l l
 label_itself [] h = refl
 label_itself (b ∷ l) h = (b ∷ [], l, refl, itself refl h.0.0 h.0.1 h.0.2, label_itself l h.1)
+
+is_label : (l : Label) → IsUnescapedLabel l → IsLabel l
+is_label l h = record { some = h.some; short = h.short; octets = label_text l l (label_itself l h.octets) }
 
 -- what follows a label: nothing, or a dot and the text of the labels after it
 abbrev pub Follows : List ℕ → Name → Type 0
@@ -56,20 +52,6 @@ pub record IsReadUpTo (text rest octets : List ℕ) : Type 0 where
   pub labels : AllByRecursion IsLabel (name_of octets)
   pub short : wire_length (name_of octets) + length rest ≤ length text + 1
   pub after : (s : List ℕ) × (text ≡ rest ++ s) × Follows s (name_of octets)
-
-pub nothing_read : (text rest : List ℕ) → (text ≡ rest) ⊎ (text ≡ rest ++ 46 ∷ []) → IsReadUpTo text rest []
-nothing_read text rest (inl e) = record {
-  packing = record { packable = tt; octets = refl };
-  labels = tt;
-  short = omega (arith, ap length e);
-  after = ([], e ∙ sym (append-nil rest), inl (refl, refl));
-}
-nothing_read text rest (inr e) = record {
-  packing = record { packable = tt; octets = refl };
-  labels = tt;
-  short = omega (arith, ap length e, length-append rest (46 ∷ []));
-  after = (46 ∷ [], e, inr ([], refl, refl));
-}
 
 -- the octets with one more label
 abbrev pub with_label : List ℕ → Label → List ℕ

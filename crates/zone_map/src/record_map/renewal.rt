@@ -1,6 +1,6 @@
 // The sets of the record map with new signatures, in place.
 ghost use Rattle.std.specs.Prelude.{◌≡◌, length};
-ghost use Rattle.zone_map.specs.Renewals.{resigned, renewed};
+ghost use Rattle.zone_map.specs.Renewals.{with_signatures, renewed};
 ghost use Rattle.zone_map.specs.Zones.{IsZone};
 
 use crate::record_map::RecordMap;
@@ -16,7 +16,7 @@ impl RecordMap {
         ensures sets { self.new ≡ renewed apex.now self.old rrsigs.items }
         ensures zone { IsZone self.new }
     {
-        resign(&mut self.sets, rrsigs);
+        put_signatures(&mut self.sets, rrsigs);
         // One look-up waits for fewer keys, which stand elsewhere in memory, than a pass that asks each.
         if let Some(set) = self.sets.get_mut(apex) {
             set.step_serial();
@@ -25,9 +25,9 @@ impl RecordMap {
 }
 
 /// Puts signatures in the place of those that sets have, in the order of the keys, of which none is looked at.
-fn resign(sets: &mut BTreeMap<RrKey, RecordSet>, rrsigs: Vec<Rrsigs>)
+fn put_signatures(sets: &mut BTreeMap<RrKey, RecordSet>, rrsigs: Vec<Rrsigs>)
     requires { length rrsigs.items ≡ length sets.old.entries }
-    ensures { sets.new.entries ≡ resigned sets.old.entries rrsigs.items }
+    ensures { sets.new.entries ≡ with_signatures sets.old.entries rrsigs.items }
 {
     let mut left = rrsigs.into_iter();
     sets.retain(|_, set| {

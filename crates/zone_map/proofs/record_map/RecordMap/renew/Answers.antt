@@ -2,7 +2,7 @@ use Rattle.std.proofs.Common.{◌≡◌, length, sym, ap, ◌∙◌, subst}
 use Rattle.std.specs.Map.{lookup, set_value}
 use Rattle.std.specs.Prelude.{Some, None}
 use Rattle.zone_proto.specs.Keys.{key_eq}
-use Rattle.zone_map.specs.Renewals.{resigned, renewed}
+use Rattle.zone_map.specs.Renewals.{with_signatures, renewed}
 use Rattle.zone_map.specs.Zones.{Sets, IsZone}
 use Rattle.zone_map.proofs.Renewing.{IsZone-renewed, renewed_with, renewed_without}
 use Rattle.zone_map.proofs.record_map.RecordMap.renew.Goals as goal
@@ -16,16 +16,16 @@ is_renewed c =
     let same_length : length made ≡ length before = c.requires ∙ ap length (sym c.self.view_is) in
     elim c.match-get_mut.branch [
       | in-Some w ↦
-          let found : lookup (key_eq c.args.apex.now) (resigned before made) ≡ Some w.in-Some.set.now =
-          ap (lookup (key_eq c.args.apex.now)) (sym c.resign.ensures) ∙ sym w.in-Some.ensures.value in
+          let found : lookup (key_eq c.args.apex.now) (with_signatures before made) ≡ Some w.in-Some.set.now =
+          ap (lookup (key_eq c.args.apex.now)) (sym c.put_signatures.ensures) ∙ sym w.in-Some.ensures.value in
           ap (λ i. i.sets.entries) w.self-inside-is ∙ (c.get_mut.follows.holds w.step_serial.new.self).0
-          ∙ ap (λ (m : Sets). set_value (key_eq c.args.apex.now) m w.step_serial.new.self) c.resign.ensures
-          ∙ ap (set_value (key_eq c.args.apex.now) (resigned before made)) w.step_serial.ensures
+          ∙ ap (λ (m : Sets). set_value (key_eq c.args.apex.now) m w.step_serial.new.self) c.put_signatures.ensures
+          ∙ ap (set_value (key_eq c.args.apex.now) (with_signatures before made)) w.step_serial.ensures
           ∙ renewed_with c.args.apex.now before made w.in-Some.set.now c.self.invariant.ordered found same_length
       | in_default w ↦
-          let absent : lookup (key_eq c.args.apex.now) (resigned before made) ≡ None =
-          ap (lookup (key_eq c.args.apex.now)) (sym c.resign.ensures) ∙ sym w.in_default.ensures.value in
-          ap (λ i. i.sets.entries) w.self-inside-is ∙ ap (λ m. m.entries) c.get_mut.follows.holds-at-none ∙ c.resign.ensures ∙ renewed_without c.args.apex.now before made absent
+          let absent : lookup (key_eq c.args.apex.now) (with_signatures before made) ≡ None =
+          ap (lookup (key_eq c.args.apex.now)) (sym c.put_signatures.ensures) ∙ sym w.in_default.ensures.value in
+          ap (λ i. i.sets.entries) w.self-inside-is ∙ ap (λ m. m.entries) c.get_mut.follows.holds-at-none ∙ c.put_signatures.ensures ∙ renewed_without c.args.apex.now before made absent
     ]
 
 pub returns-clause-sets : goal.returns-clause-sets
