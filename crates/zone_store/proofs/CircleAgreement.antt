@@ -18,7 +18,8 @@ use Rattle.zone_denial.specs.NsecLaws.{IsNsecZone}
 use Rattle.zone_denial.proofs.NsecClosest.{finds_or_covers}
 use Rattle.zone_denial.proofs.NsecLists.{lists_all_owned, denials_agree}
 use Rattle.zone_denial.proofs.NsecBelow.{no_next_below, next_below_empty}
-use Rattle.zone_store.specs.Lookup.{Denial, name_exists, nx_domain, refused, denial, error_of, not_a_lookup, answered, denied, IsAnswer, IsReplyFor, SaysOrMemory}
+use Rattle.zone_search.specs.Replies.{Denial, name_exists, nx_domain, refused, denial, not_a_lookup, answered, denied, IsAnswer, IsReplyFor}
+use Rattle.zone_store.specs.Lookup.{error_of, SaysOrMemory}
 use Rattle.zone_store.specs.NsecAnswers.{IsNsecProof, AgreesWithCircle}
 
 -- the step that denies

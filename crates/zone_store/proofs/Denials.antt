@@ -2,7 +2,8 @@
 use Rattle.std.proofs.Common.{◌≡◌, Bool, true, false, cond, refl, ap}
 use Rattle.zone_proto.specs.Names.{Name, IsAtOrAbove, is_at_or_above}
 use Rattle.zone_proto.proofs.NameTree.{is_at_or_above_sound, is_at_or_above_complete}
-use Rattle.zone_store.specs.Lookup.{nx_domain, refused, absent, error_of}
+use Rattle.zone_search.specs.Replies.{nx_domain, refused, absent}
+use Rattle.zone_store.specs.Lookup.{error_of}
 
 pub absent_inside : (origin n : Name) → IsAtOrAbove origin n → error_of (absent origin n) ≡ error_of nx_domain
 absent_inside origin n h = ap (λ b. error_of (cond b nx_domain refused)) (is_at_or_above_complete origin n h)

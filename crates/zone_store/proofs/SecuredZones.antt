@@ -27,8 +27,11 @@ use Rattle.zone_denial.proofs.NsecSecured.{secured_is_circle}
 use Rattle.zone_signing.specs.Secured.{signed, secured_set, IsSecured}
 use Rattle.zone_signing.specs.Signatures.{last_moment}
 use Rattle.zone_signing.proofs.SecuredSets.{IsSecured-keeps}
-use Rattle.zone_store.specs.Handlers.{Zone, Inner, soa, soa_of, first_soa, minimum, serial}
-use Rattle.zone_store.specs.Signing.{next_soa, makes_nsec_sets, to_be_signed, IsSecuring}
+use Rattle.zone_store.specs.Handlers.{Zone}
+use Rattle.zone_search.specs.Inner.{Inner}
+use Rattle.zone_search.specs.StartOfAuthority.{soa, soa_of, first_soa, minimum, serial}
+use Rattle.zone_store.specs.Signing.{next_soa, IsSecuring}
+use Rattle.zone_search.specs.Securing.{makes_nsec_sets, to_be_signed}
 
 -- the data of a stepped set's SOA
 next_data : (d : RData) → soa_of (stepped_data d) ≡ option_map next_soa (soa_of d)
@@ -118,11 +121,6 @@ module _ {S : Type 0} (signature_of : S → SignedPart → ℕ → ℕ → Optio
         circle = secured_is_circle origin before after (minimum before origin) (serial before origin) zone lowered (HasNsecSets-secured made);
         on_circle = same_besides NSEC refl origin before after owned-secured origin ∙ besides;
       }
-
--- a map that is changed into the sets of a zone, or stays as it was, has those of a zone
-pub IsZone-after : {A E : Type 0} (result : Result A E) (before after : Sets) → IsZone before → OnOk result (IsZone after) → OnErr result (after ≡ before) → IsZone after
-IsZone-after (Ok a) before after zone fresh same = fresh
-IsZone-after (Err e) before after zone fresh same = subst IsZone (sym same) zone
 
 -- what a call does that swaps the secured sets in, or leaves all as it was
 pub IsSecuring-made : {S H A : Type 0} (signature_of : S → SignedPart → ℕ → ℕ → Option RRSIG) (old : Zone S H) (now : ℕ) (result : Result A SecureError) (after : Inner S) → now ≤ last_moment

@@ -35,11 +35,11 @@ use Rattle.zone_map.specs.Search.{is_address, is_delegated, is_delegated_for, ne
 use Rattle.zone_map.specs.Wildcards.{found, wildcard}
 use Rattle.zone_map.specs.Zones.{Sets, set_at, owns, IsStoredAt, IsZone}
 use Rattle.zone_map.proofs.Delegations.{found_above}
-use Rattle.zone_store.specs.Flattening.{last_set, stands_for_addresses, alone}
-use Rattle.zone_store.specs.Lookup.{denied, denial, is_followed, answer_section, IsAnswer}
+use Rattle.zone_search.specs.Flattening.{last_set, stands_for_addresses, alone}
+use Rattle.zone_search.specs.Replies.{denied, denial, is_followed, answer_section, IsAnswer}
 use Rattle.zone_store.specs.Transfers.{plain, HasAnswers, IsSoaPart, IsTransfer}
 use Rattle.zone_store.specs.TransferLaws.{HasSoa}
-use Rattle.zone_store.proofs.Replies.{stays_alone}
+use Rattle.zone_search.proofs.Replies.{stays_alone}
 
 refuted : (b : Bool) → (b ≡ true → ⊥) → b ≡ false
 refuted true h = absurd (h refl)

@@ -12,7 +12,8 @@ use Rattle.zone_handler.specs.declared.lookup_options.LookupOptions.{LookupOptio
 use Rattle.zone_handler.specs.declared.lookup_records.LookupRecords.{LookupRecords}
 use Rattle.zone_handler.specs.declared.lookup_records.LookupRecords.TheVariants as section
 use Rattle.zone_handler.specs.AuthLookup.{zone_answers}
-use Rattle.zone_store.specs.Lookup.{Reply, not_a_lookup, denied, answered, SaysOrMemory, Lists}
+use Rattle.zone_search.specs.Replies.{Reply, not_a_lookup, denied, answered, Lists}
+use Rattle.zone_store.specs.Lookup.{SaysOrMemory}
 use Rattle.zone_store.specs.Transfers.{refusal, HasAnswers}
 
 -- a request that hasn't one question is refused for their number

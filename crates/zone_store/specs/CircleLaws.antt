@@ -7,7 +7,7 @@ use Rattle.zone_proto.specs.Signing.{SignedPart}
 use Rattle.zone_handler.specs.declared.key_error.KeyError.{KeyError}
 use Rattle.zone_handler.specs.declared.secure_error.SecureError.{SecureError}
 use Rattle.zone_denial.specs.NsecLaws.{IsNsecZone}
-use Rattle.zone_store.specs.declared.zone_error.ZoneError.{ZoneError}
+use Rattle.zone_search.specs.declared.zone_error.ZoneError.{ZoneError}
 use Rattle.zone_store.specs.Handlers.{Zone}
 use Rattle.zone_store.specs.Insertions.{IsUpsert}
 use Rattle.zone_store.specs.Signing.{IsKeyAdded, IsSecuring}

@@ -1,104 +1,25 @@
--- What a lookup answers
-use Rattle.std.specs.Prelude.{◌≡◌, ◌≢◌, ℕ, Bool, ◌&&◌, not, cond, ◌==◌, List, [], ◌∷◌, Option, Ok, Err, ◌⊎◌, MatchOption, option_and_then}
-use Rattle.std.specs.Bool.{MatchBool}
+-- What a lookup answers: how a call says a reply
+use Rattle.std.specs.Prelude.{◌≡◌, ℕ, Option, Ok, Err, ◌⊎◌}
 use Rattle.zone_proto.specs.declared.response_code.ResponseCode.TheVariants as code
 use Rattle.zone_proto.specs.declared.rdata.signing.RRSIG.{RRSIG}
-use Rattle.zone_proto.specs.declared.record.Record.{Record}
-use Rattle.zone_proto.specs.Names.{Name, is_at_or_above}
-use Rattle.zone_proto.specs.Sets.{RRset}
+use Rattle.zone_proto.specs.Names.{Name}
 use Rattle.zone_proto.specs.Signing.{SignedPart}
-use Rattle.zone_proto.specs.Types.{CNAME, AXFR}
 use Rattle.zone_handler.specs.declared.auth_lookup.AuthLookup.{AuthLookup}
-use Rattle.zone_handler.specs.declared.auth_lookup.AuthLookup.TheVariants as answer
 use Rattle.zone_handler.specs.declared.control_flow.LookupControlFlow.{LookupControlFlow}
 use Rattle.zone_handler.specs.declared.control_flow.LookupControlFlow.TheVariants.{Continue}
 use Rattle.zone_handler.specs.declared.lookup_error.LookupError.{LookupError}
 use Rattle.zone_handler.specs.declared.lookup_error.LookupError.TheVariants as error
 use Rattle.zone_handler.specs.declared.lookup_options.LookupOptions.{LookupOptions}
-use Rattle.zone_handler.specs.declared.lookup_records.LookupRecords.{LookupRecords}
-use Rattle.zone_handler.specs.Answers.{records_in}
-use Rattle.zone_handler.specs.Sets.{sets_records}
 use Rattle.zone_handler.specs.Transfers.{IsNoLookup}
-use Rattle.zone_map.specs.Zones.{Sets, owns_at_or_below}
-use Rattle.zone_map.specs.Wildcards.{found}
-use Rattle.zone_map.specs.Chains.{chain}
-use Rattle.zone_map.specs.AnyTypes.{searched_type}
-use Rattle.zone_store.specs.Additionals.{next_name, AreAdditionals}
-use Rattle.zone_store.specs.Flattening.{last_set, alone, beside}
-use Rattle.zone_store.specs.Handlers.{Zone}
 use Rattle.zone_signing.specs.Signatures.{answer_signatures}
+use Rattle.zone_search.specs.Replies.{Denial, name_exists, nx_domain, refused, Reply, not_a_lookup, denied, answered, IsReply, HasSections}
+use Rattle.zone_store.specs.Handlers.{Zone}
 
--- the negative answers: the name is there without the type (RFC 2308 section 2.2), the name isn't there (RFC 2308 section 2.1), the name isn't the zone's (RFC 1035 section 4.1.1)
-pub data Denial : Type 0 where
-  name_exists : Denial
-  nx_domain : Denial
-  refused : Denial
-
--- a name is there if it or a name below it owns a set, wherever it stands; else it isn't there, and outside the zone it is refused
-abbrev pub absent : Name → Name → Denial
-absent origin n = cond (is_at_or_above origin n) nx_domain refused
-
-abbrev pub denial : Name → Sets → Name → Denial
-denial origin m n = cond (owns_at_or_below m n) name_exists (absent origin n)
-
--- what a lookup answers: that a transfer isn't a lookup, a negative answer, or the sets of the answer section and those of the additional section
-pub data Reply : Type 0 where
-  not_a_lookup : Reply
-  denied : Denial → Reply
-  answered : (answers additionals : List RRset) → Reply
-
--- an alias is followed, unless aliases are asked for (RFC 1034 section 3.6.2)
-abbrev pub is_followed : ℕ → RRset → Bool
-is_followed t s = (s.record_type == CNAME) && not (t == CNAME)
-
--- the sets that answer: the chain from an alias, and else the found set alone
-abbrev pub answer_sets : Sets → Bool → Name → ℕ → RRset → List RRset
-answer_sets m signed n t s = cond (is_followed t s) (chain m signed n s t) (s ∷ [])
-
--- the additional sets are those from where the last of these leads, if it leads anywhere
-abbrev pub AreFrom : Sets → Bool → Name → ℕ → Option RRset → List RRset → Type 0
-AreFrom m signed n t terminal more = MatchOption (option_and_then (next_name t) terminal) (more ≡ []) (λ next. AreAdditionals m signed n t next more)
-
--- the answer section: a chain stays as it is, and a set alone may be flattened; `sign` gives the signatures of a set that the answer makes
-abbrev pub answer_section : (RRset → List Record) → Sets → Bool → Name → ℕ → RRset → List RRset → List RRset
-answer_section sign m signed n t s more = cond (is_followed t s) (chain m signed n s t) (alone sign t s (last_set more) ∷ [])
-
--- the reply by the set that is found
-pub record IsAnswer (sign : RRset → List Record) (m : Sets) (signed : Bool) (n : Name) (t : ℕ) (s : RRset) (r : Reply) : Type 0 where
-  pub more : List RRset
-  pub found : AreFrom m signed n t (last_set (answer_sets m signed n t s)) more
-  pub sections : r ≡ answered (answer_section sign m signed n t s more) (beside t (last_set (answer_sets m signed n t s)) more)
-
--- the reply for a type, by what is found, and without a found set the negative answer
-abbrev pub IsReplyFor : (RRset → List Record) → Name → Sets → Bool → Name → ℕ → Reply → Type 0
-IsReplyFor sign origin m signed n t r = MatchOption (found m signed n t) (r ≡ denied (denial origin m n)) (λ s. IsAnswer sign m signed n t s r)
-
--- a query for the whole zone isn't answered here; for a query of ANY a type is chosen
-abbrev pub IsReply : (RRset → List Record) → Name → Sets → Bool → Name → ℕ → Reply → Type 0
-IsReply sign origin m signed n t r = MatchBool (t == AXFR) (r ≡ not_a_lookup) (IsReplyFor sign origin m signed n (searched_type m n t) r)
-
--- ---- the same as the program says it
-
+-- the negative answers as errors
 abbrev pub error_of : Denial → LookupError
 error_of name_exists = error.NameExists
 error_of nx_domain = error.ResponseCode code.NXDomain
 error_of refused = error.ResponseCode code.Refused
-
--- a section lists the records of sets in their order, with their signatures where the options ask for DNSSEC
-abbrev pub Lists : LookupOptions → List RRset → LookupRecords → Type 0
-Lists options sets section = records_in section ≡ sets_records options sets
-
--- a section that may be left out lists them, and is left out exactly where there are none
-abbrev pub MayList : LookupOptions → List RRset → Option LookupRecords → Type 0
-MayList options sets o = MatchOption o (sets ≡ []) (λ section. (sets ≢ []) × Lists options sets section)
-
--- an answer that has these sets in its sections
-abbrev pub HasSections : LookupOptions → List RRset → List RRset → AuthLookup → Type 0
-HasSections options sets more a = (answers : LookupRecords) × (additionals : Option LookupRecords) × (a ≡ answer.Records answers additionals) × Lists options sets answers × MayList options more additionals
-
--- an answer whose sections are those of a reply
-abbrev pub SaysAnswer : LookupOptions → (Reply → Type 0) → AuthLookup → Type 0
-SaysAnswer options IsTheReply a = (sets : List RRset) × (more : List RRset) × IsTheReply (answered sets more) × HasSections options sets more a
 
 -- how a step of a chain of handlers says a reply
 abbrev pub Says : LookupOptions → Reply → LookupControlFlow AuthLookup LookupError → Type 0

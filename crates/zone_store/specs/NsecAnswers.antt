@@ -21,7 +21,7 @@ use Rattle.zone_denial.specs.NsecCircle.{types_of}
 use Rattle.zone_denial.specs.NsecDenial.{nsec_denial}
 use Rattle.zone_denial.specs.NsecLaws.{LastCovers, FindsOrCovers, IsListed}
 use Rattle.zone_store.specs.Handlers.{Zone}
-use Rattle.zone_store.specs.Lookup.{Lists}
+use Rattle.zone_search.specs.Replies.{Lists}
 
 -- the section of an answer that denies n: it lists the sets that deny n, and keeps the name's own NSEC set by itself, and any others as several
 pub record IsDenialSection (origin : Name) (m : Sets) (options : LookupOptions) (n : Name) (s : LookupRecords) : Type 0 where

@@ -1,40 +1,28 @@
 -- What the calls say that add a signer to a zone, and that secure it
-use Rattle.std.specs.Prelude.{◌≡◌, ◌==◌, ◌&&◌, ◌⊎◌, Bool, true, false, cond, IsTrue, ℕ, ◌+◌, ◌%◌, ◌^◌, ◌<◌, List, [], ◌∷◌, ◌++◌, Option, Some, None, option_map, IfErr, OnOk, OnErr, Result, Err, unwrap_or}
-use Rattle.zone_proto.specs.declared.nx_proof_kind.NxProofKind.{NxProofKind}
-use Rattle.zone_proto.specs.declared.nx_proof_kind.NxProofKind.TheVariants as kind
+use Rattle.std.specs.Prelude.{◌≡◌, ◌⊎◌, IsTrue, ℕ, ◌+◌, ◌%◌, ◌^◌, ◌<◌, [], ◌∷◌, ◌++◌, Option, Some, None, option_map, IfErr, OnOk, OnErr, Result, Err, unwrap_or}
 use Rattle.zone_proto.specs.declared.rdata.RData.TheVariants as V
 use Rattle.zone_proto.specs.declared.rdata.signing.DNSKEY.{DNSKEY}
 use Rattle.zone_proto.specs.declared.rdata.signing.RRSIG.{RRSIG}
 use Rattle.zone_proto.specs.declared.rdata.start_of_authority.SOA.{SOA as SoaData}
 use Rattle.zone_proto.specs.declared.record.Record.{Record}
 use Rattle.zone_proto.specs.Signing.{SignedPart}
-use Rattle.zone_proto.specs.Names.{Name}
 use Rattle.zone_proto.specs.Types.{IN, NSEC}
 use Rattle.zone_handler.specs.declared.key_error.KeyError.{KeyError}
 use Rattle.zone_handler.specs.declared.key_error.KeyError.TheVariants as key_error
 use Rattle.zone_handler.specs.declared.secure_error.SecureError.{SecureError}
 use Rattle.zone_handler.specs.declared.secure_error.SecureError.TheVariants as secure_error
 use Rattle.zone_map.specs.Upserts.{upserted, CnamesStandAlone}
-use Rattle.zone_map.specs.Zones.{Sets, set_at}
 use Rattle.zone_denial.specs.Authority.{owns_besides}
 use Rattle.zone_denial.specs.NsecLaws.{IsNsecZone}
-use Rattle.zone_denial.specs.NsecSets.{nsec_set_at}
-use Rattle.zone_signing.specs.Secured.{SetsBy, IsSecured, KeepsRecords}
+use Rattle.zone_signing.specs.Secured.{IsSecured, KeepsRecords}
 use Rattle.zone_signing.specs.Signatures.{last_moment}
-use Rattle.zone_store.specs.Handlers.{Zone, soa, serial, minimum}
+use Rattle.zone_search.specs.Securing.{makes_nsec_sets, to_be_signed}
+use Rattle.zone_search.specs.StartOfAuthority.{soa, serial, minimum}
+use Rattle.zone_store.specs.Handlers.{Zone}
 
 -- SOA data with the next serial, modulo 2^32
 abbrev pub next_soa : SoaData → SoaData
 next_soa a = record a { serial = (a.serial + 1) % 2 ^ 32 }
-
--- NSEC sets are made where NSEC denies and there is a signer
-abbrev pub makes_nsec_sets : {S : Type 0} → Option NxProofKind → List S → Bool
-makes_nsec_sets (Some kind.Nsec) (signer ∷ signers) = true
-makes_nsec_sets _ signers = false
-
--- the record sets that are to be signed, by name and type: the zone's, and where NSEC sets are made, a circle of these in the place of the ones that it has, with the zone's minimum as their TTL, and with its serial
-abbrev pub to_be_signed : {S : Type 0} → Option NxProofKind → List S → Name → Sets → SetsBy
-to_be_signed kind signers origin m n t = cond (makes_nsec_sets kind signers && (t == NSEC)) (nsec_set_at origin m (minimum m origin) (serial m origin) n t) (set_at m n t)
 
 module _ {S H : Type 0} where
   -- a zone that gets a circle of NSEC sets when it is secured: one of kind NSEC, with a signer, whose origin owns another set than NSEC, as its SOA, and so is on the circle

@@ -7,14 +7,14 @@ ghost use Rattle.zone_proto.specs.Names.{lower};
 ghost use Rattle.zone_proto.specs.Types.{IN};
 ghost use Rattle.zone_proto.specs.Types as types;
 ghost use Rattle.zone_store.specs.Construction.{is_own_key, inserted_sets, made};
-ghost use Rattle.zone_store.specs.Handlers.{soa};
+ghost use Rattle.zone_search.specs.StartOfAuthority.{soa};
 ghost use Rattle.zone_map.specs.Upserts.{all_upserted};
 
-use crate::start_of_authority::first_soa;
-use crate::zone_error::ZoneError;
 use std::collections::BTreeMap;
 use zone_map::RecordMap;
 use zone_proto::{DNSClass, LowerName, Name, ProtoError, RecordSet, RrKey, SOA};
+use zone_search::ZoneError;
+use zone_search::start_of_authority::first_soa;
 
 /// The map of a zone of `origin`, whose SOA stands under the key `apex`, made of sets by their keys; or the first
 /// refusal.

@@ -1,10 +1,11 @@
-ghost use Rattle.std.specs.Prelude.{◌≡◌, ◌≢◌, ◌⊎◌, false, [], Ok, Err, IfErr, IfOk, OnOk, OnErr, IsOkUnless, IsTrue, is_some, unwrap_or, option_and_then, option_copied};
+ghost use Rattle.std.specs.Prelude.{◌≡◌, ◌≢◌, ◌⊎◌, false, [], Ok, Err, IfErr, IfOk, OnOk, OnErr, IsTrue, option_copied};
 ghost use Rattle.zone_proto.specs.Names.{lower, is_at_or_above};
 ghost use Rattle.zone_proto.specs.Types.{IN, SOA, AXFR};
 ghost use Rattle.zone_denial.specs.NsecLaws.{IsNsecZone};
 ghost use Rattle.zone_handler.specs.Transfers.{IsNoLookup};
-ghost use Rattle.zone_store.specs.Handlers.{soa, serial, minimum};
-ghost use Rattle.zone_store.specs.Lookup.{absent, denial, error_of, IsReplyFor, SaysOrMemory, IsLookup, IsAnswered};
+ghost use Rattle.zone_search.specs.StartOfAuthority.{soa, serial, minimum};
+ghost use Rattle.zone_search.specs.Replies.{absent, denial, IsReplyFor};
+ghost use Rattle.zone_store.specs.Lookup.{error_of, SaysOrMemory, IsLookup, IsAnswered};
 ghost use Rattle.zone_store.specs.NsecAnswers.{IsNsecAnswer, IsNsecProof, AgreesWithCircle};
 ghost use Rattle.zone_store.specs.Requests.{IsSearch};
 ghost use Rattle.zone_store.specs.Transfers.{IsZoneTransfer};
@@ -20,11 +21,7 @@ mod denial;
 mod signing;
 
 use crate::construction;
-use crate::inner_in_memory::InnerInMemory;
 use crate::put_refused::PutRefused;
-use crate::searches::Searches;
-use crate::start_of_authority::first_soa;
-use crate::zone_error::ZoneError;
 use std::collections::BTreeMap;
 use std::marker::Model;
 use zone_handler::{
@@ -35,6 +32,8 @@ use zone_proto::{
     DNSClass, LowerName, Name, Nsec3Hash, NxProofKind, Record, RecordSet, RecordType, ResponseCode,
     RrKey, SOA, Signer,
 };
+use zone_search::start_of_authority::first_soa;
+use zone_search::{InnerInMemory, Searches, ZoneError};
 
 // The class of every zone that is made here.
 const CLASS: DNSClass = DNSClass::IN;

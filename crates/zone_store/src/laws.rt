@@ -1,6 +1,6 @@
 //! Laws of the definitions of a zone. Each is an empty function whose contract is the law, so a program has no need to
 //! call one.
-ghost use Rattle.std.specs.Prelude.{◌≡◌, ◌↔◌, ◌<◌, ℕ, List, [], Some, None, IsTrue, false, length};
+ghost use Rattle.std.specs.Prelude.{◌≡◌, ◌↔◌, ◌<◌, ℕ, [], Some, None, IsTrue, false, length};
 ghost use Rattle.std.specs.List.{All, AllPairs, Contains};
 ghost use Rattle.std.specs.List.Sorted.{IsStrictlySortedBy};
 ghost use Rattle.std.specs.Ordering.{nat_cmp};
@@ -13,11 +13,11 @@ ghost use Rattle.zone_map.specs.Search.{is_delegated_for, nearest_delegation};
 ghost use Rattle.zone_map.specs.SearchLaws.{StarIsNearest, ChainIsLongestFront, ChainHasAtMost8};
 ghost use Rattle.zone_map.specs.Upserts.{upserted};
 ghost use Rattle.zone_map.specs.Zones.{Sets, set_at, owns, names_of, owners, types_at, put, without, IsStoredAt, IsZone};
-ghost use Rattle.zone_store.specs.AdditionalLaws.{OneRun, NoNameTwice, RunIsShort, SearchesAreFew, OneList};
 ghost use Rattle.zone_store.specs.CircleLaws.{UntakenKeepsCircle, RefusedKeyKeepsCircle, RefusedSecuringKeepsCircle};
 ghost use Rattle.zone_store.specs.TransferLaws.{BeginsAndEndsWithSoa, HasEachRecord, HasNoneTwice};
 
 use zone_proto::{Nsec3Hash, Signer};
+pub use zone_search::laws::{additionals_are_one_list, runs_end};
 
 /// A zone may have no sets, and its sets stay those of a zone when a set is put under its own owner and type, when one is
 /// taken out, and when a record is inserted.
@@ -69,20 +69,6 @@ pub fn star_is_nearest()
 pub fn chain_is_longest_front()
     ensures front { ChainIsLongestFront }
     ensures at_most { ChainHasAtMost8 }
-{}
-
-/// A run of an additional search searches exactly one list of names: no name twice, and none that was seen before. They are
-/// at most one more than the zone has CNAME and ANAME sets.
-pub fn runs_end()
-    ensures one { OneRun }
-    ensures distinct { NoNameTwice }
-    ensures at_most { RunIsShort }
-    ensures together { SearchesAreFew }
-{}
-
-/// A query has exactly one list of additional sets.
-pub fn additionals_are_one_list()
-    ensures { OneList }
 {}
 
 /// The transfer of a zone begins and ends with its SOA record, where it has one that a lookup finds, and has between the two

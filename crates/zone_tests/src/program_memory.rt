@@ -4,7 +4,7 @@ use crate::streams::{Capture, Feed};
 use scarce::Scarcity;
 use std::alloc::{AllocError, Global};
 use std::test::Fail;
-use zone_store::program;
+use zone_program as program;
 
 /// How many rooms are tried before a run has to succeed.
 const ROOMS: usize = 4_000;

@@ -4,7 +4,7 @@ use crate::difference::{Ending, first_difference};
 use crate::streams::{Capture, Feed, Portion};
 use crate::transcript::Transcript;
 use std::alloc::{AllocError, Global};
-use zone_store::program;
+use zone_program as program;
 
 /// Before and within how many lines a read fails, and at how many answers a write.
 const FAILURES: usize = 16;

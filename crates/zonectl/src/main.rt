@@ -5,7 +5,6 @@ use std::alloc::AllocError;
 use std::io::Write;
 use std::process::ExitCode;
 use std::{env, io};
-use zone_store::program;
 
 fn main(rt: HostRuntime) -> ExitCode {
     let alloc = rt.alloc();
@@ -20,5 +19,5 @@ fn main(rt: HostRuntime) -> ExitCode {
         return ExitCode::from(2);
     };
     let (mut input, mut output, mut fault) = (rt.reader(), io::writer(&rt), rt.stderr());
-    ExitCode::from(program::run(alloc, &args, &mut input, &mut output, &mut fault))
+    ExitCode::from(zone_program::run(alloc, &args, &mut input, &mut output, &mut fault))
 }

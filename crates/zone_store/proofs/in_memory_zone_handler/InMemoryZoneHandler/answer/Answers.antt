@@ -3,12 +3,13 @@ use Rattle.std.specs.Prelude.{Ok, Err, option_map}
 use Rattle.zone_proto.specs.declared.record_type.RecordType.{RecordType}
 use Rattle.zone_handler.specs.declared.control_flow.LookupControlFlow.TheVariants.{Continue}
 use Rattle.zone_map.specs.AnyTypes.{any_type, searched_type}
-use Rattle.zone_store.specs.FoundSets.{found_set}
-use Rattle.zone_store.specs.Lookup.{IsAnswer, IsReplyFor, SaysAnswer, SaysOrMemory}
+use Rattle.zone_search.specs.FoundSets.{found_set}
+use Rattle.zone_search.specs.Replies.{IsAnswer, IsReplyFor, SaysAnswer}
+use Rattle.zone_store.specs.Lookup.{SaysOrMemory}
 use Rattle.zone_signing.specs.Signatures.{answer_signatures}
 use Rattle.zone_map.specs.Wildcards.{found}
 use Rattle.zone_map.specs.Zones.{Sets}
-use Rattle.zone_store.proofs.Replies.{says_found, says_none}
+use Rattle.zone_store.proofs.Lookups.{says_found, says_none}
 use Rattle.zone_store.proofs.in_memory_zone_handler.InMemoryZoneHandler.answer.Goals as goal
 use Rattle.zone_store.proofs.in_memory_zone_handler.InMemoryZoneHandler.answer.Goals.{then-eq+in_ok-record_type, else-eq}
 

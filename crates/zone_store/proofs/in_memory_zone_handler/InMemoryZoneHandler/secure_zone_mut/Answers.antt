@@ -2,7 +2,8 @@ use Rattle.std.proofs.Common.{subst}
 use Rattle.zone_store.specs.Handlers.{Zone}
 use Rattle.std.specs.Prelude.{OnOk}
 use Rattle.zone_signing.specs.Secured.{IsSecured}
-use Rattle.zone_store.specs.Signing.{to_be_signed, IsSecuring}
+use Rattle.zone_search.specs.Securing.{to_be_signed}
+use Rattle.zone_store.specs.Signing.{IsSecuring}
 use Rattle.zone_store.proofs.SecuredZones.{IsSecuring-made}
 use Rattle.zone_store.proofs.in_memory_zone_handler.InMemoryZoneHandler.secure_zone_mut.Goals as goal
 

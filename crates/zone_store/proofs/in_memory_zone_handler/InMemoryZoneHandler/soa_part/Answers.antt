@@ -3,7 +3,8 @@ use Rattle.std.specs.Prelude.{Ok, Err}
 use Rattle.zone_proto.specs.Names.{Name}
 use Rattle.zone_proto.specs.Types.{SOA}
 use Rattle.zone_handler.specs.declared.control_flow.LookupControlFlow.TheVariants.{Continue}
-use Rattle.zone_store.specs.Lookup.{Reply, IsReplyFor, SaysOrMemory}
+use Rattle.zone_search.specs.Replies.{Reply, IsReplyFor}
+use Rattle.zone_store.specs.Lookup.{SaysOrMemory}
 use Rattle.zone_signing.specs.Signatures.{answer_signatures}
 use Rattle.zone_store.specs.Transfers.{HasAnswers}
 use Rattle.zone_store.proofs.Transferring.{part_answered, part_denied}

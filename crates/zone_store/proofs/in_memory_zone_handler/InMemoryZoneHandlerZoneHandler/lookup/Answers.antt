@@ -1,7 +1,7 @@
 use Rattle.zone_handler.specs.declared.control_flow.LookupControlFlow.TheVariants.{Continue}
 use Rattle.zone_signing.specs.Signatures.{answer_signatures}
 use Rattle.zone_store.proofs.CircleAgreement.{lookup_agrees, transfer_agrees}
-use Rattle.zone_store.proofs.Replies.{owned_is_answered}
+use Rattle.zone_store.proofs.Lookups.{owned_is_answered}
 use Rattle.zone_store.proofs.in_memory_zone_handler.InMemoryZoneHandlerZoneHandler.lookup.Goals as goal
 
 pub returns-clause-owned_is_answered : goal.returns-clause-owned_is_answered

@@ -1,0 +1,214 @@
+use crate::command::Command;
+use crate::demo_signer::DemoSigner;
+use crate::sha1_hash::Sha1Hash;
+use crate::signing::{add_key, renew, secure};
+use std::alloc::AllocError;
+use std::fmt;
+use zone_handler::{
+    AuthLookup, AxfrPolicy, LookupControlFlow, LookupError, LookupOptions, LookupRecordsIter,
+    Request, ZoneHandler, ZoneTransfer, ZoneType,
+};
+use zone_proto::{
+    DNSClass, LowerName, Name, NxProofKind, ProtoError, Query, Record, RecordType, RrKey,
+};
+use zone_store::InMemoryZoneHandler;
+use zone_text::RecordText;
+
+/// The zone that the program keeps.
+pub type Zone = InMemoryZoneHandler<DemoSigner, Sha1Hash>;
+
+/// A zone without records and signers, which denies what it doesn't hold in this way once it is secured. The program is its
+/// source, and transfers it to anybody.
+pub fn empty_zone(origin: Name, nx_proof_kind: Option<NxProofKind>) -> Zone {
+    InMemoryZoneHandler::empty(
+        origin,
+        ZoneType::Primary,
+        AxfrPolicy::AllowAll,
+        nx_proof_kind,
+        Sha1Hash,
+    )
+}
+
+/// The zone that the program keeps, and the moment at which it was last secured, in seconds since 1970; 0 before that.
+#[derive(Drop)]
+pub struct Served {
+    pub zone: Zone,
+    pub moment: u64,
+}
+
+/// Carries out a command, and adds its answer to the text. An error says that memory was refused for the text.
+pub fn carry_out(
+    served: &mut Served,
+    command: Command,
+    answer: &mut String,
+) -> Result<(), AllocError> {
+    match command {
+        Command::Add(record) => add(&mut served.zone, record, answer),
+        Command::Drop(key) => drop_set(&mut served.zone, &key, answer),
+        Command::Renew(nx_proof_kind) => renew(served, nx_proof_kind, answer),
+        Command::Key(number) => add_key(served, number, answer),
+        Command::Secure(now) => secure(served, now, answer),
+        Command::Lookup {
+            name,
+            record_type,
+            options,
+        } => lookup(served, &name, record_type, options, answer),
+        Command::Deny(key) => deny(&served.zone, &key.name, answer),
+        Command::Transfer(options) => transfer(served, options, answer),
+    }
+}
+
+/// Upserts a record with the zone's serial.
+fn add(zone: &mut Zone, record: Record, answer: &mut String) -> Result<(), AllocError> {
+    let serial = zone.serial();
+    let reply = match zone.upsert(record, serial) {
+        Ok(true) => "yes\n",
+        Ok(false) => "no\n",
+        Err(_) => "error Memory\n",
+    };
+    answer.push_str(reply)
+}
+
+/// Takes a record set out, and tells whether it was there.
+fn drop_set(zone: &mut Zone, key: &RrKey, answer: &mut String) -> Result<(), AllocError> {
+    let reply = match zone.remove_set(key) {
+        Some(_) => "yes\n",
+        None => "no\n",
+    };
+    answer.push_str(reply)
+}
+
+/// Answers a query at the moment of the last `secure`.
+fn lookup(
+    served: &Served,
+    name: &LowerName,
+    record_type: RecordType,
+    options: LookupOptions,
+    answer: &mut String,
+) -> Result<(), AllocError> {
+    match served
+        .zone
+        .lookup(name, record_type, None, options, served.moment)
+    {
+        LookupControlFlow::Continue(Ok(found)) | LookupControlFlow::Break(Ok(found)) => write_found(
+            &found, answer,
+        ),
+        LookupControlFlow::Continue(Err(error)) => writeln!(answer, "error {}", ErrorWord(&error)),
+        LookupControlFlow::Break(Err(error)) => writeln!(
+            answer,
+            "break error {}",
+            ErrorWord(&error)
+        ),
+        LookupControlFlow::Skip => write_found(&AuthLookup::Empty, answer),
+    }
+}
+
+/// Writes the records that answer a question, and those that may help beside them, each after their count.
+fn write_found(found: &AuthLookup, answer: &mut String) -> Result<(), AllocError> {
+    write_records("answer", found, answer)?;
+    write_additionals(found, answer)
+}
+
+/// Writes the records of an answer after a word and their count.
+fn write_records(word: &str, found: &AuthLookup, answer: &mut String) -> Result<(), AllocError> {
+    let mut count = 0u64;
+    for _ in found.iter() {
+        count = count.saturating_add(1);
+    }
+    writeln!(answer, "{word} {count}")?;
+    for record in found.iter() {
+        writeln!(answer, "{}", RecordText(record))?;
+    }
+    Ok(())
+}
+
+fn write_additionals(found: &AuthLookup, answer: &mut String) -> Result<(), AllocError> {
+    let mut count = 0u64;
+    for _ in additionals_of(found) {
+        count = count.saturating_add(1);
+    }
+    writeln!(answer, "additional {count}")?;
+    for record in additionals_of(found) {
+        writeln!(answer, "{}", RecordText(record))?;
+    }
+    Ok(())
+}
+
+/// Lends the records that may help beside an answer, none where it has no such section.
+fn additionals_of(found: &AuthLookup) -> LookupRecordsIter<'_> {
+    found.additionals().unwrap_or(LookupRecordsIter::Empty)
+}
+
+/// Lists the NSEC records that deny a name, and that it owns a type, whichever that is.
+fn deny(zone: &Zone, name: &LowerName, answer: &mut String) -> Result<(), AllocError> {
+    match zone
+        .nsec_records(name, LookupOptions::default())
+        .map_result()
+    {
+        Some(Ok(proof)) => write_records("proof", &proof, answer),
+        Some(Err(error)) => writeln!(answer, "error {}", ErrorWord(&error)),
+        None => unreachable!(),
+    }
+}
+
+/// Lists the zone as one query for a transfer of it is answered.
+fn transfer(
+    served: &Served,
+    options: LookupOptions,
+    answer: &mut String,
+) -> Result<(), AllocError> {
+    match ask_transfer(served, options) {
+        Ok(transfer) => write_transfer(&transfer, answer),
+        Err(error) => writeln!(answer, "error {}", ErrorWord(&error)),
+    }
+}
+
+fn ask_transfer(served: &Served, options: LookupOptions) -> Result<ZoneTransfer, LookupError> {
+    let request = transfer_request(served.zone.origin())?;
+    match served.zone.zone_transfer(&request, options, served.moment) {
+        Some((reply, _)) => reply,
+        None => unreachable!(),
+    }
+}
+
+/// A request of one query, for the transfer of the zone of this name (AXFR, RFC 5936 section 2.1).
+fn transfer_request(zone: &LowerName) -> Result<Request, ProtoError> {
+    let query = Query {
+        name: zone.clone()?,
+        query_type: RecordType::AXFR,
+        query_class: DNSClass::IN,
+    };
+    let mut queries = Vec::new(zone.alloc());
+    queries.push(query)?;
+    Ok(Request { queries })
+}
+
+/// Writes the records of a transfer after their count.
+fn write_transfer(transfer: &ZoneTransfer, answer: &mut String) -> Result<(), AllocError> {
+    let mut count = 0u64;
+    for _ in transfer {
+        count = count.saturating_add(1);
+    }
+    writeln!(answer, "transfer {count}")?;
+    for record in transfer {
+        writeln!(answer, "{}", RecordText(record))?;
+    }
+    Ok(())
+}
+
+/// The word for an error: the name of its case, and for a response code the code's own word.
+#[derive(Drop)]
+struct ErrorWord<'e>(&'e LookupError);
+
+impl fmt::Display for ErrorWord<'_> {
+    fn fmt<W: fmt::Write>(&self, f: &mut fmt::Formatter<W>) -> fmt::Result {
+        match self.0 {
+            LookupError::BadQueryCount(_) => write!(f, "BadQueryCount"),
+            LookupError::NameExists => write!(f, "NameExists"),
+            LookupError::ResponseCode(code) => write!(f, "{code}"),
+            LookupError::NetError(_) => write!(f, "NetError"),
+            LookupError::Io(_) => write!(f, "Io"),
+            LookupError::Memory => write!(f, "Memory"),
+        }
+    }
+}

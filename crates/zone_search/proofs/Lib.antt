@@ -1,0 +1,11 @@
+pub mod ChainSearches
+pub mod Paths
+pub mod Targets
+pub mod AdditionalRuns
+pub mod AdditionalLaws
+pub mod Chasing
+pub mod SecuredRecords
+pub mod Replies
+pub mod Examples
+pub mod SearchExamples
+pub mod AdditionalExamples

@@ -1,0 +1,21 @@
+-- The set that a search found, whether it is lent or was made
+use Rattle.std.specs.Prelude.{List, [], map, Option, Some, None}
+use Rattle.std.specs.declared.alloc.Global.{Global}
+use Rattle.std.specs.declared.vec.Vec.{Vec}
+use Rattle.zone_proto.specs.Sets.{RRset}
+use Rattle.zone_search.specs.declared.found.Found.{Found}
+use Rattle.zone_search.specs.declared.found.Found.TheVariants.{Stored, Made}
+
+abbrev pub found_set : Found → RRset
+found_set (Stored s) = s.now
+found_set (Made s) = s
+
+-- the set where it is lent out of the zone
+abbrev pub lent_set : Found → Option RRset
+lent_set (Stored s) = Some s.now
+lent_set (Made s) = None
+
+-- the sets of a list that may be left out
+abbrev pub listed_sets : Option (Vec Found Global) → List RRset
+listed_sets None = []
+listed_sets (Some sets) = map found_set sets.items

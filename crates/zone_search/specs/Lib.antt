@@ -1,0 +1,10 @@
+pub mod Inner
+pub mod StartOfAuthority
+pub mod FoundSets
+pub mod Searches
+pub mod Runs
+pub mod Additionals
+pub mod AdditionalLaws
+pub mod Flattening
+pub mod Replies
+pub mod Securing

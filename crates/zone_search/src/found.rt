@@ -1,0 +1,37 @@
+ghost use Rattle.std.specs.Prelude.{◌≡◌, IfOk, IsOkUnless};
+ghost use Rattle.zone_search.specs.FoundSets.{found_set};
+
+use zone_handler::LookupError;
+use zone_proto::RecordSet;
+
+/// A record set that a search found in a zone.
+#[derive(Drop)]
+pub enum Found<'z> {
+    /// A set of the zone, lent.
+    Stored(&'z RecordSet),
+    /// A set that the search made from one of the zone.
+    Made(RecordSet),
+}
+
+impl<'z> Found<'z> {
+    /// The set.
+    pub fn set(&self) -> &RecordSet
+        ensures { result.now ≡ found_set self.now }
+    {
+        match self {
+            Found::Stored(set) => set,
+            Found::Made(set) => set,
+        }
+    }
+
+    /// The set itself: a lent one is copied, a made one is handed out. Refused by `Memory` alone.
+    pub fn into_set(self) -> Result<RecordSet, LookupError>
+        ensures ok { IfOk result (λ set. set ≡ found_set self.entry) }
+        ensures err { IsOkUnless result LookupError.Memory }
+    {
+        match self {
+            Found::Stored(set) => Ok(set.clone()?),
+            Found::Made(set) => Ok(set),
+        }
+    }
+}

@@ -1,0 +1,17 @@
+//! Laws of the definitions of additional records. Each is an empty function whose contract is the law, so a program has no
+//! need to call one.
+ghost use Rattle.zone_search.specs.AdditionalLaws.{OneRun, NoNameTwice, RunIsShort, SearchesAreFew, OneList};
+
+/// A run of an additional search searches exactly one list of names: no name twice, and none that was seen before. They are
+/// at most one more than the zone has CNAME and ANAME sets.
+pub fn runs_end()
+    ensures one { OneRun }
+    ensures distinct { NoNameTwice }
+    ensures at_most { RunIsShort }
+    ensures together { SearchesAreFew }
+{}
+
+/// A query has exactly one list of additional sets.
+pub fn additionals_are_one_list()
+    ensures { OneList }
+{}
