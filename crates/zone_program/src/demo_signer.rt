@@ -44,10 +44,8 @@ impl DemoSigner {
         ensures ok { IfOk result (λ octets. octets ≡ octets_of self.now) }
         ensures err { IsOkUnless result ProtoError.Memory }
     {
-        let mut octets = Vec::with_capacity(self.origin.alloc(), 2)?;
-        octets.push((self.number / 256) as u8)?;
-        octets.push((self.number % 256) as u8)?;
-        Ok(Seq::from_vec(octets))
+        let octets = [(self.number / 256) as u8, (self.number % 256) as u8];
+        Seq::from_slice(self.origin.alloc(), &octets)
     }
 }
 
