@@ -36,24 +36,6 @@ module _ (sign : RRset → List Record) (m : Sets) (n : Name) (t : ℕ) (options
         has,
       )
 
-  -- a chain
-  pub chain_answers : (s : RRset) (sets : List RRset) (a : AuthLookup) → is_followed t s ≡ true → sets ≡ chain m options.dnssec_ok n s t
-      → (more : List RRset) × AreFrom m options.dnssec_ok n t (last_set sets) more × HasSections options sets (beside t (last_set sets) more) a → SaysAnswer options (IsAnswer sign m options.dnssec_ok n t s) a
-  chain_answers s sets a h c (more, from, has) =
-      let e : answer_sets m options.dnssec_ok n t s ≡ sets = ap (λ b. cond b (chain m options.dnssec_ok n s t) (s ∷ [])) h ∙ sym c in
-      let f : answer_section sign m options.dnssec_ok n t s more ≡ sets = ap (λ b. cond b (chain m options.dnssec_ok n s t) (alone sign t s (last_set more) ∷ [])) h ∙ sym c in (
-        sets,
-        beside t (last_set sets) more,
-        record {
-          more = more;
-          found = subst (λ ss. AreFrom m options.dnssec_ok n t (last_set ss) more) (sym e) from;
-          sections =
-              ap (λ ss. answered ss (beside t (last_set sets) more)) (sym f)
-              ∙ ap (λ ss. answered (answer_section sign m options.dnssec_ok n t s more) (beside t (last_set ss) more)) (sym e);
-        },
-        has,
-      )
-
 -- ---- ANAME sets
 
 got : (xs : List RRset) (i : ℕ) → i < length xs → slice_get xs i ≡ None → ⊥
