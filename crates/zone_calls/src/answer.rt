@@ -2,8 +2,10 @@
 
 use crate::texts::{FlowText, LowerNameDescription, NameDescription, SetText};
 use crate::transfers::TransferText;
+use std::alloc::{AllocError, Global};
 use std::cmp::Ordering;
 use std::fmt;
+use std::fmt::Display;
 use zone_handler::{AuthLookup, LookupControlFlow, LookupError, SecureError, ZoneTransfer};
 use zone_proto::{
     DNSClass, LowerName, Name, ProtoError, RData, Record, RecordSet, RecordType, ResponseCode,
@@ -26,6 +28,8 @@ pub enum Answer {
     Memory,
     /// A signer was refused that has no key.
     NoKey,
+    /// A response has a signature, though no request has one.
+    Signed,
     Count(usize),
     Order(Ordering),
     Name(Name),
@@ -59,6 +63,27 @@ impl Answer {
         match given {
             Some(set) => Answer::Set(set),
             None => Answer::Nothing,
+        }
+    }
+
+    /// A copy of a set, or why there is none.
+    pub fn of_copy(given: Result<RecordSet, ProtoError>) -> Answer {
+        match given {
+            Ok(set) => Answer::Set(set),
+            Err(error) => Answer::from(error),
+        }
+    }
+
+    /// The text of what is shown, or want of memory for it. That is of any type, so that a proof has nothing to take apart.
+    pub fn of_text<T: Display + Drop>(alloc: Global, shown: T) -> Answer {
+        Answer::of_written(shown.to_string(alloc))
+    }
+
+    /// A text, or want of memory for it.
+    pub fn of_written(text: Result<String, AllocError>) -> Answer {
+        match text {
+            Ok(text) => Answer::Text(text),
+            Err(_) => Answer::Memory,
         }
     }
 }
@@ -103,6 +128,7 @@ impl Answer {
             Answer::Changed => Some("a refusal that changes something"),
             Answer::Memory => Some("error: out of memory"),
             Answer::NoKey => Some("error: NoKey"),
+            Answer::Signed => Some("a signed response"),
             Answer::Order(Ordering::Less) => Some("before"),
             Answer::Order(Ordering::Equal) => Some("same"),
             Answer::Order(Ordering::Greater) => Some("after"),
@@ -111,31 +137,31 @@ impl Answer {
     }
 }
 
-impl fmt::Display for Answer {
+impl Display for Answer {
     fn fmt<W: fmt::Write>(&self, f: &mut fmt::Formatter<W>) -> fmt::Result {
         match self {
-            Answer::Count(count) => write!(f, "{count}"),
-            Answer::Name(name) => write!(f, "{name}"),
-            Answer::LowerName(name) => write!(f, "{name}"),
-            Answer::Description(name) => write!(f, "{}", NameDescription(name)),
-            Answer::LowerDescription(name) => write!(f, "{}", LowerNameDescription(name)),
-            Answer::Octets(octets) => write!(f, "{}", HexText(octets.as_slice())),
+            Answer::Count(count) => count.fmt(f),
+            Answer::Name(name) => name.fmt(f),
+            Answer::LowerName(name) => name.fmt(f),
+            Answer::Description(name) => NameDescription(name).fmt(f),
+            Answer::LowerDescription(name) => LowerNameDescription(name).fmt(f),
+            Answer::Octets(octets) => HexText(octets.as_slice()).fmt(f),
             Answer::Type(record_type) => write!(f, "{record_type} {}", record_type.0),
-            Answer::Class(class) => write!(f, "{class}"),
-            Answer::Code(code) => write!(f, "{code}"),
-            Answer::Record(record) => write!(f, "{}", RecordText(record)),
-            Answer::Rdata(rdata) => write!(f, "{}", DataText(rdata)),
-            Answer::Set(set) => write!(f, "{}", SetText(set)),
-            Answer::Text(text) => write!(f, "{text}"),
-            Answer::Flow(flow) => write!(f, "{}", FlowText(flow)),
-            Answer::Transfer(transfer) => write!(f, "{}", TransferText(transfer)),
+            Answer::Class(class) => class.fmt(f),
+            Answer::Code(code) => code.fmt(f),
+            Answer::Record(record) => RecordText(record).fmt(f),
+            Answer::Rdata(rdata) => DataText(rdata).fmt(f),
+            Answer::Set(set) => SetText(set).fmt(f),
+            Answer::Text(text) => text.fmt(f),
+            Answer::Flow(flow) => FlowText(flow).fmt(f),
+            Answer::Transfer(transfer) => TransferText(transfer).fmt(f),
             Answer::Proto(error) => write!(f, "error: {error}"),
             Answer::Lookup(error) => write!(f, "error: {error}"),
             Answer::Zone(error) => write!(f, "error: {error}"),
             Answer::Secure(error) => write!(f, "error: {error:?}"),
             // All others have nothing in them, and so a text of their own.
             plain => match plain.plain_text() {
-                Some(text) => write!(f, "{text}"),
+                Some(text) => text.fmt(f),
                 None => Ok(()),
             },
         }

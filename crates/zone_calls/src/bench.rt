@@ -9,10 +9,11 @@ use crate::records::{make_record_call, make_word_call};
 use crate::searches::make_search_call;
 use crate::signers::{NoHash, RowSigner};
 use crate::signing::make_signing_call;
-use crate::texts::{ChainText, LentText, SetText, ZoneText};
+use crate::texts::{AboutText, ChainText, LentText, NamedSetText, SetText, ZoneText};
 use crate::transfers::make_transfer;
-use std::alloc::{AllocError, Global};
+use std::alloc::Global;
 use std::collections::BTreeMap;
+use std::fmt;
 use zone_handler::{
     AuthLookup, AxfrPolicy, LookupControlFlow, LookupError, LookupOptions, ZoneHandler, ZoneType,
 };
@@ -36,6 +37,18 @@ pub struct Bench {
     searches: Searches,
 }
 
+/// The zone, the set in hand, the shelf and how many signers the zone has.
+impl fmt::Display for Bench {
+    fn fmt<W: fmt::Write>(&self, f: &mut fmt::Formatter<W>) -> fmt::Result {
+        write!(f, "{}", ZoneText(&self.zone))?;
+        if let Some(set) = &self.hand {
+            write!(f, " in hand: {}", SetText(set))?;
+        }
+        write!(f, " {} on the shelf", self.shelf.len())?;
+        write!(f, " {} signers", self.zone.secure_keys().len())
+    }
+}
+
 impl Bench {
     /// The zone of the root without records, and nothing in hand, kept or on the shelf.
     pub fn new(alloc: Global) -> Bench {
@@ -51,17 +64,6 @@ impl Bench {
             shelf: BTreeMap::new(alloc),
             searches: Searches::new(),
         }
-    }
-
-    /// The zone, the set in hand, the shelf and how many signers the zone has, as text.
-    pub fn dump(&self, alloc: Global) -> Result<String, AllocError> {
-        let mut text = format!(in alloc; "{}", ZoneText(&self.zone))?;
-        if let Some(set) = &self.hand {
-            write!(text, " in hand: {}", SetText(set))?;
-        }
-        write!(text, " {} on the shelf", self.shelf.len())?;
-        write!(text, " {} signers", self.zone.secure_keys().len())?;
-        Ok(text)
     }
 
     /// Copies the sets on the shelf for a call that takes them.
@@ -129,23 +131,32 @@ impl Bench {
             ZoneCall::Make(head, sets) => self.make_zone(head, sets),
             ZoneCall::Shelve => self.shelve(),
             ZoneCall::ShelveUnder(key) => self.shelve_under(key),
-            ZoneCall::About => self.about(alloc),
-            ZoneCall::Upsert(record, serial) => match self.zone.upsert(record, serial) {
-                Ok(taken) => Answer::of(taken),
-                Err(error) => Answer::from(error),
-            },
+            ZoneCall::About => Answer::of_text(alloc, AboutText(&self.zone)),
+            ZoneCall::Upsert(record, serial) => self.upsert(record, serial),
             ZoneCall::Put => self.put(),
             ZoneCall::Remove(key) => Answer::of_set(self.zone.remove_set(&key)),
             ZoneCall::Clear => {
                 self.zone.clear();
                 Answer::Done
             }
-            ZoneCall::Any(name) => match self.zone.inner().replace_any(&name) {
-                Ok(chosen) => Answer::Type(chosen),
-                Err(error) => Answer::from(error),
-            },
+            ZoneCall::Any(name) => self.any(&name),
             ZoneCall::Ask(question, ask) => self.ask(alloc, &question, ask),
-            ZoneCall::Dump => of_text(format!(in alloc; "{}", ZoneText(&self.zone))),
+            ZoneCall::Dump => Answer::of_text(alloc, ZoneText(&self.zone)),
+        }
+    }
+
+    fn upsert(&mut self, record: Record, serial: u32) -> Answer {
+        match self.zone.upsert(record, serial) {
+            Ok(taken) => Answer::of(taken),
+            Err(error) => Answer::from(error),
+        }
+    }
+
+    /// The type that a query for any type is answered with.
+    fn any(&self, name: &LowerName) -> Answer {
+        match self.zone.inner().replace_any(name) {
+            Ok(chosen) => Answer::Type(chosen),
+            Err(error) => Answer::from(error),
         }
     }
 
@@ -180,20 +191,6 @@ impl Bench {
             },
             None => Answer::NotOwed,
         }
-    }
-
-    /// What the zone says of itself.
-    fn about(&self, alloc: Global) -> Answer {
-        let zone = &self.zone;
-        of_text(format!(in alloc;
-            "{} {} {:?} {:?}, serial {}, minimum {}",
-            zone.origin(),
-            zone.class(),
-            zone.zone_type(),
-            zone.axfr_policy(),
-            zone.serial(),
-            zone.minimum_ttl()
-        ))
     }
 
     /// Stores the set in hand, which comes back into the hand if it is refused.
@@ -259,7 +256,7 @@ impl Bench {
         match inner.chase_cnames(name, first, record_type, options, &mut searches) {
             Ok(chain) => {
                 let text = ChainText(chain.as_slice(), searches.count());
-                of_text(format!(in alloc; "{text}"))
+                Answer::of_written(text.to_string(alloc))
             }
             Err(error) => Answer::from(error),
         }
@@ -321,14 +318,6 @@ pub fn of_flow(flow: LookupControlFlow<AuthLookup>) -> Answer {
     }
 }
 
-/// A text, or want of memory for it.
-pub fn of_text(text: Result<String, AllocError>) -> Answer {
-    match text {
-        Ok(text) => Answer::Text(text),
-        Err(_) => Answer::Memory,
-    }
-}
-
 /// A copy of what was found.
 fn copied(found: Found<'_>) -> Answer {
     match found.into_set() {
@@ -352,12 +341,9 @@ fn make_on_set(alloc: Global, set: &mut RecordSet, call: SetCall) -> Answer {
             set.clear_rrsigs();
             Answer::Done
         }
-        SetCall::Copied => match set.clone() {
-            Ok(copy) => Answer::Set(copy),
-            Err(error) => Answer::from(error),
-        },
-        SetCall::Records(signed) => of_text(format!(in alloc; "{}", LentText(set, signed))),
-        _ => show(alloc, set),
+        SetCall::Copied => Answer::of_copy(set.clone()),
+        SetCall::Records(signed) => Answer::of_text(alloc, LentText(set, signed)),
+        _ => Answer::of_text(alloc, NamedSetText(set)),
     }
 }
 
@@ -395,10 +381,4 @@ fn sign(set: &mut RecordSet, record: Record) -> Answer {
     } else {
         not_owed(record)
     }
-}
-
-/// All parts of a set.
-fn show(alloc: Global, set: &RecordSet) -> Answer {
-    let (name, class, record_type) = (set.name(), set.dns_class(), set.record_type());
-    of_text(format!(in alloc; "{name} {class} {record_type}: {}", SetText(set)))
 }

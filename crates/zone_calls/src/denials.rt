@@ -50,10 +50,7 @@ pub fn make_denial_call(zone: &Zone, call: DenialCall) -> Answer {
 /// A copy of the closest NSEC set.
 fn closest(zone: &Zone, name: &LowerName) -> Answer {
     match zone.inner().closest_nsec(name) {
-        Ok(Some(set)) => match set.clone() {
-            Ok(copy) => Answer::Set(copy),
-            Err(error) => Answer::from(error),
-        },
+        Ok(Some(set)) => Answer::of_copy(set.clone()),
         Ok(None) => Answer::Nothing,
         Err(error) => Answer::from(error),
     }

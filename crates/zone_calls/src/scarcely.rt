@@ -37,7 +37,7 @@ pub fn make_in_ever_more_memory(
     bench: &mut Bench,
     row: &str,
 ) -> Result<(usize, Answer), TextError> {
-    let before = bench.dump(alloc)?;
+    let before = bench.to_string(alloc)?;
     let mut scarce = Scarcity::begin(alloc, 3 * ROOMS)?;
     let tried = try_rooms(alloc, &mut scarce, bench, row, before.as_str());
     drop(scarce);
@@ -87,5 +87,5 @@ fn is_as_before(
     before: &str,
 ) -> Result<bool, TextError> {
     scarce.leave(DESK);
-    Ok(bench.dump(alloc)?.as_str() == before)
+    Ok(bench.to_string(alloc)?.as_str() == before)
 }

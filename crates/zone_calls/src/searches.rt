@@ -1,9 +1,9 @@
 //! Makes the calls that search the zone for more than a name and a type.
 
 use crate::answer::Answer;
-use crate::bench::{Zone, of_flow, of_text};
+use crate::bench::{Zone, of_flow};
 use crate::call::{Question, SearchCall};
-use crate::texts::ChainText;
+use crate::texts::{ChainText, NoneText};
 use std::alloc::Global;
 use zone_handler::{LookupOptions, Request, ZoneHandler};
 use zone_proto::LowerName;
@@ -13,7 +13,7 @@ use zone_store::Searches;
 pub fn make_search_call(alloc: Global, zone: &Zone, call: SearchCall) -> Answer {
     match call {
         SearchCall::Additionals(next, question) => additionals(alloc, zone, next, &question),
-        SearchCall::Request(request) => search(alloc, zone, &request),
+        SearchCall::Request(request) => search(zone, &request),
     }
 }
 
@@ -25,17 +25,17 @@ fn additionals(alloc: Global, zone: &Zone, next: LowerName, question: &Question)
     match inner.additional_search(name, record_type, next, record_type, options, &mut searches) {
         Ok(Some(sets)) => {
             let text = ChainText(sets.as_slice(), searches.count());
-            of_text(format!(in alloc; "{text}"))
+            Answer::of_written(text.to_string(alloc))
         }
-        Ok(None) => of_text(format!(in alloc; "{} searched, None", searches.count())),
+        Ok(None) => Answer::of_text(alloc, NoneText(searches.count())),
         Err(error) => Answer::from(error),
     }
 }
 
-/// What the zone answers to a request, or else what signs the response.
-fn search(alloc: Global, zone: &Zone, request: &Request) -> Answer {
+/// What the zone answers to a request, which has no signature.
+fn search(zone: &Zone, request: &Request) -> Answer {
     match zone.search(request, LookupOptions::default(), 0) {
         (flow, None) => of_flow(flow),
-        (_, Some(context)) => of_text(format!(in alloc; "{context:?}")),
+        (_, Some(_)) => Answer::Signed,
     }
 }

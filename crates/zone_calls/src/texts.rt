@@ -1,9 +1,10 @@
 //! Names, sets, zones and answers as rows write them.
+ghost use Rattle.std.specs.Iterator.{IsFinite};
 
 use crate::bench::Zone;
 use std::fmt;
-use zone_handler::{AuthLookup, LookupControlFlow};
-use zone_proto::{Labels, LowerName, Name, RecordSet};
+use zone_handler::{AuthLookup, LookupControlFlow, LookupRecordsIter, ZoneHandler};
+use zone_proto::{Labels, LowerName, Name, Record, RecordSet};
 use zone_store::Found;
 use zone_text::{HexText, RecordText};
 
@@ -70,6 +71,22 @@ impl fmt::Display for LabelsInHex<'_> {
     }
 }
 
+/// Writes records, each with a semicolon after it, and answers how many they are.
+pub fn write_records<'r, W: fmt::Write, I: Iterator<Item = &'r Record> + Drop>(
+    f: &mut fmt::Formatter<W>,
+    records: I,
+) -> Result<u64, fmt::Error>
+    requires can { I.can_next records }
+    requires ends { IsFinite (I.remaining records) }
+{
+    let mut count = 0u64;
+    for record in records {
+        write!(f, "{}; ", RecordText(record))?;
+        count = count.saturating_add(1);
+    }
+    Ok(count)
+}
+
 /// The records of a set, each with a semicolon after it, its signatures, its TTL and its serial.
 #[derive(Drop)]
 pub struct SetText<'s>(pub &'s RecordSet);
@@ -80,13 +97,20 @@ impl fmt::Display for SetText<'_> {
         if set.is_empty() {
             write!(f, "no {} of {}; ", set.record_type(), set.name())?;
         }
-        for record in set.records_without_rrsigs() {
-            write!(f, "{}; ", RecordText(record))?;
-        }
-        for signature in set.rrsigs() {
-            write!(f, "{}; ", RecordText(signature))?;
-        }
+        write_records(f, set.records_without_rrsigs())?;
+        write_records(f, set.rrsigs().iter())?;
         write!(f, "ttl {}, serial {}", set.ttl(), set.serial())
+    }
+}
+
+/// A set with its owner, class and type.
+#[derive(Drop)]
+pub struct NamedSetText<'s>(pub &'s RecordSet);
+
+impl fmt::Display for NamedSetText<'_> {
+    fn fmt<W: fmt::Write>(&self, f: &mut fmt::Formatter<W>) -> fmt::Result {
+        let (name, class, record_type) = (self.0.name(), self.0.dns_class(), self.0.record_type());
+        write!(f, "{name} {class} {record_type}: {}", SetText(self.0))
     }
 }
 
@@ -96,11 +120,7 @@ pub struct LentText<'s>(pub &'s RecordSet, pub bool);
 
 impl fmt::Display for LentText<'_> {
     fn fmt<W: fmt::Write>(&self, f: &mut fmt::Formatter<W>) -> fmt::Result {
-        let mut lent = 0u64;
-        for record in self.0.records(self.1) {
-            write!(f, "{}; ", RecordText(record))?;
-            lent = lent.saturating_add(1);
-        }
+        let lent = write_records(f, self.0.records(self.1))?;
         write!(f, "{lent} lent")
     }
 }
@@ -119,7 +139,37 @@ impl fmt::Display for ChainText<'_, '_> {
     }
 }
 
-/// What the zone says of itself, and its sets.
+/// How many names were searched for additional sets that aren't asked for.
+#[derive(Drop)]
+pub struct NoneText(pub u64);
+
+impl fmt::Display for NoneText {
+    fn fmt<W: fmt::Write>(&self, f: &mut fmt::Formatter<W>) -> fmt::Result {
+        write!(f, "{} searched, None", self.0)
+    }
+}
+
+/// What the zone says of itself.
+#[derive(Drop)]
+pub struct AboutText<'z>(pub &'z Zone);
+
+impl fmt::Display for AboutText<'_> {
+    fn fmt<W: fmt::Write>(&self, f: &mut fmt::Formatter<W>) -> fmt::Result {
+        let zone = self.0;
+        write!(
+            f,
+            "{} {} {:?} {:?}, serial {}, minimum {}",
+            zone.origin(),
+            zone.class(),
+            zone.zone_type(),
+            zone.axfr_policy(),
+            zone.serial(),
+            zone.minimum_ttl()
+        )
+    }
+}
+
+/// The sets of the zone.
 #[derive(Drop)]
 pub struct ZoneText<'z>(pub &'z Zone);
 
@@ -156,18 +206,23 @@ struct AnswerText<'a>(&'a AuthLookup);
 
 impl fmt::Display for AnswerText<'_> {
     fn fmt<W: fmt::Write>(&self, f: &mut fmt::Formatter<W>) -> fmt::Result {
-        let mut count = 0u64;
-        for record in self.0.iter() {
-            write!(f, "{}; ", RecordText(record))?;
-            count = count.saturating_add(1);
-        }
+        let count = write_records(f, self.0.iter())?;
         write!(f, "{count} records")?;
-        if let Some(additionals) = self.0.additionals() {
-            write!(f, ", and additionals")?;
-            for record in additionals {
-                write!(f, "; {}", RecordText(record))?;
-            }
+        match self.0.additionals() {
+            Some(additionals) => write_additionals(f, additionals),
+            None => Ok(()),
         }
-        Ok(())
     }
+}
+
+/// Writes the records that may help beside an answer.
+fn write_additionals<W: fmt::Write>(
+    f: &mut fmt::Formatter<W>,
+    additionals: LookupRecordsIter<'_>,
+) -> fmt::Result {
+    write!(f, ", and additionals")?;
+    for record in additionals {
+        write!(f, "; {}", RecordText(record))?;
+    }
+    Ok(())
 }

@@ -4,11 +4,12 @@ use crate::answer::Answer;
 use crate::bench::Zone;
 use crate::call::Call;
 use crate::read::read_options;
+use crate::texts::write_records;
 use std::alloc::Global;
 use std::fmt;
 use zone_handler::{LookupOptions, Request, ZoneHandler, ZoneTransfer};
 use zone_proto::{DNSClass, LowerName, Name, ProtoError, Query, RecordType};
-use zone_text::{RecordText, TextError, Words, read_type, read_u16};
+use zone_text::{TextError, Words, read_type, read_u16};
 
 /// Reads how many questions a request has, of which type they are, and whether signatures are wanted.
 pub fn read_transfer(alloc: Global, words: &mut Words<'_>) -> Result<Call, TextError> {
@@ -51,11 +52,7 @@ pub struct TransferText<'t>(pub &'t ZoneTransfer);
 
 impl fmt::Display for TransferText<'_> {
     fn fmt<W: fmt::Write>(&self, f: &mut fmt::Formatter<W>) -> fmt::Result {
-        let mut count = 0u64;
-        for record in self.0 {
-            write!(f, "{}; ", RecordText(record))?;
-            count = count.saturating_add(1);
-        }
+        let count = write_records(f, self.0.iter())?;
         write!(f, "{count} records")
     }
 }
