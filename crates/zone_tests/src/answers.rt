@@ -1,6 +1,6 @@
 //! Answers and steps that are taken apart.
 
-use crate::records::{address, mark, signed_set};
+use crate::records::{address, mark, signed_set, soa};
 use scarce::Scarcity;
 use std::alloc::Global;
 use std::test::Fail;
@@ -10,7 +10,7 @@ use zone_handler::{
 };
 use zone_proto::{
     DNSClass, Edns, EdnsFlags, Message, Name, ProtoError, Record, RecordSet, RecordType,
-    ResponseCode, SOA, SoaRecord,
+    ResponseCode, SoaRecord,
 };
 
 /// Whether an answer lists records of these marks, and no other.
@@ -164,15 +164,7 @@ fn negative(alloc: Global, response_code: ResponseCode) -> Result<LookupError, P
         name: Name::root(alloc),
         dns_class: DNSClass::IN,
         ttl: 60,
-        soa: SOA {
-            mname: Name::root(alloc),
-            rname: Name::root(alloc),
-            serial: 7,
-            refresh: 1,
-            retry: 1,
-            expire: 1,
-            minimum: 5,
-        },
+        soa: soa(alloc),
     };
     Ok(LookupError::from(NetError::NoRecordsFound(NoRecords {
         soa: Some(Box::new(alloc, soa)?),
@@ -197,8 +189,8 @@ fn negative_responses_give_up_what_they_hold(rt: HostRuntime) -> Result<(), Fail
     let denial = parts_of(negative(alloc, ResponseCode::NXDomain)?);
     let nothing = parts_of(negative(alloc, ResponseCode::NoError)?);
     let code = parts_of(LookupError::from(ResponseCode::NXDomain));
-    assert!(rt; denial == (true, true, Some(1), Some(7)));
-    assert!(rt; nothing == (false, true, Some(1), Some(7)));
+    assert!(rt; denial == (true, true, Some(1), Some(1)));
+    assert!(rt; nothing == (false, true, Some(1), Some(1)));
     assert!(rt; code == (true, false, None, None));
     Ok(())
 }

@@ -1,8 +1,9 @@
 //! What names and sets lend.
 
 use crate::records::{mark, signed_set};
+use std::alloc::Global;
 use std::test::Fail;
-use zone_proto::{LowerName, Name, RecordSet};
+use zone_proto::{LowerName, Name, ProtoError, RecordSet};
 
 /// How many labels the suffixes of a name have in all, and how many suffixes there are.
 fn count_suffixes(name: &Name) -> (usize, usize) {
@@ -14,12 +15,9 @@ fn count_suffixes(name: &Name) -> (usize, usize) {
     (labels, suffixes)
 }
 
-#[test]
-fn suffixes_end_with_the_root(rt: HostRuntime) -> Result<(), Fail> {
-    let alloc = rt.alloc();
-    let name = Name::parse(alloc, "A.b.c.")?;
-    assert!(rt; count_suffixes(&name) == (6, 4));
-    let lower = LowerName::new(&name)?;
+/// The first label of each suffix of a name in lower case, one after the other.
+fn first_labels(alloc: Global, name: &Name) -> Result<Vec<u8>, ProtoError> {
+    let lower = LowerName::new(name)?;
     let mut firsts = Vec::new(alloc);
     for suffix in lower.suffixes() {
         let mut labels = suffix;
@@ -27,7 +25,16 @@ fn suffixes_end_with_the_root(rt: HostRuntime) -> Result<(), Fail> {
             firsts.extend_from_slice(first)?;
         }
     }
-    assert!(rt; firsts.as_slice() == b"abc".as_slice());
+    Ok(firsts)
+}
+
+#[test]
+fn suffixes_end_with_the_root(rt: HostRuntime) -> Result<(), Fail> {
+    let alloc = rt.alloc();
+    let name = Name::parse(alloc, "A.b.c.")?;
+    let counts = count_suffixes(&name);
+    let firsts = first_labels(alloc, &name)?;
+    assert!(rt; counts == (6, 4) && firsts.as_slice() == b"abc".as_slice());
     Ok(())
 }
 

@@ -1,7 +1,7 @@
 //! Records and sets for tests.
 
 use std::alloc::Global;
-use zone_proto::{Name, ProtoError, RData, RRSIG, Record, RecordSet, RecordType, Seq};
+use zone_proto::{Name, ProtoError, RData, RRSIG, Record, RecordSet, RecordType, SOA, Seq};
 
 /// A signature of an A set, by a key of this tag.
 pub fn rrsig(alloc: Global, key_tag: u16) -> Result<RRSIG, ProtoError> {
@@ -34,6 +34,28 @@ pub fn signed_set(alloc: Global, first: u8, second: u8) -> Result<RecordSet, Pro
         Ok(set)
     } else {
         Err(ProtoError::Memory)
+    }
+}
+
+/// The SOA of a zone.
+pub fn soa(alloc: Global) -> SOA {
+    SOA {
+        mname: Name::root(alloc),
+        rname: Name::root(alloc),
+        serial: 1,
+        refresh: 2,
+        retry: 3,
+        expire: 4,
+        minimum: 5,
+    }
+}
+
+/// The set of an SOA of this owner.
+pub fn soa_set(alloc: Global, owner: Name) -> Result<RecordSet, ProtoError> {
+    let mut set = RecordSet::with_ttl(owner, RecordType::SOA, 60);
+    match set.add_rdata(RData::SOA(soa(alloc))) {
+        Ok(_) => Ok(set),
+        Err(error) => Err(error),
     }
 }
 

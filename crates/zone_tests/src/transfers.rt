@@ -1,35 +1,17 @@
 //! Transfers that are made by hand, and what they lend.
 
-use crate::records::{mark, signed_set};
+use crate::records::{mark, signed_set, soa_set};
 use scarce::Scarcity;
 use std::alloc::Global;
 use std::test::Fail;
 use zone_handler::{AxfrRecords, LookupOptions, LookupRecords, ZoneTransfer};
-use zone_proto::{Name, ProtoError, RData, RecordSet, RecordType, SOA};
-
-/// The set of an SOA of the root.
-fn soa_set(alloc: Global) -> Result<RecordSet, ProtoError> {
-    let soa = RData::SOA(SOA {
-        mname: Name::root(alloc),
-        rname: Name::root(alloc),
-        serial: 1,
-        refresh: 2,
-        retry: 3,
-        expire: 4,
-        minimum: 5,
-    });
-    let mut set = RecordSet::with_ttl(Name::root(alloc), RecordType::SOA, 60);
-    match set.add_rdata(soa) {
-        Ok(_) => Ok(set),
-        Err(error) => Err(error),
-    }
-}
+use zone_proto::{Name, RecordSet, RecordType};
 
 /// Two signed sets, with an SOA between them.
 fn sets(alloc: Global) -> Result<Vec<RecordSet>, Fail> {
     let mut sets = Vec::new(alloc);
     sets.push(signed_set(alloc, 3, 4)?)?;
-    sets.push(soa_set(alloc)?)?;
+    sets.push(soa_set(alloc, Name::root(alloc))?)?;
     sets.push(signed_set(alloc, 5, 6)?)?;
     Ok(sets)
 }

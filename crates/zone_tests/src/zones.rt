@@ -1,5 +1,6 @@
 //! A zone made of a thousand sets, a map of records by itself, and a set that a search makes.
 
+use crate::records::soa_set;
 use std::alloc::Global;
 use std::collections::BTreeMap;
 use std::test::Fail;
@@ -8,8 +9,7 @@ use zone_handler::{
 };
 use zone_program::{DemoSigner, Sha1Hash};
 use zone_proto::{
-    DNSClass, LowerName, Name, NxProofKind, ProtoError, RData, Record, RecordSet, RecordType,
-    RrKey, SOA,
+    DNSClass, LowerName, Name, NxProofKind, ProtoError, RData, Record, RecordSet, RecordType, RrKey,
 };
 use zone_store::{Found, InMemoryZoneHandler, InnerInMemory, Searches};
 
@@ -43,19 +43,8 @@ fn store_address(sets: &mut Sets, owner: Name) -> Result<(), ProtoError> {
 fn store_soa(alloc: Global, sets: &mut Sets) -> Result<(), ProtoError> {
     let origin = Name::parse(alloc, "example.com.")?;
     let key = RrKey::new(LowerName::new(&origin)?, RecordType::SOA);
-    let soa = RData::SOA(SOA {
-        mname: Name::root(alloc),
-        rname: Name::root(alloc),
-        serial: 1,
-        refresh: 2,
-        retry: 3,
-        expire: 4,
-        minimum: 5,
-    });
-    let mut set = RecordSet::with_ttl(origin, RecordType::SOA, 60);
-    let is_added = set.add_rdata(soa).is_ok();
-    match sets.insert(key, set) {
-        Ok(None) if is_added => Ok(()),
+    match sets.insert(key, soa_set(alloc, origin)?) {
+        Ok(None) => Ok(()),
         _ => Err(ProtoError::Memory),
     }
 }
