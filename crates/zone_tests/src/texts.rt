@@ -29,40 +29,35 @@ fn no_records() -> NetError {
     })
 }
 
-/// Whether an error of a look-up prints as this text.
-fn error_prints(alloc: Global, error: LookupError, text: &str) -> bool {
-    prints(alloc, error, text)
-}
-
 #[test]
 fn errors_of_look_ups_print_their_words(rt: HostRuntime) {
     let alloc = rt.alloc();
     let count = "there should only be one query per request, got 2";
     let code = LookupError::from(ResponseCode::Other(23));
     let not_found = io::Error::from(io::ErrorKind::NotFound);
-    let counts = error_prints(alloc, LookupError::BadQueryCount(2), count);
-    let codes = error_prints(alloc, code, "Error performing lookup: RCODE23");
-    let messages = error_prints(
+    let counts = prints(alloc, LookupError::BadQueryCount(2), count);
+    let codes = prints(alloc, code, "Error performing lookup: RCODE23");
+    let messages = prints(
         alloc,
         LookupError::from(NetError::from("no route")),
         "net error: no route",
     );
-    let nothing = error_prints(
+    let nothing = prints(
         alloc,
         LookupError::from(no_records()),
         "net error: no records found",
     );
-    let names = error_prints(
+    let names = prints(
         alloc,
         LookupError::from(ProtoError::NameTooLong),
         "net error: name too long",
     );
-    let files = error_prints(
+    let files = prints(
         alloc,
         LookupError::from(not_found),
         "io error: entity not found",
     );
-    let memory = error_prints(
+    let memory = prints(
         alloc,
         LookupError::from(ProtoError::Memory),
         "out of memory",
