@@ -213,3 +213,8 @@ clash_is_not_taken m class r serial h =
     by : (same : Bool) → cond (same && not true) (with_record m r serial) None ≡ None
     by true = refl
     by false = refl
+
+-- a record of the zone's class whose type doesn't clash is inserted into its set
+pub free_is_inserted : (m : Sets) (class : ℕ) (r : Record) (serial : ℕ) → (r.dns_class.0 == class) ≡ true → clashes m (lower r.name) (type_of r.rdata) ≡ false
+    → upserted m class r serial ≡ with_record m r serial
+free_is_inserted m class r serial same free i = cond (same i && not (free i)) (with_record m r serial) None

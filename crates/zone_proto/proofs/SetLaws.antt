@@ -1,15 +1,17 @@
-use Rattle.std.proofs.Common.{◌≡◌, ◌≢◌, ℕ, ◌<◌, List, [], ◌∷◌, ◌++◌, length, get_or, refl, sym, ap, ◌∙◌, subst, Bool, true, false, ◌==◌, if◌then◌else◌, nat_lt, nat_le, lit<, arith}
+use Rattle.std.proofs.Common.{◌≡◌, ◌≢◌, ℕ, ◌<◌, List, [], ◌∷◌, ◌++◌, length, get_or, take, set, refl, sym, ap, ◌∙◌, subst, Bool, true, false, ◌==◌, if◌then◌else◌, nat_lt, nat_le, lit<, arith, Result, Ok, Err}
 use Rattle.std.specs.Prelude.{Option, Some, None}
 use Rattle.std.specs.List.{All}
 use Rattle.std.proofs.lemmas.Bool.Decides.{leb_tells}
 use Rattle.std.proofs.lemmas.List.Folds.{list_any_at}
 use Rattle.std.proofs.lemmas.List.Quantifiers.{all_pairs_push}
 use Rattle.std.proofs.lemmas.List.Elements.{All-push, All-cons}
-use Rattle.zone_proto.specs.Types.{own_types, has_own_case}
+use Rattle.zone_proto.specs.Types.{RRSIG, own_types, has_own_case}
 use Rattle.zone_proto.specs.Names.{same_name}
 use Rattle.zone_proto.specs.Data.{same_data, type_of}
-use Rattle.zone_proto.specs.Sets.{RRset, IsSet, is_single, soa_serial, first_serial, stores, with_records, replaced, appended, inserted_by, inserted, soa_inserted}
+use Rattle.zone_proto.specs.Sets.{RRset, IsSet, AreSignatures, is_single, soa_serial, first_serial, stores, with_records, replaced, appended, inserted_by, inserted, soa_inserted}
 use Rattle.zone_proto.specs.Insertion.{refused_by, is_refused, records_with}
+use Rattle.zone_proto.specs.Results.{IsChange}
+use Rattle.zone_proto.specs.declared.error.ProtoError.{ProtoError}
 use Rattle.zone_proto.specs.declared.rdata.RData.{RData}
 use Rattle.zone_proto.specs.declared.rdata.RData.TheVariants as V
 use Rattle.zone_proto.specs.declared.record.Record.{Record}
@@ -225,3 +227,19 @@ pub IsSet-inserted : (s : RRset) (r : Record) (serial : ℕ) (t : RRset)
     → IsSet t.owner t.record_type t.records
 IsSet-inserted s r serial t o k i e =
     if_set (is_refused s.records r.rdata) s r serial t refl o k i (sym (inserted_is s r serial i k) ∙ e)
+
+-- the only record of a list, written over
+pub written_alone : (rs : List Record) (r : Record) → 0 < length rs → set (take 1 rs) 0 r ≡ r ∷ []
+written_alone [] r some = absurd (omega arith)
+written_alone (x ∷ rs) r some = refl
+
+-- ---- a signature put behind the others
+
+pub signed_after : (old new : List Record) (r : Record) (result : Result Unit ProtoError) → type_of r.rdata ≡ RRSIG → AreSignatures old → IsChange old (old ++ r ∷ []) result new → AreSignatures new
+signed_after old new r (Ok u) kind signed change = subst AreSignatures (sym change.ok) (All-push (λ (x : Record). type_of x.rdata ≡ RRSIG) old r signed kind)
+signed_after old new r (Err e) kind signed change = subst AreSignatures (sym change.same) signed
+
+pub signature_put : (s : RRset) (new : List Record) (r : Record) (result : Result Unit ProtoError) → IsChange s.signatures (s.signatures ++ r ∷ []) result new
+    → IsChange s (record s { signatures = s.signatures ++ r ∷ [] }) result (record s { signatures = new })
+signature_put s new r (Ok u) change = record { ok = ap (λ rs. record s { signatures = rs }) change.ok; err = tt; same = tt }
+signature_put s new r (Err e) change = record { ok = tt; err = change.err; same = ap (λ rs. record s { signatures = rs }) change.same }
