@@ -100,15 +100,15 @@ renewed_with apex (e ∷ es) (x ∷ made) s sorted h l =
         ∙ ap (λ rest. (e.0, record (stepped e.1) { signatures = x }) ∷ rest) (renewed_without apex es made (lookup-none (key_eq apex) (with_signatures es made) others))
     by false k g i = ap (λ rest. (e.0, record e.1 { signatures = x }) ∷ rest) (i g)
 
--- a pass over a map that puts the next signatures of a list into each set
-module _ {F : Type 0} (T : F → RrKey → RRset → Bool → RRset → F → Type 0) (left : F → List (List Record))
-    (steps : (f : F) (k : RrKey) (v : RRset) (b : Bool) (w : RRset) (f' : F) → T f k v b w f' → (x : List Record) (xs : List (List Record)) → left f ≡ x ∷ xs
-    → (b ≡ true) × (w ≡ record v { signatures = x }) × (left f' ≡ xs)) where
-  pub signatures_put : (f : F) (es kept : Sets) (xs : List (List Record)) → left f ≡ xs → length xs ≡ length es → RetainsPairs T f es kept → kept ≡ with_signatures es xs
+-- a pass over a map that puts the signatures handed to each set into it
+module _ {F : Type 0} (T : F → RrKey → RRset → Bool → RRset → F → Type 0) (left : F → Sets → List (List Record))
+    (steps : (f : F) (k : RrKey) (v : RRset) (b : Bool) (w : RRset) (f' : F) → T f k v b w f' → (es : Sets) (x : List Record) (xs : List (List Record)) → left f ((k, v) ∷ es) ≡ x ∷ xs
+    → (b ≡ true) × (w ≡ record v { signatures = x }) × (left f' es ≡ xs)) where
+  pub signatures_put : (f : F) (es kept : Sets) (xs : List (List Record)) → left f es ≡ xs → length xs ≡ length es → RetainsPairs T f es kept → kept ≡ with_signatures es xs
   signatures_put f [] kept xs r l h = h
   signatures_put f (e ∷ es) kept [] r l h = absurd (omega (arith, l))
   signatures_put f (e ∷ es) kept (x ∷ xs) r l (b, w, f', others, t, more, k) =
-      let s = steps f e.0 e.1 b w f' t x xs r in
+      let s = steps f e.0 e.1 b w f' t es x xs r in
       let i = signatures_put f' es others xs s.2 (omega (arith, l)) more in
       k ∙ ap (λ (c : Bool). cond c ((e.0, w) ∷ others) others) s.0
       ∙ ap (λ (y : RRset). (e.0, y) ∷ others) s.1

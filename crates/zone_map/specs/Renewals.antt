@@ -1,5 +1,5 @@
 -- The record sets of a zone with new signatures
-use Rattle.std.specs.Prelude.{if◌then◌else◌, List, [], ◌∷◌}
+use Rattle.std.specs.Prelude.{if◌then◌else◌, nat_le, List, [], ◌∷◌, length, take, drop, Option, Some, None}
 use Rattle.zone_proto.specs.declared.record.Record.{Record}
 use Rattle.zone_proto.specs.declared.rr_key.RrKey.{RrKey}
 use Rattle.zone_proto.specs.Keys.{key_eq}
@@ -22,3 +22,11 @@ abbrev pub renewed : RrKey → Sets → List (List Record) → Sets
 renewed apex [] made = []
 renewed apex (e ∷ es) [] = e ∷ es
 renewed apex (e ∷ es) (signatures ∷ made) = (e.0, renewed_set apex e.0 e.1 signatures) ∷ renewed apex es made
+
+-- the signatures that sets get, in the order of their keys: those of its own list; and where a set has no list, as many as it has, of those that are exchanged
+abbrev pub handed : List (Option (List Record)) → List Record → Sets → List (List Record)
+handed [] exchanged es = []
+handed (o ∷ lists) exchanged [] = []
+handed (Some l ∷ lists) exchanged (e ∷ es) = l ∷ handed lists exchanged es
+handed (None ∷ lists) exchanged (e ∷ es) =
+    if nat_le (length e.1.signatures) (length exchanged) then take (length e.1.signatures) exchanged ∷ handed lists (drop (length e.1.signatures) exchanged) es else []

@@ -1,4 +1,4 @@
-ghost use Rattle.std.specs.Prelude.{◌≡◌, [], ◌++◌, ◌∷◌, true, ◌==◌, length};
+ghost use Rattle.std.specs.Prelude.{◌≡◌, ◌≤◌, [], ◌++◌, ◌∷◌, true, ◌==◌, length, take, drop};
 ghost use Rattle.zone_proto.specs.Names.{same_name};
 ghost use Rattle.zone_proto.specs.Types.{IN, RRSIG};
 ghost use Rattle.zone_proto.specs.Data.{type_of};
@@ -274,6 +274,15 @@ impl RecordSet {
         ensures { self.new ≡ record self.old { signatures = rrsigs } }
     {
         self.rrsigs = rrsigs.into_records();
+    }
+
+    /// Exchanges the signatures that the set has, in order, with those of a list from `start` on, which has as many there, and
+    /// answers where the next ones of that list stand. Takes no memory.
+    pub fn exchange_rrsigs(&mut self, others: &mut Rrsigs, start: usize) -> usize
+        ensures set { length self.old.signatures ≤ length (drop start others.old) → self.new ≡ record self.old { signatures = take (length self.old.signatures) (drop start others.old) } }
+        ensures others { length self.old.signatures ≤ length (drop start others.old) → drop result others.new ≡ drop (length self.old.signatures) (drop start others.old) }
+    {
+        others.exchange(start, self.rrsigs.as_mut_slice())
     }
 
     /// Steps the serial of the set's SOA by one modulo 2^32 (RFC 1982 section 3.1), which becomes the set's serial too; a set

@@ -1,4 +1,4 @@
-ghost use Rattle.std.specs.Prelude.{◌≡◌, [], ◌++◌, ◌∷◌, IfOk, IsOkUnless};
+ghost use Rattle.std.specs.Prelude.{◌≡◌, ◌≤◌, ◌+◌, [], ◌++◌, ◌∷◌, length, take, drop, IfOk, OnOk, OnErr, IsOkUnless};
 ghost use Rattle.zone_proto.specs.Types.{RRSIG};
 ghost use Rattle.zone_proto.specs.Data.{type_of};
 ghost use Rattle.zone_proto.specs.Sets.{AreSignatures};
@@ -47,6 +47,40 @@ impl Rrsigs {
         Ok(())
     }
 
+    /// How many there are.
+    pub fn len(&self) -> usize
+        ensures { result ≡ length self.now }
+    {
+        self.records.len()
+    }
+
+    /// Takes those from `start` on out, as a list with room for these alone. Refused by `Memory` alone, which leaves them.
+    pub fn split_off(&mut self, start: usize) -> Result<Rrsigs, ProtoError>
+        requires { start ≤ length self.old }
+        ensures ok { IfOk result (λ rrsigs. rrsigs ≡ drop start self.old) }
+        ensures rest { OnOk result (self.new ≡ take start self.old) }
+        ensures err { IsOkUnless result ProtoError.Memory }
+        ensures same { OnErr result (self.new ≡ self.old) }
+    {
+        Ok(Rrsigs {
+            records: self.records.split_off(start)?,
+        })
+    }
+
+    /// Exchanges signatures, in order, with those from `start` on, and answers where the next ones stand. Takes no memory.
+    pub(crate) fn exchange(&mut self, start: usize, others: &mut [Record]) -> usize
+        requires { AreSignatures others.old }
+        ensures others { length others.old ≤ length (drop start self.old) → others.new ≡ take (length others.old) (drop start self.old) }
+        ensures rest { length others.old ≤ length (drop start self.old) → drop result self.new ≡ drop (length others.old) (drop start self.old) }
+        ensures kind { AreSignatures others.new }
+    {
+        let end = start.saturating_add(others.len());
+        if end <= self.records.len() {
+            exchange_part(self.records.as_mut_slice(), start, others);
+        }
+        end
+    }
+
     /// The records.
     pub(crate) fn into_records(self) -> Vec<Record>
         ensures value { result.items ≡ self }
@@ -54,4 +88,14 @@ impl Rrsigs {
     {
         self.records
     }
+}
+
+/// Exchanges items with those from `start` on.
+fn exchange_part(items: &mut [Record], start: usize, others: &mut [Record])
+    requires { start + length others.old ≤ length items.old }
+    ensures items { items.new ≡ take start items.old ++ others.old ++ drop (start + length others.old) items.old }
+    ensures others { others.new ≡ take (length others.old) (drop start items.old) }
+{
+    let end = start + others.len();
+    items[start..end].swap_with_slice(others);
 }

@@ -1,4 +1,5 @@
 pub mod SignedSets
+pub mod Handings
 pub mod Changes
 pub mod SecuredSets
 mod SecuredExamples

@@ -1,2 +1,3 @@
 pub mod Signatures
+pub mod Handing
 pub mod Secured

@@ -1,15 +1,21 @@
 //! The record sets of a zone as they are once it is secured.
-ghost use Rattle.std.specs.Prelude.{◌≡◌, ℕ, [], IfOk, OnOk, OnErr, IsOkUnless, option_map, map};
+ghost use Rattle.std.specs.Prelude.{◌≡◌, ℕ, [], ◌++◌, IfOk, OnOk, OnErr, IsOkUnless, option_map, map};
 ghost use Rattle.zone_proto.specs.Keys.{key as key_at};
 ghost use Rattle.zone_proto.specs.Names.{Name};
 ghost use Rattle.zone_proto.specs.Types.{SOA};
+ghost use Rattle.zone_map.specs.Renewals.{handed};
 ghost use Rattle.zone_map.specs.Zones.{set_at, IsStoredAt, IsZone};
+ghost use Rattle.zone_signing.specs.Handing.{IsHanded};
 ghost use Rattle.zone_signing.specs.Secured.{bare, stays, unsigned_at, secured_set, IsSecured};
 
-use crate::signatures::signatures_of;
+use crate::signatures::add_signatures;
 use std::alloc::Global;
 use zone_map::RecordMap;
 use zone_proto::{ProtoError, RecordSet, RecordType, RrKey, Rrsigs, Signer};
+
+/// How many signatures are exchanged at most; what goes beyond takes lists for each set. They are 27 megabytes in one piece:
+/// of more than 32 the C library takes each piece from the system and gives it back, which takes longer than to use it.
+const MOST_EXCHANGED: usize = 131_072;
 
 /// Secures the record sets of a zone whose SOA stands under `apex`, at the moment `now`, in seconds since 1970.
 ///
@@ -53,47 +59,76 @@ fn sign_all<S: Signer>(
     ensures err { IsOkUnless result ProtoError.Memory }
     ensures same { OnErr result (zone.new ≡ zone.old) }
 {
-    let rrsigs = all_signatures(zone, apex, signers, now)?;
-    zone.renew(apex, rrsigs);
+    let (lists, exchanged) = all_signatures(zone, apex, signers, now)?;
+    zone.renew(apex, lists, exchanged);
     Ok(())
 }
 
-/// The signatures of each set, in the order of the keys.
+/// The signatures of all sets in the order of their keys: for each set a list, or none if it has as many signatures as it
+/// gets. What such sets get stands in the one list beside, so that it takes no memory for each.
 fn all_signatures<S: Signer>(
     zone: &RecordMap,
     apex: &RrKey,
     signers: &[S],
     now: u64,
-) -> Result<Vec<Rrsigs>, ProtoError>
-    ensures ok { IfOk result (λ made. made.items ≡ map (λ e. (secured_set S.signature_of now apex.now signers.now e.0 e.1).signatures) zone.now) }
+) -> Result<(Vec<Option<Rrsigs>>, Rrsigs), ProtoError>
+    ensures ok { IfOk result (λ made. handed made.0.items made.1 zone.now ≡ map (λ e. (secured_set S.signature_of now apex.now signers.now e.0 e.1).signatures) zone.now) }
     ensures err { IsOkUnless result ProtoError.Memory }
 {
-    let mut made = Vec::with_capacity(apex.name.alloc(), zone.len())?;
+    let alloc = apex.name.alloc();
+    let mut lists = Vec::with_capacity(alloc, zone.len())?;
+    let most = zone.len().saturating_mul(signers.len());
+    let room = most.min(MOST_EXCHANGED).saturating_add(signers.len());
+    let mut exchanged = Rrsigs::with_capacity(alloc, room)?;
     for (key, set) in zone.iter() {
-        made.push(signatures_under(key, set, apex, signers, now)?)?;
+        lists.push(sign_under(&mut exchanged, key, set, apex, signers, now)?)?;
     }
-    Ok(made)
+    Ok((lists, exchanged))
 }
 
-/// The signatures of the set under a key, with the next serial if it is the zone's SOA.
-fn signatures_under<S: Signer>(
+/// Signs the set under a key, with the next serial if it is the zone's SOA: as a list, or behind those to be exchanged where
+/// the set gets as many as it has.
+fn sign_under<S: Signer>(
+    exchanged: &mut Rrsigs,
     key: &RrKey,
     set: &RecordSet,
     apex: &RrKey,
     signers: &[S],
     now: u64,
-) -> Result<Rrsigs, ProtoError>
+) -> Result<Option<Rrsigs>, ProtoError>
     requires { IsStoredAt key.now.name key.now.record_type.0 set.now }
-    ensures ok { IfOk result (λ made. made ≡ (secured_set S.signature_of now apex.now signers.now key.now set.now).signatures) }
+    ensures ok { IfOk result (λ list. IsHanded set.now exchanged.old (secured_set S.signature_of now apex.now signers.now key.now set.now).signatures list exchanged.new) }
+    ensures err { IsOkUnless result ProtoError.Memory }
+{
+    let start = exchanged.len();
+    sign_next(exchanged, key, set, apex, signers, now)?;
+    let is_as_many = exchanged.len() - start == set.rrsigs().len();
+    if is_as_many && exchanged.len() <= MOST_EXCHANGED {
+        return Ok(None);
+    }
+    Ok(Some(exchanged.split_off(start)?))
+}
+
+/// Puts the signatures of the set under a key, with the next serial if it is the zone's SOA, behind those that were made.
+fn sign_next<S: Signer>(
+    made: &mut Rrsigs,
+    key: &RrKey,
+    set: &RecordSet,
+    apex: &RrKey,
+    signers: &[S],
+    now: u64,
+) -> Result<(), ProtoError>
+    requires { IsStoredAt key.now.name key.now.record_type.0 set.now }
+    ensures ok { OnOk result (made.new ≡ made.old ++ (secured_set S.signature_of now apex.now signers.now key.now set.now).signatures) }
     ensures err { IsOkUnless result ProtoError.Memory }
 {
     // The set is asked first, as it is read in any case: the key stands elsewhere in memory.
     if set.record_type() == apex.record_type && apex.same_as(key) {
         let mut next = set.clone_without_rrsigs()?;
         next.step_serial();
-        return signatures_of(&next, signers, now);
+        return add_signatures(made, &next, signers, now);
     }
-    signatures_of(set, signers, now)
+    add_signatures(made, set, signers, now)
 }
 
 /// Copies of the sets of the zone, those of the type `denials` excepted, and the new denials; all without signatures.

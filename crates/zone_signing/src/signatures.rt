@@ -1,5 +1,5 @@
 //! The signatures of record sets.
-ghost use Rattle.std.specs.Prelude.{◌≡◌, ◌++◌, IfOk, OnOk, OnErr, IsOkUnless, option_to_list};
+ghost use Rattle.std.specs.Prelude.{◌≡◌, ◌++◌, OnOk, OnErr, IsOkUnless, option_to_list};
 ghost use Rattle.zone_signing.specs.Signatures.{signature, signatures};
 
 use zone_proto::{DNSClass, ProtoError, RData, Record, RecordSet, Rrsigs, Signer};
@@ -15,25 +15,28 @@ pub fn sign_set<S: Signer>(set: &mut RecordSet, signers: &[S], now: u64) -> Resu
     ensures err { IsOkUnless result ProtoError.Memory }
     ensures same { OnErr result (set.new ≡ set.old) }
 {
-    set.replace_rrsigs(signatures_of(set, signers, now)?);
+    let mut made = Rrsigs::with_capacity(set.name().alloc(), signers.len())?;
+    add_signatures(&mut made, set, signers, now)?;
+    set.replace_rrsigs(made);
     Ok(())
 }
 
-/// The signatures of a set by each signer in order, at the moment `now`, in seconds since 1970 (RFC 4034 section 3); one that
-/// declines is passed over. Those that the set has are never signed. Refused by `Memory` alone, of a signer too.
-pub fn signatures_of<S: Signer>(
+/// Puts the signatures of a set by each signer in order, at the moment `now`, in seconds since 1970 (RFC 4034 section 3),
+/// behind those that were made; a signer that declines is passed over. Those that the set has are never signed. Refused by
+/// `Memory` alone, of a signer too.
+pub fn add_signatures<S: Signer>(
+    made: &mut Rrsigs,
     set: &RecordSet,
     signers: &[S],
     now: u64,
-) -> Result<Rrsigs, ProtoError>
-    ensures ok { IfOk result (λ made. made ≡ signatures S.signature_of now signers.now set.now) }
+) -> Result<(), ProtoError>
+    ensures ok { OnOk result (made.new ≡ made.old ++ signatures S.signature_of now signers.now set.now) }
     ensures err { IsOkUnless result ProtoError.Memory }
 {
-    let mut made = Rrsigs::with_capacity(set.name().alloc(), signers.len())?;
     for signer in signers {
-        add_signature(&mut made, set, signer, now)?;
+        add_signature(made, set, signer, now)?;
     }
-    Ok(made)
+    Ok(())
 }
 
 /// Puts the signature of a set by one signer behind those that were made, unless the signer declines.

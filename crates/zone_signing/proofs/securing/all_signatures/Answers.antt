@@ -1,15 +1,25 @@
-use Rattle.std.proofs.Common.{arith, subst}
-use Rattle.std.proofs.lemmas.Grind.{common_steps}
+use Rattle.std.proofs.Common.{subst, sym, ◌∙◌}
 use Rattle.std.proofs.lemmas.List.Elements.{All-head, All-tail}
 use Rattle.zone_map.specs.Zones.{AreStored, IsStoredAt}
+use Rattle.zone_signing.proofs.Handings.{HandsOn-begun, HandsOn-more, HandsOn-all}
 use Rattle.zone_signing.proofs.securing.all_signatures.Goals as goal
 
-pub signatures_under-requires : goal.signatures_under-requires
-signatures_under-requires g c = All-head (λ e. IsStoredAt e.0.name e.0.record_type.0 e.1) _ _ (subst AreStored c.in-Some.ensures.steps c.loop-key.invariant.stored)
+pub loop-key-init : goal.loop-key-init
+loop-key-init g c =
+    record {
+      stored = subst AreStored (sym c.into_iter-key-iterator.ensures.into_iter_gives) (subst AreStored (sym c.iter-key-items.ensures.rest) c.iter-key-items.ensures.stored);
+      made = HandsOn-begun _ c.args.zone.now _ _ _ (c.into_iter-key-iterator.ensures.into_iter_gives ∙ c.iter-key-items.ensures.rest) c.in_ok-lists.ensures.items c.in_ok-exchanged.ensures.ok;
+    }
+
+pub sign_under-requires : goal.sign_under-requires
+sign_under-requires g c = All-head (λ e. IsStoredAt e.0.name e.0.record_type.0 e.1) _ _ (subst AreStored c.in-Some.ensures.steps c.loop-key.invariant.stored)
 
 pub loop-key-preserved : goal.loop-key-preserved
 loop-key-preserved g c =
     record {
       stored = All-tail (λ e. IsStoredAt e.0.name e.0.record_type.0 e.1) _ _ (subst AreStored c.in-Some.ensures.steps c.loop-key.invariant.stored);
-      made = grind (arith, common_steps);
+      made = HandsOn-more _ c.args.zone.now _ _ _ _ _ _ _ _ c.in-Some.ensures.steps c.in_ok-push.ensures.items c.in_ok-sign_under.ensures.ok c.loop-key.invariant.made;
     }
+
+pub returns-clause-ok : goal.returns-clause-ok
+returns-clause-ok g c = HandsOn-all _ c.args.zone.now _ _ _ c.in-None.ensures.steps.0 c.loop-key.invariant.made
