@@ -4,7 +4,6 @@ use crate::streams::{Capture, Feed};
 use scarce::Scarcity;
 use std::alloc::{AllocError, Global};
 use std::test::Fail;
-use zone_program as program;
 
 /// How many rooms are tried before a run has to succeed.
 const ROOMS: usize = 4_000;
@@ -40,7 +39,7 @@ impl<'i> Desk<'i> {
         self.fault.got.clear();
         let mut feed = Feed(self.input);
         let (args, output, fault) = (self.args.as_slice(), &mut self.output, &mut self.fault);
-        Some(program::run(alloc, args, &mut feed, output, fault))
+        Some(zone_program::run(alloc, args, &mut feed, output, fault))
     }
 
     fn wrote(&self, text: &[u8]) -> bool {
