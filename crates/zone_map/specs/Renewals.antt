@@ -23,7 +23,7 @@ renewed apex [] made = []
 renewed apex (e ∷ es) [] = e ∷ es
 renewed apex (e ∷ es) (signatures ∷ made) = (e.0, renewed_set apex e.0 e.1 signatures) ∷ renewed apex es made
 
--- the signatures that sets get, in the order of their keys: those of its own list; and where a set has no list, as many as it has, of those that are exchanged
+-- the signatures that sets get, in the order of their keys: each set those of its own list, or, where it has none, as many of those exchanged as it has, the first ones that are left
 abbrev pub handed : List (Option (List Record)) → List Record → Sets → List (List Record)
 handed [] exchanged es = []
 handed (o ∷ lists) exchanged [] = []

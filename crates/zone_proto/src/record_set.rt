@@ -276,8 +276,9 @@ impl RecordSet {
         self.rrsigs = rrsigs.into_records();
     }
 
-    /// Exchanges the signatures that the set has, in order, with those of a list from `start` on, which has as many there, and
-    /// answers where the next ones of that list stand. Takes no memory.
+    /// Exchanges the signatures that the set has, in order, with those of a list from `start` on (an index, from 0), and
+    /// answers where the next ones of that list stand. The caller hands in a list that has as many there; nothing is said of
+    /// a shorter one. It refuses nothing and takes no memory.
     pub fn exchange_rrsigs(&mut self, others: &mut Rrsigs, start: usize) -> usize
         ensures set { length self.old.signatures ≤ length (drop start others.old) → self.new ≡ record self.old { signatures = take (length self.old.signatures) (drop start others.old) } }
         ensures others { length self.old.signatures ≤ length (drop start others.old) → drop result others.new ≡ drop (length self.old.signatures) (drop start others.old) }
