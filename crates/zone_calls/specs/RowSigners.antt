@@ -3,7 +3,7 @@ use Rattle.std.specs.Prelude.{ℕ, Bool, true, false, ◌==◌, ◌%◌, if◌th
 use Rattle.zone_proto.specs.declared.rdata.signing.DNSKEY.{DNSKEY}
 use Rattle.zone_proto.specs.declared.rdata.signing.RRSIG.{RRSIG}
 use Rattle.zone_proto.specs.Signing.{SignedPart}
-use Rattle.zone_program.specs.DemoSigners.{Demo, demo_key, demo_signature}
+use Rattle.zone_store.specs.DemoSigners.{Demo, demo_key, demo_signature}
 use Rattle.zone_calls.specs.declared.signers.Manner.{Manner}
 use Rattle.zone_calls.specs.declared.signers.Manner.TheVariants as M
 

@@ -7,7 +7,7 @@ use crate::read::read_question;
 use crate::signers::{Manner, RowSigner};
 use std::alloc::Global;
 use zone_handler::{KeyError, SecureError, ZoneHandler};
-use zone_program::DemoSigner;
+use zone_store::program::DemoSigner;
 use zone_proto::LowerName;
 use zone_text::{TextError, Words, read_name, read_u16, read_u64};
 

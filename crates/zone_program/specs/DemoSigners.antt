@@ -4,7 +4,7 @@ use Rattle.zone_proto.specs.declared.rdata.signing.DNSKEY.{DNSKEY}
 use Rattle.zone_proto.specs.declared.rdata.signing.RRSIG.{RRSIG}
 use Rattle.zone_proto.specs.Names.{Name}
 use Rattle.zone_proto.specs.Signing.{SignedPart}
-use Rattle.zone_store.specs.Wildcards.{is_starred}
+use Rattle.zone_in_memory.specs.Wildcards.{is_starred}
 
 -- what tells it from another: its number, and the origin of the zone that it signs for
 pub record Demo : Type 0 where

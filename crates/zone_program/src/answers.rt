@@ -11,7 +11,7 @@ use zone_handler::{
 use zone_proto::{
     DNSClass, LowerName, Name, NxProofKind, ProtoError, Query, Record, RecordType, RrKey,
 };
-use zone_store::InMemoryZoneHandler;
+use zone_in_memory::InMemoryZoneHandler;
 use zone_text::RecordText;
 
 /// The zone that the program keeps.

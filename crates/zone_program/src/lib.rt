@@ -1,5 +1,5 @@
 //! The program `zonectl`: reads a command from each line, and writes an answer to each. Its lines are read and its records
-//! printed as `zone_text` does, and its zone is that of `zone_store`; the signer of its demonstrations is no cryptography.
+//! printed as `zone_text` does, and its zone is that of `zone_in_memory`; the signer of its demonstrations is no cryptography.
 #![tactic(auto)]
 
 ghost use Rattle.std.specs.Prelude.{◌≡◌, ◌≢◌, ◌≤◌, length, IsErrOf};

@@ -1,20 +1,26 @@
-//! The store of an authoritative zone: its record sets in one ordered map, what makes and changes it, what a search finds
-//! (referrals at zone cuts, RFC 1034 section 4.2.1, the sets of a name, and those of wildcards, section 4.3.3), chains of
-//! aliases (section 3.6.2), additional records (section 3.7), ANAME, what a lookup answers, transfers (RFC 5936), the
-//! signing of a zone (RFC 4035 section 2), and denial by NSEC (RFC 4034 section 4). The module `laws` has laws of the
-//! definitions. What is searched and how a found set is answered stands in `zone_search`, whose items are handed on here.
+//! The zone of an authoritative DNS server, in memory: what a program that serves zones depends on. It stands on the crates
+//! below it, hands on what a user needs of them, and has no code of its own.
 //!
-//! Contracts see a zone as its origin, class, kind and policy, the list of its sets by name and type, and its signers. An
-//! insertion that answers false, and any call that is refused, leaves the zone as it was. Denials by NSEC3 (RFC 5155)
-//! aren't there yet.
+//! - [`InMemoryZoneHandler`] is a zone. It is made by `empty` or `new`, changed by `upsert`, `put_set`, `remove_set` and
+//!   `clear`, and signed by `add_zone_signing_key` and `secure_zone` (RFC 4035 section 2). It answers `search` and `lookup`
+//!   (RFC 1034 section 4.3.2), `nsec_records` (RFC 4035 section 3.1.3) and `zone_transfer` (RFC 5936), which are calls of the
+//!   traits `ZoneHandler` and `DnssecZoneHandler` of `zone_handler`. [`PutRefused`] says why a set was not stored.
+//! - [`InnerInMemory`] is what a zone lends for reading: its record sets by name and type, and its signers. [`Searches`] counts
+//!   what is searched among them, [`Found`] is a set that was found, and [`ZoneError`] says why there is none.
+//! - [`program`] has the command language of `zonectl` over any reader and writer, with the signer and the hash of its
+//!   demonstrations.
+//! - [`laws`] has laws of the definitions: contracts of functions that do nothing. What the contracts of all these calls cite
+//!   stands under `specs` here too.
+//!
+//! Names, records, sets, signers and hashes are those of `zone_proto`. An insertion that answers false, and any call that is
+//! refused, leaves the zone as it was.
 #![tactic(auto)]
 
-mod construction;
-mod in_memory_zone_handler;
-pub mod laws;
-mod put_refused;
-mod transfer;
+/// The program `zonectl`, and what it signs and hashes with.
+pub mod program {
+    pub use zone_program::{DemoSigner, Sha1Hash, run};
+}
 
-pub use in_memory_zone_handler::InMemoryZoneHandler;
-pub use put_refused::PutRefused;
+pub use zone_in_memory::laws;
+pub use zone_in_memory::{InMemoryZoneHandler, PutRefused};
 pub use zone_search::{Found, InnerInMemory, Searches, ZoneError};

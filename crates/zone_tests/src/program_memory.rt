@@ -39,7 +39,7 @@ impl<'i> Desk<'i> {
         self.fault.got.clear();
         let mut feed = Feed(self.input);
         let (args, output, fault) = (self.args.as_slice(), &mut self.output, &mut self.fault);
-        Some(zone_program::run(alloc, args, &mut feed, output, fault))
+        Some(zone_store::program::run(alloc, args, &mut feed, output, fault))
     }
 
     fn wrote(&self, text: &[u8]) -> bool {

@@ -7,7 +7,7 @@ use std::test::Fail;
 use zone_handler::{
     AuthLookup, AxfrPolicy, LookupControlFlow, LookupOptions, ZoneHandler, ZoneType,
 };
-use zone_program::{DemoSigner, Sha1Hash};
+use zone_store::program::{DemoSigner, Sha1Hash};
 use zone_proto::{
     DNSClass, LowerName, Name, NxProofKind, ProtoError, RData, Record, RecordSet, RecordType, RrKey,
 };

@@ -144,7 +144,7 @@ fn try_silent_fault(alloc: Global, transcript: &Transcript) -> Result<Option<Str
     };
     let (mut output, mut fault) = (Capture::new(alloc, 0), Capture::new(alloc, 0));
     let args = transcript.args.as_slice();
-    let status = zone_program::run(alloc, args, &mut feed, &mut output, &mut fault);
+    let status = zone_store::program::run(alloc, args, &mut feed, &mut output, &mut fault);
     if fault.failed && status == transcript.status {
         return Ok(None);
     }
@@ -161,7 +161,7 @@ fn compare(
 ) -> Result<Option<String>, AllocError> {
     let (mut output, mut fault) = (Capture::new(alloc, writes), Capture::new(alloc, usize::MAX));
     let args = transcript.args.as_slice();
-    let status = zone_program::run(alloc, args, &mut feed, &mut output, &mut fault);
+    let status = zone_store::program::run(alloc, args, &mut feed, &mut output, &mut fault);
     let came = Ending {
         output: output.got.as_slice(),
         fault: fault.got.as_slice(),

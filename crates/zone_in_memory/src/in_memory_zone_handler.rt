@@ -1,0 +1,482 @@
+ghost use Rattle.std.specs.Prelude.{◌≡◌, ◌≢◌, ◌⊎◌, false, [], Ok, Err, IfErr, IfOk, OnOk, OnErr, IsTrue, option_copied};
+ghost use Rattle.zone_proto.specs.Names.{lower, is_at_or_above};
+ghost use Rattle.zone_proto.specs.Types.{IN, SOA, AXFR};
+ghost use Rattle.zone_denial.specs.NsecLaws.{IsNsecZone};
+ghost use Rattle.zone_handler.specs.Transfers.{IsNoLookup};
+ghost use Rattle.zone_search.specs.StartOfAuthority.{soa, serial, minimum};
+ghost use Rattle.zone_search.specs.Replies.{absent, denial, IsReplyFor};
+ghost use Rattle.zone_in_memory.specs.Lookup.{error_of, SaysOrMemory, IsLookup, IsAnswered};
+ghost use Rattle.zone_in_memory.specs.NsecAnswers.{IsNsecAnswer, IsNsecProof, AgreesWithCircle};
+ghost use Rattle.zone_in_memory.specs.Requests.{IsSearch};
+ghost use Rattle.zone_in_memory.specs.Transfers.{IsZoneTransfer};
+ghost use Rattle.zone_map.specs.AnyTypes.{searched_type};
+ghost use Rattle.zone_in_memory.specs.Construction.{made};
+ghost use Rattle.zone_in_memory.specs.Refusals.{Refuses};
+ghost use Rattle.zone_signing.specs.Signatures.{answer_signatures};
+ghost use Rattle.zone_map.specs.Upserts.{CnamesStandAlone};
+ghost use Rattle.zone_in_memory.specs.Insertions.{IsUpsert};
+ghost use Rattle.zone_map.specs.Zones.{set_at, owns, put, without, IsZone};
+
+mod denial;
+mod signing;
+
+use crate::construction;
+use crate::put_refused::PutRefused;
+use std::collections::BTreeMap;
+use std::marker::Model;
+use zone_handler::{
+    AuthLookup, AxfrPolicy, LookupControlFlow, LookupError, LookupOptions, NetError, Request,
+    RequestInfo, TSigResponseContext, ZoneHandler, ZoneTransfer, ZoneType,
+};
+use zone_proto::{
+    DNSClass, LowerName, Name, Nsec3Hash, NxProofKind, Record, RecordSet, RecordType, ResponseCode,
+    RrKey, SOA, Signer,
+};
+use zone_search::start_of_authority::first_soa;
+use zone_search::{InnerInMemory, Searches, ZoneError};
+
+// The class of every zone that is made here.
+const CLASS: DNSClass = DNSClass::IN;
+
+/// An authoritative zone in memory.
+///
+/// `S` is what signs its record sets, and `H` hashes the names of NSEC3 denials.
+pub struct InMemoryZoneHandler<S: Signer, H: Nsec3Hash> {
+    // The key of the zone's SOA, whose name is the origin: a look-up of the serial then needs no key of its own.
+    apex: RrKey,
+    class: DNSClass,
+    zone_type: ZoneType,
+    axfr_policy: AxfrPolicy,
+    nx_proof_kind: Option<NxProofKind>,
+    inner: InnerInMemory<S>,
+    hash: H,
+}
+
+/// A call of its own, so that the proofs of all that drop a zone don't go into its parts.
+impl<S: Signer, H: Nsec3Hash> Drop for InMemoryZoneHandler<S, H> {
+    fn drop(self) {
+        let InMemoryZoneHandler {
+            apex: _,
+            class: _,
+            zone_type: _,
+            axfr_policy: _,
+            nx_proof_kind: _,
+            inner: _,
+            hash: _,
+        } = self;
+    }
+}
+
+impl<S: Signer, H: Nsec3Hash> Model for InMemoryZoneHandler<S, H> {
+    ghost use Rattle.zone_in_memory.specs.Handlers.{Zone, IsHandler};
+
+    ghost Value = { Zone S H };
+
+    ghost view = { λ zone.
+        record {
+          origin = zone.apex.name;
+          class = zone.class.0;
+          zone_type = zone.zone_type;
+          axfr_policy = zone.axfr_policy;
+          kind = zone.nx_proof_kind;
+          inner = zone.inner;
+          hash = zone.hash;
+        } };
+
+    ghost invariant = { λ zone. IsHandler zone.apex zone.class.0 zone.inner.records };
+}
+
+impl<S: Signer, H: Nsec3Hash> InMemoryZoneHandler<S, H> {
+    /// A zone without records and signers, of class IN. This takes no memory.
+    ///
+    /// `origin` is the name at its top, `zone_type` what the server is to it, `axfr_policy` who may transfer it,
+    /// `nx_proof_kind` how it denies once it is signed, and `hash` what its NSEC3 denials are hashed by.
+    pub fn empty(
+        origin: Name,
+        zone_type: ZoneType,
+        axfr_policy: AxfrPolicy,
+        nx_proof_kind: Option<NxProofKind>,
+        hash: H,
+    ) -> Self
+        ensures made { result
+            ≡ record {
+              origin = lower origin;
+              class = IN;
+              zone_type = zone_type;
+              axfr_policy = axfr_policy;
+              kind = nx_proof_kind;
+              inner = record { records = []; signers = [] };
+              hash = hash;
+            } }
+        ensures cnames { CnamesStandAlone result.inner.records }
+    {
+        let alloc = origin.alloc();
+        InMemoryZoneHandler {
+            apex: RrKey::new(LowerName::from(origin), RecordType::SOA),
+            class: CLASS,
+            zone_type,
+            axfr_policy,
+            nx_proof_kind,
+            inner: InnerInMemory::new(alloc),
+            hash,
+        }
+    }
+
+    /// A zone made of record sets by their keys, without signers, of class IN.
+    ///
+    /// The records of the sets are inserted in the order of the keys and without their signatures, each with the serial
+    /// of the SOA that is handed in; a set without records adds nothing. Refused, in this order: `MissingSoa` where no
+    /// set stands under the origin and SOA whose first record is SOA data; `KeyMismatch` where a key isn't its set's
+    /// own owner name, in lower case, and type; `Refused`, with the set's owner and type, for the first set of which a
+    /// record isn't taken, as [`InMemoryZoneHandler::upsert`] says. `Memory` may come instead of any of these.
+    pub fn new(
+        origin: Name,
+        records: BTreeMap<RrKey, RecordSet>,
+        zone_type: ZoneType,
+        axfr_policy: AxfrPolicy,
+        nx_proof_kind: Option<NxProofKind>,
+        hash: H,
+    ) -> Result<Self, ZoneError>
+        ensures ok { IfOk result (λ zone. made origin records.entries ≡ Ok zone.inner.records) }
+        ensures parts { IfOk result (λ zone. zone
+            ≡ record {
+              origin = lower origin;
+              class = IN;
+              zone_type = zone_type;
+              axfr_policy = axfr_policy;
+              kind = nx_proof_kind;
+              inner = record { records = zone.inner.records; signers = [] };
+              hash = hash;
+            }) }
+        ensures cnames { IfOk result (λ zone. CnamesStandAlone zone.inner.records) }
+        ensures err { IfErr result (λ error. (error ≡ ZoneError.Memory) ⊎ (made origin records.entries ≡ Err error)) }
+    {
+        let alloc = origin.alloc();
+        let Ok(name) = LowerName::new(&origin) else {
+            return Err(ZoneError::Memory);
+        };
+        let apex = RrKey::new(name, RecordType::SOA);
+        let map = construction::make(&origin, &apex, &records)?;
+        Ok(InMemoryZoneHandler {
+            apex,
+            class: CLASS,
+            zone_type,
+            axfr_policy,
+            nx_proof_kind,
+            inner: InnerInMemory::with_records(alloc, map),
+            hash,
+        })
+    }
+
+    /// The zone's class, which is IN of every zone (RFC 1035 section 3.2.4).
+    pub fn class(&self) -> DNSClass
+        ensures zone { result.0 ≡ self.now.class }
+        ensures internet { result.0 ≡ IN }
+    {
+        self.class
+    }
+
+    /// The record sets by their keys, in the order of the keys.
+    pub fn records(&self) -> &BTreeMap<RrKey, RecordSet>
+        ensures entries { result.now.entries ≡ self.now.inner.records }
+        ensures zone { IsZone self.now.inner.records }
+        ensures origin { lower self.now.origin ≡ self.now.origin }
+    {
+        self.inner.as_map()
+    }
+
+    /// The record sets and signers.
+    pub fn inner(&self) -> &InnerInMemory<S>
+        ensures inner { result.now ≡ self.now.inner }
+        ensures zone { IsZone self.now.inner.records }
+    {
+        &self.inner
+    }
+
+    /// The zone's serial: that of the SOA data at the origin (RFC 1035 section 3.3.13), 0 without an SOA.
+    pub fn serial(&self) -> u32
+        ensures { result ≡ serial self.now.inner.records self.now.origin }
+    {
+        match self.soa() {
+            Some(soa) => soa.serial,
+            None => 0,
+        }
+    }
+
+    /// The zone's minimum, in seconds: that of the SOA data at the origin, which is the TTL of its negative answers
+    /// (RFC 2308 section 4); 0 without an SOA.
+    pub fn minimum_ttl(&self) -> u32
+        ensures { result ≡ minimum self.now.inner.records self.now.origin }
+    {
+        match self.soa() {
+            Some(soa) => soa.minimum,
+            None => 0,
+        }
+    }
+
+    /// The SOA data at the origin.
+    fn soa(&self) -> Option<&SOA>
+        ensures { option_copied result ≡ soa self.now.inner.records self.now.origin }
+    {
+        first_soa(self.inner.get(&self.apex)?)
+    }
+
+    /// Takes a record into the set of its owner name and type, or makes that set.
+    ///
+    /// `serial` is the serial that the set keeps when it takes the record. The answer is whether the record was
+    /// taken. It isn't taken if it is of another class than the zone; if its owner owns a type that may not stand
+    /// beside the record's, one of the two being CNAME and neither NSEC or NSEC3 (RFC 1034 section 3.6.2); or if the
+    /// set refuses it, as [`RecordSet::insert`] says: an SOA whose serial isn't greater than the stored one's, or
+    /// data that the set has. A record that isn't taken changes nothing, and so does a refusal, by `Memory` alone.
+    pub fn upsert(&mut self, record: Record, serial: u32) -> Result<bool, ZoneError>
+        ensures { IsUpsert self.old «record» serial result self.new }
+    {
+        self.inner.upsert(record, serial, self.class)
+    }
+
+    /// The same as [`InMemoryZoneHandler::upsert`].
+    pub fn upsert_mut(&mut self, record: Record, serial: u32) -> Result<bool, ZoneError>
+        ensures { IsUpsert self.old «record» serial result self.new }
+    {
+        self.upsert(record, serial)
+    }
+
+    /// Stores a set whole, with its signatures, under its own owner name, in lower case, and type, and gives the set
+    /// that stood there.
+    ///
+    /// Nothing is asked of its class, nor of a CNAME beside it. Refused by `Empty` for a set without records, and by
+    /// `Memory`; both hand the set back and leave the zone as it was.
+    pub fn put_set(&mut self, set: RecordSet) -> Result<Option<RecordSet>, PutRefused>
+        ensures before { IfOk result (λ before. before ≡ set_at self.old.inner.records (lower set.owner) set.record_type) }
+        ensures stored { OnOk result (self.new
+            ≡ record self.old { inner = record self.old.inner { records = put self.old.inner.records (lower set.owner) set.record_type set } }) }
+        ensures empty { set.records ≡ [] → result ≡ Err (PutRefused.Empty set) }
+        ensures refused { IfErr result (λ refusal. Refuses refusal set) }
+        ensures same { OnErr result (self.new ≡ self.old) }
+    {
+        if set.records_without_rrsigs().next().is_none() {
+            return Err(PutRefused::Empty(set));
+        }
+        let Ok(name) = LowerName::new(set.name()) else {
+            return Err(PutRefused::Memory(set));
+        };
+        let key = RrKey::new(name, set.record_type());
+        match self.inner.put(key, set) {
+            Ok(before) => Ok(before),
+            Err(set) => Err(PutRefused::Memory(set)),
+        }
+    }
+
+    /// Takes the set out that stands under a key, and gives it. This takes no memory.
+    pub fn remove_set(&mut self, key: &RrKey) -> Option<RecordSet>
+        ensures before { result ≡ set_at self.old.inner.records key.now.name key.now.record_type.0 }
+        ensures removed { self.new
+            ≡ record self.old { inner = record self.old.inner { records = without self.old.inner.records key.now.name key.now.record_type.0 } } }
+    {
+        self.inner.remove(key)
+    }
+
+    /// Takes all record sets out; the signers stay. This takes no memory.
+    pub fn clear(&mut self)
+        ensures cleared { self.new ≡ record self.old { inner = record self.old.inner { records = [] } } }
+        ensures cnames { CnamesStandAlone self.new.inner.records }
+    {
+        self.inner.clear();
+    }
+
+    /// The answer to a query of a type other than AXFR.
+    pub(crate) fn answer(
+        &self,
+        name: &LowerName,
+        record_type: RecordType,
+        lookup_options: LookupOptions,
+        now: u64,
+    ) -> Result<AuthLookup, LookupError>
+        ensures { SaysOrMemory lookup_options
+            (IsReplyFor (answer_signatures S.signature_of now lookup_options.dnssec_ok self.now.inner.signers) self.now.origin self.now.inner.records lookup_options.dnssec_ok name.now (searched_type self.now.inner.records name.now record_type.0))
+            (LookupControlFlow.Continue result) }
+    {
+        let record_type = if record_type == RecordType::ANY {
+            self.inner.replace_any(name)?
+        } else {
+            record_type
+        };
+        let mut searches = Searches::new();
+        let inner = &self.inner;
+        match inner.inner_lookup(name, record_type, lookup_options, &mut searches)? {
+            Some(found) => {
+                Ok(inner.answer(name, record_type, found, lookup_options, now, &mut searches)?)
+            }
+            None => Err(self.denial(name)),
+        }
+    }
+
+    /// The negative answer for a name, or want of memory.
+    fn denial(&self, name: &LowerName) -> LookupError
+        ensures { (result ≡ error_of (denial self.now.origin self.now.inner.records name.now)) ⊎ (result ≡ LookupError.Memory) }
+    {
+        match self.inner.owns_at_or_below(name) {
+            Err(_) => LookupError::Memory,
+            Ok(true) => LookupError::for_name_exists(),
+            Ok(false) => denial_of_absent(&self.apex.name, name),
+        }
+    }
+}
+
+/// The negative answer of the zone of `origin` for a name that isn't there.
+fn denial_of_absent(origin: &LowerName, name: &LowerName) -> LookupError
+    ensures { result ≡ error_of (absent origin.now name.now) }
+{
+    if origin.zone_of(name) {
+        LookupError::from(ResponseCode::NXDomain)
+    } else {
+        LookupError::from(ResponseCode::Refused)
+    }
+}
+
+impl<S: Signer, H: Nsec3Hash> ZoneHandler for InMemoryZoneHandler<S, H> {
+    ghost zone_type_of = { λ zone. zone.zone_type };
+
+    ghost axfr_policy_of = { λ zone. zone.axfr_policy };
+
+    ghost origin_of = { λ zone. zone.origin };
+
+    ghost kind_of = { λ zone. zone.kind };
+
+    ghost lookup_gives = { IsLookup S.signature_of };
+
+    ghost denial_gives = { IsNsecAnswer };
+
+    ghost transfer_gives = { λ zone request options now answer. IsZoneTransfer S.signature_of zone request.queries.items options now answer };
+
+    ghost search_gives = { λ zone request options now answer. IsSearch (λ name type step. IsLookup S.signature_of zone name type options now step) request.queries.items answer };
+
+    fn zone_type(&self) -> ZoneType {
+        self.zone_type
+    }
+
+    fn axfr_policy(&self) -> AxfrPolicy {
+        self.axfr_policy
+    }
+
+    fn origin(&self) -> &LowerName {
+        &self.apex.name
+    }
+
+    fn nx_proof_kind(&self) -> Option<&NxProofKind> {
+        self.nx_proof_kind.as_ref()
+    }
+
+    /// What the zone answers for `name` and `record_type`.
+    ///
+    /// A query of type AXFR is broken off with an error, whatever the zone holds: a transfer isn't a lookup. For a query
+    /// of ANY the type is [`InnerInMemory::replace_any`]'s. Any other is answered by the set that
+    /// [`InnerInMemory::inner_lookup`] finds, or, if that is a CNAME and the query isn't for CNAME, by the chain that
+    /// [`InnerInMemory::chase_cnames`] gives from it (RFC 1034 section 3.6.2). Sets come with their signatures where
+    /// `lookup_options` ask for DNSSEC.
+    ///
+    /// The additional section has what [`InnerInMemory::additional_search`] gives from where the last of these sets leads:
+    /// an ANAME set for A, AAAA and ANAME, and a set of NS, MX or SRV for its own type. Where nothing is found there is no
+    /// such section. If addresses are asked for and that last set is an ANAME set, it stands first among the additional
+    /// sets. An ANAME set that is answered alone is then flattened: in its place stands a set of its owner and the type that
+    /// is asked for, with the data of the last additional set where this is of that type, and with the lesser TTL of both.
+    /// Where DNSSEC is asked for it is signed by each signer of the zone that signs it, unless the moment `now`, in seconds
+    /// since 1970, is past the year 9999.
+    ///
+    /// Where nothing is found the answer is `NameExists` if the name or a name below it owns a set (RFC 2308 section
+    /// 2.2), else `NXDomain` for a name at or below the origin (RFC 2308 section 2.1), and else `Refused` (RFC 1035
+    /// section 4.1.1). `Memory` may come in place of these, but not of the answer to AXFR. `request_info` isn't used.
+    fn lookup(
+        &self,
+        name: &LowerName,
+        record_type: RecordType,
+        _request_info: Option<&RequestInfo<'_>>,
+        lookup_options: LookupOptions,
+        now: u64,
+    ) -> LookupControlFlow<AuthLookup>
+        ensures answer { IsLookup S.signature_of self.now name.now record_type.0 lookup_options now result }
+        ensures transfer { record_type.0 ≡ AXFR → IsNoLookup result }
+        ensures owned_is_answered { IsTrue (owns self.now.inner.records name.now record_type.0) → record_type.0 ≢ AXFR → IsAnswered result }
+        ensures circle { IsNsecZone self.now.origin self.now.inner.records → AgreesWithCircle self.now.origin self.now.inner.records name.now record_type.0 result }
+    {
+        if record_type == RecordType::AXFR {
+            let error = NetError::from("AXFR must be handled with ZoneHandler::zone_transfer()");
+            return LookupControlFlow::Break(Err(LookupError::from(error)));
+        }
+        LookupControlFlow::Continue(self.answer(name, record_type, lookup_options, now))
+    }
+
+    /// What the zone answers for the only question of `request`: what [`ZoneHandler::lookup`] answers for its name and type,
+    /// with these `lookup_options`, at the moment `now`, in seconds since 1970. A request with no question or with several
+    /// is broken off by `BadQueryCount` with their number, for which no memory is taken (RFC 9619 section 4). No response is
+    /// signed, so that the second part is None.
+    fn search(
+        &self,
+        request: &Request,
+        lookup_options: LookupOptions,
+        now: u64,
+    ) -> (LookupControlFlow<AuthLookup>, Option<TSigResponseContext>) {
+        let info = match request.request_info() {
+            Ok(info) => info,
+            Err(error) => return (LookupControlFlow::Break(Err(error)), None),
+        };
+        let query = info.query;
+        let step = self.lookup(
+            query.name(),
+            query.query_type(),
+            Some(&info),
+            lookup_options,
+            now,
+        );
+        (step, None)
+    }
+
+    /// The NSEC records that deny what `name` doesn't own, or that there is such a name, with their signatures where
+    /// `lookup_options` ask for DNSSEC.
+    ///
+    /// A name that owns an NSEC set is denied by that one, whose list tells what the name owns (RFC 4035 section 3.1.3.1).
+    /// Any other is denied by the closest NSEC sets, as [`InnerInMemory::closest_nsec`] says, of its parent and of the name
+    /// itself, in this order, or by one where they are the same (section 3.1.3.2). Where the parent is outside the zone, the
+    /// origin stands for it, and nothing where that is the name itself. A set that isn't found is left out. So it is in any
+    /// zone, and whatever its kind; the answer has no additional section. `Memory` may come in place of it.
+    ///
+    /// In a zone whose NSEC sets are a circle, as they are once [`InMemoryZoneHandler::secure_zone_mut`] made them, these
+    /// deny each name of the zone: the name's own set is found, or the last set covers the name. Of names outside the zone
+    /// nothing is said, nor of a wildcard at the closest encloser.
+    fn nsec_records(
+        &self,
+        name: &LowerName,
+        lookup_options: LookupOptions,
+    ) -> LookupControlFlow<AuthLookup>
+        ensures answer { IsNsecAnswer self.now name.now lookup_options result }
+        ensures proof { IsNsecZone self.now.origin self.now.inner.records → IsTrue (is_at_or_above self.now.origin name.now) → IsNsecProof self.now.origin self.now.inner.records name.now }
+    {
+        LookupControlFlow::Continue(self.nsec_answer(name, lookup_options))
+    }
+
+    /// The whole zone: what [`ZoneHandler::lookup`] answers for its SOA, with these `lookup_options`, at the moment `now`, in
+    /// seconds since 1970; the records of all sets in the order of their keys, with their signatures where the options ask
+    /// for DNSSEC, but none of type SOA; and the same answer for the SOA again, without signatures (RFC 5936 section 2.2).
+    /// The answer sections alone are listed; such a part is empty where the lookup has no answer.
+    ///
+    /// Refused by `BadQueryCount`, with the number of questions, for none and for several; and, if the only question is of
+    /// type AXFR, by `Refused` unless the policy is `AllowAll`: no signature of a request is tested, so `AllowSigned` lets
+    /// nobody have the zone. Of a question of another type the policy isn't asked. These refusals take no memory. `Memory`
+    /// may come in place of a transfer. The answer is never None, and no response is signed, so that the second part is
+    /// None.
+    fn zone_transfer(
+        &self,
+        request: &Request,
+        lookup_options: LookupOptions,
+        now: u64,
+    ) -> Option<
+        (
+            Result<ZoneTransfer, LookupError>,
+            Option<TSigResponseContext>,
+        ),
+    >
+        ensures { IsZoneTransfer S.signature_of self.now request.now.queries.items lookup_options now result }
+    {
+        Some((self.transfer(request, lookup_options, now), None))
+    }
+}

@@ -1,8 +1,0 @@
-use Rattle.std.proofs.Common.{◌≡◌, []}
-use Rattle.std.specs.BTreeMap.{values}
-use Rattle.zone_store.specs.Construction.{inserted_sets}
-use Rattle.zone_store.proofs.construction.insert_sets.Given as goal
-
--- the sets that are left make of the map what all make of none
-abbrev pub invariant-loop-set : goal.invariant-loop-set
-invariant-loop-set l = inserted_sets l.origin l.serial l.map l.set-iterator ≡ inserted_sets l.origin l.serial [] (values l.sets)

@@ -1,5 +1,0 @@
-use Rattle.zone_store.proofs.CnamesMade.{made_alone}
-use Rattle.zone_store.proofs.in_memory_zone_handler.InMemoryZoneHandler.new.Goals as goal
-
-pub returns-clause-cnames : goal.returns-clause-cnames
-returns-clause-cnames g c = rw c.with_records.ensures.value (made_alone c.args.origin c.args.records.entries c.in_ok-map.map c.in_ok-map.ensures.ok)

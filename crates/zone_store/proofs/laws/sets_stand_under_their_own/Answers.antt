@@ -1,8 +1,0 @@
-use Rattle.zone_map.proofs.Lists.{owner_lowered, records_typed}
-use Rattle.zone_store.proofs.laws.sets_stand_under_their_own.Goals as goal
-
-pub returns-clause-owners : goal.returns-clause-owners
-returns-clause-owners c = owner_lowered
-
-pub returns-clause-types : goal.returns-clause-types
-returns-clause-types c = records_typed
