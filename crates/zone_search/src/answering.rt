@@ -16,6 +16,8 @@ use crate::searches::Searches;
 use zone_handler::{AuthLookup, LookupError, LookupOptions, LookupRecords};
 use zone_proto::{LowerName, ProtoError, RecordSet, RecordType, Signer};
 
+/// What `zone_in_memory` makes a zone of: no user of a zone needs it.
+#[doc(hidden)]
 impl<S: Signer> InnerInMemory<S> {
     /// The answer to a query of `name` and `record_type` by `found`, the set that was found for it: the chain from an alias,
     /// unless aliases are asked for, and else the set alone, which is flattened if it is an ANAME set and addresses are asked
