@@ -3,6 +3,7 @@
 use crate::answer::Answer;
 use crate::call::{Ask, Call, Head, Question, SetCall, ZoneCall};
 use crate::denials::make_denial_call;
+use crate::hashes::make_hash_call;
 use crate::names::make_name_call;
 use crate::read::{once_done, read_call};
 use crate::records::{make_record_call, make_word_call};
@@ -85,6 +86,7 @@ impl Bench {
             Call::Search(call) => make_search_call(alloc, &self.zone, call),
             Call::Signing(call) => make_signing_call(&mut self.zone, call),
             Call::Denial(call) => make_denial_call(&self.zone, call),
+            Call::Hash(call) => make_hash_call(alloc, call),
             Call::Transfer(request, options) => make_transfer(&self.zone, &request, options),
         }
     }

@@ -23,6 +23,7 @@ pub enum Call {
     Transfer(Request, LookupOptions),
     Signing(SigningCall),
     Denial(DenialCall),
+    Hash(HashCall),
 }
 
 /// Calls on names. After the word `lower` they are made on a `LowerName`.
@@ -211,6 +212,26 @@ pub enum DenialCall {
     Closest(LowerName),
     /// `deny NAME`, `deny NAME dnssec`: `nsec_records`.
     Deny(LowerName, LookupOptions),
+}
+
+/// Calls that hash names for NSEC3 records, by the program's hash.
+#[derive(Drop)]
+pub enum HashCall {
+    /// `base32 OCTETS`: `base32_dnssec`.
+    Base32(Vec<u8>),
+    /// `digest NAME ALGORITHM SALT ITERATIONS`: `hash_name`.
+    Digest(Hashed),
+    /// `owner ZONE NAME ALGORITHM SALT ITERATIONS`: `hashed_owner_name`.
+    Owner(LowerName, Hashed),
+}
+
+/// A name, and the parameters by which it is hashed.
+#[derive(Drop)]
+pub struct Hashed {
+    pub name: LowerName,
+    pub algorithm: u8,
+    pub salt: Vec<u8>,
+    pub iterations: u16,
 }
 
 /// Calls that search the zone for more than a name and a type.

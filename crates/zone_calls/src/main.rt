@@ -17,6 +17,7 @@ mod answer;
 mod bench;
 mod call;
 mod denials;
+mod hashes;
 mod names;
 mod read;
 mod read_names;

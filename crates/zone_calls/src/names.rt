@@ -65,14 +65,14 @@ fn of_name(given: Result<Name, ProtoError>) -> Answer {
     }
 }
 
-fn of_lower(given: Result<LowerName, ProtoError>) -> Answer {
+pub fn of_lower(given: Result<LowerName, ProtoError>) -> Answer {
     match given {
         Ok(name) => Answer::LowerName(name),
         Err(error) => Answer::from(error),
     }
 }
 
-fn of_octets(given: Result<Vec<u8>, ProtoError>) -> Answer {
+pub fn of_octets(given: Result<Vec<u8>, ProtoError>) -> Answer {
     match given {
         Ok(octets) => Answer::Octets(octets),
         Err(error) => Answer::from(error),

@@ -87,7 +87,7 @@ pub fn read_copy(alloc: Global, words: &mut Words<'_>) -> Result<Call, TextError
 }
 
 /// Reads a name in lower case.
-fn read_lower(alloc: Global, words: &mut Words<'_>) -> Result<LowerName, TextError> {
+pub fn read_lower(alloc: Global, words: &mut Words<'_>) -> Result<LowerName, TextError> {
     Ok(LowerName::from(read_name(alloc, words)?))
 }
 

@@ -139,11 +139,11 @@ pub fn read_word(words: &mut Words<'_>, wanted: &[u8]) -> Result<(), TextError> 
     }
 }
 
-fn read_octet(words: &mut Words<'_>) -> Result<u8, TextError> {
+pub fn read_octet(words: &mut Words<'_>) -> Result<u8, TextError> {
     read_u8(words.take_needed()?).ok_or(TextError::BadText)
 }
 
-fn read_short(words: &mut Words<'_>) -> Result<u16, TextError> {
+pub fn read_short(words: &mut Words<'_>) -> Result<u16, TextError> {
     read_u16(words.take_needed()?).ok_or(TextError::BadText)
 }
 

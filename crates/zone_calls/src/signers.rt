@@ -3,8 +3,8 @@ ghost use Rattle.std.specs.Prelude.{◌≡◌, IsOkUnless};
 ghost use Rattle.zone_calls.specs.RowSigners.{signs_type};
 
 use std::cell::Cell;
-use zone_store::program::DemoSigner;
 use zone_proto::{DNSClass, DNSKEY, LowerName, Nsec3Hash, ProtoError, RRSIG, RecordSet, Signer};
+use zone_store::program::DemoSigner;
 
 /// What a signer of rows does with what its demonstration signer answers.
 #[derive(Clone, Copy)]

@@ -7,8 +7,8 @@ use crate::read::read_question;
 use crate::signers::{Manner, RowSigner};
 use std::alloc::Global;
 use zone_handler::{KeyError, SecureError, ZoneHandler};
-use zone_store::program::DemoSigner;
 use zone_proto::LowerName;
+use zone_store::program::DemoSigner;
 use zone_text::{TextError, Words, read_name, read_u16, read_u64};
 
 /// Reads the words after the verb of such a call.

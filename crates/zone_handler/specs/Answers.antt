@@ -1,5 +1,5 @@
 -- The records that an answer yields, in order
-use Rattle.std.specs.Prelude.{◌≡◌, List, [], reverse}
+use Rattle.std.specs.Prelude.{◌≡◌, List, [], ◌∷◌, reverse}
 use Rattle.std.specs.Slice.Iter.{iter_rest}
 use Rattle.zone_proto.specs.declared.record.Record.{Record}
 use Rattle.zone_proto.specs.Sets.{RRset}
@@ -16,6 +16,13 @@ records_in L.Empty = []
 records_in (L.Records options set) = set_records options set
 records_in (L.ManyRecords options sets) = sets_records options (reverse sets.items)
 records_in (L.Section records) = records.items
+
+-- the sets that it keeps, in the order in which it lists their records; records as they stand are of no set
+abbrev pub sets_in : LookupRecords → List RRset
+sets_in L.Empty = []
+sets_in (L.Records options set) = set ∷ []
+sets_in (L.ManyRecords options sets) = reverse sets.items
+sets_in (L.Section records) = []
 
 -- several sets as a section keeps them: from the last to the first
 abbrev pub KeepsMany : LookupOptions → List RRset → LookupRecords → Type 0

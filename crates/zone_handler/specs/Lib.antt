@@ -5,3 +5,4 @@ pub mod Answers
 pub mod AuthLookup
 pub mod Transfers
 pub mod Defaults
+pub mod Hashing

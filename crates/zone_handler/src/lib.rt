@@ -1,8 +1,8 @@
 //! What a server asks of a zone and what it is answered: the handler's trait, the control flow of a chain of handlers,
 //! the options of a client, errors, and answers and transfers that lend their records in order.
 //!
-//! No call of this crate takes memory: answers keep what they are handed, and reading them lends it. Contracts see an
-//! answer as the list of records that it gives a reader.
+//! No call of this crate takes memory but those that hash a name: answers keep what they are handed, and reading them lends
+//! it. Contracts see an answer as the list of records that it gives a reader.
 #![tactic(auto)]
 
 mod auth_lookup;
@@ -19,6 +19,7 @@ mod lookup_options;
 mod lookup_records;
 mod lookup_records_iter;
 mod net_error;
+mod nsec3_query_info;
 mod request;
 mod request_info;
 mod secure_error;
@@ -42,6 +43,7 @@ pub use lookup_options::LookupOptions;
 pub use lookup_records::LookupRecords;
 pub use lookup_records_iter::LookupRecordsIter;
 pub use net_error::{NetError, NoRecords};
+pub use nsec3_query_info::Nsec3QueryInfo;
 pub use request::Request;
 pub use request_info::RequestInfo;
 pub use secure_error::SecureError;

@@ -1,6 +1,6 @@
 ghost use Rattle.std.specs.Prelude.{◌≡◌, ◌↔◌, [], IsTrue};
 ghost use Rattle.zone_handler.specs.Sets.{set_records, sets_records};
-ghost use Rattle.zone_handler.specs.Answers.{records_in, left_in, KeepsMany};
+ghost use Rattle.zone_handler.specs.Answers.{records_in, left_in, sets_in, KeepsMany};
 
 use crate::lookup_options::LookupOptions;
 use crate::lookup_records_iter::LookupRecordsIter;
@@ -51,6 +51,7 @@ impl LookupRecords {
     /// list is kept as `ManyRecords`, whatever its length, and reversed in place.
     pub fn many(lookup_options: LookupOptions, mut sets: Vec<RecordSet>) -> LookupRecords
         ensures records { records_in result ≡ sets_records lookup_options sets.items }
+        ensures sets { sets_in result ≡ sets.items }
         ensures kept { KeepsMany lookup_options sets.items result }
     {
         sets.reverse();

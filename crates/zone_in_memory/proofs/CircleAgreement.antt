@@ -1,26 +1,30 @@
 -- How lookups and denials agree with a circle of NSEC sets
-use Rattle.std.proofs.Common.{◌≡◌, inl, inr, ℕ, Bool, true, false, List, refl, sym, ◌∙◌, subst, IsTrue}
-use Rattle.std.specs.Prelude.{Option, Some, None, Err, Result, MatchOption}
+use Rattle.std.proofs.Common.{◌≡◌, ◌⊎◌, inl, inr, ℕ, Bool, true, false, List, refl, sym, ap, ◌∙◌, subst, IsTrue}
+use Rattle.std.specs.Prelude.{Option, Some, None, Ok, Err, Result, MatchOption}
 use Rattle.std.specs.Prelude.{cond}
 use Rattle.zone_proto.specs.declared.record.Record.{Record}
 use Rattle.zone_proto.specs.Names.{Name, is_at_or_above}
 use Rattle.zone_proto.specs.Sets.{RRset}
 use Rattle.zone_handler.specs.declared.auth_lookup.AuthLookup.{AuthLookup}
+use Rattle.zone_handler.specs.declared.auth_lookup.AuthLookup.TheVariants as answer
 use Rattle.zone_handler.specs.declared.control_flow.LookupControlFlow.{LookupControlFlow}
 use Rattle.zone_handler.specs.declared.control_flow.LookupControlFlow.TheVariants.{Continue, Break}
 use Rattle.zone_handler.specs.declared.lookup_error.LookupError.{LookupError}
 use Rattle.zone_handler.specs.declared.lookup_error.LookupError.TheVariants as error
 use Rattle.zone_handler.specs.declared.lookup_options.LookupOptions.{LookupOptions}
+use Rattle.zone_handler.specs.declared.lookup_records.LookupRecords.{LookupRecords}
+use Rattle.zone_handler.specs.Answers.{sets_in}
 use Rattle.zone_map.specs.AnyTypes.{searched_type}
 use Rattle.zone_map.specs.Wildcards.{found}
 use Rattle.zone_map.specs.Zones.{Sets, owns_at_or_below}
+use Rattle.zone_denial.specs.NsecDenial.{nsec_denial}
 use Rattle.zone_denial.specs.NsecLaws.{IsNsecZone}
 use Rattle.zone_denial.proofs.NsecClosest.{finds_or_covers}
 use Rattle.zone_denial.proofs.NsecLists.{lists_all_owned, denials_agree}
 use Rattle.zone_denial.proofs.NsecBelow.{no_next_below, next_below_empty}
-use Rattle.zone_search.specs.Replies.{Denial, name_exists, nx_domain, refused, denial, not_a_lookup, answered, denied, IsAnswer, IsReplyFor}
+use Rattle.zone_search.specs.Replies.{Denial, name_exists, nx_domain, refused, denial, answered, denied, IsAnswer, IsReplyFor}
 use Rattle.zone_in_memory.specs.Lookup.{error_of, SaysOrMemory}
-use Rattle.zone_in_memory.specs.NsecAnswers.{IsNsecProof, AgreesWithCircle}
+use Rattle.zone_in_memory.specs.NsecAnswers.{IsDenialSection, IsNsecProof, HasNsecProof, AgreesWithCircle}
 
 -- the step that denies
 abbrev denies : Denial → LookupControlFlow AuthLookup LookupError
@@ -56,8 +60,7 @@ module _ (sign : RRset → List Record) (origin : Name) (m : Sets) (options : Lo
       → (found m options.dnssec_ok n (searched_type m n t) ≡ None) × (denial origin m n ≡ d)
   of_step d step (inr e) is = absurd (memory_apart d (sym is ∙ e))
   of_step d step (inl (denied e, reply, says)) is = of_reply d (subst (λ x. IsReplyFor sign origin m options.dnssec_ok n (searched_type m n t) (denied x)) (same_denial e d (sym says ∙ is)) reply)
-  of_step d step (inl (not_a_lookup, reply, (text, says, words))) is = absurd (let e = sym says ∙ is in cc)
-  of_step d step (inl (answered sets more, reply, (a, says, has))) is = absurd (let e = sym says ∙ is in cc)
+  of_step d step (inl (answered answers more, reply, (a, says, has))) is = absurd (let e = sym says ∙ is in cc)
 
 -- what a denial says of the name
 exists_owned : (origin : Name) (m : Sets) (n : Name) → denial origin m n ≡ nx_domain → (owns_at_or_below m n ≡ false) × IsTrue (is_at_or_above origin n)
@@ -85,10 +88,16 @@ module _ (origin : Name) (m : Sets) (circle : IsNsecZone origin m) where
   pub transfer_agrees : (n : Name) (t : ℕ) (result : Result AuthLookup LookupError) → AgreesWithCircle origin m n t (Break result)
   transfer_agrees n t result = record { name = λ e. absurd cc; type' = λ e. absurd cc; owned = λ h. lists_all_owned origin m circle n t h }
 
-  pub denial_proves : (n : Name) → IsTrue (is_at_or_above origin n) → IsNsecProof origin m n
+  denial_proves : (n : Name) → IsTrue (is_at_or_above origin n) → IsNsecProof origin m n (nsec_denial origin m n)
   denial_proves n inside =
       record {
         covered = finds_or_covers origin m circle n inside;
         absent = λ none. no_next_below origin m circle n inside none;
         empty = λ none below uncut. next_below_empty origin m circle n inside none below uncut;
       }
+
+  -- and so do the sets of the answer that is given
+  pub answer_proves : (options : LookupOptions) (n : Name) (step : LookupControlFlow AuthLookup LookupError) → IsTrue (is_at_or_above origin n)
+      → ((s : LookupRecords) × (step ≡ Continue (Ok (answer.Records s None))) × IsDenialSection origin m options n s) ⊎ (step ≡ Continue (Err error.Memory)) → HasNsecProof origin m n step
+  answer_proves options n step inside (inl (s, is, section)) t e = let same : s ≡ t = cc in subst (IsNsecProof origin m n) (sym section.sets ∙ ap sets_in same) (denial_proves n inside)
+  answer_proves options n step inside (inr is) t e = absurd cc

@@ -37,8 +37,8 @@ module _ (sign : RRset → List Record) (m : Sets) (n : Name) (t : ℕ) (options
   -- a found set is answered
   pub says_found : (origin : Name) (s : RRset) (a : AuthLookup) → found m options.dnssec_ok n t ≡ Some s → SaysAnswer options (IsAnswer sign m options.dnssec_ok n t s) a
       → SaysOrMemory options (IsReplyFor sign origin m options.dnssec_ok n t) (Continue (Ok a))
-  says_found origin s a f (sets, more, is, has) =
-      inl (answered sets more, subst (λ o. MatchOption o (answered sets more ≡ denied (denial origin m n)) (λ s. IsAnswer sign m options.dnssec_ok n t s (answered sets more))) (sym f) is, (a, refl, has))
+  says_found origin s a f (answers, more, is, has) =
+      inl (answered answers more, subst (λ o. MatchOption o (answered answers more ≡ denied (denial origin m n)) (λ s. IsAnswer sign m options.dnssec_ok n t s (answered answers more))) (sym f) is, (a, refl, has))
 
   -- and none is denied
   pub says_none : (origin : Name) (e : LookupError) → found m options.dnssec_ok n t ≡ None → (e ≡ error_of (denial origin m n)) ⊎ (e ≡ error.Memory)

@@ -12,7 +12,7 @@ use Rattle.zone_proto.specs.Keys.{key, key_eq}
 use Rattle.zone_proto.specs.Names.{Name, name_cmp, lower}
 use Rattle.zone_proto.specs.Sets.{RRset}
 use Rattle.zone_proto.specs.Signing.{SignedPart}
-use Rattle.zone_proto.specs.Stepping.{stepped, stepped_data, stepped_records}
+use Rattle.zone_proto.specs.Stepping.{stepped, stepped_soa, stepped_data, stepped_records}
 use Rattle.zone_proto.specs.Types.{SOA, CNAME, NSEC, NSEC3}
 use Rattle.zone_proto.proofs.KeyOrder.{key_itself}
 use Rattle.zone_handler.specs.declared.secure_error.SecureError.{SecureError}
@@ -30,15 +30,15 @@ use Rattle.zone_signing.proofs.SecuredSets.{IsSecured-keeps}
 use Rattle.zone_in_memory.specs.Handlers.{Zone}
 use Rattle.zone_search.specs.Inner.{Inner}
 use Rattle.zone_search.specs.StartOfAuthority.{soa, soa_of, first_soa, minimum, serial}
-use Rattle.zone_in_memory.specs.Signing.{next_soa, IsSecuring}
+use Rattle.zone_in_memory.specs.Signing.{IsSecuring}
 use Rattle.zone_search.specs.Securing.{makes_nsec_sets, to_be_signed}
 
 -- the data of a stepped set's SOA
-next_data : (d : RData) → soa_of (stepped_data d) ≡ option_map next_soa (soa_of d)
+next_data : (d : RData) → soa_of (stepped_data d) ≡ option_map stepped_soa (soa_of d)
 next_data (V.SOA a) = refl
 next_data d = refl
 
-next_first : (rs : List Record) → first_soa (stepped_records rs) ≡ option_map next_soa (first_soa rs)
+next_first : (rs : List Record) → first_soa (stepped_records rs) ≡ option_map stepped_soa (first_soa rs)
 next_first [] = refl
 next_first (r ∷ rs) = next_data r.rdata
 
@@ -56,14 +56,14 @@ unchanged kind signers origin m n t h = ap (λ b. cond (makes_nsec_sets kind sig
 module _ {S : Type 0} (signature_of : S → SignedPart → ℕ → ℕ → Option RRSIG) (now : ℕ) (kind : Option NxProofKind) (origin : Name) (signers : List S) (before after : Sets)
     (h : IsSecured signature_of now origin signers (to_be_signed kind signers origin before) after) where
   -- the zone's SOA has the next serial
-  soa-secured : soa after origin ≡ option_map next_soa (soa before origin)
+  soa-secured : soa after origin ≡ option_map stepped_soa (soa before origin)
   soa-secured =
       ap (option_and_then (λ (s : RRset). first_soa s.records)) (h.each origin SOA ∙ ap (option_map (secured_set signature_of now (key origin SOA) signers (key origin SOA))) (unchanged kind signers origin before origin SOA refl))
       ∙ by (key_eq (key origin SOA) (key origin SOA)) (key_itself (key origin SOA)) (set_at before origin SOA)
     where
       by : (b : Bool) → b ≡ true → (o : Option RRset)
           → option_and_then (λ (s : RRset). first_soa s.records) (option_map (λ (s : RRset). signed signature_of now signers (if b then stepped s else s)) o)
-          ≡ option_map next_soa (option_and_then (λ (s : RRset). first_soa s.records) o)
+          ≡ option_map stepped_soa (option_and_then (λ (s : RRset). first_soa s.records) o)
       by true e None = refl
       by true e (Some s) = next_first s.records
       by false e o = absurd cc

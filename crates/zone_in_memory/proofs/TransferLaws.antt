@@ -36,7 +36,7 @@ use Rattle.zone_map.specs.Wildcards.{found, wildcard}
 use Rattle.zone_map.specs.Zones.{Sets, set_at, owns, IsStoredAt, IsZone}
 use Rattle.zone_map.proofs.Delegations.{found_above}
 use Rattle.zone_search.specs.Flattening.{last_set, stands_for_addresses, alone}
-use Rattle.zone_search.specs.Replies.{denied, denial, is_followed, answer_section, IsAnswer}
+use Rattle.zone_search.specs.Replies.{one_set, chained, denied, denial, is_followed, answer_section, IsAnswer, KeepsAnswers}
 use Rattle.zone_in_memory.specs.Transfers.{plain, HasAnswers, IsSoaPart, IsTransfer}
 use Rattle.zone_in_memory.specs.TransferLaws.{HasSoa}
 use Rattle.zone_search.proofs.Replies.{stays_alone}
@@ -250,10 +250,10 @@ module _ (m : Sets) (origin : Name) (s : RRset) (zone : IsZone m) (soa : HasSoa 
       let a = subst (λ o. MatchOption o (r ≡ denied (denial origin m origin)) (λ s. IsAnswer (sign options) m options.dnssec_ok origin SOA s r)) (found_soa options.dnssec_ok) reply in
       let followed : is_followed SOA s ≡ false = ap (λ t. (t == CNAME) && not (SOA == CNAME)) typed in
       let flattened : stands_for_addresses SOA s ≡ false = ap (λ t. (t == ANAME) && is_address SOA) typed in
-      let shown : answer_section (sign options) m options.dnssec_ok origin SOA s a.more ≡ s ∷ [] =
-      ap (λ b. cond b (chain m options.dnssec_ok origin s SOA) (alone (sign options) SOA s (last_set a.more) ∷ [])) followed
-      ∙ ap (λ x. x ∷ []) (stays_alone (sign options) SOA s a.more flattened) in
-      subst (λ q. HasAnswers options q part) a.sections has ∙ ap (sets_records options) shown ∙ append-nil (set_records options s)
+      let shown : answer_section (sign options) m options.dnssec_ok origin SOA s a.more ≡ one_set s =
+      ap (λ b. cond b (chained (chain m options.dnssec_ok origin s SOA)) (one_set (alone (sign options) SOA s (last_set a.more)))) followed
+      ∙ ap one_set (stays_alone (sign options) SOA s a.more flattened) in
+      ap records_in (subst (λ answers. KeepsAnswers options answers part) shown (subst (λ q. HasAnswers options q part) a.sections has))
 
   -- which is one record
   pub one_soa : (r : Record) × (s.records ≡ r ∷ [])

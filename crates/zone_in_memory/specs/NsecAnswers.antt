@@ -14,18 +14,17 @@ use Rattle.zone_handler.specs.declared.lookup_error.LookupError.TheVariants as e
 use Rattle.zone_handler.specs.declared.lookup_options.LookupOptions.{LookupOptions}
 use Rattle.zone_handler.specs.declared.lookup_records.LookupRecords.{LookupRecords}
 use Rattle.zone_handler.specs.declared.lookup_records.LookupRecords.TheVariants as section
-use Rattle.zone_handler.specs.Answers.{KeepsMany}
+use Rattle.zone_handler.specs.Answers.{sets_in, KeepsMany}
 use Rattle.zone_map.specs.Zones.{Sets, set_at, owns, types_at, owns_at_or_below}
 use Rattle.zone_denial.specs.Authority.{is_below_cut}
 use Rattle.zone_denial.specs.NsecCircle.{types_of}
 use Rattle.zone_denial.specs.NsecDenial.{nsec_denial}
 use Rattle.zone_denial.specs.NsecLaws.{LastCovers, FindsOrCovers, IsListed}
 use Rattle.zone_in_memory.specs.Handlers.{Zone}
-use Rattle.zone_search.specs.Replies.{Lists}
 
--- the section of an answer that denies n: it lists the sets that deny n, and keeps the name's own NSEC set by itself, and any others as several
+-- the section of an answer that denies n: it has the sets that deny n, and keeps the name's own NSEC set by itself, and any others as several
 pub record IsDenialSection (origin : Name) (m : Sets) (options : LookupOptions) (n : Name) (s : LookupRecords) : Type 0 where
-  pub lists : Lists options (nsec_denial origin m n) s
+  pub sets : sets_in s ≡ nsec_denial origin m n
   pub kept : MatchOption (set_at m n NSEC) (KeepsMany options (nsec_denial origin m n) s) (λ own. s ≡ section.Records options own)
 
 -- a step with this section as its answer and without additional records, or without memory for it
@@ -33,11 +32,15 @@ abbrev pub IsNsecAnswer : {S H : Type 0} → Zone S H → Name → LookupOptions
 IsNsecAnswer zone n options step =
     ((s : LookupRecords) × (step ≡ Continue (Ok (answer.Records s None))) × IsDenialSection zone.origin zone.inner.records options n s) ⊎ (step ≡ Continue (Err error.Memory))
 
--- what the sets that deny n say of it, where the NSEC sets are a circle and n is a name of the zone: its own set is found, or the last set covers it; where neither it nor a name below it owns a set, no name at or below it comes next; and where it is an empty name with no zone cut above it, a name below it does
-pub record IsNsecProof (origin : Name) (m : Sets) (n : Name) : Type 0 where
-  pub covered : FindsOrCovers m n (nsec_denial origin m n)
-  pub absent : IsFalse (owns_at_or_below m n) → (next : Name) × LastCovers (nsec_denial origin m n) n next × IsFalse (is_at_or_above n next)
-  pub empty : types_at m n ≡ [] → IsTrue (owns_at_or_below m n) → IsFalse (is_below_cut origin m n) → (next : Name) × LastCovers (nsec_denial origin m n) n next × IsTrue (is_above n next)
+-- what the sets of an answer say of n, where the NSEC sets are a circle and n is a name of the zone: its own set is found, or the last set covers it; where neither it nor a name below it owns a set, no name at or below it comes next; and where it is an empty name with no zone cut above it, a name below it does
+pub record IsNsecProof (origin : Name) (m : Sets) (n : Name) (sets : List RRset) : Type 0 where
+  pub covered : FindsOrCovers m n sets
+  pub absent : IsFalse (owns_at_or_below m n) → (next : Name) × LastCovers sets n next × IsFalse (is_at_or_above n next)
+  pub empty : types_at m n ≡ [] → IsTrue (owns_at_or_below m n) → IsFalse (is_below_cut origin m n) → (next : Name) × LastCovers sets n next × IsTrue (is_above n next)
+
+-- the sets of the answer that is given, if one is, say this
+abbrev pub HasNsecProof : Name → Sets → Name → LookupControlFlow AuthLookup LookupError → Type 0
+HasNsecProof origin m n step = (s : LookupRecords) → step ≡ Continue (Ok (answer.Records s None)) → IsNsecProof origin m n (sets_in s)
 
 -- how a lookup of n and t agrees with a circle of NSEC sets: a name that is denied isn't on it, and no name at or below that one comes next in its denial; a type that is denied isn't in the list of the name, RRSIG aside; and what is owned is listed, or stands below a zone cut
 pub record AgreesWithCircle (origin : Name) (m : Sets) (n : Name) (t : ℕ) (step : LookupControlFlow AuthLookup LookupError) : Type 0 where

@@ -1,11 +1,11 @@
 -- What the calls say that add a signer to a zone, and that secure it
-use Rattle.std.specs.Prelude.{◌≡◌, ◌⊎◌, IsTrue, ℕ, ◌+◌, ◌%◌, ◌^◌, ◌<◌, [], ◌∷◌, ◌++◌, Option, Some, None, option_map, IfErr, OnOk, OnErr, Result, Err, unwrap_or}
+use Rattle.std.specs.Prelude.{◌≡◌, ◌⊎◌, IsTrue, ℕ, ◌<◌, [], ◌∷◌, ◌++◌, Option, Some, None, option_map, IfErr, OnOk, OnErr, Result, Err, unwrap_or}
 use Rattle.zone_proto.specs.declared.rdata.RData.TheVariants as V
 use Rattle.zone_proto.specs.declared.rdata.signing.DNSKEY.{DNSKEY}
 use Rattle.zone_proto.specs.declared.rdata.signing.RRSIG.{RRSIG}
-use Rattle.zone_proto.specs.declared.rdata.start_of_authority.SOA.{SOA as SoaData}
 use Rattle.zone_proto.specs.declared.record.Record.{Record}
 use Rattle.zone_proto.specs.Signing.{SignedPart}
+use Rattle.zone_proto.specs.Stepping.{stepped_soa}
 use Rattle.zone_proto.specs.Types.{IN, NSEC}
 use Rattle.zone_handler.specs.declared.key_error.KeyError.{KeyError}
 use Rattle.zone_handler.specs.declared.key_error.KeyError.TheVariants as key_error
@@ -19,10 +19,6 @@ use Rattle.zone_signing.specs.Signatures.{last_moment}
 use Rattle.zone_search.specs.Securing.{makes_nsec_sets, to_be_signed}
 use Rattle.zone_search.specs.StartOfAuthority.{soa, serial, minimum}
 use Rattle.zone_in_memory.specs.Handlers.{Zone}
-
--- SOA data with the next serial, modulo 2^32
-abbrev pub next_soa : SoaData → SoaData
-next_soa a = record a { serial = (a.serial + 1) % 2 ^ 32 }
 
 module _ {S H : Type 0} where
   -- a zone that gets a circle of NSEC sets when it is secured: one of kind NSEC, with a signer, whose origin owns another set than NSEC, as its SOA, and so is on the circle
@@ -55,7 +51,7 @@ module _ {S H : Type 0} where
     pub secured : OnOk result (IsSecured signature_of now old.origin old.inner.signers (to_be_signed old.kind old.inner.signers old.origin old.inner.records) new.inner.records)
     pub records : OnOk result (KeepsRecords old.origin (to_be_signed old.kind old.inner.signers old.origin old.inner.records) new.inner.records)
     pub circle : OnOk result (IsToBeDenied old → IsNsecZone new.origin new.inner.records)
-    pub serial : OnOk result (soa new.inner.records old.origin ≡ option_map next_soa (soa old.inner.records old.origin))
+    pub serial : OnOk result (soa new.inner.records old.origin ≡ option_map stepped_soa (soa old.inner.records old.origin))
     pub rest : new ≡ record old { inner = record old.inner { records = new.inner.records } }
     pub cnames : CnamesStandAlone old.inner.records → CnamesStandAlone new.inner.records
     pub late : last_moment < now → result ≡ Err secure_error.TimeOutOfRange

@@ -21,7 +21,7 @@ use Rattle.zone_handler.specs.declared.zone_transfer.ZoneTransfer.{ZoneTransfer}
 use Rattle.zone_handler.specs.Sets.{axfr_records}
 use Rattle.zone_map.specs.Zones.{Sets}
 use Rattle.zone_in_memory.specs.Handlers.{Zone}
-use Rattle.zone_search.specs.Replies.{Reply, answered, IsReply, Lists}
+use Rattle.zone_search.specs.Replies.{Reply, answered, IsReply, KeepsAnswers}
 use Rattle.zone_signing.specs.Signatures.{answer_signatures}
 
 -- anybody may have the zone; no signature of a request is tested, so a policy that asks for one lets nobody have it
@@ -34,9 +34,9 @@ abbrev pub refusal : AxfrPolicy → List Query → Option LookupError
 refusal policy (q ∷ []) = cond ((q.query_type.0 == AXFR) && not (allows_all policy)) (Some (error.ResponseCode code.Refused)) None
 refusal policy queries = Some (error.BadQueryCount (length queries))
 
--- a section with what a reply has in its answer section; the empty one where it has none
+-- the answer section of a reply, as an answer keeps it; the empty one where the reply has none
 abbrev pub HasAnswers : LookupOptions → Reply → LookupRecords → Type 0
-HasAnswers options (answered sets more) s = Lists options sets s
+HasAnswers options (answered answers more) s = KeepsAnswers options answers s
 HasAnswers options _ s = s ≡ section.Empty
 
 -- the options of a client that wants no signatures

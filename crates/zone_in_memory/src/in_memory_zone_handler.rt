@@ -6,7 +6,7 @@ ghost use Rattle.zone_handler.specs.Transfers.{IsNoLookup};
 ghost use Rattle.zone_search.specs.StartOfAuthority.{soa, serial, minimum};
 ghost use Rattle.zone_search.specs.Replies.{absent, denial, IsReplyFor};
 ghost use Rattle.zone_in_memory.specs.Lookup.{error_of, SaysOrMemory, IsLookup, IsAnswered};
-ghost use Rattle.zone_in_memory.specs.NsecAnswers.{IsNsecAnswer, IsNsecProof, AgreesWithCircle};
+ghost use Rattle.zone_in_memory.specs.NsecAnswers.{IsNsecAnswer, HasNsecProof, AgreesWithCircle};
 ghost use Rattle.zone_in_memory.specs.Requests.{IsSearch};
 ghost use Rattle.zone_in_memory.specs.Transfers.{IsZoneTransfer};
 ghost use Rattle.zone_map.specs.AnyTypes.{searched_type};
@@ -449,7 +449,7 @@ impl<S: Signer, H: Nsec3Hash> ZoneHandler for InMemoryZoneHandler<S, H> {
         lookup_options: LookupOptions,
     ) -> LookupControlFlow<AuthLookup>
         ensures answer { IsNsecAnswer self.now name.now lookup_options result }
-        ensures proof { IsNsecZone self.now.origin self.now.inner.records → IsTrue (is_at_or_above self.now.origin name.now) → IsNsecProof self.now.origin self.now.inner.records name.now }
+        ensures proof { IsNsecZone self.now.origin self.now.inner.records → IsTrue (is_at_or_above self.now.origin name.now) → HasNsecProof self.now.origin self.now.inner.records name.now result }
     {
         LookupControlFlow::Continue(self.nsec_answer(name, lookup_options))
     }

@@ -22,6 +22,7 @@ use Rattle.zone_proto.specs.declared.rdata.RData.TheVariants as V
 use Rattle.zone_proto.proofs.KeyLaws.{key_cmp_total}
 use Rattle.zone_proto.proofs.SetLaws.{IsSet-inserted}
 use Rattle.zone_proto.proofs.Tree.{name_order}
+use Rattle.zone_proto.specs.Results.{IsInsertion}
 use Rattle.zone_map.specs.Zones.{Sets, set_at, put, IsStoredAt, IsZone}
 use Rattle.zone_map.specs.Upserts.{set_for, with_record, clashes, upserted}
 use Rattle.zone_map.proofs.Stored.{IsZone-put}
@@ -214,7 +215,8 @@ clash_is_not_taken m class r serial h =
     by true = refl
     by false = refl
 
--- a record of the zone's class whose type doesn't clash is inserted into its set
-pub free_is_inserted : (m : Sets) (class : ℕ) (r : Record) (serial : ℕ) → (r.dns_class.0 == class) ≡ true → clashes m (lower r.name) (type_of r.rdata) ≡ false
-    → upserted m class r serial ≡ with_record m r serial
-free_is_inserted m class r serial same free i = cond (same i && not (free i)) (with_record m r serial) None
+-- to insert a record of the zone's class whose type doesn't clash is to insert it into its set
+pub free_is_inserted : (m m' : Sets) (class : ℕ) (r : Record) (serial : ℕ) (res : Result Bool ProtoError) → (r.dns_class.0 == class) ≡ true → clashes m (lower r.name) (type_of r.rdata) ≡ false
+    → IsInsertion m (with_record m r serial) res m' → IsInsertion m (upserted m class r serial) res m'
+free_is_inserted m m' class r serial res same free =
+    subst (λ made. IsInsertion m made res m') (sym (λ i. cond (same i && not (free i)) (with_record m r serial) None))

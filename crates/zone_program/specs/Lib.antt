@@ -1,1 +1,2 @@
 pub mod DemoSigners
+pub mod Nsec3Digests

@@ -23,3 +23,6 @@ pub mod NameTree
 pub mod KeyLaws
 pub mod LabelFaults
 mod NameVectors
+pub mod Base32Facts
+pub mod Base32Order
+mod Base32Examples

@@ -26,3 +26,5 @@ pub mod SetInside
 pub mod Insertion
 pub mod Stepping
 pub mod Signing
+pub mod Base32
+pub mod HashedOwners

@@ -3,11 +3,16 @@ use Rattle.std.specs.Prelude.{List, [], ◌∷◌, ◌+◌, ◌%◌, ◌^◌, un
 use Rattle.zone_proto.specs.Sets.{RRset, first_serial}
 use Rattle.zone_proto.specs.declared.rdata.RData.{RData}
 use Rattle.zone_proto.specs.declared.rdata.RData.TheVariants as V
+use Rattle.zone_proto.specs.declared.rdata.start_of_authority.SOA.{SOA as SoaData}
 use Rattle.zone_proto.specs.declared.record.Record.{Record}
 
 -- SOA data with the next serial, modulo 2^32
+abbrev pub stepped_soa : SoaData → SoaData
+stepped_soa a = record a { serial = (a.serial + 1) % 2 ^ 32 }
+
+-- data with the next serial, where they are those of an SOA
 abbrev pub stepped_data : RData → RData
-stepped_data (V.SOA a) = V.SOA (record a { serial = (a.serial + 1) % 2 ^ 32 })
+stepped_data (V.SOA a) = V.SOA (stepped_soa a)
 stepped_data d = d
 
 -- records whose first has the next serial, where it is an SOA

@@ -1,15 +1,19 @@
 //! Laws of the definitions that the calls of this crate are proved to meet. Each is an empty function whose contract is
 //! the law, for every value, so a program has no need to call one.
-ghost use Rattle.std.specs.Prelude.{◌≡◌, ◌↔◌, ◌⊎◌, ℕ, List, [], Some, None, IsTrue};
+ghost use Rattle.std.specs.Prelude.{◌≡◌, ◌↔◌, ◌⊎◌, ℕ, List, [], length, Some, None, IsTrue};
 ghost use Rattle.std.specs.declared.cmp.Ordering.TheVariants.{Less, Equal};
 ghost use Rattle.std.specs.Cmp.{IsTotalOrder};
+ghost use Rattle.std.specs.List.{AllByRecursion};
 ghost use Rattle.std.specs.Ordering.{nat_cmp};
+ghost use Rattle.zone_proto.specs.Base32.{base32_text};
 ghost use Rattle.zone_proto.specs.Before.{IsBefore};
-ghost use Rattle.zone_proto.specs.Names.{Name, name_cmp, caseless_cmp, lower, is_above, is_at_or_above, IsAbove, IsAtOrAbove, IsName};
+ghost use Rattle.zone_proto.specs.Names.{Name, octets_cmp, name_cmp, caseless_cmp, lower, is_above, is_at_or_above, IsAbove, IsAtOrAbove, IsName};
 ghost use Rattle.zone_proto.specs.Order.{greatest, least, IsGreatest, IsLeast};
+ghost use Rattle.zone_proto.specs.Ranges.{IsOctet};
 ghost use Rattle.zone_proto.specs.Faults.{IsTextFault};
 ghost use Rattle.zone_proto.specs.Text.{name_text};
 ghost use Rattle.zone_proto.specs.TextForm.{IsNameText};
+ghost use Rattle.zone_proto.specs.HashedOwners.{hashed_owner};
 ghost use Rattle.zone_proto.specs.Keys.{key_cmp};
 ghost use Rattle.zone_proto.specs.declared.error.ProtoError.{ProtoError};
 ghost use Rattle.zone_proto.specs.declared.rr_key.RrKey.{RrKey};
@@ -94,4 +98,13 @@ pub fn text_is_read_or_refused()
 pub fn printed_is_read()
     ensures read { (n m : Name) → IsName n → (IsNameText (name_text n) m ↔ (m ≡ n)) }
     ensures accepted { (n : Name) (e : ProtoError) → IsName n → ¬ IsTextFault (name_text n) e }
+{}
+
+/// For digests of one length, the texts in base32hex are ordered as the digests, and so are the owners of NSEC3 sets under
+/// one zone (RFC 4648 section 7, RFC 5155 section 3).
+pub fn texts_sort_as_digests()
+    ensures texts { (d e : List ℕ) → length d ≡ length e → AllByRecursion IsOctet d → AllByRecursion IsOctet e
+        → octets_cmp (base32_text d) (base32_text e) ≡ octets_cmp d e }
+    ensures owners { (zone : Name) (d e : List ℕ) → length d ≡ length e → AllByRecursion IsOctet d → AllByRecursion IsOctet e
+        → name_cmp (hashed_owner zone d) (hashed_owner zone e) ≡ octets_cmp d e }
 {}

@@ -8,6 +8,7 @@
 //! holds of the definitions themselves.
 #![tactic(auto)]
 
+mod base32;
 pub mod data_laws;
 mod dns_class;
 mod error;
@@ -43,6 +44,7 @@ mod text;
 mod unescaped;
 mod wire;
 
+pub use base32::{Base32Text, base32_dnssec};
 pub use dns_class::DNSClass;
 pub use error::ProtoError;
 pub use labels_iter::Labels;

@@ -1,4 +1,4 @@
-ghost use Rattle.std.specs.Prelude.{◌≡◌, ◌≤◌, [], ◌++◌, ◌∷◌, true, ◌==◌, length, take, drop};
+ghost use Rattle.std.specs.Prelude.{◌≡◌, ◌<◌, ◌≤◌, ◌+◌, [], ◌++◌, ◌∷◌, true, ◌==◌, length, take, drop};
 ghost use Rattle.zone_proto.specs.Names.{same_name};
 ghost use Rattle.zone_proto.specs.Types.{IN, RRSIG};
 ghost use Rattle.zone_proto.specs.Data.{type_of};
@@ -277,11 +277,13 @@ impl RecordSet {
     }
 
     /// Exchanges the signatures that the set has, in order, with those of a list from `start` on (an index, from 0), and
-    /// answers where the next ones of that list stand. The caller hands in a list that has as many there; nothing is said of
-    /// a shorter one. It refuses nothing and takes no memory.
+    /// answers where the next ones of that list stand. Where the list has fewer there, nothing is exchanged, and the answer
+    /// is `start`. Takes no memory.
     pub fn exchange_rrsigs(&mut self, others: &mut Rrsigs, start: usize) -> usize
         ensures set { length self.old.signatures ≤ length (drop start others.old) → self.new ≡ record self.old { signatures = take (length self.old.signatures) (drop start others.old) } }
-        ensures others { length self.old.signatures ≤ length (drop start others.old) → drop result others.new ≡ drop (length self.old.signatures) (drop start others.old) }
+        ensures others { length self.old.signatures ≤ length (drop start others.old) → others.new ≡ take start others.old ++ self.old.signatures ++ drop (start + length self.old.signatures) others.old }
+        ensures next { length self.old.signatures ≤ length (drop start others.old) → result ≡ start + length self.old.signatures }
+        ensures short { length (drop start others.old) < length self.old.signatures → (self.new ≡ self.old) × (others.new ≡ others.old) × (result ≡ start) }
     {
         others.exchange(start, self.rrsigs.as_mut_slice())
     }

@@ -1,4 +1,4 @@
-ghost use Rattle.std.specs.Prelude.{◌≡◌, ◌≤◌, ◌+◌, [], ◌++◌, ◌∷◌, length, take, drop, IfOk, OnOk, OnErr, IsOkUnless};
+ghost use Rattle.std.specs.Prelude.{◌≡◌, ◌<◌, ◌≤◌, ◌+◌, [], ◌++◌, ◌∷◌, length, take, drop, IfOk, OnOk, OnErr, IsOkUnless};
 ghost use Rattle.zone_proto.specs.Types.{RRSIG};
 ghost use Rattle.zone_proto.specs.Data.{type_of};
 ghost use Rattle.zone_proto.specs.Sets.{AreSignatures};
@@ -67,17 +67,21 @@ impl Rrsigs {
         })
     }
 
-    /// Exchanges signatures, in order, with those from `start` on, and answers where the next ones stand. Takes no memory.
+    /// Exchanges signatures, in order, with those from `start` on, and answers where the next ones stand. Where fewer stand
+    /// there, nothing is exchanged, and the answer is `start`. Takes no memory.
     pub(crate) fn exchange(&mut self, start: usize, others: &mut [Record]) -> usize
         requires { AreSignatures others.old }
         ensures others { length others.old ≤ length (drop start self.old) → others.new ≡ take (length others.old) (drop start self.old) }
-        ensures rest { length others.old ≤ length (drop start self.old) → drop result self.new ≡ drop (length others.old) (drop start self.old) }
+        ensures own { length others.old ≤ length (drop start self.old) → self.new ≡ take start self.old ++ others.old ++ drop (start + length others.old) self.old }
+        ensures next { length others.old ≤ length (drop start self.old) → result ≡ start + length others.old }
+        ensures short { length (drop start self.old) < length others.old → (others.new ≡ others.old) × (self.new ≡ self.old) × (result ≡ start) }
         ensures kind { AreSignatures others.new }
     {
         let end = start.saturating_add(others.len());
-        if end <= self.records.len() {
-            exchange_part(self.records.as_mut_slice(), start, others);
+        if end > self.records.len() {
+            return start;
         }
+        exchange_part(self.records.as_mut_slice(), start, others);
         end
     }
 

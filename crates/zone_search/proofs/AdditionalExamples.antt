@@ -10,7 +10,7 @@ use Rattle.zone_proto.specs.Types.{A, NS, CNAME, MX, TXT, AAAA, ANAME}
 use Rattle.zone_map.specs.Zones.{Sets}
 use Rattle.zone_search.specs.Additionals.{next_name, AreSearchedNames, AreAdditionals, AreSearches, alias_sets}
 use Rattle.zone_search.specs.Flattening.{flattened}
-use Rattle.zone_search.specs.Replies.{IsReply, answered}
+use Rattle.zone_search.specs.Replies.{IsReply, one_set, chained, answered}
 use Rattle.zone_search.proofs.Examples.{apex, at_apex, record_with, set_with, unsigned}
 
 abbrev mail : Name
@@ -109,23 +109,23 @@ abbrev hosted : Sets
 hosted = (key a ANAME, at_300) ∷ (key b CNAME, set_with b CNAME (V.CNAME a)) ∷ (key h A, set_with h A address) ∷ []
 
 -- the owner of the ANAME set has the address with the lesser TTL, and the ANAME set stands first among the additional sets
-flattened_alone : IsReply unsigned apex hosted false a A (answered (record (set_with a A address) { serial = 0 } ∷ []) (at_300 ∷ set_with h A address ∷ []))
+flattened_alone : IsReply unsigned apex hosted false a A (answered (one_set (record (set_with a A address) { serial = 0 })) (at_300 ∷ set_with h A address ∷ []))
 flattened_alone = record { more = set_with h A address ∷ []; found = (h ∷ [], (refl, refl, tt), refl); sections = refl }
 
 -- a chain that ends with it stays
-chain_stays : IsReply unsigned apex hosted false b A (answered (set_with b CNAME (V.CNAME a) ∷ at_300 ∷ []) (at_300 ∷ set_with h A address ∷ []))
+chain_stays : IsReply unsigned apex hosted false b A (answered (chained (set_with b CNAME (V.CNAME a) ∷ at_300 ∷ [])) (at_300 ∷ set_with h A address ∷ []))
 chain_stays = record { more = set_with h A address ∷ []; found = (h ∷ [], (refl, refl, tt), refl); sections = refl }
 
 -- where the last additional set has no addresses the answer has no records
-nothing_taken : IsReply unsigned apex lost false a A (answered (record (set_with a A address) { serial = 0; records = [] } ∷ []) (leads a b ∷ set_with b CNAME (V.CNAME m) ∷ []))
+nothing_taken : IsReply unsigned apex lost false a A (answered (one_set (record (set_with a A address) { serial = 0; records = [] })) (leads a b ∷ set_with b CNAME (V.CNAME m) ∷ []))
 nothing_taken = record { more = set_with b CNAME (V.CNAME m) ∷ []; found = (b ∷ m ∷ [], (refl, refl, (refl, refl, tt)), refl); sections = refl }
 
 -- an ANAME to itself leads nowhere, and is the answer
-leads_to_itself : IsReply unsigned apex ((key a ANAME, leads a a) ∷ []) false a A (answered (leads a a ∷ []) [])
+leads_to_itself : IsReply unsigned apex ((key a ANAME, leads a a) ∷ []) false a A (answered (one_set (leads a a)) [])
 leads_to_itself = record { more = []; found = ([], refl, refl); sections = refl }
 
 -- where ANAME is asked for it is not flattened
-aname_asked_for : IsReply unsigned apex ring false a ANAME (answered (leads a b ∷ []) (leads b a ∷ leads a b ∷ []))
+aname_asked_for : IsReply unsigned apex ring false a ANAME (answered (one_set (leads a b)) (leads b a ∷ leads a b ∷ []))
 aname_asked_for = record { more = leads b a ∷ leads a b ∷ []; found = (b ∷ a ∷ [], (refl, refl, (refl, refl, refl)), (b ∷ a ∷ [], (refl, refl, (refl, refl, refl)), refl)); sections = refl }
 
 -- the signatures are those of the flattened set

@@ -1,13 +1,15 @@
 -- Laws of the definitions of additional records
-use Rattle.std.proofs.Common.{◌≡◌, ℕ, suc, ◌+◌, ◌*◌, ◌≤◌, arith, Bool, List, [], ◌∷◌, length, refl, subst, inl, inr}
+use Rattle.std.proofs.Common.{◌≡◌, ℕ, suc, ◌+◌, ◌*◌, ◌≤◌, arith, Bool, true, false, cond, List, [], ◌∷◌, length, refl, sym, subst, inl, inr}
 use Rattle.std.proofs.Math.Nat.{suc-mul}
 use Rattle.std.specs.Prelude.{Option, Some}
+use Rattle.std.specs.List.{Contains}
 use Rattle.zone_proto.specs.Names.{Name}
 use Rattle.zone_proto.specs.Sets.{RRset}
-use Rattle.zone_proto.proofs.Members.{In, Contains-In}
+use Rattle.zone_proto.specs.Types.{A, AAAA, ANAME}
+use Rattle.zone_proto.proofs.Members.{In, In-Contains, Contains-In}
 use Rattle.zone_map.specs.Zones.{Sets, IsZone}
 use Rattle.zone_map.proofs.Chains.{names_equiv}
-use Rattle.zone_search.specs.Additionals.{run_types, seen_at_start, leads_to, listed_with, AreSearchedNames, AreListed, AreCounted, alias_sets}
+use Rattle.zone_search.specs.Additionals.{names_host, run_types, seen_at_start, leads_to, listed_with, AreSearchedNames, AreListed, AreCounted, alias_sets}
 use Rattle.zone_search.specs.AdditionalLaws.{OneRun, NoNameTwice, RunIsShort, SearchesAreFew, OneList}
 use Rattle.zone_search.proofs.Paths.{searched_once, searched_bound, searched_distinct, searched_unseen}
 use Rattle.zone_search.proofs.Targets.{targets, leads_among, targets_few}
@@ -25,6 +27,12 @@ short m zone signed seen u t among from names s =
     let a : length names ≤ 1 + length (targets m t) = searched_bound names_equiv (leads_to m signed t) (targets m t) (leads_among m t signed) seen from names s in
     let b : length (targets m t) ≤ alias_sets m = targets_few m zone u t among in
     omega arith
+
+-- so a run that began with some count of searches and searched some of these names has at most this count
+pub short_run : (m : Sets) → IsZone m → (signed : Bool) (seen : List Name) (u t : ℕ) → Contains (run_types u) t → (from : Option Name) (before after : ℕ) → after ≤ before + length (left m signed t seen from) → after ≤ before + (1 + alias_sets m)
+short_run m zone signed seen u t c from before after h =
+    let k : length (left m signed t seen from) ≤ 1 + alias_sets m = short m zone signed seen u t (Contains-In t (run_types u) c) from (left m signed t seen from) (left_searched m signed t seen from) in
+    omega (arith, h, k)
 
 pub run_is_short : RunIsShort
 run_is_short m zone signed seen u t c from names s = short m zone signed seen u t (Contains-In t (run_types u) c) from names s
@@ -56,3 +64,24 @@ listed m signed seen from (t ∷ ts) had =
 
 pub one_list : OneList
 one_list m signed n t from = listed m signed (seen_at_start n t) from (run_types t) []
+
+-- ---- the bound of all runs of a query, wherever they end
+
+addresses_of_hosts : (t : ℕ) → In t (A ∷ AAAA ∷ []) → Contains (run_types ANAME) t
+addresses_of_hosts t i = In-Contains t (A ∷ AAAA ∷ []) i
+
+pub first_of_hosts : Contains (run_types ANAME) A
+first_of_hosts = addresses_of_hosts A (inl refl)
+
+pub second_of_hosts : Contains (run_types ANAME) AAAA
+second_of_hosts = addresses_of_hosts AAAA (inr (inl refl))
+
+pub own_type : (t : ℕ) → names_host t ≡ false → Contains (run_types t) t
+own_type t h = subst (λ b. Contains (cond b (A ∷ AAAA ∷ []) (t ∷ [])) t) (sym h) (In-Contains t (t ∷ []) (inl refl))
+
+module _ (t before after few : ℕ) where
+  pub two_made : (between : ℕ) → names_host t ≡ true → between ≤ before + few → after ≤ between + few → after ≤ before + length (run_types t) * few
+  two_made between h i j = subst (λ b. after ≤ before + length (cond b (A ∷ AAAA ∷ []) (t ∷ [])) * few) (sym h) (omega (arith, i, j))
+
+  pub one_made : names_host t ≡ false → after ≤ before + few → after ≤ before + length (run_types t) * few
+  one_made h i = subst (λ b. after ≤ before + length (cond b (A ∷ AAAA ∷ []) (t ∷ [])) * few) (sym h) (omega (arith, i))

@@ -1,9 +1,10 @@
 -- A run along first targets, name by name
-use Rattle.std.proofs.Common.{◌≡◌, ℕ, zero, suc, ◌+◌, ◌<◌, arith, Bool, true, false, cond, ◌||◌, List, [], ◌∷◌, ◌++◌, map, length, refl, sym, ap, ◌∙◌, subst}
+use Rattle.std.proofs.Common.{◌≡◌, ℕ, zero, suc, ◌+◌, ◌<◌, ◌≤◌, arith, Bool, true, false, cond, ◌||◌, List, [], ◌∷◌, ◌++◌, map, length, refl, sym, ap, ◌∙◌, subst}
 use Rattle.std.specs.Prelude.{Option, Some, None, fold, option_and_then}
 use Rattle.std.specs.List.{list_any, cons_option}
+use Rattle.std.specs.Ordering.{eq_by_cmp}
 use Rattle.std.proofs.lemmas.List.{map-append}
-use Rattle.zone_proto.specs.Names.{Name, name_eq}
+use Rattle.zone_proto.specs.Names.{Name, name_cmp, name_eq}
 use Rattle.zone_proto.specs.Sets.{RRset, same_set}
 use Rattle.zone_proto.specs.Types.{A, AAAA}
 use Rattle.zone_map.specs.Zones.{Sets}
@@ -14,7 +15,8 @@ use Rattle.zone_search.specs.Runs.{with_new}
 use Rattle.zone_search.specs.Additionals.{run_target, names_host, leads_to, found_sets, listed_with, AreSearchedNames, IsFollowed, AreCounted, AreSearches, AreAdditionals, AreListed}
 use Rattle.zone_search.specs.Searches.{one_more, searches_more}
 use Rattle.zone_map.proofs.Chains.{names_equiv}
-use Rattle.zone_search.proofs.ChainSearches.{counted_first}
+use Rattle.zone_search.proofs.ChainSearches.{at_most_one, counted_first}
+use Rattle.zone_search.proofs.Chasing.{asked}
 use Rattle.zone_search.proofs.Paths.{run_names, run_names_searched, run_none, run_seen, run_step}
 use Rattle.zone_search.proofs.Targets.{targets, leads_among}
 
@@ -57,12 +59,8 @@ module _ (m : Sets) (signed : Bool) (t : ℕ) where
     pub record Goes (had : List RRset) (seen : List Name) (name : Name) (searches : ℕ) : Type 0 where
       pub listing : listed_with m signed t had (left seen (Some name)) ≡ listed_with m signed t begun (left first (Some from))
       pub count : searches_more (length (left seen (Some name))) searches ≡ searches_more (length (left first (Some from))) before
-
-    pub begins : (had : List RRset) (seen : List Name) (name : Name) → had ≡ begun → seen ≡ first → name ≡ from → Goes had seen name before
-    begins had seen name e f g =
-        subst (λ x. Goes x seen name before) (sym e)
-        (subst (λ x. Goes begun x name before) (sym f)
-        (subst (λ x. Goes begun first x before) (sym g) (record { listing = refl; count = refl })))
+      -- also where the count has stopped at its greatest number
+      pub bounded : searches + length (left seen (Some name)) ≤ before + length (left first (Some from))
 
     module _ (had new : List RRset) (seen : List Name) (name : Name) (searches after : ℕ) (goes : Goes had seen name searches) (unseen : list_any (name_eq name) seen ≡ false) (counted : after ≡ one_more searches) where
       -- one turn leaves one name fewer
@@ -80,6 +78,7 @@ module _ (m : Sets) (signed : Bool) (t : ℕ) where
           record {
             listing = sym (listed_found had name s rest f) ∙ sym (ap (listed_with m signed t had) (fewer s next f r)) ∙ goes.listing;
             count = counted_first (length rest) searches ∙ sym (ap (λ ns. searches_more (length ns) searches) (fewer s next f r)) ∙ goes.count;
+            bounded = let k : length (left seen (Some name)) ≡ 1 + length rest = ap length (fewer s next f r) ∙ omega arith in omega (arith, k, goes.bounded, at_most_one searches);
           }))))
 
       pub smaller : (s : RRset) (next : Name) (pushed : List Name) (then : Name) → found m signed name t ≡ Some s → run_target t s ≡ Some next → pushed ≡ seen ++ name ∷ [] → then ≡ next
@@ -88,6 +87,12 @@ module _ (m : Sets) (signed : Bool) (t : ℕ) where
           let k : length (left seen (Some name)) ≡ 1 + length (left (seen ++ name ∷ []) (Some next)) = ap length (fewer s next f r) ∙ omega arith in
           let j : length (left pushed (Some then)) ≡ length (left (seen ++ name ∷ []) (Some next)) = ap (λ x. length (left x (Some then))) p ∙ ap (λ x. length (left (seen ++ name ∷ []) (Some x))) q in
           omega arith
+
+      -- however this turn ends, the names that were searched are some of the run's
+      pub turned : after ≤ before + length (left first (Some from))
+      turned =
+          let k : length (left seen (Some name)) ≡ 1 + length (left (seen ++ name ∷ []) (leads_to m signed t name)) = ap length (left_step seen name unseen) ∙ omega arith in
+          omega (arith, k, counted, goes.bounded, at_most_one searches)
 
       -- the run is over with this name: nothing was found for it, or its set leads nowhere
       pub ends_unfound : found m signed name t ≡ None → new ≡ had → IsFollowed m signed first t from begun new before after
@@ -109,6 +114,10 @@ module _ (m : Sets) (signed : Bool) (t : ℕ) where
             listed = w ∙ sym (listed_found had name s [] f) ∙ sym (ap (listed_with m signed t had) last) ∙ goes.listing;
             counted = counted ∙ sym (ap (λ ns. searches_more (length ns) searches) last) ∙ goes.count;
           }
+
+    -- before a turn they are so too
+    pub not_turned : (had : List RRset) (seen : List Name) (name : Name) (searches : ℕ) → Goes had seen name searches → searches ≤ before + length (left first (Some from))
+    not_turned had seen name searches goes = omega (arith, goes.bounded)
 
     -- the run is over before a name that was seen
     pub ends_seen : (had : List RRset) (seen : List Name) (name : Name) (searches : ℕ) → Goes had seen name searches → list_any (name_eq name) seen ≡ true → IsFollowed m signed first t from begun had before searches
@@ -171,6 +180,12 @@ module _ (m : Sets) (signed : Bool) (n : Name) (t : ℕ) (from : Name) where
   one_listed start had sets before after h p e f =
       let fs : AreSearchedNames m signed (n ∷ []) t (Some from) f.names = subst (λ x. AreSearchedNames m signed x t (Some from) f.names) p f.searched in
       subst (λ b. AreListed m signed (cond b [] (n ∷ [])) from (cond b (A ∷ AAAA ∷ []) (t ∷ [])) [] sets) (sym h) (f.names, fs, f.listed ∙ ap (λ x. listed_with m signed t x f.names) e)
+
+-- ---- the test of a turn
+
+-- the seen names are asked for this one
+pub told : (name : Name) (seen viewed : List Name) (contained b : Bool) → viewed ≡ seen → contained ≡ list_any (λ y. eq_by_cmp name_cmp y name) viewed → contained ≡ b → list_any (name_eq name) seen ≡ b
+told name seen viewed contained b e f g = sym (asked name seen) ∙ ap (list_any (λ y. eq_by_cmp name_cmp y name)) (sym e) ∙ sym f ∙ g
 
 -- ---- the list of sets
 

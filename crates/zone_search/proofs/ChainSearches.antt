@@ -1,5 +1,5 @@
 -- How many names a chain searches
-use Rattle.std.proofs.Common.{◌≡◌, ℕ, zero, suc, ◌+◌, ◌-◌, arith, Bool, true, false, cond, not, ◌&&◌, List, [], ◌∷◌, ◌++◌, map, length, refl, sym, ap, ◌∙◌, append_assoc}
+use Rattle.std.proofs.Common.{◌≡◌, ℕ, zero, suc, ◌+◌, ◌-◌, ◌≤◌, arith, Bool, true, false, cond, not, ◌&&◌, List, [], ◌∷◌, ◌++◌, map, length, refl, sym, ap, ◌∙◌, append_assoc}
 use Rattle.std.specs.Prelude.{Option, Some, None, nat_lt}
 use Rattle.std.specs.Option.{option_map_or}
 use Rattle.std.specs.List.{list_any}
@@ -107,6 +107,9 @@ module _ (m : Sets) (signed : Bool) (t : ℕ) where
       ∙ ap (λ es. length es - 1 + cond (leads_on es) 1 0) (sym (chain_begins m signed t n s))
 
 -- ---- the count
+
+pub at_most_one : (n : ℕ) → one_more n ≤ n + 1
+at_most_one n = omega arith
 
 pub counted_first : (k n : ℕ) → searches_more k (one_more n) ≡ one_more (searches_more k n)
 counted_first zero n = refl

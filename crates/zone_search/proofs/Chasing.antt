@@ -18,7 +18,7 @@ use Rattle.zone_map.specs.Wildcards.{found}
 use Rattle.zone_map.specs.Chains.{cname_target, chain, chain_links, chain_searches}
 use Rattle.zone_search.specs.Searches.{one_more, searches_more}
 use Rattle.zone_map.proofs.Chains.{rest_of, rest_none, rest_seen, rest_unfound, rest_more, searches_of, searches_none, searches_seen, searches_unfound, searches_step, chain_begins}
-use Rattle.zone_search.proofs.ChainSearches.{searches_are, counted_first}
+use Rattle.zone_search.proofs.ChainSearches.{searches_are, at_most_one, counted_first}
 
 -- ---- a name among those that were seen
 
@@ -42,9 +42,6 @@ no_value None h = refl
 no_value (Some x) h = absurd (h x refl)
 
 -- ---- the loop
-
-at_most_one : (n : ℕ) → one_more n ≤ n + 1
-at_most_one n = omega arith
 
 module _ (m : Sets) (signed : Bool) (t : ℕ) (n : Name) (first : Found) (before : ℕ) where
   -- the sets behind the first

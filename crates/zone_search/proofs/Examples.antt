@@ -12,7 +12,7 @@ use Rattle.zone_map.specs.Zones.{Sets, owns, types_at, owners}
 use Rattle.zone_map.specs.Upserts.{clashes, upserted}
 use Rattle.zone_map.specs.Search.{nearest_delegation, referral, exact, direct}
 use Rattle.zone_search.specs.StartOfAuthority.{serial, minimum}
-use Rattle.zone_search.specs.Replies.{denial, IsReply, name_exists, nx_domain, refused, not_a_lookup, denied, answered}
+use Rattle.zone_search.specs.Replies.{denial, IsReply, name_exists, nx_domain, refused, one_set, denied, answered}
 
 -- ---- the zone example.com: its SOA, a host, two zone cuts, one inside the other, and an inner zone's apex
 
@@ -128,7 +128,7 @@ no_other_type = refl
 abbrev pub unsigned : RRset → List Record
 unsigned s = []
 
-answers_host : IsReply unsigned apex zone false (at_apex (codes "www")) A (answered (host_set ∷ []) [])
+answers_host : IsReply unsigned apex zone false (at_apex (codes "www")) A (answered (one_set host_set) [])
 answers_host = record { more = []; found = refl; sections = refl }
 
 no_such_type : IsReply unsigned apex zone false (at_apex (codes "www")) TXT (denied name_exists)
@@ -142,9 +142,6 @@ no_such_name = refl
 
 outside_the_zone : denial apex zone (codes "example" ∷ codes "org" ∷ []) ≡ refused
 outside_the_zone = refl
-
-no_transfer_by_lookup : IsReply unsigned apex zone false apex AXFR not_a_lookup
-no_transfer_by_lookup = refl
 
 -- ---- CNAME beside other types (RFC 1034 section 3.6.2)
 

@@ -3,6 +3,7 @@ pub mod Paths
 pub mod Targets
 pub mod AdditionalRuns
 pub mod AdditionalLaws
+pub mod RunFronts
 pub mod Chasing
 pub mod SecuredRecords
 pub mod Replies

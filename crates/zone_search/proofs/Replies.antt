@@ -8,29 +8,47 @@ use Rattle.zone_handler.specs.declared.auth_lookup.AuthLookup.{AuthLookup}
 use Rattle.zone_handler.specs.declared.auth_lookup.AuthLookup.TheVariants as answer
 use Rattle.zone_handler.specs.declared.lookup_records.LookupRecords.{LookupRecords}
 use Rattle.zone_handler.specs.declared.lookup_records.LookupRecords.TheVariants as section
-use Rattle.zone_handler.specs.Answers.{records_in}
-use Rattle.zone_handler.specs.Sets.{set_records, sets_records}
-use Rattle.std.proofs.lemmas.List.{append-nil}
+use Rattle.zone_handler.specs.Answers.{KeepsMany}
 use Rattle.zone_handler.specs.declared.lookup_options.LookupOptions.{LookupOptions}
 use Rattle.zone_map.specs.Zones.{Sets}
 use Rattle.zone_map.specs.Chains.{chain}
 use Rattle.zone_search.specs.Flattening.{last_set, stands_for_addresses, flattened, alone, beside}
-use Rattle.zone_search.specs.Replies.{answered, is_followed, answer_sets, answer_section, AreFrom, IsAnswer, MayList, HasSections, SaysAnswer}
+use Rattle.zone_search.specs.Replies.{one_set, chained, answered, is_followed, answer_sets, answer_section, AreFrom, IsAnswer, KeepsAdditionals, HasSections, SaysAnswer}
 
 module _ (sign : RRset → List Record) (m : Sets) (n : Name) (t : ℕ) (options : LookupOptions) where
   -- a set alone
   pub alone_answers : (s : RRset) (a : AuthLookup) → is_followed t s ≡ false
-      → (more : List RRset) × AreFrom m options.dnssec_ok n t (Some s) more × HasSections options (alone sign t s (last_set more) ∷ []) (beside t (Some s) more) a → SaysAnswer options (IsAnswer sign m options.dnssec_ok n t s) a
+      → (more : List RRset) × AreFrom m options.dnssec_ok n t (Some s) more × HasSections options (one_set (alone sign t s (last_set more))) (beside t (Some s) more) a → SaysAnswer options (IsAnswer sign m options.dnssec_ok n t s) a
   alone_answers s a h (more, from, has) =
       let e : answer_sets m options.dnssec_ok n t s ≡ s ∷ [] = ap (λ b. cond b (chain m options.dnssec_ok n s t) (s ∷ [])) h in
-      let f : answer_section sign m options.dnssec_ok n t s more ≡ alone sign t s (last_set more) ∷ [] = ap (λ b. cond b (chain m options.dnssec_ok n s t) (alone sign t s (last_set more) ∷ [])) h in (
-        alone sign t s (last_set more) ∷ [],
+      let f : answer_section sign m options.dnssec_ok n t s more ≡ one_set (alone sign t s (last_set more)) = ap (λ b. cond b (chained (chain m options.dnssec_ok n s t)) (one_set (alone sign t s (last_set more)))) h in (
+        one_set (alone sign t s (last_set more)),
         beside t (Some s) more,
         record {
           more = more;
           found = subst (λ ss. AreFrom m options.dnssec_ok n t (last_set ss) more) (sym e) from;
           sections =
               ap (λ ss. answered ss (beside t (Some s) more)) (sym f)
+              ∙ ap (λ ss. answered (answer_section sign m options.dnssec_ok n t s more) (beside t (last_set ss) more)) (sym e);
+        },
+        has,
+      )
+
+  -- a chain
+  pub chain_answers : (s : RRset) (a : AuthLookup) → is_followed t s ≡ true
+      → (more : List RRset) × AreFrom m options.dnssec_ok n t (last_set (chain m options.dnssec_ok n s t)) more × HasSections options (chained (chain m options.dnssec_ok n s t)) (beside t (last_set (chain m options.dnssec_ok n s t)) more) a
+      → SaysAnswer options (IsAnswer sign m options.dnssec_ok n t s) a
+  chain_answers s a h (more, from, has) =
+      let sets = chain m options.dnssec_ok n s t in
+      let e : answer_sets m options.dnssec_ok n t s ≡ sets = ap (λ b. cond b sets (s ∷ [])) h in
+      let f : answer_section sign m options.dnssec_ok n t s more ≡ chained sets = ap (λ b. cond b (chained sets) (one_set (alone sign t s (last_set more)))) h in (
+        chained sets,
+        beside t (last_set sets) more,
+        record {
+          more = more;
+          found = subst (λ ss. AreFrom m options.dnssec_ok n t (last_set ss) more) (sym e) from;
+          sections =
+              ap (λ section. answered section (beside t (last_set sets) more)) (sym f)
               ∙ ap (λ ss. answered (answer_section sign m options.dnssec_ok n t s more) (beside t (last_set ss) more)) (sym e);
         },
         has,
@@ -98,11 +116,11 @@ module _ (sign : RRset → List Record) (t : ℕ) (s : RRset) (more : List RRset
 
 -- an answer of one set, with additional sets
 pub has_one : (options : LookupOptions) (set shown : RRset) (listed more : List RRset) (additionals : Option LookupRecords) (a : AuthLookup) → a ≡ answer.Records (section.Records options set) additionals → shown ≡ set → listed ≡ more
-    → MayList options more additionals → HasSections options (shown ∷ []) listed a
+    → KeepsAdditionals options more additionals → HasSections options (one_set shown) listed a
 has_one options set shown listed more additionals a e p q l =
-    (section.Records options set, additionals, e, sym (append-nil (set_records options shown) ∙ ap (set_records options) p), subst (λ x. MayList options x additionals) (sym q) l)
+    (section.Records options set, additionals, e, sym (ap (section.Records options) p), subst (λ x. KeepsAdditionals options x additionals) (sym q) l)
 
 -- an answer of several
-pub has_many : (options : LookupOptions) (sets listed more : List RRset) (s : LookupRecords) (additionals : Option LookupRecords) (a : AuthLookup) → a ≡ answer.Records s additionals → records_in s ≡ sets_records options sets → listed ≡ more
-    → MayList options more additionals → HasSections options sets listed a
-has_many options sets listed more s additionals a e r q l = (s, additionals, e, r, subst (λ x. MayList options x additionals) (sym q) l)
+pub has_many : (options : LookupOptions) (sets listed more : List RRset) (s : LookupRecords) (additionals : Option LookupRecords) (a : AuthLookup) → a ≡ answer.Records s additionals → KeepsMany options sets s → listed ≡ more
+    → KeepsAdditionals options more additionals → HasSections options (chained sets) listed a
+has_many options sets listed more s additionals a e r q l = (s, additionals, e, r, subst (λ x. KeepsAdditionals options x additionals) (sym q) l)

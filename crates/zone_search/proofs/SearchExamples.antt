@@ -11,7 +11,7 @@ use Rattle.zone_map.specs.Zones.{Sets}
 use Rattle.zone_map.specs.Wildcards.{star_under, star_source, found}
 use Rattle.zone_map.specs.Chains.{chain, chain_searches}
 use Rattle.zone_map.specs.AnyTypes.{any_type}
-use Rattle.zone_search.specs.Replies.{IsReply, answered, denied, nx_domain}
+use Rattle.zone_search.specs.Replies.{IsReply, one_set, answered, denied, nx_domain}
 use Rattle.zone_search.proofs.Examples.{apex, at_apex, record_with, set_with, server, unsigned}
 
 -- ---- a star under the apex, one under b, and a star at a cut (RFC 1034 section 4.3.3)
@@ -111,14 +111,14 @@ two_searches = refl
 abbrev loop : Sets
 loop = (key (c 97) CNAME, alias_set (c 97) (c 97)) ∷ []
 
-one_set : chain loop false (c 97) (alias_set (c 97) (c 97)) A ≡ alias_set (c 97) (c 97) ∷ []
-one_set = refl
+stays_alone : chain loop false (c 97) (alias_set (c 97) (c 97)) A ≡ alias_set (c 97) (c 97) ∷ []
+stays_alone = refl
 
 no_search : chain_searches loop false (c 97) (alias_set (c 97) (c 97)) A ≡ 0
 no_search = refl
 
 -- a query for CNAME is answered by the set alone
-alias_asked_for : IsReply unsigned [] aliases false (c 97) CNAME (answered (alias_set (c 97) (c 98) ∷ []) [])
+alias_asked_for : IsReply unsigned [] aliases false (c 97) CNAME (answered (one_set (alias_set (c 97) (c 98))) [])
 alias_asked_for = record { more = []; found = refl; sections = refl }
 
 -- ---- ANY (RFC 8482 section 4.1)
@@ -138,7 +138,7 @@ nothing_owned = refl
 last_type : any_type ((key apex 65535, set_with apex 65535 server) ∷ []) apex ≡ 65535
 last_type = refl
 
-any_is_answered : IsReply unsigned apex (typed MX TXT) false apex ANY (answered (set_with apex MX server ∷ []) [])
+any_is_answered : IsReply unsigned apex (typed MX TXT) false apex ANY (answered (one_set (set_with apex MX server)) [])
 any_is_answered = record { more = []; found = refl; sections = refl }
 
 no_name_for_any : IsReply unsigned apex (typed MX TXT) false (at_apex (codes "www")) ANY (denied nx_domain)

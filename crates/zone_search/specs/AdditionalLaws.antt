@@ -1,10 +1,13 @@
 -- Laws of the definitions of additional records
-use Rattle.std.specs.Prelude.{◌≡◌, ℕ, ◌+◌, ◌*◌, ◌≤◌, Bool, List, length, Option, IsFalse}
+use Rattle.std.specs.Prelude.{◌≡◌, ℕ, ◌+◌, ◌*◌, ◌≤◌, Bool, ◌&&◌, not, List, length, Option, IsFalse}
 use Rattle.std.specs.List.{Contains, IsDistinct, AllByRecursion, list_any}
 use Rattle.zone_proto.specs.Names.{Name, name_eq}
 use Rattle.zone_proto.specs.Sets.{RRset}
 use Rattle.zone_map.specs.Zones.{Sets, IsZone}
-use Rattle.zone_search.specs.Additionals.{run_types, AreSearchedNames, AreAdditionals, AreSearches, alias_sets}
+use Rattle.zone_map.specs.Chains.{are_distinct}
+use Rattle.zone_map.specs.Fronts.{IsLongestFront}
+use Rattle.zone_search.specs.Runs.{along}
+use Rattle.zone_search.specs.Additionals.{run_types, leads_to, AreSearchedNames, AreAdditionals, AreSearches, alias_sets}
 
 -- a run searches exactly one list of names
 abbrev pub OneRun : Type 0
@@ -15,6 +18,15 @@ OneRun = (m : Sets) (signed : Bool) (seen : List Name) (t : ℕ) (from : Option 
 abbrev pub NoNameTwice : Type 0
 NoNameTwice = (m : Sets) (signed : Bool) (seen : List Name) (t : ℕ) (from : Option Name) (names : List Name) → AreSearchedNames m signed seen t from names
     → IsDistinct name_eq names × AllByRecursion (λ n. IsFalse (list_any (name_eq n) seen)) names
+
+-- names of which none comes twice, and none was seen before
+abbrev pub are_new : List Name → List Name → Bool
+are_new seen names = are_distinct names && not (list_any (λ n. list_any (name_eq n) seen) names)
+
+-- however far the first targets are followed, a run searches the longest front of them in which no name comes twice and none was seen before
+abbrev pub RunIsLongestFront : Type 0
+RunIsLongestFront = (m : Sets) (signed : Bool) (seen : List Name) (t : ℕ) (from : Option Name) (names : List Name) → AreSearchedNames m signed seen t from names
+    → (k : ℕ) → length names ≤ k → IsLongestFront (are_new seen) (along (leads_to m signed t) k from) names
 
 -- it searches at most one name more than the zone has sets of type CNAME and ANAME
 abbrev pub RunIsShort : Type 0

@@ -1,16 +1,15 @@
 -- What a query is answered with
 use Rattle.std.specs.Prelude.{◌≡◌, ◌≢◌, ℕ, Bool, ◌&&◌, not, cond, ◌==◌, List, [], ◌∷◌, Option, MatchOption, option_and_then}
-use Rattle.std.specs.Bool.{MatchBool}
 use Rattle.zone_proto.specs.declared.record.Record.{Record}
 use Rattle.zone_proto.specs.Names.{Name, is_at_or_above}
 use Rattle.zone_proto.specs.Sets.{RRset}
-use Rattle.zone_proto.specs.Types.{CNAME, AXFR}
+use Rattle.zone_proto.specs.Types.{CNAME}
 use Rattle.zone_handler.specs.declared.auth_lookup.AuthLookup.{AuthLookup}
 use Rattle.zone_handler.specs.declared.auth_lookup.AuthLookup.TheVariants as answer
 use Rattle.zone_handler.specs.declared.lookup_options.LookupOptions.{LookupOptions}
 use Rattle.zone_handler.specs.declared.lookup_records.LookupRecords.{LookupRecords}
-use Rattle.zone_handler.specs.Answers.{records_in}
-use Rattle.zone_handler.specs.Sets.{sets_records}
+use Rattle.zone_handler.specs.declared.lookup_records.LookupRecords.TheVariants as section
+use Rattle.zone_handler.specs.Answers.{KeepsMany}
 use Rattle.zone_map.specs.Zones.{Sets, owns_at_or_below}
 use Rattle.zone_map.specs.Wildcards.{found}
 use Rattle.zone_map.specs.Chains.{chain}
@@ -31,11 +30,15 @@ absent origin n = cond (is_at_or_above origin n) nx_domain refused
 abbrev pub denial : Name → Sets → Name → Denial
 denial origin m n = cond (owns_at_or_below m n) name_exists (absent origin n)
 
--- what a lookup answers: that a transfer isn't a lookup, a negative answer, or the sets of the answer section and those of the additional section
+-- what an answer section has: one set, or the sets of a chain
+pub data Answers : Type 0 where
+  one_set : RRset → Answers
+  chained : List RRset → Answers
+
+-- what a lookup answers: a negative answer, or an answer section with the sets of the additional section
 pub data Reply : Type 0 where
-  not_a_lookup : Reply
   denied : Denial → Reply
-  answered : (answers additionals : List RRset) → Reply
+  answered : Answers → (additionals : List RRset) → Reply
 
 -- an alias is followed, unless aliases are asked for (RFC 1034 section 3.6.2)
 abbrev pub is_followed : ℕ → RRset → Bool
@@ -50,8 +53,8 @@ abbrev pub AreFrom : Sets → Bool → Name → ℕ → Option RRset → List RR
 AreFrom m signed n t terminal more = MatchOption (option_and_then (next_name t) terminal) (more ≡ []) (λ next. AreAdditionals m signed n t next more)
 
 -- the answer section: a chain stays as it is, and a set alone may be flattened; `sign` gives the signatures of a set that the answer makes
-abbrev pub answer_section : (RRset → List Record) → Sets → Bool → Name → ℕ → RRset → List RRset → List RRset
-answer_section sign m signed n t s more = cond (is_followed t s) (chain m signed n s t) (alone sign t s (last_set more) ∷ [])
+abbrev pub answer_section : (RRset → List Record) → Sets → Bool → Name → ℕ → RRset → List RRset → Answers
+answer_section sign m signed n t s more = cond (is_followed t s) (chained (chain m signed n s t)) (one_set (alone sign t s (last_set more)))
 
 -- the reply by the set that is found
 pub record IsAnswer (sign : RRset → List Record) (m : Sets) (signed : Bool) (n : Name) (t : ℕ) (s : RRset) (r : Reply) : Type 0 where
@@ -63,24 +66,25 @@ pub record IsAnswer (sign : RRset → List Record) (m : Sets) (signed : Bool) (n
 abbrev pub IsReplyFor : (RRset → List Record) → Name → Sets → Bool → Name → ℕ → Reply → Type 0
 IsReplyFor sign origin m signed n t r = MatchOption (found m signed n t) (r ≡ denied (denial origin m n)) (λ s. IsAnswer sign m signed n t s r)
 
--- a query for the whole zone isn't answered here; for a query of ANY a type is chosen
+-- the reply to a query; for one of ANY a type is chosen
 abbrev pub IsReply : (RRset → List Record) → Name → Sets → Bool → Name → ℕ → Reply → Type 0
-IsReply sign origin m signed n t r = MatchBool (t == AXFR) (r ≡ not_a_lookup) (IsReplyFor sign origin m signed n (searched_type m n t) r)
+IsReply sign origin m signed n t r = IsReplyFor sign origin m signed n (searched_type m n t) r
 
--- ---- the same as an answer says it
+-- ---- the same as an answer keeps it: whole sets, with the options that say whether their signatures are lent
 
--- a section lists the records of sets in their order, with their signatures where the options ask for DNSSEC
-abbrev pub Lists : LookupOptions → List RRset → LookupRecords → Type 0
-Lists options sets section = records_in section ≡ sets_records options sets
+-- one set is kept by itself, and a chain as several sets
+abbrev pub KeepsAnswers : LookupOptions → Answers → LookupRecords → Type 0
+KeepsAnswers options (one_set s) kept = kept ≡ section.Records options s
+KeepsAnswers options (chained sets) kept = KeepsMany options sets kept
 
--- a section that may be left out lists them, and is left out exactly where there are none
-abbrev pub MayList : LookupOptions → List RRset → Option LookupRecords → Type 0
-MayList options sets o = MatchOption o (sets ≡ []) (λ section. (sets ≢ []) × Lists options sets section)
+-- the additional sets are kept as several, and the section is left out exactly where there are none
+abbrev pub KeepsAdditionals : LookupOptions → List RRset → Option LookupRecords → Type 0
+KeepsAdditionals options sets o = MatchOption o (sets ≡ []) (λ kept. (sets ≢ []) × KeepsMany options sets kept)
 
--- an answer that has these sets in its sections
-abbrev pub HasSections : LookupOptions → List RRset → List RRset → AuthLookup → Type 0
-HasSections options sets more a = (answers : LookupRecords) × (additionals : Option LookupRecords) × (a ≡ answer.Records answers additionals) × Lists options sets answers × MayList options more additionals
+-- an answer with these two sections
+abbrev pub HasSections : LookupOptions → Answers → List RRset → AuthLookup → Type 0
+HasSections options answers more a = (kept : LookupRecords) × (additionals : Option LookupRecords) × (a ≡ answer.Records kept additionals) × KeepsAnswers options answers kept × KeepsAdditionals options more additionals
 
 -- an answer whose sections are those of a reply
 abbrev pub SaysAnswer : LookupOptions → (Reply → Type 0) → AuthLookup → Type 0
-SaysAnswer options IsTheReply a = (sets : List RRset) × (more : List RRset) × IsTheReply (answered sets more) × HasSections options sets more a
+SaysAnswer options IsTheReply a = (answers : Answers) × (more : List RRset) × IsTheReply (answered answers more) × HasSections options answers more a

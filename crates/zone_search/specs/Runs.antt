@@ -1,5 +1,5 @@
 -- Runs along names, of which each leads to the next
-use Rattle.std.specs.Prelude.{◌≡◌, Bool, cond, List, [], ◌∷◌, ◌++◌, Option, Some, MatchOption, IsTrue, IsFalse}
+use Rattle.std.specs.Prelude.{◌≡◌, ℕ, zero, suc, Bool, cond, List, [], ◌∷◌, ◌++◌, Option, Some, None, MatchOption, IsTrue, IsFalse}
 use Rattle.std.specs.List.{list_any}
 
 -- the names that a run searches, given those that were seen: none where no name is next or the next one was seen; else the next one, and then, with that name seen too, the names from where it leads
@@ -7,6 +7,12 @@ module _ {N : Type 0} (same : N → N → Bool) (next : N → Option N) where
   abbrev pub AreSearched : List N → Option N → List N → Type 0
   AreSearched seen p [] = MatchOption p (Unit {0}) (λ n. IsTrue (list_any (same n) seen))
   AreSearched seen p (n ∷ ns) = (p ≡ Some n) × IsFalse (list_any (same n) seen) × AreSearched (seen ++ n ∷ []) (next n) ns
+
+-- the names on the path from one on, k of them or all there are
+abbrev pub along : {N : Type 0} → (N → Option N) → ℕ → Option N → List N
+along next zero p = []
+along next (suc k) None = []
+along next (suc k) (Some n) = n ∷ along next k (next n)
 
 -- a list with one more element, unless it has an equal one
 abbrev pub with_new : {X : Type 0} → (X → X → Bool) → List X → X → List X

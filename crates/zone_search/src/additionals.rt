@@ -1,13 +1,14 @@
 // Additional records: what a client is likely to ask for next (RFC 1034 section 3.7).
-ghost use Rattle.std.specs.Prelude.{◌≡◌, ℕ, ◌||◌, ◌==◌, [], IfOk, OnOk, IsOkUnless, None, map, option_map};
-ghost use Rattle.std.specs.List.{list_any};
+ghost use Rattle.std.specs.Prelude.{◌≡◌, ℕ, ◌+◌, ◌*◌, ◌≤◌, ◌||◌, ◌==◌, [], IfOk, OnOk, IsOkUnless, None, length, map, option_map};
+ghost use Rattle.std.specs.List.{Contains, list_any};
 ghost use Rattle.zone_proto.specs.Names.{lower};
 ghost use Rattle.zone_proto.specs.Sets.{same_set};
 ghost use Rattle.zone_proto.specs.Types.{ANAME};
-ghost use Rattle.zone_search.specs.Additionals.{followed, next_name, run_target, names_host, AreAdditionals, AreSearches, IsFollowed};
+ghost use Rattle.zone_search.specs.Additionals.{followed, next_name, run_target, names_host, run_types, alias_sets, AreAdditionals, AreSearches, IsFollowed};
 ghost use Rattle.zone_search.specs.FoundSets.{found_set, listed_sets};
 ghost use Rattle.zone_search.specs.Runs.{with_new};
 ghost use Rattle.zone_map.specs.Search.{is_address};
+ghost use Rattle.zone_map.specs.Zones.{IsZone};
 ghost use Rattle.zone_search.specs.Searches.{searches_more};
 
 use crate::chain::{cname_target, push};
@@ -28,7 +29,7 @@ impl<S: Signer> InnerInMemory<S> {
     /// ANAME. It ends at a name that it has searched, or that has no set. An equal set is listed once.
     ///
     /// Each name that is searched adds one to `searches`: for each run at most one more than there are CNAME and ANAME sets
-    /// in the zone. `_search_type` isn't read. Refused by `Memory` alone.
+    /// in the zone, also where memory is refused on the way. `_search_type` isn't read. Refused by `Memory` alone.
     pub fn additional_search(
         &self,
         original_name: &LowerName,
@@ -41,8 +42,11 @@ impl<S: Signer> InnerInMemory<S> {
         ensures additionals { IfOk result (λ sets. AreAdditionals self.now.records lookup_options.dnssec_ok original_name.now original_type.0 next_name (listed_sets sets)) }
         ensures none { IfOk result (λ sets. listed_sets sets ≡ [] → sets ≡ None) }
         ensures counted { IfOk result (λ _. (k : ℕ) × AreSearches self.now.records lookup_options.dnssec_ok original_name.now original_type.0 next_name k × (searches.new ≡ searches_more k searches.old)) }
+        ensures at_most { searches.new ≤ searches.old + length (run_types original_type.0) * (1 + alias_sets self.now.records) }
         ensures err { IsOkUnless result LookupError.Memory }
     {
+        // Its clause says that these are the sets of a zone.
+        let _ = self.as_map();
         let alloc = next_name.alloc();
         let mut sets = Vec::new(alloc);
         let mut seen = Vec::new(alloc);
@@ -94,6 +98,7 @@ impl<S: Signer> InnerInMemory<S> {
     ) -> Result<(), LookupError>
         ensures followed { IfOk result (λ _.
             IsFollowed self.now.records lookup_options.dnssec_ok seen.items search_type.0 from (map found_set sets.old.items) (map found_set sets.new.items) searches.old searches.new) }
+        ensures at_most { IsZone self.now.records → (u : ℕ) → Contains (run_types u) search_type.0 → searches.new ≤ searches.old + (1 + alias_sets self.now.records) }
         ensures err { IsOkUnless result LookupError.Memory }
     {
         let mut name = from;

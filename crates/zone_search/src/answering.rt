@@ -4,7 +4,7 @@ ghost use Rattle.zone_proto.specs.Sets.{RRset};
 ghost use Rattle.zone_handler.specs.declared.lookup_records.LookupRecords.{LookupRecords as Section};
 ghost use Rattle.zone_search.specs.Flattening.{last_set, alone, beside};
 ghost use Rattle.zone_search.specs.FoundSets.{found_set};
-ghost use Rattle.zone_search.specs.Replies.{is_followed, AreFrom, IsAnswer, HasSections, MayList, SaysAnswer};
+ghost use Rattle.zone_search.specs.Replies.{one_set, chained, is_followed, AreFrom, IsAnswer, HasSections, KeepsAdditionals, SaysAnswer};
 ghost use Rattle.zone_signing.specs.Signatures.{answer_signatures};
 
 use crate::additionals::next_name;
@@ -16,6 +16,8 @@ use crate::searches::Searches;
 use zone_handler::{AuthLookup, LookupError, LookupOptions, LookupRecords};
 use zone_proto::{LowerName, ProtoError, RecordSet, RecordType, Signer};
 
+/// What `zone_in_memory` makes a zone of: no user of a zone needs it.
+#[doc(hidden)]
 impl<S: Signer> InnerInMemory<S> {
     /// The answer to a query of `name` and `record_type` by `found`, the set that was found for it: the chain from an alias,
     /// unless aliases are asked for, and else the set alone, which is flattened if it is an ANAME set and addresses are asked
@@ -57,7 +59,7 @@ impl<S: Signer> InnerInMemory<S> {
         searches: &mut Searches,
     ) -> Result<AuthLookup, LookupError>
         ensures answer { IfOk result (λ answer. (more : List RRset) × AreFrom self.now.records lookup_options.dnssec_ok name.now record_type.0 (Some set) more
-            × HasSections lookup_options (alone (answer_signatures S.signature_of now lookup_options.dnssec_ok self.now.signers) record_type.0 set (last_set more) ∷ []) (beside record_type.0 (Some set) more) answer) }
+            × HasSections lookup_options (one_set (alone (answer_signatures S.signature_of now lookup_options.dnssec_ok self.now.signers) record_type.0 set (last_set more))) (beside record_type.0 (Some set) more) answer) }
         ensures err { IsOkUnless result LookupError.Memory }
     {
         let mut more = self.sets_from(name, record_type, &set, lookup_options, searches)?;
@@ -85,7 +87,7 @@ impl<S: Signer> InnerInMemory<S> {
         searches: &mut Searches,
     ) -> Result<AuthLookup, LookupError>
         ensures answer { IfOk result (λ answer. (more : List RRset) × AreFrom self.now.records lookup_options.dnssec_ok name.now record_type.0 (last_set chain.items) more
-            × HasSections lookup_options chain.items (beside record_type.0 (last_set chain.items) more) answer) }
+            × HasSections lookup_options (chained chain.items) (beside record_type.0 (last_set chain.items) more) answer) }
         ensures err { IsOkUnless result LookupError.Memory }
     {
         let mut more = Vec::new(name.alloc());
@@ -141,7 +143,7 @@ fn with_additionals(
     answers: LookupRecords,
     more: Vec<RecordSet>,
 ) -> AuthLookup
-    ensures { (additionals : Option Section) × (result ≡ AuthLookup.Records answers additionals) × MayList lookup_options more.items additionals }
+    ensures { (additionals : Option Section) × (result ≡ AuthLookup.Records answers additionals) × KeepsAdditionals lookup_options more.items additionals }
 {
     if more.is_empty() {
         return AuthLookup::answers(answers, None);

@@ -62,19 +62,6 @@ impl<S: Signer> InnerInMemory<S> {
         }
     }
 
-    /// These record sets, and no signers. What is put in later takes its memory from `alloc`; this takes none.
-    pub fn with_records(alloc: Global, records: RecordMap) -> Self
-        ensures value { result ≡ record { records = records; signers = [] } }
-        ensures zone { IsZone records }
-    {
-        // Its clause says that these are the sets of a zone.
-        let _ = records.as_map();
-        InnerInMemory {
-            records,
-            signers: Vec::new(alloc),
-        }
-    }
-
     /// Takes a record into the set of its owner name and type, or makes that set.
     ///
     /// `serial` is the zone's serial, which the set keeps when it takes the record, and `dns_class` the
@@ -159,6 +146,45 @@ impl<S: Signer> InnerInMemory<S> {
         Ok(closest::closest_nsec(&self.records, name)?)
     }
 
+    /// The signers, in the order in which they were added.
+    pub fn signers(&self) -> &[S]
+        ensures { result.now ≡ self.now.signers }
+    {
+        self.signers.as_slice()
+    }
+
+    /// The record sets by their keys, in the order of the keys.
+    pub fn as_map(&self) -> &BTreeMap<RrKey, RecordSet>
+        ensures entries { result.now.entries ≡ self.now.records }
+        ensures zone { IsZone self.now.records }
+    {
+        self.records.as_map()
+    }
+
+    /// The set that stands under `key`; None where none does.
+    pub fn get(&self, key: &RrKey) -> Option<&RecordSet>
+        ensures { option_copied result ≡ set_at self.now.records key.now.name key.now.record_type.0 }
+    {
+        self.records.get(key)
+    }
+}
+
+/// What `zone_in_memory` makes a zone of: no user of a zone needs it.
+#[doc(hidden)]
+impl<S: Signer> InnerInMemory<S> {
+    /// These record sets, and no signers. What is put in later takes its memory from `alloc`; this takes none.
+    pub fn with_records(alloc: Global, records: RecordMap) -> Self
+        ensures value { result ≡ record { records = records; signers = [] } }
+        ensures zone { IsZone records }
+    {
+        // Its clause says that these are the sets of a zone.
+        let _ = records.as_map();
+        InnerInMemory {
+            records,
+            signers: Vec::new(alloc),
+        }
+    }
+
     /// The NSEC sets that deny `name` in the zone of `origin`, lent out of the zone; see [`denial::nsec_denial`]. Refused by
     /// `Memory` alone.
     pub fn nsec_denial(
@@ -226,28 +252,6 @@ impl<S: Signer> InnerInMemory<S> {
                 Err(error)
             }
         }
-    }
-
-    /// The signers, in the order in which they were added.
-    pub fn signers(&self) -> &[S]
-        ensures { result.now ≡ self.now.signers }
-    {
-        self.signers.as_slice()
-    }
-
-    /// The record sets by their keys, in the order of the keys.
-    pub fn as_map(&self) -> &BTreeMap<RrKey, RecordSet>
-        ensures entries { result.now.entries ≡ self.now.records }
-        ensures zone { IsZone self.now.records }
-    {
-        self.records.as_map()
-    }
-
-    /// The set that stands under `key`; None where none does.
-    pub fn get(&self, key: &RrKey) -> Option<&RecordSet>
-        ensures { option_copied result ≡ set_at self.now.records key.now.name key.now.record_type.0 }
-    {
-        self.records.get(key)
     }
 
     /// Whether `name`, or a name below it, owns a set. Refused by `Memory` alone.

@@ -1,6 +1,6 @@
 //! Laws of the definitions of additional records. Each is an empty function whose contract is the law, so a program has no
 //! need to call one.
-ghost use Rattle.zone_search.specs.AdditionalLaws.{OneRun, NoNameTwice, RunIsShort, SearchesAreFew, OneList};
+ghost use Rattle.zone_search.specs.AdditionalLaws.{OneRun, NoNameTwice, RunIsLongestFront, RunIsShort, SearchesAreFew, OneList};
 
 /// A run of an additional search searches exactly one list of names: no name twice, and none that was seen before. They are
 /// at most one more than the zone has CNAME and ANAME sets.
@@ -9,6 +9,12 @@ pub fn runs_end()
     ensures distinct { NoNameTwice }
     ensures at_most { RunIsShort }
     ensures together { SearchesAreFew }
+{}
+
+/// However far the first targets from a name on are followed, a run searches the longest front of them in which no name
+/// comes twice and none was seen before the run began.
+pub fn run_is_longest_front()
+    ensures { RunIsLongestFront }
 {}
 
 /// A query has exactly one list of additional sets.

@@ -11,7 +11,7 @@ use Rattle.zone_proto.specs.Signing.{SignedPart}
 use Rattle.zone_proto.specs.Stepping.{stepped}
 use Rattle.zone_proto.specs.Types.{SOA}
 use Rattle.zone_proto.proofs.KeyOrder.{key_itself}
-use Rattle.zone_map.specs.Renewals.{renewed}
+use Rattle.zone_map.specs.Renewals.{with_signatures, stepped_under}
 use Rattle.zone_map.specs.Zones.{Sets, set_at}
 use Rattle.zone_signing.specs.Signatures.{signatures}
 use Rattle.zone_signing.specs.Secured.{SetsBy, bare, signed, secured_set, IsSecured, KeepsRecords}
@@ -24,16 +24,27 @@ module _ {S : Type 0} (signature_of : S → SignedPart → ℕ → ℕ → Optio
   signed_next k s next made e n m =
       m ∙ ap (signatures signature_of now signers) n ∙ ap (λ (b : Bool). signatures signature_of now signers (if b then stepped s else s)) (sym e)
 
-  -- sets with the next serial and the signatures of all are the sets secured
-  all_renewed : (es : Sets) → renewed apex es (map (λ (e : RrKey × RRset). (secured_set signature_of now apex signers e.0 e.1).signatures) es) ≡ changed (secured_set signature_of now apex signers) es
+  -- the signatures that a set under its key has once it is secured
+  abbrev own : RrKey × RRset → List Record
+  own e = (secured_set signature_of now apex signers e.0 e.1).signatures
+
+  -- sets with these, of which the zone's SOA then gets the next serial, are the sets secured
+  all_renewed : (es : Sets) → stepped_under apex (with_signatures es (map own es)) ≡ changed (secured_set signature_of now apex signers) es
   all_renewed [] = refl
-  all_renewed (e ∷ es) = ap (λ (rest : Sets). (e.0, secured_set signature_of now apex signers e.0 e.1) ∷ rest) (all_renewed es)
+  all_renewed (e ∷ es) =
+      ap (λ (s : RRset). (e.0, s) ∷ stepped_under apex (with_signatures es (map own es))) (by (key_eq apex e.0))
+      ∙ ap (λ (rest : Sets). (e.0, secured_set signature_of now apex signers e.0 e.1) ∷ rest) (all_renewed es)
+    where
+      by : (b : Bool) → let next : RRset = if b then stepped e.1 else e.1 in
+          let made = signatures signature_of now signers next in
+          (if b then stepped (record e.1 { signatures = made }) else record e.1 { signatures = made }) ≡ signed signature_of now signers next
+      by true = refl
+      by false = refl
 
   -- so each is found secured
-  pub each_renewed : (es after : Sets) (made : List (List Record)) → made ≡ map (λ (e : RrKey × RRset). (secured_set signature_of now apex signers e.0 e.1).signatures) es → after ≡ renewed apex es made
+  pub each_renewed : (es after : Sets) → after ≡ stepped_under apex (with_signatures es (map (λ (e : RrKey × RRset). (secured_set signature_of now apex signers e.0 e.1).signatures) es))
       → (n : Name) (t : ℕ) → set_at after n t ≡ option_map (secured_set signature_of now apex signers (key n t)) (set_at es n t)
-  each_renewed es after made all is n t =
-      ap (λ (m : Sets). set_at m n t) (is ∙ ap (renewed apex es) all ∙ all_renewed es) ∙ lookup-changed (secured_set signature_of now apex signers) (key n t) es
+  each_renewed es after is n t = ap (λ (m : Sets). set_at m n t) (is ∙ all_renewed es) ∙ lookup-changed (secured_set signature_of now apex signers) (key n t) es
 
 -- a zone that is secured keeps its records
 pub IsSecured-keeps : {S : Type 0} (signature_of : S → SignedPart → ℕ → ℕ → Option RRSIG) (now : ℕ) (origin : Name) (signers : List S) (sets : SetsBy) (after : Sets)

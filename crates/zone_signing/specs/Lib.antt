@@ -1,3 +1,2 @@
 pub mod Signatures
-pub mod Handing
 pub mod Secured

@@ -1,11 +1,11 @@
 //! The record sets of a zone as they are once it is secured.
-ghost use Rattle.std.specs.Prelude.{◌≡◌, ℕ, [], ◌++◌, IfOk, OnOk, OnErr, IsOkUnless, option_map, map};
+ghost use Rattle.std.specs.Prelude.{◌≡◌, ℕ, List, [], ◌++◌, IfOk, OnOk, OnErr, IsOkUnless, option_map, map};
+ghost use Rattle.zone_proto.specs.declared.record.Record.{Record as Signature};
 ghost use Rattle.zone_proto.specs.Keys.{key as key_at};
 ghost use Rattle.zone_proto.specs.Names.{Name};
 ghost use Rattle.zone_proto.specs.Types.{SOA};
-ghost use Rattle.zone_map.specs.Renewals.{handed};
+ghost use Rattle.zone_map.specs.Renewals.{IsHanded, AreHanded};
 ghost use Rattle.zone_map.specs.Zones.{set_at, IsStoredAt, IsZone};
-ghost use Rattle.zone_signing.specs.Handing.{IsHanded};
 ghost use Rattle.zone_signing.specs.Secured.{bare, stays, unsigned_at, secured_set, IsSecured};
 
 use crate::signatures::add_signatures;
@@ -72,7 +72,7 @@ fn all_signatures<S: Signer>(
     signers: &[S],
     now: u64,
 ) -> Result<(Vec<Option<Rrsigs>>, Rrsigs), ProtoError>
-    ensures ok { IfOk result (λ made. handed made.0.items made.1 zone.now ≡ map (λ e. (secured_set S.signature_of now apex.now signers.now e.0 e.1).signatures) zone.now) }
+    ensures ok { IfOk result (λ made. AreHanded zone.now (map (λ e. (secured_set S.signature_of now apex.now signers.now e.0 e.1).signatures) zone.now) made.0.items made.1) }
     ensures err { IsOkUnless result ProtoError.Memory }
 {
     let alloc = apex.name.alloc();
@@ -97,7 +97,7 @@ fn sign_under<S: Signer>(
     now: u64,
 ) -> Result<Option<Rrsigs>, ProtoError>
     requires { IsStoredAt key.now.name key.now.record_type.0 set.now }
-    ensures ok { IfOk result (λ list. IsHanded set.now exchanged.old (secured_set S.signature_of now apex.now signers.now key.now set.now).signatures list exchanged.new) }
+    ensures ok { IfOk result (λ list. (part : List Signature) × (exchanged.new ≡ exchanged.old ++ part) × IsHanded set.now (secured_set S.signature_of now apex.now signers.now key.now set.now).signatures list part) }
     ensures err { IsOkUnless result ProtoError.Memory }
 {
     let start = exchanged.len();

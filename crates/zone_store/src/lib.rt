@@ -21,6 +21,5 @@ pub mod program {
     pub use zone_program::{DemoSigner, Sha1Hash, run};
 }
 
-pub use zone_in_memory::laws;
-pub use zone_in_memory::{InMemoryZoneHandler, PutRefused};
+pub use zone_in_memory::{InMemoryZoneHandler, PutRefused, laws};
 pub use zone_search::{Found, InnerInMemory, Searches, ZoneError};

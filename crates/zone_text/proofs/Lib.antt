@@ -6,7 +6,6 @@ pub mod Ascii
 pub mod ReadingFacts
 pub mod RoundTrips
 pub mod AddressTexts
-pub mod Base32Facts
 pub mod PrintedWords
 pub mod PrintedRecords
 mod TextExamples

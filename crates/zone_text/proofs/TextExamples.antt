@@ -1,33 +1,11 @@
--- Printed texts, computed by their definitions: base32hex from RFC 4648 section 10, in lower case and without padding, and
--- the others by hand.
+-- Printed texts, computed by their definitions
 use Rattle.std.proofs.Common.{◌≡◌, [], ◌∷◌, codes, refl}
 use Rattle.std.specs.Fmt.{digits}
 use Rattle.zone_proto.specs.declared.rdata.RData.TheVariants as V
-use Rattle.zone_text.specs.Octets.{hex_text, base32_text}
+use Rattle.zone_text.specs.Octets.{hex_text}
 use Rattle.zone_text.specs.Printing.{data_text, record_text}
 use Rattle.zone_text.specs.Words.{words}
 use Rattle.zone_text.specs.Readable.{without_class}
-
-no_octets : base32_text [] ≡ []
-no_octets = refl
-
-one_octet : base32_text (codes "f") ≡ codes "co"
-one_octet = refl
-
-two_octets : base32_text (codes "fo") ≡ codes "cpng"
-two_octets = refl
-
-three_octets : base32_text (codes "foo") ≡ codes "cpnmu"
-three_octets = refl
-
-four_octets : base32_text (codes "foob") ≡ codes "cpnmuog"
-four_octets = refl
-
-five_octets : base32_text (codes "fooba") ≡ codes "cpnmuoj1"
-five_octets = refl
-
-six_octets : base32_text (codes "foobar") ≡ codes "cpnmuoj1e8"
-six_octets = refl
 
 hex : hex_text (0 ∷ 10 ∷ 255 ∷ []) ≡ codes "000aff"
 hex = refl

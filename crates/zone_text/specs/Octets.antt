@@ -1,7 +1,7 @@
 -- How octets are printed
-use Rattle.std.specs.Prelude.{ℕ, ◌+◌, ◌-◌, ◌*◌, ◌/◌, ◌%◌, ◌^◌, List, [], ◌∷◌, length, map, slice_index}
+use Rattle.std.specs.Prelude.{ℕ, ◌/◌, ◌%◌, List, [], ◌∷◌}
 use Rattle.std.specs.Char.{digit_char}
-use Rattle.std.specs.List.{flat_map, range_with_len}
+use Rattle.std.specs.List.{flat_map}
 
 -- an octet in hex: two digits, the high one first, letters in lower case
 abbrev pub hex_of_octet : ℕ → List ℕ
@@ -11,16 +11,3 @@ hex_of_octet b = digit_char (b / 16) ∷ digit_char (b % 16) ∷ []
 abbrev pub hex_text : List ℕ → List ℕ
 hex_text [] = 45 ∷ []
 hex_text (b ∷ bs) = flat_map hex_of_octet (b ∷ bs)
-
--- the number of five bits of octets from this bit on, the first the highest; zero bits follow the last octet
-abbrev pub five_bits : List ℕ → ℕ → ℕ
-five_bits bs i = (slice_index bs (i / 8) * 256 + slice_index bs (i / 8 + 1)) / 2 ^ (11 - i % 8) % 32
-
--- how many characters of five bits so many octets take
-abbrev pub base32_count : ℕ → ℕ
-base32_count n = (n * 8 + 4) / 5
-
--- octets in base32hex: five bits a character from the highest on, the last one filled with zero bits, in lower case and
--- without padding (RFC 4648 section 7)
-abbrev pub base32_text : List ℕ → List ℕ
-base32_text bs = map (λ i. digit_char (five_bits bs (i * 5))) (range_with_len 0 (base32_count (length bs)))

@@ -2,6 +2,7 @@
 use Rattle.std.specs.Prelude.{ℕ, ◌++◌, List, [], ◌∷◌, Bool, if◌then◌else◌}
 use Rattle.std.specs.Fmt.{decimal, signed_decimal}
 use Rattle.std.specs.List.{flat_map}
+use Rattle.zone_proto.specs.Base32.{base32_text}
 use Rattle.zone_proto.specs.declared.record_type.RecordType.{RecordType}
 use Rattle.zone_proto.specs.declared.rdata.RData.{RData}
 use Rattle.zone_proto.specs.declared.rdata.RData.TheVariants as V
@@ -9,7 +10,7 @@ use Rattle.zone_proto.specs.declared.record.Record.{Record}
 use Rattle.zone_proto.specs.Data.{type_of}
 use Rattle.zone_proto.specs.Text.{name_text}
 use Rattle.zone_proto.specs.TypeText.{type_text, class_text}
-use Rattle.zone_text.specs.Octets.{hex_text, base32_text}
+use Rattle.zone_text.specs.Octets.{hex_text}
 use Rattle.zone_text.specs.Parts.{joined}
 use Rattle.zone_text.specs.Addresses.{ipv4_text, ipv6_text}
 

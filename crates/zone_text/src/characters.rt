@@ -1,9 +1,9 @@
 ghost use Rattle.std.specs.Prelude.{◌≡◌, ◌<◌};
 ghost use Rattle.std.specs.Char.{digit_char};
 
-/// The character of a digit of base 32 at most: from `0` to `9` and then from `a` to `v`.
+/// The character of a hex digit: from `0` to `9` and then from `a` to `f`.
 pub(crate) fn digit_character(digit: u8) -> char
-    requires { digit < 32 }
+    requires { digit < 16 }
     ensures { result ≡ digit_char digit }
 {
     if digit < 10 {

@@ -2,10 +2,9 @@ ghost use Rattle.std.specs.Prelude.{Some};
 ghost use Rattle.zone_text.specs.Printing.{data_text, types_text};
 
 use crate::address_text::{Ipv4Text, Ipv6Text};
-use crate::base32_text::Base32Text;
 use crate::hex_text::HexText;
 use std::fmt;
-use zone_proto::{DNSKEY, NSEC, NSEC3, NSEC3PARAM, RData, RRSIG, RecordType, SOA, SRV};
+use zone_proto::{Base32Text, DNSKEY, NSEC, NSEC3, NSEC3PARAM, RData, RRSIG, RecordType, SOA, SRV};
 
 /// The data of a record as text: their parts in the order of the type's standard, with single spaces between them, octets in
 /// hex, and the hash of an NSEC3 in base32hex. `read_data` reads this as the same data, of each type that it reads, unless a

@@ -7,7 +7,6 @@
 
 mod address_text;
 mod addresses;
-mod base32_text;
 mod characters;
 mod data;
 mod data_text;
@@ -23,7 +22,6 @@ mod record_text;
 mod words;
 
 pub use addresses::{read_ipv4, read_ipv6};
-pub use base32_text::Base32Text;
 pub use data::read_data;
 pub use data_text::DataText;
 pub use error::TextError;

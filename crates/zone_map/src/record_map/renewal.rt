@@ -1,10 +1,9 @@
 // The sets of the record map with new signatures, in place.
-ghost use Rattle.std.specs.Prelude.{◌≡◌, ◌∷◌, List, length, drop};
+ghost use Rattle.std.specs.Prelude.{◌≡◌, ◌∷◌, ◌++◌, List, Option, drop};
 ghost use Rattle.std.specs.Vec.Iter.{into_iter_items};
 ghost use Rattle.zone_proto.specs.declared.record.Record.{Record as Signature};
-ghost use Rattle.zone_proto.specs.declared.rr_key.RrKey.{RrKey as Key};
-ghost use Rattle.zone_map.specs.Renewals.{with_signatures, renewed, handed};
-ghost use Rattle.zone_map.specs.Zones.{Sets, IsZone};
+ghost use Rattle.zone_map.specs.Renewals.{with_signatures, stepped_under, IsHanded, AreHanded};
+ghost use Rattle.zone_map.specs.Zones.{IsZone};
 
 use crate::record_map::RecordMap;
 use std::collections::BTreeMap;
@@ -16,8 +15,8 @@ impl RecordMap {
     /// each set, or none for one that has as many signatures as it gets, which are exchanged with the next ones of
     /// `exchanged`. The set under `apex` has its serial stepped as [`RecordSet::step_serial`] says. Takes no memory.
     pub fn renew(&mut self, apex: &RrKey, lists: Vec<Option<Rrsigs>>, exchanged: Rrsigs)
-        requires { length (handed lists.items exchanged self.old) ≡ length self.old }
-        ensures sets { self.new ≡ renewed apex.now self.old (handed lists.items exchanged self.old) }
+        requires { (made : List (List Signature)) × AreHanded self.old made lists.items exchanged }
+        ensures sets { (made : List (List Signature)) → AreHanded self.old made lists.items exchanged → self.new ≡ stepped_under apex.now (with_signatures self.old made) }
         ensures zone { IsZone self.new }
     {
         put_signatures(&mut self.sets, lists, exchanged);
@@ -34,8 +33,7 @@ fn put_signatures(
     lists: Vec<Option<Rrsigs>>,
     mut exchanged: Rrsigs,
 )
-    requires { length (handed lists.items exchanged sets.old.entries) ≡ length sets.old.entries }
-    ensures { sets.new.entries ≡ with_signatures sets.old.entries (handed lists.items exchanged sets.old.entries) }
+    ensures { (made : List (List Signature)) → AreHanded sets.old.entries made lists.items exchanged → sets.new.entries ≡ with_signatures sets.old.entries made }
 {
     let mut left = lists.into_iter();
     let mut next = 0;
@@ -52,8 +50,9 @@ fn put_next(
     exchanged: &mut Rrsigs,
     next: &mut usize,
 )
-    ensures { (k : Key) (es : Sets) (x : List Signature) (xs : List (List Signature)) → handed (into_iter_items left.old) (drop next.old exchanged.old) ((k, set.old) ∷ es) ≡ x ∷ xs
-        → (set.new ≡ record set.old { signatures = x }) × (handed (into_iter_items left.new) (drop next.new exchanged.new) es ≡ xs) }
+    ensures { (signatures part rest : List Signature) (list : Option (List Signature)) (lists : List (Option (List Signature)))
+        → into_iter_items left.old ≡ list ∷ lists → drop next.old exchanged.old ≡ part ++ rest → IsHanded set.old signatures list part
+        → (set.new ≡ record set.old { signatures = signatures }) × (into_iter_items left.new ≡ lists) × (drop next.new exchanged.new ≡ rest) }
 {
     match left.next() {
         Some(Some(list)) => set.replace_rrsigs(list),

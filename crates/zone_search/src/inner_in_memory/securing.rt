@@ -16,6 +16,8 @@ use zone_map::RecordMap;
 use zone_proto::{NxProofKind, ProtoError, RecordType, RrKey, Signer};
 use zone_signing::securing;
 
+/// What `zone_in_memory` makes a zone of: no user of a zone needs it.
+#[doc(hidden)]
 impl<S: Signer> InnerInMemory<S> {
     /// Secures the record sets of the zone whose SOA stands under `apex`, and which is denied as `kind` says: makes its NSEC
     /// sets where it is to have some, steps its serial, and signs its sets at the moment `now`, in seconds since 1970.

@@ -1,11 +1,13 @@
-use Rattle.std.proofs.Common.{◌≡◌, ◌==◌, true, ap, sym, ◌∙◌, subst, map, [], ◌∷◌, ◌++◌}
+use Rattle.std.proofs.Common.{◌≡◌, ◌==◌, ◌+◌, ◌*◌, ◌≤◌, arith, length, ℕ, true, ap, sym, ◌∙◌, subst, map, [], ◌∷◌, ◌++◌}
 use Rattle.std.specs.declared.alloc.Global.{Global}
 use Rattle.std.specs.declared.vec.Vec.{Vec}
 use Rattle.zone_search.specs.declared.found.Found.{Found}
+use Rattle.zone_proto.specs.Types.{ANAME}
 use Rattle.zone_proto.proofs.Members.{no_items}
 use Rattle.zone_search.specs.FoundSets.{found_set}
 use Rattle.zone_search.proofs.AdditionalRuns.{two_runs, one_run, two_listed, one_listed}
-use Rattle.zone_search.specs.Additionals.{AreAdditionals}
+use Rattle.zone_search.proofs.AdditionalLaws.{first_of_hosts, second_of_hosts, own_type, two_made, one_made}
+use Rattle.zone_search.specs.Additionals.{run_types, alias_sets, AreAdditionals}
 use Rattle.zone_search.proofs.inner_in_memory.InnerInMemory.additional_search.Goals as goal
 use Rattle.zone_search.proofs.inner_in_memory.InnerInMemory.additional_search.Goals.{then-names_host+in_ok-from+in_ok-follow+in_ok-follow-2, else-names_host+in_ok-clone+in_ok-push+in_ok-follow-3}
 
@@ -73,4 +75,50 @@ returns-then-is_empty-clause-additionals g c =
           (w.in_ok-push.ensures.ok ∙ ap (λ xs. xs ++ w.in_ok-clone.field-0 ∷ []) c.new-seen.ensures.items ∙ ap (λ x. x ∷ []) w.in_ok-clone.ensures.ok)
           (ap (map found_set) c.new-sets.ensures.items)
           w.in_ok-follow-3.ensures.followed)
+    ]
+
+pub returns-in_err-follow-clause-at_most : goal.returns-in_err-follow-clause-at_most
+returns-in_err-follow-clause-at_most g c =
+    two_made c.args.original_type.0 c.args.searches.now c.follow.new.searches (1 + alias_sets c.args.self.now.records) c.args.searches.now (sym c.names_host.ensures ∙ c.if-names_host.true)
+    (omega arith) (c.follow.ensures.at_most c.as_map.ensures.zone ANAME first_of_hosts)
+
+pub returns-in_err-follow-2-clause-at_most : goal.returns-in_err-follow-2-clause-at_most
+returns-in_err-follow-2-clause-at_most g c =
+    two_made c.args.original_type.0 c.args.searches.now c.follow-then-names_host.new.searches (1 + alias_sets c.args.self.now.records) c.follow.new.searches (sym c.names_host.ensures ∙ c.if-names_host.true)
+    (c.follow.ensures.at_most c.as_map.ensures.zone ANAME first_of_hosts) (c.follow-then-names_host.ensures.at_most c.as_map.ensures.zone ANAME second_of_hosts)
+
+pub returns-in_err-follow-3-clause-at_most : goal.returns-in_err-follow-3-clause-at_most
+returns-in_err-follow-3-clause-at_most g c =
+    let none = sym c.names_host.ensures ∙ c.if-names_host.false in
+    one_made c.args.original_type.0 c.args.searches.now c.follow-else-names_host.new.searches (1 + alias_sets c.args.self.now.records) none
+    (c.follow-else-names_host.ensures.at_most c.as_map.ensures.zone c.args.original_type.0 (own_type c.args.original_type.0 none))
+
+pub returns-then-is_empty-clause-at_most : goal.returns-then-is_empty-clause-at_most
+returns-then-is_empty-clause-at_most g c =
+    let few : ℕ = 1 + alias_sets c.args.self.now.records in
+    let t = c.args.original_type.0 in
+    elim c.if-names_host.branch [
+      | then-names_host+in_ok-from+in_ok-follow+in_ok-follow-2 w ↦
+          subst (λ after. after ≤ c.args.searches.now + length (run_types t) * few) (sym w.searches-is)
+          (two_made t c.args.searches.now w.follow-then-names_host.new.searches few w.follow.new.searches (sym c.names_host.ensures ∙ w.if-names_host.true)
+          (w.follow.ensures.at_most c.as_map.ensures.zone ANAME first_of_hosts) (w.follow-then-names_host.ensures.at_most c.as_map.ensures.zone ANAME second_of_hosts))
+      | else-names_host+in_ok-clone+in_ok-push+in_ok-follow-3 w ↦
+          let none = sym c.names_host.ensures ∙ w.if-names_host.false in
+          subst (λ after. after ≤ c.args.searches.now + length (run_types t) * few) (sym w.searches-is)
+          (one_made t c.args.searches.now w.follow-else-names_host.new.searches few none (w.follow-else-names_host.ensures.at_most c.as_map.ensures.zone t (own_type t none)))
+    ]
+
+pub returns-clause-at_most : goal.returns-clause-at_most
+returns-clause-at_most g c =
+    let few : ℕ = 1 + alias_sets c.args.self.now.records in
+    let t = c.args.original_type.0 in
+    elim c.if-names_host.branch [
+      | then-names_host+in_ok-from+in_ok-follow+in_ok-follow-2 w ↦
+          subst (λ after. after ≤ c.args.searches.now + length (run_types t) * few) (sym w.searches-is)
+          (two_made t c.args.searches.now w.follow-then-names_host.new.searches few w.follow.new.searches (sym c.names_host.ensures ∙ w.if-names_host.true)
+          (w.follow.ensures.at_most c.as_map.ensures.zone ANAME first_of_hosts) (w.follow-then-names_host.ensures.at_most c.as_map.ensures.zone ANAME second_of_hosts))
+      | else-names_host+in_ok-clone+in_ok-push+in_ok-follow-3 w ↦
+          let none = sym c.names_host.ensures ∙ w.if-names_host.false in
+          subst (λ after. after ≤ c.args.searches.now + length (run_types t) * few) (sym w.searches-is)
+          (one_made t c.args.searches.now w.follow-else-names_host.new.searches few none (w.follow-else-names_host.ensures.at_most c.as_map.ensures.zone t (own_type t none)))
     ]

@@ -29,7 +29,7 @@ returns-clause-answer g c =
           let some = sym (ap (λ k. k == 0) len) ∙ sym w.is_empty.ensures ∙ w.if-not-is_empty.true in (
             more,
             subst (λ o. AreFrom m signed n t o more) (sym last) w.in_ok-more.ensures.more,
-            has_many c.args.lookup_options chain (beside t (last_set chain) more) c.match-last.more.items c.many-answers.result section.0 c.with_additionals.result section.1 c.many-answers.ensures.records
+            has_many c.args.lookup_options chain (beside t (last_set chain) more) c.match-last.more.items c.many-answers.result section.0 c.with_additionals.result section.1 c.many-answers.ensures.kept
                 (ap (λ o. beside t o more) last ∙ stands_first (λ x. []) t s more stands some
                 ∙ sym (ap (λ (v : Vec RRset Global). v.items) w.more-is ∙ w.in_ok-put_first.ensures.ok ∙ ap (λ (x : RRset). x ∷ more) w.in_ok-clone.ensures.ok))
                 section.2,
@@ -41,7 +41,7 @@ returns-clause-answer g c =
           let last = value ∙ ap option_copied w.in-Some.is in (
             more,
             subst (λ o. AreFrom m signed n t o more) (sym last) w.in_ok-more.ensures.more,
-            has_many c.args.lookup_options chain (beside t (last_set chain) more) c.match-last.more.items c.many-answers.result section.0 c.with_additionals.result section.1 c.many-answers.ensures.records
+            has_many c.args.lookup_options chain (beside t (last_set chain) more) c.match-last.more.items c.many-answers.result section.0 c.with_additionals.result section.1 c.many-answers.ensures.kept
                 (ap (λ o. beside t o more) last
                 ∙ elim w.else-stands_for_addresses.branch [
                   | else-stands_for_addresses-via-then-stands_for_addresses+else-not-is_empty w' ↦ nothing_beside (λ x. []) t s more (no_length more (sym (ap (λ k. k == 0) len) ∙ sym w'.is_empty.ensures ∙ w'.if-not-is_empty.false))
@@ -55,7 +55,7 @@ returns-clause-answer g c =
           let none = value ∙ ap option_copied (no_value c.last.result w.in_default.not-Some) in (
             more,
             subst (λ o. AreFrom m signed n t o more) (sym none) c.new-more.ensures.items,
-            has_many c.args.lookup_options chain (beside t (last_set chain) more) c.match-last.more.items c.many-answers.result section.0 c.with_additionals.result section.1 c.many-answers.ensures.records
+            has_many c.args.lookup_options chain (beside t (last_set chain) more) c.match-last.more.items c.many-answers.result section.0 c.with_additionals.result section.1 c.many-answers.ensures.kept
                 (ap (λ o. beside t o more) none ∙ sym (ap (λ (v : Vec RRset Global). v.items) w.more-is))
                 section.2,
           )

@@ -1,12 +1,10 @@
-use Rattle.std.proofs.Common.{ap, sym, ◌∙◌, refl, map}
-use Rattle.std.specs.Prelude.{option_map}
-use Rattle.std.specs.List.{list_any}
-use Rattle.std.specs.Ordering.{eq_by_cmp}
-use Rattle.zone_proto.specs.Names.{name_cmp}
+use Rattle.std.proofs.Common.{true, false, ap, sym, ◌∙◌, refl, map}
+use Rattle.std.specs.Prelude.{Some, option_map}
 use Rattle.zone_search.specs.Additionals.{run_target}
 use Rattle.zone_search.specs.FoundSets.{found_set}
-use Rattle.zone_search.proofs.Chasing.{asked, no_value}
-use Rattle.zone_search.proofs.AdditionalRuns.{goes_on, smaller, ends_seen, ends_unfound, ends_nowhere}
+use Rattle.zone_search.proofs.Chasing.{no_value}
+use Rattle.zone_search.proofs.AdditionalRuns.{goes_on, smaller, turned, not_turned, ends_seen, ends_unfound, ends_nowhere, told}
+use Rattle.zone_search.proofs.AdditionalLaws.{short_run}
 use Rattle.zone_search.proofs.inner_in_memory.InnerInMemory.follow.Goals as goal
 
 pub returns-in_default-clause-followed : goal.returns-in_default-clause-followed
@@ -15,8 +13,7 @@ returns-in_default-clause-followed g c =
     c.args.self.now.records c.args.lookup_options.dnssec_ok c.args.search_type.0 c.args.seen.items c.args.from (map found_set c.args.sets.now.items) c.args.searches.now
     (map found_set c.loop-search_type.sets.items) (map found_set c.loop-search_type.sets.items) c.loop-search_type.seen.items c.loop-search_type.name c.loop-search_type.searches c.inner_lookup.new.searches
     c.loop-search_type.invariant
-    (sym (asked c.loop-search_type.name c.loop-search_type.seen.items)
-    ∙ ap (list_any (λ y. eq_by_cmp name_cmp y c.loop-search_type.name)) (sym c.deref.ensures.value) ∙ sym c.contains.ensures.value ∙ c.loop-search_type-test.true)
+    (told c.loop-search_type.name c.loop-search_type.seen.items c.deref.result.now c.contains.result false c.deref.ensures.value c.contains.ensures.value c.loop-search_type-test.true)
     c.inner_lookup.ensures.counted
     (sym c.in_ok-found.ensures.found ∙ ap (option_map found_set) (no_value c.in_ok-found.field-0 c.in_default.not-Some)) refl
 
@@ -26,8 +23,7 @@ returns-in_default-target-clause-followed g c =
     c.args.self.now.records c.args.lookup_options.dnssec_ok c.args.search_type.0 c.args.seen.items c.args.from (map found_set c.args.sets.now.items) c.args.searches.now
     (map found_set c.loop-search_type.sets.items) (map found_set c.list_new.new.sets.items) c.loop-search_type.seen.items c.loop-search_type.name c.loop-search_type.searches c.inner_lookup.new.searches
     c.loop-search_type.invariant
-    (sym (asked c.loop-search_type.name c.loop-search_type.seen.items)
-    ∙ ap (list_any (λ y. eq_by_cmp name_cmp y c.loop-search_type.name)) (sym c.deref.ensures.value) ∙ sym c.contains.ensures.value ∙ c.loop-search_type-test.true)
+    (told c.loop-search_type.name c.loop-search_type.seen.items c.deref.result.now c.contains.result false c.deref.ensures.value c.contains.ensures.value c.loop-search_type-test.true)
     c.inner_lookup.ensures.counted
     (found_set c.in-Some.found)
     (sym c.in_ok-found.ensures.found ∙ ap (option_map found_set) c.in-Some.is)
@@ -40,8 +36,7 @@ loop-search_type-smaller g c =
     c.args.self.now.records c.args.lookup_options.dnssec_ok c.args.search_type.0 c.args.seen.items c.args.from (map found_set c.args.sets.now.items) c.args.searches.now
     (map found_set c.loop-search_type.sets.items) (map found_set c.list_new.new.sets.items) c.loop-search_type.seen.items c.loop-search_type.name c.loop-search_type.searches c.inner_lookup.new.searches
     c.loop-search_type.invariant
-    (sym (asked c.loop-search_type.name c.loop-search_type.seen.items)
-    ∙ ap (list_any (λ y. eq_by_cmp name_cmp y c.loop-search_type.name)) (sym c.deref.ensures.value) ∙ sym c.contains.ensures.value ∙ c.loop-search_type-test.true)
+    (told c.loop-search_type.name c.loop-search_type.seen.items c.deref.result.now c.contains.result false c.deref.ensures.value c.contains.ensures.value c.loop-search_type-test.true)
     c.inner_lookup.ensures.counted
     (found_set c.in-Some.found) c.in-Some-target.next c.push.new.list.items c.in-Some-target.next
     (sym c.in_ok-found.ensures.found ∙ ap (option_map found_set) c.in-Some.is)
@@ -54,8 +49,7 @@ loop-search_type-preserved g c =
     c.args.self.now.records c.args.lookup_options.dnssec_ok c.args.search_type.0 c.args.seen.items c.args.from (map found_set c.args.sets.now.items) c.args.searches.now
     (map found_set c.loop-search_type.sets.items) (map found_set c.list_new.new.sets.items) c.loop-search_type.seen.items c.loop-search_type.name c.loop-search_type.searches c.inner_lookup.new.searches
     c.loop-search_type.invariant
-    (sym (asked c.loop-search_type.name c.loop-search_type.seen.items)
-    ∙ ap (list_any (λ y. eq_by_cmp name_cmp y c.loop-search_type.name)) (sym c.deref.ensures.value) ∙ sym c.contains.ensures.value ∙ c.loop-search_type-test.true)
+    (told c.loop-search_type.name c.loop-search_type.seen.items c.deref.result.now c.contains.result false c.deref.ensures.value c.contains.ensures.value c.loop-search_type-test.true)
     c.inner_lookup.ensures.counted
     (found_set c.in-Some.found) c.in-Some-target.next c.push.new.list.items c.in-Some-target.next
     (sym c.in_ok-found.ensures.found ∙ ap (option_map found_set) c.in-Some.is)
@@ -67,5 +61,71 @@ returns-clause-followed g c =
     ends_seen
     c.args.self.now.records c.args.lookup_options.dnssec_ok c.args.search_type.0 c.args.seen.items c.args.from (map found_set c.args.sets.now.items) c.args.searches.now
     (map found_set c.loop-search_type.sets.items) c.loop-search_type.seen.items c.loop-search_type.name c.loop-search_type.searches c.loop-search_type.invariant
-    (sym (asked c.loop-search_type.name c.loop-search_type.seen.items)
-    ∙ ap (list_any (λ y. eq_by_cmp name_cmp y c.loop-search_type.name)) (sym c.deref.ensures.value) ∙ sym c.contains.ensures.value ∙ c.loop-search_type-test.false)
+    (told c.loop-search_type.name c.loop-search_type.seen.items c.deref.result.now c.contains.result true c.deref.ensures.value c.contains.ensures.value c.loop-search_type-test.false)
+
+pub returns-in_err-found-clause-at_most : goal.returns-in_err-found-clause-at_most
+returns-in_err-found-clause-at_most g c zone u among =
+    short_run c.args.self.now.records zone c.args.lookup_options.dnssec_ok c.args.seen.items u c.args.search_type.0 among (Some c.args.from) c.args.searches.now c.inner_lookup.new.searches
+    (turned
+    c.args.self.now.records c.args.lookup_options.dnssec_ok c.args.search_type.0 c.args.seen.items c.args.from (map found_set c.args.sets.now.items) c.args.searches.now
+    (map found_set c.loop-search_type.sets.items) (map found_set c.loop-search_type.sets.items) c.loop-search_type.seen.items c.loop-search_type.name c.loop-search_type.searches c.inner_lookup.new.searches
+    c.loop-search_type.invariant
+    (told c.loop-search_type.name c.loop-search_type.seen.items c.deref.result.now c.contains.result false c.deref.ensures.value c.contains.ensures.value c.loop-search_type-test.true)
+    c.inner_lookup.ensures.counted)
+
+pub returns-in_default-clause-at_most : goal.returns-in_default-clause-at_most
+returns-in_default-clause-at_most g c zone u among =
+    short_run c.args.self.now.records zone c.args.lookup_options.dnssec_ok c.args.seen.items u c.args.search_type.0 among (Some c.args.from) c.args.searches.now c.inner_lookup.new.searches
+    (turned
+    c.args.self.now.records c.args.lookup_options.dnssec_ok c.args.search_type.0 c.args.seen.items c.args.from (map found_set c.args.sets.now.items) c.args.searches.now
+    (map found_set c.loop-search_type.sets.items) (map found_set c.loop-search_type.sets.items) c.loop-search_type.seen.items c.loop-search_type.name c.loop-search_type.searches c.inner_lookup.new.searches
+    c.loop-search_type.invariant
+    (told c.loop-search_type.name c.loop-search_type.seen.items c.deref.result.now c.contains.result false c.deref.ensures.value c.contains.ensures.value c.loop-search_type-test.true)
+    c.inner_lookup.ensures.counted)
+
+pub returns-in_err-target-clause-at_most : goal.returns-in_err-target-clause-at_most
+returns-in_err-target-clause-at_most g c zone u among =
+    short_run c.args.self.now.records zone c.args.lookup_options.dnssec_ok c.args.seen.items u c.args.search_type.0 among (Some c.args.from) c.args.searches.now c.inner_lookup.new.searches
+    (turned
+    c.args.self.now.records c.args.lookup_options.dnssec_ok c.args.search_type.0 c.args.seen.items c.args.from (map found_set c.args.sets.now.items) c.args.searches.now
+    (map found_set c.loop-search_type.sets.items) (map found_set c.loop-search_type.sets.items) c.loop-search_type.seen.items c.loop-search_type.name c.loop-search_type.searches c.inner_lookup.new.searches
+    c.loop-search_type.invariant
+    (told c.loop-search_type.name c.loop-search_type.seen.items c.deref.result.now c.contains.result false c.deref.ensures.value c.contains.ensures.value c.loop-search_type-test.true)
+    c.inner_lookup.ensures.counted)
+
+pub returns-in_err-list_new-clause-at_most : goal.returns-in_err-list_new-clause-at_most
+returns-in_err-list_new-clause-at_most g c zone u among =
+    short_run c.args.self.now.records zone c.args.lookup_options.dnssec_ok c.args.seen.items u c.args.search_type.0 among (Some c.args.from) c.args.searches.now c.inner_lookup.new.searches
+    (turned
+    c.args.self.now.records c.args.lookup_options.dnssec_ok c.args.search_type.0 c.args.seen.items c.args.from (map found_set c.args.sets.now.items) c.args.searches.now
+    (map found_set c.loop-search_type.sets.items) (map found_set c.loop-search_type.sets.items) c.loop-search_type.seen.items c.loop-search_type.name c.loop-search_type.searches c.inner_lookup.new.searches
+    c.loop-search_type.invariant
+    (told c.loop-search_type.name c.loop-search_type.seen.items c.deref.result.now c.contains.result false c.deref.ensures.value c.contains.ensures.value c.loop-search_type-test.true)
+    c.inner_lookup.ensures.counted)
+
+pub returns-in_default-target-clause-at_most : goal.returns-in_default-target-clause-at_most
+returns-in_default-target-clause-at_most g c zone u among =
+    short_run c.args.self.now.records zone c.args.lookup_options.dnssec_ok c.args.seen.items u c.args.search_type.0 among (Some c.args.from) c.args.searches.now c.inner_lookup.new.searches
+    (turned
+    c.args.self.now.records c.args.lookup_options.dnssec_ok c.args.search_type.0 c.args.seen.items c.args.from (map found_set c.args.sets.now.items) c.args.searches.now
+    (map found_set c.loop-search_type.sets.items) (map found_set c.loop-search_type.sets.items) c.loop-search_type.seen.items c.loop-search_type.name c.loop-search_type.searches c.inner_lookup.new.searches
+    c.loop-search_type.invariant
+    (told c.loop-search_type.name c.loop-search_type.seen.items c.deref.result.now c.contains.result false c.deref.ensures.value c.contains.ensures.value c.loop-search_type-test.true)
+    c.inner_lookup.ensures.counted)
+
+pub returns-in_err-push-clause-at_most : goal.returns-in_err-push-clause-at_most
+returns-in_err-push-clause-at_most g c zone u among =
+    short_run c.args.self.now.records zone c.args.lookup_options.dnssec_ok c.args.seen.items u c.args.search_type.0 among (Some c.args.from) c.args.searches.now c.inner_lookup.new.searches
+    (turned
+    c.args.self.now.records c.args.lookup_options.dnssec_ok c.args.search_type.0 c.args.seen.items c.args.from (map found_set c.args.sets.now.items) c.args.searches.now
+    (map found_set c.loop-search_type.sets.items) (map found_set c.loop-search_type.sets.items) c.loop-search_type.seen.items c.loop-search_type.name c.loop-search_type.searches c.inner_lookup.new.searches
+    c.loop-search_type.invariant
+    (told c.loop-search_type.name c.loop-search_type.seen.items c.deref.result.now c.contains.result false c.deref.ensures.value c.contains.ensures.value c.loop-search_type-test.true)
+    c.inner_lookup.ensures.counted)
+
+pub returns-clause-at_most : goal.returns-clause-at_most
+returns-clause-at_most g c zone u among =
+    short_run c.args.self.now.records zone c.args.lookup_options.dnssec_ok c.args.seen.items u c.args.search_type.0 among (Some c.args.from) c.args.searches.now c.loop-search_type.searches
+    (not_turned
+    c.args.self.now.records c.args.lookup_options.dnssec_ok c.args.search_type.0 c.args.seen.items c.args.from (map found_set c.args.sets.now.items) c.args.searches.now
+    (map found_set c.loop-search_type.sets.items) c.loop-search_type.seen.items c.loop-search_type.name c.loop-search_type.searches c.loop-search_type.invariant)

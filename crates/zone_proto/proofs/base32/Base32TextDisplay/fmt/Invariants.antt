@@ -2,8 +2,8 @@ use Rattle.std.proofs.Common.{◌*◌, map}
 use Rattle.std.specs.Fmt.{HasWritten, IsPlainFormatter}
 use Rattle.std.specs.Char.{digit_char}
 use Rattle.std.specs.List.{range_with_len}
-use Rattle.zone_text.specs.Octets.{five_bits}
-use Rattle.zone_text.proofs.base32_text.Base32TextDisplay.fmt.Given as goal
+use Rattle.zone_proto.specs.Base32.{five_bits}
+use Rattle.zone_proto.proofs.base32.Base32TextDisplay.fmt.Given as goal
 
 abbrev pub invariant-loop-i : goal.invariant-loop-i
 invariant-loop-i g l =

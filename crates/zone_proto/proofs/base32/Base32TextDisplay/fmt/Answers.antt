@@ -1,7 +1,7 @@
 use Rattle.std.proofs.Common.{arith}
 use Rattle.std.proofs.lemmas.Grind.{common_steps}
-use Rattle.zone_text.proofs.Base32Facts.{next_character}
-use Rattle.zone_text.proofs.base32_text.Base32TextDisplay.fmt.Goals as goal
+use Rattle.zone_proto.proofs.Base32Facts.{next_character}
+use Rattle.zone_proto.proofs.base32.Base32TextDisplay.fmt.Goals as goal
 
 pub loop-i-preserved : goal.loop-i-preserved
 loop-i-preserved g c =
