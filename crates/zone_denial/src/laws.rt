@@ -1,10 +1,10 @@
-//! Laws of the definitions of denials: what a reader of a negative answer may conclude from NSEC sets. Each is an empty
-//! function whose contract is the law, so a program has no need to call one.
+//! Laws of the definitions of denials: which names and types they list, and what a reader of a negative answer may conclude
+//! from NSEC sets. Each is an empty function whose contract is the law, so a program has no need to call one.
 //!
-//! They are about zones whose NSEC sets are a circle, as they are once the zone is secured, and whose origin is on it, as it
-//! is where it owns any other set. A set and its next name cover a name that stands strictly between the two in canonical
-//! order; the set of the last owner, whose next name goes back to the origin (RFC 4034 section 4.1.1), covers a name that
-//! stands after its owner or before the origin.
+//! The latter are about zones whose NSEC sets are a circle, as they are once the zone is secured, and whose origin is on it,
+//! as it is where it owns any other set. A set and its next name cover a name that stands strictly between the two in
+//! canonical order; the set of the last owner, whose next name goes back to the origin (RFC 4034 section 4.1.1), covers a name
+//! that stands after its owner or before the origin.
 ghost use Rattle.std.specs.Prelude.{◌≡◌, ◌↔◌, ◌⊎◌, ℕ, Bool, IsTrue};
 ghost use Rattle.std.specs.List.{Contains};
 ghost use Rattle.std.specs.List.Sorted.{IsStrictlySortedBy};
