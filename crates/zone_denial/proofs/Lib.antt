@@ -19,3 +19,5 @@ pub mod KeyRuns
 pub mod CircleSets
 mod Nsec3Examples
 mod Nsec3Premises
+pub mod Nsec3NameLaws
+pub mod Nsec3TypeLaws

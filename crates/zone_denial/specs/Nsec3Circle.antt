@@ -1,5 +1,5 @@
 -- The circle of a zone's NSEC3 sets
-use Rattle.std.specs.Prelude.{◌≡◌, ℕ, not, cond, List, [], ◌∷◌, length, map, Option, Some, None, filter, filter_map, unwrap_or, ◌==◌, IsTrue}
+use Rattle.std.specs.Prelude.{◌≡◌, ◌≢◌, ◌⊎◌, ℕ, not, cond, List, [], ◌∷◌, length, map, Option, Some, None, filter, filter_map, unwrap_or, ◌==◌, IsTrue}
 use Rattle.std.specs.List.{Contains}
 use Rattle.std.specs.Option.{option_or}
 use Rattle.std.specs.Ordering.{nat_cmp}
@@ -14,6 +14,7 @@ use Rattle.zone_proto.specs.Order.{is_before, least}
 use Rattle.zone_proto.specs.Sets.{RRset}
 use Rattle.zone_proto.specs.Types.{RRSIG, NSEC3, NSEC3PARAM}
 use Rattle.zone_map.specs.Zones.{Sets, set_at, owns, types_at}
+use Rattle.zone_denial.specs.Authority.{owns_besides}
 use Rattle.zone_denial.specs.Nsec3Names.{nsec3_names}
 use Rattle.zone_denial.specs.TypeLists.{in_order}
 
@@ -52,6 +53,10 @@ abbrev pub nsec3_types : Name → Sets → Name → List ℕ
 nsec3_types origin m n =
     let own = filter (λ t. not (t == NSEC3)) (types_at m n) in
     cond (name_eq n origin) (in_order nat_cmp (NSEC3PARAM ∷ RRSIG ∷ own)) (with_rrsig own)
+
+-- what that is: a type that n owns and that isn't NSEC3; RRSIG, at the origin or where n owns such a type; and NSEC3PARAM at the origin
+abbrev pub IsNsec3Type : Name → Sets → Name → ℕ → Type 0
+IsNsec3Type origin m n t = (IsTrue (owns m n t) × (t ≢ NSEC3)) ⊎ (((t ≡ RRSIG) × ((n ≡ origin) ⊎ IsTrue (owns_besides m NSEC3 n))) ⊎ ((t ≡ NSEC3PARAM) × (n ≡ origin)))
 
 -- the digests that a hash has of names
 abbrev pub digests : (Name → Option (List ℕ)) → List Name → List (List ℕ)

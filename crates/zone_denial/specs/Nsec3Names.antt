@@ -1,7 +1,7 @@
 -- The names that get an NSEC3 set
-use Rattle.std.specs.Prelude.{Bool, ◌&&◌, ◌||◌, not, List, ◌∷◌, filter, flat_map, ◌==◌}
-use Rattle.std.specs.List.{list_all}
-use Rattle.zone_proto.specs.Names.{Name, name_cmp, name_eq, is_above}
+use Rattle.std.specs.Prelude.{◌≡◌, ◌⊎◌, Bool, ◌&&◌, ◌||◌, not, List, ◌∷◌, filter, flat_map, ◌==◌}
+use Rattle.std.specs.List.{list_all, Contains}
+use Rattle.zone_proto.specs.Names.{Name, name_cmp, name_eq, is_above, IsAbove, IsAtOrAbove}
 use Rattle.zone_proto.specs.Types.{NS, NSEC3}
 use Rattle.zone_map.specs.Wildcards.{proper_ancestors}
 use Rattle.zone_map.specs.Zones.{Sets, types_at}
@@ -19,3 +19,7 @@ counted_names origin m opt_out = filter (λ n. not (opt_out && (not (name_eq n o
 -- these with their ancestors strictly below the origin, empty names too, and the origin; ascending, each once (RFC 5155 section 7.1)
 abbrev pub nsec3_names : Name → Sets → Bool → List Name
 nsec3_names origin m opt_out = in_order name_cmp (origin ∷ flat_map (λ n. n ∷ filter (is_above origin) (proper_ancestors n)) (counted_names origin m opt_out))
+
+-- what these are: the origin, and strictly below it the names at which or below which an authoritative name stands that counts
+abbrev pub IsNsec3Name : Name → Sets → Bool → Name → Type 0
+IsNsec3Name origin m opt_out n = (n ≡ origin) ⊎ (IsAbove origin n × ((c : Name) × Contains (counted_names origin m opt_out) c × IsAtOrAbove n c))

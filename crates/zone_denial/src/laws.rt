@@ -1,17 +1,19 @@
-//! Laws of the definitions of denials: what a reader of a negative answer may conclude from NSEC sets. Each is an empty
-//! function whose contract is the law, so a program has no need to call one.
+//! Laws of the definitions of denials: which names and types they list, and what a reader of a negative answer may conclude
+//! from NSEC sets. Each is an empty function whose contract is the law, so a program has no need to call one.
 //!
-//! They are about zones whose NSEC sets are a circle, as they are once the zone is secured, and whose origin is on it, as it
-//! is where it owns any other set. A set and its next name cover a name that stands strictly between the two in canonical
-//! order; the set of the last owner, whose next name goes back to the origin (RFC 4034 section 4.1.1), covers a name that
-//! stands after its owner or before the origin.
-ghost use Rattle.std.specs.Prelude.{◌≡◌, ◌↔◌, ◌⊎◌, ℕ, IsTrue};
+//! The latter are about zones whose NSEC sets are a circle, as they are once the zone is secured, and whose origin is on it,
+//! as it is where it owns any other set. A set and its next name cover a name that stands strictly between the two in
+//! canonical order; the set of the last owner, whose next name goes back to the origin (RFC 4034 section 4.1.1), covers a name
+//! that stands after its owner or before the origin.
+ghost use Rattle.std.specs.Prelude.{◌≡◌, ◌↔◌, ◌⊎◌, ℕ, Bool, IsTrue};
 ghost use Rattle.std.specs.List.{Contains};
 ghost use Rattle.std.specs.List.Sorted.{IsStrictlySortedBy};
 ghost use Rattle.std.specs.Ordering.{nat_cmp};
-ghost use Rattle.zone_proto.specs.Names.{Name};
+ghost use Rattle.zone_proto.specs.Names.{Name, name_cmp};
 ghost use Rattle.zone_proto.specs.Types.{NSEC, RRSIG};
 ghost use Rattle.zone_map.specs.Zones.{Sets, owns};
+ghost use Rattle.zone_denial.specs.Nsec3Circle.{nsec3_types, IsNsec3Type};
+ghost use Rattle.zone_denial.specs.Nsec3Names.{nsec3_names, IsNsec3Name};
 ghost use Rattle.zone_denial.specs.TypeLists.{nsec_types};
 ghost use Rattle.zone_denial.specs.NsecLaws.{SecuredIsCircle, DenialFindsOrCovers, CircleListsAllOwned, DenialsAgree, NoNextBelowAbsent, NextBelowEmpty};
 
@@ -20,6 +22,21 @@ ghost use Rattle.zone_denial.specs.NsecLaws.{SecuredIsCircle, DenialFindsOrCover
 pub fn type_lists_are_exact()
     ensures ascending { (m : Sets) (n : Name) → IsStrictlySortedBy nat_cmp (nsec_types m n) }
     ensures types { (m : Sets) (n : Name) (t : ℕ) → Contains (nsec_types m n) t ↔ (IsTrue (owns m n t) ⊎ (t ≡ RRSIG) ⊎ (t ≡ NSEC)) }
+{}
+
+/// The names that get an NSEC3 set ascend, each stands there once, and they are exactly the origin and, strictly below it, the
+/// names that the zone is authoritative for and the empty names above these; with opt-out unsigned delegations don't count
+/// (RFC 5155 section 7.1).
+pub fn nsec3_names_are_exact()
+    ensures ascending { (origin : Name) (m : Sets) (opt_out : Bool) → IsStrictlySortedBy name_cmp (nsec3_names origin m opt_out) }
+    ensures names { (origin : Name) (m : Sets) (opt_out : Bool) (n : Name) → Contains (nsec3_names origin m opt_out) n ↔ IsNsec3Name origin m opt_out n }
+{}
+
+/// The types that the NSEC3 set of a name lists ascend, each stands there once, and they are exactly those that the name owns
+/// but NSEC3, RRSIG where there is one of these, and at the origin NSEC3PARAM and RRSIG (RFC 5155 sections 3.1.8 and 7.1).
+pub fn nsec3_type_lists_are_exact()
+    ensures ascending { (origin : Name) (m : Sets) (n : Name) → IsStrictlySortedBy nat_cmp (nsec3_types origin m n) }
+    ensures types { (origin : Name) (m : Sets) (n : Name) (t : ℕ) → Contains (nsec3_types origin m n) t ↔ IsNsec3Type origin m n t }
 {}
 
 /// A zone that gets its NSEC sets, in the place of those that it had, has a circle of them: one for each name that it is
