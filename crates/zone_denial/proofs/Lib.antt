@@ -17,3 +17,5 @@ pub mod CircleKeys
 pub mod Linking
 pub mod KeyRuns
 pub mod CircleSets
+mod Nsec3Examples
+mod Nsec3Premises

@@ -22,16 +22,16 @@ use Rattle.zone_denial.specs.NsecSets.{nsec_set, nsec_set_at}
 abbrev pub origin : Name
 origin = codes "example" ∷ []
 
-abbrev at_origin : List ℕ → Name
+abbrev pub at_origin : List ℕ → Name
 at_origin label = label ∷ origin
 
-abbrev record_with : Name → RData → Record
+abbrev pub record_with : Name → RData → Record
 record_with n d = record { name = n; dns_class = record { 0 = IN }; ttl = 60; rdata = d }
 
-abbrev entry : Name → ℕ → RData → RrKey × RRset
+abbrev pub entry : Name → ℕ → RData → RrKey × RRset
 entry n t d = (key n t, record { owner = n; record_type = t; class = IN; ttl = 60; serial = 7; records = record_with n d ∷ []; signatures = [] })
 
-abbrev address : Name → RrKey × RRset
+abbrev pub address : Name → RrKey × RRset
 address n = entry n A (V.A (192 ∷ 0 ∷ 2 ∷ 1 ∷ []))
 
 abbrev pub start : RrKey × RRset

@@ -27,7 +27,7 @@ key_stored = record { owner = refl; record_type = refl; filled = λ e. cc; set =
 nsec_stored : IsStoredAt origin NSEC bare_set
 nsec_stored = record { owner = refl; record_type = refl; filled = λ e. cc; set = IsSet-alone origin NSEC _ refl refl }
 
-bare_zone : IsZone bare
+pub bare_zone : IsZone bare
 bare_zone = IsZone-put (start ∷ []) (key origin DNSKEY) public_key.1 (IsZone-put [] (key origin SOA) start.1 IsZone-none soa_stored) key_stored
 
 linked_zone : IsZone (linked bare)
@@ -35,7 +35,7 @@ linked_zone = IsZone-put bare (key origin NSEC) bare_set bare_zone nsec_stored
 
 -- ---- under every other key it has what was there
 
-type_apart : (n : Name) (t u : ℕ) → (t == u) ≡ false → key_eq (key n t) (key origin u) ≡ false
+pub type_apart : (n : Name) (t u : ℕ) → (t == u) ≡ false → key_eq (key n t) (key origin u) ≡ false
 type_apart n t u h = by (key_eq (key n t) (key origin u)) refl
   where
     by : (b : Bool) → key_eq (key n t) (key origin u) ≡ b → b ≡ false

@@ -8,3 +8,7 @@ pub mod NsecLinks
 pub mod NsecDenial
 pub mod DenialSets
 pub mod NsecLaws
+pub mod Nsec3Names
+pub mod Nsec3Circle
+pub mod Nsec3Denial
+pub mod Nsec3Zones

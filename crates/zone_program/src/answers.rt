@@ -8,10 +8,10 @@ use zone_handler::{
     AuthLookup, AxfrPolicy, LookupControlFlow, LookupError, LookupOptions, LookupRecordsIter,
     Request, ZoneHandler, ZoneTransfer, ZoneType,
 };
+use zone_in_memory::InMemoryZoneHandler;
 use zone_proto::{
     DNSClass, LowerName, Name, NxProofKind, ProtoError, Query, Record, RecordType, RrKey,
 };
-use zone_in_memory::InMemoryZoneHandler;
 use zone_text::RecordText;
 
 /// The zone that the program keeps.

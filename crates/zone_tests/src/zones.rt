@@ -7,10 +7,10 @@ use std::test::Fail;
 use zone_handler::{
     AuthLookup, AxfrPolicy, LookupControlFlow, LookupOptions, ZoneHandler, ZoneType,
 };
-use zone_store::program::{DemoSigner, Sha1Hash};
 use zone_proto::{
     DNSClass, LowerName, Name, NxProofKind, ProtoError, RData, Record, RecordSet, RecordType, RrKey,
 };
+use zone_store::program::{DemoSigner, Sha1Hash};
 use zone_store::{Found, InMemoryZoneHandler, InnerInMemory, Searches};
 
 /// A zone of these tests, which aren't about signing.

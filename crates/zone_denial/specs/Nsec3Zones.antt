@@ -1,0 +1,37 @@
+-- Zones that NSEC3 denies, and what a denial in them asks of the hash
+use Rattle.std.specs.Prelude.{◌≡◌, ◌≢◌, ℕ, ◌⊎◌, Bool, List, [], length, Option, Some, None, IsTrue}
+use Rattle.std.specs.List.{AllByRecursion, Contains}
+use Rattle.zone_proto.specs.declared.rdata.denial.NSEC3PARAM.{NSEC3PARAM as Nsec3Parameters}
+use Rattle.zone_proto.specs.Faults.{fault_of}
+use Rattle.zone_proto.specs.Names.{Name, IsAtOrAbove}
+use Rattle.zone_proto.specs.Ranges.{IsOctet}
+use Rattle.zone_proto.specs.Types.{NSEC3}
+use Rattle.zone_map.specs.Wildcards.{star_under}
+use Rattle.zone_map.specs.Zones.{Sets, IsZone, owns}
+use Rattle.zone_denial.specs.Nsec3Circle.{IsNsec3Circle}
+use Rattle.zone_denial.specs.Nsec3Denial.{closest_encloser}
+use Rattle.zone_denial.specs.Nsec3Names.{nsec3_names}
+
+-- a zone that NSEC3 denies: its NSEC3 sets are a circle, their owners are names, and its origin isn't the root
+pub record IsNsec3Zone (origin : Name) (m : Sets) (hash : Name → Option (List ℕ)) (parameters : Nsec3Parameters) : Type 0 where
+  pub zone : IsZone m
+  pub circle : IsNsec3Circle origin m hash parameters
+  pub owners : (o : Name) → IsTrue (owns m o NSEC3) → fault_of o ≡ None
+  pub below_root : origin ≢ []
+
+module _ (origin : Name) (m : Sets) (opt_out : Bool) (x : Name) where
+  -- the names that are hashed for a denial of x: x and its ancestors up to its closest encloser, and the star under that
+  abbrev pub IsAsked : Name → Type 0
+  IsAsked n = (a : Name) × (closest_encloser origin m opt_out x ≡ Some a) × ((IsAtOrAbove n x × IsAtOrAbove a n) ⊎ (n ≡ star_under a))
+
+  -- with those of the circle
+  abbrev pub IsHashed : Name → Type 0
+  IsHashed n = Contains (nsec3_names origin m opt_out) n ⊎ IsAsked n
+
+  -- what a denial of x asks of the hash: it answers for these names, by digests that differ and are of one length
+  pub record TellsApart (hash : Name → Option (List ℕ)) : Type 0 where
+    pub digest : Name → List ℕ
+    pub answers : (n : Name) → IsHashed n → hash n ≡ Some (digest n)
+    pub apart : (n k : Name) → IsHashed n → IsHashed k → digest n ≡ digest k → n ≡ k
+    pub alike : (n k : Name) → IsHashed n → IsHashed k → length (digest n) ≡ length (digest k)
+    pub octets : (n : Name) → IsHashed n → AllByRecursion IsOctet (digest n)
