@@ -68,9 +68,7 @@ fn read_kind(words: &mut Words<'_>) -> Result<Option<NxProofKind>, TextError> {
 
 /// Reads whether signatures are wanted: they are after the word `dnssec`, and aren't at the end of the line.
 fn read_options(words: &mut Words<'_>) -> Result<LookupOptions, TextError> {
-    match words.take() {
-        None => Ok(LookupOptions::default()),
-        Some(b"dnssec") => Ok(LookupOptions::for_dnssec()),
-        Some(_) => Err(TextError::BadText),
-    }
+    Ok(LookupOptions {
+        dnssec_ok: words.take_flag(b"dnssec")?,
+    })
 }

@@ -10,6 +10,7 @@ use Rattle.zone_proto.specs.declared.rdata.RData.{RData}
 use Rattle.zone_proto.specs.declared.rdata.RData.TheVariants as V
 use Rattle.zone_proto.specs.declared.record.Record.{Record}
 use Rattle.zone_proto.specs.declared.rr_key.RrKey.{RrKey}
+use Rattle.zone_proto.specs.Data.{same_octets}
 use Rattle.zone_proto.specs.Names.{Name, lower}
 use Rattle.zone_proto.specs.Parse.{labels_of_text}
 use Rattle.zone_proto.specs.Faults.{fault_of}
@@ -32,6 +33,11 @@ Reading X = Option (X × WordList)
 abbrev pub next_word : {X : Type 0} → (List ℕ → Option X) → WordList → Reading X
 next_word read [] = None
 next_word read (w ∷ ws) = option_map (λ x. (x, ws)) (read w)
+
+-- whether a word that may be left out is there: a line without it is at its end
+abbrev pub next_flag : List ℕ → WordList → Reading Bool
+next_flag flag [] = Some (false, [])
+next_flag flag (w ∷ ws) = if same_octets w flag then Some (true, ws) else None
 
 -- a first reading, and then a second one of the words that it left
 abbrev pub then_read : {X Y : Type 0} → Reading X → (X → WordList → Reading Y) → Reading Y

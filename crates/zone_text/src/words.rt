@@ -1,5 +1,6 @@
 ghost use Rattle.std.specs.Prelude.{◌≡◌, ◌≢◌, ◌∷◌, [], IfSome, IfNone, IfOk, IfErr, OnOk, not};
 ghost use Rattle.std.specs.List.{position_or_len};
+ghost use Rattle.zone_text.specs.Reading.{next_flag};
 ghost use Rattle.zone_text.specs.Words.{is_blank, words};
 
 use crate::error::TextError;
@@ -49,6 +50,19 @@ impl<'l> Words<'l> {
         ensures err { IfErr result (λ e. (e ≡ TextError.BadText) × (self.old ≡ [])) }
     {
         self.take().ok_or(TextError::BadText)
+    }
+
+    /// Takes a word that may be left out, and tells whether it was there: a line without it is at its end. `BadText` where
+    /// another word is in its place.
+    pub fn take_flag(&mut self, flag: &[u8]) -> Result<bool, TextError>
+        ensures ok { IfOk result (λ given. next_flag flag.now self.old ≡ Some (given, self.new)) }
+        ensures err { IfErr result (λ e. (e ≡ TextError.BadText) × (next_flag flag.now self.old ≡ None)) }
+    {
+        match self.take() {
+            None => Ok(false),
+            Some(word) if word == flag => Ok(true),
+            Some(_) => Err(TextError::BadText),
+        }
     }
 
     /// Refuses a line with words that weren't taken, by `BadText`.
