@@ -3,6 +3,8 @@
 use crate::streams::{Capture, Feed};
 use scarce::Scarcity;
 use std::alloc::{AllocError, Global};
+use std::io;
+use std::io::Read;
 use std::test::Fail;
 
 /// How many rooms are tried before a run has to succeed.
@@ -11,35 +13,43 @@ const ROOMS: usize = 4_000;
 /// How many octets more each room has.
 const STEP: usize = 16;
 
-/// What a run has to do with, and where it writes.
+/// What a run has to do with besides its input.
 #[derive(Drop)]
-struct Desk<'i> {
+struct Desk {
     args: Vec<String>,
-    input: &'i [u8],
     output: Capture,
     fault: Capture,
 }
 
-impl<'i> Desk<'i> {
-    fn new(alloc: Global, input: &'i [u8]) -> Result<Desk<'i>, AllocError> {
+impl Desk {
+    fn new(alloc: Global) -> Result<Desk, AllocError> {
         Ok(Desk {
             args: vec![in alloc; String::from_str(alloc, "example.com.")?]?,
-            input,
             output: Capture::with_capacity(alloc, 16_384)?,
             fault: Capture::with_capacity(alloc, 4_096)?,
         })
     }
 
+    /// Runs the program on this input, and answers its status.
+    fn run<R: Read>(&mut self, alloc: Global, input: &mut R) -> u8 {
+        self.output.got.clear();
+        self.fault.got.clear();
+        let (args, output, fault) = (self.args.as_slice(), &mut self.output, &mut self.fault);
+        zone_store::program::run(alloc, args, input, output, fault)
+    }
+
     /// Runs the program in this room, and answers its status; none if the room can't be left.
-    fn run(&mut self, alloc: Global, scarce: &mut Scarcity, room: usize) -> Option<u8> {
+    fn run_in(
+        &mut self,
+        alloc: Global,
+        scarce: &mut Scarcity,
+        room: usize,
+        input: &[u8],
+    ) -> Option<u8> {
         if !scarce.leave(room) {
             return None;
         }
-        self.output.got.clear();
-        self.fault.got.clear();
-        let mut feed = Feed(self.input);
-        let (args, output, fault) = (self.args.as_slice(), &mut self.output, &mut self.fault);
-        Some(zone_store::program::run(alloc, args, &mut feed, output, fault))
+        Some(self.run(alloc, &mut Feed(input)))
     }
 
     fn wrote(&self, text: &[u8]) -> bool {
@@ -63,7 +73,7 @@ struct Refusals {
 fn refusals_of_short_answers(
     alloc: Global,
     scarce: &mut Scarcity,
-    desk: &mut Desk<'_>,
+    desk: &mut Desk,
 ) -> Option<Refusals> {
     let mut refusals = Refusals {
         at_the_start: 0,
@@ -71,7 +81,7 @@ fn refusals_of_short_answers(
         at_the_query: 0,
     };
     for i in 0..ROOMS {
-        let status = desk.run(alloc, scarce, i.saturating_mul(STEP))?;
+        let status = desk.run_in(alloc, scarce, i.saturating_mul(STEP), INPUT)?;
         let starts = desk.complained(b"") && status == 0;
         let both = desk.wrote(b"error Memory\nerror Memory\n");
         if status == 2 && desk.complained(b"out of memory\n") && desk.wrote(b"") {
@@ -105,7 +115,7 @@ additional 0
 #[test]
 fn each_growth_is_refused(rt: HostRuntime) -> Result<(), Fail> {
     let alloc = rt.alloc();
-    let mut desk = Desk::new(alloc, INPUT)?;
+    let mut desk = Desk::new(alloc)?;
     let mut scarce = Scarcity::begin(alloc, ROOMS)?;
     let refusals = refusals_of_short_answers(alloc, &mut scarce, &mut desk);
     drop(scarce);
@@ -134,12 +144,13 @@ fn long_input(alloc: Global) -> Result<Vec<u8>, AllocError> {
 fn refusals_of_a_long_answer(
     alloc: Global,
     scarce: &mut Scarcity,
-    desk: &mut Desk<'_>,
+    desk: &mut Desk,
+    input: &[u8],
 ) -> Option<u32> {
     let mut stops = 0u32;
     for i in 0..ROOMS {
         let room = i.saturating_mul(STEP).saturating_add(16_384);
-        let status = desk.run(alloc, scarce, room)?;
+        let status = desk.run_in(alloc, scarce, room, input)?;
         if desk.complained(b"write failed\n") {
             if status != 2 || !desk.wrote(b"yes\nyes\nyes\n") {
                 return None;
@@ -159,10 +170,113 @@ fn refusals_of_a_long_answer(
 fn memory_is_refused_to_a_long_answer(rt: HostRuntime) -> Result<(), Fail> {
     let alloc = rt.alloc();
     let input = long_input(alloc)?;
-    let mut desk = Desk::new(alloc, input.as_slice())?;
+    let mut desk = Desk::new(alloc)?;
     let mut scarce = Scarcity::begin(alloc, ROOMS)?;
-    let stops = refusals_of_a_long_answer(alloc, &mut scarce, &mut desk);
+    let stops = refusals_of_a_long_answer(alloc, &mut scarce, &mut desk, input.as_slice());
     drop(scarce);
     assert!(rt; stops.is_some_and(|stops| stops > 0));
+    Ok(())
+}
+
+/// Gives three texts, one by each read. When it gives the second there is only so much room left, until it gives the third.
+#[derive(Drop)]
+struct Drought<'i> {
+    alloc: Global,
+    room: usize,
+    texts: [&'i [u8]; 3],
+    given: usize,
+    scarce: Option<Scarcity>,
+}
+
+impl Read for Drought<'_> {
+    fn read(&mut self, buf: &mut [u8]) -> io::Result<usize> {
+        self.scarce = None;
+        if self.given == 1 {
+            self.scarce = room_of(self.alloc, self.room);
+        }
+        let text = self.texts.get(self.given).copied().unwrap_or(b"");
+        self.given = self.given.saturating_add(1);
+        Feed(text).read(buf)
+    }
+}
+
+/// Takes all memory but so much; none if that can't be had.
+fn room_of(alloc: Global, room: usize) -> Option<Scarcity> {
+    let mut scarce = Scarcity::begin(alloc, 1).ok()?;
+    scarce.leave(room).then_some(scarce)
+}
+
+/// A zone whose origin and one more name have NSEC records. That name has more than 32 octets, so that its copies take memory.
+const SECURED: &[u8] = b"kind nsec
+add example.com. 3600 SOA ns.example.com. host.example.com. 1 7200 600 86400 300
+add names-of-more-than-32-octets.example.com. 60 A 192.0.2.1
+key 7
+secure 1000
+";
+
+/// A query for a denial, and another line, which takes no memory.
+const DENIED: &[u8] = b"deny z.example.com. A
+lookup z.example.com. A
+";
+
+const DENIED_AGAIN: &[u8] = b"deny z.example.com. A
+";
+
+const REFUSED: &[u8] = b"ok
+yes
+yes
+ok
+ok 2
+error Memory
+error NXDomain
+proof 2
+example.com. 300 IN NSEC names-of-more-than-32-octets.example.com. SOA RRSIG NSEC DNSKEY
+names-of-more-than-32-octets.example.com. 300 IN NSEC example.com. A RRSIG NSEC
+";
+
+const PROVED: &[u8] = b"ok
+yes
+yes
+ok
+ok 2
+proof 2
+example.com. 300 IN NSEC names-of-more-than-32-octets.example.com. SOA RRSIG NSEC DNSKEY
+names-of-more-than-32-octets.example.com. 300 IN NSEC example.com. A RRSIG NSEC
+error NXDomain
+proof 2
+example.com. 300 IN NSEC names-of-more-than-32-octets.example.com. SOA RRSIG NSEC DNSKEY
+names-of-more-than-32-octets.example.com. 300 IN NSEC example.com. A RRSIG NSEC
+";
+
+/// Runs the program with ever more room for a denial, until it is answered: how often memory was refused to it; none where a
+/// run ended otherwise.
+fn refusals_of_a_denial(alloc: Global, desk: &mut Desk) -> Option<usize> {
+    for refused in 0..ROOMS {
+        let mut drought = Drought {
+            alloc,
+            room: refused.saturating_mul(STEP),
+            texts: [SECURED, DENIED, DENIED_AGAIN],
+            given: 0,
+            scarce: None,
+        };
+        let is_served = desk.run(alloc, &mut drought) == 0 && desk.complained(b"");
+        if is_served && desk.wrote(PROVED) {
+            return Some(refused);
+        }
+        if !is_served || !desk.wrote(REFUSED) {
+            return None;
+        }
+    }
+    None
+}
+
+/// A denial to which memory is refused, at each of its growths, is answered by that. The line after it is served, and once
+/// there is memory again the same denial is proved as ever.
+#[test]
+fn memory_is_refused_to_a_denial(rt: HostRuntime) -> Result<(), Fail> {
+    let alloc = rt.alloc();
+    let mut desk = Desk::new(alloc)?;
+    let refused = refusals_of_a_denial(alloc, &mut desk);
+    assert!(rt; refused.is_some_and(|refused| refused > 2));
     Ok(())
 }
