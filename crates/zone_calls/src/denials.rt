@@ -27,10 +27,10 @@ pub fn read_denial_call(
 
 /// Reads the kind of a zone: none, unless `nsec` follows.
 pub fn read_kind(words: &mut Words<'_>) -> Result<Option<NxProofKind>, TextError> {
-    match words.take() {
-        None => Ok(None),
-        Some(b"nsec") => Ok(Some(NxProofKind::Nsec)),
-        Some(_) => Err(TextError::BadText),
+    if words.take_flag(b"nsec")? {
+        Ok(Some(NxProofKind::Nsec))
+    } else {
+        Ok(None)
     }
 }
 

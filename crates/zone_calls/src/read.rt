@@ -341,9 +341,7 @@ pub fn read_question(alloc: Global, words: &mut Words<'_>) -> Result<Question, T
 
 /// Reads whether signatures are wanted: they are if `dnssec` follows.
 pub fn read_options(words: &mut Words<'_>) -> Result<LookupOptions, TextError> {
-    match words.take() {
-        None => Ok(LookupOptions::default()),
-        Some(b"dnssec") => Ok(LookupOptions::for_dnssec()),
-        Some(_) => Err(TextError::BadText),
-    }
+    Ok(LookupOptions {
+        dnssec_ok: words.take_flag(b"dnssec")?,
+    })
 }
