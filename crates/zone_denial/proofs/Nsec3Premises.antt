@@ -92,7 +92,7 @@ in_range n (inl e) = subst (λ (k : Name). AllByRecursion IsOctet (digest k)) (s
 in_range n (inr (inl e)) = subst (λ (k : Name). AllByRecursion IsOctet (digest k)) (sym e) (omega arith, tt)
 in_range n (inr (inr e)) = subst (λ (k : Name). AllByRecursion IsOctet (digest k)) (sym e) (omega arith, tt)
 
-table_tells_apart : TellsApart origin alone false b (digest_in table)
+table_tells_apart : TellsApart (IsHashed origin alone false b) (digest_in table)
 table_tells_apart = record {
   digest = digest;
   answers = λ n h. answered n (hashed_names n h);

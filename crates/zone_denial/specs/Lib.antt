@@ -11,4 +11,6 @@ pub mod NsecLaws
 pub mod Nsec3Names
 pub mod Nsec3Circle
 pub mod Nsec3Denial
+pub mod Nsec3Sets
 pub mod Nsec3Zones
+pub mod Nsec3Laws

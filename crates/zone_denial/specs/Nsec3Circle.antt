@@ -1,7 +1,6 @@
 -- The circle of a zone's NSEC3 sets
-use Rattle.std.specs.Prelude.{◌≡◌, ◌≢◌, ◌⊎◌, ℕ, not, cond, List, [], ◌∷◌, length, map, Option, Some, None, filter, filter_map, unwrap_or, ◌==◌, IsTrue}
+use Rattle.std.specs.Prelude.{◌≡◌, ◌≢◌, ◌⊎◌, ℕ, not, cond, List, [], ◌∷◌, length, map, Option, Some, None, filter, filter_map, ◌==◌, IsTrue}
 use Rattle.std.specs.List.{Contains}
-use Rattle.std.specs.Option.{option_or}
 use Rattle.std.specs.Ordering.{nat_cmp}
 use Rattle.zone_proto.specs.declared.rdata.RData.{RData}
 use Rattle.zone_proto.specs.declared.rdata.RData.TheVariants as V
@@ -10,11 +9,11 @@ use Rattle.zone_proto.specs.declared.rdata.denial.NSEC3PARAM.{NSEC3PARAM as Nsec
 use Rattle.zone_proto.specs.declared.record.Record.{Record}
 use Rattle.zone_proto.specs.HashedOwners.{hashed_owner}
 use Rattle.zone_proto.specs.Names.{Name, name_eq, octets_cmp}
-use Rattle.zone_proto.specs.Order.{is_before, least}
 use Rattle.zone_proto.specs.Sets.{RRset}
 use Rattle.zone_proto.specs.Types.{RRSIG, NSEC3, NSEC3PARAM}
 use Rattle.zone_map.specs.Zones.{Sets, set_at, owns, types_at}
 use Rattle.zone_denial.specs.Authority.{owns_besides}
+use Rattle.zone_denial.specs.Covering.{next_around}
 use Rattle.zone_denial.specs.Nsec3Names.{nsec3_names}
 use Rattle.zone_denial.specs.TypeLists.{in_order}
 
@@ -64,7 +63,7 @@ digests hash ns = filter_map hash ns
 
 -- the next digest on a circle of digests: the least that is greater than d, and after the greatest the least of all (RFC 5155 section 3.1.7)
 abbrev pub next_digest : List (List ℕ) → List ℕ → List ℕ
-next_digest ds d = unwrap_or (option_or (least octets_cmp (filter (is_before octets_cmp d) ds)) (least octets_cmp ds)) d
+next_digest ds d = next_around octets_cmp ds d
 
 -- ---- the circle
 

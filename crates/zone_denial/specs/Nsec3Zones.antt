@@ -12,6 +12,10 @@ use Rattle.zone_denial.specs.Nsec3Circle.{IsNsec3Circle}
 use Rattle.zone_denial.specs.Nsec3Denial.{closest_encloser}
 use Rattle.zone_denial.specs.Nsec3Names.{nsec3_names}
 
+-- of a hash by algorithm, salt, name and iterations, its digest of a name with a zone's parameters (RFC 5155 section 5)
+abbrev pub hash_with : (ℕ → List ℕ → Name → ℕ → Option (List ℕ)) → Nsec3Parameters → Name → Option (List ℕ)
+hash_with digest_of parameters n = digest_of parameters.algorithm parameters.salt n parameters.iterations
+
 -- a zone that NSEC3 denies: its NSEC3 sets are a circle, their owners are names, and its origin isn't the root
 pub record IsNsec3Zone (origin : Name) (m : Sets) (hash : Name → Option (List ℕ)) (parameters : Nsec3Parameters) : Type 0 where
   pub zone : IsZone m
@@ -19,19 +23,24 @@ pub record IsNsec3Zone (origin : Name) (m : Sets) (hash : Name → Option (List 
   pub owners : (o : Name) → IsTrue (owns m o NSEC3) → fault_of o ≡ None
   pub below_root : origin ≢ []
 
+-- a hash tells names apart: it answers for each of them, by digests that differ and are of one length
+pub record TellsApart (IsNamed : Name → Type 0) (hash : Name → Option (List ℕ)) : Type 0 where
+  pub digest : Name → List ℕ
+  pub answers : (n : Name) → IsNamed n → hash n ≡ Some (digest n)
+  pub apart : (n k : Name) → IsNamed n → IsNamed k → digest n ≡ digest k → n ≡ k
+  pub alike : (n k : Name) → IsNamed n → IsNamed k → length (digest n) ≡ length (digest k)
+  pub octets : (n : Name) → IsNamed n → AllByRecursion IsOctet (digest n)
+
+module _ (origin : Name) (m : Sets) (opt_out : Bool) where
+  -- the names of the circle
+  abbrev pub IsCircleName : Name → Type 0
+  IsCircleName n = Contains (nsec3_names origin m opt_out) n
+
 module _ (origin : Name) (m : Sets) (opt_out : Bool) (x : Name) where
   -- the names that are hashed for a denial of x: x and its ancestors up to its closest encloser, and the star under that
   abbrev pub IsAsked : Name → Type 0
   IsAsked n = (a : Name) × (closest_encloser origin m opt_out x ≡ Some a) × ((IsAtOrAbove n x × IsAtOrAbove a n) ⊎ (n ≡ star_under a))
 
-  -- with those of the circle
+  -- with those of the circle: a denial of x asks of the hash that it tells these apart
   abbrev pub IsHashed : Name → Type 0
-  IsHashed n = Contains (nsec3_names origin m opt_out) n ⊎ IsAsked n
-
-  -- what a denial of x asks of the hash: it answers for these names, by digests that differ and are of one length
-  pub record TellsApart (hash : Name → Option (List ℕ)) : Type 0 where
-    pub digest : Name → List ℕ
-    pub answers : (n : Name) → IsHashed n → hash n ≡ Some (digest n)
-    pub apart : (n k : Name) → IsHashed n → IsHashed k → digest n ≡ digest k → n ≡ k
-    pub alike : (n k : Name) → IsHashed n → IsHashed k → length (digest n) ≡ length (digest k)
-    pub octets : (n : Name) → IsHashed n → AllByRecursion IsOctet (digest n)
+  IsHashed n = IsCircleName origin m opt_out n ⊎ IsAsked n
