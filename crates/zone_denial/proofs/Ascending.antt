@@ -1,9 +1,9 @@
 -- Ascending lists, and what stands at their ends
-use Rattle.std.proofs.Common.{◌≡◌, List, [], ◌∷◌, ◌++◌, refl, sym, ap, ◌∙◌, subst, inl, inr, Ordering, Less}
+use Rattle.std.proofs.Common.{◌≡◌, List, [], ◌∷◌, ◌++◌, refl, sym, ap, ◌∙◌, subst, ◌⊎◌, inl, inr, Ordering, Less}
 use Rattle.std.specs.List.{AllByRecursion}
 use Rattle.std.specs.List.Sorted.{IsStrictlySortedBy}
 use Rattle.std.proofs.lemmas.Map.Keys.{sorted_head, sorted_tail}
-use Rattle.zone_proto.proofs.Members.{In, In-append_left, In-append_right}
+use Rattle.zone_proto.proofs.Members.{In, In-append_left, In-append_right, In-from_append}
 
 -- each element is below those after it
 abbrev pub Ascends : {K : Type 0} → (K → K → Ordering) → List K → Type 0
@@ -45,3 +45,12 @@ pub sorted_from_Ascends : {K : Type 0} (R : K → K → Ordering) (xs : List K) 
 unfolding IsStrictlySortedBy
 sorted_from_Ascends R [] a = tt
 sorted_from_Ascends R (x ∷ xs) a = (all_in (λ y. R x y ≡ Less) xs a.0, sorted_from_Ascends R xs a.1)
+
+-- two ascending lists, one after the other
+pub Ascends-joined : {K : Type 0} (R : K → K → Ordering) (xs ys : List K) → Ascends R xs → Ascends R ys → ((x y : K) → In x xs → In y ys → R x y ≡ Less) → Ascends R (xs ++ ys)
+Ascends-joined R [] ys a b h = b
+Ascends-joined R (x ∷ xs) ys a b h = (λ y i. later y (In-from_append y xs ys i), Ascends-joined R xs ys a.1 b (λ v w i j. h v w (inr i) j))
+  where
+    later : (y : _) → In y xs ⊎ In y ys → R x y ≡ Less
+    later y (inl i) = a.0 y i
+    later y (inr j) = h x y (inl refl) j

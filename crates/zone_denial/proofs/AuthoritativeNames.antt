@@ -56,6 +56,15 @@ authoritative_listed origin m c n k =
 
 -- ---- maps in which names own the same types
 
+-- where the same names own NS, the same zone cuts stand above a name
+pub same_cuts : (origin : Name) (m after : Sets) → ((n : Name) → owns after n NS ≡ owns m n NS) → (n : Name) → is_below_cut origin after n ≡ is_below_cut origin m n
+same_cuts origin m after same n = both_ways (is_below_cut origin after n) (is_below_cut origin m n) (moved after m (λ a. sym (same a))) (moved m after same)
+  where
+    moved : (a b : Sets) → ((n : Name) → owns b n NS ≡ owns a n NS) → is_below_cut origin a n ≡ true → is_below_cut origin b n ≡ true
+    moved a b f k =
+        let r = In-from_any (λ w. is_above origin w && is_above w n) (owners a NS) k in
+        any_from_In (λ w. is_above origin w && is_above w n) r.0 (owners b NS) (owner_in b r.0 NS (f r.0 ∙ owner_owned a r.0 NS r.1)) r.2
+
 -- types of type c aside, and c isn't NS
 abbrev pub OwnSameBesides : ℕ → Sets → Sets → Type 0
 OwnSameBesides c m after = (n : Name) (t : ℕ) → (t == c) ≡ false → owns after n t ≡ owns m n t
@@ -67,13 +76,5 @@ module _ (c : ℕ) (not_cut : (NS == c) ≡ false) (origin : Name) (m after : Se
       moved : (a b : Sets) → OwnSameBesides c b a → owns_besides a c n ≡ true → owns_besides b c n ≡ true
       moved a b f k = let r = from_besides a c n k in besides_from b c n r.0 r.1 (sym (f n r.0 (not_true (r.0 == c) r.1)) ∙ r.2)
 
-  same_cuts : (n : Name) → is_below_cut origin after n ≡ is_below_cut origin m n
-  same_cuts n = both_ways (is_below_cut origin after n) (is_below_cut origin m n) (moved after m (λ a. sym (same a NS not_cut))) (moved m after (λ a. same a NS not_cut))
-    where
-      moved : (a b : Sets) → ((n : Name) → owns b n NS ≡ owns a n NS) → is_below_cut origin a n ≡ true → is_below_cut origin b n ≡ true
-      moved a b f k =
-          let r = In-from_any (λ w. is_above origin w && is_above w n) (owners a NS) k in
-          any_from_In (λ w. is_above origin w && is_above w n) r.0 (owners b NS) (owner_in b r.0 NS (f r.0 ∙ owner_owned a r.0 NS r.1)) r.2
-
   pub same_authority : (n : Name) → is_authoritative origin after c n ≡ is_authoritative origin m c n
-  same_authority n = λ i. is_at_or_above origin n && (same_besides n i && not (same_cuts n i))
+  same_authority n = λ i. is_at_or_above origin n && (same_besides n i && not (same_cuts origin m after (λ a. same a NS not_cut) n i))

@@ -1,4 +1,4 @@
--- One pass over the entries of a zone that finds the keys of the circle
+-- One pass over the entries of a zone that finds the keys of a circle, of denials of one type
 use Rattle.std.proofs.Common.{◌≡◌, ℕ, ◌==◌, ◌&&◌, ◌||◌, not, Bool, true, false, cond, List, [], ◌∷◌, ◌++◌, refl, sym, ap, ◌∙◌, true≢false, arith, ◌⊎◌, inl, inr, append_assoc, append-nil, Less}
 use Rattle.std.specs.Prelude.{Option, Some, None, filter, option_map}
 use Rattle.std.specs.Borrow.{Bor}
@@ -10,19 +10,19 @@ use Rattle.std.specs.Map.{keys_of}
 use Rattle.std.specs.Ordering.{nat_cmp}
 use Rattle.std.proofs.lemmas.Bool.Decides.{nat_tests}
 use Rattle.zone_proto.specs.declared.rr_key.RrKey.{RrKey}
-use Rattle.zone_proto.specs.Keys.{key_cmp}
+use Rattle.zone_proto.specs.Keys.{key, key_cmp}
 use Rattle.zone_proto.specs.Names.{Name, name_cmp, is_above, is_at_or_above, IsAbove}
 use Rattle.zone_proto.specs.Order.{is_upto}
 use Rattle.zone_proto.specs.Sets.{RRset}
-use Rattle.zone_proto.specs.Types.{NS, NSEC}
-use Rattle.zone_proto.proofs.Members.{In, or_right, In-from_map}
+use Rattle.zone_proto.specs.Types.{NS}
+use Rattle.zone_proto.proofs.Members.{In, or_right, In-map, In-from_map, In-filter, In-from_filter}
 use Rattle.zone_proto.proofs.NameTree.{above_test, above_is_less}
 use Rattle.zone_proto.proofs.Orders.{irrefl, before_from_upto, upto_same}
 use Rattle.zone_proto.proofs.Tree.{name_order, together, above_cases}
 use Rattle.zone_map.specs.Zones.{Sets, owners, owns}
 use Rattle.zone_map.proofs.Lists.{then_upto}
-use Rattle.zone_map.proofs.Owned.{entry_owned}
-use Rattle.zone_denial.specs.Authority.{owns_besides}
+use Rattle.zone_map.proofs.Owned.{entry_owned, has_entry}
+use Rattle.zone_denial.specs.Authority.{owns_besides, is_authoritative}
 use Rattle.zone_denial.specs.AuthoritativeKeys.{is_circle_key, authoritative_keys}
 use Rattle.zone_denial.proofs.AuthoritativeNames.{besides_from}
 use Rattle.zone_denial.proofs.Ascending.{Ascends, Ascends-from_sorted}
@@ -35,13 +35,13 @@ below cut n = option_map_or (λ a. is_above a n) cut false
 abbrev pub next_cut : Name → Option Name → RrKey → Option Name
 next_cut origin cut k = cond (below cut k.name) cut (cond ((k.record_type.0 == NS) && is_above origin k.name) (Some k.name) cut)
 
-abbrev pub counts : Name → Option Name → RrKey → Bool
-counts origin cut k = not (below cut k.name) && (not (k.record_type.0 == NSEC) && is_at_or_above origin k.name)
+abbrev pub counts : Name → ℕ → Option Name → RrKey → Bool
+counts origin denial cut k = not (below cut k.name) && (not (k.record_type.0 == denial) && is_at_or_above origin k.name)
 
 -- the keys that count of those that are left
-pub kept : Name → Option Name → List RrKey → List RrKey
-kept origin cut [] = []
-kept origin cut (k ∷ ks) = cond (counts origin cut k) (k ∷ kept origin (next_cut origin cut k) ks) (kept origin (next_cut origin cut k) ks)
+pub kept : Name → ℕ → Option Name → List RrKey → List RrKey
+kept origin denial cut [] = []
+kept origin denial cut (k ∷ ks) = cond (counts origin denial cut k) (k ∷ kept origin denial (next_cut origin cut k) ks) (kept origin denial (next_cut origin cut k) ks)
 
 -- ---- keys that ascend
 
@@ -154,8 +154,8 @@ module _ (origin : Name) where
       by false false = h
 
   -- whether a key counts, given the cut and the keys that follow it
-  abbrev chosen : Option Name → List RrKey → RrKey → Bool
-  chosen cut ks k = not (k.record_type.0 == NSEC) && (is_at_or_above origin k.name && not (below cut k.name || under_ns origin ks k.name))
+  abbrev chosen : ℕ → Option Name → List RrKey → RrKey → Bool
+  chosen denial cut ks k = not (k.record_type.0 == denial) && (is_at_or_above origin k.name && not (below cut k.name || under_ns origin ks k.name))
 
   under_cons : (k : RrKey) (ks : List RrKey) (n : Name) → under_ns origin (k ∷ ks) n ≡ ((k.record_type.0 == NS) && is_above origin k.name && is_above k.name n) || under_ns origin ks n
   under_cons k ks n = by (NS == k.record_type.0) (k.record_type.0 == NS) (eq_swap NS k.record_type.0)
@@ -166,10 +166,10 @@ module _ (origin : Name) where
       by true false e = absurd (true≢false e)
       by false true e = absurd (true≢false (sym e))
 
-  chosen_here : (cut : Option Name) (k : RrKey) (ks : List RrKey) → Ascends key_cmp (k ∷ ks) → counts origin cut k ≡ chosen cut (k ∷ ks) k
-  chosen_here cut k ks a =
-      by (below cut k.name) (not (k.record_type.0 == NSEC)) (is_at_or_above origin k.name)
-      ∙ ap (λ b. not (k.record_type.0 == NSEC) && (is_at_or_above origin k.name && not (below cut k.name || b))) (sym (none_above origin (k ∷ ks) k.name first))
+  chosen_here : (denial : ℕ) (cut : Option Name) (k : RrKey) (ks : List RrKey) → Ascends key_cmp (k ∷ ks) → counts origin denial cut k ≡ chosen denial cut (k ∷ ks) k
+  chosen_here denial cut k ks a =
+      by (below cut k.name) (not (k.record_type.0 == denial)) (is_at_or_above origin k.name)
+      ∙ ap (λ b. not (k.record_type.0 == denial) && (is_at_or_above origin k.name && not (below cut k.name || b))) (sym (none_above origin (k ∷ ks) k.name first))
     where
       first : (q : RrKey) → In q (k ∷ ks) → is_upto name_cmp k.name q.name ≡ true
       first q (inl e) = upto_same name_order k.name q.name (ap (λ (r : RrKey). r.name) e)
@@ -183,24 +183,24 @@ module _ (origin : Name) where
       by false true false = refl
       by false false d = refl
 
-  chosen_later : (cut : Option Name) (k : RrKey) (ks : List RrKey) (q : RrKey) → Upto cut k.name → is_upto name_cmp k.name q.name ≡ true → chosen (next_cut origin cut k) ks q ≡ chosen cut (k ∷ ks) q
-  chosen_later cut k ks q before after =
+  chosen_later : (denial : ℕ) (cut : Option Name) (k : RrKey) (ks : List RrKey) (q : RrKey) → Upto cut k.name → is_upto name_cmp k.name q.name ≡ true → chosen denial (next_cut origin cut k) ks q ≡ chosen denial cut (k ∷ ks) q
+  chosen_later denial cut k ks q before after =
       let x = (k.record_type.0 == NS) && is_above origin k.name && is_above k.name q.name in
       let step = ap (λ b. b || under_ns origin ks q.name) (sym (carried cut k q.name before after)) ∙ or_or (below cut q.name) x (under_ns origin ks q.name) ∙ ap (λ b. below cut q.name || b) (sym (under_cons k ks q.name)) in
-      ap (λ b. not (q.record_type.0 == NSEC) && (is_at_or_above origin q.name && not b)) step
+      ap (λ b. not (q.record_type.0 == denial) && (is_at_or_above origin q.name && not b)) step
     where
       or_or : (a b c : Bool) → (a || b) || c ≡ a || (b || c)
       or_or true b c = refl
       or_or false b c = refl
 
-  kept_is : (cut : Option Name) (ks : List RrKey) → Ascends key_cmp ks → ((k : RrKey) → In k ks → Upto cut k.name) → kept origin cut ks ≡ filter (chosen cut ks) ks
+  kept_is : (denial : ℕ) (cut : Option Name) (ks : List RrKey) → Ascends key_cmp ks → ((k : RrKey) → In k ks → Upto cut k.name) → kept origin denial cut ks ≡ filter (chosen denial cut ks) ks
   unfolding kept
-  kept_is cut [] a u = refl
-  kept_is cut (k ∷ ks) a u =
+  kept_is denial cut [] a u = refl
+  kept_is denial cut (k ∷ ks) a u =
       let next = next_cut origin cut k in
-      let ih = kept_is next ks a.1 (λ q i. upto_next cut k q.name (u q (inr i)) (names_upto k q (a.0 q i))) in
-      let rest = ih ∙ filter_same (chosen next ks) (chosen cut (k ∷ ks)) ks (λ q i. chosen_later cut k ks q (u k (inl refl)) (names_upto k q (a.0 q i))) in
-      λ i. cond (chosen_here cut k ks a i) (k ∷ rest i) (rest i)
+      let ih = kept_is denial next ks a.1 (λ q i. upto_next cut k q.name (u q (inr i)) (names_upto k q (a.0 q i))) in
+      let rest = ih ∙ filter_same (chosen denial next ks) (chosen denial cut (k ∷ ks)) ks (λ q i. chosen_later denial cut k ks q (u k (inl refl)) (names_upto k q (a.0 q i))) in
+      λ i. cond (chosen_here denial cut k ks a i) (k ∷ rest i) (rest i)
 
 -- ---- in a zone these are the keys of the circle
 
@@ -209,34 +209,44 @@ key_owned m k i =
     let r = In-from_map (λ (e : RrKey × RRset). e.0) k m i in
     entry_owned m k.name k.record_type.0 r.0 r.1 r.2
 
-pub kept_is_authoritative : (origin : Name) (m : Sets) → IsStrictlySortedBy key_cmp (keys_of m) → kept origin None (keys_of m) ≡ authoritative_keys origin m
-kept_is_authoritative origin m s =
-    kept_is origin None (keys_of m) (Ascends-from_sorted key_cmp (keys_of m) s) (λ k i. tt)
-    ∙ filter_same (chosen origin None (keys_of m)) (is_circle_key origin m) (keys_of m) each
+pub kept_is_authoritative : (origin : Name) (m : Sets) (denial : ℕ) → IsStrictlySortedBy key_cmp (keys_of m) → kept origin denial None (keys_of m) ≡ authoritative_keys origin m denial
+kept_is_authoritative origin m denial s =
+    kept_is origin denial None (keys_of m) (Ascends-from_sorted key_cmp (keys_of m) s) (λ k i. tt)
+    ∙ filter_same (chosen origin denial None (keys_of m)) (is_circle_key origin m denial) (keys_of m) each
   where
-    each : (k : RrKey) → In k (keys_of m) → chosen origin None (keys_of m) k ≡ is_circle_key origin m k
+    each : (k : RrKey) → In k (keys_of m) → chosen origin denial None (keys_of m) k ≡ is_circle_key origin m denial k
     each k i =
-        by (not (k.record_type.0 == NSEC)) refl
-        ∙ ap (λ ns. not (k.record_type.0 == NSEC) && (is_at_or_above origin k.name && (owns_besides m NSEC k.name && not (list_any (λ a. is_above origin a && is_above a k.name) ns)))) (sym (owners_by_keys m))
+        by (not (k.record_type.0 == denial)) refl
+        ∙ ap (λ ns. not (k.record_type.0 == denial) && (is_at_or_above origin k.name && (owns_besides m denial k.name && not (list_any (λ a. is_above origin a && is_above a k.name) ns)))) (sym (owners_by_keys m))
       where
-        by : (b : Bool) → not (k.record_type.0 == NSEC) ≡ b → b && (is_at_or_above origin k.name && not (under_ns origin (keys_of m) k.name))
-            ≡ b && (is_at_or_above origin k.name && (owns_besides m NSEC k.name && not (under_ns origin (keys_of m) k.name)))
-        by true e = ap (λ c. is_at_or_above origin k.name && (c && not (under_ns origin (keys_of m) k.name))) (sym (besides_from m NSEC k.name k.record_type.0 e (key_owned m k i)))
+        by : (b : Bool) → not (k.record_type.0 == denial) ≡ b → b && (is_at_or_above origin k.name && not (under_ns origin (keys_of m) k.name))
+            ≡ b && (is_at_or_above origin k.name && (owns_besides m denial k.name && not (under_ns origin (keys_of m) k.name)))
+        by true e = ap (λ c. is_at_or_above origin k.name && (c && not (under_ns origin (keys_of m) k.name))) (sym (besides_from m denial k.name k.record_type.0 e (key_owned m k i)))
         by false e = refl
+
+-- what these keys are
+pub circle_key_from : (origin : Name) (m : Sets) (denial : ℕ) (k : RrKey) → In k (authoritative_keys origin m denial) → In k (keys_of m) × (is_circle_key origin m denial k ≡ true)
+circle_key_from origin m denial k i = In-from_filter (is_circle_key origin m denial) k (keys_of m) i
+
+pub circle_key_in : (origin : Name) (m : Sets) (denial : ℕ) (n : Name) (t : ℕ) → owns m n t ≡ true → not (t == denial) ≡ true → is_authoritative origin m denial n ≡ true → In (key n t) (authoritative_keys origin m denial)
+circle_key_in origin m denial n t h other on =
+    let e = has_entry m n t h in
+    let passes : is_circle_key origin m denial (key n t) ≡ true = ap (λ b. b && is_authoritative origin m denial n) other ∙ on in
+    In-filter (is_circle_key origin m denial) (key n t) (keys_of m) (In-map (λ (d : RrKey × RRset). d.0) (key n t, e.0) m e.1) passes
 
 -- ---- the loop
 
-module _ (origin : Name) (cut : Option Name) (made all : List RrKey) (rest after : Sets) (e : RrKey × RRset) (is : rest ≡ e ∷ after) (so_far : made ++ kept origin cut (keys_of rest) ≡ all) where
+module _ (origin : Name) (denial : ℕ) (cut : Option Name) (made all : List RrKey) (rest after : Sets) (e : RrKey × RRset) (is : rest ≡ e ∷ after) (so_far : made ++ kept origin denial cut (keys_of rest) ≡ all) where
   -- a key that stands below the cut is passed over
-  pub passed_over : below cut e.0.name ≡ true → made ++ kept origin cut (keys_of after) ≡ all
+  pub passed_over : below cut e.0.name ≡ true → made ++ kept origin denial cut (keys_of after) ≡ all
   unfolding kept
   passed_over h =
-      let later = kept origin cut (keys_of after) in
-      let test = not (e.0.record_type.0 == NSEC) && is_at_or_above origin e.0.name in
+      let later = kept origin denial cut (keys_of after) in
+      let test = not (e.0.record_type.0 == denial) && is_at_or_above origin e.0.name in
       let new = cond ((e.0.record_type.0 == NS) && is_above origin e.0.name) (Some e.0.name) cut in
-      let step : kept origin cut (keys_of (e ∷ after)) ≡ later =
-      λ i. cond (not (h i) && test) (e.0 ∷ kept origin (cond (h i) cut new) (keys_of after)) (kept origin (cond (h i) cut new) (keys_of after)) in
-      ap (λ ks. made ++ ks) (sym step) ∙ ap (λ (es : Sets). made ++ kept origin cut (keys_of es)) (sym is) ∙ so_far
+      let step : kept origin denial cut (keys_of (e ∷ after)) ≡ later =
+      λ i. cond (not (h i) && test) (e.0 ∷ kept origin denial (cond (h i) cut new) (keys_of after)) (kept origin denial (cond (h i) cut new) (keys_of after)) in
+      ap (λ ks. made ++ ks) (sym step) ∙ ap (λ (es : Sets). made ++ kept origin denial cut (keys_of es)) (sym is) ∙ so_far
 
   -- any other may be a cut, and may count
   module _ (apart : below cut e.0.name ≡ false) (b : Bool) (is_cut : b ≡ (e.0.record_type.0 == NS) && is_above origin e.0.name) (new : Option Name) (new_is : new ≡ cond b (Some e.0.name) cut) where
@@ -245,29 +255,29 @@ module _ (origin : Name) (cut : Option Name) (made all : List RrKey) (rest after
         ap (λ c. cond c cut (cond ((e.0.record_type.0 == NS) && is_above origin e.0.name) (Some e.0.name) cut)) apart
         ∙ sym (new_is ∙ ap (λ c. cond c (Some e.0.name) cut) is_cut)
 
-    step : kept origin cut (keys_of rest) ≡ cond (not (e.0.record_type.0 == NSEC) && is_at_or_above origin e.0.name) (e.0 ∷ kept origin new (keys_of after)) (kept origin new (keys_of after))
+    step : kept origin denial cut (keys_of rest) ≡ cond (not (e.0.record_type.0 == denial) && is_at_or_above origin e.0.name) (e.0 ∷ kept origin denial new (keys_of after)) (kept origin denial new (keys_of after))
     unfolding kept
     step =
-        ap (λ (es : Sets). kept origin cut (keys_of es)) is
+        ap (λ (es : Sets). kept origin denial cut (keys_of es)) is
         ∙ (λ i.
-        cond (not (apart i) && (not (e.0.record_type.0 == NSEC) && is_at_or_above origin e.0.name)) (e.0 ∷ kept origin (renewed i) (keys_of after))
-        (kept origin (renewed i) (keys_of after)))
+        cond (not (apart i) && (not (e.0.record_type.0 == denial) && is_at_or_above origin e.0.name)) (e.0 ∷ kept origin denial (renewed i) (keys_of after))
+        (kept origin denial (renewed i) (keys_of after)))
 
-    pub counted : not (e.0.record_type.0 == NSEC) && is_at_or_above origin e.0.name ≡ true → (made ++ e.0 ∷ []) ++ kept origin new (keys_of after) ≡ all
+    pub counted : not (e.0.record_type.0 == denial) && is_at_or_above origin e.0.name ≡ true → (made ++ e.0 ∷ []) ++ kept origin denial new (keys_of after) ≡ all
     counted h =
-        append_assoc made (e.0 ∷ []) (kept origin new (keys_of after))
-        ∙ ap (λ ks. made ++ ks) (sym (step ∙ ap (λ c. cond c (e.0 ∷ kept origin new (keys_of after)) (kept origin new (keys_of after))) h))
+        append_assoc made (e.0 ∷ []) (kept origin denial new (keys_of after))
+        ∙ ap (λ ks. made ++ ks) (sym (step ∙ ap (λ c. cond c (e.0 ∷ kept origin denial new (keys_of after)) (kept origin denial new (keys_of after))) h))
         ∙ so_far
 
-    pub uncounted : not (e.0.record_type.0 == NSEC) && is_at_or_above origin e.0.name ≡ false → made ++ kept origin new (keys_of after) ≡ all
+    pub uncounted : not (e.0.record_type.0 == denial) && is_at_or_above origin e.0.name ≡ false → made ++ kept origin denial new (keys_of after) ≡ all
     uncounted h =
-        ap (λ ks. made ++ ks) (sym (step ∙ ap (λ c. cond c (e.0 ∷ kept origin new (keys_of after)) (kept origin new (keys_of after))) h))
+        ap (λ ks. made ++ ks) (sym (step ∙ ap (λ c. cond c (e.0 ∷ kept origin denial new (keys_of after)) (kept origin denial new (keys_of after))) h))
         ∙ so_far
 
 -- where nothing is left, the keys so far are all
-pub kept_all : (origin : Name) (cut : Option Name) (made all : List RrKey) (rest : Sets) → made ++ kept origin cut (keys_of rest) ≡ all → rest ≡ [] → made ≡ all
+pub kept_all : (origin : Name) (denial : ℕ) (cut : Option Name) (made all : List RrKey) (rest : Sets) → made ++ kept origin denial cut (keys_of rest) ≡ all → rest ≡ [] → made ≡ all
 unfolding kept
-kept_all origin cut made all rest so_far none = sym (append-nil made) ∙ ap (λ (es : Sets). made ++ kept origin cut (keys_of es)) (sym none) ∙ so_far
+kept_all origin denial cut made all rest so_far none = sym (append-nil made) ∙ ap (λ (es : Sets). made ++ kept origin denial cut (keys_of es)) (sym none) ∙ so_far
 
 -- a cut that is lent
 pub below_lent : (cut : Option (Bor Name)) (n : Name) → option_map_or (λ a. is_above a.now n) cut false ≡ below (option_map (λ a. a.now) cut) n

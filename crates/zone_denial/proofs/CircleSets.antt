@@ -20,7 +20,7 @@ use Rattle.zone_proto.proofs.Tree.{name_order}
 use Rattle.zone_proto.proofs.SetLaws.{IsSet-alone}
 use Rattle.zone_map.specs.Zones.{Sets, last_at, names_of, types_at, owns, IsStoredAt, AreStored, IsZone}
 use Rattle.zone_map.proofs.Lists.{owner_lowered}
-use Rattle.zone_map.proofs.Owned.{has_entry, type_in, type_owned}
+use Rattle.zone_map.proofs.Owned.{type_in, type_owned}
 use Rattle.zone_map.proofs.Upserting.{same_from_lower}
 use Rattle.zone_denial.specs.Authority.{is_authoritative, authoritative_names}
 use Rattle.zone_denial.specs.AuthoritativeKeys.{is_circle_key, authoritative_keys}
@@ -30,20 +30,17 @@ use Rattle.zone_denial.specs.NsecSets.{nsec_data, new_set, nsec_set, nsec_set_at
 use Rattle.zone_denial.specs.TypeLists.{in_order, nsec_types}
 use Rattle.zone_denial.proofs.InOrder.{flipped, in_order_same}
 use Rattle.zone_denial.proofs.AuthoritativeNames.{authoritative_listed, from_besides}
-use Rattle.zone_denial.proofs.CircleKeys.{key_owned}
+use Rattle.zone_denial.proofs.CircleKeys.{key_owned, circle_key_from, circle_key_in}
 use Rattle.zone_denial.proofs.Linking.{linked}
 
-module _ (origin : Name) (m : Sets) (ks : List RrKey) (are : ks ≡ authoritative_keys origin m) where
+module _ (origin : Name) (m : Sets) (ks : List RrKey) (are : ks ≡ authoritative_keys origin m NSEC) where
   -- ---- the keys, and the names and types that they have
 
-  key_from : (k : RrKey) → In k ks → In k (keys_of m) × (is_circle_key origin m k ≡ true)
-  key_from k i = In-from_filter (is_circle_key origin m) k (keys_of m) (subst (λ qs. In k qs) are i)
+  key_from : (k : RrKey) → In k ks → In k (keys_of m) × (is_circle_key origin m NSEC k ≡ true)
+  key_from k i = circle_key_from origin m NSEC k (subst (λ qs. In k qs) are i)
 
   key_in : (n : Name) (t : ℕ) → owns m n t ≡ true → not (t == NSEC) ≡ true → is_authoritative origin m NSEC n ≡ true → In (key n t) ks
-  key_in n t h other on =
-      let e = has_entry m n t h in
-      let passes : is_circle_key origin m (key n t) ≡ true = ap (λ b. b && is_authoritative origin m NSEC n) other ∙ on in
-      subst (λ qs. In (key n t) qs) (sym are) (In-filter (is_circle_key origin m) (key n t) (keys_of m) (In-map (λ (d : RrKey × RRset). d.0) (key n t, e.0) m e.1) passes)
+  key_in n t h other on = subst (λ qs. In (key n t) qs) (sym are) (circle_key_in origin m NSEC n t h other on)
 
   name_from : (n : Name) → In n (key_names ks) → is_authoritative origin m NSEC n ≡ true
   name_from n i =

@@ -73,11 +73,11 @@ module _ (p : RrKey × RRset → Bool) where
     pub passes : p e ≡ true
     pub last : (f : RrKey × RRset) → In f m → p f ≡ true → key_cmp e.0 f.0 ≡ Less → ⊥
 
-  abbrev LastOf : Sets → Option (RrKey × RRset) → Type 0
+  abbrev pub LastOf : Sets → Option (RrKey × RRset) → Type 0
   LastOf m None = (f : RrKey × RRset) → In f m → p f ≡ true → ⊥
   LastOf m (Some e) = IsLastEntry m e
 
-  last_of : (m : Sets) → IsStrictlySortedBy key_cmp (keys_of m) → LastOf m (last_with p m)
+  pub last_of : (m : Sets) → IsStrictlySortedBy key_cmp (keys_of m) → LastOf m (last_with p m)
   last_of [] s = λ f i h. i
   last_of (e ∷ m) s = by (last_with p m) (last_of m (sorted_tail key_cmp e.0 (keys_of m) s))
     where

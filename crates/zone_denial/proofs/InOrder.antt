@@ -130,3 +130,7 @@ module _ {K : Type 0} {R : K → K → Ordering} (o : IsOrder R) where
   in_order_same xs ys f g = ascending_same (in_order R xs) (in_order R ys) (in_order_ascends xs) (in_order_ascends ys)
       (λ x i. In-in_order x ys (f x (In-from_in_order x xs i)))
       (λ x i. In-in_order x xs (g x (In-from_in_order x ys i)))
+
+  -- and an ascending list is in order
+  pub in_order_itself : (xs : List K) → IsStrictlySortedBy R xs → in_order R xs ≡ xs
+  in_order_itself xs a = ascending_same (in_order R xs) xs (in_order_ascends xs) a (λ x i. In-from_in_order x xs i) (λ x i. In-in_order x xs i)

@@ -62,9 +62,33 @@ of_count n m xs = let e : n + m - n ≡ m = omega arith in ap (λ k. take k (dro
 abbrev pub lent_keys : List (Bor RrKey) → List RrKey
 lent_keys bs = map (λ b. b.now) bs
 
-types_lent : (bs : List (Bor RrKey)) → types_of_keys (lent_keys bs) ≡ map (λ b. b.now.record_type.0) bs
+pub types_lent : (bs : List (Bor RrKey)) → types_of_keys (lent_keys bs) ≡ map (λ b. b.now.record_type.0) bs
 types_lent [] = refl
 types_lent (b ∷ bs) = ap (λ ts. b.now.record_type.0 ∷ ts) (types_lent bs)
+
+-- ---- the keys in front that are of a name
+
+module _ (n : Name) (keys : List (Bor RrKey)) (count : ℕ) (counted : count ≡ prefix_len (λ (b : Bor RrKey). eq_by_cmp name_cmp b.now.name n) keys) where
+  abbrev is_of_name : Bor RrKey → Bool
+  is_of_name b = eq_by_cmp name_cmp b.now.name n
+
+  pub front_parts : lent_keys keys ≡ lent_keys (take count keys) ++ lent_keys (drop count keys)
+  front_parts = ap lent_keys (sym (take-append-drop count keys)) ∙ map-append (λ (b : Bor RrKey). b.now) (take count keys) (drop count keys)
+
+  pub front_named : (k : RrKey) → In k (lent_keys (take count keys)) → k.name ≡ n
+  front_named k i =
+      let r = In-from_map (λ (b : Bor RrKey). b.now) k (take count keys) i in
+      let passes = in_front is_of_name r.0 keys (subst (λ c. In r.0 (take c keys)) counted r.1) in
+      name_order.exact k.name n (equal_of (name_cmp k.name n) (ap (λ (q : RrKey). eq_by_cmp name_cmp q.name n) (sym r.2) ∙ passes))
+
+  pub front_apart : (q : RrKey) (qs : List RrKey) → lent_keys (drop count keys) ≡ q ∷ qs → q.name ≡ n → ⊥
+  front_apart q qs e same = by (drop count keys) (sym (ap (λ c. drop c keys) counted)) e
+    where
+      by : (bs : List (Bor RrKey)) → drop (prefix_len is_of_name keys) keys ≡ bs → lent_keys bs ≡ q ∷ qs → ⊥
+      by [] h e = cc
+      by (b ∷ bs) h e =
+          let name : b.now.name ≡ n = ap (λ (k : RrKey). k.name) (let s : b.now ≡ q = cc in s) ∙ same in
+          true≢false (sym (ap (λ x. eq_by_cmp name_cmp x n) name ∙ ap is_eq (name_itself n)) ∙ past_front is_of_name b keys bs h)
 
 -- ---- from a place of the list on, the keys of the name that stands there
 
@@ -94,34 +118,20 @@ module _ (keys : List (Bor RrKey)) (start count : ℕ) (first : Bor RrKey) (lt :
   others_are : others ≡ drop count (drop start keys)
   others_are = drop_add start count keys
 
-  parts : lent_keys (drop start keys) ≡ lent_keys own ++ lent_keys others
-  parts =
-      ap lent_keys (sym (take-append-drop count (drop start keys)) ∙ ap (λ bs. own ++ bs) (sym others_are))
-      ∙ map-append (λ (b : Bor RrKey). b.now) own others
+  pub parts : lent_keys (drop start keys) ≡ lent_keys own ++ lent_keys others
+  parts = front_parts first.now.name (drop start keys) count counted ∙ ap (λ bs. lent_keys own ++ lent_keys bs) (sym others_are)
 
-  first_in : In first.now (lent_keys own)
+  pub first_in : In first.now (lent_keys own)
   first_in =
       let there : own ≡ first ∷ take (prefix_len of_name (drop (suc start) keys)) (drop (suc start) keys) =
       λ i. take (count_is i) (left_is i) in
       subst (λ bs. In first.now (lent_keys bs)) (sym there) (inl refl)
 
-  same_name : (k : RrKey) → eq_by_cmp name_cmp k.name first.now.name ≡ true → k.name ≡ first.now.name
-  same_name k h = name_order.exact k.name first.now.name (equal_of (name_cmp k.name first.now.name) h)
+  pub named : (k : RrKey) → In k (lent_keys own) → k.name ≡ first.now.name
+  named = front_named first.now.name (drop start keys) count counted
 
-  named : (k : RrKey) → In k (lent_keys own) → k.name ≡ first.now.name
-  named k i =
-      let r = In-from_map (λ (b : Bor RrKey). b.now) k own i in
-      let passes = in_front of_name r.0 (drop start keys) (subst (λ c. In r.0 (take c (drop start keys))) counted r.1) in
-      same_name k (ap (λ (q : RrKey). eq_by_cmp name_cmp q.name first.now.name) (sym r.2) ∙ passes)
-
-  apart : (q : RrKey) (qs : List RrKey) → lent_keys others ≡ q ∷ qs → q.name ≡ first.now.name → ⊥
-  apart q qs e same = by others (sym (others_are ∙ ap (λ c. drop c (drop start keys)) counted)) e
-    where
-      by : (bs : List (Bor RrKey)) → drop (prefix_len of_name (drop start keys)) (drop start keys) ≡ bs → lent_keys bs ≡ q ∷ qs → ⊥
-      by [] h e = cc
-      by (b ∷ bs) h e =
-          let name : b.now.name ≡ first.now.name = ap (λ (k : RrKey). k.name) (let s : b.now ≡ q = cc in s) ∙ same in
-          true≢false (sym (ap (λ n. eq_by_cmp name_cmp n first.now.name) name ∙ itself) ∙ past_front of_name b (drop start keys) bs h)
+  pub apart : (q : RrKey) (qs : List RrKey) → lent_keys others ≡ q ∷ qs → q.name ≡ first.now.name → ⊥
+  apart q qs e same = front_apart first.now.name (drop start keys) count counted q qs (ap lent_keys (sym others_are) ∙ e) same
 
   -- the next set is made
   pub Linking-step : (origin : Name) (ks : List RrKey) (ttl serial : ℕ) (entries : Sets) → Linking origin ks ttl serial entries (lent_keys (drop start keys))

@@ -1,4 +1,9 @@
 pub mod ClosestSets
+pub mod CoverSets
+pub mod SetsJoined
+pub mod SetsInOrder
+pub mod DenialSteps
+pub mod StarTests
 pub mod Parents
 pub mod DenialLists
 pub mod InOrder
@@ -18,6 +23,28 @@ pub mod Linking
 pub mod KeyRuns
 pub mod CircleSets
 mod Nsec3Examples
+mod Nsec3SetExamples
 mod Nsec3Premises
 pub mod Nsec3NameLaws
 pub mod Nsec3TypeLaws
+pub mod CoveringPairs
+pub mod Nsec3Enclosers
+pub mod Nsec3Owners
+pub mod Nsec3Covers
+pub mod Nsec3Encloses
+pub mod Nsec3Lists
+pub mod CircleImages
+pub mod AllPassing
+pub mod Nsec3SameNames
+pub mod HashedCircle
+pub mod Nsec3Secured
+pub mod HashedNames
+pub mod NextAround
+pub mod TakenRecords
+pub mod CirclesMade
+pub mod AnnouncedSets
+pub mod CirclesOfZones
+pub mod NewAncestors
+pub mod Nsec3Runs
+pub mod Naming
+pub mod NamingSteps

@@ -27,7 +27,7 @@ abbrev pub types_of_keys : List RrKey → List ℕ
 types_of_keys ks = map (λ (k : RrKey). k.record_type.0) ks
 
 -- x is before y, and y not after z
-before_upto : (x y z : Name) → name_cmp x y ≡ Less → is_upto name_cmp y z ≡ true → name_cmp x z ≡ Less
+pub before_upto : (x y z : Name) → name_cmp x y ≡ Less → is_upto name_cmp y z ≡ true → name_cmp x z ≡ Less
 before_upto x y z h k = by (upto_cases name_order y z k)
   where
     by : (y ≡ z) ⊎ (name_cmp y z ≡ Less) → name_cmp x z ≡ Less
@@ -44,7 +44,7 @@ least_of_none xs h = by (least name_cmp xs) refl
 -- ---- the keys of one name in front of others
 
 module _ (n : Name) where
-  types_ascend : (own : List RrKey) → Ascends key_cmp own → ((k : RrKey) → In k own → k.name ≡ n) → Ascends nat_cmp (types_of_keys own)
+  pub types_ascend : (own : List RrKey) → Ascends key_cmp own → ((k : RrKey) → In k own → k.name ≡ n) → Ascends nat_cmp (types_of_keys own)
   types_ascend [] a h = tt
   types_ascend (k ∷ own) a h = (later, types_ascend own a.1 (λ q i. h q (inr i)))
     where
@@ -55,7 +55,7 @@ module _ (n : Name) where
           ap (nat_cmp k.record_type.0) (sym r.2) ∙ sym (ap (λ o. ordering_then o (nat_cmp k.record_type.0 r.0.record_type.0)) tied) ∙ a.0 r.0 r.1
 
   -- what follows the keys of a name, if its first isn't of that name, stands after it
-  others_after : (f : RrKey) (own others : List RrKey) → f.name ≡ n → In f own → Ascends key_cmp (own ++ others) → ((q : RrKey) (qs : List RrKey) → others ≡ q ∷ qs → q.name ≡ n → ⊥)
+  pub others_after : (f : RrKey) (own others : List RrKey) → f.name ≡ n → In f own → Ascends key_cmp (own ++ others) → ((q : RrKey) (qs : List RrKey) → others ≡ q ∷ qs → q.name ≡ n → ⊥)
       → (q : RrKey) → In q others → name_cmp n q.name ≡ Less
   others_after f own [] e i a apart q j = absurd j
   others_after f own (h ∷ others) e i a apart q j = by j

@@ -59,27 +59,27 @@ linked table m = with_sets table m (announced m) (nsec3_names origin m false)
 
 -- ---- names
 
-abbrev y : Name
+abbrev pub y : Name
 y = at_origin (codes "y")
 
 -- an empty name above x.y
-abbrev deep : Sets
+abbrev pub deep : Sets
 deep = start ∷ public_key ∷ address (codes "x" ∷ y) ∷ []
 
 names_with_empty : nsec3_names origin deep false ≡ origin ∷ y ∷ (codes "x" ∷ y) ∷ []
 names_with_empty = refl
 
 -- a zone cut without DS, one with, and one below an empty name; glue below the first
-abbrev unsigned : Name
+abbrev pub unsigned : Name
 unsigned = at_origin (codes "a")
 
-abbrev signed : Name
+abbrev pub signed : Name
 signed = at_origin (codes "b")
 
 abbrev below_empty : Name
 below_empty = codes "d" ∷ at_origin (codes "c")
 
-abbrev cuts : Sets
+abbrev pub cuts : Sets
 cuts =
     start ∷ public_key ∷ entry unsigned NS (V.NS (codes "ns" ∷ unsigned)) ∷ address (codes "ns" ∷ unsigned) ∷ entry signed NS (V.NS (codes "ns" ∷ unsigned))
     ∷ entry signed DS (V.Other (record { record_type = record { 0 = DS }; octets = 1 ∷ []; other = refl })) ∷ entry below_empty NS (V.NS (codes "ns" ∷ unsigned)) ∷ []
@@ -111,7 +111,7 @@ next_of_greatest = refl
 
 -- ---- denials in a zone with the host a
 
-abbrev a : Name
+abbrev pub a : Name
 a = at_origin (codes "a")
 
 abbrev pub b : Name

@@ -1,26 +1,28 @@
 -- The premises of a denial by NSEC3 are met: the zone of its origin alone, with its NSEC3 set, is one that NSEC3 denies, and
 -- a hash by a table tells the names apart that are hashed for a name that isn't there
-use Rattle.std.proofs.Common.{◌≡◌, ℕ, ◌+◌, false, List, [], ◌∷◌, ◌++◌, length, slice_index, refl, sym, ap, ◌∙◌, subst, true≢false, inl, inr, ◌⊎◌, length-append, arith}
-use Rattle.std.specs.Prelude.{Bool, true, Some, None, cond, unwrap_or, is_some, IsTrue}
-use Rattle.std.specs.List.{AllByRecursion}
-use Rattle.zone_proto.specs.Faults.{fault_of}
+use Rattle.std.proofs.Common.{◌≡◌, ℕ, ◌+◌, false, List, [], ◌∷◌, ◌++◌, ◌&&◌, ◌==◌, length, slice_index, eq-eqb, refl, sym, ap, ◌∙◌, subst, true≢false, inl, inr, ◌⊎◌, length-append, arith}
+use Rattle.std.specs.Prelude.{Bool, true, Option, Some, None, cond, unwrap_or, is_some, option_map}
+use Rattle.std.specs.List.{AllByRecursion, cons_option}
+use Rattle.zone_proto.specs.declared.record.Record.{Record}
 use Rattle.zone_proto.specs.HashedOwners.{hashed_owner}
 use Rattle.zone_proto.specs.Keys.{key, key_eq}
-use Rattle.zone_proto.specs.Names.{Name, base_name, IsAtOrAbove}
+use Rattle.zone_proto.specs.Names.{Name, base_name, name_eq, IsAtOrAbove}
 use Rattle.zone_proto.specs.Ranges.{IsOctet}
 use Rattle.zone_proto.specs.Sets.{RRset}
 use Rattle.zone_proto.specs.Types.{SOA, DNSKEY, RRSIG, NSEC3, NSEC3PARAM}
 use Rattle.zone_proto.proofs.KeyOrder.{key_same}
-use Rattle.zone_proto.proofs.Members.{In, Contains-In, In-Contains}
+use Rattle.zone_proto.proofs.Members.{In, Contains-In}
+use Rattle.zone_proto.proofs.NameTree.{name_eq-Decides}
 use Rattle.zone_proto.proofs.SetLaws.{IsSet-alone}
 use Rattle.zone_map.specs.Wildcards.{star_under}
 use Rattle.zone_map.specs.Zones.{Sets, set_at, owns, IsStoredAt, IsZone}
 use Rattle.zone_map.proofs.Stored.{IsZone-put, put_apart}
-use Rattle.zone_denial.specs.Nsec3Circle.{IsOnNsec3Circle, IsNsec3Circle}
 use Rattle.zone_denial.specs.Nsec3Names.{nsec3_names}
-use Rattle.zone_denial.specs.Nsec3Zones.{IsHashed, IsNsec3Zone, TellsApart}
+use Rattle.zone_denial.specs.Nsec3Sets.{nsec3_record, nsec3_set_at, set_of, HasNsec3Sets}
+use Rattle.zone_denial.specs.Nsec3Zones.{IsCircleName, IsHashed, IsNsec3Zone, TellsApart}
 use Rattle.zone_denial.proofs.NsecExamples.{origin, start, public_key, bare}
 use Rattle.zone_denial.proofs.NsecPremises.{type_apart, bare_zone}
+use Rattle.zone_denial.proofs.Nsec3Secured.{secured_is_nsec3_circle}
 use Rattle.zone_denial.proofs.Nsec3Examples.{parameters, b, digest_in, says, announcing, announced, linked}
 
 abbrev table : List (Name × List ℕ)
@@ -122,40 +124,57 @@ alone_zone = IsZone-put (announced bare) (key owner NSEC3) own_set (IsZone-put b
 not_there : (o : Name) → key_eq (key o NSEC3) (key owner NSEC3) ≡ false → set_at alone o NSEC3 ≡ None
 not_there o h =
     put_apart (announced bare) (key owner NSEC3) (key o NSEC3) own_set h
-    ∙ put_apart bare (key origin NSEC3PARAM) (key o NSEC3) announcing (type_apart o NSEC3 NSEC3PARAM refl)
-    ∙ (λ i. cond (type_apart o NSEC3 SOA refl i) (Some start.1) (cond (type_apart o NSEC3 DNSKEY refl i) (Some public_key.1) None))
+    ∙ put_apart bare (key origin NSEC3PARAM) (key o NSEC3) announcing (type_apart o origin NSEC3 NSEC3PARAM refl)
+    ∙ (λ i. cond (type_apart o origin NSEC3 SOA refl i) (Some start.1) (cond (type_apart o origin NSEC3 DNSKEY refl i) (Some public_key.1) None))
 
-only_owner : (o : Name) → IsTrue (owns alone o NSEC3) → o ≡ owner
-only_owner o h = by (key_eq (key o NSEC3) (key owner NSEC3)) refl
+other_owner : (o : Name) → name_eq o owner ≡ false → key_eq (key o NSEC3) (key owner NSEC3) ≡ false
+other_owner o h = by (key_eq (key o NSEC3) (key owner NSEC3)) refl
   where
-    by : (c : Bool) → key_eq (key o NSEC3) (key owner NSEC3) ≡ c → o ≡ owner
-    by true e = ap (λ k. k.name) (key_same (key o NSEC3) (key owner NSEC3) e)
-    by false e = absurd (true≢false (sym h ∙ ap is_some (not_there o e)))
+    by : (c : Bool) → key_eq (key o NSEC3) (key owner NSEC3) ≡ c → c ≡ false
+    by true e = absurd (true≢false (sym ((name_eq-Decides o owner).1 (ap (λ k. k.name) (key_same (key o NSEC3) (key owner NSEC3) e))) ∙ h))
+    by false e = refl
 
-abbrev HasSet : Name → List ℕ → Type 0
-HasSet n d = (s : RRset) × (set_at alone (hashed_owner origin d) NSEC3 ≡ Some s) × IsOnNsec3Circle origin alone (digest_in table) parameters n d s
+-- its records, as they are there and as they are to be
+abbrev records_there : Name → Option (List Record)
+records_there o = option_map (λ (s : RRset). s.records) (set_at alone o NSEC3)
 
-origin_has : HasSet origin (64 ∷ [])
-origin_has = (own_set, refl, record { single = refl; says = refl })
+abbrev records_wanted : Name → Option (List Record)
+records_wanted o = option_map (λ (s : RRset). s.records) (nsec3_set_at origin bare (digest_in table) parameters 60 7 o)
 
-has_set : (n : Name) (d : List ℕ) → In n (origin ∷ []) → digest_in table n ≡ Some d → HasSet n d
-has_set n d (inl e) h =
-    let known : Some (64 ∷ []) ≡ Some d = ap (digest_in table) e ∙ h in
-    let same : 64 ∷ [] ≡ d = cc in
-    subst (λ (k : Name). HasSet k d) e (subst (λ (ds : List ℕ). HasSet origin ds) same origin_has)
-has_set n d (inr e) h = absurd e
+denials : (o : Name) → records_there o ≡ records_wanted o
+denials o = by (name_eq o owner) refl
+  where
+    wanted_if : Bool → Option (List Record)
+    wanted_if c = option_map (λ (s : RRset). s.records) (set_of o NSEC3 7 (cons_option (cond c (Some (nsec3_record origin bare (digest_in table) parameters 60 7 (record { digest = 64 ∷ []; name = origin }))) None) []))
 
-alone_circle : IsNsec3Circle origin alone (digest_in table) parameters
-alone_circle = record {
-  one_for_each = λ n d c. has_set n d (Contains-In n (nsec3_names origin alone false) c);
-  no_other = λ o h. (origin, 64 ∷ [], In-Contains origin (origin ∷ []) (inl refl), refl, only_owner o h);
-  announced = refl;
+    by : (c : Bool) → name_eq o owner ≡ c → records_there o ≡ records_wanted o
+    by true e = let same = (name_eq-Decides o owner).0 e in ap records_there same ∙ sym (ap records_wanted same)
+    by false e = ap (option_map (λ (s : RRset). s.records)) (not_there o (other_owner o e)) ∙ sym (ap wanted_if e)
+
+-- under every other key it has what was there, NSEC3PARAM at the origin aside
+not_announcing : (n : Name) (t : ℕ) → (t == NSEC3PARAM) && name_eq n origin ≡ false → key_eq (key n t) (key origin NSEC3PARAM) ≡ false
+not_announcing n t h = by (key_eq (key n t) (key origin NSEC3PARAM)) refl
+  where
+    by : (c : Bool) → key_eq (key n t) (key origin NSEC3PARAM) ≡ c → c ≡ false
+    by true e =
+        let same : key n t ≡ key origin NSEC3PARAM = key_same (key n t) (key origin NSEC3PARAM) e in
+        absurd (true≢false (sym (λ i. (eq-eqb t NSEC3PARAM (ap (λ k. k.record_type.0) same) i) && ((name_eq-Decides n origin).1 (ap (λ k. k.name) same) i)) ∙ h))
+    by false e = refl
+
+others : (n : Name) (t : ℕ) → (t == NSEC3) ≡ false → (t == NSEC3PARAM) && name_eq n origin ≡ false → owns alone n t ≡ owns bare n t
+others n t h k = ap is_some (put_apart (announced bare) (key owner NSEC3) (key n t) own_set (type_apart n owner t NSEC3 h) ∙ put_apart bare (key origin NSEC3PARAM) (key n t) announcing (not_announcing n t k))
+
+alone_has_sets : HasNsec3Sets origin bare (digest_in table) parameters 60 7 alone
+alone_has_sets = record { others = others; denials = denials; announced = refl }
+
+circle_tells_apart : TellsApart (IsCircleName origin bare false) (digest_in table)
+circle_tells_apart = record {
+  digest = table_tells_apart.digest;
+  answers = λ n c. table_tells_apart.answers n (inl c);
+  apart = λ n k c d. table_tells_apart.apart n k (inl c) (inl d);
+  alike = λ n k c d. table_tells_apart.alike n k (inl c) (inl d);
+  octets = λ n c. table_tells_apart.octets n (inl c);
 }
 
 alone_is_nsec3_zone : IsNsec3Zone origin alone (digest_in table) parameters
-alone_is_nsec3_zone = record {
-  zone = alone_zone;
-  circle = alone_circle;
-  owners = λ o h. ap fault_of (only_owner o h);
-  below_root = λ e. cc;
-}
+alone_is_nsec3_zone = secured_is_nsec3_circle origin bare alone (digest_in table) parameters 60 7 (λ e. cc) alone_zone alone_has_sets refl circle_tells_apart

@@ -29,14 +29,14 @@ no_next_below origin m h x inside none =
 
 -- ---- names above one another
 
-above_at : (a n : Name) → IsAbove a n → IsAtOrAbove a n
+pub above_at : (a n : Name) → IsAbove a n → IsAtOrAbove a n
 above_at a n (l, f, e) = (l ∷ f, e)
 
 above_through : (a b c : Name) → IsAtOrAbove a b → IsAtOrAbove b c → IsAtOrAbove a c
 above_through a b c (f, e) (g, q) = (g ++ f, q ∙ ap (λ w. g ++ w) e ∙ sym (append_assoc g f a))
 
 -- of two ancestors of one name one is at or above the other
-comparable : (f g a b : Name) → f ++ a ≡ g ++ b → IsAtOrAbove a b ⊎ IsAtOrAbove b a
+pub comparable : (f g a b : Name) → f ++ a ≡ g ++ b → IsAtOrAbove a b ⊎ IsAtOrAbove b a
 comparable [] g a b e = inr (g, e)
 comparable (l ∷ f) [] a b e = inl (l ∷ f, sym e)
 comparable (l ∷ f) (k ∷ g) a b e = comparable f g a b (ap (drop 1) e)

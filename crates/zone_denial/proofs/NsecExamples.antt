@@ -148,7 +148,7 @@ abbrev cuts : Sets
 cuts =
     start ∷ public_key ∷ entry sub NS (V.NS (codes "ns" ∷ sub)) ∷ entry inner NS (V.NS (codes "ns" ∷ sub)) ∷ address (codes "ns" ∷ inner) ∷ address (codes "ns" ∷ sub) ∷ address behind_cuts ∷ []
 
-keys_of_cuts : authoritative_keys origin cuts ≡ key origin SOA ∷ key origin DNSKEY ∷ key sub NS ∷ key behind_cuts A ∷ []
+keys_of_cuts : authoritative_keys origin cuts NSEC ≡ key origin SOA ∷ key origin DNSKEY ∷ key sub NS ∷ key behind_cuts A ∷ []
 keys_of_cuts = refl
 
 over_cuts : nsec_set_at origin cuts 300 7 sub NSEC ≡ Some (says sub behind_cuts (NS ∷ RRSIG ∷ NSEC ∷ []))

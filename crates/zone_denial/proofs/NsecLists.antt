@@ -64,6 +64,11 @@ from_list m n t c = by (Contains-In t (NSEC ∷ RRSIG ∷ types_at m n) (in_orde
     by (inr (inl e)) = inr (inl (sym e))
     by (inr (inr i)) = inl (type_owned m n t i)
 
+-- ---- what isn't found isn't owned
+
+pub not_found : (m : Sets) (signed : Bool) (x : Name) (t : ℕ) → found m signed x (searched_type m x t) ≡ None → owns m x t ≡ true → ⊥
+not_found m signed x t e k = true≢false (sym (found_owned m signed x (searched_type m x t) (searched_owned m x t k)) ∙ ap is_some e)
+
 module _ (origin : Name) (m : Sets) (h : IsNsecZone origin m) where
   list_is : (x : Name) (s : RRset) (types : List ℕ) → set_at m x NSEC ≡ Some s → types_of s ≡ Some types → types ≡ nsec_types m x
   list_is x s types e f = same_list types (nsec_types m x) (sym f ∙ (h.circle.each x s e).list)
@@ -82,9 +87,6 @@ module _ (origin : Name) (m : Sets) (h : IsNsecZone origin m) where
 
   -- ---- what isn't found isn't listed
 
-  not_found : (signed : Bool) (x : Name) (t : ℕ) → found m signed x (searched_type m x t) ≡ None → owns m x t ≡ true → ⊥
-  not_found signed x t e k = true≢false (sym (found_owned m signed x (searched_type m x t) (searched_owned m x t k)) ∙ ap is_some e)
-
   pub is_denied : (signed : Bool) (x : Name) (t : ℕ) → found m signed x (searched_type m x t) ≡ None → IsDenied m x t
   is_denied signed x t e = record {
     name = off_circle m x;
@@ -92,9 +94,9 @@ module _ (origin : Name) (m : Sets) (h : IsNsecZone origin m) where
   }
     where
       by : (s : RRset) → set_at m x NSEC ≡ Some s → (owns m x t ≡ true) ⊎ (t ≡ RRSIG) ⊎ (t ≡ NSEC) → t ≡ RRSIG
-      by s k (inl l) = absurd (not_found signed x t e l)
+      by s k (inl l) = absurd (not_found m signed x t e l)
       by s k (inr (inl l)) = l
-      by s k (inr (inr l)) = absurd (not_found signed x t e (ap (owns m x) l ∙ ap is_some k))
+      by s k (inr (inr l)) = absurd (not_found m signed x t e (ap (owns m x) l ∙ ap is_some k))
 
 pub lists_all_owned : CircleListsAllOwned
 lists_all_owned = is_listed

@@ -35,22 +35,22 @@ linked_zone = IsZone-put bare (key origin NSEC) bare_set bare_zone nsec_stored
 
 -- ---- under every other key it has what was there
 
-pub type_apart : (n : Name) (t u : ℕ) → (t == u) ≡ false → key_eq (key n t) (key origin u) ≡ false
-type_apart n t u h = by (key_eq (key n t) (key origin u)) refl
+pub type_apart : (n o : Name) (t u : ℕ) → (t == u) ≡ false → key_eq (key n t) (key o u) ≡ false
+type_apart n o t u h = by (key_eq (key n t) (key o u)) refl
   where
-    by : (b : Bool) → key_eq (key n t) (key origin u) ≡ b → b ≡ false
-    by true e = absurd (true≢false (sym (eq-eqb t u (ap (λ k. k.record_type.0) (key_same (key n t) (key origin u) e))) ∙ h))
+    by : (b : Bool) → key_eq (key n t) (key o u) ≡ b → b ≡ false
+    by true e = absurd (true≢false (sym (eq-eqb t u (ap (λ k. k.record_type.0) (key_same (key n t) (key o u) e))) ∙ h))
     by false e = refl
 
 others : (n : Name) (t : ℕ) → (t == NSEC) ≡ false → owns (linked bare) n t ≡ owns bare n t
-others n t h = ap is_some (put_apart bare (key origin NSEC) (key n t) bare_set (type_apart n t NSEC h))
+others n t h = ap is_some (put_apart bare (key origin NSEC) (key n t) bare_set (type_apart n origin t NSEC h))
 
 -- ---- and NSEC at the origin alone
 
 not_there : (n : Name) → key_eq (key n NSEC) (key origin NSEC) ≡ false → set_at (linked bare) n NSEC ≡ None
 not_there n h =
     put_apart bare (key origin NSEC) (key n NSEC) bare_set h
-    ∙ (λ i. cond (type_apart n NSEC SOA refl i) (Some start.1) (cond (type_apart n NSEC DNSKEY refl i) (Some public_key.1) None))
+    ∙ (λ i. cond (type_apart n origin NSEC SOA refl i) (Some start.1) (cond (type_apart n origin NSEC DNSKEY refl i) (Some public_key.1) None))
 
 name_apart : (n : Name) → key_eq (key n NSEC) (key origin NSEC) ≡ false → name_eq n origin ≡ false
 name_apart n h = by (name_eq n origin) refl

@@ -63,7 +63,7 @@ low_next origin m zone low n = by (least name_cmp later) refl
         let r = name_owned m a (In-from_filter (is_authoritative origin m NSEC) a (names_of m) i.0).0 in
         owner_lowered m a r.0 zone r.1
 
-numbers_back : (ts : List ℕ) → map (λ (t : RecordType). t.0) (map (λ t. record { 0 = t }) ts) ≡ ts
+pub numbers_back : (ts : List ℕ) → map (λ (t : RecordType). t.0) (map (λ t. record { 0 = t }) ts) ≡ ts
 numbers_back [] = refl
 numbers_back (t ∷ ts) = ap (λ us. t ∷ us) (numbers_back ts)
 

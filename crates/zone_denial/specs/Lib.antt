@@ -9,8 +9,12 @@ pub mod NsecDenial
 pub mod DenialSets
 pub mod NsecLaws
 pub mod Nsec3Names
+pub mod Nsec3Nodes
 pub mod Nsec3Circle
 pub mod Nsec3Denial
 pub mod Nsec3Sets
+pub mod HashedNames
+pub mod HashedOrder
 pub mod Nsec3Zones
 pub mod Nsec3Laws
+pub mod Nsec3Lent

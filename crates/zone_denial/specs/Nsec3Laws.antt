@@ -1,5 +1,5 @@
 -- What the circle of NSEC3 sets promises to who reads a negative answer
-use Rattle.std.specs.Prelude.{◌≡◌, ◌≢◌, ℕ, Bool, false, ◌⊎◌, List, [], ◌∷◌, map, Option, Some, None, option_map, Ok, IsTrue, IsFalse}
+use Rattle.std.specs.Prelude.{◌≡◌, ◌≢◌, ℕ, Bool, false, ◌⊎◌, List, [], ◌∷◌, map, Option, Some, None, option_map, Ok, IsTrue}
 use Rattle.std.specs.List.{Contains}
 use Rattle.zone_proto.specs.declared.rdata.denial.NSEC3.{NSEC3 as Nsec3Data}
 use Rattle.zone_proto.specs.declared.rdata.denial.NSEC3PARAM.{NSEC3PARAM as Nsec3Parameters}
@@ -12,7 +12,7 @@ use Rattle.zone_map.specs.Wildcards.{found}
 use Rattle.zone_map.specs.Zones.{Sets, IsZone, set_at, owns, owns_at_or_below}
 use Rattle.zone_denial.specs.Authority.{is_below_cut}
 use Rattle.zone_denial.specs.Covering.{covers}
-use Rattle.zone_denial.specs.Nsec3Circle.{first_nsec3, IsNsec3Circle}
+use Rattle.zone_denial.specs.Nsec3Circle.{first_nsec3}
 use Rattle.zone_denial.specs.Nsec3Denial.{closest_encloser, next_closer, nsec3_denial}
 use Rattle.zone_denial.specs.Nsec3Sets.{HasNsec3Sets, nsec3_fault}
 use Rattle.zone_denial.specs.Nsec3Zones.{IsNsec3Zone, IsCircleName, IsHashed, TellsApart}

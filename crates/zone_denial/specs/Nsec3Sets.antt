@@ -1,5 +1,5 @@
 -- The NSEC3 sets that a zone gets when it is secured, and the one that tells their parameters
-use Rattle.std.specs.Prelude.{◌≡◌, ◌≢◌, ℕ, Bool, true, false, ◌&&◌, cond, List, [], ◌∷◌, fold, ◌==◌, Option, Some, None, option_map, filter_map, is_some, unwrap_or, IsTrue}
+use Rattle.std.specs.Prelude.{◌≡◌, ℕ, Bool, true, false, ◌&&◌, cond, List, [], ◌∷◌, fold, ◌==◌, Option, Some, None, option_map, filter_map, is_some, unwrap_or, IsTrue}
 use Rattle.std.specs.List.{list_all}
 use Rattle.std.specs.Option.{option_map_or}
 use Rattle.std.specs.Ordering.{ordering_then}

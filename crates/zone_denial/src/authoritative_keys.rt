@@ -1,21 +1,22 @@
-//! The keys of the sets that the names of a zone's circle own, found in one pass over the zone.
+//! The keys of the sets that the names of a circle own, found in one pass over the zone.
 ghost use Rattle.std.specs.Prelude.{◌≡◌, ◌==◌, ◌&&◌, not, false, map, IfOk, OnOk, IsOkUnless};
 ghost use Rattle.std.specs.Option.{option_map_or};
 ghost use Rattle.zone_proto.specs.Names.{is_above, is_at_or_above};
-ghost use Rattle.zone_proto.specs.Types.{NS, NSEC};
+ghost use Rattle.zone_proto.specs.Types.{NS};
 ghost use Rattle.zone_map.specs.Zones.{IsZone};
 ghost use Rattle.zone_denial.specs.AuthoritativeKeys.{authoritative_keys};
 
 use zone_map::RecordMap;
 use zone_proto::{LowerName, ProtoError, RecordType, RrKey};
 
-/// The keys of the sets at the names that the zone of this origin is authoritative for, in order; those of NSEC sets are left
-/// out (RFC 4035 section 2.3). Refused by `Memory` alone.
+/// The keys of the sets at the names that the zone of this origin is authoritative for, in order; those of the type that denies,
+/// NSEC or NSEC3, are left out (RFC 4035 section 2.3, RFC 5155 section 7.1). Refused by `Memory` alone.
 pub(crate) fn authoritative_keys<'a>(
     records: &'a RecordMap,
     origin: &LowerName,
+    denial: RecordType,
 ) -> Result<Vec<&'a RrKey>, ProtoError>
-    ensures ok { IfOk result (λ keys. map (λ k. k.now) keys.items ≡ authoritative_keys origin.now records.now) }
+    ensures ok { IfOk result (λ keys. map (λ k. k.now) keys.items ≡ authoritative_keys origin.now records.now denial.0) }
     ensures zone { OnOk result (IsZone records.now) }
     ensures err { IsOkUnless result ProtoError.Memory }
 {
@@ -29,7 +30,7 @@ pub(crate) fn authoritative_keys<'a>(
         if is_cut(origin, key) {
             cut = Some(&key.name);
         }
-        if is_listed(origin, key) {
+        if is_listed(origin, denial, key) {
             keys.push(key)?;
         }
     }
@@ -43,11 +44,11 @@ fn is_cut(origin: &LowerName, key: &RrKey) -> bool
     key.record_type == RecordType::NS && is_above(origin, &key.name)
 }
 
-/// Whether the NSEC set of its name lists the type of a key, where no zone cut stands above the name.
-fn is_listed(origin: &LowerName, key: &RrKey) -> bool
-    ensures { result ≡ not (key.now.record_type.0 == NSEC) && is_at_or_above origin.now key.now.name }
+/// Whether the denial of its name lists the type of a key, where no zone cut stands above the name.
+fn is_listed(origin: &LowerName, denial: RecordType, key: &RrKey) -> bool
+    ensures { result ≡ not (key.now.record_type.0 == denial.0) && is_at_or_above origin.now key.now.name }
 {
-    key.record_type != RecordType::NSEC && origin.zone_of(&key.name)
+    key.record_type != denial && origin.zone_of(&key.name)
 }
 
 /// Whether a name stands below a zone cut, if there is one.

@@ -1,10 +1,11 @@
 //! Laws of the definitions of denials: which names and types they list, and what a reader of a negative answer may conclude
-//! from NSEC sets. Each is an empty function whose contract is the law, so a program has no need to call one.
+//! from NSEC and NSEC3 sets. Each is an empty function whose contract is the law, so a program has no need to call one.
 //!
-//! The latter are about zones whose NSEC sets are a circle, as they are once the zone is secured, and whose origin is on it,
+//! Those of NSEC are about zones whose NSEC sets are a circle, as they are once the zone is secured, and whose origin is on it,
 //! as it is where it owns any other set. A set and its next name cover a name that stands strictly between the two in
 //! canonical order; the set of the last owner, whose next name goes back to the origin (RFC 4034 section 4.1.1), covers a name
-//! that stands after its owner or before the origin.
+//! that stands after its owner or before the origin. Those of NSEC3 are about zones whose NSEC3 sets are a circle, which goes
+//! round in the order of digests.
 ghost use Rattle.std.specs.Prelude.{◌≡◌, ◌↔◌, ◌⊎◌, ℕ, Bool, IsTrue};
 ghost use Rattle.std.specs.List.{Contains};
 ghost use Rattle.std.specs.List.Sorted.{IsStrictlySortedBy};
@@ -13,6 +14,7 @@ ghost use Rattle.zone_proto.specs.Names.{Name, name_cmp};
 ghost use Rattle.zone_proto.specs.Types.{NSEC, RRSIG};
 ghost use Rattle.zone_map.specs.Zones.{Sets, owns};
 ghost use Rattle.zone_denial.specs.Nsec3Circle.{nsec3_types, IsNsec3Type};
+ghost use Rattle.zone_denial.specs.Nsec3Laws.{Nsec3CircleListsAllOwned, Nsec3DenialFindsOrEncloses, Nsec3DenialsAgree, SecuredIsNsec3Circle};
 ghost use Rattle.zone_denial.specs.Nsec3Names.{nsec3_names, IsNsec3Name};
 ghost use Rattle.zone_denial.specs.TypeLists.{nsec_types};
 ghost use Rattle.zone_denial.specs.NsecLaws.{SecuredIsCircle, DenialFindsOrCovers, CircleListsAllOwned, DenialsAgree, NoNextBelowAbsent, NextBelowEmpty};
@@ -82,4 +84,37 @@ pub fn no_next_below_absent()
 #[tactic(auto, using(crate::proofs::NsecBelow::next_below_empty))]
 pub fn next_below_empty()
     ensures { NextBelowEmpty }
+{}
+
+/// A zone that gets its NSEC3 sets, in the place of those that it had, has a circle of them, so that NSEC3 denies it: one set
+/// for each name that gets one and no other, under the name's hashed owner, with the next digest and the types of the name; and
+/// the origin tells the parameters (RFC 5155 section 7.1). That is so where the origin isn't the root, and the hash gives the
+/// names on the circle digests of one length that differ and make owners that are names. The zone's other sets may change, in
+/// data, serials and signatures, as long as each name owns the same types.
+pub fn secured_is_nsec3_circle()
+    ensures { SecuredIsNsec3Circle }
+{}
+
+/// The denial by NSEC3 of a name of the zone is the name's own set alone, where the name is on the circle; else it has the set
+/// of the name's closest encloser and one that covers the next closer name (RFC 5155 section 7.2.1). That is so where the hash
+/// gives the names on the circle and those that the denial asks of digests of one length that differ.
+#[tactic(auto, using(crate::proofs::Nsec3Encloses::finds_or_encloses))]
+pub fn nsec3_denial_finds_or_encloses()
+    ensures { Nsec3DenialFindsOrEncloses }
+{}
+
+/// What a name owns besides NSEC3 is in the list of types of its NSEC3 set, where the name is one of the circle's. A name of
+/// the zone that isn't stands below a zone cut, so that what it owns is glue, or of a child's zone; or opt-out leaves it out,
+/// an unsigned delegation, and what it owns is NS (RFC 5155 sections 6 and 7.1).
+#[tactic(auto, using(crate::proofs::Nsec3Lists::lists_all_owned))]
+pub fn nsec3_circle_lists_all_owned()
+    ensures { Nsec3CircleListsAllOwned }
+{}
+
+/// A negative answer and the NSEC3 sets agree: where nothing is found for a name of the circle and a type, the name or one
+/// below it owns a set, so that the answer isn't that there is no such name, and the type isn't in the list of the name's
+/// NSEC3 set (RFC 5155 section 7.1). RRSIG is the exception: it is listed, since there are signatures, and they stand in the
+/// sets that they sign and in no set of their own.
+pub fn nsec3_denials_agree()
+    ensures { Nsec3DenialsAgree }
 {}

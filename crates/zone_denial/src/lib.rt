@@ -8,6 +8,13 @@
 mod authoritative_keys;
 pub mod closest;
 pub mod denial;
+mod hashed_names;
+mod key_runs;
 pub mod laws;
+pub mod nsec3_denial;
+mod nsec3_keys;
+mod nsec3_names;
+pub mod nsec3_sets;
 pub mod nsec_sets;
+mod owner_order;
 mod type_list;

@@ -1,16 +1,15 @@
 //! The NSEC sets that a zone gets when it is secured.
-ghost use Rattle.std.specs.Prelude.{◌≡◌, ℕ, ◌≤◌, length, map, IfOk, IsOkUnless};
-ghost use Rattle.std.specs.List.{prefix_len};
+ghost use Rattle.std.specs.Prelude.{◌≡◌, ℕ, map, IfOk, IsOkUnless};
 ghost use Rattle.std.specs.List.Sorted.{IsStrictlySortedBy};
-ghost use Rattle.std.specs.Ordering.{eq_by_cmp};
 ghost use Rattle.zone_proto.specs.Keys.{key as key_at, key_cmp};
-ghost use Rattle.zone_proto.specs.Names.{Name, name_cmp};
+ghost use Rattle.zone_proto.specs.Names.{Name};
 ghost use Rattle.zone_proto.specs.Types.{NSEC as nsec_type};
 ghost use Rattle.zone_map.specs.Zones.{set_at};
 ghost use Rattle.zone_denial.specs.NsecSets.{nsec_set_at, nsec_data, new_set};
 ghost use Rattle.zone_denial.specs.NsecLinks.{AreLinked, first_name};
 
 use crate::authoritative_keys::authoritative_keys;
+use crate::key_runs::count_of_name;
 use crate::type_list::type_list;
 use zone_map::RecordMap;
 use zone_proto::{
@@ -31,7 +30,7 @@ pub fn nsec_sets(
     ensures ok { IfOk result (λ map. (n : Name) (t : ℕ) → set_at map n t ≡ nsec_set_at origin.now records.now ttl serial n t) }
     ensures err { IsOkUnless result ProtoError.Memory }
 {
-    let keys = authoritative_keys(records, origin)?;
+    let keys = authoritative_keys(records, origin, RecordType::NSEC)?;
     let entries = nsec_entries(keys.as_slice(), origin, ttl, serial)?;
     RecordMap::from_entries(origin.alloc(), entries)
 }
@@ -53,20 +52,12 @@ fn nsec_entries(
     while start < keys.len() {
         let first = keys[start];
         let end = start + count_of_name(&keys[start..], &first.name);
-        let types = type_list(alloc, &keys[start..end])?;
+        let types = type_list(alloc, &keys[start..end], RecordType::NSEC)?;
         let next = first_name(&keys[end..], origin);
         entries.push(nsec_entry(&first.name, next, types, ttl, serial)?)?;
         start = end;
     }
     Ok(entries)
-}
-
-/// How many keys in front are of a name.
-fn count_of_name(keys: &[&RrKey], name: &LowerName) -> usize
-    ensures value { result ≡ prefix_len (λ k. eq_by_cmp name_cmp k.now.name name.now) keys.now }
-    ensures bound { result ≤ length keys.now }
-{
-    keys.iter().take_while(|key| key.name == *name).count()
 }
 
 /// The name of the first key, or the origin where there is none.

@@ -1,17 +1,32 @@
-//! The types that an NSEC record lists.
+//! The types that a denial lists.
 ghost use Rattle.std.specs.Prelude.{◌≡◌, ◌≤◌, length, map, nat_lt, IfOk, OnOk, IsOkUnless};
 ghost use Rattle.std.specs.List.{prefix_len};
 ghost use Rattle.std.specs.Ordering.{nat_cmp};
-ghost use Rattle.zone_proto.specs.Types.{RRSIG, NSEC};
+ghost use Rattle.zone_proto.specs.Types.{RRSIG};
 ghost use Rattle.zone_denial.specs.TypeLists.{joined};
 
 use std::alloc::Global;
 use zone_proto::{ProtoError, RecordType, RrKey};
 
-/// The types of keys that ascend, and RRSIG and NSEC, each once (RFC 4034 section 4.1.2). Refused by `Memory` alone.
-pub(crate) fn type_list(alloc: Global, keys: &[&RrKey]) -> Result<Vec<RecordType>, ProtoError>
+/// The types of keys that ascend, RRSIG and one more, each once (RFC 4034 section 4.1.2). Refused by `Memory` alone.
+pub(crate) fn type_list(
+    alloc: Global,
+    keys: &[&RrKey],
+    more: RecordType,
+) -> Result<Vec<RecordType>, ProtoError>
     ensures ok { IfOk result (λ types. map (λ t. t.0) types.items
-        ≡ joined nat_cmp NSEC (joined nat_cmp RRSIG (map (λ k. k.now.record_type.0) keys.now))) }
+        ≡ joined nat_cmp more.0 (joined nat_cmp RRSIG (map (λ k. k.now.record_type.0) keys.now))) }
+    ensures err { IsOkUnless result ProtoError.Memory }
+{
+    let mut types = signed_types(alloc, keys)?;
+    join(&mut types, more)?;
+    Ok(types)
+}
+
+/// The types of keys that ascend, and RRSIG, each once. Refused by `Memory` alone.
+pub(crate) fn signed_types(alloc: Global, keys: &[&RrKey]) -> Result<Vec<RecordType>, ProtoError>
+    ensures ok { IfOk result (λ types. map (λ t. t.0) types.items
+        ≡ joined nat_cmp RRSIG (map (λ k. k.now.record_type.0) keys.now)) }
     ensures err { IsOkUnless result ProtoError.Memory }
 {
     let mut types = Vec::with_capacity(alloc, keys.len().saturating_add(2))?;
@@ -19,7 +34,6 @@ pub(crate) fn type_list(alloc: Global, keys: &[&RrKey]) -> Result<Vec<RecordType
         types.push(key.record_type)?;
     }
     join(&mut types, RecordType::RRSIG)?;
-    join(&mut types, RecordType::NSEC)?;
     Ok(types)
 }
 

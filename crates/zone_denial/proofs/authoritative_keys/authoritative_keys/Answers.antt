@@ -12,7 +12,7 @@ use Rattle.zone_denial.proofs.authoritative_keys.authoritative_keys.Goals.{then-
 pub loop-key-preserved-then-is_below : goal.loop-key-preserved-then-is_below
 loop-key-preserved-then-is_below c =
     let cut = option_map (λ a. a.now) c.loop-key.cut in
-    passed_over c.args.origin.now cut (map (λ k. k.now) c.loop-key.keys.items) (kept c.args.origin.now None (keys_of c.args.records.now)) c.loop-key.key-iterator c.next.new.self
+    passed_over c.args.origin.now c.args.denial.0 cut (map (λ k. k.now) c.loop-key.keys.items) (kept c.args.origin.now c.args.denial.0 None (keys_of c.args.records.now)) c.loop-key.key-iterator c.next.new.self
     (c.in-Some.key.now, c.in-Some.field-0-1.now) c.in-Some.ensures.steps c.loop-key.invariant (sym (c.is_below.ensures ∙ below_lent c.loop-key.cut c.in-Some.key.now.name) ∙ c.if-is_below.true)
 
 pub loop-key-preserved-in-Continue-branch-2 : goal.loop-key-preserved-in-Continue-branch-2
@@ -23,9 +23,9 @@ loop-key-preserved-in-Continue-branch-2 c =
       | then-is_cut w ↦ ap (option_map (λ (a : Bor Name). a.now)) w.cut-is ∙ sym (ap (λ b. cond b (Some c.in-Some.key.now.name) old) w.if-is_cut.true)
       | else-is_cut w ↦ ap (option_map (λ (a : Bor Name). a.now)) w.cut-is ∙ sym (ap (λ b. cond b (Some c.in-Some.key.now.name) old) w.if-is_cut.false)
     ] in
-    ap (λ (ks : List (Bor RrKey)). map (λ k. k.now) ks ++ kept c.args.origin.now new (keys_of c.next.new.self)) c.in_ok-push.ensures.items
-    ∙ ap (λ ks. ks ++ kept c.args.origin.now new (keys_of c.next.new.self)) (map-append (λ (k : Bor RrKey). k.now) c.loop-key.keys.items (c.in-Some.key ∷ []))
-    ∙ counted c.args.origin.now old (map (λ k. k.now) c.loop-key.keys.items) (kept c.args.origin.now None (keys_of c.args.records.now)) c.loop-key.key-iterator c.next.new.self
+    ap (λ (ks : List (Bor RrKey)). map (λ k. k.now) ks ++ kept c.args.origin.now c.args.denial.0 new (keys_of c.next.new.self)) c.in_ok-push.ensures.items
+    ∙ ap (λ ks. ks ++ kept c.args.origin.now c.args.denial.0 new (keys_of c.next.new.self)) (map-append (λ (k : Bor RrKey). k.now) c.loop-key.keys.items (c.in-Some.key ∷ []))
+    ∙ counted c.args.origin.now c.args.denial.0 old (map (λ k. k.now) c.loop-key.keys.items) (kept c.args.origin.now c.args.denial.0 None (keys_of c.args.records.now)) c.loop-key.key-iterator c.next.new.self
     (c.in-Some.key.now, c.in-Some.field-0-1.now) c.in-Some.ensures.steps c.loop-key.invariant (sym (c.is_below.ensures ∙ below_lent c.loop-key.cut c.in-Some.key.now.name) ∙ c.if-is_below.false)
     c.is_cut.result c.is_cut.ensures new new_is (sym c.is_listed.ensures ∙ c.if-is_listed.true)
 
@@ -37,12 +37,12 @@ loop-key-preserved c =
       | then-is_cut w ↦ ap (option_map (λ (a : Bor Name). a.now)) w.cut-is ∙ sym (ap (λ b. cond b (Some c.in-Some.key.now.name) old) w.if-is_cut.true)
       | else-is_cut w ↦ ap (option_map (λ (a : Bor Name). a.now)) w.cut-is ∙ sym (ap (λ b. cond b (Some c.in-Some.key.now.name) old) w.if-is_cut.false)
     ] in
-    uncounted c.args.origin.now old (map (λ k. k.now) c.loop-key.keys.items) (kept c.args.origin.now None (keys_of c.args.records.now)) c.loop-key.key-iterator c.next.new.self
+    uncounted c.args.origin.now c.args.denial.0 old (map (λ k. k.now) c.loop-key.keys.items) (kept c.args.origin.now c.args.denial.0 None (keys_of c.args.records.now)) c.loop-key.key-iterator c.next.new.self
     (c.in-Some.key.now, c.in-Some.field-0-1.now) c.in-Some.ensures.steps c.loop-key.invariant (sym (c.is_below.ensures ∙ below_lent c.loop-key.cut c.in-Some.key.now.name) ∙ c.if-is_below.false)
     c.is_cut.result c.is_cut.ensures new new_is (sym c.is_listed.ensures ∙ c.if-is_listed.false)
 
 pub returns-clause-ok : goal.returns-clause-ok
 returns-clause-ok c =
-    kept_all c.args.origin.now (option_map (λ a. a.now) c.loop-key.cut) (map (λ k. k.now) c.loop-key.keys.items) (kept c.args.origin.now None (keys_of c.args.records.now))
+    kept_all c.args.origin.now c.args.denial.0 (option_map (λ a. a.now) c.loop-key.cut) (map (λ k. k.now) c.loop-key.keys.items) (kept c.args.origin.now c.args.denial.0 None (keys_of c.args.records.now))
     c.loop-key.key-iterator c.loop-key.invariant c.in-None.ensures.steps.0
-    ∙ kept_is_authoritative c.args.origin.now c.args.records.now c.iter-key-items.ensures.zone.ordered
+    ∙ kept_is_authoritative c.args.origin.now c.args.records.now c.args.denial.0 c.iter-key-items.ensures.zone.ordered

@@ -4,6 +4,7 @@ use Rattle.std.specs.Map.{keys_of}
 use Rattle.std.proofs.lemmas.List.Kept.{IsStrictlySortedBy-filter}
 use Rattle.std.proofs.lemmas.Result.{IfOk-weaker}
 use Rattle.zone_proto.specs.Keys.{key_cmp}
+use Rattle.zone_proto.specs.Types.{NSEC}
 use Rattle.zone_denial.specs.AuthoritativeKeys.{is_circle_key}
 use Rattle.zone_denial.proofs.CircleSets.{AreStored-linked, last_at-linked}
 use Rattle.zone_denial.proofs.KeyRuns.{lent_keys}
@@ -13,7 +14,7 @@ pub nsec_entries-requires : goal.nsec_entries-requires
 nsec_entries-requires c =
     let are = ap lent_keys c.as_slice.ensures.value ∙ c.in_ok-keys.ensures.ok in
     subst (IsStrictlySortedBy key_cmp) (sym are)
-    (IsStrictlySortedBy-filter key_cmp (is_circle_key c.args.origin.now c.args.records.now) (keys_of c.args.records.now) c.in_ok-keys.ensures.zone.ordered)
+    (IsStrictlySortedBy-filter key_cmp (is_circle_key c.args.origin.now c.args.records.now NSEC) (keys_of c.args.records.now) c.in_ok-keys.ensures.zone.ordered)
 
 pub from_entries-requires : goal.from_entries-requires
 from_entries-requires c =

@@ -1,0 +1,270 @@
+-- The NSEC3 sets of a denial step by step, as they are found
+use Rattle.std.proofs.Common.{◌≡◌, ◌==◌, eq-eqb, eqb-true, ℕ, suc, Bool, true, false, cond, not, ◌&&◌, List, [], ◌∷◌, ◌++◌, length, drop, refl, sym, ap, ◌∙◌, subst, true≢false, arith, inl, inr, ◌⊎◌}
+use Rattle.std.specs.Result.{IsErrAnd}
+use Rattle.std.specs.Prelude.{IfErr, Option, Some, None, Result, Ok, Err, find, filter, filter_map, is_some, option_to_list, option_copied}
+use Rattle.std.specs.Borrow.{Bor}
+use Rattle.std.specs.List.{cons_option}
+use Rattle.std.specs.Option.{option_map_or, option_or}
+use Rattle.std.proofs.lemmas.List.{length-append}
+use Rattle.std.proofs.lemmas.List.Elements.{filter_map-append}
+use Rattle.zone_proto.specs.declared.error.ProtoError.{ProtoError}
+use Rattle.zone_proto.specs.declared.error.ProtoError.TheVariants.{Memory}
+use Rattle.zone_proto.specs.Names.{Name, name_cmp, base_name, suffixes, wildcard_of}
+use Rattle.zone_proto.specs.Sets.{RRset}
+use Rattle.zone_proto.specs.Order.{is_before, greatest}
+use Rattle.zone_proto.specs.Types.{DS, NSEC3}
+use Rattle.zone_proto.proofs.Members.{In, In-from_append, In-from_filter}
+use Rattle.zone_proto.proofs.Orders.{greatest_is}
+use Rattle.zone_proto.proofs.Tree.{name_order}
+use Rattle.zone_map.specs.Wildcards.{star_under}
+use Rattle.zone_map.specs.Zones.{Sets, set_at, owns, owners, IsZone}
+use Rattle.zone_map.proofs.Delegations.{found_above}
+use Rattle.zone_map.proofs.Owned.{owner_owned}
+use Rattle.zone_denial.specs.Nsec3Denial.{result_and_then, has_match, match_of, cover_of, match_owner, cover_owner, encloser_of, next_closer, star_part, enclosed, is_starred_beside, nsec3_denial}
+use Rattle.zone_denial.specs.Nsec3Lent.{sets_of, owner_cmp, enclosed_sets}
+use Rattle.zone_denial.specs.TypeLists.{in_order}
+use Rattle.zone_denial.proofs.Parents.{base_is_drop}
+use Rattle.zone_denial.proofs.SetsInOrder.{AllOwn, sets_in_order}
+
+-- ---- refusals
+
+-- a refusal that is handed on is refused for what it was
+pub refused_as : {A : Type 0} (r : Result A ProtoError) (P : ProtoError → Type 0) (e : ProtoError) → IsErrAnd r (λ k. k ≡ e) → P e → IfErr r P
+refused_as (Ok a) P e h p = tt
+refused_as (Err k) P e h p = subst P (sym h) p
+
+-- ---- what matches
+
+module _ {E : Type 0} (m : Sets) (hashed : Name → Result Name E) where
+  one_or_none : (h : Name) (o : Option RRset) → set_at m h NSEC3 ≡ o → filter_map (λ n. set_at m n NSEC3) (option_to_list (cond (is_some o) (Some h) None)) ≡ option_to_list o
+  one_or_none h None e = refl
+  one_or_none h (Some s) e = ap (λ o. cons_option o []) e
+
+  pub sets_of_match : (h : Name) → filter_map (λ n. set_at m n NSEC3) (option_to_list (match_owner m h)) ≡ option_to_list (set_at m h NSEC3)
+  sets_of_match h = one_or_none h (set_at m h NSEC3) refl
+
+  given : {A : Type 0} (a b : A) → ◌≡◌ {A = Result A E} (Ok a) (Ok b) → a ≡ b
+  given a b e = cc
+
+  same_option : {A : Type 0} (a b : Option A) → option_to_list a ≡ option_to_list b → a ≡ b
+  same_option None None e = refl
+  same_option None (Some b) e = cc
+  same_option (Some a) None e = cc
+  same_option (Some a) (Some b) e = cc
+
+  -- the hashed owner of a name, where what matches it was found
+  pub matched : (n : Name) (found : Option RRset) → sets_of m (match_of m hashed n) ≡ Ok (option_to_list found) → (h : Name) × (hashed n ≡ Ok h) × (set_at m h NSEC3 ≡ found)
+  matched n found e = by (hashed n) refl e
+    where
+      by : (r : Result Name E) → hashed n ≡ r → sets_of m (result_and_then (λ h. Ok (option_to_list (match_owner m h))) r) ≡ Ok (option_to_list found)
+          → (h : Name) × (hashed n ≡ Ok h) × (set_at m h NSEC3 ≡ found)
+      by (Ok h) is e = (h, is, same_option (set_at m h NSEC3) found (sym (sets_of_match h) ∙ given _ _ e))
+      by (Err x) is e = absurd cc
+
+  -- whether it has a match
+  pub has_match_found : (n : Name) (found : Option RRset) → sets_of m (match_of m hashed n) ≡ Ok (option_to_list found) → has_match m hashed n ≡ Ok (is_some found)
+  has_match_found n found e = let r = matched n found e in ap (result_and_then (λ h. Ok (owns m h NSEC3))) r.1 ∙ ap (λ o. Ok (is_some o)) r.2
+
+  -- ---- the walk to the encloser
+
+  pub encloser_end : (n : Name) → drop 1 n ≡ [] → encloser_of m hashed n ≡ Ok None
+  encloser_end [] e = refl
+  encloser_end (l ∷ []) e = refl
+  encloser_end (l ∷ k ∷ ks) e = cc
+
+  pub encloser_step : (n : Name) → (drop 1 n ≡ [] → ⊥)
+      → encloser_of m hashed n ≡ result_and_then (λ passes. cond passes (Ok (Some (drop 1 n))) (encloser_of m hashed (drop 1 n))) (has_match m hashed (drop 1 n))
+  encloser_step [] h = absurd (h refl)
+  encloser_step (l ∷ []) h = absurd (h refl)
+  encloser_step (l ∷ k ∷ ks) h = refl
+
+  -- the next closer name is what the walk had before the encloser
+  pub closer_found : (front n : Name) → (drop 1 n ≡ [] → ⊥) → next_closer (front ++ n) (base_name n) ≡ Some n
+  closer_found front [] h = absurd (h refl)
+  closer_found [] (l ∷ ls) h = ap (λ b. cond b (Some (l ∷ ls)) (find (λ s. length s == suc (length ls)) (suffixes ls))) (eq-eqb (length (l ∷ ls)) (suc (length ls)) refl)
+  closer_found (f ∷ front) (l ∷ ls) h =
+      ap (λ b. cond b (Some (f ∷ front ++ l ∷ ls)) (find (λ s. length s == suc (length ls)) (suffixes (front ++ l ∷ ls)))) (by (suc (length (front ++ l ∷ ls)) == suc (length ls)) refl)
+      ∙ closer_found front (l ∷ ls) h
+    where
+      by : (b : Bool) → (suc (length (front ++ l ∷ ls)) == suc (length ls)) ≡ b → b ≡ false
+      by true e = absurd (omega (arith, eqb-true (suc (length (front ++ l ∷ ls))) (suc (length ls)) e, length-append front (l ∷ ls)))
+      by false e = refl
+
+  -- a step of the walk: it goes on, it is at the encloser, or a name has no hashed owner
+  module _ (n above : Name) (is : above ≡ drop 1 n) (inner : above ≡ [] → ⊥) where
+    below : drop 1 n ≡ [] → ⊥
+    below e = inner (is ∙ e)
+
+    at_step : encloser_of m hashed n ≡ result_and_then (λ passes. cond passes (Ok (Some (drop 1 n))) (encloser_of m hashed (drop 1 n))) (has_match m hashed above)
+    at_step = encloser_step n below ∙ ap (λ a. result_and_then (λ passes. cond passes (Ok (Some (drop 1 n))) (encloser_of m hashed (drop 1 n))) (has_match m hashed a)) (sym is)
+
+    pub walk_on : sets_of m (match_of m hashed above) ≡ Ok [] → encloser_of m hashed n ≡ encloser_of m hashed (drop 1 n)
+    walk_on e = at_step ∙ ap (result_and_then (λ passes. cond passes (Ok (Some (drop 1 n))) (encloser_of m hashed (drop 1 n)))) (has_match_found above None e)
+
+    pub walk_found : (s : RRset) → sets_of m (match_of m hashed above) ≡ Ok (s ∷ []) → encloser_of m hashed n ≡ Ok (Some (base_name n))
+    walk_found s e =
+        at_step ∙ ap (result_and_then (λ passes. cond passes (Ok (Some (drop 1 n))) (encloser_of m hashed (drop 1 n)))) (has_match_found above (Some s) e) ∙ ap (λ a. Ok (Some a)) (base_is_drop n)
+
+    pub walk_refused : (e : E) → hashed above ≡ Err e → encloser_of m hashed n ≡ Err e
+    walk_refused e h = at_step ∙ ap (λ r. result_and_then (λ passes. cond passes (Ok (Some (drop 1 n))) (encloser_of m hashed (drop 1 n))) (result_and_then (λ h. Ok (owns m h NSEC3)) r)) h
+
+    pub passed_on : (q front : Name) → q ≡ front ++ n → (f : Name) × (q ≡ f ++ drop 1 n)
+    passed_on q front e = let r = by n below front in (r.0, e ∙ r.1)
+      where
+        by : (n : Name) → (drop 1 n ≡ [] → ⊥) → (front : Name) → (f : Name) × (front ++ n ≡ f ++ drop 1 n)
+        by [] h front = absurd (h refl)
+        by (l ∷ ls) h [] = (l ∷ [], refl)
+        by (l ∷ ls) h (x ∷ front) = let r = by (l ∷ ls) h front in (x ∷ r.0, ap (λ ys. x ∷ ys) r.1)
+
+    pub closer_is : (q front : Name) → q ≡ front ++ n → next_closer q (base_name n) ≡ Some n
+    closer_is q front e = ap (λ x. next_closer x (base_name n)) e ∙ closer_found front n below
+
+  -- ---- the name's own set
+
+  pub own_denial : (wildcard : Bool) (t : ℕ) (q : Name) (found : Option RRset) → sets_of m (match_of m hashed q) ≡ Ok (option_to_list found)
+      → nsec3_denial m hashed wildcard t q ≡ cond (is_some found && not wildcard) (Ok (option_to_list found)) (result_and_then (λ encloser. enclosed_sets m hashed wildcard t q encloser) (encloser_of m hashed q))
+  own_denial wildcard t q found e =
+      let r = matched q found e in
+      ap (λ x. sets_of m (result_and_then (λ own. cond (owns m own NSEC3 && not wildcard) (Ok (own ∷ [])) (rest)) x)) r.1
+      ∙ by r.0 found r.2 (owns m r.0 NSEC3) (ap is_some r.2) (not wildcard)
+    where
+      rest : Result (List Name) E
+      rest = result_and_then (λ encloser. result_and_then (λ os. Ok (in_order name_cmp os)) (enclosed m hashed wildcard (is_starred_beside m hashed q) t q encloser)) (encloser_of m hashed q)
+
+      through : (r : Result (Option Name) E)
+          → sets_of m (result_and_then (λ encloser. result_and_then (λ os. Ok (in_order name_cmp os)) (enclosed m hashed wildcard (is_starred_beside m hashed q) t q encloser)) r)
+          ≡ result_and_then (λ encloser. enclosed_sets m hashed wildcard t q encloser) r
+      through (Ok x) = refl
+      through (Err x) = refl
+
+      by : (h : Name) (o : Option RRset) → set_at m h NSEC3 ≡ o → (b : Bool) → b ≡ is_some o → (w : Bool)
+          → sets_of m (cond (b && w) (Ok (h ∷ [])) rest) ≡ cond (is_some o && w) (Ok (option_to_list o)) (result_and_then (λ encloser. enclosed_sets m hashed wildcard t q encloser) (encloser_of m hashed q))
+      by h None e true g w = cc
+      by h None e false g w = through (encloser_of m hashed q)
+      by h (Some s) e true g true = ap (λ o. Ok (cons_option o [])) e
+      by h (Some s) e true g false = through (encloser_of m hashed q)
+      by h (Some s) e false g w = cc
+
+-- ---- the sets of the encloser
+
+module _ {E : Type 0} (m : Sets) (hashed : Name → Result Name E) where
+  -- where the name's own set isn't the answer
+  pub encloser_denial : (wildcard : Bool) (t : ℕ) (q : Name) (found : Option RRset) → sets_of m (match_of m hashed q) ≡ Ok (option_to_list found) → is_some found && not wildcard ≡ false
+      → (encloser : Option Name) → encloser_of m hashed q ≡ Ok encloser → nsec3_denial m hashed wildcard t q ≡ enclosed_sets m hashed wildcard t q encloser
+  encloser_denial wildcard t q found e h encloser is =
+      let rest = λ (a : Option Name). enclosed_sets m hashed wildcard t q a in
+      own_denial m hashed wildcard t q found e ∙ ap (λ b. cond b (Ok (option_to_list found)) (result_and_then rest (encloser_of m hashed q))) h ∙ ap (result_and_then rest) is
+
+-- ---- the sets that are found with an encloser
+
+module _ {E : Type 0} (m : Sets) (zone : IsZone m) (hashed : Name → Result Name E) where
+  -- owners that were found, which own NSEC3, and their sets
+  pub record AreFound (r : Result (List Name) E) (sets : List RRset) : Type 0 where
+    pub owners : List Name
+    pub is : r ≡ Ok owners
+    pub own : AllOwn m zone owners
+    pub are : filter_map (λ o. set_at m o NSEC3) owners ≡ sets
+
+  owns_match : (h : Name) → AllOwn m zone (option_to_list (match_owner m h))
+  owns_match h = by (owns m h NSEC3) refl
+    where
+      by : (b : Bool) → owns m h NSEC3 ≡ b → (o : Name) → In o (option_to_list (cond b (Some h) None)) → owns m o NSEC3 ≡ true
+      by true e o (inl s) = ap (λ n. owns m n NSEC3) (sym s) ∙ e
+      by true e o (inr i) = absurd i
+      by false e o i = absurd i
+
+  owns_cover : (h : Name) → AllOwn m zone (option_to_list (cover_owner m h))
+  owns_cover h = by (greatest name_cmp before) refl (greatest name_cmp all) refl
+    where
+      all : List Name
+      all = owners m NSEC3
+
+      before : List Name
+      before = filter (λ o. is_before name_cmp o h) (owners m NSEC3)
+
+      by : (a : Option Name) → greatest name_cmp before ≡ a → (b : Option Name) → greatest name_cmp all ≡ b → (o : Name) → In o (option_to_list (option_or a b)) → owns m o NSEC3 ≡ true
+      by (Some x) e b f o (inl s) = ap (λ n. owns m n NSEC3) (sym s) ∙ owner_owned m x NSEC3 (In-from_filter (λ o. is_before name_cmp o h) x all (greatest_is name_order before x e).among).0
+      by (Some x) e b f o (inr i) = absurd i
+      by None e (Some x) f o (inl s) = ap (λ n. owns m n NSEC3) (sym s) ∙ owner_owned m x NSEC3 (greatest_is name_order all x f).among
+      by None e (Some x) f o (inr i) = absurd i
+      by None e None f o i = absurd i
+
+  found_with : (owner_of : Name → Option Name) → ((h : Name) → AllOwn m zone (option_to_list (owner_of h))) → (r : Result Name E) (sets : List RRset)
+      → sets_of m (result_and_then (λ h. Ok (option_to_list (owner_of h))) r) ≡ Ok sets → AreFound (result_and_then (λ h. Ok (option_to_list (owner_of h))) r) sets
+  found_with owner_of own (Ok h) sets e = record { owners = option_to_list (owner_of h); is = refl; own = own h; are = given m hashed _ _ e }
+  found_with owner_of own (Err x) sets e = absurd cc
+
+  pub found_match : (n : Name) (sets : List RRset) → sets_of m (match_of m hashed n) ≡ Ok sets → AreFound (match_of m hashed n) sets
+  found_match n sets e = found_with (match_owner m) owns_match (hashed n) sets e
+
+  pub found_cover : (n : Name) (sets : List RRset) → sets_of m (cover_of m hashed n) ≡ Ok sets → AreFound (cover_of m hashed n) sets
+  found_cover n sets e = found_with (cover_owner m) owns_cover (hashed n) sets e
+
+  pub found_star : (starred : Bool) (t : ℕ) (a : Name) (sets : List RRset) → sets_of m (star_part m hashed starred t a) ≡ Ok sets → AreFound (star_part m hashed starred t a) sets
+  found_star true t a sets e = found_match (star_under a) sets e
+  found_star false t a sets e = by (t == DS) e
+    where
+      by : (b : Bool) → sets_of m (cond b (Ok []) (cover_of m hashed (star_under a))) ≡ Ok sets → AreFound (cond b (Ok []) (cover_of m hashed (star_under a))) sets
+      by true e = record { owners = []; is = refl; own = λ o i. absurd i; are = given m hashed _ _ e }
+      by false e = found_cover (star_under a) sets e
+
+  -- these in order are the answer where no wildcard answered
+  pub enclosed_answers : (t : ℕ) (q a c : Name) → next_closer q a ≡ Some c → (closer encloser star : List RRset) → sets_of m (cover_of m hashed c) ≡ Ok closer → sets_of m (match_of m hashed a) ≡ Ok encloser
+      → sets_of m (star_part m hashed (is_starred_beside m hashed q) t a) ≡ Ok star → enclosed_sets m hashed false t q (Some a) ≡ Ok (in_order owner_cmp (encloser ++ closer ++ star))
+  enclosed_answers t q a c is closer encloser star e f g =
+      let k = found_cover c closer e in
+      let n = found_match a encloser f in
+      let s = found_star (is_starred_beside m hashed q) t a star g in
+      let sorted = λ (r : Result (List Name) E). sets_of m (result_and_then (λ owners. Ok (in_order name_cmp owners)) r) in
+      let part = star_part m hashed (is_starred_beside m hashed q) t a in
+      ap (λ o. sorted (result_and_then (λ closer. result_and_then (λ encloser. result_and_then (λ star. Ok (encloser ++ closer ++ star)) part) (match_of m hashed a)) (option_map_or (cover_of m hashed) o (Ok [])))) is
+      ∙ ap (λ r. sorted (result_and_then (λ closer. result_and_then (λ encloser. result_and_then (λ star. Ok (encloser ++ closer ++ star)) part) (match_of m hashed a)) r)) k.is
+      ∙ ap (λ r. sorted (result_and_then (λ encloser. result_and_then (λ star. Ok (encloser ++ k.owners ++ star)) part) r)) n.is
+      ∙ ap (λ r. sorted (result_and_then (λ star. Ok (n.owners ++ k.owners ++ star)) r)) s.is
+      ∙ ap Ok (sets_in_order m zone (n.owners ++ k.owners ++ s.owners) (both (n.owners ++ k.owners) s.owners (both n.owners k.owners n.own k.own) s.own) ∙ ap (in_order owner_cmp) (parts n.owners k.owners s.owners n.are k.are s.are))
+    where
+      both : (xs ys : List Name) → AllOwn m zone xs → AllOwn m zone ys → AllOwn m zone (xs ++ ys)
+      both xs ys h k o i = by (In-from_append o xs ys i)
+        where
+          by : In o xs ⊎ In o ys → owns m o NSEC3 ≡ true
+          by (inl j) = h o j
+          by (inr j) = k o j
+
+      parts : (xs ys zs : List Name) → filter_map (λ o. set_at m o NSEC3) xs ≡ encloser → filter_map (λ o. set_at m o NSEC3) ys ≡ closer → filter_map (λ o. set_at m o NSEC3) zs ≡ star
+          → filter_map (λ o. set_at m o NSEC3) (xs ++ ys ++ zs) ≡ encloser ++ closer ++ star
+      parts xs ys zs h k l =
+          filter_map-append (λ o. set_at m o NSEC3) (xs ++ ys) zs ∙ ap (λ rs. rs ++ filter_map (λ o. set_at m o NSEC3) zs) (filter_map-append (λ o. set_at m o NSEC3) xs ys)
+          ∙ (λ i. (h i ++ k i) ++ l i)
+
+-- ---- refusals of the walk
+
+module _ (m : Sets) (hashed : Name → Result Name ProtoError) (whole n above : Name) (is : above ≡ drop 1 n) (inner : above ≡ [] → ⊥) (so_far : encloser_of m hashed whole ≡ encloser_of m hashed n) where
+  pub refused_walk : (e : ProtoError) → (e ≡ Memory) ⊎ (hashed above ≡ Err e) → (e ≡ Memory) ⊎ (encloser_of m hashed whole ≡ Err e)
+  refused_walk e (inl memory) = inl memory
+  refused_walk e (inr h) = inr (so_far ∙ walk_refused m hashed n above is inner e h)
+
+-- ---- the star under the encloser
+
+-- it is the next closer name with a star for its first label
+pub starred_base : (n star : Name) → star ≡ wildcard_of n → base_name star ≡ base_name n
+starred_base [] star is = ap base_name is
+starred_base (l ∷ ls) star is = ap base_name is
+
+pub closer_star : (q n star : Name) → next_closer q (base_name n) ≡ Some n → star ≡ wildcard_of n → star ≡ star_under (base_name star)
+closer_star q [] star closer is = absurd (true≢false (sym (found_above (λ s. length s == 1) q [] closer).1))
+closer_star q (l ∷ ls) star closer is = is ∙ ap star_under (sym (starred_base (l ∷ ls) star is))
+
+-- ---- when the name's own set isn't the answer
+
+pub after_wildcard : (own : Option (Bor RRset)) (w : Bool) → w ≡ true → is_some (option_copied own) && not w ≡ false
+after_wildcard None w is = refl
+after_wildcard (Some s) w is = ap not is
+
+pub without_own : (own : Option (Bor RRset)) (w : Bool) → false ≡ is_some own → is_some (option_copied own) && not w ≡ false
+without_own None w is = refl
+without_own (Some s) w is = absurd (true≢false (sym is))
+
+-- results that are the same are refused alike
+pub refused_too : {X : Type 0} (r s : Result X ProtoError) → r ≡ s → (e : ProtoError) → (e ≡ Memory) ⊎ (s ≡ Err e) → (e ≡ Memory) ⊎ (r ≡ Err e)
+refused_too r s same e (inl memory) = inl memory
+refused_too r s same e (inr is) = inr (same ∙ is)

@@ -1,0 +1,12 @@
+use Rattle.std.proofs.Common.{◌≡◌, ℕ, List, ◌∷◌, ap, ◌∙◌}
+use Rattle.std.proofs.lemmas.Result.{IfOk-weaker}
+use Rattle.zone_proto.specs.Base32.{base32_text}
+use Rattle.zone_proto.specs.Names.{lower_label}
+use Rattle.zone_proto.proofs.Base32Facts.{lower_text}
+use Rattle.zone_denial.proofs.nsec3_sets.hashed_owner.Goals as goal
+
+pub returns-clause-ok : goal.returns-clause-ok
+returns-clause-ok c =
+    let text : c.as_bytes.result.now ≡ base32_text c.args.digest.now = c.as_bytes.ensures.value ∙ c.in_ok-label.ensures.ok in
+    let label = ap lower_label text ∙ lower_text c.args.digest.now in
+    IfOk-weaker c.prepend_label.result _ _ (λ n is. is ∙ ap (λ (l : List ℕ). l ∷ c.args.origin.now) label) c.prepend_label.ensures.ok

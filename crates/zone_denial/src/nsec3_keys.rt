@@ -1,0 +1,92 @@
+// The keys of NSEC3 sets, and the sets that match and cover a name.
+ghost use Rattle.std.specs.Prelude.{◌≡◌, ◌⊎◌, ◌==◌, Ok, Err, IfOk, IfErr, OnOk, find, reverse, option_copied, option_map, option_to_list, option_and_then};
+ghost use Rattle.zone_proto.specs.Types.{NSEC3};
+ghost use Rattle.zone_map.specs.Zones.{set_at, IsZone};
+ghost use Rattle.zone_denial.specs.Nsec3Denial.{match_of, cover_of, cover_owner};
+ghost use Rattle.zone_denial.specs.Nsec3Lent.{hashed_for, sets_of};
+
+use std::collections::btree_map::Range;
+use zone_handler::Nsec3QueryInfo;
+use zone_map::RecordMap;
+use zone_proto::{LowerName, Nsec3Hash, ProtoError, RecordSet, RecordType, RrKey};
+
+/// How the names of a zone are hashed for a query.
+#[derive(Drop)]
+pub(crate) struct Hashing<'q, H> {
+    /// The zone's origin.
+    pub origin: &'q LowerName,
+    /// The query, which has the parameters.
+    pub query: &'q Nsec3QueryInfo<'q>,
+    /// The hash.
+    pub hash: &'q H,
+}
+
+impl<H: Nsec3Hash> Hashing<'_, H> {
+    /// The key that the NSEC3 set of a name has, or would have.
+    pub fn key(&self, name: &LowerName) -> Result<RrKey, ProtoError>
+        ensures ok { IfOk result (λ key. hashed_for self.now.origin.now (H.digest_of self.now.hash.now) self.now.query.now name.now ≡ Ok key.name) }
+        ensures nsec3 { IfOk result (λ key. key.record_type.0 ≡ NSEC3) }
+        ensures err { IfErr result (λ e. (e ≡ ProtoError.Memory)
+            ⊎ (hashed_for self.now.origin.now (H.digest_of self.now.hash.now) self.now.query.now name.now ≡ Err e)) }
+    {
+        let owner = self.query.hashed_owner_name(self.hash, name, self.origin)?;
+        Ok(RrKey::new(owner, RecordType::NSEC3))
+    }
+}
+
+/// The set that matches a name (RFC 5155 section 1.3).
+pub(crate) fn matching<'m, H: Nsec3Hash>(
+    records: &'m RecordMap,
+    hashing: &Hashing<'_, H>,
+    name: &LowerName,
+) -> Result<Option<&'m RecordSet>, ProtoError>
+    ensures ok { IfOk result (λ set. sets_of records.now
+        (match_of records.now (hashed_for hashing.now.origin.now (H.digest_of hashing.now.hash.now) hashing.now.query.now) name.now)
+        ≡ Ok (option_to_list (option_copied set))) }
+    ensures err { IfErr result (λ e. (e ≡ ProtoError.Memory)
+        ⊎ (hashed_for hashing.now.origin.now (H.digest_of hashing.now.hash.now) hashing.now.query.now name.now ≡ Err e)) }
+{
+    Ok(records.get(&hashing.key(name)?))
+}
+
+/// The set that covers a name (RFC 5155 section 1.3): that of the greatest owner before the hashed owner, or of the greatest
+/// of all where none is before.
+pub(crate) fn covering<'m, H: Nsec3Hash>(
+    records: &'m RecordMap,
+    hashing: &Hashing<'_, H>,
+    name: &LowerName,
+) -> Result<Option<&'m RecordSet>, ProtoError>
+    ensures ok { IfOk result (λ set. sets_of records.now
+        (cover_of records.now (hashed_for hashing.now.origin.now (H.digest_of hashing.now.hash.now) hashing.now.query.now) name.now)
+        ≡ Ok (option_to_list (option_copied set))) }
+    ensures zone { OnOk result (IsZone records.now) }
+    ensures err { IfErr result (λ e. (e ≡ ProtoError.Memory)
+        ⊎ (hashed_for hashing.now.origin.now (H.digest_of hashing.now.hash.now) hashing.now.query.now name.now ≡ Err e)) }
+{
+    Ok(cover_at(records, &hashing.key(name)?))
+}
+
+/// The set that covers the name of which this is the key.
+fn cover_at<'m>(records: &'m RecordMap, key: &RrKey) -> Option<&'m RecordSet>
+    requires { key.now.record_type.0 ≡ NSEC3 }
+    ensures found { option_copied result ≡ option_and_then (λ o. set_at records.now o NSEC3) (cover_owner records.now key.now.name) }
+    ensures zone { IsZone records.now }
+{
+    let map = records.as_map();
+    match last_nsec3(map.range(..key)) {
+        Some(set) => Some(set),
+        None => last_nsec3(map.range(..)),
+    }
+}
+
+/// The set of the last of some entries whose type is NSEC3.
+fn last_nsec3<'m>(mut entries: Range<'m, RrKey, RecordSet>) -> Option<&'m RecordSet>
+    ensures { option_copied result ≡ option_map (λ e. e.1) (find (λ e. e.0.record_type.0 == NSEC3) (reverse entries.entry)) }
+{
+    while let Some((key, set)) = entries.next_back() {
+        if key.record_type == RecordType::NSEC3 {
+            return Some(set);
+        }
+    }
+    None
+}

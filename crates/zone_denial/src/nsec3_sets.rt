@@ -1,0 +1,196 @@
+//! The NSEC3 sets that a zone gets when it is secured.
+ghost use Rattle.std.specs.Prelude.{◌≡◌, ◌⊎◌, ◌<◌, ◌==◌, ◌&&◌, ℕ, length, map, cond, [], slice_index_or, Some, None, true, false, IfOk, IfErr, OnOk, IsOkUnless, All};
+ghost use Rattle.std.specs.List.Sorted.{IsStrictlySortedBy};
+ghost use Rattle.std.specs.Option.{option_map_or};
+ghost use Rattle.zone_proto.specs.HashedOwners.{hashed_owner};
+ghost use Rattle.zone_proto.specs.Names.{Name, name_eq};
+ghost use Rattle.zone_proto.specs.Results.{TellsFaultOrMemory};
+ghost use Rattle.zone_proto.specs.Types.{NSEC3 as nsec3_type, NSEC3PARAM as nsec3param_type};
+ghost use Rattle.zone_map.specs.Zones.{set_at, put};
+ghost use Rattle.zone_denial.specs.Covering.{next_around};
+ghost use Rattle.zone_denial.specs.HashedNames.{hashed, all_fit, linked_record, circle_set_at};
+ghost use Rattle.zone_denial.specs.Nsec3Nodes.{name_of, types_of};
+ghost use Rattle.zone_denial.specs.Nsec3Circle.{nsec3_types};
+ghost use Rattle.zone_denial.specs.Nsec3Names.{nsec3_names};
+ghost use Rattle.zone_denial.specs.Nsec3Sets.{hashed_cmp, announced_set, nsec3_sets_at, nsec3_fault};
+ghost use Rattle.zone_denial.specs.Nsec3Zones.{hash_with};
+
+use crate::hashed_names::{HashedName, hashed_names};
+use crate::nsec3_names::{Nsec3Name, nsec3_names};
+use zone_handler::SecureError;
+use zone_map::RecordMap;
+use zone_proto::{
+    DNSClass, LowerName, NSEC3, NSEC3PARAM, Name, Nsec3Hash, ProtoError, RData, Record, RecordType,
+    RrKey, base32_dnssec,
+};
+
+/// The sets that a zone gets when it is denied by NSEC3: the NSEC3 sets of its names, which form a circle in the order of their
+/// digests (RFC 5155 section 7.1), and the origin's NSEC3PARAM set, into which the parameters are inserted (RFC 5155 section 4).
+///
+/// `records` are the sets of the zone, and `origin` is its name. `hash` gives the digests, by `parameters`, which are those of
+/// all NSEC3 records; of their flags only opt-out is used, by which delegations that aren't signed get no set. `ttl` is the
+/// TTL of all records, in seconds, and `serial` the serial of the sets. The answer holds the new sets alone.
+///
+/// Refused by `Hash` if `hash` has no digest of a name, else by `OwnerTooLong` if the text of a digest is no label, or makes an
+/// owner longer than a name may be; and by `Memory`.
+pub fn nsec3_sets<H: Nsec3Hash>(
+    records: &RecordMap,
+    origin: &LowerName,
+    hash: &H,
+    parameters: &NSEC3PARAM,
+    ttl: u32,
+    serial: u32,
+) -> Result<RecordMap, SecureError>
+    ensures ok { IfOk result (λ map. (n : Name) (t : ℕ) → set_at map n t
+        ≡ nsec3_sets_at origin.now records.now (hash_with (H.digest_of hash.now) parameters.now) parameters.now ttl serial n t) }
+    ensures fits { OnOk result (nsec3_fault origin.now records.now (hash_with (H.digest_of hash.now) parameters.now) parameters.now.opt_out ≡ None) }
+    ensures err { IfErr result (λ e. (e ≡ SecureError.Memory)
+        ⊎ (nsec3_fault origin.now records.now (hash_with (H.digest_of hash.now) parameters.now) parameters.now.opt_out ≡ Some e)) }
+{
+    match nsec3_names(records, origin, parameters.opt_out) {
+        Ok(names) => sets_of_names(&names, records, origin, hash, parameters, ttl, serial),
+        Err(_) => Err(SecureError::Memory),
+    }
+}
+
+/// The same of the names that get NSEC3 sets, with their types.
+fn sets_of_names<H: Nsec3Hash>(
+    names: &[Nsec3Name<'_>],
+    records: &RecordMap,
+    origin: &LowerName,
+    hash: &H,
+    parameters: &NSEC3PARAM,
+    ttl: u32,
+    serial: u32,
+) -> Result<RecordMap, SecureError>
+    requires names { map name_of names.now ≡ nsec3_names origin.now records.now parameters.now.opt_out }
+    requires types { All (λ n. types_of n ≡ nsec3_types origin.now records.now (name_of n)) names.now }
+    ensures ok { IfOk result (λ map. (n : Name) (t : ℕ) → set_at map n t
+        ≡ nsec3_sets_at origin.now records.now (hash_with (H.digest_of hash.now) parameters.now) parameters.now ttl serial n t) }
+    ensures fits { OnOk result (nsec3_fault origin.now records.now (hash_with (H.digest_of hash.now) parameters.now) parameters.now.opt_out ≡ None) }
+    ensures err { IfErr result (λ e. (e ≡ SecureError.Memory)
+        ⊎ (nsec3_fault origin.now records.now (hash_with (H.digest_of hash.now) parameters.now) parameters.now.opt_out ≡ Some e)) }
+{
+    let held = match hashed_names(origin.alloc(), names, hash, parameters) {
+        Ok(held) => held,
+        Err(ProtoError::Memory) => return Err(SecureError::Memory),
+        Err(_) => return Err(SecureError::Hash),
+    };
+    let announced = match announced(records, origin, parameters, ttl, serial) {
+        Ok(announced) => announced,
+        Err(_) => return Err(SecureError::Memory),
+    };
+    match with_circle(announced, &held, origin, parameters, ttl, serial) {
+        Ok(sets) => Ok(sets),
+        Err(ProtoError::Memory) => Err(SecureError::Memory),
+        Err(_) => Err(SecureError::OwnerTooLong),
+    }
+}
+
+/// The map with the NSEC3 sets of these names, which form a circle. A refusal other than `Memory` says that an owner is too
+/// long.
+fn with_circle(
+    announced: RecordMap,
+    held: &[HashedName<'_, '_>],
+    origin: &LowerName,
+    parameters: &NSEC3PARAM,
+    ttl: u32,
+    serial: u32,
+) -> Result<RecordMap, ProtoError>
+    requires ascending { IsStrictlySortedBy hashed_cmp (map hashed held.now) }
+    requires absent { (n : Name) → set_at announced n nsec3_type ≡ None }
+    ensures ok { IfOk result (λ after. (n : Name) (t : ℕ) → set_at after n t
+        ≡ cond (t == nsec3_type) (circle_set_at origin.now parameters.now ttl held.now serial held.now n) (set_at announced n t)) }
+    ensures fits { OnOk result (all_fit origin.now (map hashed held.now) ≡ true) }
+    ensures err { IfErr result (λ e. (e ≡ ProtoError.Memory) ⊎ (all_fit origin.now (map hashed held.now) ≡ false)) }
+{
+    // Its clauses say that the origin is in lower case.
+    let _ = origin.labels();
+    let mut map = announced;
+    for i in 0..held.len() {
+        let record = nsec3_record(&held[i], next_name(held, i), origin, parameters, ttl)?;
+        map.upsert(record, serial, DNSClass::IN)?;
+    }
+    Ok(map)
+}
+
+/// The name that comes next: the one that stands after this one, and after the last one the first.
+fn next_name<'h, 'n, 'z>(held: &'h [HashedName<'n, 'z>], i: usize) -> &'h HashedName<'n, 'z>
+    requires place { i < length held.now }
+    requires ascending { IsStrictlySortedBy hashed_cmp (map hashed held.now) }
+    ensures { hashed result.now ≡ next_around hashed_cmp (map hashed held.now) (hashed (slice_index_or held.now i result.now)) }
+{
+    let next = if i + 1 < held.len() { i + 1 } else { 0 };
+    &held[next]
+}
+
+/// The NSEC3 record of a name. Refused where its hashed owner is no name, and by `Memory`.
+fn nsec3_record(
+    name: &HashedName<'_, '_>,
+    next: &HashedName<'_, '_>,
+    origin: &LowerName,
+    parameters: &NSEC3PARAM,
+    ttl: u32,
+) -> Result<Record, ProtoError>
+    ensures ok { IfOk result (λ r. r ≡ linked_record origin.now parameters.now ttl name.now next.now.digest) }
+    ensures refusal { TellsFaultOrMemory result (hashed_owner origin.now name.now.digest) }
+{
+    let data = NSEC3 {
+        algorithm: parameters.algorithm,
+        opt_out: parameters.opt_out,
+        iterations: parameters.iterations,
+        salt: parameters.salt.clone()?,
+        next_hashed_owner_name: next.digest.clone()?,
+        types: name.name.types.clone()?,
+    };
+    let owner = hashed_owner(name.digest.as_slice(), origin)?;
+    Ok(Record::from_rdata(Name::from(owner), ttl, RData::NSEC3(data)))
+}
+
+/// The owner of the NSEC3 set of a name with this digest (RFC 5155 section 3). Refused where that is no name, and by `Memory`.
+fn hashed_owner(digest: &[u8], origin: &LowerName) -> Result<LowerName, ProtoError>
+    ensures ok { IfOk result (λ n. n ≡ hashed_owner origin.now digest.now) }
+    ensures refusal { TellsFaultOrMemory result (hashed_owner origin.now digest.now) }
+{
+    let label = base32_dnssec(origin.alloc(), digest)?;
+    origin.prepend_label(label.as_bytes())
+}
+
+/// The origin's NSEC3PARAM set alone, with these parameters inserted. Refused by `Memory` alone.
+fn announced(
+    records: &RecordMap,
+    origin: &LowerName,
+    parameters: &NSEC3PARAM,
+    ttl: u32,
+    serial: u32,
+) -> Result<RecordMap, ProtoError>
+    ensures ok { IfOk result (λ map. (n : Name) (t : ℕ) → set_at map n t
+        ≡ cond ((t == nsec3param_type) && name_eq n origin.now) (Some (announced_set origin.now records.now (λ _. None) parameters.now ttl serial)) None) }
+    ensures err { IsOkUnless result ProtoError.Memory }
+{
+    // Its clauses say that the origin is in lower case.
+    let _ = origin.labels();
+    let mut map = announced_before(records, origin)?;
+    let data = RData::NSEC3PARAM(parameters.clone()?);
+    let record = Record::from_rdata(Name::from(origin.clone()?), ttl, data);
+    map.upsert(record, serial, DNSClass::IN)?;
+    Ok(map)
+}
+
+/// A copy of the origin's NSEC3PARAM set alone, if there is one. Refused by `Memory` alone.
+fn announced_before(records: &RecordMap, origin: &LowerName) -> Result<RecordMap, ProtoError>
+    ensures ok { IfOk result (λ map. map
+        ≡ option_map_or (λ s. put [] origin.now nsec3param_type s) (set_at records.now origin.now nsec3param_type) []) }
+    ensures err { IsOkUnless result ProtoError.Memory }
+{
+    let mut map = RecordMap::new(origin.alloc());
+    let key = RrKey::new(origin.clone()?, RecordType::NSEC3PARAM);
+    let copy = match records.get(&key) {
+        Some(set) => set.clone()?,
+        None => return Ok(map),
+    };
+    match map.put(key, copy) {
+        Ok(_) => Ok(map),
+        Err(_) => Err(ProtoError::Memory),
+    }
+}
