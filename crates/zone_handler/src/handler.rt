@@ -11,6 +11,7 @@ ghost use Rattle.zone_handler.specs.declared.lookup_options.LookupOptions.{Looku
 ghost use Rattle.zone_handler.specs.declared.lookup_error.LookupError.{LookupError};
 ghost use Rattle.zone_handler.specs.declared.auth_lookup.AuthLookup.{AuthLookup};
 ghost use Rattle.zone_handler.specs.declared.control_flow.LookupControlFlow.{LookupControlFlow};
+ghost use Rattle.zone_handler.specs.declared.nsec3_query_info.Nsec3QueryInfo.{Nsec3QueryInfo};
 ghost use Rattle.zone_handler.specs.declared.request.Request.{Request};
 ghost use Rattle.zone_handler.specs.declared.tsig_response_context.TSigResponseContext.{TSigResponseContext};
 ghost use Rattle.zone_handler.specs.declared.zone_transfer.ZoneTransfer.{ZoneTransfer};
@@ -22,6 +23,7 @@ use crate::axfr_policy::AxfrPolicy;
 use crate::control_flow::LookupControlFlow;
 use crate::lookup_error::LookupError;
 use crate::lookup_options::LookupOptions;
+use crate::nsec3_query_info::Nsec3QueryInfo;
 use crate::request::Request;
 use crate::request_info::RequestInfo;
 use crate::tsig_response_context::TSigResponseContext;
@@ -65,6 +67,9 @@ pub trait ZoneHandler {
 
     // Which steps may answer a query for the NSEC records that deny a name, with the options.
     ghost denial_gives: { Self → Name → LookupOptions → LookupControlFlow AuthLookup LookupError → Type 0 };
+
+    // Which steps may answer what asks for the NSEC3 records that deny a query, with the options.
+    ghost hashed_denial_gives: { Self → Nsec3QueryInfo → LookupOptions → LookupControlFlow AuthLookup LookupError → Type 0 };
 
     // What may answer a request for the whole zone, with the options, at a moment, besides a refusal as not implemented.
     ghost transfer_gives: { Self → Request → LookupOptions → ℕ → Option (Result ZoneTransfer LookupError × Option TSigResponseContext) → Type 0 } = { λ _ _ _ _ _. ⊥ };
@@ -166,6 +171,15 @@ pub trait ZoneHandler {
         lookup_options: LookupOptions,
     ) -> LookupControlFlow<AuthLookup>
         ensures { denial_gives self.now name.now lookup_options result };
+
+    /// The NSEC3 records that deny the query that `info` tells of, or that a wildcard answered it (RFC 5155 section 7.2), by
+    /// names hashed with the parameters of `info`; with `lookup_options` as in [`ZoneHandler::lookup`].
+    fn nsec3_records(
+        &self,
+        info: Nsec3QueryInfo<'_>,
+        lookup_options: LookupOptions,
+    ) -> LookupControlFlow<AuthLookup>
+        ensures { hashed_denial_gives self.now info.entry lookup_options result };
 
     /// The whole zone, as `request` asks for it (AXFR, RFC 5936), with `lookup_options` and `now` as in
     /// [`ZoneHandler::lookup`]; and what it takes to sign the response. None where this handler leaves the request to another.

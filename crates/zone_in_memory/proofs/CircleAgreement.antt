@@ -56,14 +56,14 @@ module _ (sign : RRset → List Record) (origin : Name) (m : Sets) (options : Lo
       by (Some s) i = absurd (let e = i.sections in cc)
 
   -- a step that denies is that of such a reply
-  of_step : (d : Denial) (step : LookupControlFlow AuthLookup LookupError) → SaysOrMemory options (IsReplyFor sign origin m options.dnssec_ok n (searched_type m n t)) step → step ≡ denies d
+  pub of_step : (d : Denial) (step : LookupControlFlow AuthLookup LookupError) → SaysOrMemory options (IsReplyFor sign origin m options.dnssec_ok n (searched_type m n t)) step → step ≡ denies d
       → (found m options.dnssec_ok n (searched_type m n t) ≡ None) × (denial origin m n ≡ d)
   of_step d step (inr e) is = absurd (memory_apart d (sym is ∙ e))
   of_step d step (inl (denied e, reply, says)) is = of_reply d (subst (λ x. IsReplyFor sign origin m options.dnssec_ok n (searched_type m n t) (denied x)) (same_denial e d (sym says ∙ is)) reply)
   of_step d step (inl (answered answers more, reply, (a, says, has))) is = absurd (let e = sym says ∙ is in cc)
 
 -- what a denial says of the name
-exists_owned : (origin : Name) (m : Sets) (n : Name) → denial origin m n ≡ nx_domain → (owns_at_or_below m n ≡ false) × IsTrue (is_at_or_above origin n)
+pub exists_owned : (origin : Name) (m : Sets) (n : Name) → denial origin m n ≡ nx_domain → (owns_at_or_below m n ≡ false) × IsTrue (is_at_or_above origin n)
 exists_owned origin m n = by (owns_at_or_below m n) (is_at_or_above origin n)
   where
     by : (a b : Bool) → cond a name_exists (cond b nx_domain refused) ≡ nx_domain → (a ≡ false) × IsTrue b

@@ -1,8 +1,10 @@
 pub mod Denials
+pub mod SecuredDenials
 pub mod SecuredZones
 pub mod KeptCircles
 pub mod Lookups
 pub mod CircleAgreement
+pub mod Nsec3Agreement
 pub mod Requesting
 pub mod Transferring
 pub mod TransferLaws

@@ -15,6 +15,8 @@ pub mod Construction
 pub mod Refusals
 pub mod Lookup
 pub mod NsecAnswers
+pub mod Nsec3Steps
+pub mod Nsec3Answers
 pub mod Requests
 pub mod Transfers
 pub mod TransferLaws

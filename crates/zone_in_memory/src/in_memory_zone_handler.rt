@@ -1,36 +1,39 @@
-ghost use Rattle.std.specs.Prelude.{◌≡◌, ◌≢◌, ◌⊎◌, false, [], Ok, Err, IfErr, IfOk, OnOk, OnErr, IsTrue, option_copied};
-ghost use Rattle.zone_proto.specs.Names.{lower, is_at_or_above};
+ghost use Rattle.std.specs.Prelude.{◌≡◌, ◌≢◌, ◌⊎◌, ℕ, List, Option, false, [], Ok, Err, IfErr, IfOk, IsTrue, option_copied};
+ghost use Rattle.zone_proto.specs.declared.rdata.denial.NSEC3PARAM.{NSEC3PARAM as Nsec3Parameters};
+ghost use Rattle.zone_proto.specs.Names.{Name, lower, is_at_or_above};
 ghost use Rattle.zone_proto.specs.Types.{IN, SOA, AXFR};
 ghost use Rattle.zone_denial.specs.NsecLaws.{IsNsecZone};
+ghost use Rattle.zone_denial.specs.Nsec3Zones.{IsNsec3Zone, IsHashed, TellsApart};
+ghost use Rattle.zone_handler.specs.Hashing.{digest_for};
 ghost use Rattle.zone_handler.specs.Transfers.{IsNoLookup};
 ghost use Rattle.zone_search.specs.StartOfAuthority.{soa, serial, minimum};
 ghost use Rattle.zone_search.specs.Replies.{absent, denial, IsReplyFor};
 ghost use Rattle.zone_in_memory.specs.Lookup.{error_of, SaysOrMemory, IsLookup, IsAnswered};
 ghost use Rattle.zone_in_memory.specs.NsecAnswers.{IsNsecAnswer, HasNsecProof, AgreesWithCircle};
+ghost use Rattle.zone_in_memory.specs.Nsec3Steps.{IsNsec3Answer};
+ghost use Rattle.zone_in_memory.specs.Nsec3Answers.{AgreesWithNsec3Circle, HasNsec3Proof};
 ghost use Rattle.zone_in_memory.specs.Requests.{IsSearch};
 ghost use Rattle.zone_in_memory.specs.Transfers.{IsZoneTransfer};
 ghost use Rattle.zone_map.specs.AnyTypes.{searched_type};
 ghost use Rattle.zone_in_memory.specs.Construction.{made};
-ghost use Rattle.zone_in_memory.specs.Refusals.{Refuses};
 ghost use Rattle.zone_signing.specs.Signatures.{answer_signatures};
 ghost use Rattle.zone_map.specs.Upserts.{CnamesStandAlone};
-ghost use Rattle.zone_in_memory.specs.Insertions.{IsUpsert};
-ghost use Rattle.zone_map.specs.Zones.{set_at, owns, put, without, IsZone};
+ghost use Rattle.zone_map.specs.Zones.{owns, IsZone};
 
+mod changes;
 mod denial;
 mod signing;
 
 use crate::construction;
-use crate::put_refused::PutRefused;
 use std::collections::BTreeMap;
 use std::marker::Model;
 use zone_handler::{
-    AuthLookup, AxfrPolicy, LookupControlFlow, LookupError, LookupOptions, NetError, Request,
-    RequestInfo, TSigResponseContext, ZoneHandler, ZoneTransfer, ZoneType,
+    AuthLookup, AxfrPolicy, LookupControlFlow, LookupError, LookupOptions, NetError,
+    Nsec3QueryInfo, Request, RequestInfo, TSigResponseContext, ZoneHandler, ZoneTransfer, ZoneType,
 };
 use zone_proto::{
-    DNSClass, LowerName, Name, Nsec3Hash, NxProofKind, Record, RecordSet, RecordType, ResponseCode,
-    RrKey, SOA, Signer,
+    DNSClass, LowerName, Name, Nsec3Hash, NxProofKind, RecordSet, RecordType, ResponseCode, RrKey,
+    SOA, Signer,
 };
 use zone_search::start_of_authority::first_soa;
 use zone_search::{InnerInMemory, Searches, ZoneError};
@@ -221,69 +224,6 @@ impl<S: Signer, H: Nsec3Hash> InMemoryZoneHandler<S, H> {
         first_soa(self.inner.get(&self.apex)?)
     }
 
-    /// Takes a record into the set of its owner name and type, or makes that set.
-    ///
-    /// `serial` is the serial that the set keeps when it takes the record. The answer is whether the record was
-    /// taken. It isn't taken if it is of another class than the zone; if its owner owns a type that may not stand
-    /// beside the record's, one of the two being CNAME and neither NSEC or NSEC3 (RFC 1034 section 3.6.2); or if the
-    /// set refuses it, as [`RecordSet::insert`] says: an SOA whose serial isn't greater than the stored one's, or
-    /// data that the set has. A record that isn't taken changes nothing, and so does a refusal, by `Memory` alone.
-    pub fn upsert(&mut self, record: Record, serial: u32) -> Result<bool, ZoneError>
-        ensures { IsUpsert self.old «record» serial result self.new }
-    {
-        self.inner.upsert(record, serial, self.class)
-    }
-
-    /// The same as [`InMemoryZoneHandler::upsert`].
-    pub fn upsert_mut(&mut self, record: Record, serial: u32) -> Result<bool, ZoneError>
-        ensures { IsUpsert self.old «record» serial result self.new }
-    {
-        self.upsert(record, serial)
-    }
-
-    /// Stores a set whole, with its signatures, under its own owner name, in lower case, and type, and gives the set
-    /// that stood there.
-    ///
-    /// Nothing is asked of its class, nor of a CNAME beside it. Refused by `Empty` for a set without records, and by
-    /// `Memory`; both hand the set back and leave the zone as it was.
-    pub fn put_set(&mut self, set: RecordSet) -> Result<Option<RecordSet>, PutRefused>
-        ensures before { IfOk result (λ before. before ≡ set_at self.old.inner.records (lower set.owner) set.record_type) }
-        ensures stored { OnOk result (self.new
-            ≡ record self.old { inner = record self.old.inner { records = put self.old.inner.records (lower set.owner) set.record_type set } }) }
-        ensures empty { set.records ≡ [] → result ≡ Err (PutRefused.Empty set) }
-        ensures refused { IfErr result (λ refusal. Refuses refusal set) }
-        ensures same { OnErr result (self.new ≡ self.old) }
-    {
-        if set.records_without_rrsigs().next().is_none() {
-            return Err(PutRefused::Empty(set));
-        }
-        let Ok(name) = LowerName::new(set.name()) else {
-            return Err(PutRefused::Memory(set));
-        };
-        let key = RrKey::new(name, set.record_type());
-        match self.inner.put(key, set) {
-            Ok(before) => Ok(before),
-            Err(set) => Err(PutRefused::Memory(set)),
-        }
-    }
-
-    /// Takes the set out that stands under a key, and gives it. This takes no memory.
-    pub fn remove_set(&mut self, key: &RrKey) -> Option<RecordSet>
-        ensures before { result ≡ set_at self.old.inner.records key.now.name key.now.record_type.0 }
-        ensures removed { self.new
-            ≡ record self.old { inner = record self.old.inner { records = without self.old.inner.records key.now.name key.now.record_type.0 } } }
-    {
-        self.inner.remove(key)
-    }
-
-    /// Takes all record sets out; the signers stay. This takes no memory.
-    pub fn clear(&mut self)
-        ensures cleared { self.new ≡ record self.old { inner = record self.old.inner { records = [] } } }
-        ensures cnames { CnamesStandAlone self.new.inner.records }
-    {
-        self.inner.clear();
-    }
-
     /// The answer to a query of a type other than AXFR.
     pub(crate) fn answer(
         &self,
@@ -347,6 +287,8 @@ impl<S: Signer, H: Nsec3Hash> ZoneHandler for InMemoryZoneHandler<S, H> {
 
     ghost denial_gives = { IsNsecAnswer };
 
+    ghost hashed_denial_gives = { IsNsec3Answer H.digest_of };
+
     ghost transfer_gives = { λ zone request options now answer. IsZoneTransfer S.signature_of zone request.queries.items options now answer };
 
     ghost search_gives = { λ zone request options now answer. IsSearch (λ name type step. IsLookup S.signature_of zone name type options now step) request.queries.items answer };
@@ -386,6 +328,9 @@ impl<S: Signer, H: Nsec3Hash> ZoneHandler for InMemoryZoneHandler<S, H> {
     /// Where nothing is found the answer is `NameExists` if the name or a name below it owns a set (RFC 2308 section
     /// 2.2), else `NXDomain` for a name at or below the origin (RFC 2308 section 2.1), and else `Refused` (RFC 1035
     /// section 4.1.1). `Memory` may come in place of these, but not of the answer to AXFR. `request_info` isn't used.
+    ///
+    /// In a zone whose NSEC or NSEC3 sets are a circle the answer agrees with them: `NXDomain` comes only for a name that
+    /// isn't on the circle, and `NameExists` for a name on it only for a type that its set doesn't list, RRSIG aside.
     fn lookup(
         &self,
         name: &LowerName,
@@ -398,6 +343,8 @@ impl<S: Signer, H: Nsec3Hash> ZoneHandler for InMemoryZoneHandler<S, H> {
         ensures transfer { record_type.0 ≡ AXFR → IsNoLookup result }
         ensures owned_is_answered { IsTrue (owns self.now.inner.records name.now record_type.0) → record_type.0 ≢ AXFR → IsAnswered result }
         ensures circle { IsNsecZone self.now.origin self.now.inner.records → AgreesWithCircle self.now.origin self.now.inner.records name.now record_type.0 result }
+        ensures nsec3_circle { (hash : Name → Option (List ℕ)) (parameters : Nsec3Parameters) → IsNsec3Zone self.now.origin self.now.inner.records hash parameters
+            → AgreesWithNsec3Circle self.now.origin self.now.inner.records hash parameters.opt_out name.now record_type.0 result }
     {
         if record_type == RecordType::AXFR {
             let error = NetError::from("AXFR must be handled with ZoneHandler::zone_transfer()");
@@ -452,6 +399,28 @@ impl<S: Signer, H: Nsec3Hash> ZoneHandler for InMemoryZoneHandler<S, H> {
         ensures proof { IsNsecZone self.now.origin self.now.inner.records → IsTrue (is_at_or_above self.now.origin name.now) → HasNsecProof self.now.origin self.now.inner.records name.now result }
     {
         LookupControlFlow::Continue(self.nsec_answer(name, lookup_options))
+    }
+
+    /// The NSEC3 records that deny the query which `info` tells of, or that a wildcard answered it, with their signatures where
+    /// `lookup_options` ask for DNSSEC: what [`InnerInMemory::proof`] gives with the zone's origin and hash, in any zone and
+    /// whatever its kind. The answer has no additional section. Refused as `proof` is.
+    ///
+    /// In a zone whose NSEC3 sets are a circle by the parameters of `info` and by the zone's hash, and below the root, these
+    /// deny each name of the zone to which no wildcard answered: the name's own set is found, where the name is on the circle,
+    /// and else the set of its closest encloser and one that covers the next closer name (RFC 5155 section 7.2.1). That is so
+    /// where the hash gives the names on the circle and those that it is asked of digests of one length that differ.
+    fn nsec3_records(
+        &self,
+        info: Nsec3QueryInfo<'_>,
+        lookup_options: LookupOptions,
+    ) -> LookupControlFlow<AuthLookup>
+        ensures answer { IsNsec3Answer H.digest_of self.now info.entry lookup_options result }
+        ensures proof { (parameters : Nsec3Parameters) → IsNsec3Zone self.now.origin self.now.inner.records (digest_for (H.digest_of self.now.hash) info.entry) parameters
+            → info.entry.has_wildcard_match ≡ false → IsTrue (is_at_or_above self.now.origin info.entry.qname.now)
+            → TellsApart (IsHashed self.now.origin self.now.inner.records parameters.opt_out info.entry.qname.now) (digest_for (H.digest_of self.now.hash) info.entry)
+            → HasNsec3Proof self.now.origin self.now.inner.records (digest_for (H.digest_of self.now.hash) info.entry) parameters.opt_out info.entry.qname.now result }
+    {
+        LookupControlFlow::Continue(self.nsec3_answer(info, lookup_options))
     }
 
     /// The whole zone: what [`ZoneHandler::lookup`] answers for its SOA, with these `lookup_options`, at the moment `now`, in

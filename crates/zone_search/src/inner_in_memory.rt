@@ -1,8 +1,11 @@
-ghost use Rattle.std.specs.Prelude.{◌≡◌, [], ◌∷◌, ◌++◌, IfOk, IfErr, OnOk, OnErr, IsOkUnless, is_some, unwrap_or, option_map, option_and_then, option_copied};
+ghost use Rattle.std.specs.Prelude.{◌≡◌, ◌⊎◌, [], ◌∷◌, ◌++◌, map, Ok, Err, IfOk, IfErr, OnOk, OnErr, IsOkUnless, is_some, unwrap_or, option_map, option_and_then, option_copied};
 ghost use Rattle.zone_map.specs.AnyTypes.{any_type};
 ghost use Rattle.zone_proto.specs.Types.{NSEC};
 ghost use Rattle.zone_denial.specs.DenialSets.{denial_sets, own_set};
 ghost use Rattle.zone_denial.specs.NsecDenial.{closest_nsec, nsec_denial};
+ghost use Rattle.zone_denial.specs.Nsec3Lent.{query_denial};
+ghost use Rattle.zone_proto.specs.declared.error.ProtoError.{ProtoError};
+ghost use Rattle.zone_handler.specs.Errors.{error_of_proto};
 ghost use Rattle.zone_search.specs.FoundSets.{found_set, lent_set};
 ghost use Rattle.zone_map.specs.Search.{direct};
 ghost use Rattle.zone_map.specs.Wildcards.{found};
@@ -18,11 +21,13 @@ use crate::zone_error::ZoneError;
 use std::alloc::Global;
 use std::collections::BTreeMap;
 use std::marker::Model;
-use zone_denial::closest;
 use zone_denial::denial::{self, NsecDenial};
-use zone_handler::{LookupError, LookupOptions};
+use zone_denial::{closest, nsec3_denial};
+use zone_handler::{LookupError, LookupOptions, Nsec3QueryInfo};
 use zone_map::{RecordMap, search, wildcard};
-use zone_proto::{DNSClass, LowerName, ProtoError, Record, RecordSet, RecordType, RrKey, Signer};
+use zone_proto::{
+    DNSClass, LowerName, Nsec3Hash, ProtoError, Record, RecordSet, RecordType, RrKey, Signer,
+};
 
 /// The record sets of a zone, by owner name and type, and the signers that sign them.
 pub struct InnerInMemory<S: Signer> {
@@ -144,6 +149,39 @@ impl<S: Signer> InnerInMemory<S> {
         ensures err { IsOkUnless result LookupError.Memory }
     {
         Ok(closest::closest_nsec(&self.records, name)?)
+    }
+
+    /// The NSEC3 sets that deny the query that `info` tells of in the zone of origin `zone`, or that prove that a wildcard
+    /// answered it, by the parameters of `info` and by `hash`, in the order of their owners, each once (RFC 5155 section 7.2).
+    /// So it is in any zone, whether its NSEC3 sets are a circle or not.
+    ///
+    /// - The set that matches a name stands at its hashed owner. The one that covers it is that of the greatest owner before
+    ///   this one, or else of the greatest of all.
+    /// - Where a set matches the queried name, it is the answer alone, unless `info` tells of a wildcard.
+    /// - Else the closest encloser is the nearest proper ancestor of the queried name that a set matches, the root aside.
+    ///   Without one there is no set. The next closer name is the one a label longer towards the queried name.
+    /// - Where a wildcard answered, the set that covers the next closer name is the answer. Else it is the set that matches the
+    ///   closest encloser, the one that covers the next closer name, and one for the star under the closest encloser: where a
+    ///   set stands at the queried name with `*` in the place of its first label, the set that matches that star, and else,
+    ///   unless the type is DS, the one that covers it.
+    ///
+    /// Names are hashed in this order, each only where the answer needs it: the queried name, its ancestors from the nearest on
+    /// until one has a match, the next closer name, the closest encloser, and the star. The first that is refused refuses the
+    /// call, as [`Nsec3QueryInfo::hashed_owner_name`] says; so does want of memory.
+    pub fn proof<H: Nsec3Hash>(
+        &self,
+        info: Nsec3QueryInfo<'_>,
+        zone: &LowerName,
+        hash: &H,
+    ) -> Result<Vec<&RecordSet>, LookupError>
+        ensures sets { IfOk result (λ sets. query_denial (H.digest_of hash.now) zone.now self.now.records info.entry ≡ Ok (map (λ s. s.now) sets.items)) }
+        ensures err { IfErr result (λ e. (e ≡ LookupError.Memory)
+            ⊎ ((refusal : ProtoError) × (query_denial (H.digest_of hash.now) zone.now self.now.records info.entry ≡ Err refusal) × (e ≡ error_of_proto refusal))) }
+    {
+        match nsec3_denial::nsec3_denial(&self.records, zone, &info, hash) {
+            Ok(sets) => Ok(sets),
+            Err(refusal) => Err(LookupError::from(refusal)),
+        }
     }
 
     /// The signers, in the order in which they were added.

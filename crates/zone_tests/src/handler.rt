@@ -5,8 +5,8 @@ ghost use Rattle.zone_handler.specs.Transfers.{IsNoLookup};
 
 use std::alloc::Global;
 use zone_handler::{
-    AuthLookup, AxfrPolicy, LookupControlFlow, LookupError, LookupOptions, NetError, Request,
-    RequestInfo, TSigResponseContext, ZoneHandler, ZoneType,
+    AuthLookup, AxfrPolicy, LookupControlFlow, LookupError, LookupOptions, NetError,
+    Nsec3QueryInfo, Request, RequestInfo, TSigResponseContext, ZoneHandler, ZoneType,
 };
 use zone_proto::{DNSClass, LowerName, NxProofKind, Query, RecordType, ResponseCode};
 
@@ -51,6 +51,8 @@ impl ZoneHandler for Parked {
     ghost search_gives = { λ _ _ _ _ answer. is_break answer.0 ≡ true };
 
     ghost denial_gives = { λ _ _ _ flow. flow ≡ Skip };
+
+    ghost hashed_denial_gives = { λ _ _ _ flow. flow ≡ Skip };
 
     fn zone_type(&self) -> ZoneType {
         ZoneType::External
@@ -117,6 +119,14 @@ impl ZoneHandler for Parked {
     fn nsec_records(
         &self,
         _name: &LowerName,
+        _lookup_options: LookupOptions,
+    ) -> LookupControlFlow<AuthLookup> {
+        LookupControlFlow::Skip
+    }
+
+    fn nsec3_records(
+        &self,
+        _info: Nsec3QueryInfo<'_>,
         _lookup_options: LookupOptions,
     ) -> LookupControlFlow<AuthLookup> {
         LookupControlFlow::Skip

@@ -1,12 +1,14 @@
 // The records that deny what a zone doesn't hold.
-ghost use Rattle.std.specs.Prelude.{◌≡◌, ◌++◌, IfOk, IsOkUnless, option_copied, option_to_list};
+ghost use Rattle.std.specs.Prelude.{◌≡◌, ◌++◌, map, IfOk, IsOkUnless, option_copied, option_to_list};
 ghost use Rattle.zone_in_memory.specs.NsecAnswers.{IsNsecAnswer, IsDenialSection};
+ghost use Rattle.zone_in_memory.specs.Nsec3Steps.{IsNsec3Answer};
 
 use crate::in_memory_zone_handler::InMemoryZoneHandler;
 use std::alloc::Global;
 use zone_denial::denial::NsecDenial;
 use zone_handler::{
-    AuthLookup, LookupControlFlow, LookupError, LookupOptions, LookupRecords, ZoneHandler,
+    AuthLookup, LookupControlFlow, LookupError, LookupOptions, LookupRecords, Nsec3QueryInfo,
+    ZoneHandler,
 };
 use zone_proto::{LowerName, Nsec3Hash, ProtoError, RecordSet, Signer};
 
@@ -40,6 +42,20 @@ impl<S: Signer, H: Nsec3Hash> InMemoryZoneHandler<S, H> {
             }
         }
     }
+
+    /// The answer that has the NSEC3 records which deny a query.
+    pub(crate) fn nsec3_answer(
+        &self,
+        info: Nsec3QueryInfo<'_>,
+        lookup_options: LookupOptions,
+    ) -> Result<AuthLookup, LookupError>
+        ensures { IsNsec3Answer H.digest_of self.now info.entry lookup_options (LookupControlFlow.Continue result) }
+    {
+        let sets = self.inner.proof(info, self.origin(), &self.hash)?;
+        let copies = copies_of(info.qname.alloc(), sets.as_slice())?;
+        let section = LookupRecords::many(lookup_options, copies);
+        Ok(AuthLookup::answers(section, None))
+    }
 }
 
 /// Copies of two sets that may be there.
@@ -57,6 +73,18 @@ fn copies(
     }
     if let Some(set) = other {
         copies.push(set.clone()?)?;
+    }
+    Ok(copies)
+}
+
+/// Copies of sets.
+fn copies_of(alloc: Global, sets: &[&RecordSet]) -> Result<Vec<RecordSet>, ProtoError>
+    ensures copies { IfOk result (λ copies. copies.items ≡ map (λ s. s.now) sets.now) }
+    ensures err { IsOkUnless result ProtoError.Memory }
+{
+    let mut copies = Vec::with_capacity(alloc, sets.len())?;
+    for set in sets {
+        copies.push((*set).clone()?)?;
     }
     Ok(copies)
 }

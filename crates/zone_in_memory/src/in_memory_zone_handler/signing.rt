@@ -47,19 +47,32 @@ impl<S: Signer, H: Nsec3Hash> InMemoryZoneHandler<S, H> {
     /// a set, NSEC sets aside, and that no zone cut stands above. It has one record, with the next of these names, or the
     /// origin after the last, and with the types that the name owns, NSEC and RRSIG among them (RFC 4034 section 4). Its TTL
     /// is the zone's minimum, and its serial that of before. So where the origin owns a set besides, the NSEC sets are one
-    /// closed circle through exactly these names. Without a signer NSEC sets stay as they are. A zone that is to be denied by
-    /// NSEC3 is secured as if it were not: no NSEC3 sets are made yet.
+    /// closed circle through exactly these names.
     ///
-    /// Refused by `TimeOutOfRange` for a moment past the year 9999 (253402300799), which takes no memory, and by `Memory`, of
-    /// a signer too; both leave the zone as it was.
+    /// Of a zone that NSEC3 denies, and that has a signer, the NSEC3 sets are made anew in the same way (RFC 5155 section 7.1):
+    /// one for each of the names that the zone is authoritative for, of the empty names above them, and of the origin; with
+    /// opt-out none for a delegation that has no DS. It stands at the hashed owner of the name, and its record has the zone's
+    /// parameters, the digest of the next name in the order of digests, or of the first after the last, and the types that the
+    /// name owns, with RRSIG where there is one. Where names have one digest, their records are inserted into one set in the
+    /// order of the names. Then an NSEC3PARAM record with the parameters is inserted at the origin, unless it is there. So
+    /// where the hash tells these names apart, by digests of one length, and the origin isn't the root, the NSEC3 sets are one
+    /// closed circle through exactly these names.
+    ///
+    /// Without a signer denials stay as they are.
+    ///
+    /// Refused, in this order, by `TimeOutOfRange` for a moment past the year 9999 (253402300799), which takes no memory; and,
+    /// where NSEC3 sets are to be made, by `CnameAtOrigin` where a CNAME stands at the origin, by `Hash` where the hash has no
+    /// digest of one of the names, and by `OwnerTooLong` where the text of a digest is empty or longer than a label may be, or
+    /// the hashed owner longer than a name. `Memory` may come in place of the latter, of a signer or the hash too. A refusal
+    /// leaves the zone as it was.
     pub fn secure_zone_mut(&mut self, now: u64) -> Result<(), SecureError>
-        ensures { IsSecuring S.signature_of self.old now result self.new }
+        ensures { IsSecuring S.signature_of H.digest_of self.old now result self.new }
     {
         if now > LAST_MOMENT {
             return Err(SecureError::TimeOutOfRange);
         }
         self.inner
-            .secure(&self.apex, self.nx_proof_kind.as_ref(), now)
+            .secure(&self.apex, self.nx_proof_kind.as_ref(), &self.hash, now)
     }
 }
 
@@ -81,7 +94,7 @@ impl<S: Signer, H: Nsec3Hash> InMemoryZoneHandler<S, H> {
 impl<S: Signer, H: Nsec3Hash> DnssecZoneHandler<S> for InMemoryZoneHandler<S, H> {
     ghost adds_key = { λ old signer result new. IsKeyAdded S.key_of old signer result new };
 
-    ghost secures = { λ old now result new. IsSecuring S.signature_of old now result new };
+    ghost secures = { λ old now result new. IsSecuring S.signature_of H.digest_of old now result new };
 
     /// The same as [`InMemoryZoneHandler::add_zone_signing_key_mut`].
     fn add_zone_signing_key(&mut self, signer: S) -> Result<(), KeyError> {

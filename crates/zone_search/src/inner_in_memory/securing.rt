@@ -1,91 +1,176 @@
 // The record sets of a zone once it is secured.
-ghost use Rattle.std.specs.Prelude.{◌≡◌, ℕ, IfOk, OnOk, OnErr, IsOkUnless, option_copied};
+ghost use Rattle.std.specs.Prelude.{◌≡◌, ◌⊎◌, ℕ, None, Some, IfOk, IfErr, OnOk, OnErr, IsOkUnless, option_map, option_copied};
 ghost use Rattle.zone_proto.specs.Names.{Name};
-ghost use Rattle.zone_proto.specs.Types.{SOA};
+ghost use Rattle.zone_proto.specs.Types.{SOA, CNAME};
 ghost use Rattle.zone_denial.specs.NsecSets.{nsec_set_at};
-ghost use Rattle.zone_map.specs.Zones.{set_at, IsZone};
-ghost use Rattle.zone_signing.specs.Secured.{IsSecured};
+ghost use Rattle.zone_denial.specs.Nsec3Sets.{nsec3_sets_at, nsec3_fault};
+ghost use Rattle.zone_denial.specs.Nsec3Zones.{hash_with};
+ghost use Rattle.zone_map.specs.Zones.{set_at, owns, IsZone};
+ghost use Rattle.zone_signing.specs.Secured.{unsigned_at, IsSecured};
 ghost use Rattle.zone_search.specs.StartOfAuthority.{minimum, serial};
-ghost use Rattle.zone_search.specs.Securing.{makes_nsec_sets, to_be_signed};
+ghost use Rattle.zone_search.specs.Securing.{denied_by, with_denials, with_nsec3_sets, denial_fault, to_be_signed, nsec3_kind};
 
 use crate::inner_in_memory::InnerInMemory;
 use crate::start_of_authority::first_soa;
-use zone_denial::nsec_sets;
+use zone_denial::{nsec_sets, nsec3_sets};
 use zone_handler::SecureError;
 use zone_map::RecordMap;
-use zone_proto::{NxProofKind, ProtoError, RecordType, RrKey, Signer};
+use zone_proto::{
+    NSEC3PARAM, Nsec3Hash, NxProofKind, ProtoError, RecordType, RrKey, Signer,
+};
 use zone_signing::securing;
 
 /// What `zone_in_memory` makes a zone of: no user of a zone needs it.
 #[doc(hidden)]
 impl<S: Signer> InnerInMemory<S> {
-    /// Secures the record sets of the zone whose SOA stands under `apex`, and which is denied as `kind` says: makes its NSEC
-    /// sets where it is to have some, steps its serial, and signs its sets at the moment `now`, in seconds since 1970.
+    /// Secures the record sets of the zone whose SOA stands under `apex`, and which is denied as `kind` says: makes its
+    /// denials where it is to have some, steps its serial, and signs its sets at the moment `now`, in seconds since 1970.
     ///
-    /// NSEC sets are made anew where `kind` is NSEC and there is a signer, with the minimum and the serial that the SOA has
-    /// before; without an SOA both are 0. They come in the place of those that stand in the zone, which stay where none are
-    /// made. Each set is then signed by each signer in order, and loses the signatures that it has. Refused by `Memory`
-    /// alone, of a signer too, which leaves the zone as it was.
-    pub fn secure(
+    /// Denials are made anew where there is a signer: NSEC sets or, by `hash`, NSEC3 sets and the NSEC3PARAM record, with the
+    /// minimum and the serial that the SOA has before; without an SOA both are 0. They come in the place of those that stand
+    /// in the zone, which stay where none are made. Each set is then signed by each signer in order, and loses the signatures
+    /// that it has. Refused, where NSEC3 sets are to be made, by `CnameAtOrigin`, `Hash` and `OwnerTooLong`, in this order; and
+    /// by `Memory`, of a signer or the hash too. A refusal leaves the zone as it was.
+    pub fn secure<H: Nsec3Hash>(
         &mut self,
         apex: &RrKey,
         kind: Option<&NxProofKind>,
+        hash: &H,
         now: u64,
     ) -> Result<(), SecureError>
         requires { apex.now.record_type.0 ≡ SOA }
         ensures zone { IsZone self.new.records }
-        ensures ok { OnOk result (IsSecured S.signature_of now apex.now.name self.old.signers (to_be_signed (option_copied kind.entry) self.old.signers apex.now.name self.old.records) self.new.records) }
+        ensures ok { OnOk result (IsSecured S.signature_of now apex.now.name self.old.signers (to_be_signed (H.digest_of hash.now) apex.now.name self.old.records (option_copied kind.entry) self.old.signers) self.new.records) }
+        ensures fits { OnOk result (denial_fault (H.digest_of hash.now) apex.now.name self.old.records (denied_by (option_copied kind.entry) self.old.signers) ≡ None) }
         ensures signers { self.new.signers ≡ self.old.signers }
-        ensures err { IsOkUnless result SecureError.Memory }
+        ensures err { IfErr result (λ e. (e ≡ SecureError.Memory)
+            ⊎ (denial_fault (H.digest_of hash.now) apex.now.name self.old.records (denied_by (option_copied kind.entry) self.old.signers) ≡ Some e)) }
         ensures same { OnErr result (self.new ≡ self.old) }
     {
-        match self.secure_records(apex, kind, now) {
+        let (old_denials, new_denials) = self.denials(apex, kind, hash)?;
+        let signers = self.signers.as_slice();
+        match securing::secure(
+            &mut self.records,
+            old_denials,
+            new_denials,
+            apex,
+            signers,
+            now,
+        ) {
             Ok(()) => Ok(()),
             Err(_) => Err(SecureError::Memory),
         }
     }
 
-    /// The same, refused by the want of memory that came.
-    fn secure_records(
-        &mut self,
+    /// The type of the denials that leave the zone, if some do, and the sets that come in.
+    fn denials<H: Nsec3Hash>(
+        &self,
         apex: &RrKey,
         kind: Option<&NxProofKind>,
-        now: u64,
-    ) -> Result<(), ProtoError>
+        hash: &H,
+    ) -> Result<(Option<RecordType>, RecordMap), SecureError>
         requires { apex.now.record_type.0 ≡ SOA }
-        ensures zone { IsZone self.new.records }
-        ensures ok { OnOk result (IsSecured S.signature_of now apex.now.name self.old.signers (to_be_signed (option_copied kind.entry) self.old.signers apex.now.name self.old.records) self.new.records) }
-        ensures signers { self.new.signers ≡ self.old.signers }
-        ensures err { IsOkUnless result ProtoError.Memory }
-        ensures same { OnErr result (self.new ≡ self.old) }
+        ensures ok { IfOk result (λ made. (n : Name) (t : ℕ) → unsigned_at (option_map (λ d. d.0) made.0) self.now.records made.1 n t
+            ≡ to_be_signed (H.digest_of hash.now) apex.now.name self.now.records (option_copied kind.entry) self.now.signers n t) }
+        ensures fits { OnOk result (denial_fault (H.digest_of hash.now) apex.now.name self.now.records (denied_by (option_copied kind.entry) self.now.signers) ≡ None) }
+        ensures err { IfErr result (λ e. (e ≡ SecureError.Memory)
+            ⊎ (denial_fault (H.digest_of hash.now) apex.now.name self.now.records (denied_by (option_copied kind.entry) self.now.signers) ≡ Some e)) }
     {
-        let (denials, new_denials) = if self.makes_nsec_sets(kind) {
-            (Some(RecordType::NSEC), self.nsec_sets(apex)?)
+        match self.denied_by(kind) {
+            None => Ok((None, RecordMap::new(apex.name.alloc()))),
+            Some(NxProofKind::Nsec) => match self.nsec_sets(apex) {
+                Ok(sets) => Ok((Some(RecordType::NSEC), sets)),
+                Err(_) => Err(SecureError::Memory),
+            },
+            Some(NxProofKind::Nsec3 {
+                algorithm,
+                salt,
+                iterations,
+                opt_out,
+            }) => {
+                let Ok(salt) = salt.clone() else {
+                    return Err(SecureError::Memory);
+                };
+                let parameters = NSEC3PARAM {
+                    algorithm: *algorithm,
+                    opt_out: *opt_out,
+                    iterations: *iterations,
+                    salt,
+                };
+                let sets = self.nsec3_sets(apex, &parameters, hash)?;
+                Ok((Some(RecordType::NSEC3), sets))
+            }
+        }
+    }
+
+    /// The kind of the denials that the zone gets: none without a signer.
+    fn denied_by<'k>(&self, kind: Option<&'k NxProofKind>) -> Option<&'k NxProofKind>
+        ensures { option_copied result ≡ denied_by (option_copied kind.entry) self.now.signers }
+    {
+        if self.signers.is_empty() {
+            None
         } else {
-            (None, RecordMap::new(apex.name.alloc()))
-        };
-        let signers = self.signers.as_slice();
-        securing::secure(&mut self.records, denials, new_denials, apex, signers, now)
+            kind
+        }
     }
 
-    /// Whether NSEC sets are made: the zone is denied by these, and there is a signer.
-    fn makes_nsec_sets(&self, kind: Option<&NxProofKind>) -> bool
-        ensures { result ≡ makes_nsec_sets (option_copied kind.entry) self.now.signers }
-    {
-        matches!(kind, Some(NxProofKind::Nsec)) && !self.signers.is_empty()
-    }
-
-    /// The NSEC sets of the zone whose SOA stands under `apex`, with its minimum and its serial, which are 0 without an SOA.
+    /// The NSEC sets of the zone whose SOA stands under `apex`.
     fn nsec_sets(&self, apex: &RrKey) -> Result<RecordMap, ProtoError>
         requires { apex.now.record_type.0 ≡ SOA }
         ensures ok { IfOk result (λ map. (n : Name) (t : ℕ) → set_at map n t
             ≡ nsec_set_at apex.now.name self.now.records (minimum self.now.records apex.now.name) (serial self.now.records apex.now.name) n t) }
         ensures err { IsOkUnless result ProtoError.Memory }
     {
-        let (minimum, serial) = match self.get(apex).and_then(first_soa) {
+        let (minimum, serial) = self.minimum_and_serial(apex);
+        nsec_sets::nsec_sets(&self.records, &apex.name, minimum, serial)
+    }
+
+    /// The NSEC3 sets of the zone whose SOA stands under `apex`, and its NSEC3PARAM set, beside which no CNAME may stand.
+    fn nsec3_sets<H: Nsec3Hash>(
+        &self,
+        apex: &RrKey,
+        parameters: &NSEC3PARAM,
+        hash: &H,
+    ) -> Result<RecordMap, SecureError>
+        requires { apex.now.record_type.0 ≡ SOA }
+        ensures ok { IfOk result (λ map. (n : Name) (t : ℕ) → set_at map n t
+            ≡ nsec3_sets_at apex.now.name self.now.records (hash_with (H.digest_of hash.now) parameters.now) parameters.now (minimum self.now.records apex.now.name) (serial self.now.records apex.now.name) n t) }
+        ensures fits { OnOk result (denial_fault (H.digest_of hash.now) apex.now.name self.now.records (Some (nsec3_kind parameters.now)) ≡ None) }
+        ensures err { IfErr result (λ e. (e ≡ SecureError.Memory) ⊎ (denial_fault (H.digest_of hash.now) apex.now.name self.now.records (Some (nsec3_kind parameters.now)) ≡ Some e)) }
+    {
+        match self.owns_cname(apex) {
+            Ok(false) => {}
+            Ok(true) => return Err(SecureError::CnameAtOrigin),
+            Err(_) => return Err(SecureError::Memory),
+        }
+        let (minimum, serial) = self.minimum_and_serial(apex);
+        nsec3_sets::nsec3_sets(
+            &self.records,
+            &apex.name,
+            hash,
+            parameters,
+            minimum,
+            serial,
+        )
+    }
+
+    /// Whether a CNAME stands at the name of `apex`.
+    fn owns_cname(&self, apex: &RrKey) -> Result<bool, ProtoError>
+        ensures owned { IfOk result (λ owned. owned ≡ owns self.now.records apex.now.name CNAME) }
+        ensures err { IsOkUnless result ProtoError.Memory }
+    {
+        let key = RrKey::new(apex.name.clone()?, RecordType::CNAME);
+        Ok(self.get(&key).is_some())
+    }
+
+    /// The minimum and the serial of the zone whose SOA stands under `apex`, which are 0 without an SOA.
+    fn minimum_and_serial(&self, apex: &RrKey) -> (u32, u32)
+        requires { apex.now.record_type.0 ≡ SOA }
+        ensures { result ≡ (minimum self.now.records apex.now.name, serial self.now.records apex.now.name) }
+    {
+        match self.get(apex).and_then(first_soa) {
             Some(soa) => (soa.minimum, soa.serial),
             None => (0, 0),
-        };
-        nsec_sets::nsec_sets(&self.records, &apex.name, minimum, serial)
+        }
     }
 }

@@ -1,6 +1,7 @@
 use Rattle.zone_handler.specs.declared.control_flow.LookupControlFlow.TheVariants.{Continue}
 use Rattle.zone_signing.specs.Signatures.{answer_signatures}
 use Rattle.zone_in_memory.proofs.CircleAgreement.{lookup_agrees, transfer_agrees}
+use Rattle.zone_in_memory.proofs.Nsec3Agreement.{nsec3_lookup_agrees, nsec3_transfer_agrees}
 use Rattle.zone_in_memory.proofs.Lookups.{owned_is_answered}
 use Rattle.zone_in_memory.proofs.in_memory_zone_handler.InMemoryZoneHandlerZoneHandler.lookup.Goals as goal
 
@@ -16,3 +17,11 @@ returns-clause-circle g c circle =
 
 pub returns-then-eq-clause-circle : goal.returns-then-eq-clause-circle
 returns-then-eq-clause-circle g c circle = transfer_agrees c.args.self.now.origin c.args.self.now.inner.records circle c.args.name.now c.args.record_type.0 _
+
+pub returns-clause-nsec3_circle : goal.returns-clause-nsec3_circle
+returns-clause-nsec3_circle g c hash parameters circle =
+    nsec3_lookup_agrees c.args.self.now.origin c.args.self.now.inner.records hash parameters circle (answer_signatures g.S.Signer.signature_of c.args.now c.args.lookup_options.dnssec_ok c.args.self.now.inner.signers) c.args.lookup_options
+    c.args.name.now c.args.record_type.0 (Continue c.answer.result) c.answer.ensures
+
+pub returns-then-eq-clause-nsec3_circle : goal.returns-then-eq-clause-nsec3_circle
+returns-then-eq-clause-nsec3_circle g c hash parameters circle = nsec3_transfer_agrees c.args.self.now.origin c.args.self.now.inner.records hash parameters circle c.args.name.now c.args.record_type.0 _

@@ -1,5 +1,5 @@
 use Rattle.zone_search.proofs.SecuredRecords.{IsZone-after}
-use Rattle.zone_search.proofs.inner_in_memory.InnerInMemory.secure_records.Goals as goal
+use Rattle.zone_search.proofs.inner_in_memory.InnerInMemory.secure.Goals as goal
 
 pub invariant_of-self : goal.invariant_of-self
 invariant_of-self g c = IsZone-after c.secure.result c.self.inside.records c.secure.new.zone c.self.invariant c.secure.ensures.zone c.secure.ensures.same

@@ -1,0 +1,68 @@
+-- How lookups agree with a circle of NSEC3 sets
+use Rattle.std.proofs.Common.{◌≡◌, ◌⊎◌, inl, inr, ℕ, List, false, IsTrue, sym, ap, subst, ◌∙◌, true≢false}
+use Rattle.std.specs.Prelude.{Option, Result, Ok}
+use Rattle.zone_proto.specs.declared.rdata.denial.NSEC3PARAM.{NSEC3PARAM as Nsec3Parameters}
+use Rattle.zone_proto.specs.declared.error.ProtoError.{ProtoError}
+use Rattle.zone_proto.specs.declared.record.Record.{Record}
+use Rattle.zone_proto.specs.Names.{Name, is_at_or_above}
+use Rattle.zone_proto.specs.Sets.{RRset}
+use Rattle.zone_handler.specs.declared.auth_lookup.AuthLookup.{AuthLookup}
+use Rattle.zone_handler.specs.declared.control_flow.LookupControlFlow.{LookupControlFlow}
+use Rattle.zone_handler.specs.declared.control_flow.LookupControlFlow.TheVariants.{Continue, Break}
+use Rattle.zone_handler.specs.declared.lookup_error.LookupError.{LookupError}
+use Rattle.zone_handler.specs.declared.lookup_options.LookupOptions.{LookupOptions}
+use Rattle.zone_handler.specs.declared.nsec3_query_info.Nsec3QueryInfo.{Nsec3QueryInfo}
+use Rattle.zone_handler.specs.Answers.{sets_in}
+use Rattle.zone_handler.specs.Hashing.{digest_for}
+use Rattle.zone_map.specs.AnyTypes.{searched_type}
+use Rattle.zone_map.specs.Zones.{Sets}
+use Rattle.zone_denial.specs.Nsec3Denial.{nsec3_denial}
+use Rattle.zone_denial.specs.Nsec3Laws.{FindsOrEncloses}
+use Rattle.zone_denial.specs.Nsec3Lent.{hashed_for}
+use Rattle.zone_denial.specs.Nsec3Zones.{IsHashed, IsNsec3Zone, TellsApart}
+use Rattle.zone_denial.proofs.Nsec3Encloses.{finds_or_encloses}
+use Rattle.zone_denial.proofs.Nsec3Lists.{lists_all_owned, denials_agree}
+use Rattle.zone_search.specs.Replies.{name_exists, nx_domain, IsReplyFor}
+use Rattle.zone_in_memory.specs.Lookup.{SaysOrMemory}
+use Rattle.zone_in_memory.specs.Handlers.{Zone}
+use Rattle.zone_in_memory.specs.Nsec3Answers.{HasNsec3Proof, AgreesWithNsec3Circle}
+use Rattle.zone_in_memory.specs.Nsec3Steps.{IsNsec3Answer}
+use Rattle.zone_in_memory.proofs.CircleAgreement.{of_step, exists_owned}
+
+module _ (origin : Name) (m : Sets) (hash : Name → Option (List ℕ)) (parameters : Nsec3Parameters) (circle : IsNsec3Zone origin m hash parameters) where
+  pub nsec3_lookup_agrees : (sign : RRset → List Record) (options : LookupOptions) (n : Name) (t : ℕ) (step : LookupControlFlow AuthLookup LookupError)
+      → SaysOrMemory options (IsReplyFor sign origin m options.dnssec_ok n (searched_type m n t)) step → AgreesWithNsec3Circle origin m hash parameters.opt_out n t step
+  nsec3_lookup_agrees sign options n t step says =
+      record {
+        name = λ e on.
+            let of = of_step sign origin m options n t nx_domain step says e in
+            true≢false (sym ((denials_agree origin m hash parameters circle options.dnssec_ok n t of.0).name on) ∙ (exists_owned origin m n of.1).0);
+        type' = λ e. (denials_agree origin m hash parameters circle options.dnssec_ok n t (of_step sign origin m options n t name_exists step says e).0).type';
+        owned = λ ne h. lists_all_owned origin m hash parameters circle n t ne h;
+      }
+
+  -- nor does the step that breaks a query for a transfer off deny anything
+  pub nsec3_transfer_agrees : (n : Name) (t : ℕ) (result : Result AuthLookup LookupError) → AgreesWithNsec3Circle origin m hash parameters.opt_out n t (Break result)
+  nsec3_transfer_agrees n t result = record { name = λ e. absurd cc; type' = λ e. absurd cc; owned = λ ne h. lists_all_owned origin m hash parameters circle n t ne h }
+
+-- the sets of an answer are those that deny, so they prove what these do
+module _ {S H : Type 0} (digest_of : H → ℕ → List ℕ → Name → ℕ → Option (List ℕ)) (zone : Zone S H) (query : Nsec3QueryInfo) (options : LookupOptions) where
+  abbrev hash : Name → Option (List ℕ)
+  hash = digest_for (digest_of zone.hash) query
+
+  abbrev x : Name
+  x = query.qname.now
+
+  pub nsec3_answer_proves : (step : LookupControlFlow AuthLookup LookupError) → IsNsec3Answer digest_of zone query options step
+      → (parameters : Nsec3Parameters) → IsNsec3Zone zone.origin zone.inner.records hash parameters → query.has_wildcard_match ≡ false → IsTrue (is_at_or_above zone.origin x)
+      → TellsApart (IsHashed zone.origin zone.inner.records parameters.opt_out x) hash → HasNsec3Proof zone.origin zone.inner.records hash parameters.opt_out x step
+  nsec3_answer_proves step (inl (sets, denial, (s, is, has, kept))) parameters circle plain inside apart t e =
+      let law = finds_or_encloses zone.origin zone.inner.records hash parameters circle x query.qtype.0 inside apart in
+      let same : ◌≡◌ {A = Result (List RRset) ProtoError} (Ok law.0) (Ok sets) = sym law.1 ∙ ap (λ w. nsec3_denial zone.inner.records (hashed_for zone.origin (digest_of zone.hash) query) w query.qtype.0 x) (sym plain) ∙ denial in
+      let section : s ≡ t = cc in
+      subst (FindsOrEncloses zone.origin zone.inner.records hash parameters.opt_out x) (given law.0 sets same ∙ sym has ∙ ap sets_in section) law.2
+    where
+      given : (a b : List RRset) → ◌≡◌ {A = Result (List RRset) ProtoError} (Ok a) (Ok b) → a ≡ b
+      given a b e = cc
+  nsec3_answer_proves step (inr (inl (refusal, denial, is))) parameters circle plain inside apart t e = absurd cc
+  nsec3_answer_proves step (inr (inr is)) parameters circle plain inside apart t e = absurd cc

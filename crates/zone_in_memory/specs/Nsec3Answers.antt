@@ -1,0 +1,29 @@
+-- What the sets of an NSEC3 answer prove of a name, and how a lookup agrees with a circle of NSEC3 sets
+use Rattle.std.specs.Prelude.{◌≡◌, ◌≢◌, ℕ, Bool, List, Option, Some, None, Ok, Err, IsTrue}
+use Rattle.std.specs.List.{Contains}
+use Rattle.zone_proto.specs.declared.response_code.ResponseCode.TheVariants as code
+use Rattle.zone_proto.specs.Names.{Name}
+use Rattle.zone_proto.specs.Sets.{RRset}
+use Rattle.zone_proto.specs.Types.{NSEC3, RRSIG}
+use Rattle.zone_handler.specs.declared.auth_lookup.AuthLookup.{AuthLookup}
+use Rattle.zone_handler.specs.declared.auth_lookup.AuthLookup.TheVariants as answer
+use Rattle.zone_handler.specs.declared.control_flow.LookupControlFlow.{LookupControlFlow}
+use Rattle.zone_handler.specs.declared.control_flow.LookupControlFlow.TheVariants.{Continue}
+use Rattle.zone_handler.specs.declared.lookup_error.LookupError.{LookupError}
+use Rattle.zone_handler.specs.declared.lookup_error.LookupError.TheVariants as error
+use Rattle.zone_handler.specs.declared.lookup_records.LookupRecords.{LookupRecords}
+use Rattle.zone_handler.specs.Answers.{sets_in}
+use Rattle.zone_map.specs.Zones.{Sets, owns}
+use Rattle.zone_denial.specs.Nsec3Laws.{types3_of, IsSetOf, FindsOrEncloses, IsNsec3Listed}
+use Rattle.zone_denial.specs.Nsec3Zones.{IsCircleName}
+
+module _ (origin : Name) (m : Sets) (hash : Name → Option (List ℕ)) (opt_out : Bool) (n : Name) where
+  -- the sets of the answer that is given, if one is, are the NSEC3 set of n alone, or prove its closest encloser
+  abbrev pub HasNsec3Proof : LookupControlFlow AuthLookup LookupError → Type 0
+  HasNsec3Proof step = (s : LookupRecords) → step ≡ Continue (Ok (answer.Records s None)) → FindsOrEncloses origin m hash opt_out n (sets_in s)
+
+  -- how a lookup of n and t agrees with a circle of NSEC3 sets: a name that is denied isn't on it; a type that is denied of a name on it isn't in the list of that name, RRSIG aside; and what is owned, NSEC3 aside, is listed, or stands below a zone cut, or is an unsigned delegation that opt-out leaves out
+  pub record AgreesWithNsec3Circle (t : ℕ) (step : LookupControlFlow AuthLookup LookupError) : Type 0 where
+    pub name : step ≡ Continue (Err (error.ResponseCode code.NXDomain)) → IsCircleName origin m opt_out n → ⊥
+    pub type' : step ≡ Continue (Err error.NameExists) → IsCircleName origin m opt_out n → (s : RRset) (types : List ℕ) → IsSetOf origin m hash n s → types3_of s ≡ Some types → Contains types t → t ≡ RRSIG
+    pub owned : t ≢ NSEC3 → IsTrue (owns m n t) → IsNsec3Listed origin m hash opt_out n t
