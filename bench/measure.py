@@ -11,8 +11,8 @@ the zone as it was.
 Before a program is timed, it has to answer all phases in a small zone. Where it doesn't give the right answers, its
 figure is left out.
 
-A zone that takes long to secure by NSEC is made in the first run alone. hickory-server goes over all cuts for each set:
-with a fifth of the names cuts it takes a minute or more for 100,000 names, and would take hours for a million.
+A zone that takes long to secure by NSEC or NSEC3 is made in the first run alone. hickory-server goes over all cuts for each
+set: with a fifth of the names cuts it takes a minute or more for 100,000 names by NSEC, and would take hours for a million.
 """
 
 import itertools
@@ -131,8 +131,8 @@ def peak_denied(zone):
 
 
 def time_denied(program, zone):
-    """Microseconds to secure a zone that NSEC denies and for each kind of query for a denial, and the most memory that it
-    takes, by their titles."""
+    """Microseconds to secure a zone that NSEC or NSEC3 denies and for each kind of query for a denial, and the most memory
+    that it takes, by their titles."""
     session = Session(program)
     session.carry_out(text(zone.load.commands))
     figures = {zone.secure.title: time_question(session, zone.secure, 1)}

@@ -1,6 +1,7 @@
 """The zones of the benchmark, and the commands of each phase with what they are to be answered."""
 
 import bisect
+import hashlib
 import random
 from typing import NamedTuple
 
@@ -18,7 +19,7 @@ class Phase(NamedTuple):
 
 
 class DeniedZone(NamedTuple):
-    """A zone that NSEC records deny: what makes it, fills it and adds a signer; how it is secured; and queries for a
+    """A zone that NSEC or NSEC3 records deny: what makes it, fills it and adds a signer; how it is secured; and queries for a
     denial, which leave it as it is."""
 
     title: str
@@ -32,8 +33,8 @@ class DeniedZone(NamedTuple):
 
 class Workload(NamedTuple):
     """What fills a zone; questions, which leave it as it is; changes, which leave it so when all are made; a
-    transfer of it whole; securings, each of which follows one more signer; and zones of their own that NSEC records
-    deny."""
+    transfer of it whole; securings, each of which follows one more signer; and zones of their own that NSEC or NSEC3
+    records deny."""
 
     load: Phase
     questions: list[Phase]
@@ -84,6 +85,7 @@ NUMBERS = {
     "RRSIG": 46,
     "NSEC": 47,
     "DNSKEY": 48,
+    "NSEC3PARAM": 51,
     "ANAME": 65305,
 }
 
@@ -121,21 +123,61 @@ def parent(name):
     return name.split(".", 1)[1]
 
 
-def nsec_records(adds):
-    """The NSEC records of the zone that these lines fill, whose origin has a key beside them, by their owners and in the
-    order of these: one for each name that stands below no cut, with the next such name and the types that it owns."""
+def owned_types(adds):
+    """The types that the names of the zone own that these lines fill, whose origin has a key beside them, by the names that
+    stand below no cut."""
     types = {ORIGIN: {"DNSKEY"}}
     for line in adds:
         _, owner, _, kind, *_ = line.split()
         types.setdefault(owner, set()).add(kind)
     cuts = {owner for owner, kinds in types.items() if "NS" in kinds}
     # (what stands below a cut is its glue, one label longer)
-    owners = sorted((owner for owner in types if parent(owner) not in cuts), key=place)
+    return {owner: kinds for owner, kinds in types.items() if parent(owner) not in cuts}
+
+
+def type_list(types):
+    return sorted(types, key=NUMBERS.get)
+
+
+def nsec_records(adds):
+    """The NSEC records of the zone that these lines fill, by their owners and in the order of these: one for each name that
+    stands below no cut, with the next such name and the types that it owns."""
+    types = owned_types(adds)
+    owners = sorted(types, key=place)
     records = {}
     for owner, after in zip(owners, [*owners[1:], ORIGIN]):
-        listed = sorted(types[owner] | {"RRSIG", "NSEC"}, key=NUMBERS.get)
+        listed = type_list(types[owner] | {"RRSIG", "NSEC"})
         records[owner] = f"{owner} 300 IN NSEC {after} {' '.join(listed)}"
     return records
+
+
+BASE32 = "0123456789abcdefghijklmnopqrstuv"
+
+
+def hashed(name):
+    """The digest of a name by SHA-1, without salt and iterations, in base32hex (RFC 5155 section 5)."""
+    labels = name.encode().split(b".")
+    wire = b"".join(bytes([len(label)]) + label for label in labels)
+    number = int.from_bytes(hashlib.sha1(wire).digest(), "big")
+    return "".join(BASE32[number >> shift & 31] for shift in range(155, -1, -5))
+
+
+def nsec3_records(adds):
+    """The NSEC3 records of the zone that these lines fill, by the digests of their names and in the order of these: one for
+    each name that stands below no cut, and for each empty name above it, with the digest that comes next and the types that
+    the name owns."""
+    types = owned_types(adds)
+    types[ORIGIN].add("NSEC3PARAM")
+    for owner in list(types):
+        while owner != ORIGIN:
+            owner = parent(owner)
+            types.setdefault(owner, set())
+    listed = {hashed(name): type_list(kinds | {"RRSIG"} if kinds else kinds) for name, kinds in types.items()}
+    digests = sorted(listed)
+    return {
+        digest: " ".join([f"{digest}.{ORIGIN} 300 IN NSEC3 1 0 0 - {after}", *listed[digest]])
+        for digest, after in zip(digests, [*digests[1:], digests[0]])
+    }
 
 
 def proof(*records):
@@ -160,9 +202,29 @@ def denials(adds, absent, present):
     ]
 
 
-def denied_zone(title, adds, questions):
-    """The zone that these lines fill, denied by NSEC."""
-    load = Phase("", ["kind nsec", *adds, "key 7"], ["ok", *["yes"] * len(adds), "ok"])
+def hashed_denials(adds, absent, present):
+    """The same queries where NSEC3 denies the zone. The parents of the names that aren't there are there."""
+    records = nsec3_records(adds)
+    digests = list(records)
+
+    def match(name):
+        return records[hashed(name)]
+
+    def cover(name):
+        return records[digests[bisect.bisect(digests, hashed(name)) - 1]]
+
+    def enclosed(name):
+        return proof(*sorted([match(parent(name)), cover(name), cover(f"*.{parent(name)}")]))
+
+    return [
+        Phase("deny a name by NSEC3", [f"deny {name} A" for name in absent], [enclosed(name) for name in absent]),
+        Phase("deny a type by NSEC3", [f"deny {name} TXT" for name in present], [proof(match(name)) for name in present]),
+    ]
+
+
+def denied_zone(kind, title, adds, questions):
+    """The zone that these lines fill, of this kind."""
+    load = Phase("", [f"kind {kind}", *adds, "key 7"], ["ok", *["yes"] * len(adds), "ok"])
     return DeniedZone(title, load, Phase(f"secure with {title}", ["secure 1000"], ["ok 2"]), questions)
 
 
@@ -298,8 +360,14 @@ def workload(names, lookups):
     transfer = Phase("transfer", ["transfer"], [transferred(adds)])
     # (a name beside that of a host stands behind it, before all others)
     beside = [host.replace(".", "x.", 1) for host in (pick.choice(known) for _ in fewer)]
+    many_cuts = delegations(names)
+    hashes, optout = "nsec3 - 0", "nsec3 - 0 optout"
     denied = [
-        denied_zone("NSEC at 1 % cuts", adds, denials(adds, beside, without_text)),
-        denied_zone("NSEC at 20 % cuts", delegations(names), []),
+        denied_zone("nsec", "NSEC at 1 % cuts", adds, denials(adds, beside, without_text)),
+        denied_zone("nsec", "NSEC at 20 % cuts", many_cuts, []),
+        denied_zone(hashes, "NSEC3 at 1 % cuts", adds, hashed_denials(adds, beside, without_text)),
+        denied_zone(hashes, "NSEC3 at 20 % cuts", many_cuts, []),
+        denied_zone(optout, "NSEC3 and opt-out at 1 % cuts", adds, []),
+        denied_zone(optout, "NSEC3 and opt-out at 20 % cuts", many_cuts, []),
     ]
     return Workload(taken("add", adds), questions, changes, transfer, securings, denied)

@@ -1,3 +1,5 @@
+ghost use Rattle.std.specs.Prelude.{◌≢◌};
+
 use crate::command::Command;
 use crate::demo_signer::DemoSigner;
 use crate::sha1_hash::Sha1Hash;
@@ -6,7 +8,7 @@ use std::alloc::AllocError;
 use std::fmt;
 use zone_handler::{
     AuthLookup, AxfrPolicy, LookupControlFlow, LookupError, LookupOptions, LookupRecordsIter,
-    Request, ZoneHandler, ZoneTransfer, ZoneType,
+    Nsec3QueryInfo, Request, ZoneHandler, ZoneTransfer, ZoneType,
 };
 use zone_in_memory::InMemoryZoneHandler;
 use zone_proto::{
@@ -53,7 +55,7 @@ pub fn carry_out(
             record_type,
             options,
         } => lookup(served, &name, record_type, options, answer),
-        Command::Deny(key) => deny(&served.zone, &key.name, answer),
+        Command::Deny(key) => deny(&served.zone, &key, answer),
         Command::Transfer(options) => transfer(served, options, answer),
     }
 }
@@ -139,15 +141,41 @@ fn additionals_of(found: &AuthLookup) -> LookupRecordsIter<'_> {
     found.additionals().unwrap_or(LookupRecordsIter::Empty)
 }
 
-/// Lists the NSEC records that deny a name, and that it owns a type, whichever that is.
-fn deny(zone: &Zone, name: &LowerName, answer: &mut String) -> Result<(), AllocError> {
-    match zone
-        .nsec_records(name, LookupOptions::default())
-        .map_result()
-    {
+/// Lists the records that deny a name, or that it owns a type.
+fn deny(zone: &Zone, key: &RrKey, answer: &mut String) -> Result<(), AllocError> {
+    match denial(zone, key).map_result() {
         Some(Ok(proof)) => write_records("proof", &proof, answer),
         Some(Err(error)) => writeln!(answer, "error {}", ErrorWord(&error)),
         None => unreachable!(),
+    }
+}
+
+/// The records that deny a name, or a type of it: NSEC3 records for that type, with the zone's own parameters, where the zone
+/// is of that kind; else NSEC records, whichever type is asked for.
+fn denial(zone: &Zone, key: &RrKey) -> LookupControlFlow<AuthLookup>
+    ensures { result ≢ LookupControlFlow.Skip }
+{
+    let options = LookupOptions::default();
+    match zone.nx_proof_kind() {
+        Some(
+            NxProofKind::Nsec3 {
+                algorithm,
+                salt,
+                iterations,
+                ..
+            },
+        ) => {
+            let info = Nsec3QueryInfo {
+                qname: &key.name,
+                qtype: key.record_type,
+                has_wildcard_match: false,
+                algorithm: *algorithm,
+                salt: salt.as_slice(),
+                iterations: *iterations,
+            };
+            zone.nsec3_records(info, options)
+        }
+        _ => zone.nsec_records(&key.name, options),
     }
 }
 

@@ -1,8 +1,9 @@
+use crate::sha1_hash::SHA_1;
 use std::alloc::Global;
 use zone_handler::LookupOptions;
-use zone_proto::{LowerName, NxProofKind, Record, RecordType, RrKey};
+use zone_proto::{LowerName, NxProofKind, Record, RecordType, RrKey, Seq};
 use zone_text::{
-    TextError, Words, read_key, read_name, read_record, read_type, read_u16, read_u64,
+    TextError, Words, read_hex, read_key, read_name, read_record, read_type, read_u16, read_u64,
 };
 
 /// What a line tells the program to do.
@@ -12,8 +13,9 @@ pub enum Command {
     Add(Record),
     /// `drop NAME TYPE`: takes a record set out.
     Drop(RrKey),
-    /// `kind none` or `kind nsec`: makes the zone anew, without records and signers, and says how it denies what it doesn't
-    /// hold once it is secured: not at all, or by NSEC records.
+    /// `kind none`, `kind nsec`, `kind nsec3 SALT ITERATIONS`, or the last with `optout` after it: makes the zone anew, without
+    /// records and signers, and says how it denies what it doesn't hold once it is secured: not at all, by NSEC records, or by
+    /// NSEC3 records, where opt-out leaves out unsigned delegations.
     Renew(Option<NxProofKind>),
     /// `key N`: adds the demonstration signer of this number.
     Key(u16),
@@ -41,8 +43,8 @@ pub fn read_command(alloc: Global, line: &[u8]) -> Result<Option<Command>, TextE
         [b'#', ..] => return Ok(None),
         b"add" => Command::Add(read_record(alloc, &mut words)?),
         b"drop" => Command::Drop(read_key(alloc, &mut words)?),
-        b"kind" => Command::Renew(read_kind(&mut words)?),
-        b"key" => Command::Key(read_u16(words.take_needed()?).ok_or(TextError::BadText)?),
+        b"kind" => Command::Renew(read_kind(alloc, &mut words)?),
+        b"key" => Command::Key(read_short(&mut words)?),
         b"secure" => Command::Secure(read_u64(words.take_needed()?).ok_or(TextError::BadText)?),
         b"lookup" => Command::Lookup {
             name: LowerName::from(read_name(alloc, &mut words)?),
@@ -58,12 +60,30 @@ pub fn read_command(alloc: Global, line: &[u8]) -> Result<Option<Command>, TextE
 }
 
 /// Reads how a zone denies what it doesn't hold.
-fn read_kind(words: &mut Words<'_>) -> Result<Option<NxProofKind>, TextError> {
+fn read_kind(alloc: Global, words: &mut Words<'_>) -> Result<Option<NxProofKind>, TextError> {
     match words.take_needed()? {
         b"none" => Ok(None),
         b"nsec" => Ok(Some(NxProofKind::Nsec)),
+        b"nsec3" => Ok(Some(read_hashed_kind(alloc, words)?)),
         _ => Err(TextError::BadText),
     }
+}
+
+/// Reads how a zone denies by NSEC3 records, whose names are hashed by SHA-1: the salt, the iterations, and whether opt-out
+/// is chosen.
+fn read_hashed_kind(alloc: Global, words: &mut Words<'_>) -> Result<NxProofKind, TextError> {
+    let salt = read_hex(alloc, words.take_needed()?)?.ok_or(TextError::BadText)?;
+    Ok(NxProofKind::Nsec3 {
+        algorithm: SHA_1,
+        salt: Seq::from_vec(salt),
+        iterations: read_short(words)?,
+        opt_out: words.take_flag(b"optout")?,
+    })
+}
+
+/// Reads a number of 16 bits.
+fn read_short(words: &mut Words<'_>) -> Result<u16, TextError> {
+    read_u16(words.take_needed()?).ok_or(TextError::BadText)
 }
 
 /// Reads whether signatures are wanted: they are after the word `dnssec`, and aren't at the end of the line.

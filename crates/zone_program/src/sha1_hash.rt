@@ -6,7 +6,7 @@ use sha1::Sha1;
 use zone_proto::{LowerName, Nsec3Hash, ProtoError};
 
 /// The number of SHA-1 among the hash algorithms of NSEC3 records (RFC 5155 section 11).
-const SHA_1: u8 = 1;
+pub const SHA_1: u8 = 1;
 
 /// How many octets a digest has (FIPS 180-4 section 1).
 const DIGEST_LENGTH: usize = 20;
