@@ -1,6 +1,6 @@
 //! How a zone denies what it doesn't hold: the names that it is authoritative for (RFC 4035 section 2.3), the NSEC sets that
-//! link them in a circle (RFC 4034 section 4), and the sets that answer a query for a denial. It is the ground of
-//! `zone_store`, whose users need nothing of it.
+//! link them in a circle (RFC 4034 section 4), or the NSEC3 sets that link their digests (RFC 5155), and the sets that answer
+//! a query for a denial. It is the ground of `zone_store`, whose users need nothing of it.
 //!
 //! Contracts see a zone as the list of its sets by name and type. A call that is refused changes nothing.
 #![tactic(auto)]

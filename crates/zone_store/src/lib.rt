@@ -3,8 +3,9 @@
 //!
 //! - [`InMemoryZoneHandler`] is a zone. It is made by `empty` or `new`, changed by `upsert`, `put_set`, `remove_set` and
 //!   `clear`, and signed by `add_zone_signing_key` and `secure_zone` (RFC 4035 section 2). It answers `search` and `lookup`
-//!   (RFC 1034 section 4.3.2), `nsec_records` (RFC 4035 section 3.1.3) and `zone_transfer` (RFC 5936), which are calls of the
-//!   traits `ZoneHandler` and `DnssecZoneHandler` of `zone_handler`. [`PutRefused`] says why a set was not stored.
+//!   (RFC 1034 section 4.3.2), `nsec_records` (RFC 4035 section 3.1.3), `nsec3_records` (RFC 5155 section 7.2) and
+//!   `zone_transfer` (RFC 5936), which are calls of the traits `ZoneHandler` and `DnssecZoneHandler` of `zone_handler`.
+//!   [`PutRefused`] says why a set was not stored.
 //! - [`InnerInMemory`] is what a zone lends for reading: its record sets by name and type, and its signers. [`Searches`] counts
 //!   what is searched among them, [`Found`] is a set that was found, and [`ZoneError`] says why there is none.
 //! - [`program`] has the command language of `zonectl` over any reader and writer, with the signer and the hash of its
