@@ -27,10 +27,7 @@ pub(crate) fn in_owner_order<'m>(
 }
 
 /// Puts a set that may be there into a list in the order of owners.
-fn join_any<'m>(
-    sets: &mut Vec<&'m RecordSet>,
-    set: Option<&'m RecordSet>,
-) -> Result<(), ProtoError>
+fn join_any<'m>(sets: &mut Vec<&'m RecordSet>, set: Option<&'m RecordSet>) -> Result<(), ProtoError>
     ensures ok { OnOk result (map (λ s. s.now) sets.new.items ≡ joined_any (option_copied set.entry) (map (λ s. s.now) sets.old.items)) }
     ensures err { IsOkUnless result ProtoError.Memory }
 {

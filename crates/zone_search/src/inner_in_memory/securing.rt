@@ -15,9 +15,7 @@ use crate::start_of_authority::first_soa;
 use zone_denial::{nsec_sets, nsec3_sets};
 use zone_handler::SecureError;
 use zone_map::RecordMap;
-use zone_proto::{
-    NSEC3PARAM, Nsec3Hash, NxProofKind, ProtoError, RecordType, RrKey, Signer,
-};
+use zone_proto::{NSEC3PARAM, Nsec3Hash, NxProofKind, ProtoError, RecordType, RrKey, Signer};
 use zone_signing::securing;
 
 /// What `zone_in_memory` makes a zone of: no user of a zone needs it.
@@ -82,12 +80,14 @@ impl<S: Signer> InnerInMemory<S> {
                 Ok(sets) => Ok((Some(RecordType::NSEC), sets)),
                 Err(_) => Err(SecureError::Memory),
             },
-            Some(NxProofKind::Nsec3 {
-                algorithm,
-                salt,
-                iterations,
-                opt_out,
-            }) => {
+            Some(
+                NxProofKind::Nsec3 {
+                    algorithm,
+                    salt,
+                    iterations,
+                    opt_out,
+                },
+            ) => {
                 let Ok(salt) = salt.clone() else {
                     return Err(SecureError::Memory);
                 };
@@ -107,11 +107,7 @@ impl<S: Signer> InnerInMemory<S> {
     fn denied_by<'k>(&self, kind: Option<&'k NxProofKind>) -> Option<&'k NxProofKind>
         ensures { option_copied result ≡ denied_by (option_copied kind.entry) self.now.signers }
     {
-        if self.signers.is_empty() {
-            None
-        } else {
-            kind
-        }
+        if self.signers.is_empty() { None } else { kind }
     }
 
     /// The NSEC sets of the zone whose SOA stands under `apex`.
@@ -144,14 +140,7 @@ impl<S: Signer> InnerInMemory<S> {
             Err(_) => return Err(SecureError::Memory),
         }
         let (minimum, serial) = self.minimum_and_serial(apex);
-        nsec3_sets::nsec3_sets(
-            &self.records,
-            &apex.name,
-            hash,
-            parameters,
-            minimum,
-            serial,
-        )
+        nsec3_sets::nsec3_sets(&self.records, &apex.name, hash, parameters, minimum, serial)
     }
 
     /// Whether a CNAME stands at the name of `apex`.
