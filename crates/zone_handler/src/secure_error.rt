@@ -8,7 +8,8 @@ pub enum SecureError {
     CnameAtOrigin,
     /// The hash of the zone has no digest of a name.
     Hash,
-    /// The owner of an NSEC3 would be longer than a name may be.
+    /// The digest of a name makes no owner of an NSEC3: its text is empty or longer than a label may be, or the owner would be
+    /// longer than a name may be.
     OwnerTooLong,
     /// No memory was found.
     Memory,
