@@ -67,11 +67,6 @@ module _ {E : Type 0} (m : Sets) (hashed : Name → Result Name E) where
 
   -- ---- the walk to the encloser
 
-  pub encloser_end : (n : Name) → drop 1 n ≡ [] → encloser_of m hashed n ≡ Ok None
-  encloser_end [] e = refl
-  encloser_end (l ∷ []) e = refl
-  encloser_end (l ∷ k ∷ ks) e = cc
-
   pub encloser_step : (n : Name) → (drop 1 n ≡ [] → ⊥)
       → encloser_of m hashed n ≡ result_and_then (λ passes. cond passes (Ok (Some (drop 1 n))) (encloser_of m hashed (drop 1 n))) (has_match m hashed (drop 1 n))
   encloser_step [] h = absurd (h refl)
