@@ -7,8 +7,9 @@ use crate::hashes::make_hash_call;
 use crate::names::make_name_call;
 use crate::read::{once_done, read_call};
 use crate::records::{make_record_call, make_word_call};
+use crate::row_hash::RowHash;
 use crate::searches::make_search_call;
-use crate::signers::{NoHash, RowSigner};
+use crate::signers::RowSigner;
 use crate::signing::make_signing_call;
 use crate::texts::{AboutText, ChainText, LentText, NamedSetText, SetText, ZoneText};
 use crate::transfers::make_transfer;
@@ -23,7 +24,7 @@ use zone_store::{Found, InMemoryZoneHandler, PutRefused, Searches};
 use zone_text::TextError;
 
 /// The zone of rows.
-pub type Zone = InMemoryZoneHandler<RowSigner, NoHash>;
+pub type Zone = InMemoryZoneHandler<RowSigner, RowHash>;
 
 /// Record sets by their keys.
 type Sets = BTreeMap<RrKey, RecordSet>;
@@ -59,6 +60,7 @@ impl Bench {
                 zone_type: ZoneType::Primary,
                 policy: AxfrPolicy::AllowAll,
                 kind: None,
+                hash: RowHash::new(alloc),
             }),
             hand: None,
             kept: None,
@@ -165,7 +167,7 @@ impl Bench {
     /// Makes a zone of sets, which takes the place of the one before.
     fn make_zone(&mut self, head: Head, sets: Sets) -> Answer {
         let (zone_type, policy, kind) = (head.zone_type, head.policy, head.kind);
-        match InMemoryZoneHandler::new(head.origin, sets, zone_type, policy, kind, NoHash) {
+        match InMemoryZoneHandler::new(head.origin, sets, zone_type, policy, kind, head.hash) {
             Ok(zone) => {
                 self.zone = zone;
                 Answer::Done
@@ -285,7 +287,7 @@ fn find<'z>(
 
 fn empty_zone(head: Head) -> Zone {
     let (zone_type, policy, kind) = (head.zone_type, head.policy, head.kind);
-    InMemoryZoneHandler::empty(head.origin, zone_type, policy, kind, NoHash)
+    InMemoryZoneHandler::empty(head.origin, zone_type, policy, kind, head.hash)
 }
 
 /// Copies sets, and puts them beside others.

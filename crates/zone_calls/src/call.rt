@@ -1,5 +1,6 @@
 //! The calls that rows can make.
 
+use crate::row_hash::RowHash;
 use crate::signers::RowSigner;
 use std::collections::BTreeMap;
 use zone_handler::{AxfrPolicy, LookupOptions, Request, ZoneType};
@@ -133,10 +134,11 @@ pub enum SetCall {
 /// Calls on the zone.
 #[derive(Drop)]
 pub enum ZoneCall {
-    /// `empty ORIGIN ZONETYPE POLICY`, or with `nsec` after it where it denies by NSEC: a zone without records takes the place of
-    /// the one before.
+    /// `empty ORIGIN ZONETYPE POLICY`: a zone without records takes the place of the one before. With `nsec` after it the
+    /// zone denies by NSEC, with `nsec3` by NSEC3, and with `optout` by NSEC3 with opt-out, without salt and iterations. Then
+    /// come the digests of its hash, as `NAME OCTETS ..`, and `for NUMBER` where the hash finds memory for so many calls.
     Empty(Head),
-    /// `make ORIGIN ZONETYPE POLICY`, or with `nsec` after it: `new`, of copies of the sets on the shelf.
+    /// `make ORIGIN ZONETYPE POLICY`, and the same after it: `new`, of copies of the sets on the shelf.
     Make(Head, BTreeMap<RrKey, RecordSet>),
     /// `shelve`: the set in hand goes on the shelf, under its own key.
     Shelve,
@@ -167,6 +169,7 @@ pub struct Head {
     pub zone_type: ZoneType,
     pub policy: AxfrPolicy,
     pub kind: Option<NxProofKind>,
+    pub hash: RowHash,
 }
 
 /// What is asked for: `NAME TYPE`, or `NAME TYPE dnssec` where signatures are wanted.
@@ -212,6 +215,9 @@ pub enum DenialCall {
     Closest(LowerName),
     /// `deny NAME`, `deny NAME dnssec`: `nsec_records`.
     Deny(LowerName, LookupOptions),
+    /// `hashed NAME TYPE`, `hashed NAME TYPE dnssec`: `nsec3_records`, without salt and iterations; with `expanded` in the
+    /// place of `hashed` for a query that a wildcard answered.
+    Hashed(Question, bool),
 }
 
 /// Calls that hash names for NSEC3 records, by the program's hash.

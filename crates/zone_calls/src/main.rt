@@ -16,6 +16,7 @@
 mod answer;
 mod bench;
 mod call;
+mod calls;
 mod denials;
 mod hashes;
 mod names;
@@ -24,6 +25,7 @@ mod read_names;
 mod read_records;
 mod read_searches;
 mod records;
+mod row_hash;
 mod rows;
 mod scarcely;
 mod searches;

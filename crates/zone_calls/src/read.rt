@@ -6,6 +6,7 @@ use crate::hashes::read_hash_call;
 use crate::read_names::{read_copy, read_lower_call, read_name_call};
 use crate::read_records::{read_any_data, read_any_record, read_octets, read_word};
 use crate::read_searches::read_search_call;
+use crate::row_hash::RowHash;
 use crate::signing::read_signing_call;
 use crate::transfers::read_transfer;
 use std::alloc::Global;
@@ -116,7 +117,7 @@ fn subject_of(verb: &str) -> Subject {
         Subject::Search
     } else if is_among(verb, "key signers secure at") {
         Subject::Signing
-    } else if is_among(verb, "kind closest deny") {
+    } else if is_among(verb, "kind closest deny hashed expanded") {
         Subject::Denial
     } else if is_among(verb, "base32 digest owner") {
         Subject::Hash
@@ -247,18 +248,21 @@ fn read_serial(words: &mut Words<'_>) -> Result<u32, TextError> {
     read_u32(words.take_needed()?).ok_or(TextError::BadText)
 }
 
-/// Reads an origin, what the server is to the zone, who may transfer it, and how it denies.
+/// Reads an origin, what the server is to the zone, who may transfer it, how it denies, and its hash.
 fn read_head(alloc: Global, words: &mut Words<'_>) -> Result<Head, TextError> {
     let origin = read_name(alloc, words)?;
     let zone_type = read_zone_type(words)?;
     let policy = read_policy(words)?;
-    let kind = read_kind(words)?;
-    Ok(Head {
+    let kind = read_kind(alloc, words)?;
+    let mut head = Head {
         origin,
         zone_type,
         policy,
         kind,
-    })
+        hash: RowHash::new(alloc),
+    };
+    let read = head.hash.read(alloc, words);
+    once_done(read, head)
 }
 
 fn read_zone_type(words: &mut Words<'_>) -> Result<ZoneType, TextError> {

@@ -1,9 +1,9 @@
-//! The signers of rows, and a hash that has no digests.
-ghost use Rattle.std.specs.Prelude.{◌≡◌, IsOkUnless};
+//! The signers of rows.
+ghost use Rattle.std.specs.Prelude.{◌≡◌};
 ghost use Rattle.zone_calls.specs.RowSigners.{signs_type};
 
-use std::cell::Cell;
-use zone_proto::{DNSClass, DNSKEY, LowerName, Nsec3Hash, ProtoError, RRSIG, RecordSet, Signer};
+use crate::calls::Calls;
+use zone_proto::{DNSClass, DNSKEY, ProtoError, RRSIG, RecordSet, Signer};
 use zone_store::program::DemoSigner;
 
 /// What a signer of rows does with what its demonstration signer answers.
@@ -24,29 +24,16 @@ pub enum Manner {
 pub struct RowSigner {
     demo: DemoSigner,
     manner: Manner,
-    /// How many calls of it find memory, before those that find none.
-    calls: Cell<u64>,
+    calls: Calls,
 }
 
 impl RowSigner {
-    pub fn new(demo: DemoSigner, manner: Manner, calls: u64) -> RowSigner {
+    pub fn new(demo: DemoSigner, manner: Manner, calls: Calls) -> RowSigner {
         RowSigner {
             demo,
             manner,
-            calls: Cell::new(calls),
+            calls,
         }
-    }
-
-    /// Counts a call, which finds no memory once there were so many.
-    fn call(&self) -> Result<(), ProtoError>
-        ensures { IsOkUnless result ProtoError.Memory }
-    {
-        let left = self.calls.get();
-        if left == 0 {
-            return Err(ProtoError::Memory);
-        }
-        self.calls.set(left - 1);
-        Ok(())
     }
 }
 
@@ -58,7 +45,7 @@ impl Signer for RowSigner {
     ghost signature_of = { λ signer part _ now. signature_by signer.manner signer.demo part now };
 
     fn dnskey(&self) -> Result<Option<DNSKEY>, ProtoError> {
-        self.call()?;
+        self.calls.count()?;
         match self.manner {
             Manner::Keyless => Ok(None),
             _ => self.demo.dnskey(),
@@ -71,7 +58,7 @@ impl Signer for RowSigner {
         class: DNSClass,
         inception: u64,
     ) -> Result<Option<RRSIG>, ProtoError> {
-        self.call()?;
+        self.calls.count()?;
         if signs(self.manner, set) {
             self.demo.sign(set, class, inception)
         } else {
@@ -88,25 +75,5 @@ fn signs(manner: Manner, set: &RecordSet) -> bool
         Manner::Whole => true,
         Manner::Choosy => set.record_type().0 % 2 == 1,
         _ => false,
-    }
-}
-
-/// A hash that has no digests.
-#[derive(Drop)]
-pub struct NoHash;
-
-impl Nsec3Hash for NoHash {
-    ghost use Rattle.std.specs.Prelude.{None};
-
-    ghost digest_of = { λ _ _ _ _ _. None };
-
-    fn hash(
-        &self,
-        _algorithm: u8,
-        _salt: &[u8],
-        _name: &LowerName,
-        _iterations: u16,
-    ) -> Result<Vec<u8>, ProtoError> {
-        Err(ProtoError::Hash)
     }
 }

@@ -3,6 +3,7 @@
 use crate::answer::Answer;
 use crate::bench::{Zone, of_flow};
 use crate::call::{Question, SigningCall};
+use crate::calls::Calls;
 use crate::read::read_question;
 use crate::signers::{Manner, RowSigner};
 use std::alloc::Global;
@@ -20,15 +21,16 @@ pub fn read_signing_call(
     match verb {
         "key" => Ok(SigningCall::Key(read_signer(alloc, words)?)),
         "signers" => Ok(SigningCall::Signers),
-        "secure" => Ok(SigningCall::Secure(read_moment(words)?)),
+        "secure" => Ok(SigningCall::Secure(read_number(words)?)),
         _ => {
-            let moment = read_moment(words)?;
+            let moment = read_number(words)?;
             Ok(SigningCall::LookupAt(moment, read_question(alloc, words)?))
         }
     }
 }
 
-fn read_moment(words: &mut Words<'_>) -> Result<u64, TextError> {
+/// Reads a number of 64 bits: a moment, or how many calls find memory.
+pub fn read_number(words: &mut Words<'_>) -> Result<u64, TextError> {
     read_u64(words.take_needed()?).ok_or(TextError::BadText)
 }
 
@@ -38,7 +40,7 @@ fn read_signer(alloc: Global, words: &mut Words<'_>) -> Result<RowSigner, TextEr
     let origin = LowerName::from(read_name(alloc, words)?);
     let (manner, calls) = read_manner(words)?;
     let demo = DemoSigner::new(number, &origin)?;
-    Ok(RowSigner::new(demo, manner, calls))
+    Ok(RowSigner::new(demo, manner, Calls::new(calls)))
 }
 
 fn read_manner(words: &mut Words<'_>) -> Result<(Manner, u64), TextError> {
@@ -47,7 +49,7 @@ fn read_manner(words: &mut Words<'_>) -> Result<(Manner, u64), TextError> {
         Some(b"keyless") => Ok((Manner::Keyless, u64::MAX)),
         Some(b"idle") => Ok((Manner::Idle, u64::MAX)),
         Some(b"choosy") => Ok((Manner::Choosy, u64::MAX)),
-        Some(b"for") => Ok((Manner::Whole, read_moment(words)?)),
+        Some(b"for") => Ok((Manner::Whole, read_number(words)?)),
         Some(_) => Err(TextError::BadText),
     }
 }
