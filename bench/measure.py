@@ -136,6 +136,7 @@ def time_denied(program, zone):
     session = Session(program)
     session.carry_out(text(zone.load.commands))
     figures = {zone.secure.title: time_question(session, zone.secure, 1)}
+    session.carry_out(text(zone.later.commands))
     figures |= {question.title: time_question(session, question) for question in zone.questions}
     figures[peak_denied(zone)] = session.memory("VmHWM")
     session.end()
@@ -185,7 +186,7 @@ def known_phases(program):
         known |= {PEAK_SECURED, *(securing.title for securing in work.securings)}
     for zone in work.denied:
         if answers_rightly(program, [zone.load, *zone.phases()]):
-            known |= {peak_denied(zone), *(phase.title for phase in zone.phases())}
+            known |= {peak_denied(zone), *(phase.title for phase in zone.phases() if phase.title)}
     return {work.load.title, *MEMORY, *known}
 
 

@@ -19,16 +19,17 @@ class Phase(NamedTuple):
 
 
 class DeniedZone(NamedTuple):
-    """A zone that NSEC or NSEC3 records deny: what makes it, fills it and adds a signer; how it is secured; and queries for a
-    denial, which leave it as it is."""
+    """A zone that NSEC or NSEC3 records deny: what makes it, fills it and adds a signer; how it is secured; queries for a
+    denial, which leave it as it is; and what comes in between the two."""
 
     title: str
     load: Phase
     secure: Phase
     questions: list[Phase]
+    later: Phase = Phase("", [], [])
 
     def phases(self):
-        return [self.secure, *self.questions]
+        return [self.secure, self.later, *self.questions]
 
 
 class Workload(NamedTuple):
@@ -186,8 +187,8 @@ def proof(*records):
     return "\n".join([f"proof {len(records)}", *records])
 
 
-def denials(adds, absent, present):
-    """Queries for a denial of names that aren't in the zone that these lines fill, and of names that are there and own no
+def denials(title, adds, absent, present):
+    """Queries for a denial of names that own no NSEC set in the zone that these lines fill, and of names that do and own no
     TXT."""
     records = nsec_records(adds)
     owners = list(records)
@@ -196,10 +197,11 @@ def denials(adds, absent, present):
     def closest(name):
         return records[owners[bisect.bisect(places, place(name)) - 1]]
 
-    return [
-        Phase("deny a name", [f"deny {name} A" for name in absent], [proof(closest(parent(name)), closest(name)) for name in absent]),
-        Phase("deny a type", [f"deny {name} TXT" for name in present], [proof(records[name]) for name in present]),
-    ]
+    denied = [proof(closest(parent(name)), closest(name)) for name in absent]
+    questions = [Phase(title, [f"deny {name} A" for name in absent], denied)]
+    if present:
+        questions.append(Phase("deny a type", [f"deny {name} TXT" for name in present], [proof(records[name]) for name in present]))
+    return questions
 
 
 def hashed_denials(adds, absent, present):
@@ -226,6 +228,17 @@ def denied_zone(kind, title, adds, questions):
     """The zone that these lines fill, of this kind."""
     load = Phase("", [f"kind {kind}", *adds, "key 7"], ["ok", *["yes"] * len(adds), "ok"])
     return DeniedZone(title, load, Phase(f"secure with {title}", ["secure 1000"], ["ok 2"]), questions)
+
+
+def sparsely_denied_zone(adds, absent):
+    """The zone that these lines fill, whose SOA comes first, of which every thousandth line is there when it is secured by
+    NSEC. The denied names stand far behind the last owner of NSEC before them."""
+    first = [adds[0], *(line for line in adds[1::1000] if " A " in line and not line.startswith("add ns."))]
+    early = set(first)
+    rest = [line for line in adds if line not in early]
+    title = "NSEC at every thousandth name"
+    zone = denied_zone("nsec", title, first, denials("deny a name among few NSEC sets", first, absent, []))
+    return zone._replace(later=taken("", rest))
 
 
 def hosts_and_cuts(names, percent):
@@ -363,7 +376,8 @@ def workload(names, lookups):
     many_cuts = delegations(names)
     hashes, optout = "nsec3 - 0", "nsec3 - 0 optout"
     denied = [
-        denied_zone("nsec", "NSEC at 1 % cuts", adds, denials(adds, beside, without_text)),
+        denied_zone("nsec", "NSEC at 1 % cuts", adds, denials("deny a name", adds, beside, without_text)),
+        sparsely_denied_zone(adds, beside),
         denied_zone("nsec", "NSEC at 20 % cuts", many_cuts, []),
         denied_zone(hashes, "NSEC3 at 1 % cuts", adds, hashed_denials(adds, beside, without_text)),
         denied_zone(hashes, "NSEC3 at 20 % cuts", many_cuts, []),

@@ -5,13 +5,14 @@ use crate::call::{Ask, Call, Head, Question, SetCall, ZoneCall};
 use crate::denials::make_denial_call;
 use crate::hashes::make_hash_call;
 use crate::names::make_name_call;
+use crate::neighbours::make_neighbour_call;
 use crate::read::{once_done, read_call};
 use crate::records::{make_record_call, make_word_call};
 use crate::row_hash::RowHash;
 use crate::searches::make_search_call;
 use crate::signers::RowSigner;
 use crate::signing::make_signing_call;
-use crate::texts::{AboutText, ChainText, LentText, NamedSetText, SetText, ZoneText};
+use crate::texts::{AboutText, ChainText, LentText, NamedSetText, OwnersText, SetText, ZoneText};
 use crate::transfers::make_transfer;
 use std::alloc::Global;
 use std::collections::BTreeMap;
@@ -39,7 +40,7 @@ pub struct Bench {
     searches: Searches,
 }
 
-/// The zone, the set in hand, the shelf and how many signers the zone has.
+/// The zone, the set in hand, the shelf, how many signers the zone has, and which names it lists as owners of sets of denial.
 impl fmt::Display for Bench {
     fn fmt<W: fmt::Write>(&self, f: &mut fmt::Formatter<W>) -> fmt::Result {
         write!(f, "{}", ZoneText(&self.zone))?;
@@ -47,7 +48,9 @@ impl fmt::Display for Bench {
             write!(f, " in hand: {}", SetText(set))?;
         }
         write!(f, " {} on the shelf", self.shelf.len())?;
-        write!(f, " {} signers", self.zone.secure_keys().len())
+        write!(f, " {} signers", self.zone.secure_keys().len())?;
+        write!(f, " {}", OwnersText(&self.zone, RecordType::NSEC))?;
+        write!(f, " {}", OwnersText(&self.zone, RecordType::NSEC3))
     }
 }
 
@@ -88,6 +91,7 @@ impl Bench {
             Call::Search(call) => make_search_call(alloc, &self.zone, call),
             Call::Signing(call) => make_signing_call(&mut self.zone, call),
             Call::Denial(call) => make_denial_call(&self.zone, call),
+            Call::Neighbour(call) => make_neighbour_call(alloc, &self.zone, call),
             Call::Hash(call) => make_hash_call(alloc, call),
             Call::Transfer(request, options) => make_transfer(&self.zone, &request, options),
         }

@@ -24,6 +24,7 @@ pub enum Call {
     Transfer(Request, LookupOptions),
     Signing(SigningCall),
     Denial(DenialCall),
+    Neighbour(NeighbourCall),
     Hash(HashCall),
 }
 
@@ -218,6 +219,19 @@ pub enum DenialCall {
     /// `hashed NAME TYPE`, `hashed NAME TYPE dnssec`: `nsec3_records`, without salt and iterations; with `expanded` in the
     /// place of `hashed` for a query that a wildcard answered.
     Hashed(Question, bool),
+}
+
+/// Calls that ask an index or the order of the keys, and tell how much is read for the answer.
+#[derive(Drop)]
+pub enum NeighbourCall {
+    /// `owners TYPE`: `denial_owners`, as their count and each of them.
+    Owners(RecordType),
+    /// `denying TYPE`: how many `denial_owners` lends, which takes no memory to write.
+    Denying(RecordType),
+    /// `counted NAME`: `closest_nsec_counted`, and how many owners are read for it.
+    Counted(LowerName),
+    /// `exists NAME`: `owns_at_or_below`, and how many keys are read for it.
+    Exists(LowerName),
 }
 
 /// Calls that hash names for NSEC3 records, by the program's hash.

@@ -20,6 +20,7 @@ mod calls;
 mod denials;
 mod hashes;
 mod names;
+mod neighbours;
 mod read;
 mod read_names;
 mod read_records;

@@ -3,6 +3,7 @@
 use crate::call::{Ask, Call, Head, NameCall, Question, RecordCall, SetCall, WordCall, ZoneCall};
 use crate::denials::{read_denial_call, read_kind};
 use crate::hashes::read_hash_call;
+use crate::neighbours::read_neighbour_call;
 use crate::read_names::{read_copy, read_lower_call, read_name_call};
 use crate::read_records::{read_any_data, read_any_record, read_octets, read_word};
 use crate::read_searches::read_search_call;
@@ -90,6 +91,7 @@ enum Subject {
     Search,
     Signing,
     Denial,
+    Neighbour,
     Hash,
     Transfer,
 }
@@ -119,6 +121,8 @@ fn subject_of(verb: &str) -> Subject {
         Subject::Signing
     } else if is_among(verb, "kind closest deny hashed expanded") {
         Subject::Denial
+    } else if is_among(verb, "owners denying counted exists") {
+        Subject::Neighbour
     } else if is_among(verb, "base32 digest owner") {
         Subject::Hash
     } else if is_among(verb, "transfer") {
@@ -148,6 +152,7 @@ fn read_words(alloc: Global, words: &mut Words<'_>) -> Result<Call, TextError> {
         Subject::Search => Ok(Call::Search(read_search_call(alloc, verb, words)?)),
         Subject::Signing => Ok(Call::Signing(read_signing_call(alloc, verb, words)?)),
         Subject::Denial => Ok(Call::Denial(read_denial_call(alloc, verb, words)?)),
+        Subject::Neighbour => Ok(Call::Neighbour(read_neighbour_call(alloc, verb, words)?)),
         Subject::Hash => Ok(Call::Hash(read_hash_call(alloc, verb, words)?)),
         Subject::Transfer => read_transfer(alloc, words),
     }

@@ -2,9 +2,10 @@
 ghost use Rattle.std.specs.Iterator.{IsFinite};
 
 use crate::bench::Zone;
+use crate::neighbours::count_owners;
 use std::fmt;
 use zone_handler::{AuthLookup, LookupControlFlow, LookupRecordsIter, ZoneHandler};
-use zone_proto::{Labels, LowerName, Name, Record, RecordSet};
+use zone_proto::{Labels, LowerName, Name, Record, RecordSet, RecordType};
 use zone_store::Found;
 use zone_text::{HexText, RecordText};
 
@@ -146,6 +147,43 @@ pub struct NoneText(pub u64);
 impl fmt::Display for NoneText {
     fn fmt<W: fmt::Write>(&self, f: &mut fmt::Formatter<W>) -> fmt::Result {
         write!(f, "{} searched, None", self.0)
+    }
+}
+
+/// The owners of the sets of a type of denial.
+#[derive(Drop)]
+pub struct OwnersText<'z>(pub &'z Zone, pub RecordType);
+
+impl fmt::Display for OwnersText<'_> {
+    fn fmt<W: fmt::Write>(&self, f: &mut fmt::Formatter<W>) -> fmt::Result {
+        write!(f, "{} owners", count_owners(self.0, self.1))?;
+        for owner in self.0.inner().denial_owners(self.1) {
+            write!(f, " | {owner}")?;
+        }
+        Ok(())
+    }
+}
+
+/// The closest set, if there is one, and how many owners were read for it.
+#[derive(Drop)]
+pub struct ClosestText<'s>(pub Option<&'s RecordSet>, pub u64);
+
+impl fmt::Display for ClosestText<'_> {
+    fn fmt<W: fmt::Write>(&self, f: &mut fmt::Formatter<W>) -> fmt::Result {
+        match self.0 {
+            Some(set) => write!(f, "{} read | {}", self.1, SetText(set)),
+            None => write!(f, "{} read, None", self.1),
+        }
+    }
+}
+
+/// Whether a name is there, and how many keys were read for that.
+#[derive(Drop)]
+pub struct ExistsText(pub bool, pub u64);
+
+impl fmt::Display for ExistsText {
+    fn fmt<W: fmt::Write>(&self, f: &mut fmt::Formatter<W>) -> fmt::Result {
+        write!(f, "{}, {} read", self.0, self.1)
     }
 }
 

@@ -1,9 +1,10 @@
 -- Ascending lists, and what stands at their ends
-use Rattle.std.proofs.Common.{◌≡◌, List, [], ◌∷◌, ◌++◌, refl, sym, ap, ◌∙◌, subst, ◌⊎◌, inl, inr, Ordering, Less}
+use Rattle.std.proofs.Common.{◌≡◌, Bool, true, false, cond, List, [], ◌∷◌, ◌++◌, refl, sym, ap, ◌∙◌, subst, ◌⊎◌, inl, inr, Ordering, Less}
+use Rattle.std.specs.Prelude.{filter}
 use Rattle.std.specs.List.{AllByRecursion}
 use Rattle.std.specs.List.Sorted.{IsStrictlySortedBy}
 use Rattle.std.proofs.lemmas.Map.Keys.{sorted_head, sorted_tail}
-use Rattle.zone_proto.proofs.Members.{In, In-append_left, In-append_right, In-from_append}
+use Rattle.zone_proto.proofs.Members.{In, In-from_filter, In-append_left, In-append_right, In-from_append}
 
 -- each element is below those after it
 abbrev pub Ascends : {K : Type 0} → (K → K → Ordering) → List K → Type 0
@@ -54,3 +55,13 @@ Ascends-joined R (x ∷ xs) ys a b h = (λ y i. later y (In-from_append y xs ys 
     later : (y : _) → In y xs ⊎ In y ys → R x y ≡ Less
     later y (inl i) = a.0 y i
     later y (inr j) = h x y (inl refl) j
+
+-- ---- a part of an ascending list
+
+pub Ascends-filter : {K : Type 0} (R : K → K → Ordering) (p : K → Bool) (xs : List K) → Ascends R xs → Ascends R (filter p xs)
+Ascends-filter R p [] a = tt
+Ascends-filter R p (x ∷ xs) a = by (p x) (Ascends-filter R p xs a.1)
+  where
+    by : (b : Bool) → Ascends R (filter p xs) → Ascends R (cond b (x ∷ filter p xs) (filter p xs))
+    by true later = (λ y i. a.0 y (In-from_filter p y xs i).0, later)
+    by false later = later

@@ -1,3 +1,5 @@
+pub mod Ascending
+pub mod ReadBack
 pub mod ClosestSets
 pub mod CoverSets
 pub mod SetsJoined
@@ -10,12 +12,12 @@ pub mod InOrder
 pub mod AuthoritativeNames
 pub mod NsecCircle
 pub mod NsecClosest
+pub mod CircleReads
 pub mod NsecLists
 pub mod NsecBelow
 pub mod NsecSecured
 mod NsecExamples
 mod NsecPremises
-pub mod Ascending
 pub mod TypesJoined
 pub mod AboveTests
 pub mod CircleKeys

@@ -114,13 +114,13 @@ module _ {origin : Name} {m : Sets} {hash : Name → Option (List ℕ)} {paramet
     abbrev of_encloser : Result (List Name) ProtoError
     of_encloser = result_and_then (λ encloser. result_and_then (λ owners. Ok (in_order name_cmp owners)) (with_encloser encloser)) (encloser_of m hashed x)
 
-    abbrev denial_owners : Result (List Name) ProtoError
-    denial_owners = result_and_then (λ own. cond (owns m own NSEC3 && true) (Ok (own ∷ [])) of_encloser) (hashed x)
+    abbrev denying_owners : Result (List Name) ProtoError
+    denying_owners = result_and_then (λ own. cond (owns m own NSEC3 && true) (Ok (own ∷ [])) of_encloser) (hashed x)
 
     abbrev denial : Result (List RRset) ProtoError
-    denial = result_and_then (λ owners. Ok (filter_map (λ o. set_at m o NSEC3) owners)) denial_owners
+    denial = result_and_then (λ owners. Ok (filter_map (λ o. set_at m o NSEC3) owners)) denying_owners
 
-    own_owner : (b : Bool) → Hashed x → on_circle x ≡ b → denial_owners ≡ cond b (Ok (owner zone apart x ∷ [])) of_encloser
+    own_owner : (b : Bool) → Hashed x → on_circle x ≡ b → denying_owners ≡ cond b (Ok (owner zone apart x ∷ [])) of_encloser
     own_owner b h e =
         ap (result_and_then (λ own. cond (owns m own NSEC3 && true) (Ok (own ∷ [])) of_encloser)) (is_owner zone apart x h)
         ∙ ap (λ c. cond (c && true) (Ok (owner zone apart x ∷ [])) of_encloser) (owns_as_named zone apart x h ∙ e)

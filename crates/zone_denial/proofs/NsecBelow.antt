@@ -112,7 +112,7 @@ module _ (origin : Name) (m : Sets) (h : IsNsecZone origin m) (x : Name) (inside
 
     -- so the closest owner's next name is past x and not past d, and descendants stand together
     next_below : (o : Name) → IsClosest origin m x o → is_above x (nsec_next origin m o) ≡ true
-    next_below o c = by (next_is origin m h o)
+    next_below o c = by (next_is origin m h.circle o)
       where
         n : Name
         n = nsec_next origin m o

@@ -8,15 +8,15 @@ use Rattle.zone_proto.specs.Order.{is_before, is_upto}
 use Rattle.zone_proto.specs.Sets.{RRset}
 use Rattle.zone_proto.specs.Types.{NSEC}
 use Rattle.zone_proto.proofs.Members.{In, In-filter, In-from_filter, and_left, and_right, or_left, or_right}
-use Rattle.zone_proto.proofs.Orders.{IsTop, has_greatest, Side, side, before, same, after, less_test, upto_cases, upto_before, upto_same, upto_from_not_before}
+use Rattle.zone_proto.proofs.Orders.{IsTop, has_greatest, Side, side, before, same, after, less_test, upto_cases, upto_before, upto_same}
 use Rattle.zone_proto.proofs.Tree.{name_order}
 use Rattle.zone_map.specs.Zones.{Sets, set_at, owns, owners}
 use Rattle.zone_map.proofs.Owned.{owner_in, owner_owned, set_of}
 use Rattle.zone_denial.specs.Covering.{covers}
-use Rattle.zone_denial.specs.NsecCircle.{nsec_next}
+use Rattle.zone_denial.specs.NsecCircle.{IsNsecCircle, nsec_next}
 use Rattle.zone_denial.specs.NsecDenial.{goes_past, reaches, closest_owner, nsec_denial, both_of, parent_of}
 use Rattle.zone_denial.specs.NsecLaws.{IsNsecZone, LastCovers, FindsOrCovers, DenialFindsOrCovers}
-use Rattle.zone_denial.proofs.NsecCircle.{above_upto, origin_on_circle, NextIs, least_after, wraps, next_is, next_said}
+use Rattle.zone_denial.proofs.NsecCircle.{above_upto, origin_upto, origin_on_circle, NextIs, least_after, wraps, next_is, next_said}
 
 -- an owner that isn't after x, whose next name is past x or goes back to the owner or before it
 pub record IsClosest (origin : Name) (m : Sets) (x o : Name) : Type 0 where
@@ -24,7 +24,7 @@ pub record IsClosest (origin : Name) (m : Sets) (x o : Name) : Type 0 where
   pub not_after : is_upto name_cmp o x ≡ true
   pub past : (name_cmp x (nsec_next origin m o) ≡ Less) ⊎ (is_upto name_cmp (nsec_next origin m o) o ≡ true)
 
-module _ (origin : Name) (m : Sets) (h : IsNsecZone origin m) (x : Name) where
+module _ (origin : Name) (m : Sets) (circle : IsNsecCircle origin m) (x : Name) where
   -- ---- these are the owners that reach x
 
   goes_past_from : (o n : Name) → (name_cmp x n ≡ Less) ⊎ (is_upto name_cmp n o ≡ true) → goes_past o x n ≡ true
@@ -39,9 +39,9 @@ module _ (origin : Name) (m : Sets) (h : IsNsecZone origin m) (x : Name) where
       by false e h = inr h
 
   reached : (o : Name) → owns m o NSEC ≡ true → reaches m x o ≡ is_upto name_cmp o x && goes_past o x (nsec_next origin m o)
-  reached o k = ap (λ p. is_upto name_cmp o x && option_map_or (goes_past o x) p false) (next_said origin m h o k)
+  reached o k = ap (λ p. is_upto name_cmp o x && option_map_or (goes_past o x) p false) (next_said origin m circle o k)
 
-  reaches_from : (o : Name) → IsClosest origin m x o → reaches m x o ≡ true
+  pub reaches_from : (o : Name) → IsClosest origin m x o → reaches m x o ≡ true
   reaches_from o c = reached o c.on_circle ∙ (λ i. c.not_after i && goes_past_from o (nsec_next origin m o) c.past i)
 
   from_reaches : (o : Name) → owns m o NSEC ≡ true → reaches m x o ≡ true → IsClosest origin m x o
@@ -61,29 +61,35 @@ module _ (origin : Name) (m : Sets) (h : IsNsecZone origin m) (x : Name) where
   stands : (a : Name) → owns m a NSEC ≡ true → is_upto name_cmp a x ≡ true → In a not_later
   stands a k u = In-filter (λ o. is_upto name_cmp o x) a (owners m NSEC) (owner_in m a NSEC k) u
 
-  last_is_past : (o : Name) → IsTop name_order not_later o → NextIs origin m o (nsec_next origin m o)
+  last_is_past : (o : Name) → owns m o NSEC ≡ true → IsTop name_order not_later o → NextIs origin m o (nsec_next origin m o)
       → (name_cmp x (nsec_next origin m o) ≡ Less) ⊎ (is_upto name_cmp (nsec_next origin m o) o ≡ true)
-  last_is_past o g (least_after k l none) = by (side name_order x (nsec_next origin m o))
+  last_is_past o on g (least_after k l none) = by (side name_order x (nsec_next origin m o))
     where
       by : Side name_cmp x (nsec_next origin m o) → (name_cmp x (nsec_next origin m o) ≡ Less) ⊎ (is_upto name_cmp (nsec_next origin m o) o ≡ true)
       by (before e) = inl e
       by (same e) = absurd (g.none_greater (nsec_next origin m o) (stands (nsec_next origin m o) k (upto_same name_order (nsec_next origin m o) x (sym e))) l)
       by (after e) = absurd (g.none_greater (nsec_next origin m o) (stands (nsec_next origin m o) k (upto_before name_order (nsec_next origin m o) x e)) l)
-  last_is_past o g (wraps e none) = inr (upto_from_not_before name_order (nsec_next origin m o) o (λ l. none origin (origin_on_circle origin m h) (ap (name_cmp o) (sym e) ∙ l)))
+  last_is_past o on g (wraps e none) = inr (ap (λ n. is_upto name_cmp n o) e ∙ origin_upto origin m circle o on)
 
+  pub last_is_closest : (o : Name) → IsTop name_order not_later o → IsClosest origin m x o
+  last_is_closest o g =
+      let i = In-from_filter (λ o. is_upto name_cmp o x) o (owners m NSEC) g.among in
+      let on = owner_owned m o NSEC i.0 in
+      record { on_circle = on; not_after = i.1; past = last_is_past o on g (next_is origin m circle o) }
+
+module _ (origin : Name) (m : Sets) (h : IsNsecZone origin m) (x : Name) where
   some_closest : is_at_or_above origin x ≡ true → (o : Name) × IsClosest origin m x o
   some_closest inside =
-      let r = has_greatest name_order not_later origin (stands origin (origin_on_circle origin m h) (above_upto origin x inside)) in
-      let i = In-from_filter (λ o. is_upto name_cmp o x) r.0 (owners m NSEC) r.2.among in
-      (r.0, record { on_circle = owner_owned m r.0 NSEC i.0; not_after = i.1; past = last_is_past r.0 r.2 (next_is origin m h r.0) })
+      let r = has_greatest name_order (not_later origin m h.circle x) origin (stands origin m h.circle x origin (origin_on_circle origin m h) (above_upto origin x inside)) in
+      (r.0, last_is_closest origin m h.circle x r.0 r.2)
 
   -- so each name of the zone has a closest owner
   pub closest_is : is_at_or_above origin x ≡ true → (o : Name) × (closest_owner m x ≡ Some o) × IsClosest origin m x o
   closest_is inside =
       let c = some_closest inside in
-      let r = has_greatest name_order (filter (reaches m x) (owners m NSEC)) c.0 (In-filter (reaches m x) c.0 (owners m NSEC) (owner_in m c.0 NSEC c.1.on_circle) (reaches_from c.0 c.1)) in
+      let r = has_greatest name_order (filter (reaches m x) (owners m NSEC)) c.0 (In-filter (reaches m x) c.0 (owners m NSEC) (owner_in m c.0 NSEC c.1.on_circle) (reaches_from origin m h.circle x c.0 c.1)) in
       let i = In-from_filter (reaches m x) r.0 (owners m NSEC) r.2.among in
-      (r.0, r.1, from_reaches r.0 (owner_owned m r.0 NSEC i.0) i.1)
+      (r.0, r.1, from_reaches origin m h.circle x r.0 (owner_owned m r.0 NSEC i.0) i.1)
 
 -- ---- off the circle, such an owner and its next name cover x
 

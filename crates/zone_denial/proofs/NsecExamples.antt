@@ -16,6 +16,7 @@ use Rattle.zone_denial.specs.Covering.{covers}
 use Rattle.zone_denial.specs.NsecCircle.{nsec_next}
 use Rattle.zone_denial.specs.NsecDenial.{nsec_denial}
 use Rattle.zone_denial.specs.NsecSets.{nsec_set, nsec_set_at}
+use Rattle.zone_denial.specs.OwnersRead.{owners_read}
 
 -- ---- the zone example, with names one and two labels below its origin
 
@@ -114,6 +115,17 @@ outside_behind = refl
 -- and one before all names of it: no owner reaches it
 outside_before : nsec_denial origin (linked hosts) (codes "a" ∷ []) ≡ hosts_origin ∷ []
 outside_before = refl
+
+-- what is read for the closest set: one owner, and before all of them none
+read_between : owners_read (linked hosts) (at_origin (codes "b")) ≡ at_origin (codes "a") ∷ []
+read_between = refl
+
+read_before : owners_read (linked hosts) (codes "a" ∷ []) ≡ []
+read_before = refl
+
+-- where the set of a leads to a name before b, all up to b are read, and none reaches it
+read_all : owners_read (put (linked hosts) (at_origin (codes "a")) NSEC (says (at_origin (codes "a")) (at_origin (codes "aa")) [])) (at_origin (codes "b")) ≡ origin ∷ at_origin (codes "a") ∷ []
+read_all = refl
 
 -- without NSEC sets nothing is denied
 unlinked : nsec_denial origin hosts (at_origin (codes "b")) ≡ []

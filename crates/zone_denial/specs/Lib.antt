@@ -8,6 +8,7 @@ pub mod NsecLinks
 pub mod NsecDenial
 pub mod DenialSets
 pub mod NsecLaws
+pub mod OwnersRead
 pub mod Nsec3Names
 pub mod Nsec3Nodes
 pub mod Nsec3Circle

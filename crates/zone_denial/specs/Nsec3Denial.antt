@@ -78,11 +78,11 @@ module _ {E : Type 0} (m : Sets) (hashed : Name → Result Name E) where
   is_starred_beside q = list_any (name_eq (wildcard_of q)) (names_of m)
 
   -- the owners of the sets that deny, ascending, each once: the name's own, unless a wildcard answered; else those with an encloser
-  abbrev pub nsec3_denial_owners : Bool → ℕ → Name → Result (List Name) E
-  nsec3_denial_owners wildcard t q =
+  abbrev pub nsec3_denying_owners : Bool → ℕ → Name → Result (List Name) E
+  nsec3_denying_owners wildcard t q =
       result_and_then (λ own. cond (owns m own NSEC3 && not wildcard) (Ok (own ∷ []))
       (result_and_then (λ encloser. result_and_then (λ owners. Ok (in_order name_cmp owners)) (enclosed wildcard (is_starred_beside q) t q encloser)) (encloser_of q))) (hashed q)
 
   -- these sets
   abbrev pub nsec3_denial : Bool → ℕ → Name → Result (List RRset) E
-  nsec3_denial wildcard t q = result_and_then (λ owners. Ok (filter_map (λ o. set_at m o NSEC3) owners)) (nsec3_denial_owners wildcard t q)
+  nsec3_denial wildcard t q = result_and_then (λ owners. Ok (filter_map (λ o. set_at m o NSEC3) owners)) (nsec3_denying_owners wildcard t q)

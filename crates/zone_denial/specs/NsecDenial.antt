@@ -12,9 +12,13 @@ use Rattle.zone_denial.specs.NsecCircle.{next_of}
 abbrev pub goes_past : Name → Name → Name → Bool
 goes_past o x n = is_before name_cmp x n || is_upto name_cmp n o
 
+-- so does the one that the NSEC set of o says
+abbrev pub says_past : Sets → Name → Name → Bool
+says_past m x o = option_map_or (goes_past o x) (option_and_then next_of (set_at m o NSEC)) false
+
 -- an owner of NSEC reaches x: it isn't after x, and its next name goes past x
 abbrev pub reaches : Sets → Name → Name → Bool
-reaches m x o = is_upto name_cmp o x && option_map_or (goes_past o x) (option_and_then next_of (set_at m o NSEC)) false
+reaches m x o = is_upto name_cmp o x && says_past m x o
 
 -- the greatest owner of NSEC that reaches x
 abbrev pub closest_owner : Sets → Name → Option Name
@@ -39,9 +43,9 @@ abbrev pub parent_of : Name → Name → Option Name
 parent_of origin x = cond (name_eq (parent_in_zone origin x) x) None (Some (parent_in_zone origin x))
 
 -- the owners of the sets that deny: x itself if it owns NSEC; else the closest owner of the parent, and then that of x (RFC 4035 sections 3.1.3.1 and 3.1.3.2)
-abbrev pub denial_owners : Name → Sets → Name → List Name
-denial_owners origin m x = cond (owns m x NSEC) (x ∷ []) (both_of (option_and_then (closest_owner m) (parent_of origin x)) (closest_owner m x))
+abbrev pub denying_owners : Name → Sets → Name → List Name
+denying_owners origin m x = cond (owns m x NSEC) (x ∷ []) (both_of (option_and_then (closest_owner m) (parent_of origin x)) (closest_owner m x))
 
 -- these sets
 abbrev pub nsec_denial : Name → Sets → Name → List RRset
-nsec_denial origin m x = filter_map (λ o. set_at m o NSEC) (denial_owners origin m x)
+nsec_denial origin m x = filter_map (λ o. set_at m o NSEC) (denying_owners origin m x)

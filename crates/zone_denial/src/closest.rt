@@ -1,13 +1,15 @@
 //! The NSEC set that is closest to a name.
-ghost use Rattle.std.specs.Prelude.{◌≡◌, ◌==◌, ◌&&◌, false, IfOk, IsOkUnless, option_copied, option_map};
+ghost use Rattle.std.specs.Prelude.{◌≡◌, false, cond, length, None, IfOk, OnOk, OnErr, IsOkUnless, option_copied, option_map, option_and_then};
 ghost use Rattle.std.specs.Option.{option_map_or};
 ghost use Rattle.zone_proto.specs.Names.{lower};
 ghost use Rattle.zone_proto.specs.Types.{NSEC};
-ghost use Rattle.zone_map.specs.Zones.{IsZone};
+ghost use Rattle.zone_map.specs.Counts.{counted_more};
+ghost use Rattle.zone_map.specs.Zones.{set_at, IsZone};
 ghost use Rattle.zone_denial.specs.NsecCircle.{next_of};
-ghost use Rattle.zone_denial.specs.NsecDenial.{goes_past, closest_nsec};
+ghost use Rattle.zone_denial.specs.NsecDenial.{goes_past, says_past, closest_nsec};
+ghost use Rattle.zone_denial.specs.OwnersRead.{owners_read, GrewByAtMost};
 
-use zone_map::RecordMap;
+use zone_map::{Reads, RecordMap};
 use zone_proto::{LowerName, Name, ProtoError, RData, RecordSet, RecordType, RrKey};
 
 /// The NSEC set whose owner is the greatest of those that aren't after `name` and whose next name, as the first record says
@@ -19,44 +21,52 @@ pub fn closest_nsec<'m>(
     name: &LowerName,
 ) -> Result<Option<&'m RecordSet>, ProtoError>
     ensures found { IfOk result (λ set. option_copied set ≡ closest_nsec records.now name.now) }
-    ensures err { IsOkUnless result ProtoError.Memory }
-{
-    let key = RrKey::new(name.clone()?, RecordType::NSEC);
-    closest_upto(records, &key)
-}
-
-/// The same for the name of the key that its NSEC set would have.
-pub(crate) fn closest_upto<'m>(
-    records: &'m RecordMap,
-    last: &RrKey,
-) -> Result<Option<&'m RecordSet>, ProtoError>
-    requires { last.now.record_type.0 ≡ NSEC }
-    ensures found { IfOk result (λ set. option_copied set ≡ closest_nsec records.now last.now.name) }
     ensures zone { IsZone records.now }
     ensures err { IsOkUnless result ProtoError.Memory }
 {
-    let mut entries = records.as_map().range(..=last);
-    while let Some((key, set)) = entries.next_back() {
-        if reaches(key, set, &last.name)? {
+    closest_nsec_counted(records, name, &mut Reads::new())
+}
+
+/// The same, and counts the owners of NSEC sets that are read for it: from `name` back those down to the closest one, or all
+/// of them where there is none; a refusal has counted no more of them.
+pub fn closest_nsec_counted<'m>(
+    records: &'m RecordMap,
+    name: &LowerName,
+    reads: &mut Reads,
+) -> Result<Option<&'m RecordSet>, ProtoError>
+    ensures found { IfOk result (λ set. option_copied set ≡ closest_nsec records.now name.now) }
+    ensures counted { OnOk result (reads.new ≡ counted_more (length (owners_read records.now name.now)) reads.old) }
+    ensures refused { OnErr result (GrewByAtMost (length (owners_read records.now name.now)) reads.old reads.new) }
+    ensures zone { IsZone records.now }
+    ensures err { IsOkUnless result ProtoError.Memory }
+{
+    let mut owners = records.denial_owners_upto(RecordType::NSEC, name);
+    while let Some(owner) = owners.read_last(reads) {
+        if let Some(set) = set_past(records, owner, name)? {
             return Ok(Some(set));
         }
     }
     Ok(None)
 }
 
-/// Whether the set under a key is an NSEC set whose next name goes past `name`.
-fn reaches(key: &RrKey, set: &RecordSet, name: &LowerName) -> Result<bool, ProtoError>
-    ensures answer { IfOk result (λ past. past ≡ ((key.now.record_type.0 == NSEC) && option_map_or (goes_past key.now.name name.now) (next_of set.now) false)) }
+/// The NSEC set of an owner, if its next name goes past `name`.
+fn set_past<'m>(
+    records: &'m RecordMap,
+    owner: &LowerName,
+    name: &LowerName,
+) -> Result<Option<&'m RecordSet>, ProtoError>
+    ensures found { IfOk result (λ set. option_copied set ≡ cond (says_past records.now name.now owner.now) (set_at records.now owner.now NSEC) None) }
     ensures err { IsOkUnless result ProtoError.Memory }
 {
-    if key.record_type != RecordType::NSEC {
-        return Ok(false);
-    }
+    let key = RrKey::new(owner.clone()?, RecordType::NSEC);
+    let Some(set) = records.get(&key) else {
+        return Ok(None);
+    };
     let Some(next) = next_name(set) else {
-        return Ok(false);
+        return Ok(None);
     };
     let next = LowerName::new(next)?;
-    Ok(goes_past(&key.name, name, &next))
+    Ok(goes_past(owner, name, &next).then_some(set))
 }
 
 /// Whether the next name of an owner stands after `name`, or isn't after the owner.

@@ -6,7 +6,7 @@ ghost use Rattle.zone_map.specs.Zones.{set_at};
 ghost use Rattle.zone_denial.specs.NsecDenial.{closest_nsec, parent_in_zone, parent_of, nsec_denial};
 ghost use Rattle.zone_denial.specs.DenialSets.{denial_sets, own_set, unless_same};
 
-use crate::closest::closest_upto;
+use crate::closest::closest_nsec;
 use zone_map::RecordMap;
 use zone_proto::{LowerName, ProtoError, RecordSet, RecordType, RrKey};
 
@@ -35,28 +35,26 @@ pub fn nsec_denial<'m>(
     if let Some(own) = records.get(&key) {
         return Ok(NsecDenial::Own(own));
     }
-    let closest = closest_upto(records, &key)?;
-    let above = closest_to_parent(records, origin, key)?;
+    let closest = closest_nsec(records, name)?;
+    let above = closest_to_parent(records, origin, key.name)?;
     Ok(NsecDenial::Closest(unless_same(above, closest), closest))
 }
 
-/// The set closest to the parent of the name of the key that its NSEC set would have, or to the origin where the parent is
-/// outside the zone; none where that is the name itself.
+/// The set closest to the parent of a name, or to the origin where the parent is outside the zone; none where that is the name
+/// itself.
 fn closest_to_parent<'m>(
     records: &'m RecordMap,
     origin: &LowerName,
-    key: RrKey,
+    name: LowerName,
 ) -> Result<Option<&'m RecordSet>, ProtoError>
-    requires { key.record_type.0 ≡ NSEC }
-    ensures found { IfOk result (λ set. option_copied set ≡ option_and_then (closest_nsec records.now) (parent_of origin.now key.name)) }
+    ensures found { IfOk result (λ set. option_copied set ≡ option_and_then (closest_nsec records.now) (parent_of origin.now «name»)) }
     ensures err { IsOkUnless result ProtoError.Memory }
 {
-    if key.name == *origin {
+    if name == *origin {
         return Ok(None);
     }
-    let RrKey { name, record_type } = key;
     let parent = parent_in_zone(origin, name)?;
-    closest_upto(records, &RrKey::new(parent, record_type))
+    closest_nsec(records, &parent)
 }
 
 /// The parent of a name, or the origin where the parent is outside the zone.

@@ -17,6 +17,7 @@ ghost use Rattle.zone_denial.specs.Nsec3Circle.{nsec3_types, IsNsec3Type};
 ghost use Rattle.zone_denial.specs.Nsec3Laws.{Nsec3CircleListsAllOwned, Nsec3DenialFindsOrEncloses, Nsec3DenialsAgree, SecuredIsNsec3Circle};
 ghost use Rattle.zone_denial.specs.Nsec3Names.{nsec3_names, IsNsec3Name};
 ghost use Rattle.zone_denial.specs.TypeLists.{nsec_types};
+ghost use Rattle.zone_denial.specs.OwnersRead.{ReadsNoneAfter, CircleReadsOne};
 ghost use Rattle.zone_denial.specs.NsecLaws.{SecuredIsCircle, DenialFindsOrCovers, CircleListsAllOwned, DenialsAgree, NoNextBelowAbsent, NextBelowEmpty};
 
 /// The types that the NSEC set of a name lists ascend, each stands there once, and they are exactly those that the name owns,
@@ -84,6 +85,19 @@ pub fn no_next_below_absent()
 #[tactic(auto, using(crate::proofs::NsecBelow::next_below_empty))]
 pub fn next_below_empty()
     ensures { NextBelowEmpty }
+{}
+
+/// A search for the closest NSEC set to a name reads no owner after the name: at most as many as there are owners of NSEC sets
+/// at or before it.
+#[tactic(auto, using(crate::proofs::CircleReads::none_after))]
+pub fn closest_reads_none_after()
+    ensures { ReadsNoneAfter }
+{}
+
+/// Where the NSEC sets are a circle, it reads one owner at most, whatever the name.
+#[tactic(auto, using(crate::proofs::CircleReads::circle_reads_one))]
+pub fn circle_reads_one()
+    ensures { CircleReadsOne }
 {}
 
 /// A zone that gets its NSEC3 sets, in the place of those that it had, has a circle of them, so that NSEC3 denies it: one set

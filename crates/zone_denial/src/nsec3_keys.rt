@@ -1,13 +1,13 @@
 // The keys of NSEC3 sets, and the sets that match and cover a name.
-ghost use Rattle.std.specs.Prelude.{◌≡◌, ◌⊎◌, ◌==◌, Ok, Err, IfOk, IfErr, OnOk, find, reverse, option_copied, option_map, option_to_list, option_and_then};
+ghost use Rattle.std.specs.Prelude.{◌≡◌, ◌⊎◌, length, Ok, Err, IfOk, IfErr, OnOk, option_copied, option_to_list};
 ghost use Rattle.zone_proto.specs.Types.{NSEC3};
-ghost use Rattle.zone_map.specs.Zones.{set_at, IsZone};
+ghost use Rattle.zone_map.specs.Counts.{counted_more};
+ghost use Rattle.zone_map.specs.Zones.{IsZone};
 ghost use Rattle.zone_denial.specs.Nsec3Denial.{match_of, cover_of, cover_owner};
 ghost use Rattle.zone_denial.specs.Nsec3Lent.{hashed_for, sets_of};
 
-use std::collections::btree_map::Range;
 use zone_handler::Nsec3QueryInfo;
-use zone_map::RecordMap;
+use zone_map::{Reads, RecordMap};
 use zone_proto::{LowerName, Nsec3Hash, ProtoError, RecordSet, RecordType, RrKey};
 
 /// How the names of a zone are hashed for a query.
@@ -63,30 +63,30 @@ pub(crate) fn covering<'m, H: Nsec3Hash>(
     ensures err { IfErr result (λ e. (e ≡ ProtoError.Memory)
         ⊎ (hashed_for hashing.now.origin.now (H.digest_of hashing.now.hash.now) hashing.now.query.now name.now ≡ Err e)) }
 {
-    Ok(cover_at(records, &hashing.key(name)?))
+    let mut key = hashing.key(name)?;
+    let Some(owner) = cover_owner(records, &key.name, &mut Reads::new()) else {
+        return Ok(None);
+    };
+    key.name = owner.clone()?;
+    Ok(records.get(&key))
 }
 
-/// The set that covers the name of which this is the key.
-fn cover_at<'m>(records: &'m RecordMap, key: &RrKey) -> Option<&'m RecordSet>
-    requires { key.now.record_type.0 ≡ NSEC3 }
-    ensures found { option_copied result ≡ option_and_then (λ o. set_at records.now o NSEC3) (cover_owner records.now key.now.name) }
+/// The owner of the set that covers the name of which this is the hashed owner. It counts one read, or none where there is no
+/// such owner.
+fn cover_owner<'m>(
+    records: &'m RecordMap,
+    hashed: &LowerName,
+    reads: &mut Reads,
+) -> Option<&'m LowerName>
+    ensures found { option_copied result ≡ cover_owner records.now hashed.now }
+    ensures counted { reads.new ≡ counted_more (length (option_to_list (cover_owner records.now hashed.now))) reads.old }
     ensures zone { IsZone records.now }
 {
-    let map = records.as_map();
-    match last_nsec3(map.range(..key)) {
-        Some(set) => Some(set),
-        None => last_nsec3(map.range(..)),
+    let mut before = records.denial_owners_before(RecordType::NSEC3, hashed);
+    match before.read_last(reads) {
+        Some(owner) => Some(owner),
+        None => records
+            .last_denial_owners(RecordType::NSEC3)
+            .read_last(reads),
     }
-}
-
-/// The set of the last of some entries whose type is NSEC3.
-fn last_nsec3<'m>(mut entries: Range<'m, RrKey, RecordSet>) -> Option<&'m RecordSet>
-    ensures { option_copied result ≡ option_map (λ e. e.1) (find (λ e. e.0.record_type.0 == NSEC3) (reverse entries.entry)) }
-{
-    while let Some((key, set)) = entries.next_back() {
-        if key.record_type == RecordType::NSEC3 {
-            return Some(set);
-        }
-    }
-    None
 }

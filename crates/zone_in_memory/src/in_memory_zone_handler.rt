@@ -31,6 +31,7 @@ use zone_handler::{
     AuthLookup, AxfrPolicy, LookupControlFlow, LookupError, LookupOptions, NetError,
     Nsec3QueryInfo, Request, RequestInfo, TSigResponseContext, ZoneHandler, ZoneTransfer, ZoneType,
 };
+use zone_map::Reads;
 use zone_proto::{
     DNSClass, LowerName, Name, Nsec3Hash, NxProofKind, RecordSet, RecordType, ResponseCode, RrKey,
     SOA, Signer,
@@ -255,7 +256,7 @@ impl<S: Signer, H: Nsec3Hash> InMemoryZoneHandler<S, H> {
     fn denial(&self, name: &LowerName) -> LookupError
         ensures { (result ≡ error_of (denial self.now.origin self.now.inner.records name.now)) ⊎ (result ≡ LookupError.Memory) }
     {
-        match self.inner.owns_at_or_below(name) {
+        match self.inner.owns_at_or_below(name, &mut Reads::new()) {
             Err(_) => LookupError::Memory,
             Ok(true) => LookupError::for_name_exists(),
             Ok(false) => denial_of_absent(&self.apex.name, name),

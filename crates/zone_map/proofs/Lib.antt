@@ -6,6 +6,7 @@ pub mod Renewing
 pub mod Upserting
 pub mod CnamesAlone
 pub mod Lists
+pub mod OwnersKept
 pub mod Delegations
 pub mod Wildcards
 pub mod Walks

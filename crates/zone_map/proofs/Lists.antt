@@ -52,7 +52,7 @@ types_ascend (e ∷ m) n s = by (name_eq n e.0.name) refl (types_ascend m n s.1)
 
 -- ---- the owners of a type ascend
 
-owners_above : (t : ℕ) (k : RrKey) (m : Sets) → k.record_type.0 ≡ t → AllByRecursion (λ q. key_cmp k q ≡ Less) (keys_of m) → AllByRecursion (λ a. name_cmp k.name a ≡ Less) (owners m t)
+pub owners_above : (t : ℕ) (k : RrKey) (m : Sets) → k.record_type.0 ≡ t → AllByRecursion (λ q. key_cmp k q ≡ Less) (keys_of m) → AllByRecursion (λ a. name_cmp k.name a ≡ Less) (owners m t)
 owners_above t k [] e a = tt
 owners_above t k (f ∷ m) e a = by (t == f.0.record_type.0) refl (owners_above t k m e a.1)
   where

@@ -12,12 +12,14 @@ use Rattle.std.proofs.lemmas.Cmp.{tied_itself}
 use Rattle.std.proofs.lemmas.List.Sums.{take_while-cons}
 use Rattle.std.proofs.lemmas.Map.Keys.{sorted_head, sorted_tail}
 use Rattle.zone_proto.specs.declared.rr_key.RrKey.{RrKey}
-use Rattle.zone_proto.specs.Keys.{key, key_cmp}
+use Rattle.zone_proto.specs.Keys.{key, first_key, key_cmp}
 use Rattle.zone_proto.specs.Names.{Name, name_cmp, name_eq, IsAbove, IsAtOrAbove, is_at_or_above}
+use Rattle.zone_proto.specs.Order.{is_upto}
 use Rattle.zone_proto.specs.Sets.{RRset}
 use Rattle.zone_proto.proofs.NameTree.{name_eq-Decides, above_is_less, is_at_or_above_sound, is_at_or_above_complete}
 use Rattle.zone_proto.proofs.Tree.{name_order, above_cases, together}
-use Rattle.zone_map.specs.Zones.{Sets, types_at, owns_at_or_below}
+use Rattle.zone_map.specs.Counts.{one_more}
+use Rattle.zone_map.specs.Zones.{Sets, has_key_from, types_at, owns_at_or_below}
 
 -- the entries that stand at or after a key
 abbrev pub from_key : RrKey → Sets → Sets
@@ -265,3 +267,33 @@ module _ (least : RrKey) (m es front : Sets) (type_zero : least.record_type.0 �
   below_where_some e rest b f to from =
       both_ways b (is_at_or_above least.name e.0.name) (λ t. is_at_or_above_complete least.name e.0.name (to t)) (λ t. from (is_at_or_above_sound least.name e.0.name t))
       ∙ sym (whole ∙ ap (first_is_below least.name) f)
+
+-- ---- whether a key is read
+
+none_follow : (k : RrKey) (m : Sets) → from_key k m ≡ [] → list_any (is_upto key_cmp k) (keys_of m) ≡ false
+none_follow k [] h = refl
+none_follow k (e ∷ m) h = by (is_upto key_cmp k e.0) h (none_follow k m)
+  where
+    by : (b : Bool) → cond (b && true) (e ∷ from_key k m) (from_key k m) ≡ [] → (from_key k m ≡ [] → list_any (is_upto key_cmp k) (keys_of m) ≡ false)
+        → b || list_any (is_upto key_cmp k) (keys_of m) ≡ false
+    by true g ih = absurd cc
+    by false g ih = ih g
+
+some_follow : (k : RrKey) (m rest : Sets) (f : RrKey × RRset) → from_key k m ≡ f ∷ rest → list_any (is_upto key_cmp k) (keys_of m) ≡ true
+some_follow k [] rest f h = absurd cc
+some_follow k (e ∷ m) rest f h = by (is_upto key_cmp k e.0) h (some_follow k m rest f)
+  where
+    by : (b : Bool) → cond (b && true) (e ∷ from_key k m) (from_key k m) ≡ f ∷ rest → (from_key k m ≡ f ∷ rest → list_any (is_upto key_cmp k) (keys_of m) ≡ true)
+        → b || list_any (is_upto key_cmp k) (keys_of m) ≡ true
+    by true g ih = refl
+    by false g ih = ih g
+
+module _ (least : RrKey) (m es range : Sets) (is_least : least.record_type.0 ≡ 0) (same : es ≡ m) (between : range ≡ from_key least es) where
+  of_range : from_key (first_key least.name) m ≡ range
+  of_range = ap (λ (t : ℕ). from_key (key least.name t) m) (sym is_least) ∙ ap (from_key least) (sym same) ∙ sym between
+
+  pub unread : (n : ℕ) → range ≡ [] → n ≡ cond (has_key_from m least.name) (one_more n) n
+  unread n h = ap (λ b. cond b (one_more n) n) (sym (none_follow (first_key least.name) m (of_range ∙ h)))
+
+  pub read : (n : ℕ) (rest : Sets) (e : RrKey × RRset) → range ≡ e ∷ rest → one_more n ≡ cond (has_key_from m least.name) (one_more n) n
+  read n rest e h = ap (λ b. cond b (one_more n) n) (sym (some_follow (first_key least.name) m rest e (of_range ∙ h)))

@@ -93,6 +93,10 @@ IsZone-with_signatures es made = IsZone-standing es (with_signatures es made) (S
 pub IsZone-stepped_under : (apex : RrKey) (es : Sets) → IsZone es → IsZone (stepped_under apex es)
 IsZone-stepped_under apex es = IsZone-standing es (stepped_under apex es) (StandAs-stepped_under apex es)
 
+-- the keys are what they were
+pub keys_renewed : (apex : RrKey) (es : Sets) (made : List (List Record)) → keys_of (stepped_under apex (with_signatures es made)) ≡ keys_of es
+keys_renewed apex es made = keys_of-standing (with_signatures es made) (stepped_under apex (with_signatures es made)) (StandAs-stepped_under apex (with_signatures es made)) ∙ keys_of-standing es (with_signatures es made) (StandAs-with_signatures es made)
+
 -- where no set stands under `apex`, none is stepped
 pub stepped_none : (apex : RrKey) (es : Sets) → lookup (key_eq apex) es ≡ None → stepped_under apex es ≡ es
 stepped_none apex [] h = refl

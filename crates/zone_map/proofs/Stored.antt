@@ -19,7 +19,7 @@ use Rattle.zone_map.specs.Zones.{Sets, set_at, put, without, IsStoredAt, IsZone}
 
 -- ---- keys that ascend
 
-all_above : (b k : RrKey) (ks : List RrKey) → key_cmp b k ≡ Less → AllByRecursion (λ q. key_cmp k q ≡ Less) ks → AllByRecursion (λ q. key_cmp b q ≡ Less) ks
+pub all_above : (b k : RrKey) (ks : List RrKey) → key_cmp b k ≡ Less → AllByRecursion (λ q. key_cmp k q ≡ Less) ks → AllByRecursion (λ q. key_cmp b q ≡ Less) ks
 all_above b k [] h a = tt
 all_above b k (q ∷ ks) h a = (key_cmp_total.trans b k q h a.0, all_above b k ks h a.1)
 

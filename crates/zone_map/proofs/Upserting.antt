@@ -85,7 +85,7 @@ module _ (s : RRset) (r : Record) (serial : ℕ) (w : RRset) where
   of_data d e = of_other (stores s.records d) e
 
 -- a set that took a record may stand under the record's name and type
-inserted_stored : (s : RRset) (r : Record) (serial : ℕ) (w : RRset) → lower s.owner ≡ lower r.name → s.record_type ≡ type_of r.rdata → IsSet s.owner s.record_type s.records
+pub inserted_stored : (s : RRset) (r : Record) (serial : ℕ) (w : RRset) → lower s.owner ≡ lower r.name → s.record_type ≡ type_of r.rdata → IsSet s.owner s.record_type s.records
     → inserted s r serial ≡ Some w → IsStoredAt (lower r.name) (type_of r.rdata) w
 inserted_stored s r serial w o k i e =
     let parts = of_data s r serial w r.rdata e in
@@ -96,7 +96,7 @@ inserted_stored s r serial w o k i e =
       set = IsSet-inserted s r serial w (same_from_lower r.name s.owner (sym o)) (sym k) i e;
     }
 
-IsSet-empty : (owner : Name) (t : ℕ) → IsSet owner t []
+pub IsSet-empty : (owner : Name) (t : ℕ) → IsSet owner t []
 IsSet-empty owner t =
     record {
       owners = λ k d h. absurd (omega arith);

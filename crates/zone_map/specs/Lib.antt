@@ -8,3 +8,5 @@ pub mod Fronts
 pub mod Chains
 pub mod SearchLaws
 pub mod Renewals
+pub mod Counts
+pub mod DenialOwners

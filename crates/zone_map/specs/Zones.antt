@@ -5,8 +5,9 @@ use Rattle.std.specs.List.Sorted.{IsStrictlySortedBy}
 use Rattle.std.specs.Map.{lookup, remove_entry, keys_of, update_all}
 use Rattle.std.specs.BTreeMap.{insert_entry}
 use Rattle.zone_proto.specs.declared.rr_key.RrKey.{RrKey}
-use Rattle.zone_proto.specs.Keys.{key, key_cmp, key_eq}
+use Rattle.zone_proto.specs.Keys.{key, first_key, key_cmp, key_eq}
 use Rattle.zone_proto.specs.Names.{Name, lower, name_eq, is_at_or_above}
+use Rattle.zone_proto.specs.Order.{is_upto}
 use Rattle.zone_proto.specs.Sets.{RRset, IsSet}
 
 -- the map, as its entries in the order of their keys
@@ -36,6 +37,10 @@ types_at m n = filter_map (λ e. cond (name_eq n e.0.name) (Some e.0.record_type
 -- n, or a name below it, owns a set: n is then a name of the tree, though perhaps an empty one (RFC 4592 section 2.2.2)
 abbrev pub owns_at_or_below : Sets → Name → Bool
 owns_at_or_below m n = list_any (is_at_or_above n) (names_of m)
+
+-- a key stands at or after the first one that a name may have
+abbrev pub has_key_from : Sets → Name → Bool
+has_key_from m n = list_any (is_upto key_cmp (first_key n)) (keys_of m)
 
 -- the map with a set put under its name and type, in the place of the one that stood there
 abbrev pub put : Sets → Name → ℕ → RRset → Sets

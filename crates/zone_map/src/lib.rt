@@ -7,8 +7,13 @@
 #![tactic(auto)]
 
 mod at_name;
+mod denial_index;
+mod denial_owners;
+mod reads;
 mod record_map;
 pub mod search;
 pub mod wildcard;
 
+pub use denial_owners::{DenialOwners, LastOwners};
+pub use reads::Reads;
 pub use record_map::RecordMap;

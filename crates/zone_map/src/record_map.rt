@@ -1,35 +1,41 @@
-ghost use Rattle.std.specs.Prelude.{◌≡◌, [], true, IfOk, IfErr, OnOk, OnErr, IfSome, IsOkUnless, None, Some, is_some, unwrap_or, option_copied};
+ghost use Rattle.std.specs.Prelude.{◌≡◌, [], true, IfOk, IfErr, OnOk, OnErr, IfSome, IsOkUnless, None, Some, is_some, cond, unwrap_or, option_copied};
 ghost use Rattle.zone_proto.specs.Keys.{key as key_at};
 ghost use Rattle.zone_proto.specs.Names.{lower};
 ghost use Rattle.zone_proto.specs.Data.{type_of};
 ghost use Rattle.zone_proto.specs.Sets.{inserted, empty_set};
 ghost use Rattle.zone_proto.specs.Results.{IsInsertion};
 ghost use Rattle.zone_map.specs.AnyTypes.{is_preferred, any_type};
-ghost use Rattle.zone_map.specs.Zones.{set_at, owns, owns_at_or_below, put, without, IsStoredAt, IsZone};
+ghost use Rattle.zone_map.specs.Counts.{one_more};
+ghost use Rattle.zone_map.specs.Zones.{set_at, has_key_from, owns, owns_at_or_below, put, without, IsStoredAt, IsZone};
 ghost use Rattle.zone_map.specs.Upserts.{upserted, with_record, clash, clashes, is_denial_type, CnamesStandAlone};
 
+mod denials;
 mod entries;
 mod renewal;
 
+use crate::denial_index::DenialIndex;
+use crate::reads::Reads;
 use std::alloc::Global;
 use std::collections::BTreeMap;
 use std::marker::Model;
 use zone_proto::{DNSClass, LowerName, ProtoError, Record, RecordSet, RecordType, RrKey};
 
-/// The record sets of a zone by their keys.
+/// The record sets of a zone by their keys, and an index of the owners of its sets of denial.
 #[derive(Drop)]
 pub struct RecordMap {
     sets: BTreeMap<RrKey, RecordSet>,
+    denials: DenialIndex,
 }
 
 impl Model for RecordMap {
-    ghost use Rattle.zone_map.specs.Zones.{Sets, IsZone};
+    ghost use Rattle.zone_map.specs.DenialOwners.{IsIndexed};
+    ghost use Rattle.zone_map.specs.Zones.{Sets};
 
     ghost Value = { Sets };
 
     ghost view = { λ m. m.sets.entries };
 
-    ghost invariant = { λ m. IsZone m.sets.entries };
+    ghost invariant = { λ m. IsIndexed m.sets.entries m.denials };
 }
 
 /// What stands at a name for a record that is to be inserted there.
@@ -48,6 +54,7 @@ impl RecordMap {
     {
         RecordMap {
             sets: BTreeMap::new(alloc),
+            denials: DenialIndex::new(alloc),
         }
     }
 
@@ -79,9 +86,17 @@ impl RecordMap {
         ensures refused { IfErr result (λ refused. refused ≡ set) }
         ensures same { OnErr result (self.new ≡ self.old) }
     {
+        // Its place in the index comes first: to give that back takes no memory.
+        let Ok(()) = self.denials.insert(&key) else {
+            return Err(set);
+        };
         match self.sets.insert(key, set) {
             Ok(before) => Ok(before),
-            Err(failed) => Err(failed.value.1),
+            Err(failed) => {
+                let (key, set) = failed.value;
+                self.denials.remove(&key);
+                Err(set)
+            }
         }
     }
 
@@ -90,6 +105,7 @@ impl RecordMap {
         ensures before { result ≡ set_at self.old key.now.name key.now.record_type.0 }
         ensures removed { self.new ≡ without self.old key.now.name key.now.record_type.0 }
     {
+        self.denials.remove(key);
         self.sets.remove(key)
     }
 
@@ -97,29 +113,37 @@ impl RecordMap {
     pub fn clear(&mut self)
         ensures { self.new ≡ [] }
     {
+        self.denials.clear();
         self.sets.clear();
     }
 }
 
 impl RecordMap {
     /// Whether a name, or a name below it, owns a set, so that it is there, though perhaps as an empty non-terminal (RFC 4592
-    /// section 2.2.2). Refused by `Memory` alone.
-    pub fn owns_at_or_below(&self, name: &LowerName) -> Result<bool, ProtoError>
+    /// section 2.2.2). It reads one key, the first from the name's first key on, where there is one, and counts it. Refused by
+    /// `Memory` alone.
+    pub fn owns_at_or_below(&self, name: &LowerName, reads: &mut Reads) -> Result<bool, ProtoError>
         ensures answer { IfOk result (λ owned. owned ≡ owns_at_or_below self.now name.now) }
+        ensures counted { OnOk result (reads.new ≡ cond (has_key_from self.now name.now) (one_more reads.old) reads.old) }
         ensures err { IsOkUnless result ProtoError.Memory }
+        ensures uncounted { OnErr result (reads.new ≡ reads.old) }
     {
-        let least = RrKey::new(name.clone()?, RecordType(0));
-        Ok(self.owns_from(&least))
+        let least = RrKey::first_of(name)?;
+        Ok(self.owns_from(&least, reads))
     }
 
     /// Whether the name of its least key, or a name below it, owns a set: descendants stand together, and the first of
     /// them after the name's least key.
-    fn owns_from(&self, least: &RrKey) -> bool
+    fn owns_from(&self, least: &RrKey, reads: &mut Reads) -> bool
         requires { least.now.record_type.0 ≡ 0 }
-        ensures { result ≡ owns_at_or_below self.now least.now.name }
+        ensures owned { result ≡ owns_at_or_below self.now least.now.name }
+        ensures counted { reads.new ≡ cond (has_key_from self.now least.now.name) (one_more reads.old) reads.old }
     {
         match self.sets.range(least..).next() {
-            Some((first, _)) => least.name.zone_of(&first.name),
+            Some((first, _)) => {
+                reads.add_one();
+                least.name.zone_of(&first.name)
+            }
             None => false,
         }
     }
@@ -217,7 +241,7 @@ impl RecordMap {
         if !set.insert(record, serial)? {
             return Ok(false);
         }
-        match self.sets.insert(key, set) {
+        match self.put(key, set) {
             Ok(_) => Ok(true),
             Err(_) => Err(ProtoError::Memory),
         }

@@ -1,5 +1,6 @@
 ghost use Rattle.std.specs.Prelude.{◌≢◌};
 
+use crate::circle::circle;
 use crate::command::Command;
 use crate::demo_signer::DemoSigner;
 use crate::sha1_hash::Sha1Hash;
@@ -56,6 +57,7 @@ pub fn carry_out(
             options,
         } => lookup(served, &name, record_type, options, answer),
         Command::Deny(key) => deny(&served.zone, &key, answer),
+        Command::Circle => circle(&served.zone, answer),
         Command::Transfer(options) => transfer(served, options, answer),
     }
 }

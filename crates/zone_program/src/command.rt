@@ -29,6 +29,8 @@ pub enum Command {
     },
     /// `deny NAME TYPE`: lists the records that deny a name, or a type of it.
     Deny(RrKey),
+    /// `circle`: lists the owners of the zone's NSEC sets, or of its NSEC3 sets, as its kind says.
+    Circle,
     /// `transfer`, or `transfer dnssec` where signatures are wanted: lists the whole zone.
     Transfer(LookupOptions),
 }
@@ -52,6 +54,7 @@ pub fn read_command(alloc: Global, line: &[u8]) -> Result<Option<Command>, TextE
             options: read_options(&mut words)?,
         },
         b"deny" => Command::Deny(read_key(alloc, &mut words)?),
+        b"circle" => Command::Circle,
         b"transfer" => Command::Transfer(read_options(&mut words)?),
         _ => return Err(TextError::BadText),
     };

@@ -5,6 +5,7 @@
 ghost use Rattle.std.specs.Prelude.{◌≡◌, ◌≢◌, ◌≤◌, length, IsErrOf};
 
 mod answers;
+mod circle;
 mod command;
 mod demo_signer;
 mod lines;

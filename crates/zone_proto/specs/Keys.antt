@@ -10,6 +10,10 @@ use Rattle.zone_proto.specs.Ranges.{IsInRange, octets_of_labels}
 abbrev pub key : Name → ℕ → RrKey
 key n t = record { name = n; record_type = record { 0 = t } }
 
+-- the least key that a name may have
+abbrev pub first_key : Name → RrKey
+first_key n = key n 0
+
 -- the order of keys: by name, in the canonical order, and then by the type's number
 abbrev pub key_cmp : RrKey → RrKey → Ordering
 key_cmp j k = ordering_then (name_cmp j.name k.name) (nat_cmp j.record_type.0 k.record_type.0)

@@ -1,6 +1,6 @@
 //! Laws of the definitions that the calls of this crate are proved to meet. Each is an empty function whose contract is
 //! the law, for every value, so a program has no need to call one.
-ghost use Rattle.std.specs.Prelude.{◌≡◌, ◌↔◌, ◌⊎◌, ℕ, List, [], length, Some, None, IsTrue};
+ghost use Rattle.std.specs.Prelude.{◌≡◌, ◌↔◌, ◌⊎◌, ℕ, List, [], length, Some, None, IsTrue, IsFalse};
 ghost use Rattle.std.specs.declared.cmp.Ordering.TheVariants.{Less, Equal};
 ghost use Rattle.std.specs.Cmp.{IsTotalOrder};
 ghost use Rattle.std.specs.List.{AllByRecursion};
@@ -8,13 +8,13 @@ ghost use Rattle.std.specs.Ordering.{nat_cmp};
 ghost use Rattle.zone_proto.specs.Base32.{base32_text};
 ghost use Rattle.zone_proto.specs.Before.{IsBefore};
 ghost use Rattle.zone_proto.specs.Names.{Name, octets_cmp, name_cmp, caseless_cmp, lower, is_above, is_at_or_above, IsAbove, IsAtOrAbove, IsName};
-ghost use Rattle.zone_proto.specs.Order.{greatest, least, IsGreatest, IsLeast};
+ghost use Rattle.zone_proto.specs.Order.{greatest, is_before, least, IsGreatest, IsLeast};
 ghost use Rattle.zone_proto.specs.Ranges.{IsOctet};
 ghost use Rattle.zone_proto.specs.Faults.{IsTextFault};
 ghost use Rattle.zone_proto.specs.Text.{name_text};
 ghost use Rattle.zone_proto.specs.TextForm.{IsNameText};
 ghost use Rattle.zone_proto.specs.HashedOwners.{hashed_owner};
-ghost use Rattle.zone_proto.specs.Keys.{key_cmp};
+ghost use Rattle.zone_proto.specs.Keys.{key, first_key, key_cmp};
 ghost use Rattle.zone_proto.specs.declared.error.ProtoError.{ProtoError};
 ghost use Rattle.zone_proto.specs.declared.rr_key.RrKey.{RrKey};
 
@@ -54,6 +54,11 @@ pub fn equal_is_identical()
 /// A name stands before each name below it.
 pub fn ancestor_is_first()
     ensures { (a n : Name) → IsAbove a n → name_cmp a n ≡ Less }
+{}
+
+/// The first key of a name is one: no key of the name, or of a name below it, stands before it.
+pub fn first_key_is_first()
+    ensures { (a n : Name) (t : ℕ) → IsAtOrAbove a n → IsFalse (is_before key_cmp (key n t) (first_key a)) }
 {}
 
 /// The names at and below a name stand together: a name between two of them is one of them.

@@ -1,6 +1,6 @@
 // Keys of record sets, in their order.
-ghost use Rattle.std.specs.Prelude.{◌≡◌};
-ghost use Rattle.zone_proto.specs.Keys.{key, key_eq, IsKeyInRange};
+ghost use Rattle.std.specs.Prelude.{◌≡◌, IfOk};
+ghost use Rattle.zone_proto.specs.Keys.{key, first_key, key_eq, IsKeyInRange};
 ghost use Rattle.zone_proto.specs.Results.{IsCopy};
 
 use crate::error::ProtoError;
@@ -27,6 +27,15 @@ impl RrKey {
         // Its clauses say that the octets are in range.
         let _ = name.labels();
         RrKey { name, record_type }
+    }
+
+    /// The key of a name and type 0. No key of the name, or of a name below it, stands before it, so what a map has of these
+    /// stands from it on. Refused only for want of memory.
+    pub fn first_of(name: &LowerName) -> Result<RrKey, ProtoError>
+        ensures copy { IsCopy result (first_key name.now) }
+        ensures range { IfOk result (λ first. IsKeyInRange first) }
+    {
+        Ok(RrKey::new(name.clone()?, RecordType(0)))
     }
 
     /// Whether the keys are equal, as `==` says. The types are compared first, so that of keys of different types no name is

@@ -13,7 +13,7 @@ use Rattle.zone_search.specs.declared.found.Found.{Found}
 use Rattle.zone_search.specs.FoundSets.{found_set}
 use Rattle.zone_search.specs.Runs.{with_new}
 use Rattle.zone_search.specs.Additionals.{run_target, names_host, leads_to, found_sets, listed_with, AreSearchedNames, IsFollowed, AreCounted, AreSearches, AreAdditionals, AreListed}
-use Rattle.zone_search.specs.Searches.{one_more, searches_more}
+use Rattle.zone_map.specs.Counts.{one_more, counted_more}
 use Rattle.zone_map.proofs.Chains.{names_equiv}
 use Rattle.zone_search.proofs.ChainSearches.{at_most_one, counted_first}
 use Rattle.zone_search.proofs.Chasing.{asked}
@@ -58,7 +58,7 @@ module _ (m : Sets) (signed : Bool) (t : ℕ) where
     -- what is left of the run, listed and counted onto what is there, gives what the whole run gives
     pub record Goes (had : List RRset) (seen : List Name) (name : Name) (searches : ℕ) : Type 0 where
       pub listing : listed_with m signed t had (left seen (Some name)) ≡ listed_with m signed t begun (left first (Some from))
-      pub count : searches_more (length (left seen (Some name))) searches ≡ searches_more (length (left first (Some from))) before
+      pub count : counted_more (length (left seen (Some name))) searches ≡ counted_more (length (left first (Some from))) before
       -- also where the count has stopped at its greatest number
       pub bounded : searches + length (left seen (Some name)) ≤ before + length (left first (Some from))
 
@@ -77,7 +77,7 @@ module _ (m : Sets) (signed : Bool) (t : ℕ) where
           (let rest = left (seen ++ name ∷ []) (Some next) in
           record {
             listing = sym (listed_found had name s rest f) ∙ sym (ap (listed_with m signed t had) (fewer s next f r)) ∙ goes.listing;
-            count = counted_first (length rest) searches ∙ sym (ap (λ ns. searches_more (length ns) searches) (fewer s next f r)) ∙ goes.count;
+            count = counted_first (length rest) searches ∙ sym (ap (λ ns. counted_more (length ns) searches) (fewer s next f r)) ∙ goes.count;
             bounded = let k : length (left seen (Some name)) ≡ 1 + length rest = ap length (fewer s next f r) ∙ omega arith in omega (arith, k, goes.bounded, at_most_one searches);
           }))))
 
@@ -102,7 +102,7 @@ module _ (m : Sets) (signed : Bool) (t : ℕ) where
             names = left first (Some from);
             searched = left_searched first (Some from);
             listed = w ∙ sym (listed_unfound had name [] f) ∙ sym (ap (listed_with m signed t had) last) ∙ goes.listing;
-            counted = counted ∙ sym (ap (λ ns. searches_more (length ns) searches) last) ∙ goes.count;
+            counted = counted ∙ sym (ap (λ ns. counted_more (length ns) searches) last) ∙ goes.count;
           }
 
       pub ends_nowhere : (s : RRset) → found m signed name t ≡ Some s → run_target t s ≡ None → new ≡ with_new same_set had s → IsFollowed m signed first t from begun new before after
@@ -112,7 +112,7 @@ module _ (m : Sets) (signed : Bool) (t : ℕ) where
             names = left first (Some from);
             searched = left_searched first (Some from);
             listed = w ∙ sym (listed_found had name s [] f) ∙ sym (ap (listed_with m signed t had) last) ∙ goes.listing;
-            counted = counted ∙ sym (ap (λ ns. searches_more (length ns) searches) last) ∙ goes.count;
+            counted = counted ∙ sym (ap (λ ns. counted_more (length ns) searches) last) ∙ goes.count;
           }
 
     -- before a turn they are so too
@@ -127,25 +127,25 @@ module _ (m : Sets) (signed : Bool) (t : ℕ) where
           names = left first (Some from);
           searched = left_searched first (Some from);
           listed = sym (ap (listed_with m signed t had) over) ∙ goes.listing;
-          counted = sym (ap (λ ns. searches_more (length ns) searches) over) ∙ goes.count;
+          counted = sym (ap (λ ns. counted_more (length ns) searches) over) ∙ goes.count;
         }
 
 -- ---- runs one after the other
 
-counted_after : (a b n : ℕ) → searches_more (a + b) n ≡ searches_more b (searches_more a n)
-counted_after a zero n = ap (λ k. searches_more k n) (omega arith)
-counted_after a (suc b) n = let k : a + suc b ≡ suc (a + b) = omega arith in ap (λ i. searches_more i n) k ∙ ap one_more (counted_after a b n)
+counted_after : (a b n : ℕ) → counted_more (a + b) n ≡ counted_more b (counted_more a n)
+counted_after a zero n = ap (λ k. counted_more k n) (omega arith)
+counted_after a (suc b) n = let k : a + suc b ≡ suc (a + b) = omega arith in ap (λ i. counted_more i n) k ∙ ap one_more (counted_after a b n)
 
-counted_twice : (before between after a b : ℕ) → between ≡ searches_more a before → after ≡ searches_more b between → after ≡ searches_more (a + (b + 0)) before
-counted_twice before between after a b e f = let k : a + (b + 0) ≡ a + b = omega arith in f ∙ ap (searches_more b) e ∙ sym (counted_after a b before) ∙ sym (ap (λ i. searches_more i before) k)
+counted_twice : (before between after a b : ℕ) → between ≡ counted_more a before → after ≡ counted_more b between → after ≡ counted_more (a + (b + 0)) before
+counted_twice before between after a b e f = let k : a + (b + 0) ≡ a + b = omega arith in f ∙ ap (counted_more b) e ∙ sym (counted_after a b before) ∙ sym (ap (λ i. counted_more i before) k)
 
-counted_once : (before after a : ℕ) → after ≡ searches_more a before → after ≡ searches_more (a + 0) before
-counted_once before after a e = let k : a + 0 ≡ a = omega arith in e ∙ sym (ap (λ i. searches_more i before) k)
+counted_once : (before after a : ℕ) → after ≡ counted_more a before → after ≡ counted_more (a + 0) before
+counted_once before after a e = let k : a + 0 ≡ a = omega arith in e ∙ sym (ap (λ i. counted_more i before) k)
 
 module _ (m : Sets) (signed : Bool) (n : Name) (t : ℕ) (from : Name) where
   -- the searches of the two runs for a host
   pub two_runs : (start other : List Name) (copy : Name) (had some sets : List RRset) (before between after : ℕ) → names_host t ≡ true → start ≡ [] → other ≡ [] → copy ≡ from
-      → IsFollowed m signed start A copy had some before between → IsFollowed m signed other AAAA from some sets between after → (k : ℕ) × AreSearches m signed n t from k × (after ≡ searches_more k before)
+      → IsFollowed m signed start A copy had some before between → IsFollowed m signed other AAAA from some sets between after → (k : ℕ) × AreSearches m signed n t from k × (after ≡ counted_more k before)
   two_runs start other copy had some sets before between after h p q r f g =
       let k : ℕ = length f.names + (length g.names + 0) in
       let fs : AreSearchedNames m signed [] A (Some from) f.names = subst (λ x. AreSearchedNames m signed x A (Some from) f.names) p (subst (λ x. AreSearchedNames m signed start A (Some x) f.names) r f.searched) in
@@ -157,7 +157,7 @@ module _ (m : Sets) (signed : Bool) (n : Name) (t : ℕ) (from : Name) where
 
   -- those of the one run for any other type
   pub one_run : (start : List Name) (had sets : List RRset) (before after : ℕ) → names_host t ≡ false → start ≡ n ∷ [] → IsFollowed m signed start t from had sets before after
-      → (k : ℕ) × AreSearches m signed n t from k × (after ≡ searches_more k before)
+      → (k : ℕ) × AreSearches m signed n t from k × (after ≡ counted_more k before)
   one_run start had sets before after h p f =
       let k : ℕ = length f.names + 0 in
       let fs : AreSearchedNames m signed (n ∷ []) t (Some from) f.names = subst (λ x. AreSearchedNames m signed x t (Some from) f.names) p f.searched in (

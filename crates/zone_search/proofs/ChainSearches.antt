@@ -10,7 +10,7 @@ use Rattle.zone_proto.specs.Sets.{RRset}
 use Rattle.zone_map.specs.Zones.{Sets}
 use Rattle.zone_map.specs.Wildcards.{found}
 use Rattle.zone_map.specs.Chains.{cname_target, last_target, leads_on, chain_searches}
-use Rattle.zone_search.specs.Searches.{one_more, searches_more}
+use Rattle.zone_map.specs.Counts.{one_more, counted_more}
 use Rattle.zone_map.proofs.Chains.{rest_of, rest_none, rest_seen, rest_unfound, rest_more, searches_of, searches_none, searches_seen, searches_unfound, searches_step, chain_begins}
 
 abbrev names : List (Name × RRset) → List Name
@@ -111,6 +111,6 @@ module _ (m : Sets) (signed : Bool) (t : ℕ) where
 pub at_most_one : (n : ℕ) → one_more n ≤ n + 1
 at_most_one n = omega arith
 
-pub counted_first : (k n : ℕ) → searches_more k (one_more n) ≡ one_more (searches_more k n)
+pub counted_first : (k n : ℕ) → counted_more k (one_more n) ≡ one_more (counted_more k n)
 counted_first zero n = refl
 counted_first (suc k) n = ap one_more (counted_first k n)

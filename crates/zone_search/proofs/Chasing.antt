@@ -16,7 +16,7 @@ use Rattle.zone_map.specs.Zones.{Sets}
 use Rattle.zone_map.specs.Search.{direct}
 use Rattle.zone_map.specs.Wildcards.{found}
 use Rattle.zone_map.specs.Chains.{cname_target, chain, chain_links, chain_searches}
-use Rattle.zone_search.specs.Searches.{one_more, searches_more}
+use Rattle.zone_map.specs.Counts.{one_more, counted_more}
 use Rattle.zone_map.proofs.Chains.{rest_of, rest_none, rest_seen, rest_unfound, rest_more, searches_of, searches_none, searches_seen, searches_unfound, searches_step, chain_begins}
 use Rattle.zone_search.proofs.ChainSearches.{searches_are, at_most_one, counted_first}
 
@@ -52,7 +52,7 @@ module _ (m : Sets) (signed : Bool) (t : ℕ) (n : Name) (first : Found) (before
   pub record Goes (items : List Found) (seen : List Name) (next : Option Name) (searches : ℕ) : Type 0 where
     pub sets : map found_set items ++ map (λ (e : Name × RRset). e.1) (rest_of m signed t (8 - length items) seen next) ≡ found_set first ∷ map (λ (e : Name × RRset). e.1) whole
     pub lent : map lent_set items ++ map (λ (e : Name × RRset). direct m e.0 t) (rest_of m signed t (8 - length items) seen next) ≡ lent_set first ∷ map (λ (e : Name × RRset). direct m e.0 t) whole
-    pub count : searches_more (searches_of m signed t (8 - length items) seen next) searches ≡ searches_more (searches_of m signed t 7 (n ∷ []) (cname_target (found_set first))) before
+    pub count : counted_more (searches_of m signed t (8 - length items) seen next) searches ≡ counted_more (searches_of m signed t 7 (n ∷ []) (cname_target (found_set first))) before
     pub some : 0 < length items
     pub short : length items ≤ 8
     pub bounded : searches + 1 ≤ before + length items
@@ -87,7 +87,7 @@ module _ (m : Sets) (signed : Bool) (t : ℕ) (n : Name) (first : Found) (before
             ∙ sym (ap (λ r. map lent_set items ++ map (λ (e : Name × RRset). direct m e.0 t) r) rest) ∙ g.lent;
         count =
             counted_first (searches_of m signed t j (seen ++ target ∷ []) (cname_target (found_set f))) searches
-            ∙ sym (ap (λ q. searches_more q searches) (searches_step m signed t (8 - length items) j seen (Some target) target (found_set f) d refl new is)) ∙ g.count;
+            ∙ sym (ap (λ q. counted_more q searches) (searches_step m signed t (8 - length items) j seen (Some target) target (found_set f) d refl new is)) ∙ g.count;
         some = omega (arith, longer);
         short = omega (arith, room, longer);
         bounded = omega (arith, g.bounded, longer, at_most_one searches);
@@ -106,7 +106,7 @@ module _ (m : Sets) (signed : Bool) (t : ℕ) (n : Name) (first : Found) (before
   -- nothing is left, and the names that were searched are counted
   pub record Ended (items : List Found) (seen : List Name) (next : Option Name) (searches after : ℕ) : Type 0 where
     pub rest : rest_of m signed t (8 - length items) seen next ≡ []
-    pub counted : after ≡ searches_more (searches_of m signed t (8 - length items) seen next) searches
+    pub counted : after ≡ counted_more (searches_of m signed t (8 - length items) seen next) searches
 
   module _ (items : List Found) (seen : List Name) (next : Option Name) (searches after : ℕ) where
     pub ends_full : 8 ≤ length items → after ≡ searches → Ended items seen next searches after
@@ -114,21 +114,21 @@ module _ (m : Sets) (signed : Bool) (t : ℕ) (n : Name) (first : Found) (before
         let z : 8 - length items ≡ 0 = omega (arith, h) in
         record {
           rest = ap (λ k. rest_of m signed t k seen next) z;
-          counted = e ∙ sym (ap (λ k. searches_more (searches_of m signed t k seen next) searches) z);
+          counted = e ∙ sym (ap (λ k. counted_more (searches_of m signed t k seen next) searches) z);
         }
 
     pub ends_at_no_target : next ≡ None → after ≡ searches → Ended items seen next searches after
     ends_at_no_target h e =
         record {
           rest = rest_none m signed t (8 - length items) seen next h;
-          counted = e ∙ sym (ap (λ k. searches_more k searches) (searches_none m signed t (8 - length items) seen next h));
+          counted = e ∙ sym (ap (λ k. counted_more k searches) (searches_none m signed t (8 - length items) seen next h));
         }
 
     pub ends_at_seen : (target : Name) → next ≡ Some target → list_any (name_eq target) seen ≡ true → after ≡ searches → Ended items seen next searches after
     ends_at_seen target h s e =
         record {
           rest = rest_seen m signed t (8 - length items) seen next target h s;
-          counted = e ∙ sym (ap (λ k. searches_more k searches) (searches_seen m signed t (8 - length items) seen next target h s));
+          counted = e ∙ sym (ap (λ k. counted_more k searches) (searches_seen m signed t (8 - length items) seen next target h s));
         }
 
     pub ends_unfound : (target : Name) → length items < 8 → next ≡ Some target → list_any (name_eq target) seen ≡ false → found m signed target t ≡ None → after ≡ one_more searches
@@ -137,7 +137,7 @@ module _ (m : Sets) (signed : Bool) (t : ℕ) (n : Name) (first : Found) (before
         let d : 8 - length items ≡ suc (7 - length items) = omega (arith, room) in
         record {
           rest = rest_unfound m signed t (8 - length items) seen next target h f;
-          counted = e ∙ sym (ap (λ k. searches_more k searches) (searches_unfound m signed t (8 - length items) (7 - length items) seen next target d h s f));
+          counted = e ∙ sym (ap (λ k. counted_more k searches) (searches_unfound m signed t (8 - length items) (7 - length items) seen next target d h s f));
         }
 
   module _ (items : List Found) (seen : List Name) (next : Option Name) (searches after : ℕ) (g : Goes items seen next searches) (e : Ended items seen next searches after) where
@@ -153,5 +153,5 @@ module _ (m : Sets) (signed : Bool) (t : ℕ) (n : Name) (first : Found) (before
         ∙ sym (ap (λ r. map lent_set items ++ map (λ (e : Name × RRset). direct m e.0 t) r) e.rest) ∙ g.lent
         ∙ sym (ap (λ r. lent_set first ∷ map (λ (e : Name × RRset). direct m e.0 t) (drop 1 r)) (chain_begins m signed t n (found_set first)))
 
-    pub is_counted : after ≡ searches_more (chain_searches m signed n (found_set first) t) before
-    is_counted = e.counted ∙ g.count ∙ ap (λ k. searches_more k before) (searches_are m signed t n (found_set first))
+    pub is_counted : after ≡ counted_more (chain_searches m signed n (found_set first) t) before
+    is_counted = e.counted ∙ g.count ∙ ap (λ k. counted_more k before) (searches_are m signed t n (found_set first))

@@ -7,7 +7,7 @@ use Rattle.zone_proto.specs.declared.record.Record.{Record}
 use Rattle.zone_proto.specs.Keys.{key}
 use Rattle.zone_proto.specs.Names.{Name}
 use Rattle.zone_proto.specs.Sets.{RRset}
-use Rattle.zone_proto.specs.Types.{A, NS, CNAME, SOA, TXT, NSEC, DS, AXFR, IN}
+use Rattle.zone_proto.specs.Types.{A, NS, CNAME, SOA, TXT, NSEC, DS, IN}
 use Rattle.zone_map.specs.Zones.{Sets, owns, types_at, owners}
 use Rattle.zone_map.specs.Upserts.{clashes, upserted}
 use Rattle.zone_map.specs.Search.{nearest_delegation, referral, exact, direct}

@@ -14,7 +14,7 @@ use Rattle.zone_map.specs.Search.{is_address}
 use Rattle.zone_map.specs.Wildcards.{found}
 use Rattle.zone_map.specs.Chains.{cname_target}
 use Rattle.zone_search.specs.Runs.{AreSearched, with_new}
-use Rattle.zone_search.specs.Searches.{searches_more}
+use Rattle.zone_map.specs.Counts.{counted_more}
 
 -- ---- where a set leads
 
@@ -73,7 +73,7 @@ pub record IsFollowed (m : Sets) (signed : Bool) (seen : List Name) (t : ℕ) (f
   pub names : List Name
   pub searched : AreSearchedNames m signed seen t (Some from) names
   pub listed : sets ≡ listed_with m signed t had names
-  pub counted : after ≡ searches_more (length names) before
+  pub counted : after ≡ counted_more (length names) before
 
 -- runs for types, one after the other, from one name: the sets that are listed in the end
 abbrev pub AreListed : Sets → Bool → List Name → Name → List ℕ → List RRset → List RRset → Type 0

@@ -1,7 +1,6 @@
 pub mod Inner
 pub mod StartOfAuthority
 pub mod FoundSets
-pub mod Searches
 pub mod Runs
 pub mod Additionals
 pub mod AdditionalLaws

@@ -9,7 +9,7 @@ ghost use Rattle.zone_search.specs.FoundSets.{found_set, listed_sets};
 ghost use Rattle.zone_search.specs.Runs.{with_new};
 ghost use Rattle.zone_map.specs.Search.{is_address};
 ghost use Rattle.zone_map.specs.Zones.{IsZone};
-ghost use Rattle.zone_search.specs.Searches.{searches_more};
+ghost use Rattle.zone_map.specs.Counts.{counted_more};
 
 use crate::chain::{cname_target, push};
 use crate::found::Found;
@@ -41,7 +41,7 @@ impl<S: Signer> InnerInMemory<S> {
     ) -> Result<Option<Vec<Found<'_>>>, LookupError>
         ensures additionals { IfOk result (λ sets. AreAdditionals self.now.records lookup_options.dnssec_ok original_name.now original_type.0 next_name (listed_sets sets)) }
         ensures none { IfOk result (λ sets. listed_sets sets ≡ [] → sets ≡ None) }
-        ensures counted { IfOk result (λ _. (k : ℕ) × AreSearches self.now.records lookup_options.dnssec_ok original_name.now original_type.0 next_name k × (searches.new ≡ searches_more k searches.old)) }
+        ensures counted { IfOk result (λ _. (k : ℕ) × AreSearches self.now.records lookup_options.dnssec_ok original_name.now original_type.0 next_name k × (searches.new ≡ counted_more k searches.old)) }
         ensures at_most { searches.new ≤ searches.old + length (run_types original_type.0) * (1 + alias_sets self.now.records) }
         ensures err { IsOkUnless result LookupError.Memory }
     {

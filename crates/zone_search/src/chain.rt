@@ -3,7 +3,7 @@ ghost use Rattle.std.specs.Prelude.{◌≡◌, ◌≤◌, ◌+◌, ◌∷◌, �
 ghost use Rattle.zone_map.specs.Chains.{cname_target, chain, chain_links, chain_searches};
 ghost use Rattle.zone_search.specs.FoundSets.{found_set, lent_set};
 ghost use Rattle.zone_map.specs.Search.{direct};
-ghost use Rattle.zone_search.specs.Searches.{searches_more};
+ghost use Rattle.zone_map.specs.Counts.{counted_more};
 
 use crate::found::Found;
 use crate::inner_in_memory::InnerInMemory;
@@ -33,7 +33,7 @@ impl<S: Signer> InnerInMemory<S> {
         ensures chain { IfOk result (λ sets. map found_set sets.items ≡ chain self.now.records lookup_options.dnssec_ok name.now (found_set first.entry) query_type.0) }
         ensures lent { IfOk result (λ sets. map lent_set sets.items
             ≡ lent_set first.entry ∷ map (λ e. direct self.now.records e.0 query_type.0) (drop 1 (chain_links self.now.records lookup_options.dnssec_ok name.now (found_set first.entry) query_type.0))) }
-        ensures counted { IfOk result (λ _. searches.new ≡ searches_more (chain_searches self.now.records lookup_options.dnssec_ok name.now (found_set first.entry) query_type.0) searches.old) }
+        ensures counted { IfOk result (λ _. searches.new ≡ counted_more (chain_searches self.now.records lookup_options.dnssec_ok name.now (found_set first.entry) query_type.0) searches.old) }
         ensures at_most { searches.new ≤ searches.old + 7 }
         ensures err { IsOkUnless result LookupError.Memory }
     {

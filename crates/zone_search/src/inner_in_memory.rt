@@ -1,17 +1,21 @@
-ghost use Rattle.std.specs.Prelude.{◌≡◌, ◌⊎◌, [], ◌∷◌, ◌++◌, map, Ok, Err, IfOk, IfErr, OnOk, OnErr, IsOkUnless, is_some, unwrap_or, option_map, option_and_then, option_copied};
+ghost use Rattle.std.specs.Prelude.{◌≡◌, ◌⊎◌, [], ◌∷◌, ◌++◌, ◌≤◌, length, map, Ok, Err, IfOk, IfErr, OnOk, OnErr, IsOkUnless, cond, is_some, unwrap_or, option_map, option_and_then, option_copied};
 ghost use Rattle.zone_map.specs.AnyTypes.{any_type};
+ghost use Rattle.zone_map.specs.DenialOwners.{denial_owners, denial_owners_upto};
 ghost use Rattle.zone_proto.specs.Types.{NSEC};
 ghost use Rattle.zone_denial.specs.DenialSets.{denial_sets, own_set};
 ghost use Rattle.zone_denial.specs.NsecDenial.{closest_nsec, nsec_denial};
 ghost use Rattle.zone_denial.specs.Nsec3Lent.{query_denial};
+ghost use Rattle.zone_denial.specs.NsecCircle.{IsNsecCircle};
+ghost use Rattle.zone_denial.specs.OwnersRead.{owners_read, GrewByAtMost};
+ghost use Rattle.zone_proto.specs.Names.{Name};
 ghost use Rattle.zone_proto.specs.declared.error.ProtoError.{ProtoError};
 ghost use Rattle.zone_handler.specs.Errors.{error_of_proto};
 ghost use Rattle.zone_search.specs.FoundSets.{found_set, lent_set};
 ghost use Rattle.zone_map.specs.Search.{direct};
 ghost use Rattle.zone_map.specs.Wildcards.{found};
-ghost use Rattle.zone_search.specs.Searches.{one_more};
+ghost use Rattle.zone_map.specs.Counts.{one_more, counted_more};
 ghost use Rattle.zone_map.specs.Upserts.{upserted, CnamesStandAlone};
-ghost use Rattle.zone_map.specs.Zones.{set_at, owns_at_or_below, put, without, IsStoredAt, IsZone};
+ghost use Rattle.zone_map.specs.Zones.{set_at, has_key_from, owns_at_or_below, put, without, IsStoredAt, IsZone};
 
 mod securing;
 
@@ -24,7 +28,7 @@ use std::marker::Model;
 use zone_denial::denial::{self, NsecDenial};
 use zone_denial::{closest, nsec3_denial};
 use zone_handler::{LookupError, LookupOptions, Nsec3QueryInfo};
-use zone_map::{RecordMap, search, wildcard};
+use zone_map::{DenialOwners, Reads, RecordMap, search, wildcard};
 use zone_proto::{
     DNSClass, LowerName, Nsec3Hash, ProtoError, Record, RecordSet, RecordType, RrKey, Signer,
 };
@@ -135,7 +139,7 @@ impl<S: Signer> InnerInMemory<S> {
         ensures chosen { IfOk result (λ chosen. chosen.0 ≡ any_type self.now.records name.now) }
         ensures err { IsOkUnless result LookupError.Memory }
     {
-        let least = RrKey::new(name.clone()?, RecordType(0));
+        let least = RrKey::first_of(name)?;
         Ok(self.records.any_type(&least))
     }
 
@@ -148,7 +152,26 @@ impl<S: Signer> InnerInMemory<S> {
         ensures found { IfOk result (λ set. option_copied set ≡ closest_nsec self.now.records name.now) }
         ensures err { IsOkUnless result LookupError.Memory }
     {
-        Ok(closest::closest_nsec(&self.records, name)?)
+        self.closest_nsec_counted(name, &mut Reads::new())
+    }
+
+    /// The answer of [`InnerInMemory::closest_nsec`], and how many owners of NSEC sets are read for it: each adds one to
+    /// `reads`. They are read out of an index from `name` back, down to the owner of the closest set, or all of them where no
+    /// set reaches the name. So never more are read than owners that aren't after the name; and where the NSEC sets are a
+    /// circle, as in a zone that was secured by NSEC, at most one.
+    pub fn closest_nsec_counted(
+        &self,
+        name: &LowerName,
+        reads: &mut Reads,
+    ) -> Result<Option<&RecordSet>, LookupError>
+        ensures found { IfOk result (λ set. option_copied set ≡ closest_nsec self.now.records name.now) }
+        ensures counted { OnOk result (reads.new ≡ counted_more (length (owners_read self.now.records name.now)) reads.old) }
+        ensures most { length (owners_read self.now.records name.now) ≤ length (denial_owners_upto self.now.records NSEC name.now) }
+        ensures circle { (origin : Name) → IsNsecCircle origin self.now.records → length (owners_read self.now.records name.now) ≤ 1 }
+        ensures err { IsOkUnless result LookupError.Memory }
+        ensures refused { OnErr result (GrewByAtMost (length (owners_read self.now.records name.now)) reads.old reads.new) }
+    {
+        Ok(closest::closest_nsec_counted(&self.records, name, reads)?)
     }
 
     /// The NSEC3 sets that deny the query that `info` tells of in the zone of origin `zone`, or that prove that a wildcard
@@ -182,6 +205,26 @@ impl<S: Signer> InnerInMemory<S> {
             Ok(sets) => Ok(sets),
             Err(refusal) => Err(LookupError::from(refusal)),
         }
+    }
+
+    /// The owners of the sets of a type of denial, NSEC or NSEC3, in canonical order (RFC 4034 section 6.1), each once; none for
+    /// other types. They are lent out of an index that the zone keeps. Takes no memory.
+    pub fn denial_owners(&self, record_type: RecordType) -> DenialOwners<'_>
+        ensures { result ≡ denial_owners self.now.records record_type.0 }
+    {
+        self.records.denial_owners(record_type)
+    }
+
+    /// Whether `name`, or a name below it, owns a set, so that it is there, though perhaps as an empty non-terminal (RFC 4592
+    /// section 2.2.2). One key is read at most, the first at or after [`RrKey::first_of`] of the name, and adds one to `reads`:
+    /// the names below a name stand together. Refused by `Memory` alone, which reads none.
+    pub fn owns_at_or_below(&self, name: &LowerName, reads: &mut Reads) -> Result<bool, LookupError>
+        ensures answer { IfOk result (λ owns. owns ≡ owns_at_or_below self.now.records name.now) }
+        ensures counted { OnOk result (reads.new ≡ cond (has_key_from self.now.records name.now) (one_more reads.old) reads.old) }
+        ensures err { IsOkUnless result LookupError.Memory }
+        ensures uncounted { OnErr result (reads.new ≡ reads.old) }
+    {
+        Ok(self.records.owns_at_or_below(name, reads)?)
     }
 
     /// The signers, in the order in which they were added.
@@ -290,13 +333,5 @@ impl<S: Signer> InnerInMemory<S> {
                 Err(error)
             }
         }
-    }
-
-    /// Whether `name`, or a name below it, owns a set. Refused by `Memory` alone.
-    pub fn owns_at_or_below(&self, name: &LowerName) -> Result<bool, LookupError>
-        ensures answer { IfOk result (λ owns. owns ≡ owns_at_or_below self.now.records name.now) }
-        ensures err { IsOkUnless result LookupError.Memory }
-    {
-        Ok(self.records.owns_at_or_below(name)?)
     }
 }

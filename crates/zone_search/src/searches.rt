@@ -1,5 +1,5 @@
 ghost use Rattle.std.specs.Prelude.{◌≡◌};
-ghost use Rattle.zone_search.specs.Searches.{one_more};
+ghost use Rattle.zone_map.specs.Counts.{one_more};
 
 use std::marker::Model;
 

@@ -1,8 +1,9 @@
 pub use Rattle.zone_map.specs.Wildcards
+pub use Rattle.zone_map.specs.Counts
+pub use Rattle.zone_map.specs.DenialOwners
 pub use Rattle.zone_search.specs.Inner
 pub use Rattle.zone_search.specs.StartOfAuthority
 pub use Rattle.zone_search.specs.FoundSets
-pub use Rattle.zone_search.specs.Searches
 pub use Rattle.zone_search.specs.Runs
 pub use Rattle.zone_search.specs.Additionals
 pub use Rattle.zone_search.specs.AdditionalLaws

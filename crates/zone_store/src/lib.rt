@@ -7,7 +7,8 @@
 //!   `zone_transfer` (RFC 5936), which are calls of the traits `ZoneHandler` and `DnssecZoneHandler` of `zone_handler`.
 //!   [`PutRefused`] says why a set was not stored.
 //! - [`InnerInMemory`] is what a zone lends for reading: its record sets by name and type, and its signers. [`Searches`] counts
-//!   what is searched among them, [`Found`] is a set that was found, and [`ZoneError`] says why there is none.
+//!   what is searched among them, [`Found`] is a set that was found, and [`ZoneError`] says why there is none. [`DenialOwners`]
+//!   lends the owners of its sets of denial, and [`Reads`] counts what is read of them.
 //! - [`program`] has the command language of `zonectl` over any reader and writer, with the signer and the hash of its
 //!   demonstrations.
 //! - [`laws`] has laws of the definitions: contracts of functions that do nothing. What the contracts of all these calls cite
@@ -23,4 +24,5 @@ pub mod program {
 }
 
 pub use zone_in_memory::{InMemoryZoneHandler, PutRefused, laws};
+pub use zone_map::{DenialOwners, Reads};
 pub use zone_search::{Found, InnerInMemory, Searches, ZoneError};

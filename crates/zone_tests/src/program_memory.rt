@@ -214,9 +214,10 @@ key 7
 secure 1000
 ";
 
-/// A query for a denial, and another line, which takes no memory.
+/// A query for a denial, and two other lines, which take no memory.
 const DENIED: &[u8] = b"deny z.example.com. A
 lookup z.example.com. A
+circle
 ";
 
 const DENIED_AGAIN: &[u8] = b"deny z.example.com. A
@@ -229,6 +230,9 @@ ok
 ok 2
 error Memory
 error NXDomain
+circle 2
+example.com.
+names-of-more-than-32-octets.example.com.
 proof 2
 example.com. 300 IN NSEC names-of-more-than-32-octets.example.com. SOA RRSIG NSEC DNSKEY
 names-of-more-than-32-octets.example.com. 300 IN NSEC example.com. A RRSIG NSEC
@@ -243,6 +247,9 @@ proof 2
 example.com. 300 IN NSEC names-of-more-than-32-octets.example.com. SOA RRSIG NSEC DNSKEY
 names-of-more-than-32-octets.example.com. 300 IN NSEC example.com. A RRSIG NSEC
 error NXDomain
+circle 2
+example.com.
+names-of-more-than-32-octets.example.com.
 proof 2
 example.com. 300 IN NSEC names-of-more-than-32-octets.example.com. SOA RRSIG NSEC DNSKEY
 names-of-more-than-32-octets.example.com. 300 IN NSEC example.com. A RRSIG NSEC
@@ -270,7 +277,7 @@ fn refusals_of_a_denial(alloc: Global, desk: &mut Desk) -> Option<usize> {
     None
 }
 
-/// A denial to which memory is refused, at each of its growths, is answered by that. The line after it is served, and once
+/// A denial to which memory is refused, at each of its growths, is answered by that. The lines after it are served, and once
 /// there is memory again the same denial is proved as ever.
 #[test]
 fn memory_is_refused_to_a_denial(rt: HostRuntime) -> Result<(), Fail> {

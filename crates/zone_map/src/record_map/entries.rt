@@ -5,6 +5,7 @@ ghost use Rattle.zone_proto.specs.Keys.{key_cmp};
 ghost use Rattle.zone_proto.specs.Names.{Name};
 ghost use Rattle.zone_map.specs.Zones.{set_at, last_at, AreStored, IsZone};
 
+use crate::denial_index::DenialIndex;
 use crate::record_map::RecordMap;
 use std::alloc::{AllocError, Global};
 use std::collections::BTreeMap;
@@ -22,7 +23,8 @@ impl RecordMap {
         ensures err { IsOkUnless result ProtoError.Memory }
     {
         let sets = collect_entries(alloc, entries)?;
-        Ok(RecordMap { sets })
+        let denials = DenialIndex::of_map(alloc, &sets)?;
+        Ok(RecordMap { sets, denials })
     }
 
     /// The sets by their keys, in the order of the keys. Takes no memory.

@@ -1,11 +1,29 @@
-use Rattle.std.proofs.Common.{sym, subst}
+use Rattle.std.proofs.Common.{◌∙◌, ap, sym, subst}
+use Rattle.std.specs.BTreeMap.{insert_entry}
+use Rattle.std.specs.Map.{remove_entry}
+use Rattle.zone_proto.specs.declared.rr_key.RrKey.{RrKey}
+use Rattle.zone_proto.specs.Keys.{key_cmp, key_eq}
+use Rattle.zone_proto.proofs.KeyOrder.{key_itself}
+use Rattle.zone_map.specs.DenialOwners.{owners_of}
 use Rattle.zone_map.specs.Zones.{IsZone}
+use Rattle.zone_map.proofs.OwnersKept.{put_removed}
 use Rattle.zone_map.proofs.Stored.{IsZone-put}
-use Rattle.zone_map.proofs.record_map.RecordMap.put.Goals.{in-Ok, in-Err}
 use Rattle.zone_map.proofs.record_map.RecordMap.put.Goals as goal
 
-pub invariant_of-self : goal.invariant_of-self
-invariant_of-self c = elim c.match-insert.branch [
-  | in-Ok w ↦ subst IsZone (sym w.in-Ok.ensures.entries) (IsZone-put c.self.inside.sets.entries c.args.key c.args.set c.self.invariant c.requires)
-  | in-Err w ↦ subst IsZone (sym w.in-Err.ensures.err) c.self.invariant
-]
+pub invariant_of-self-in-Ok-insert : goal.invariant_of-self-in-Ok-insert
+invariant_of-self-in-Ok-insert c =
+    record {
+      zone = subst IsZone (sym c.in-Ok-insert.ensures.entries) (IsZone-put c.self.inside.sets.entries c.args.key c.args.set c.self.invariant.zone c.requires);
+      index = c.in-Ok.ensures.ok c.self.inside.sets.entries c.args.set c.self.invariant.zone c.self.invariant.index ∙ ap owners_of (sym c.in-Ok-insert.ensures.entries);
+    }
+
+pub invariant_of-self-in-Err : goal.invariant_of-self-in-Err
+invariant_of-self-in-Err c =
+    let before = c.self.inside.sets.entries in
+    record {
+      zone = subst IsZone (sym c.in-Err.ensures.err) c.self.invariant.zone;
+      index =
+          c.remove.ensures (insert_entry key_cmp before c.args.key c.args.set) (c.in-Ok.ensures.ok before c.args.set c.self.invariant.zone c.self.invariant.index)
+          ∙ ap (λ (k : RrKey). owners_of (remove_entry (key_eq k) (insert_entry key_cmp before c.args.key c.args.set))) (ap (λ p. p.0) c.in-Err.ensures.value_returned)
+          ∙ ap owners_of (put_removed before c.args.key c.args.set c.in-Err.ensures.absent (key_itself c.args.key) ∙ sym c.in-Err.ensures.err);
+    }

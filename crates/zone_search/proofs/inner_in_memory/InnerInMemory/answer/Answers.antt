@@ -1,4 +1,4 @@
-use Rattle.std.proofs.Common.{ap, sym, ◌∙◌, subst, [], ◌∷◌, List}
+use Rattle.std.proofs.Common.{ap, sym, ◌∙◌, subst, List}
 use Rattle.std.specs.Prelude.{Some}
 use Rattle.std.proofs.lemmas.Result.{IfOk-weaker}
 use Rattle.zone_proto.specs.Sets.{RRset}

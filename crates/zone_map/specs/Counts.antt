@@ -1,0 +1,11 @@
+-- Counts that stop at the greatest number of 64 bits
+use Rattle.std.specs.Prelude.{ℕ, zero, suc, ◌+◌, ◌-◌, ◌^◌, min}
+
+-- one more
+abbrev pub one_more : ℕ → ℕ
+one_more n = min (n + 1) (2 ^ 64 - 1)
+
+-- k more
+abbrev pub counted_more : ℕ → ℕ → ℕ
+counted_more zero n = n
+counted_more (suc k) n = one_more (counted_more k n)

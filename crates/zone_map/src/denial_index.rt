@@ -1,0 +1,140 @@
+//! The index of the owners of sets of denial.
+ghost use Rattle.std.specs.Prelude.{◌≡◌, [], cond, IfOk, OnOk, OnErr, IsOkUnless, None, Some, option_map};
+ghost use Rattle.std.specs.BTreeMap.{insert_entry};
+ghost use Rattle.std.specs.BTreeSet.{insert_key, IsFromIterResult};
+ghost use Rattle.std.specs.Map.{remove_entry};
+ghost use Rattle.zone_proto.specs.Keys.{key_cmp, key_eq};
+ghost use Rattle.zone_proto.specs.Names.{name_cmp};
+ghost use Rattle.zone_proto.specs.Sets.{RRset};
+ghost use Rattle.zone_map.specs.DenialOwners.{owners_of};
+ghost use Rattle.zone_map.specs.Upserts.{is_denial_type};
+ghost use Rattle.zone_map.specs.Zones.{Sets, owners, IsZone};
+
+use std::alloc::{AllocError, Global};
+use std::collections::{BTreeMap, BTreeSet};
+use std::marker::Model;
+use zone_proto::{LowerName, ProtoError, RecordSet, RecordType, RrKey};
+
+/// The owners of the sets of either type of denial, in canonical order, kept beside the sets: the closest one to a name is found
+/// without a pass over the sets between them.
+#[derive(Drop)]
+pub(crate) struct DenialIndex {
+    nsec: BTreeSet<LowerName>,
+    nsec3: BTreeSet<LowerName>,
+}
+
+impl Model for DenialIndex {
+    ghost use Rattle.zone_map.specs.DenialOwners.{Owners};
+
+    ghost Value = { Owners };
+
+    ghost view = { λ index. record { nsec = index.nsec.keys; nsec3 = index.nsec3.keys } };
+}
+
+impl DenialIndex {
+    /// No owners. Takes no memory.
+    pub(crate) fn new(alloc: Global) -> DenialIndex
+        ensures { result ≡ owners_of [] }
+    {
+        DenialIndex {
+            nsec: BTreeSet::new(alloc),
+            nsec3: BTreeSet::new(alloc),
+        }
+    }
+
+    /// The owners in a map. Refused for want of memory alone.
+    pub(crate) fn of_map(
+        alloc: Global,
+        sets: &BTreeMap<RrKey, RecordSet>,
+    ) -> Result<DenialIndex, ProtoError>
+        ensures ok { IfOk result (λ index. index ≡ owners_of sets.now.entries) }
+        ensures err { IsOkUnless result ProtoError.Memory }
+    {
+        Ok(DenialIndex {
+            nsec: owners_of_type(alloc, sets, RecordType::NSEC)?,
+            nsec3: owners_of_type(alloc, sets, RecordType::NSEC3)?,
+        })
+    }
+
+    /// Takes in the owner of a key that is put into the map. Refused for want of memory alone, which changes nothing.
+    pub(crate) fn insert(&mut self, key: &RrKey) -> Result<(), ProtoError>
+        ensures ok { OnOk result ((m : Sets) (set : RRset) → IsZone m → self.old ≡ owners_of m → self.new ≡ owners_of (insert_entry key_cmp m key.now set)) }
+        ensures err { IsOkUnless result ProtoError.Memory }
+        ensures same { OnErr result (self.new ≡ self.old) }
+    {
+        if key.record_type == RecordType::NSEC {
+            insert_owner(&mut self.nsec, &key.name)
+        } else if key.record_type == RecordType::NSEC3 {
+            insert_owner(&mut self.nsec3, &key.name)
+        } else {
+            Ok(())
+        }
+    }
+
+    /// Takes out the owner of a key that is taken out of the map. Takes no memory.
+    pub(crate) fn remove(&mut self, key: &RrKey)
+        ensures { (m : Sets) → self.old ≡ owners_of m → self.new ≡ owners_of (remove_entry (key_eq key.now) m) }
+    {
+        if key.record_type == RecordType::NSEC {
+            self.nsec.remove(&key.name);
+        } else if key.record_type == RecordType::NSEC3 {
+            self.nsec3.remove(&key.name);
+        }
+    }
+
+    /// Takes all owners out. Takes no memory.
+    pub(crate) fn clear(&mut self)
+        ensures { self.new ≡ owners_of [] }
+    {
+        self.nsec.clear();
+        self.nsec3.clear();
+    }
+
+    /// The owners of the sets of a type, if it is one of denial.
+    pub(crate) fn owners(&self, record_type: RecordType) -> Option<&BTreeSet<LowerName>>
+        ensures { (m : Sets) → self.now ≡ owners_of m → option_map (λ set. set.now.keys) result ≡ cond (is_denial_type record_type.0) (Some (owners m record_type.0)) None }
+    {
+        match record_type {
+            RecordType::NSEC => Some(&self.nsec),
+            RecordType::NSEC3 => Some(&self.nsec3),
+            _ => None,
+        }
+    }
+}
+
+/// The owners of the sets of a type in a map.
+fn owners_of_type(
+    alloc: Global,
+    sets: &BTreeMap<RrKey, RecordSet>,
+    record_type: RecordType,
+) -> Result<BTreeSet<LowerName>, ProtoError>
+    ensures ok { IfOk result (λ names. names.keys ≡ owners sets.now.entries record_type.0) }
+    ensures err { IsOkUnless result ProtoError.Memory }
+{
+    let mut names = Vec::new(alloc);
+    for (key, _) in sets.iter() {
+        if key.record_type == record_type {
+            names.push(key.name.clone()?)?;
+        }
+    }
+    Ok(collect_names(alloc, names)?)
+}
+
+/// These names, each once, in canonical order.
+fn collect_names(alloc: Global, names: Vec<LowerName>) -> Result<BTreeSet<LowerName>, AllocError>
+    ensures { IfOk result (λ made. IsFromIterResult name_cmp names.items made) }
+{
+    names.into_iter().collect(alloc)
+}
+
+/// Puts an owner among others.
+fn insert_owner(owners: &mut BTreeSet<LowerName>, owner: &LowerName) -> Result<(), ProtoError>
+    ensures ok { OnOk result (owners.new.keys ≡ insert_key name_cmp owners.old.keys owner.now) }
+    ensures err { IsOkUnless result ProtoError.Memory }
+    ensures same { OnErr result (owners.new.keys ≡ owners.old.keys) }
+{
+    match owners.insert(owner.clone()?) {
+        Ok(_) => Ok(()),
+        Err(_) => Err(ProtoError::Memory),
+    }
+}
