@@ -5,11 +5,27 @@ use zone_handler::ZoneHandler;
 use zone_proto::{NxProofKind, RecordType};
 
 /// Lists the owners of the sets that deny what the zone doesn't hold: of its NSEC sets or of its NSEC3 sets, as its kind says. A
-/// zone without a kind has none to list.
+/// zone without a kind has none to list. Where a list finds no memory the answer says that in its place, and the next line can
+/// be served.
 pub fn circle(zone: &Zone, answer: &mut String) -> Result<(), AllocError> {
-    match denial_type(zone.nx_proof_kind()) {
-        Some(record_type) => write_owners(zone, record_type, answer),
-        None => answer.push_str("circle 0\n"),
+    let Some(record_type) = denial_type(zone.nx_proof_kind()) else {
+        return answer.push_str("circle 0\n");
+    };
+    let before = answer.len();
+    match write_owners(zone, record_type, answer) {
+        Ok(()) => Ok(()),
+        Err(_) => {
+            take_back(answer, before);
+            answer.push_str("error Memory\n")
+        }
+    }
+}
+
+/// Takes back what was written behind so many octets.
+fn take_back(answer: &mut String, before: usize) {
+    // It is one: characters are only written whole, and behind others. No contract says so of a write that is refused.
+    if answer.as_str().is_char_boundary(before) {
+        answer.truncate(before);
     }
 }
 
