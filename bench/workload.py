@@ -155,15 +155,17 @@ def nsec_records(adds):
 BASE32 = "0123456789abcdefghijklmnopqrstuv"
 
 
-def hashed(name):
-    """The digest of a name by SHA-1, without salt and iterations, in base32hex (RFC 5155 section 5)."""
+def hashed(name, iterations=0):
+    """The digest of a name by SHA-1, without salt, in base32hex (RFC 5155 section 5)."""
     labels = name.encode().split(b".")
-    wire = b"".join(bytes([len(label)]) + label for label in labels)
-    number = int.from_bytes(hashlib.sha1(wire).digest(), "big")
+    digest = b"".join(bytes([len(label)]) + label for label in labels)
+    for _ in range(1 + iterations):
+        digest = hashlib.sha1(digest).digest()
+    number = int.from_bytes(digest, "big")
     return "".join(BASE32[number >> shift & 31] for shift in range(155, -1, -5))
 
 
-def nsec3_records(adds):
+def nsec3_records(adds, iterations=0):
     """The NSEC3 records of the zone that these lines fill, by the digests of their names and in the order of these: one for
     each name that stands below no cut, and for each empty name above it, with the digest that comes next and the types that
     the name owns."""
@@ -173,10 +175,10 @@ def nsec3_records(adds):
         while owner != ORIGIN:
             owner = parent(owner)
             types.setdefault(owner, set())
-    listed = {hashed(name): type_list(kinds | {"RRSIG"} if kinds else kinds) for name, kinds in types.items()}
+    listed = {hashed(name, iterations): type_list(kinds | {"RRSIG"} if kinds else kinds) for name, kinds in types.items()}
     digests = sorted(listed)
     return {
-        digest: " ".join([f"{digest}.{ORIGIN} 300 IN NSEC3 1 0 0 - {after}", *listed[digest]])
+        digest: " ".join([f"{digest}.{ORIGIN} 300 IN NSEC3 1 0 {iterations} - {after}", *listed[digest]])
         for digest, after in zip(digests, [*digests[1:], digests[0]])
     }
 

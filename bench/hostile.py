@@ -1,0 +1,97 @@
+"""hostile.py PROGRAM: times a program in zones that were made to be slow, each beside a plain zone of the same size.
+
+Each zone is made twice, the second time with four times as many names, types or records. Times are taken as measure.py says.
+A record that is added is dropped with its set at once, and the figure is the mean of the two commands.
+
+Before it is timed, the program has to give the right answers in a small zone of each kind.
+"""
+
+import os
+import subprocess
+import sys
+
+from hostile_zones import FILLING, PEAK, RECORD, ZONES, aname_zone
+from measure import answers_rightly, quotient, shown, text, time_load, time_question
+from workload import ORIGIN
+
+# The size of the zones in which a program has to give the right answers.
+SMALL = 12
+
+
+def check(program):
+    """Ends the run unless the program gives the right answers in small zones, to each question twice."""
+    for make, _ in ZONES:
+        pair = make(SMALL)
+        for zone in (pair.slow, pair.plain):
+            if not answers_rightly(program, [zone.load, *zone.asked, *zone.asked]):
+                sys.exit(f"bench: {program} doesn't give the right answers: {pair.title}, or the plain zone beside it")
+
+
+def time_zone(program, zone):
+    """The figures of one run: what may be told of the zone, by its title, and those of the questions, by their places."""
+    session, per_record, memory = time_load(program, zone.load)
+    figures = {FILLING: per_record, RECORD: memory}
+    figures |= {i: time_question(session, question, len(question.commands)) for i, question in enumerate(zone.asked)}
+    figures[PEAK] = session.memory("VmHWM")
+    session.end()
+    return figures
+
+
+def least(program, zone, runs):
+    """The least of each figure in these runs."""
+    figures = [time_zone(program, zone) for _ in range(runs)]
+    return {key: min(it[key] for it in figures) for key in figures[0]}
+
+
+def figures_of(pair):
+    """What is told of a pair: the key of each figure, and its title in either zone."""
+    questions = zip(pair.slow.asked, pair.plain.asked)
+    return [(key, key, key) for key in pair.told] + [(i, slow.title, plain.title) for i, (slow, plain) in enumerate(questions)]
+
+
+def print_row(cells):
+    print(f"| {' | '.join(cells)} |", flush=True)
+
+
+def print_pair(make, sizes, program, runs):
+    """Makes a pair of zones in these sizes, and prints a row for each figure and size."""
+    pairs = [make(n) for n in sizes]
+    measured = [(least(program, pair.slow, runs), least(program, pair.plain, runs)) for pair in pairs]
+    for key, title, beside in figures_of(pairs[0]):
+        before = None
+        for n, (slow, plain) in zip(sizes, measured):
+            growth, ratio = shown(quotient(slow[key], before)), shown(quotient(slow[key], plain[key]))
+            print_row([pairs[0].title, title, str(n), shown(slow[key], title), growth, beside, shown(plain[key], beside), ratio])
+            before = slow[key]
+
+
+def print_searches(program, n):
+    """Prints how many names are searched for the address of the first of so many ANAME, each to the next. Each set of the
+    additional section is one of them, but the first, which is that ANAME."""
+    zone = aname_zone(n)
+    commands = text([*zone.load.commands, *zone.asked[0].commands])
+    output = subprocess.run([program, ORIGIN], input=commands, stdout=subprocess.PIPE, check=True).stdout
+    sets = next(int(line.split()[1]) for line in output.splitlines() if line.startswith(b"additional "))
+    print(f"\n{n} ANAME, each to the next: {sets - 1} names are searched; {n + 1} is the most that there may be")
+
+
+def main():
+    if len(sys.argv) != 2:
+        sys.exit("usage: bench/run hostile")
+    program = sys.argv[1]
+    runs = int(os.environ.get("RUNS", "3"))
+    part = int(os.environ.get("PART", "1"))
+    check(program)
+    cores = len(os.sched_getaffinity(0))
+    print(f"{cores} cores; microseconds for a command, the fastest of {runs} runs\n")
+    titles = ["Zone", "What", "n", "Figure", "Growth", "In a plain zone", "Figure", "Ratio"]
+    print_row(titles)
+    print(f"|{'---|' * len(titles)}")
+    for make, size in ZONES:
+        smaller = max(SMALL, size // part)
+        print_pair(make, [smaller, 4 * smaller], program, runs)
+    print_searches(program, max(SMALL, 1000 // part))
+
+
+if __name__ == "__main__":
+    main()
