@@ -11,7 +11,7 @@ import subprocess
 import sys
 
 from hostile_zones import FILLING, PEAK, RECORD, ZONES, aname_zone
-from measure import answers_rightly, quotient, shown, text, time_load, time_question
+from measure import ENOUGH, answers_rightly, quotient, shown, text, time_load, time_question
 from workload import ORIGIN
 
 # The size of the zones in which a program has to give the right answers.
@@ -27,9 +27,10 @@ def check(program):
                 sys.exit(f"bench: {program} doesn't give the right answers: {pair.title}, or the plain zone beside it")
 
 
-def time_zone(program, zone):
-    """The figures of one run: what may be told of the zone, by its title, and those of the questions, by their places."""
-    session, per_record, memory = time_load(program, zone.load)
+def time_zone(program, zone, told):
+    """The figures of one run: what may be told of the zone, by its title, and those of the questions, by their places. It is
+    loaded once, unless the time of that is told."""
+    session, per_record, memory = time_load(program, zone.load, ENOUGH if FILLING in told else 0.0)
     figures = {FILLING: per_record, RECORD: memory}
     figures |= {i: time_question(session, question, len(question.commands)) for i, question in enumerate(zone.asked)}
     figures[PEAK] = session.memory("VmHWM")
@@ -37,9 +38,9 @@ def time_zone(program, zone):
     return figures
 
 
-def least(program, zone, runs):
+def least(program, zone, told, runs):
     """The least of each figure in these runs."""
-    figures = [time_zone(program, zone) for _ in range(runs)]
+    figures = [time_zone(program, zone, told) for _ in range(runs)]
     return {key: min(it[key] for it in figures) for key in figures[0]}
 
 
@@ -53,16 +54,16 @@ def print_row(cells):
     print(f"| {' | '.join(cells)} |", flush=True)
 
 
-def print_pair(make, sizes, program, runs):
-    """Makes a pair of zones in these sizes, and prints a row for each figure and size."""
-    pairs = [make(n) for n in sizes]
-    measured = [(least(program, pair.slow, runs), least(program, pair.plain, runs)) for pair in pairs]
+def print_pair(make, n, program, runs):
+    """Measures the pair of zones of this size and of four times the size, and prints a row for each figure. The ratio is that
+    of the larger ones."""
+    pairs = [make(n), make(4 * n)]
+    measured = [[least(program, zone, it.told, runs) for zone in (it.slow, it.plain)] for it in pairs]
+    (slow, plain), (large_slow, large_plain) = measured
     for key, title, beside in figures_of(pairs[0]):
-        before = None
-        for n, (slow, plain) in zip(sizes, measured):
-            growth, ratio = shown(quotient(slow[key], before)), shown(quotient(slow[key], plain[key]))
-            print_row([pairs[0].title, title, str(n), shown(slow[key], title), growth, beside, shown(plain[key], beside), ratio])
-            before = slow[key]
+        sizes = [shown(slow[key], title), shown(large_slow[key], title), shown(quotient(large_slow[key], slow[key]))]
+        sizes_beside = [shown(plain[key], beside), shown(large_plain[key], beside)]
+        print_row([pairs[0].title, str(n), title, *sizes, beside, *sizes_beside, shown(quotient(large_slow[key], large_plain[key]))])
 
 
 def print_searches(program, n):
@@ -84,12 +85,11 @@ def main():
     check(program)
     cores = len(os.sched_getaffinity(0))
     print(f"{cores} cores; microseconds for a command, the fastest of {runs} runs\n")
-    titles = ["Zone", "What", "n", "Figure", "Growth", "In a plain zone", "Figure", "Ratio"]
+    titles = ["Zone", "n", "What", "At n", "At 4 n", "Growth", "In a plain zone", "At n", "At 4 n", "Ratio"]
     print_row(titles)
     print(f"|{'---|' * len(titles)}")
     for make, size in ZONES:
-        smaller = max(SMALL, size // part)
-        print_pair(make, [smaller, 4 * smaller], program, runs)
+        print_pair(make, max(min(SMALL, size), size // part), program, runs)
     print_searches(program, max(SMALL, 1000 // part))
 
 

@@ -244,7 +244,7 @@ def chain_of_stars(n):
 
 
 def chain_of_deep_stars(n):
-    return Pair("the same, of names of 100 labels", *chain_through_stars(n, "x." * 97))
+    return Pair("the same, with names of 100 labels", *chain_through_stars(n, "x." * 97))
 
 
 def aliases_in_a_ring(n):

@@ -71,8 +71,9 @@ class Session:
             sys.exit(f"bench: {self.program} ended with status {self.process.returncode}")
 
 
-def time_load(program, load):
-    """A session with the zone, the microseconds for a record of it, and the octets of memory."""
+def time_load(program, load, enough=ENOUGH):
+    """A session with the zone, the microseconds for a record of it, and the octets of memory. It is loaded by new processes
+    until that took so many seconds."""
     commands = text(load.commands)
     seconds, loads = 0.0, 0
     while True:
@@ -80,7 +81,7 @@ def time_load(program, load):
         empty = session.memory("VmRSS")
         seconds += session.time(commands)
         loads += 1
-        if seconds >= ENOUGH:
+        if seconds >= enough:
             grown = 1024.0 * (session.memory("VmRSS") - empty)
             return session, 1e6 * seconds / loads / len(load.commands), grown / len(load.commands)
         session.end()
