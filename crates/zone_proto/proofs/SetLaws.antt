@@ -1,14 +1,16 @@
-use Rattle.std.proofs.Common.{◌≡◌, ◌≢◌, ℕ, ◌<◌, List, [], ◌∷◌, ◌++◌, length, get_or, take, set, refl, sym, ap, ◌∙◌, subst, Bool, true, false, ◌==◌, if◌then◌else◌, nat_lt, nat_le, lit<, arith, Result, Ok, Err}
+use Rattle.std.proofs.Common.{◌≡◌, ◌≢◌, ℕ, ◌<◌, List, [], ◌∷◌, ◌++◌, length, map, get_or, take, set, refl, sym, ap, ◌∙◌, subst, Bool, true, false, ◌==◌, if◌then◌else◌, nat_lt, nat_le, lit<, arith, Result, Ok, Err}
 use Rattle.std.specs.Prelude.{Option, Some, None}
 use Rattle.std.specs.List.{All}
 use Rattle.std.proofs.lemmas.Bool.Decides.{leb_tells}
 use Rattle.std.proofs.lemmas.List.Folds.{list_any_at}
 use Rattle.std.proofs.lemmas.List.Quantifiers.{all_pairs_push}
-use Rattle.std.proofs.lemmas.List.Elements.{All-push, All-cons}
+use Rattle.std.proofs.lemmas.List.{get_or-map, length-map}
+use Rattle.std.proofs.lemmas.List.Elements.{All-push, All-cons, All-map}
 use Rattle.zone_proto.specs.Types.{RRSIG, own_types, has_own_case}
-use Rattle.zone_proto.specs.Names.{same_name}
+use Rattle.zone_proto.specs.NameLaws.{caseless_eq_equiv}
+use Rattle.zone_proto.specs.Names.{Name, same_name}
 use Rattle.zone_proto.specs.Data.{same_data, type_of}
-use Rattle.zone_proto.specs.Sets.{RRset, IsSet, AreSignatures, is_single, soa_serial, first_serial, stores, with_records, replaced, appended, inserted_by, inserted, soa_inserted}
+use Rattle.zone_proto.specs.Sets.{RRset, IsSet, AreSignatures, is_single, soa_serial, first_serial, stores, with_records, replaced, appended, inserted_by, inserted, soa_inserted, record_under}
 use Rattle.zone_proto.specs.Insertion.{refused_by, is_refused, records_with}
 use Rattle.zone_proto.specs.Results.{IsChange}
 use Rattle.zone_proto.specs.declared.error.ProtoError.{ProtoError}
@@ -227,6 +229,21 @@ pub IsSet-inserted : (s : RRset) (r : Record) (serial : ℕ) (t : RRset)
     → IsSet t.owner t.record_type t.records
 IsSet-inserted s r serial t o k i e =
     if_set (is_refused s.records r.rdata) s r serial t refl o k i (sym (inserted_is s r serial i k) ∙ e)
+
+-- a set's records are a set under another owner too
+pub IsSet-under : (owner n : Name) (ttl t : ℕ) (rs : List Record) → IsSet owner t rs → IsSet n t (map (record_under n ttl) rs)
+IsSet-under owner n ttl t rs i =
+    record {
+      owners = All-map (λ (r : Record). same_name r.name n ≡ true) (record_under n ttl) rs (λ k d h. caseless_eq_equiv.refl n);
+      types = All-map (λ (r : Record). type_of r.rdata ≡ t) (record_under n ttl) rs i.types;
+      differ = λ j k d before h.
+          let last : k < length rs = subst (λ l. k < l) (length-map rs (record_under n ttl)) h in
+          let first : j < length rs = omega (arith, before, last) in
+          ap (λ (r : Record). same_data r.rdata (get_or (map (record_under n ttl) rs) k d).rdata) (get_or-map (record_under n ttl) rs j d d first)
+          ∙ ap (λ (r : Record). same_data (get_or rs j d).rdata r.rdata) (get_or-map (record_under n ttl) rs k d d last)
+          ∙ i.differ j k d before last;
+      single = λ h. omega (arith, i.single h, length-map rs (record_under n ttl));
+    }
 
 -- the only record of a list, written over
 pub written_alone : (rs : List Record) (r : Record) → 0 < length rs → set (take 1 rs) 0 r ≡ r ∷ []

@@ -1,5 +1,5 @@
 -- Record sets, and the insertion of a record
-use Rattle.std.specs.Prelude.{◌≡◌, ℕ, ◌≤◌, List, [], ◌∷◌, ◌++◌, Bool, true, false, ◌==◌, ◌||◌, ◌&&◌, if◌then◌else◌, nat_lt, length, Option, Some, None}
+use Rattle.std.specs.Prelude.{◌≡◌, ℕ, ◌≤◌, List, [], ◌∷◌, ◌++◌, Bool, true, false, ◌==◌, ◌||◌, ◌&&◌, if◌then◌else◌, nat_lt, length, map, Option, Some, None}
 use Rattle.std.specs.List.{list_any, AllPairs, All}
 use Rattle.std.specs.Cmp.Lexicographic.{pointwise}
 use Rattle.zone_proto.specs.Names.{Name, same_name}
@@ -97,3 +97,19 @@ lent s signed = lent_lists s.records s.signatures signed
 -- the record of data in a set: of its owner and TTL, and class IN
 abbrev pub record_of : RRset → RData → Record
 record_of s d = record { name = s.owner; dns_class = record { 0 = types.IN }; ttl = s.ttl; rdata = d }
+
+-- a record under another owner: of class IN, with this TTL, and of the same data
+abbrev pub record_under : Name → ℕ → Record → Record
+record_under n ttl r = record { name = n; dns_class = record { 0 = types.IN }; ttl = ttl; rdata = r.rdata }
+
+-- a set's records under another owner: of class IN, of the same type, with this TTL, of serial 0, and without signatures
+abbrev pub set_under : Name → ℕ → RRset → RRset
+set_under n ttl s = record {
+  owner = n;
+  record_type = s.record_type;
+  class = types.IN;
+  ttl = ttl;
+  serial = 0;
+  records = map (record_under n ttl) s.records;
+  signatures = [];
+}

@@ -1,9 +1,10 @@
-ghost use Rattle.std.specs.Prelude.{◌≡◌, IfOk, IsOkUnless};
+ghost use Rattle.std.specs.Prelude.{◌≡◌, IfOk, IsOkUnless, map};
 ghost use Rattle.std.specs.Cmp.{partial_equiv_from_equiv};
 ghost use Rattle.zone_proto.specs.Data.{type_of};
 ghost use Rattle.zone_proto.specs.Records.{same_record};
 ghost use Rattle.zone_proto.specs.DataEquality.{same_record_equiv};
 ghost use Rattle.zone_proto.specs.Results.{IsCopy};
+ghost use Rattle.zone_proto.specs.Sets.{record_under};
 
 use crate::dns_class::DNSClass;
 use crate::error::ProtoError;
@@ -80,6 +81,23 @@ pub(crate) fn clone_records(alloc: Global, records: &[Record]) -> Result<Vec<Rec
     let mut copies = Vec::with_capacity(alloc, records.len())?;
     for stored in records {
         copies.push(stored.clone()?)?;
+    }
+    Ok(copies)
+}
+
+/// The same of class IN, under another owner and with this TTL.
+pub(crate) fn clone_records_under(
+    alloc: Global,
+    records: &[Record],
+    owner: &Name,
+    ttl: u32,
+) -> Result<Vec<Record>, ProtoError>
+    ensures ok { IfOk result (λ v. v.items ≡ map (record_under owner.now ttl) records.now) }
+    ensures err { IsOkUnless result ProtoError.Memory }
+{
+    let mut copies = Vec::with_capacity(alloc, records.len())?;
+    for stored in records {
+        copies.push(Record::from_rdata(owner.clone()?, ttl, stored.rdata.clone()?))?;
     }
     Ok(copies)
 }

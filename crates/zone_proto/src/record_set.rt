@@ -2,7 +2,7 @@ ghost use Rattle.std.specs.Prelude.{◌≡◌, ◌<◌, ◌≤◌, ◌+◌, [], 
 ghost use Rattle.zone_proto.specs.Names.{same_name};
 ghost use Rattle.zone_proto.specs.Types.{IN, RRSIG};
 ghost use Rattle.zone_proto.specs.Data.{type_of};
-ghost use Rattle.zone_proto.specs.Sets.{IsSet, AreSignatures, inserted, lent, record_of};
+ghost use Rattle.zone_proto.specs.Sets.{IsSet, AreSignatures, inserted, lent, record_of, set_under};
 ghost use Rattle.zone_proto.specs.Results.{IsChange, IsCopy, IsInsertion};
 ghost use Rattle.zone_proto.specs.Stepping.{stepped};
 
@@ -11,7 +11,7 @@ use crate::error::ProtoError;
 use crate::insertion::{is_refused, put_last, put_record};
 use crate::name::Name;
 use crate::rdata::RData;
-use crate::record::{Record, clone_records};
+use crate::record::{Record, clone_records, clone_records_under};
 use crate::record_type::RecordType;
 use crate::rrset_records::RrsetRecords;
 use crate::rrsigs::Rrsigs;
@@ -151,6 +151,26 @@ impl RecordSet {
             ttl: self.ttl,
             serial: self.serial,
             records: clone_records(alloc, self.records.as_slice())?,
+            rrsigs: Vec::new(alloc),
+        })
+    }
+
+    /// The set's records under another owner: of class IN, with this TTL in seconds, and with copies of the data, in order; the
+    /// new set has the same type, serial 0 and no signatures. `Memory` where none is found.
+    ///
+    /// The data of a set differ, so that they aren't compared again, as [`RecordSet::add_rdata`] would with all that came before.
+    pub fn clone_under(&self, owner: Name, ttl: u32) -> Result<RecordSet, ProtoError>
+        ensures { IsCopy result (set_under owner ttl self.now) }
+    {
+        let alloc = *self.records.allocator();
+        let records = clone_records_under(alloc, self.records.as_slice(), &owner, ttl)?;
+        Ok(RecordSet {
+            name: owner,
+            record_type: self.record_type,
+            dns_class: DNSClass::IN,
+            ttl,
+            serial: 0,
+            records,
             rrsigs: Vec::new(alloc),
         })
     }
