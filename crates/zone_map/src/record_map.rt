@@ -1,4 +1,4 @@
-ghost use Rattle.std.specs.Prelude.{◌≡◌, [], true, IfOk, IfErr, OnOk, OnErr, IfSome, IsOkUnless, None, Some, is_some, cond, unwrap_or, option_copied};
+ghost use Rattle.std.specs.Prelude.{◌≡◌, ℕ, ◌<◌, [], true, false, IfOk, IfErr, OnOk, OnErr, IfSome, IsOkUnless, None, Some, is_some, cond, unwrap_or, option_copied};
 ghost use Rattle.zone_proto.specs.Keys.{key as key_at};
 ghost use Rattle.zone_proto.specs.Names.{lower};
 ghost use Rattle.zone_proto.specs.Data.{type_of};
@@ -38,13 +38,13 @@ impl Model for RecordMap {
     ghost invariant = { λ m. IsIndexed m.sets.entries m.denials };
 }
 
-/// What stands at a name for a record that is to be inserted there.
+/// What a name's first keys say of a record that is to be inserted there.
 #[derive(Clone, Copy, Drop)]
 struct Standing {
     /// Whether the name owns a type that may not stand beside the record's.
     clashes: bool,
-    /// Whether the name owns the record's type.
-    is_there: bool,
+    /// Whether the name may own the record's type: a key that wasn't read may have it.
+    may_be_there: bool,
 }
 
 impl RecordMap {
@@ -194,40 +194,48 @@ impl RecordMap {
             return Ok(false);
         }
         key.record_type = record_type;
-        if standing.is_there {
-            self.insert_into(&key, record, serial)
+        if standing.may_be_there {
+            self.insert_into(key, record, serial)
         } else {
             self.insert_new(key, record, serial)
         }
     }
 
-    /// What stands at the name of its least key, that of type 0, for a record of a type.
+    /// What stands at the name of its least key, that of type 0, for a record of a type. However many types the name owns, it
+    /// reads six keys at most: of types up to CNAME there are as many, and beside a CNAME three may stand.
     fn standing_at(&self, least: &RrKey, record_type: RecordType) -> Standing
         requires { least.now.record_type.0 ≡ 0 }
         ensures clashes { result.clashes ≡ clashes self.now least.now.name record_type.0 }
-        ensures there { result.is_there ≡ owns self.now least.now.name record_type.0 }
+        ensures absent { result.may_be_there ≡ false → owns self.now least.now.name record_type.0 ≡ false }
     {
-        let mut clashes = false;
         let mut is_there = false;
         for (key, _) in self.sets.range(least..) {
             if key.name != least.name {
                 break;
             }
-            clashes |= clash(record_type, key.record_type);
             is_there |= record_type == key.record_type;
+            let clashes = clash(record_type, key.record_type);
+            if clashes || none_clashes_after(record_type, key.record_type) {
+                return Standing {
+                    clashes,
+                    may_be_there: true,
+                };
+            }
         }
-        Standing { clashes, is_there }
+        Standing {
+            clashes: false,
+            may_be_there: is_there,
+        }
     }
 
-    /// Takes a record into the set under its key, which is there.
-    fn insert_into(&mut self, key: &RrKey, record: Record, serial: u32) -> Result<bool, ProtoError>
-        requires own_key { key.now ≡ key_at (lower «record».name) (type_of «record».rdata) }
-        requires there { owns self.old (lower «record».name) (type_of «record».rdata) ≡ true }
+    /// Takes a record into the set under its key, or makes that set where there is none.
+    fn insert_into(&mut self, key: RrKey, record: Record, serial: u32) -> Result<bool, ProtoError>
+        requires { key ≡ key_at (lower «record».name) (type_of «record».rdata) }
         ensures { IsInsertion self.old (with_record self.old «record» serial) result self.new }
     {
-        match self.sets.get_mut(key) {
+        match self.sets.get_mut(&key) {
             Some(set) => set.insert(record, serial),
-            None => unreachable!(),
+            None => self.insert_new(key, record, serial),
         }
     }
 
@@ -265,6 +273,13 @@ fn clash(one: RecordType, other: RecordType) -> bool
     (one == RecordType::CNAME) != (other == RecordType::CNAME)
         && !is_denial_type(one)
         && !is_denial_type(other)
+}
+
+/// Whether no type greater than `seen` may clash with another: of two types that clash one is CNAME.
+fn none_clashes_after(record_type: RecordType, seen: RecordType) -> bool
+    ensures { result ≡ true → (u : ℕ) → seen.0 < u → clash record_type.0 u ≡ false }
+{
+    record_type != RecordType::CNAME && seen >= RecordType::CNAME
 }
 
 /// Whether a type is one of denial, which may stand beside a CNAME.

@@ -1,10 +1,12 @@
-use Rattle.std.proofs.Common.{rules, ◌≡◌, ℕ, Bool, true, false, is_some, unwrap_or, ap, sym}
+use Rattle.std.proofs.Common.{rules, ◌≡◌, ℕ, Bool, true, false, is_some, unwrap_or, refl, ap, sym}
+use Rattle.std.specs.Prelude.{Option, Some, None}
 use Rattle.zone_proto.specs.declared.record.Record.{Record}
 use Rattle.zone_proto.specs.declared.rr_key.RrKey.{RrKey}
 use Rattle.zone_proto.specs.Data.{type_of}
 use Rattle.zone_proto.specs.Names.{lower}
+use Rattle.zone_proto.specs.Sets.{RRset}
 use Rattle.zone_map.specs.Upserts.{clashes}
-use Rattle.zone_map.specs.Zones.{Sets}
+use Rattle.zone_map.specs.Zones.{Sets, set_at, owns}
 use Rattle.zone_map.proofs.CnamesAlone.{alone_after}
 use Rattle.zone_map.proofs.Upserting.{clash_is_not_taken, free_is_inserted}
 use Rattle.zone_map.proofs.record_map.RecordMap.upsert.Goals as goal
@@ -13,6 +15,18 @@ use Rattle.zone_map.proofs.record_map.RecordMap.upsert.Goals as goal
 clashes_there : (m : Sets) (r : Record) (least key : RrKey) (t : ℕ) (found b : Bool) → least ≡ key → key.name ≡ lower r.name → t ≡ type_of r.rdata → found ≡ clashes m least.name t → found ≡ b
     → clashes m (lower r.name) (type_of r.rdata) ≡ b
 clashes_there m r least key t found b made name kind asked is = cc
+
+-- where its own type isn't owned there, its set isn't there
+absent_there : (m : Sets) (r : Record) (least key : RrKey) (t : ℕ) → least ≡ key → key.name ≡ lower r.name → t ≡ type_of r.rdata → owns m least.name t ≡ false → set_at m (lower r.name) (type_of r.rdata) ≡ None
+absent_there m r least key t made name kind none = nothing (set_at m (lower r.name) (type_of r.rdata)) cc
+  where
+    nothing : (o : Option RRset) → is_some o ≡ false → o ≡ None
+    nothing None h = refl
+    nothing (Some s) h = cc
+
+pub insert_new-requires-clause-absent : goal.insert_new-requires-clause-absent
+insert_new-requires-clause-absent c =
+    absent_there c.args.self.now c.args.record _ _ _ c.new-key.ensures.value c.in_ok-new.ensures.ok c.record_type-record_type.ensures (c.standing_at-standing.ensures.absent c.if-standing-2.false)
 
 pub returns-then-standing-clause-insertion : goal.returns-then-standing-clause-insertion
 returns-then-standing-clause-insertion c =
