@@ -2,6 +2,7 @@ pub mod FromLeft
 pub mod Faults
 pub mod Packings
 pub mod FirstLabels
+pub mod Countings
 pub mod Lower
 pub mod FromFront
 pub mod TextForms

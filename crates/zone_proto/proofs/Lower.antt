@@ -70,7 +70,7 @@ IsLabel-lower l h = record {
   octets = label_octets l h.octets;
 }
 
-labels_lower : (ls : List (List ℕ)) → AllByRecursion IsLabel ls → AllByRecursion IsLabel (lower ls)
+pub labels_lower : (ls : List (List ℕ)) → AllByRecursion IsLabel ls → AllByRecursion IsLabel (lower ls)
 labels_lower [] h = tt
 labels_lower (l ∷ ls) h = (IsLabel-lower l h.0, labels_lower ls h.1)
 

@@ -2,6 +2,7 @@ pub mod Order
 pub mod Ranges
 pub mod Names
 pub mod Packing
+pub mod Counting
 pub mod Vectors
 pub mod NameLaws
 pub mod Keys

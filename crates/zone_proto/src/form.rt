@@ -1,12 +1,12 @@
 // How the labels of a name are kept.
 ghost use Rattle.std.specs.Prelude.{◌≡◌, ◌↔◌, [], ◌∷◌, drop, IsTrue, IfOk};
 ghost use Rattle.std.specs.List.{AllByRecursion};
-ghost use Rattle.zone_proto.specs.Names.{lower, name_cmp, caseless_cmp, wildcard_of, IsAtOrAbove, IsName};
+ghost use Rattle.zone_proto.specs.Names.{lower, name_cmp, caseless_cmp, wildcard_of, IsAtOrAbove, IsLabel, IsName};
 ghost use Rattle.zone_proto.specs.Packing.{IsPackable, IsInner};
 ghost use Rattle.zone_proto.specs.Forms.{labels_of};
 ghost use Rattle.zone_proto.specs.Vectors.{octets_of};
 
-use crate::labels::push_copies;
+use crate::counted::Counted;
 use crate::labels_iter::Labels;
 use crate::letter_case::lower_all;
 use crate::name_order::{compare_labels, labels_are_above};
@@ -17,17 +17,19 @@ use std::cmp::Ordering;
 /// How the labels of a name are kept.
 #[derive(Debug)]
 pub(crate) enum Form {
-    /// Each by itself, as they were handed over, or because one has an octet 0.
+    /// Each by itself, as they were handed over.
     Listed(Vec<Vec<u8>>),
-    /// All in one piece.
+    /// All in one piece, each before its end.
     InOnePiece(Packed),
+    /// All in one piece, each behind its length, because one has an octet 0.
+    Counted(Counted),
 }
 
 /// A call of its own, so that the proofs of all that drop a name don't go into its forms.
 impl Drop for Form {
     fn drop(self) {
         match self {
-            Form::Listed(_) | Form::InOnePiece(_) => {}
+            Form::Listed(_) | Form::InOnePiece(_) | Form::Counted(_) => {}
         }
     }
 }
@@ -47,6 +49,7 @@ impl Form {
         match self {
             Form::Listed(listed) => Labels::of_list(listed),
             Form::InOnePiece(packed) => Labels::of_piece(packed),
+            Form::Counted(counted) => Labels::of_counted(counted),
         }
     }
 
@@ -57,6 +60,7 @@ impl Form {
         match self {
             Form::Listed(listed) => listed.is_empty(),
             Form::InOnePiece(packed) => packed.is_root(),
+            Form::Counted(counted) => counted.is_root(),
         }
     }
 
@@ -65,43 +69,45 @@ impl Form {
         match self {
             Form::Listed(listed) => *listed.allocator(),
             Form::InOnePiece(packed) => packed.alloc(),
+            Form::Counted(counted) => counted.alloc(),
         }
     }
 
-    /// The same labels, in one piece if none has an octet 0.
+    /// The same labels, in one piece.
     pub(crate) fn in_one_piece(self) -> Result<Form, AllocError>
+        requires { IsName (labels_of self) }
         ensures { IfOk result (λ f. labels_of f ≡ labels_of self) }
     {
         match self {
-            Form::Listed(listed) => pack_list(listed),
+            Form::Listed(listed) => pack_list(&listed),
             Form::InOnePiece(packed) => Ok(Form::InOnePiece(packed)),
+            Form::Counted(counted) => Ok(Form::Counted(counted)),
         }
     }
 
-    /// A copy, in one piece if no label has an octet 0.
+    /// A copy, in one piece.
     pub(crate) fn copy(&self) -> Result<Form, AllocError>
+        requires { IsName (labels_of self.now) }
         ensures { IfOk result (λ f. labels_of f ≡ labels_of self.now) }
     {
         match self {
-            Form::Listed(listed) => copy_list(listed),
+            Form::Listed(listed) => pack_list(listed),
             Form::InOnePiece(packed) => Ok(Form::InOnePiece(packed.clone()?)),
+            Form::Counted(counted) => Ok(Form::Counted(counted.clone()?)),
         }
     }
 
-    /// A copy with one more label before the first.
+    /// A copy with one more label before the first, in one piece.
     pub(crate) fn child(&self, label: &[u8]) -> Result<Form, AllocError>
+        requires label { IsLabel label.now }
+        requires labels { IsName (labels_of self.now) }
         ensures { IfOk result (λ f. labels_of f ≡ label.now ∷ labels_of self.now) }
     {
-        if let Form::InOnePiece(packed) = self
-            && is_inner(label)
-        {
-            return Ok(Form::InOnePiece(packed.child(label)?));
+        match self {
+            Form::Listed(listed) => child_of_list(listed, label),
+            Form::InOnePiece(packed) => child_of_piece(packed, label),
+            Form::Counted(_) => child_counted(self.alloc(), label, self.labels()),
         }
-        let labels = self.labels();
-        let mut copies = Vec::with_capacity(self.alloc(), 1)?;
-        copies.push(Vec::from_slice(self.alloc(), label)?)?;
-        push_copies(&mut copies, labels)?;
-        pack_list(copies)
     }
 
     /// Takes the first label away, in place; the root stays.
@@ -111,6 +117,7 @@ impl Form {
         match self {
             Form::Listed(listed) => drop_first(listed),
             Form::InOnePiece(packed) => packed.shorten(),
+            Form::Counted(counted) => counted.shorten(),
         }
     }
 
@@ -122,6 +129,7 @@ impl Form {
         match self {
             Form::Listed(listed) => star_first(listed),
             Form::InOnePiece(packed) => packed.make_wildcard(),
+            Form::Counted(counted) => counted.make_wildcard(),
         }
     }
 
@@ -132,6 +140,7 @@ impl Form {
         match self {
             Form::Listed(listed) => lower_all(listed),
             Form::InOnePiece(packed) => packed.lower(),
+            Form::Counted(counted) => counted.lower(),
         }
     }
 
@@ -168,13 +177,38 @@ impl Form {
     }
 }
 
-/// A copy of the labels, in one piece if none has an octet 0.
-fn copy_list(labels: &Vec<Vec<u8>>) -> Result<Form, AllocError>
-    ensures { IfOk result (λ f. labels_of f ≡ octets_of labels.now.items) }
+/// The labels of a list with one more before the first.
+fn child_of_list(labels: &Vec<Vec<u8>>, label: &[u8]) -> Result<Form, AllocError>
+    requires label { IsLabel label.now }
+    requires labels { IsName (octets_of labels.now.items) }
+    ensures { IfOk result (λ f. labels_of f ≡ label.now ∷ octets_of labels.now.items) }
 {
-    let mut copies = Vec::with_capacity(*labels.allocator(), labels.len())?;
-    push_copies(&mut copies, Labels::of_list(labels))?;
-    pack_list(copies)
+    let alloc = *labels.allocator();
+    if !is_packable(labels) {
+        return child_counted(alloc, label, Labels::of_list(labels));
+    }
+    child_of_piece(&Packed::pack(alloc, labels)?, label)
+}
+
+/// The labels of a name in one piece with one more before the first.
+fn child_of_piece(packed: &Packed, label: &[u8]) -> Result<Form, AllocError>
+    requires label { IsLabel label.now }
+    requires labels { IsName packed.now }
+    ensures { IfOk result (λ f. labels_of f ≡ label.now ∷ packed.now) }
+{
+    if !is_inner(label) {
+        return child_counted(packed.alloc(), label, Labels::of_piece(packed));
+    }
+    Ok(Form::InOnePiece(packed.child(label)?))
+}
+
+/// The labels with one more before the first, each behind its length.
+fn child_counted(alloc: Global, label: &[u8], labels: Labels<'_>) -> Result<Form, AllocError>
+    requires label { IsLabel label.now }
+    requires labels { IsName labels }
+    ensures { IfOk result (λ f. labels_of f ≡ label.now ∷ labels.entry) }
+{
+    Ok(Form::Counted(Counted::child(alloc, label, labels)?))
 }
 
 /// Takes the first label away, if there is one.
@@ -197,14 +231,16 @@ fn star_first(labels: &mut Vec<Vec<u8>>)
     }
 }
 
-/// The labels in one piece if none has an octet 0, and else as they are.
-fn pack_list(labels: Vec<Vec<u8>>) -> Result<Form, AllocError>
-    ensures { IfOk result (λ f. labels_of f ≡ octets_of labels.items) }
+/// The labels of a list in one piece.
+fn pack_list(labels: &Vec<Vec<u8>>) -> Result<Form, AllocError>
+    requires { IsName (octets_of labels.now.items) }
+    ensures { IfOk result (λ f. labels_of f ≡ octets_of labels.now.items) }
 {
-    if is_packable(&labels) {
-        return Ok(Form::InOnePiece(Packed::pack(*labels.allocator(), &labels)?));
+    let alloc = *labels.allocator();
+    if is_packable(labels) {
+        return Ok(Form::InOnePiece(Packed::pack(alloc, labels)?));
     }
-    Ok(Form::Listed(labels))
+    Ok(Form::Counted(Counted::count(alloc, Labels::of_list(labels))?))
 }
 
 /// Whether the label has no octet 0.

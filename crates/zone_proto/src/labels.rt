@@ -1,5 +1,5 @@
 // Lists of labels: whether they make a name, and copies of them.
-ghost use Rattle.std.specs.Prelude.{◌≡◌, ◌∷◌, ◌++◌, OnOk};
+ghost use Rattle.std.specs.Prelude.{◌∷◌, OnOk};
 ghost use Rattle.std.specs.List.{AllByRecursion};
 ghost use Rattle.zone_proto.specs.Names.{IsName};
 ghost use Rattle.zone_proto.specs.Ranges.{IsOctet};
@@ -9,7 +9,6 @@ ghost use Rattle.zone_proto.specs.Results.{TellsFault};
 use crate::error::ProtoError;
 use crate::labels_iter::Labels;
 use crate::wire::wire_length;
-use std::alloc::AllocError;
 
 /// The most octets that a label may have (RFC 1035 section 2.3.4).
 pub(crate) const LONGEST_LABEL: usize = 63;
@@ -62,14 +61,3 @@ pub(crate) fn check_prepended(label: &[u8], labels: Labels<'_>) -> Result<(), Pr
 pub(crate) fn octets_fit(label: &[u8])
     ensures { AllByRecursion IsOctet label.now }
 {}
-
-/// Appends copies of the labels, each with room for its octets alone.
-pub(crate) fn push_copies(copies: &mut Vec<Vec<u8>>, labels: Labels<'_>) -> Result<(), AllocError>
-    ensures { OnOk result (octets_of copies.new.items ≡ octets_of copies.old.items ++ labels.entry) }
-{
-    let alloc = *copies.allocator();
-    for label in labels {
-        copies.push(Vec::from_slice(alloc, label)?)?;
-    }
-    Ok(())
-}

@@ -3,6 +3,7 @@ ghost use Rattle.std.specs.Prelude.{◌≡◌, ◌++◌, length};
 ghost use Rattle.std.specs.Iterator.{YieldsFirstBy, item_count};
 ghost use Rattle.zone_proto.specs.Vectors.{octets_of};
 
+use crate::counted::{Counted, count_counted, split_counted};
 use crate::packed::{Packed, count_labels, split_label};
 use std::marker::Model;
 
@@ -11,18 +12,20 @@ use std::marker::Model;
 pub struct Labels<'n> {
     listed: &'n [Vec<u8>],
     packed: &'n [u8],
+    counted: &'n [u8],
 }
 
 impl<'n> Model for Labels<'n> {
     ghost use Rattle.std.specs.Prelude.{List, ℕ, ◌++◌};
+    ghost use Rattle.zone_proto.specs.Counting.{counted_name, IsCounting};
     ghost use Rattle.zone_proto.specs.Packing.{name_of, IsPacking};
     ghost use Rattle.zone_proto.specs.Vectors.{octets_of};
 
     ghost Value = { List (List ℕ) };
 
-    ghost view = { λ s. octets_of s.listed.now ++ name_of s.packed.now };
+    ghost view = { λ s. octets_of s.listed.now ++ (name_of s.packed.now ++ counted_name s.counted.now) };
 
-    ghost invariant = { λ s. IsPacking s.packed.now (name_of s.packed.now) };
+    ghost invariant = { λ s. IsPacking s.packed.now (name_of s.packed.now) × IsCounting s.counted.now (counted_name s.counted.now) };
 }
 
 impl<'n> Labels<'n> {
@@ -33,6 +36,7 @@ impl<'n> Labels<'n> {
         Labels {
             listed,
             packed: &[],
+            counted: &[],
         }
     }
 
@@ -43,6 +47,18 @@ impl<'n> Labels<'n> {
         Labels {
             listed: &[],
             packed: packed.octets(),
+            counted: &[],
+        }
+    }
+
+    /// The labels of a name whose labels stand behind their lengths.
+    pub(crate) fn of_counted(counted: &'n Counted) -> Labels<'n>
+        ensures { result ≡ counted.now }
+    {
+        Labels {
+            listed: &[],
+            packed: &[],
+            counted: counted.octets(),
         }
     }
 
@@ -53,6 +69,7 @@ impl<'n> Labels<'n> {
         Labels {
             listed: self.listed,
             packed: self.packed,
+            counted: self.counted,
         }
     }
 
@@ -60,7 +77,7 @@ impl<'n> Labels<'n> {
     pub fn len(&self) -> usize
         ensures { result ≡ length self.now }
     {
-        self.listed.len() + count_labels(self.packed)
+        self.listed.len() + count_labels(self.packed) + count_counted(self.counted)
     }
 }
 
@@ -76,8 +93,12 @@ impl<'n> Iterator for Labels<'n> {
             self.listed = rest;
             return Some(first);
         }
-        let (first, rest) = split_label(self.packed)?;
-        self.packed = rest;
+        if let Some((first, rest)) = split_label(self.packed) {
+            self.packed = rest;
+            return Some(first);
+        }
+        let (first, rest) = split_counted(self.counted)?;
+        self.counted = rest;
         Some(first)
     }
 }

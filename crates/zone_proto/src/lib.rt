@@ -9,6 +9,7 @@
 #![tactic(auto)]
 
 mod base32;
+mod counted;
 pub mod data_laws;
 mod dns_class;
 mod error;

@@ -25,7 +25,7 @@ use std::marker::Model;
 /// octets, and the wire form of the name at most 255 (RFC 1035 sections 2.3.4 and 3.1). Names are equal, ordered and
 /// hashed without the case of ASCII letters (RFC 4034 section 6.1, RFC 4343).
 ///
-/// A name that was read or copied is copied without memory if its wire form has at most 33 octets and no label an octet 0.
+/// A name that was read or copied is copied without memory if its wire form has at most 33 octets.
 #[derive(Debug, Drop)]
 pub struct Name {
     form: Form,
@@ -96,7 +96,7 @@ impl Name {
         Name::from_labels(read_labels(alloc, text)?)
     }
 
-    /// The same name, in one piece if no label has an octet 0.
+    /// The same name, in one piece.
     fn in_one_piece(self) -> Result<Name, ProtoError>
         ensures { IsCopy result self }
     {

@@ -1,0 +1,187 @@
+// Names in one piece of octets: each label behind its length, leftmost first, as in the wire form (RFC 1035 section 3.1).
+//
+// Here a label may have an octet 0. A length is at most 63, so that it is no letter, and the octets can be put into lower
+// case as they stand.
+ghost use Rattle.std.specs.Prelude.{◌≡◌, ◌↔◌, [], ◌∷◌, ◌++◌, ◌+◌, ◌<◌, ◌≤◌, length, drop, set, IsTrue, IfOk, IfSome, MatchOption, OnOk};
+ghost use Rattle.std.specs.List.{AllByRecursion};
+ghost use Rattle.zone_proto.specs.Names.{lower, wildcard_of, IsLabel, IsName};
+ghost use Rattle.zone_proto.specs.Counting.{counting, counted_name, IsCounting};
+
+use crate::labels_iter::Labels;
+use crate::letter_case::lower_octets;
+use crate::packed::Octets;
+use crate::wire::wire_length;
+use smallvec::SmallVec;
+use std::alloc::{AllocError, Global};
+use std::marker::Model;
+
+/// A name whose labels stand behind their lengths.
+#[derive(Debug, Drop)]
+pub(crate) struct Counted {
+    octets: Octets,
+}
+
+impl Model for Counted {
+    ghost use Rattle.std.specs.Prelude.{List, ℕ};
+    ghost use Rattle.zone_proto.specs.Counting.{counted_name, IsCounting};
+
+    ghost Value = { List (List ℕ) };
+
+    ghost view = { λ c. counted_name c.octets.items };
+
+    ghost invariant = { λ c. IsCounting c.octets.items (counted_name c.octets.items) };
+}
+
+impl Counted {
+    /// The name of these labels.
+    pub(crate) fn count(alloc: Global, labels: Labels<'_>) -> Result<Counted, AllocError>
+        requires { IsName labels }
+        ensures { IfOk result (λ c. c ≡ labels.entry) }
+    {
+        let mut octets = SmallVec::with_capacity(
+            alloc,
+            wire_length(labels.clone()).saturating_sub(1),
+        )?;
+        push_labels(&mut octets, labels)?;
+        Ok(Counted { octets })
+    }
+
+    /// The name of these labels with one more before the first.
+    pub(crate) fn child(
+        alloc: Global,
+        label: &[u8],
+        labels: Labels<'_>,
+    ) -> Result<Counted, AllocError>
+        requires label { IsLabel label.now }
+        requires labels { IsName labels }
+        ensures { IfOk result (λ c. c ≡ label.now ∷ labels.entry) }
+    {
+        let mut octets = SmallVec::with_capacity(alloc, label.len() + wire_length(labels.clone()))?;
+        push_label(&mut octets, label)?;
+        push_labels(&mut octets, labels)?;
+        Ok(Counted { octets })
+    }
+
+    /// Whether this is the root.
+    pub(crate) fn is_root(&self) -> bool
+        ensures { IsTrue result ↔ (self.now ≡ []) }
+    {
+        self.octets.is_empty()
+    }
+
+    /// Takes the first label away, in place; the root stays.
+    pub(crate) fn shorten(&mut self)
+        ensures { self.new ≡ drop 1 self.old }
+    {
+        if self.octets.is_empty() {
+            return;
+        }
+        let count = usize::from(self.octets[0]);
+        cut_front(&mut self.octets, count + 1);
+    }
+
+    /// Replaces the first label by `*`, in place; the root stays.
+    pub(crate) fn make_wildcard(&mut self)
+        ensures { self.new ≡ wildcard_of self.old }
+    {
+        if self.octets.is_empty() {
+            return;
+        }
+        let count = usize::from(self.octets[0]);
+        cut_front(&mut self.octets, count - 1);
+        write_star(&mut self.octets);
+    }
+
+    /// Puts the letters into lower case, in place.
+    pub(crate) fn lower(&mut self)
+        ensures { self.new ≡ lower self.old }
+    {
+        lower_octets(self.octets.as_mut_slice());
+    }
+
+    /// The octets.
+    pub(crate) fn octets(&self) -> &[u8]
+        ensures name { counted_name result.now ≡ self.now }
+        ensures counting { IsCounting result.now self.now }
+    {
+        &self.octets
+    }
+
+    /// The allocator that the octets were made with.
+    pub(crate) fn alloc(&self) -> Global {
+        *self.octets.allocator()
+    }
+
+    /// A copy.
+    pub(crate) fn clone(&self) -> Result<Counted, AllocError>
+        ensures { IfOk result (λ c. c ≡ self.now) }
+    {
+        Ok(Counted {
+            octets: SmallVec::from_slice(self.alloc(), &self.octets)?,
+        })
+    }
+}
+
+/// Appends a label behind its length.
+fn push_label(octets: &mut Octets, label: &[u8]) -> Result<(), AllocError>
+    requires { length label.now ≤ 63 }
+    ensures { OnOk result (octets.new.items ≡ octets.old.items ++ length label.now ∷ label.now) }
+{
+    octets.push(label.len() as u8)?;
+    octets.extend_from_slice(label)
+}
+
+/// Appends each label behind its length.
+fn push_labels(octets: &mut Octets, labels: Labels<'_>) -> Result<(), AllocError>
+    requires { AllByRecursion IsLabel labels }
+    ensures { OnOk result (octets.new.items ≡ octets.old.items ++ counting labels.entry) }
+{
+    for label in labels {
+        push_label(octets, label)?;
+    }
+    Ok(())
+}
+
+/// Takes so many octets away at the front.
+fn cut_front(octets: &mut Octets, count: usize)
+    requires { count ≤ length octets.old.items }
+    ensures { octets.new.items ≡ drop count octets.old.items }
+{
+    let len = octets.len();
+    octets.as_mut_slice().copy_within(count..len, 0);
+    octets.truncate(len - count);
+}
+
+/// Writes the label `*` and its length over the first two octets.
+fn write_star(octets: &mut Octets)
+    requires { 1 < length octets.old.items }
+    ensures { octets.new.items ≡ set (set octets.old.items 0 1) 1 42 }
+{
+    octets[0] = 1;
+    octets[1] = b'*';
+}
+
+/// The first label, and the octets of the labels after it.
+pub(crate) fn split_counted(octets: &[u8]) -> Option<(&[u8], &[u8])>
+    requires { IsCounting octets.now (counted_name octets.now) }
+    ensures gives { MatchOption result (counted_name octets.now ≡ []) (λ p. counted_name octets.now ≡ p.0.now ∷ counted_name p.1.now) }
+    ensures base { IfSome result (λ p. IsCounting p.1.now (counted_name p.1.now)) }
+{
+    let (count, rest) = octets.split_first()?;
+    Some(rest.split_at(usize::from(*count)))
+}
+
+/// How many labels the octets have.
+pub(crate) fn count_counted(octets: &[u8]) -> usize
+    requires { IsCounting octets.now (counted_name octets.now) }
+    ensures count { result ≡ length (counted_name octets.now) }
+    ensures fits { result + result ≤ length octets.now }
+{
+    let mut count = 0usize;
+    let mut rest = octets;
+    while let Some((_, after)) = split_counted(rest) {
+        rest = after;
+        count += 1;
+    }
+    count
+}
