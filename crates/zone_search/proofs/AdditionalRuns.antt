@@ -1,15 +1,12 @@
 -- A run along first targets, name by name
-use Rattle.std.proofs.Common.{◌≡◌, ℕ, zero, suc, ◌+◌, ◌<◌, ◌≤◌, arith, Bool, true, false, cond, ◌||◌, List, [], ◌∷◌, ◌++◌, map, length, refl, sym, ap, ◌∙◌, subst}
+use Rattle.std.proofs.Common.{◌≡◌, ℕ, zero, suc, ◌+◌, ◌<◌, ◌≤◌, arith, Bool, true, false, cond, List, [], ◌∷◌, ◌++◌, length, refl, sym, ap, ◌∙◌, subst}
 use Rattle.std.specs.Prelude.{Option, Some, None, fold, option_and_then}
 use Rattle.std.specs.List.{list_any, cons_option}
-use Rattle.std.proofs.lemmas.List.{map-append}
 use Rattle.zone_proto.specs.Names.{Name, name_eq}
 use Rattle.zone_proto.specs.Sets.{RRset, same_set}
 use Rattle.zone_proto.specs.Types.{A, AAAA}
 use Rattle.zone_map.specs.Zones.{Sets}
 use Rattle.zone_map.specs.Wildcards.{found}
-use Rattle.zone_search.specs.declared.found.Found.{Found}
-use Rattle.zone_search.specs.FoundSets.{found_set}
 use Rattle.zone_search.specs.Runs.{with_new}
 use Rattle.zone_search.specs.SeenNames.{AreSameNames}
 use Rattle.zone_search.specs.Additionals.{run_target, names_host, leads_to, found_sets, listed_with, AreSearchedNames, IsFollowed, AreCounted, AreSearches, AreAdditionals, AreListed}

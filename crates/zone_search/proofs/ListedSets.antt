@@ -16,7 +16,7 @@ use Rattle.zone_proto.proofs.KeyOrder.{key_itself}
 use Rattle.zone_proto.proofs.Members.{and_left, and_right}
 use Rattle.zone_search.specs.declared.found.Found.{Found}
 use Rattle.zone_search.specs.FoundSets.{found_set}
-use Rattle.zone_search.specs.ListedSets.{set_key, IsIndexed}
+use Rattle.zone_search.specs.ListedSets.{set_key, HavePlaces}
 use Rattle.zone_search.specs.Runs.{with_new}
 
 -- ---- a set is listed once
@@ -71,7 +71,7 @@ none_equal s places (x ∷ sets) (i, a) e = neither (same_set x s) (list_any (λ
     by false q = refl
 
 -- so only the first few need be asked
-pub few_asked : (items : List Found) (s : RRset) (places : List (RrKey × ℕ)) (k : RrKey) → IsIndexed (map found_set items) places → k ≡ set_key s → lookup (key_eq k) places ≡ None
+pub few_asked : (items : List Found) (s : RRset) (places : List (RrKey × ℕ)) (k : RrKey) → HavePlaces (map found_set items) places → k ≡ set_key s → lookup (key_eq k) places ≡ None
     → list_any (λ f. same_set (found_set f) s) (take 16 items) ≡ list_any (λ f. same_set (found_set f) s) items
 few_asked items s places k a q e =
     sym
@@ -94,8 +94,8 @@ few_asked items s places k a q e =
 -- ---- the places
 
 -- few sets need no place
-pub few_indexed : (sets : List RRset) (places : List (RrKey × ℕ)) → length sets ≤ 16 → IsIndexed sets places
-few_indexed sets places h = subst (AllByRecursion (λ s. IsSome (lookup (key_eq (set_key s)) places))) (sym (drop_all 16 sets h)) tt
+pub few_placed : (sets : List RRset) (places : List (RrKey × ℕ)) → length sets ≤ 16 → HavePlaces sets places
+few_placed sets places h = subst (AllByRecursion (λ s. IsSome (lookup (key_eq (set_key s)) places))) (sym (drop_all 16 sets h)) tt
 
 module _ (old new : List (RrKey × ℕ)) (k : RrKey) (place : ℕ) (put : (q : RrKey) → lookup (key_eq q) new ≡ cond (key_eq k q) (Some place) (lookup (key_eq q) old)) where
   -- a key that has a place keeps one
@@ -110,13 +110,13 @@ module _ (old new : List (RrKey × ℕ)) (k : RrKey) (place : ℕ) (put : (q : R
   all_kept [] a = tt
   all_kept (s ∷ sets) (i, a) = (kept (set_key s) i, all_kept sets a)
 
-  pub still_indexed : (sets : List RRset) → IsIndexed sets old → IsIndexed sets new
-  still_indexed sets a = all_kept (drop 16 sets) a
+  pub still_placed : (sets : List RRset) → HavePlaces sets old → HavePlaces sets new
+  still_placed sets a = all_kept (drop 16 sets) a
 
   -- a set whose key is put among the places may stand last
-  pub one_more_indexed : (sets : List RRset) (s : RRset) → 16 ≤ length sets → k ≡ set_key s → IsIndexed sets old → IsIndexed (sets ++ s ∷ []) new
-  one_more_indexed sets s h e a =
-      subst (AllByRecursion (λ x. IsSome (lookup (key_eq (set_key x)) new))) (sym (drop-append-le 16 sets (s ∷ []) h)) (pushed (drop 16 sets) (still_indexed sets a))
+  pub one_more_placed : (sets : List RRset) (s : RRset) → 16 ≤ length sets → k ≡ set_key s → HavePlaces sets old → HavePlaces (sets ++ s ∷ []) new
+  one_more_placed sets s h e a =
+      subst (AllByRecursion (λ x. IsSome (lookup (key_eq (set_key x)) new))) (sym (drop-append-le 16 sets (s ∷ []) h)) (pushed (drop 16 sets) (still_placed sets a))
     where
       found : IsSome (lookup (key_eq (set_key s)) new)
       found = subst (λ q. IsSome (lookup (key_eq q) new)) e (subst IsSome (sym (put k ∙ ap (λ b. cond b (Some place) (lookup (key_eq k) old)) (key_itself k))) refl)
@@ -131,15 +131,15 @@ longer : (items new : List Found) (f : Found) → new ≡ items ++ f ∷ [] → 
 longer items new f e = length-map new found_set ∙ ap length e ∙ length-append items (f ∷ [])
 
 pub few_pushed : {T E : Type 0} (result : Result T E) (items new : List Found) (f : Found) (places : List (RrKey × ℕ)) → length items < 16 → OnOk result (new ≡ items ++ f ∷ []) → OnErr result (new ≡ items)
-    → IsIndexed (map found_set new) places
-few_pushed (Ok x) items new f places h ok err = few_indexed (map found_set new) places (let e = longer items new f ok in omega arith)
-few_pushed (Err x) items new f places h ok err = few_indexed (map found_set new) places (let e : length (map found_set new) ≡ length items = length-map new found_set ∙ ap length err in omega arith)
+    → HavePlaces (map found_set new) places
+few_pushed (Ok x) items new f places h ok err = few_placed (map found_set new) places (let e = longer items new f ok in omega arith)
+few_pushed (Err x) items new f places h ok err = few_placed (map found_set new) places (let e : length (map found_set new) ≡ length items = length-map new found_set ∙ ap length err in omega arith)
 
 pub many_pushed : {T E : Type 0} (result : Result T E) (items new : List Found) (f : Found) (before after : List (RrKey × ℕ)) (k : RrKey) (place : ℕ)
     → ((q : RrKey) → lookup (key_eq q) after ≡ cond (key_eq k q) (Some place) (lookup (key_eq q) before)) → 16 ≤ length items → k ≡ set_key (found_set f)
-    → OnOk result (new ≡ items ++ f ∷ []) → OnErr result (new ≡ items) → IsIndexed (map found_set items) before → IsIndexed (map found_set new) after
+    → OnOk result (new ≡ items ++ f ∷ []) → OnErr result (new ≡ items) → HavePlaces (map found_set items) before → HavePlaces (map found_set new) after
 many_pushed (Ok x) items new f before after k place put h e ok err a =
-    subst (λ sets. IsIndexed sets after) (sym (ap (map found_set) ok ∙ map-append found_set items (f ∷ [])))
-    (one_more_indexed before after k place put (map found_set items) (found_set f) (let l : length (map found_set items) ≡ length items = length-map items found_set in omega arith) e a)
+    subst (λ sets. HavePlaces sets after) (sym (ap (map found_set) ok ∙ map-append found_set items (f ∷ [])))
+    (one_more_placed before after k place put (map found_set items) (found_set f) (let l : length (map found_set items) ≡ length items = length-map items found_set in omega arith) e a)
 many_pushed (Err x) items new f before after k place put h e ok err a =
-    subst (λ items. IsIndexed (map found_set items) after) (sym err) (still_indexed before after k place put (map found_set items) a)
+    subst (λ items. HavePlaces (map found_set items) after) (sym err) (still_placed before after k place put (map found_set items) a)

@@ -13,5 +13,5 @@ abbrev pub set_key : RRset → RrKey
 set_key s = key (lower s.owner) s.record_type
 
 -- under the key of each set but the first 16 there is a place
-abbrev pub IsIndexed : List RRset → List (RrKey × ℕ) → Type 0
-IsIndexed sets places = AllByRecursion (λ s. IsSome (lookup (key_eq (set_key s)) places)) (drop 16 sets)
+abbrev pub HavePlaces : List RRset → List (RrKey × ℕ) → Type 0
+HavePlaces sets places = AllByRecursion (λ s. IsSome (lookup (key_eq (set_key s)) places)) (drop 16 sets)

@@ -1,12 +1,10 @@
 // Additional records: what a client is likely to ask for next (RFC 1034 section 3.7).
-ghost use Rattle.std.specs.Prelude.{◌≡◌, ℕ, ◌+◌, ◌*◌, ◌≤◌, ◌||◌, ◌==◌, [], IfOk, OnOk, IsOkUnless, None, length, map, option_map};
-ghost use Rattle.std.specs.List.{Contains, list_any};
+ghost use Rattle.std.specs.Prelude.{◌≡◌, ℕ, ◌+◌, ◌*◌, ◌≤◌, ◌||◌, ◌==◌, [], IfOk, IsOkUnless, None, length, option_map};
+ghost use Rattle.std.specs.List.{Contains};
 ghost use Rattle.zone_proto.specs.Names.{lower};
-ghost use Rattle.zone_proto.specs.Sets.{same_set};
 ghost use Rattle.zone_proto.specs.Types.{ANAME};
 ghost use Rattle.zone_search.specs.Additionals.{followed, next_name, run_target, names_host, run_types, alias_sets, AreAdditionals, AreSearches, IsFollowed};
-ghost use Rattle.zone_search.specs.FoundSets.{found_set, listed_sets};
-ghost use Rattle.zone_search.specs.Runs.{with_new};
+ghost use Rattle.zone_search.specs.FoundSets.{listed_sets};
 ghost use Rattle.zone_map.specs.Search.{is_address};
 ghost use Rattle.zone_map.specs.Zones.{IsZone};
 ghost use Rattle.zone_map.specs.Counts.{counted_more};

@@ -7,7 +7,7 @@ ghost use Rattle.zone_proto.specs.Keys.{key_eq};
 ghost use Rattle.zone_proto.specs.Results.{IsCopy};
 ghost use Rattle.zone_proto.specs.Sets.{same_set};
 ghost use Rattle.zone_search.specs.FoundSets.{found_set};
-ghost use Rattle.zone_search.specs.ListedSets.{set_key, IsIndexed};
+ghost use Rattle.zone_search.specs.ListedSets.{set_key, HavePlaces};
 ghost use Rattle.zone_search.specs.Runs.{with_new};
 
 use crate::chain::push;
@@ -38,13 +38,13 @@ impl<'z> Model for ListedSets<'z> {
     ghost use Rattle.std.specs.Prelude.{List, map};
     ghost use Rattle.zone_proto.specs.Sets.{RRset};
     ghost use Rattle.zone_search.specs.FoundSets.{found_set};
-    ghost use Rattle.zone_search.specs.ListedSets.{IsIndexed};
+    ghost use Rattle.zone_search.specs.ListedSets.{HavePlaces};
 
     ghost Value = { List RRset };
 
     ghost view = { λ listed. map found_set listed.sets.items };
 
-    ghost invariant = { λ listed. IsIndexed (map found_set listed.sets.items) listed.places.entries };
+    ghost invariant = { λ listed. HavePlaces (map found_set listed.sets.items) listed.places.entries };
 }
 
 impl<'z> ListedSets<'z> {
@@ -117,7 +117,7 @@ fn is_listed(
     set: &RecordSet,
 ) -> bool
     requires many { 16 ≤ length sets.now }
-    requires indexed { IsIndexed (map found_set sets.now) places.now.entries }
+    requires places { HavePlaces (map found_set sets.now) places.now.entries }
     requires key { key.now ≡ set_key set.now }
     ensures { result ≡ list_any (λ f. same_set (found_set f) set.now) sets.now }
 {
