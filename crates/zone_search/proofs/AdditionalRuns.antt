@@ -1,23 +1,19 @@
 -- A run along first targets, name by name
-use Rattle.std.proofs.Common.{◌≡◌, ℕ, zero, suc, ◌+◌, ◌<◌, ◌≤◌, arith, Bool, true, false, cond, ◌||◌, List, [], ◌∷◌, ◌++◌, map, length, refl, sym, ap, ◌∙◌, subst}
+use Rattle.std.proofs.Common.{◌≡◌, ℕ, zero, suc, ◌+◌, ◌<◌, ◌≤◌, arith, Bool, true, false, cond, List, [], ◌∷◌, ◌++◌, length, refl, sym, ap, ◌∙◌, subst}
 use Rattle.std.specs.Prelude.{Option, Some, None, fold, option_and_then}
 use Rattle.std.specs.List.{list_any, cons_option}
-use Rattle.std.specs.Ordering.{eq_by_cmp}
-use Rattle.std.proofs.lemmas.List.{map-append}
-use Rattle.zone_proto.specs.Names.{Name, name_cmp, name_eq}
+use Rattle.zone_proto.specs.Names.{Name, name_eq}
 use Rattle.zone_proto.specs.Sets.{RRset, same_set}
 use Rattle.zone_proto.specs.Types.{A, AAAA}
 use Rattle.zone_map.specs.Zones.{Sets}
 use Rattle.zone_map.specs.Wildcards.{found}
-use Rattle.zone_search.specs.declared.found.Found.{Found}
-use Rattle.zone_search.specs.FoundSets.{found_set}
 use Rattle.zone_search.specs.Runs.{with_new}
+use Rattle.zone_search.specs.SeenNames.{AreSameNames}
 use Rattle.zone_search.specs.Additionals.{run_target, names_host, leads_to, found_sets, listed_with, AreSearchedNames, IsFollowed, AreCounted, AreSearches, AreAdditionals, AreListed}
 use Rattle.zone_map.specs.Counts.{one_more, counted_more}
 use Rattle.zone_map.proofs.Chains.{names_equiv}
 use Rattle.zone_search.proofs.ChainSearches.{at_most_one, counted_first}
-use Rattle.zone_search.proofs.Chasing.{asked}
-use Rattle.zone_search.proofs.Paths.{run_names, run_names_searched, run_none, run_seen, run_step}
+use Rattle.zone_search.proofs.Paths.{run_names, run_names_searched, run_none, run_seen, run_step, run_same}
 use Rattle.zone_search.proofs.Targets.{targets, leads_among}
 
 module _ (m : Sets) (signed : Bool) (t : ℕ) where
@@ -41,6 +37,10 @@ module _ (m : Sets) (signed : Bool) (t : ℕ) where
   unfolding left
   left_step seen n e = run_step names_equiv (leads_to m signed t) (targets m t) (leads_among m t signed) seen n e
 
+  left_same : (seen other : List Name) (p : Option Name) → AreSameNames seen other → left seen p ≡ left other p
+  unfolding left
+  left_same seen other p e = run_same names_equiv (leads_to m signed t) (targets m t) (leads_among m t signed) seen other p e
+
   -- a name whose set leads nowhere, or that has none, is the last
   left_last : (seen : List Name) (n : Name) → list_any (name_eq n) seen ≡ false → leads_to m signed t n ≡ None → left seen (Some n) ≡ n ∷ []
   left_last seen n e f = left_step seen n e ∙ ap (λ p. n ∷ left (seen ++ n ∷ []) p) f ∙ ap (λ w. n ∷ w) (left_none (seen ++ n ∷ []))
@@ -62,16 +62,28 @@ module _ (m : Sets) (signed : Bool) (t : ℕ) where
       -- also where the count has stopped at its greatest number
       pub bounded : searches + length (left seen (Some name)) ≤ before + length (left first (Some from))
 
+    pub begins : (seen : List Name) → seen ≡ first → Goes begun seen from before
+    begins seen e = subst (λ x. Goes begun x from before) (sym e) (record { listing = refl; count = refl; bounded = omega arith })
+
+    same_goes : (had : List RRset) (seen other : List Name) (name : Name) (searches : ℕ) → AreSameNames other seen → Goes had seen name searches → Goes had other name searches
+    same_goes had seen other name searches e goes =
+        let same : left other (Some name) ≡ left seen (Some name) = left_same other seen (Some name) e in
+        record {
+          listing = ap (listed_with m signed t had) same ∙ goes.listing;
+          count = ap (λ ns. counted_more (length ns) searches) same ∙ goes.count;
+          bounded = subst (λ (ns : List Name). searches + length ns ≤ before + length (left first (Some from))) (sym same) goes.bounded;
+        }
+
     module _ (had new : List RRset) (seen : List Name) (name : Name) (searches after : ℕ) (goes : Goes had seen name searches) (unseen : list_any (name_eq name) seen ≡ false) (counted : after ≡ one_more searches) where
       -- one turn leaves one name fewer
       fewer : (s : RRset) (next : Name) → found m signed name t ≡ Some s → run_target t s ≡ Some next → left seen (Some name) ≡ name ∷ left (seen ++ name ∷ []) (Some next)
       fewer s next f r = left_step seen name unseen ∙ ap (λ p. name ∷ left (seen ++ name ∷ []) p) (ap (option_and_then (run_target t)) f ∙ r)
 
-      pub goes_on : (s : RRset) (next : Name) (pushed : List Name) (then : Name) → found m signed name t ≡ Some s → run_target t s ≡ Some next → new ≡ with_new same_set had s → pushed ≡ seen ++ name ∷ [] → then ≡ next
+      pub goes_on : (s : RRset) (next : Name) (pushed : List Name) (then : Name) → found m signed name t ≡ Some s → run_target t s ≡ Some next → new ≡ with_new same_set had s → AreSameNames pushed (seen ++ name ∷ []) → then ≡ next
           → Goes new pushed then after
       goes_on s next pushed then f r w p q =
           subst (λ x. Goes x pushed then after) (sym w)
-          (subst (λ x. Goes (with_new same_set had s) x then after) (sym p)
+          (same_goes (with_new same_set had s) (seen ++ name ∷ []) pushed then after p
           (subst (λ x. Goes (with_new same_set had s) (seen ++ name ∷ []) x after) (sym q)
           (subst (λ x. Goes (with_new same_set had s) (seen ++ name ∷ []) next x) (sym counted)
           (let rest = left (seen ++ name ∷ []) (Some next) in
@@ -81,11 +93,11 @@ module _ (m : Sets) (signed : Bool) (t : ℕ) where
             bounded = let k : length (left seen (Some name)) ≡ 1 + length rest = ap length (fewer s next f r) ∙ omega arith in omega (arith, k, goes.bounded, at_most_one searches);
           }))))
 
-      pub smaller : (s : RRset) (next : Name) (pushed : List Name) (then : Name) → found m signed name t ≡ Some s → run_target t s ≡ Some next → pushed ≡ seen ++ name ∷ [] → then ≡ next
+      pub smaller : (s : RRset) (next : Name) (pushed : List Name) (then : Name) → found m signed name t ≡ Some s → run_target t s ≡ Some next → AreSameNames pushed (seen ++ name ∷ []) → then ≡ next
           → length (left pushed (Some then)) < length (left seen (Some name))
       smaller s next pushed then f r p q =
           let k : length (left seen (Some name)) ≡ 1 + length (left (seen ++ name ∷ []) (Some next)) = ap length (fewer s next f r) ∙ omega arith in
-          let j : length (left pushed (Some then)) ≡ length (left (seen ++ name ∷ []) (Some next)) = ap (λ x. length (left x (Some then))) p ∙ ap (λ x. length (left (seen ++ name ∷ []) (Some x))) q in
+          let j : length (left pushed (Some then)) ≡ length (left (seen ++ name ∷ []) (Some next)) = ap length (left_same pushed (seen ++ name ∷ []) (Some then) p) ∙ ap (λ x. length (left (seen ++ name ∷ []) (Some x))) q in
           omega arith
 
       -- however this turn ends, the names that were searched are some of the run's
@@ -180,26 +192,3 @@ module _ (m : Sets) (signed : Bool) (n : Name) (t : ℕ) (from : Name) where
   one_listed start had sets before after h p e f =
       let fs : AreSearchedNames m signed (n ∷ []) t (Some from) f.names = subst (λ x. AreSearchedNames m signed x t (Some from) f.names) p f.searched in
       subst (λ b. AreListed m signed (cond b [] (n ∷ [])) from (cond b (A ∷ AAAA ∷ []) (t ∷ [])) [] sets) (sym h) (f.names, fs, f.listed ∙ ap (λ x. listed_with m signed t x f.names) e)
-
--- ---- the test of a turn
-
--- the seen names are asked for this one
-pub told : (name : Name) (seen viewed : List Name) (contained b : Bool) → viewed ≡ seen → contained ≡ list_any (λ y. eq_by_cmp name_cmp y name) viewed → contained ≡ b → list_any (name_eq name) seen ≡ b
-told name seen viewed contained b e f g = sym (asked name seen) ∙ ap (list_any (λ y. eq_by_cmp name_cmp y name)) (sym e) ∙ sym f ∙ g
-
--- ---- the list of sets
-
--- a test of found sets is one of what they stand for
-tested : (s : RRset) (items : List Found) → list_any (λ y. same_set y s) (map found_set items) ≡ list_any (λ f. same_set (found_set f) s) items
-tested s [] = refl
-tested s (f ∷ items) = ap (λ b. same_set (found_set f) s || b) (tested s items)
-
--- an equal set is listed, so nothing is put behind the list
-pub listed_already : (items : List Found) (f : Found) → list_any (λ y. same_set (found_set y) (found_set f)) items ≡ true → map found_set items ≡ with_new same_set (map found_set items) (found_set f)
-listed_already items f e = sym (ap (λ b. cond b (map found_set items) (map found_set items ++ found_set f ∷ [])) (tested (found_set f) items ∙ e))
-
--- none is, and the set is put last
-pub listed_last : (items new : List Found) (f : Found) → list_any (λ y. same_set (found_set y) (found_set f)) items ≡ false → new ≡ items ++ f ∷ [] → map found_set new ≡ with_new same_set (map found_set items) (found_set f)
-listed_last items new f e w =
-    ap (map found_set) w ∙ map-append found_set items (f ∷ [])
-    ∙ sym (ap (λ b. cond b (map found_set items) (map found_set items ++ found_set f ∷ [])) (tested (found_set f) items ∙ e))

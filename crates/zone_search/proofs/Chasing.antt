@@ -22,7 +22,7 @@ use Rattle.zone_search.proofs.ChainSearches.{searches_are, at_most_one, counted_
 
 -- ---- a name among those that were seen
 
-same_test : (y n : Name) → eq_by_cmp name_cmp y n ≡ name_eq n y
+pub same_test : (y n : Name) → eq_by_cmp name_cmp y n ≡ name_eq n y
 same_test y n =
     both_ways (eq_by_cmp name_cmp y n) (name_eq n y)
     (λ e. (name_eq-Decides n y).1 (sym (name_order.exact y n (equal (name_cmp y n) e))))

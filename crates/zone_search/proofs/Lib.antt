@@ -5,6 +5,8 @@ pub mod AdditionalRuns
 pub mod AdditionalLaws
 pub mod RunFronts
 pub mod Chasing
+pub mod SeenNames
+pub mod ListedSets
 pub mod SecuredRecords
 pub mod Replies
 pub mod Examples

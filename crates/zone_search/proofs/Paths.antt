@@ -3,6 +3,7 @@ use Rattle.std.proofs.Common.{◌≡◌, ℕ, zero, suc, ◌+◌, ◌<◌, ◌�
 use Rattle.std.specs.Prelude.{Option, Some, None}
 use Rattle.std.specs.Cmp.{IsEquivalence}
 use Rattle.std.specs.List.{list_any, AllByRecursion, IsDistinct}
+use Rattle.std.proofs.lemmas.List.Folds.{list_any-append}
 use Rattle.std.proofs.lemmas.Map.Made.{length-le_from_is_member}
 use Rattle.zone_search.specs.Runs.{AreSearched}
 use Rattle.zone_proto.proofs.Members.{or_left, or_right}
@@ -23,6 +24,10 @@ not_pushed p (y ∷ xs) x e = by (p y) e (λ h. not_pushed p xs x h)
     by : (b : Bool) → b || list_any p (xs ++ x ∷ []) ≡ false → (list_any p (xs ++ x ∷ []) ≡ false → (list_any p xs ≡ false) × (p x ≡ false)) → (b || list_any p xs ≡ false) × (p x ≡ false)
     by true e ih = absurd (true≢false e)
     by false e ih = ih e
+
+-- a test that passes for both of two lists or for neither does so where one element more stands in both
+both_pushed : {N : Type 0} (p : N → Bool) (xs ys : List N) (x : N) → list_any p xs ≡ list_any p ys → list_any p (xs ++ x ∷ []) ≡ list_any p (ys ++ x ∷ [])
+both_pushed p xs ys x e = list_any-append p xs (x ∷ []) ∙ ap (λ b. b || list_any p (x ∷ [])) e ∙ sym (list_any-append p ys (x ∷ []))
 
 -- the first k names that a run searches
 abbrev searched_upto : {N : Type 0} → (N → N → Bool) → (N → Option N) → ℕ → List N → Option N → List N
@@ -76,6 +81,12 @@ module _ {N : Type 0} {same : N → N → Bool} (laws : IsEquivalence same) (nex
 
   pub searched_once : (seen : List N) (p : Option N) (ns ms : List N) → AreSearched same next seen p ns → AreSearched same next seen p ms → ns ≡ ms
   searched_once seen p ns ms s r = sym (upto_is (length ns + length ms) seen p ns s (omega arith)) ∙ upto_is (length ns + length ms) seen p ms r (omega arith)
+
+  -- which names were seen is all that counts, and not in what order
+  searched_same : (seen other : List N) (p : Option N) (ns : List N) → ((n : N) → list_any (same n) seen ≡ list_any (same n) other) → AreSearched same next seen p ns → AreSearched same next other p ns
+  searched_same seen other None [] e s = tt
+  searched_same seen other (Some n) [] e s = sym (e n) ∙ s
+  searched_same seen other p (n ∷ ns) e (q, f, s) = (q, sym (e n) ∙ f, searched_same (seen ++ n ∷ []) (other ++ n ∷ []) (next n) ns (λ x. both_pushed (same x) seen other n (e x)) s)
 
   -- the names of a path differ from those that were seen, and from each other
   unseen : (seen : List N) (p : Option N) (ns : List N) → IsPath seen p ns → AllByRecursion (λ y. list_any (same y) seen ≡ false) ns
@@ -146,3 +157,6 @@ module _ {N : Type 0} {same : N → N → Bool} (laws : IsEquivalence same) (nex
 
     pub run_step : (seen : List N) (n : N) → list_any (same n) seen ≡ false → run_names seen (Some n) ≡ n ∷ run_names (seen ++ n ∷ []) (next n)
     run_step seen n e = searched_once seen (Some n) (run_names seen (Some n)) (n ∷ run_names (seen ++ n ∷ []) (next n)) (run_names_searched seen (Some n)) (refl, e, run_names_searched (seen ++ n ∷ []) (next n))
+
+    pub run_same : (seen other : List N) (p : Option N) → ((n : N) → list_any (same n) seen ≡ list_any (same n) other) → run_names seen p ≡ run_names other p
+    run_same seen other p e = searched_once other p (run_names seen p) (run_names other p) (searched_same seen other p (run_names seen p) e (run_names_searched seen p)) (run_names_searched other p)

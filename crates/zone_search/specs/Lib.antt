@@ -2,6 +2,8 @@ pub mod Inner
 pub mod StartOfAuthority
 pub mod FoundSets
 pub mod Runs
+pub mod SeenNames
+pub mod ListedSets
 pub mod Additionals
 pub mod AdditionalLaws
 pub mod Flattening

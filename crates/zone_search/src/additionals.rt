@@ -1,12 +1,10 @@
 // Additional records: what a client is likely to ask for next (RFC 1034 section 3.7).
-ghost use Rattle.std.specs.Prelude.{◌≡◌, ℕ, ◌+◌, ◌*◌, ◌≤◌, ◌||◌, ◌==◌, [], IfOk, OnOk, IsOkUnless, None, length, map, option_map};
-ghost use Rattle.std.specs.List.{Contains, list_any};
+ghost use Rattle.std.specs.Prelude.{◌≡◌, ℕ, ◌+◌, ◌*◌, ◌≤◌, ◌||◌, ◌==◌, [], IfOk, IsOkUnless, None, length, option_map};
+ghost use Rattle.std.specs.List.{Contains};
 ghost use Rattle.zone_proto.specs.Names.{lower};
-ghost use Rattle.zone_proto.specs.Sets.{same_set};
 ghost use Rattle.zone_proto.specs.Types.{ANAME};
 ghost use Rattle.zone_search.specs.Additionals.{followed, next_name, run_target, names_host, run_types, alias_sets, AreAdditionals, AreSearches, IsFollowed};
-ghost use Rattle.zone_search.specs.FoundSets.{found_set, listed_sets};
-ghost use Rattle.zone_search.specs.Runs.{with_new};
+ghost use Rattle.zone_search.specs.FoundSets.{listed_sets};
 ghost use Rattle.zone_map.specs.Search.{is_address};
 ghost use Rattle.zone_map.specs.Zones.{IsZone};
 ghost use Rattle.zone_map.specs.Counts.{counted_more};
@@ -14,7 +12,9 @@ ghost use Rattle.zone_map.specs.Counts.{counted_more};
 use crate::chain::{cname_target, push};
 use crate::found::Found;
 use crate::inner_in_memory::InnerInMemory;
+use crate::listed_sets::ListedSets;
 use crate::searches::Searches;
+use crate::seen_names::SeenNames;
 use zone_handler::{LookupError, LookupOptions};
 use zone_map::search::is_address;
 use zone_proto::{LowerName, Name, ProtoError, RData, RecordSet, RecordType, Signer};
@@ -48,7 +48,7 @@ impl<S: Signer> InnerInMemory<S> {
         // Its clause says that these are the sets of a zone.
         let _ = self.as_map();
         let alloc = next_name.alloc();
-        let mut sets = Vec::new(alloc);
+        let mut sets = ListedSets::new(alloc);
         let mut seen = Vec::new(alloc);
         if names_host(original_type) {
             let from = next_name.clone()?;
@@ -80,6 +80,7 @@ impl<S: Signer> InnerInMemory<S> {
                 searches,
             )?;
         }
+        let sets = sets.into_vec();
         if sets.is_empty() {
             return Ok(None);
         }
@@ -89,18 +90,19 @@ impl<S: Signer> InnerInMemory<S> {
     /// One run: lists the sets that are found along first targets, from `name` on.
     fn follow<'z>(
         &'z self,
-        mut seen: Vec<LowerName>,
+        seen: Vec<LowerName>,
         from: LowerName,
         search_type: RecordType,
         lookup_options: LookupOptions,
-        sets: &mut Vec<Found<'z>>,
+        sets: &mut ListedSets<'z>,
         searches: &mut Searches,
     ) -> Result<(), LookupError>
         ensures followed { IfOk result (λ _.
-            IsFollowed self.now.records lookup_options.dnssec_ok seen.items search_type.0 from (map found_set sets.old.items) (map found_set sets.new.items) searches.old searches.new) }
+            IsFollowed self.now.records lookup_options.dnssec_ok seen.items search_type.0 from sets.old sets.new searches.old searches.new) }
         ensures at_most { IsZone self.now.records → (u : ℕ) → Contains (run_types u) search_type.0 → searches.new ≤ searches.old + (1 + alias_sets self.now.records) }
         ensures err { IsOkUnless result LookupError.Memory }
     {
+        let mut seen = SeenNames::new(seen);
         let mut name = from;
         while !seen.contains(&name) {
             let Some(found) = self.inner_lookup(&name, search_type, lookup_options, searches)?
@@ -108,39 +110,15 @@ impl<S: Signer> InnerInMemory<S> {
                 return Ok(());
             };
             let target = run_target(found.set(), search_type)?;
-            list_new(sets, found)?;
+            sets.list_new(found)?;
             let Some(next) = target else {
                 return Ok(());
             };
-            push(&mut seen, name)?;
+            seen.push(name)?;
             name = next;
         }
         Ok(())
     }
-}
-
-/// Puts a set behind those that are listed, unless an equal one is.
-fn list_new<'z>(sets: &mut Vec<Found<'z>>, found: Found<'z>) -> Result<(), ProtoError>
-    ensures listed { OnOk result (map found_set sets.new.items ≡ with_new same_set (map found_set sets.old.items) (found_set found.entry)) }
-    ensures err { IsOkUnless result ProtoError.Memory }
-{
-    if is_listed(sets.as_slice(), found.set()) {
-        return Ok(());
-    }
-    push(sets, found)?;
-    Ok(())
-}
-
-/// Whether a set is equal to one that is listed.
-fn is_listed(sets: &[Found<'_>], set: &RecordSet) -> bool
-    ensures { result ≡ list_any (λ f. same_set (found_set f) set.now) sets.now }
-{
-    for listed in sets {
-        if listed.set() == set {
-            return true;
-        }
-    }
-    false
 }
 
 /// Whether data of a type name a host, so that its addresses are of use beside them.

@@ -1,5 +1,5 @@
 // Chains of aliases: a CNAME begins the search anew at its target (RFC 1034 section 3.6.2).
-ghost use Rattle.std.specs.Prelude.{◌≡◌, ◌≤◌, ◌+◌, ◌∷◌, ◌++◌, [], IfOk, OnOk, IsOkUnless, map, drop};
+ghost use Rattle.std.specs.Prelude.{◌≡◌, ◌≤◌, ◌+◌, ◌∷◌, ◌++◌, [], IfOk, OnOk, OnErr, IsOkUnless, map, drop};
 ghost use Rattle.zone_map.specs.Chains.{cname_target, chain, chain_links, chain_searches};
 ghost use Rattle.zone_search.specs.FoundSets.{found_set, lent_set};
 ghost use Rattle.zone_map.specs.Search.{direct};
@@ -92,6 +92,7 @@ pub(crate) fn into_sets(chain: Vec<Found<'_>>) -> Result<Vec<RecordSet>, LookupE
 pub(crate) fn push<T: Drop>(list: &mut Vec<T>, item: T) -> Result<(), ProtoError>
     ensures ok { OnOk result (list.new.items ≡ list.old.items ++ item ∷ []) }
     ensures err { IsOkUnless result ProtoError.Memory }
+    ensures same { OnErr result (list.new.items ≡ list.old.items) }
 {
     list.push(item)?;
     Ok(())

@@ -14,7 +14,9 @@ mod flattening;
 mod found;
 mod inner_in_memory;
 pub mod laws;
+mod listed_sets;
 mod searches;
+mod seen_names;
 pub mod start_of_authority;
 mod zone_error;
 

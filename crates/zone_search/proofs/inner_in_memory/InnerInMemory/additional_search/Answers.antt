@@ -1,7 +1,8 @@
-use Rattle.std.proofs.Common.{◌≡◌, ◌==◌, ◌+◌, ◌*◌, ◌≤◌, arith, length, ℕ, true, ap, sym, ◌∙◌, subst, map, [], ◌∷◌, ◌++◌}
+use Rattle.std.proofs.Common.{◌≡◌, ◌==◌, ◌+◌, ◌*◌, ◌≤◌, arith, length, ℕ, true, ap, sym, ◌∙◌, subst, map, List, [], ◌∷◌, ◌++◌}
 use Rattle.std.specs.declared.alloc.Global.{Global}
 use Rattle.std.specs.declared.vec.Vec.{Vec}
 use Rattle.zone_search.specs.declared.found.Found.{Found}
+use Rattle.zone_proto.specs.Sets.{RRset}
 use Rattle.zone_proto.specs.Types.{ANAME}
 use Rattle.zone_proto.proofs.Members.{no_items}
 use Rattle.zone_search.specs.FoundSets.{found_set}
@@ -11,22 +12,22 @@ use Rattle.zone_search.specs.Additionals.{run_types, alias_sets, AreAdditionals}
 use Rattle.zone_search.proofs.inner_in_memory.InnerInMemory.additional_search.Goals as goal
 use Rattle.zone_search.proofs.inner_in_memory.InnerInMemory.additional_search.Goals.{then-names_host+in_ok-from+in_ok-follow+in_ok-follow-2, else-names_host+in_ok-clone+in_ok-push+in_ok-follow-3}
 
-nothing : (sets after : Vec Found Global) → sets ≡ after → (sets.len == 0) ≡ true → map found_set after.items ≡ []
-nothing sets after e h = sym (ap (λ (v : Vec Found Global). map found_set v.items) e) ∙ ap (map found_set) (no_items sets.items sets.len sets.ok.0 h)
+nothing : (sets : Vec Found Global) (listed after : List RRset) → map found_set sets.items ≡ listed → listed ≡ after → (sets.len == 0) ≡ true → after ≡ []
+nothing sets listed after e f h = sym (e ∙ f) ∙ ap (map found_set) (no_items sets.items sets.len sets.ok.0 h)
 
 pub returns-then-is_empty-clause-counted : goal.returns-then-is_empty-clause-counted
 returns-then-is_empty-clause-counted g c =
     elim c.if-names_host.branch [
       | then-names_host+in_ok-from+in_ok-follow+in_ok-follow-2 w ↦
           let r = two_runs c.args.self.now.records c.args.lookup_options.dnssec_ok c.args.original_name.now c.args.original_type.0 c.args.next_name
-          c.new-seen.result.items w.new-seen-then-names_host.result.items w.in_ok-from.from (map found_set c.new-sets.result.items) (map found_set w.follow.new.sets.items) (map found_set w.follow-then-names_host.new.sets.items)
+          c.new-seen.result.items w.new-seen-then-names_host.result.items w.in_ok-from.from c.new-sets.result w.follow.new.sets w.follow-then-names_host.new.sets
           c.args.searches.now w.follow.new.searches w.follow-then-names_host.new.searches
           (sym c.names_host.ensures ∙ w.if-names_host.true) c.new-seen.ensures.items w.new-seen-then-names_host.ensures.items w.in_ok-from.ensures.ok
           w.in_ok-follow.ensures.followed w.in_ok-follow-2.ensures.followed in
           (r.0, r.1, w.searches-is ∙ r.2)
       | else-names_host+in_ok-clone+in_ok-push+in_ok-follow-3 w ↦
           let r = one_run c.args.self.now.records c.args.lookup_options.dnssec_ok c.args.original_name.now c.args.original_type.0 c.args.next_name
-          w.push.new.list.items (map found_set c.new-sets.result.items) (map found_set w.follow-else-names_host.new.sets.items)
+          w.push.new.list.items c.new-sets.result w.follow-else-names_host.new.sets
           c.args.searches.now w.follow-else-names_host.new.searches
           (sym c.names_host.ensures ∙ w.if-names_host.false)
           (w.in_ok-push.ensures.ok ∙ ap (λ xs. xs ++ w.in_ok-clone.field-0 ∷ []) c.new-seen.ensures.items ∙ ap (λ x. x ∷ []) w.in_ok-clone.ensures.ok)
@@ -39,14 +40,14 @@ returns-clause-counted g c =
     elim c.if-names_host.branch [
       | then-names_host+in_ok-from+in_ok-follow+in_ok-follow-2 w ↦
           let r = two_runs c.args.self.now.records c.args.lookup_options.dnssec_ok c.args.original_name.now c.args.original_type.0 c.args.next_name
-          c.new-seen.result.items w.new-seen-then-names_host.result.items w.in_ok-from.from (map found_set c.new-sets.result.items) (map found_set w.follow.new.sets.items) (map found_set w.follow-then-names_host.new.sets.items)
+          c.new-seen.result.items w.new-seen-then-names_host.result.items w.in_ok-from.from c.new-sets.result w.follow.new.sets w.follow-then-names_host.new.sets
           c.args.searches.now w.follow.new.searches w.follow-then-names_host.new.searches
           (sym c.names_host.ensures ∙ w.if-names_host.true) c.new-seen.ensures.items w.new-seen-then-names_host.ensures.items w.in_ok-from.ensures.ok
           w.in_ok-follow.ensures.followed w.in_ok-follow-2.ensures.followed in
           (r.0, r.1, w.searches-is ∙ r.2)
       | else-names_host+in_ok-clone+in_ok-push+in_ok-follow-3 w ↦
           let r = one_run c.args.self.now.records c.args.lookup_options.dnssec_ok c.args.original_name.now c.args.original_type.0 c.args.next_name
-          w.push.new.list.items (map found_set c.new-sets.result.items) (map found_set w.follow-else-names_host.new.sets.items)
+          w.push.new.list.items c.new-sets.result w.follow-else-names_host.new.sets
           c.args.searches.now w.follow-else-names_host.new.searches
           (sym c.names_host.ensures ∙ w.if-names_host.false)
           (w.in_ok-push.ensures.ok ∙ ap (λ xs. xs ++ w.in_ok-clone.field-0 ∷ []) c.new-seen.ensures.items ∙ ap (λ x. x ∷ []) w.in_ok-clone.ensures.ok)
@@ -59,21 +60,21 @@ returns-then-is_empty-clause-additionals g c =
     elim c.if-names_host.branch [
       | then-names_host+in_ok-from+in_ok-follow+in_ok-follow-2 w ↦
           subst (AreAdditionals c.args.self.now.records c.args.lookup_options.dnssec_ok c.args.original_name.now c.args.original_type.0 c.args.next_name)
-          (nothing c.if-names_host.sets _ w.sets-is (sym c.is_empty.ensures ∙ c.if-is_empty.true))
+          (nothing c.into_vec-sets.result c.if-names_host.sets _ c.into_vec-sets.ensures w.sets-is (sym c.is_empty.ensures ∙ c.if-is_empty.true))
           (two_listed c.args.self.now.records c.args.lookup_options.dnssec_ok c.args.original_name.now c.args.original_type.0 c.args.next_name
-          c.new-seen.result.items w.new-seen-then-names_host.result.items w.in_ok-from.from (map found_set c.new-sets.result.items) (map found_set w.follow.new.sets.items) (map found_set w.follow-then-names_host.new.sets.items)
+          c.new-seen.result.items w.new-seen-then-names_host.result.items w.in_ok-from.from c.new-sets.result w.follow.new.sets w.follow-then-names_host.new.sets
           c.args.searches.now w.follow.new.searches w.follow-then-names_host.new.searches
-          (sym c.names_host.ensures ∙ w.if-names_host.true) c.new-seen.ensures.items w.new-seen-then-names_host.ensures.items w.in_ok-from.ensures.ok (ap (map found_set) c.new-sets.ensures.items)
+          (sym c.names_host.ensures ∙ w.if-names_host.true) c.new-seen.ensures.items w.new-seen-then-names_host.ensures.items w.in_ok-from.ensures.ok c.new-sets.ensures
           w.in_ok-follow.ensures.followed w.in_ok-follow-2.ensures.followed)
       | else-names_host+in_ok-clone+in_ok-push+in_ok-follow-3 w ↦
           subst (AreAdditionals c.args.self.now.records c.args.lookup_options.dnssec_ok c.args.original_name.now c.args.original_type.0 c.args.next_name)
-          (nothing c.if-names_host.sets _ w.sets-is (sym c.is_empty.ensures ∙ c.if-is_empty.true))
+          (nothing c.into_vec-sets.result c.if-names_host.sets _ c.into_vec-sets.ensures w.sets-is (sym c.is_empty.ensures ∙ c.if-is_empty.true))
           (one_listed c.args.self.now.records c.args.lookup_options.dnssec_ok c.args.original_name.now c.args.original_type.0 c.args.next_name
-          w.push.new.list.items (map found_set c.new-sets.result.items) (map found_set w.follow-else-names_host.new.sets.items)
+          w.push.new.list.items c.new-sets.result w.follow-else-names_host.new.sets
           c.args.searches.now w.follow-else-names_host.new.searches
           (sym c.names_host.ensures ∙ w.if-names_host.false)
           (w.in_ok-push.ensures.ok ∙ ap (λ xs. xs ++ w.in_ok-clone.field-0 ∷ []) c.new-seen.ensures.items ∙ ap (λ x. x ∷ []) w.in_ok-clone.ensures.ok)
-          (ap (map found_set) c.new-sets.ensures.items)
+          c.new-sets.ensures
           w.in_ok-follow-3.ensures.followed)
     ]
 

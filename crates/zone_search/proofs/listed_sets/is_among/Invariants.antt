@@ -2,7 +2,7 @@ use Rattle.std.proofs.Common.{◌≡◌, false, take}
 use Rattle.std.specs.List.{list_any}
 use Rattle.zone_proto.specs.Sets.{same_set}
 use Rattle.zone_search.specs.FoundSets.{found_set}
-use Rattle.zone_search.proofs.additionals.is_listed.Given as goal
+use Rattle.zone_search.proofs.listed_sets.is_among.Given as goal
 
 -- none of those passed is equal
 abbrev pub invariant-loop-listed : goal.invariant-loop-listed
