@@ -1,5 +1,5 @@
 -- How lookups and denials agree with a circle of NSEC sets
-use Rattle.std.proofs.Common.{◌≡◌, ◌⊎◌, inl, inr, ℕ, Bool, true, false, List, refl, sym, ap, ◌∙◌, subst, IsTrue}
+use Rattle.std.proofs.Common.{◌≡◌, ◌⊎◌, inl, inr, ℕ, Bool, ◌||◌, true, false, List, refl, sym, ap, ◌∙◌, subst, IsTrue}
 use Rattle.std.specs.Prelude.{Option, Some, None, Ok, Err, Result, MatchOption}
 use Rattle.std.specs.Prelude.{cond}
 use Rattle.zone_proto.specs.declared.record.Record.{Record}
@@ -15,7 +15,7 @@ use Rattle.zone_handler.specs.declared.lookup_options.LookupOptions.{LookupOptio
 use Rattle.zone_handler.specs.declared.lookup_records.LookupRecords.{LookupRecords}
 use Rattle.zone_handler.specs.Answers.{sets_in}
 use Rattle.zone_map.specs.AnyTypes.{searched_type}
-use Rattle.zone_map.specs.Wildcards.{found}
+use Rattle.zone_map.specs.Wildcards.{asked_star_exists, found}
 use Rattle.zone_map.specs.Zones.{Sets, owns_at_or_below}
 use Rattle.zone_denial.specs.NsecDenial.{nsec_denial}
 use Rattle.zone_denial.specs.NsecLaws.{IsNsecZone}
@@ -64,12 +64,13 @@ module _ (sign : RRset → List Record) (origin : Name) (m : Sets) (options : Lo
 
 -- what a denial says of the name
 pub exists_owned : (origin : Name) (m : Sets) (n : Name) → denial origin m n ≡ nx_domain → (owns_at_or_below m n ≡ false) × IsTrue (is_at_or_above origin n)
-exists_owned origin m n = by (owns_at_or_below m n) (is_at_or_above origin n)
+exists_owned origin m n = by (owns_at_or_below m n) (asked_star_exists m n) (is_at_or_above origin n)
   where
-    by : (a b : Bool) → cond a name_exists (cond b nx_domain refused) ≡ nx_domain → (a ≡ false) × IsTrue b
-    by true b e = absurd cc
-    by false true e = (refl, refl)
-    by false false e = absurd cc
+    by : (a s b : Bool) → cond (a || s) name_exists (cond b nx_domain refused) ≡ nx_domain → (a ≡ false) × IsTrue b
+    by true s b e = absurd cc
+    by false true b e = absurd cc
+    by false false true e = (refl, refl)
+    by false false false e = absurd cc
 
 module _ (origin : Name) (m : Sets) (circle : IsNsecZone origin m) where
   pub lookup_agrees : (sign : RRset → List Record) (options : LookupOptions) (n : Name) (t : ℕ) (step : LookupControlFlow AuthLookup LookupError)

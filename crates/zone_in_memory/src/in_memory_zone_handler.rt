@@ -1,4 +1,4 @@
-ghost use Rattle.std.specs.Prelude.{◌≡◌, ◌≢◌, ◌⊎◌, ℕ, List, Option, false, [], Ok, Err, IfErr, IfOk, IsTrue, option_copied};
+ghost use Rattle.std.specs.Prelude.{◌≡◌, ◌≢◌, ◌⊎◌, ℕ, List, Option, false, [], Ok, Err, IfErr, IfOk, IsOkUnless, IsTrue, option_copied};
 ghost use Rattle.zone_proto.specs.declared.rdata.denial.NSEC3PARAM.{NSEC3PARAM as Nsec3Parameters};
 ghost use Rattle.zone_proto.specs.Names.{Name, lower, is_at_or_above};
 ghost use Rattle.zone_proto.specs.Types.{IN, SOA, AXFR};
@@ -7,7 +7,7 @@ ghost use Rattle.zone_denial.specs.Nsec3Zones.{IsNsec3Zone, IsHashed, TellsApart
 ghost use Rattle.zone_handler.specs.Hashing.{digest_for};
 ghost use Rattle.zone_handler.specs.Transfers.{IsNoLookup};
 ghost use Rattle.zone_search.specs.StartOfAuthority.{soa, serial, minimum};
-ghost use Rattle.zone_search.specs.Replies.{absent, denial, IsReplyFor};
+ghost use Rattle.zone_search.specs.Replies.{absent, denial, is_there, IsReplyFor};
 ghost use Rattle.zone_in_memory.specs.Lookup.{error_of, SaysOrMemory, IsLookup, IsAnswered};
 ghost use Rattle.zone_in_memory.specs.NsecAnswers.{IsNsecAnswer, HasNsecProof, AgreesWithCircle};
 ghost use Rattle.zone_in_memory.specs.Nsec3Steps.{IsNsec3Answer};
@@ -256,11 +256,22 @@ impl<S: Signer, H: Nsec3Hash> InMemoryZoneHandler<S, H> {
     fn denial(&self, name: &LowerName) -> LookupError
         ensures { (result ≡ error_of (denial self.now.origin self.now.inner.records name.now)) ⊎ (result ≡ LookupError.Memory) }
     {
-        match self.inner.owns_at_or_below(name, &mut Reads::new()) {
+        match self.is_there(name) {
             Err(_) => LookupError::Memory,
             Ok(true) => LookupError::for_name_exists(),
             Ok(false) => denial_of_absent(&self.apex.name, name),
         }
+    }
+
+    /// Whether a name is there: it or a name below it owns a set, or the star that is asked for it exists.
+    fn is_there(&self, name: &LowerName) -> Result<bool, LookupError>
+        ensures answer { IfOk result (λ there. there ≡ is_there self.now.inner.records name.now) }
+        ensures err { IsOkUnless result LookupError.Memory }
+    {
+        if self.inner.owns_at_or_below(name, &mut Reads::new())? {
+            return Ok(true);
+        }
+        self.inner.asked_star_exists(name)
     }
 }
 
@@ -327,8 +338,9 @@ impl<S: Signer, H: Nsec3Hash> ZoneHandler for InMemoryZoneHandler<S, H> {
     /// since 1970, is past the year 9999.
     ///
     /// Where nothing is found the answer is `NameExists` if the name or a name below it owns a set (RFC 2308 section
-    /// 2.2), else `NXDomain` for a name at or below the origin (RFC 2308 section 2.1), and else `Refused` (RFC 1035
-    /// section 4.1.1). `Memory` may come in place of these, but not of the answer to AXFR. `request_info` isn't used.
+    /// 2.2), or if the star that [`InnerInMemory::inner_lookup`] asks for it exists (RFC 4592 section 2.2.1), else
+    /// `NXDomain` for a name at or below the origin (RFC 2308 section 2.1), and else `Refused` (RFC 1035 section 4.1.1).
+    /// `Memory` may come in place of these, but not of the answer to AXFR. `request_info` isn't used.
     ///
     /// In a zone whose NSEC or NSEC3 sets are a circle the answer agrees with them: `NXDomain` comes only for a name that
     /// isn't on the circle, and `NameExists` for a name on it only for a type that its set doesn't list, RRSIG aside.

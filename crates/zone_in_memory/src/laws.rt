@@ -10,7 +10,7 @@ ghost use Rattle.zone_proto.specs.Names.{Name, name_cmp, lower, IsAtOrAbove};
 ghost use Rattle.zone_proto.specs.Order.{is_upto};
 ghost use Rattle.zone_proto.specs.Sets.{RRset};
 ghost use Rattle.zone_map.specs.Search.{is_delegated_for, nearest_delegation};
-ghost use Rattle.zone_map.specs.SearchLaws.{StarIsNearest, ChainIsLongestFront, ChainHasAtMost8};
+ghost use Rattle.zone_map.specs.SearchLaws.{StarIsOfClosestEncloser, ChainIsLongestFront, ChainHasAtMost8};
 ghost use Rattle.zone_map.specs.Upserts.{upserted};
 ghost use Rattle.zone_map.specs.Zones.{Sets, set_at, owns, names_of, owners, types_at, put, without, IsStoredAt, IsZone};
 ghost use Rattle.zone_in_memory.specs.CircleLaws.{UntakenKeepsCircle, RefusedKeyKeepsCircle, RefusedSecuringKeepsCircle};
@@ -58,10 +58,11 @@ pub fn nearest_delegation_is_the_longest()
     ensures none { (m : Sets) (n b : Name) (t : ℕ) → nearest_delegation m n t ≡ None → IsAtOrAbove b n → is_delegated_for m n t b ≡ false }
 {}
 
-/// The wildcard that answers for a name stands under the longest of the name's proper ancestors whose star has a set:
-/// no star under a longer one has any (RFC 4592 section 3.3.1).
-pub fn star_is_nearest()
-    ensures { StarIsNearest }
+/// The star that is asked for a name is the one under its closest encloser, the longest of the name's proper ancestors that
+/// exists (RFC 4592 section 3.3.1). None is asked for a name that begins with `*`, for one that exists, and where none of the
+/// ancestors exists; for each other name but the root one is.
+pub fn star_is_of_closest_encloser()
+    ensures { StarIsOfClosestEncloser }
 {}
 
 /// However far the sets along CNAME targets are followed, the chain from a name and its set is the longest front of them

@@ -10,6 +10,7 @@ pub mod OwnersKept
 pub mod Delegations
 pub mod Wildcards
 pub mod Walks
+pub mod ExistingNames
 pub mod Renaming
 pub mod AnyTypes
 pub mod AtName

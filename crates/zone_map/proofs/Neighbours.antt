@@ -65,7 +65,7 @@ zero_first zero = refl
 zero_first (suc t) = ap is_le (sym (nat_cmp_is 0 (suc t) Less (omega arith)))
 
 -- an entry stands at or after the least key of a name that isn't after its own
-at_or_after : (n : Name) (e : RrKey × RRset) → is_le (name_cmp n e.0.name) ≡ true → range_contains key_cmp (Included (key n 0)) Unbounded e.0 ≡ true
+pub at_or_after : (n : Name) (e : RrKey × RRset) → is_le (name_cmp n e.0.name) ≡ true → range_contains key_cmp (Included (key n 0)) Unbounded e.0 ≡ true
 at_or_after n e h = by (name_cmp n e.0.name) h
   where
     by : (o : Ordering) → is_le o ≡ true → is_le (ordering_then o (nat_cmp 0 e.0.record_type.0)) && true ≡ true
@@ -73,7 +73,7 @@ at_or_after n e h = by (name_cmp n e.0.name) h
     by Equal h = ap (λ b. b && true) (zero_first e.0.record_type.0)
     by Greater h = absurd (true≢false (sym h))
 
-earlier : (n : Name) (e : RrKey × RRset) → name_cmp n e.0.name ≡ Greater → range_contains key_cmp (Included (key n 0)) Unbounded e.0 ≡ false
+pub earlier : (n : Name) (e : RrKey × RRset) → name_cmp n e.0.name ≡ Greater → range_contains key_cmp (Included (key n 0)) Unbounded e.0 ≡ false
 earlier n e h = ap (λ o. is_le (ordering_then o (nat_cmp 0 e.0.record_type.0)) && true) h
 
 not_after : (o p : Ordering) → ordering_then o p ≡ Less → (o ≡ Less) ⊎ (o ≡ Equal)
@@ -159,7 +159,7 @@ first_is_below n [] = false
 first_is_below n (e ∷ m) = is_at_or_above n e.0.name
 
 -- a name that stands before n isn't below it
-before_not_below : (n : Name) (e : RrKey × RRset) → name_cmp n e.0.name ≡ Greater → is_at_or_above n e.0.name ≡ false
+pub before_not_below : (n : Name) (e : RrKey × RRset) → name_cmp n e.0.name ≡ Greater → is_at_or_above n e.0.name ≡ false
 before_not_below n e h = by (is_at_or_above n e.0.name) refl
   where
     split : (n ≡ e.0.name) ⊎ IsAbove n e.0.name → ⊥
@@ -171,7 +171,7 @@ before_not_below n e h = by (is_at_or_above n e.0.name) refl
     by false g = refl
 
 -- where an entry at or after n isn't below it, no later one is
-none_below : (n : Name) (e : RrKey × RRset) (m : Sets) → is_le (name_cmp n e.0.name) ≡ true → is_at_or_above n e.0.name ≡ false
+pub none_below : (n : Name) (e : RrKey × RRset) (m : Sets) → is_le (name_cmp n e.0.name) ≡ true → is_at_or_above n e.0.name ≡ false
     → AllByRecursion (λ k. key_cmp e.0 k ≡ Less) (keys_of m) → owns_at_or_below m n ≡ false
 none_below n e [] h g a = refl
 none_below n e (f ∷ m) h g a =

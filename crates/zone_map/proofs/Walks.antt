@@ -1,4 +1,4 @@
--- A walk up the suffixes of a name looks for the nearest delegation once at each
+-- A walk up the suffixes of a name looks for the nearest delegation: what the name says itself, and what the names above it say
 use Rattle.std.proofs.Common.{◌≡◌, ℕ, zero, suc, ◌-◌, ◌<◌, ◌≤◌, Bool, true, false, cond, not, ◌&&◌, List, [], ◌∷◌, length, drop, refl, sym, ap, ◌∙◌, subst, arith, ◌⊎◌, inl, inr}
 use Rattle.std.specs.Prelude.{Option, Some, None, find, ◌||◌, ◌==◌, is_some, unwrap_or, option_map, option_and_then, option_copied}
 use Rattle.std.specs.Borrow.{Bor}
@@ -10,8 +10,8 @@ use Rattle.std.proofs.lemmas.Slice.Eq.{bytes_eq-Decides}
 use Rattle.zone_proto.proofs.Tree.{name_eq_itself}
 use Rattle.zone_map.specs.Zones.{Sets, set_at, owns}
 use Rattle.zone_map.specs.Search.{is_delegated, is_delegated_for, referral_at, referral, exact, direct}
-use Rattle.zone_map.specs.Wildcards.{star_under, proper_ancestors, is_starred, renamed, star_source, from_star, wildcard}
-use Rattle.zone_map.specs.Walks.{referral_above, own_referral, star_and_set, nearest_star, IsWalked, IsSettled}
+use Rattle.zone_map.specs.Wildcards.{is_starred}
+use Rattle.zone_map.specs.Walks.{referral_above, own_referral}
 use Rattle.zone_map.proofs.Delegations.{find_same, suffix_length, shorter_differs, others_count, and_true}
 
 -- ---- what the name itself says
@@ -60,89 +60,11 @@ above_split m n =
     ap (referral_at m) (find_same (is_delegated m) (is_delegated_for m n NS) (suffixes n) (λ a i. sym (and_true (is_delegated m a) true refl)))
     ∙ referral_split m n NS
 
-above_passed : (m : Sets) (n : Name) → own_referral m n NS ≡ None → referral_above m n ≡ referral_above m (drop 1 n)
+pub above_passed : (m : Sets) (n : Name) → own_referral m n NS ≡ None → referral_above m n ≡ referral_above m (drop 1 n)
 above_passed m n e = above_split m n ∙ ap (λ o. unwrap_or o (referral_above m (drop 1 n))) e
 
 pub above_own : (m : Sets) (n : Name) (r : Option RRset) → own_referral m n NS ≡ Some r → referral_above m n ≡ r
 above_own m n r e = above_split m n ∙ ap (λ o. unwrap_or o (referral_above m (drop 1 n))) e
-
--- ---- the walk, suffix by suffix
-
-pub drop_more : (i : ℕ) (xs : Name) → drop 1 (drop i xs) ≡ drop (suc i) xs
-drop_more zero xs = refl
-drop_more (suc i) [] = refl
-drop_more (suc i) (x ∷ xs) = drop_more i xs
-
-length_rest : (n : Name) → length (drop 1 n) ≡ length n - 1
-length_rest [] = refl
-length_rest (l ∷ n) = omega arith
-
-some_label : (n : Name) → (n ≡ [] → ⊥) → 0 < length n
-some_label [] h = absurd (h refl)
-some_label (l ∷ n) h = omega arith
-
-pub walk_begins : (m : Sets) (a : Name) → IsWalked m a a (referral_above m a)
-walk_begins m a =
-    let none : length a - length a ≡ 0 = omega arith in
-    record {
-      upward = omega arith;
-      suffix = ap (λ i. drop i a) (sym none);
-      same = λ j h. let z : j ≡ 0 = omega arith in ap (λ i. referral_above m (drop i a)) z;
-    }
-
-one_more : (j k : ℕ) → j ≤ suc k → (j ≤ k) ⊎ (j ≡ suc k)
-one_more j k h = grind arith
-
-pub walk_goes_on : (m : Sets) (a e : Name) → IsWalked m a e (referral_above m e) → (e ≡ [] → ⊥) → own_referral m e NS ≡ None → IsWalked m a (drop 1 e) (referral_above m (drop 1 e))
-walk_goes_on m a e w h none =
-    let k : ℕ = length a - length e in
-    let some : 0 < length e = some_label e h in
-    let next : length a - length (drop 1 e) ≡ suc k = omega (arith, some, w.upward, length_rest e) in
-    let here : drop (suc k) a ≡ drop 1 e = sym (drop_more k a) ∙ ap (drop 1) (sym w.suffix) in
-    record {
-      upward = omega (arith, w.upward, length_rest e);
-      suffix = sym here ∙ ap (λ i. drop i a) (sym next);
-      same = λ j b.
-          by j k here (λ c. w.same j c ∙ above_passed m e none) (one_more j k (subst (λ i. j ≤ i) next b));
-    }
-  where
-    by : (j k : ℕ) → drop (suc k) a ≡ drop 1 e → (j ≤ k → referral_above m (drop j a) ≡ referral_above m (drop 1 e)) → (j ≤ k) ⊎ (j ≡ suc k)
-        → referral_above m (drop j a) ≡ referral_above m (drop 1 e)
-    by j k here earlier (inl c) = earlier c
-    by j k here earlier (inr c) = ap (λ i. referral_above m (drop i a)) c ∙ ap (referral_above m) here
-
-pub walk_says : (m : Sets) (a e : Name) (r s : Option RRset) → IsWalked m a e r → r ≡ s → IsWalked m a e s
-walk_says m a e r s w h = subst (λ x. IsWalked m a e x) h w
-
--- a look-up that finds no set
-pub not_found : (o : Option (Bor RRset)) → ((s : Bor RRset) → o ≡ Some s → ⊥) → option_copied o ≡ None
-not_found None h = refl
-not_found (Some s) h = absurd (h s refl)
-
--- all of the walk has one referral
-pub walk_referral : (m : Sets) (a e : Name) (r : Option RRset) → IsWalked m a e r → referral_above m a ≡ r
-walk_referral m a e r w = w.same 0 (omega arith)
-
--- ---- walks that stopped at or below a name
-
-pub settled : (m : Sets) (a e : Name) (r : Option RRset) → IsWalked m a e r → IsSettled m a e r
-settled m a e r w = record { walked = λ h. w; next = λ h. absurd (omega (arith, w.upward)) }
-
-pub settled_above : (m : Sets) (a e : Name) (r : Option RRset) → IsWalked m a e r → IsSettled m (drop 1 a) e r
-settled_above m [] e r w = settled m [] e r w
-settled_above m (l ∷ a) e r w =
-    record {
-      walked = λ h.
-          let k : suc (length a) - length e ≡ suc (length a - length e) = omega arith in
-          record {
-            upward = h;
-            suffix = w.suffix ∙ ap (λ i. drop i (l ∷ a)) k;
-            same = λ j b. w.same (suc j) (omega arith);
-          };
-      next = λ h.
-          let z : suc (length a) - length e ≡ 0 = omega (arith, w.upward) in
-          ap (drop 1) (w.suffix ∙ ap (λ i. drop i (l ∷ a)) z);
-    }
 
 -- ---- the direct set
 
@@ -155,54 +77,6 @@ direct_above m n t r e h =
     ∙ ap (λ o. option_or (unwrap_or o (referral_above m (drop 1 n))) (exact m n t)) e
     ∙ ap (λ p. option_or p (exact m n t)) h
 
--- ---- stars, the nearest first
-
-suffixes_are : (n : Name) → suffixes n ≡ n ∷ proper_ancestors n
-suffixes_are [] = refl
-suffixes_are (l ∷ n) = refl
-
-module _ (m : Sets) (t : ℕ) where
-  abbrev answers : Name → Bool
-  answers a = is_some (direct m (star_under a) t)
-
-  next_star : (n : Name) → (n ≡ [] → ⊥) → nearest_star m n t ≡ star_and_set m t (drop 1 n ∷ proper_ancestors (drop 1 n))
-  next_star [] h = absurd (h refl)
-  next_star (l ∷ n) h = ap (star_and_set m t) (suffixes_are n)
-
-  of_found : (o : Option RRset) (a : Name) → direct m (star_under a) t ≡ o → (ps : List Name)
-      → star_and_set m t (a ∷ ps) ≡ option_map_or (λ s. Some (star_under a, s)) o (star_and_set m t ps)
-  of_found None a e ps =
-      ap (λ b. option_and_then (λ a. option_map (λ s. (star_under a, s)) (direct m (star_under a) t)) (cond b (Some a) (find answers ps))) (ap is_some e)
-  of_found (Some s) a e ps =
-      ap (λ b. option_and_then (λ a. option_map (λ s. (star_under a, s)) (direct m (star_under a) t)) (cond b (Some a) (find answers ps))) (ap is_some e)
-      ∙ ap (option_map (λ s. (star_under a, s))) e
-
-  pub star_found : (n star : Name) (s : RRset) → (n ≡ [] → ⊥) → star ≡ wildcard_of n → direct m star t ≡ Some s → nearest_star m n t ≡ Some (star, s)
-  star_found [] star s h k e = absurd (h refl)
-  star_found (l ∷ n) star s h k e =
-      next_star (l ∷ n) h ∙ of_found (Some s) n (ap (λ x. direct m x t) (sym k) ∙ e) (proper_ancestors n) ∙ ap (λ x. Some (x, s)) (sym k)
-
-  pub star_passed : (n star : Name) → (n ≡ [] → ⊥) → star ≡ wildcard_of n → direct m star t ≡ None → nearest_star m n t ≡ nearest_star m (drop 1 n) t
-  star_passed [] star h k e = absurd (h refl)
-  star_passed (l ∷ n) star h k e = next_star (l ∷ n) h ∙ of_found None n (ap (λ x. direct m x t) (sym k) ∙ e) (proper_ancestors n)
-
--- the wildcard's set is the star's under the queried name
-pub wildcard_is : (m : Sets) (signed : Bool) (n : Name) (t : ℕ) (o : Option (Name × RRset)) → nearest_star m n t ≡ o → is_root n || is_starred n ≡ false
-    → wildcard m signed n t ≡ option_map (λ (f : Name × RRset). renamed signed f.0 n f.1) o
-wildcard_is m signed n t o e h =
-    ap (λ b. cond b None (from_star m signed n t)) h
-    ∙ by (star_source m n t)
-    ∙ ap (option_map (λ (f : Name × RRset). renamed signed f.0 n f.1)) e
-  where
-    one : (a : Name) (p : Option RRset) → option_map (renamed signed (star_under a) n) p ≡ option_map (λ (f : Name × RRset). renamed signed f.0 n f.1) (option_map (λ s. (star_under a, s)) p)
-    one a None = refl
-    one a (Some s) = refl
-
-    by : (p : Option Name) → option_and_then (λ a. option_map (renamed signed (star_under a) n) (direct m (star_under a) t)) p
-        ≡ option_map (λ (f : Name × RRset). renamed signed f.0 n f.1) (option_and_then (λ a. option_map (λ s. (star_under a, s)) (direct m (star_under a) t)) p)
-    by None = refl
-    by (Some a) = one a (direct m (star_under a) t)
-
 -- the tests of the root and of a starred name
 pub neither_test : (n : Name) → (n ≡ [] → ⊥) → (IsWildcard n → ⊥) → is_root n || is_starred n ≡ false
 neither_test [] h k = absurd (h refl)
@@ -211,8 +85,3 @@ neither_test (l ∷ n) h k = by (label_eq l star_label) refl
     by : (b : Bool) → label_eq l star_label ≡ b → b ≡ false
     by true e = absurd (k (n, ap (λ x. x ∷ n) ((bytes_eq-Decides l star_label).0 e)))
     by false e = refl
-
--- a star stands where the name's first label was
-pub base_of_star : (n : Name) → drop 1 (wildcard_of n) ≡ drop 1 n
-base_of_star [] = refl
-base_of_star (l ∷ n) = refl

@@ -1,45 +1,59 @@
--- The star that answers is the nearest
-use Rattle.std.proofs.Common.{◌≡◌, ◌≢◌, ℕ, Bool, true, false, [], ◌∷◌, refl, sym, ap, ◌∙◌}
-use Rattle.std.specs.Prelude.{Option, Some, None, is_some}
-use Rattle.zone_proto.specs.Names.{Name, IsAbove, IsAtOrAbove}
-use Rattle.zone_proto.specs.Sets.{RRset}
+-- The star that is asked is that of the closest encloser
+use Rattle.std.proofs.Common.{◌≡◌, ◌||◌, Bool, true, false, cond, [], ◌∷◌, refl, sym, ap, ◌∙◌, true≢false, IsTrue, IsFalse}
+use Rattle.std.specs.Prelude.{Option, Some, None, find, option_map}
+use Rattle.zone_proto.specs.Names.{Name, IsAbove, IsAtOrAbove, is_root, suffixes}
 use Rattle.zone_map.specs.Zones.{Sets}
-use Rattle.zone_map.specs.Search.{direct}
-use Rattle.zone_map.specs.Wildcards.{star_under, star_source}
-use Rattle.zone_map.specs.SearchLaws.{IsNearestStar, StarIsNearest}
+use Rattle.zone_map.specs.Wildcards.{exists, is_starred, star_under, closest_encloser, asked_star}
+use Rattle.zone_map.specs.SearchLaws.{IsClosestEncloser, StarIsOfClosestEncloser}
 use Rattle.zone_map.proofs.Delegations.{found_above, found_longest, none_found}
 
-module _ (m : Sets) (t : ℕ) where
-  -- the star under a name has a direct set
-  abbrev answers : Name → Bool
-  answers a = is_some (direct m (star_under a) t)
-
-  some : (a : Name) → answers a ≡ true → direct m (star_under a) t ≢ None
-  some a h e = no (sym h ∙ ap is_some e)
-    where
-      no : true ≡ false → ⊥
-      no e = cc
-
-  none : (o : Option RRset) → is_some o ≡ false → o ≡ None
-  none None h = refl
-  none (Some s) h = cc
-
-  nearest_star : (n a : Name) → star_source m n t ≡ Some a → IsNearestStar m n t a
-  nearest_star [] a e = absurd cc
-  nearest_star (l ∷ n) a e =
-      let r = found_above answers n a e in
+module _ (m : Sets) where
+  closest : (n a : Name) → closest_encloser m n ≡ Some a → IsClosestEncloser m n a
+  closest [] a e = absurd cc
+  closest (l ∷ n) a e =
+      let r = found_above (exists m) n a e in
       record {
         above = (l, r.0.0, ap (λ x. l ∷ x) r.0.1);
-        has_set = some a r.1;
-        longest = λ b u k. none (direct m (star_under b) t) (found_longest answers n a e b (below b u) k);
+        there = r.1;
+        longest = λ b u k. found_longest (exists m) n a e b (below b u) k;
       }
     where
       below : (b : Name) → IsAbove b (l ∷ n) → IsAtOrAbove b n
       below b (x, f, g) = (f, cc)
 
-  no_star : (n : Name) → star_source m n t ≡ None → (b : Name) → IsAbove b n → direct m (star_under b) t ≡ None
-  no_star [] e b (x, f, g) = absurd cc
-  no_star (l ∷ n) e b (x, f, g) = none (direct m (star_under b) t) (none_found answers n e b (f, cc))
+  -- what it takes that a star is asked
+  record IsAsked (n s : Name) : Type 0 where
+    plain : is_starred n ≡ false
+    absent : exists m n ≡ false
+    encloser : Name
+    is_encloser : closest_encloser m n ≡ Some encloser
+    star : s ≡ star_under encloser
 
-pub star_is_nearest : StarIsNearest
-star_is_nearest = record { nearest = λ m n t a. nearest_star m t n a; none = λ m n t. no_star m t n }
+  asked : (n s : Name) → asked_star m n ≡ Some s → IsAsked n s
+  asked n s e = by (is_root n) (is_starred n) refl (exists m n) refl e
+    where
+      of : is_starred n ≡ false → exists m n ≡ false → (o : Option Name) → closest_encloser m n ≡ o → option_map star_under o ≡ Some s → IsAsked n s
+      of p q None f g = absurd cc
+      of p q (Some a) f g = let same : star_under a ≡ s = cc in record { plain = p; absent = q; encloser = a; is_encloser = f; star = sym same }
+
+      by : (r b : Bool) → is_starred n ≡ b → (x : Bool) → exists m n ≡ x → cond (r || b || x) None (option_map star_under (closest_encloser m n)) ≡ Some s → IsAsked n s
+      by true b p x q g = absurd cc
+      by false true p x q g = absurd cc
+      by false false p true q g = absurd cc
+      by false false p false q g = of p q (closest_encloser m n) refl g
+
+  none_exists : (n : Name) → asked_star m n ≡ None → is_starred n ≡ false → exists m n ≡ false → (b : Name) → IsAbove b n → exists m b ≡ false
+  none_exists [] e p q b (x, f, g) = absurd cc
+  none_exists (l ∷ n) e p q b (x, f, g) = none_found (exists m) n (of (find (exists m) (suffixes n)) refl (sym (λ i. cond (p i || q i) None (option_map star_under (find (exists m) (suffixes n)))) ∙ e)) b (f, cc)
+    where
+      of : (o : Option Name) → find (exists m) (suffixes n) ≡ o → option_map star_under o ≡ None → find (exists m) (suffixes n) ≡ None
+      of None f g = f
+      of (Some a) f g = absurd cc
+
+pub star_is_of_closest_encloser : StarIsOfClosestEncloser
+star_is_of_closest_encloser = record {
+  plain = λ m n s e. (asked m n s e).plain;
+  absent = λ m n s e. (asked m n s e).absent;
+  encloser = λ m n s e. let a = asked m n s e in (a.encloser, a.star, closest m n a.encloser a.is_encloser);
+  none = λ m n e p q b u. none_exists m n e p q b u;
+}

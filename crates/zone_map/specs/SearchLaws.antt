@@ -1,23 +1,24 @@
 -- Laws of the definitions of a search
-use Rattle.std.specs.Prelude.{◌≡◌, ◌≢◌, ℕ, ◌≤◌, ◌<◌, Bool, length, Some, None}
+use Rattle.std.specs.Prelude.{◌≡◌, ℕ, ◌≤◌, ◌<◌, Bool, length, Some, None, IsTrue, IsFalse}
 use Rattle.zone_proto.specs.Names.{Name, IsAbove}
 use Rattle.zone_proto.specs.Sets.{RRset}
 use Rattle.zone_map.specs.Zones.{Sets}
-use Rattle.zone_map.specs.Search.{direct}
-use Rattle.zone_map.specs.Wildcards.{star_under, star_source}
+use Rattle.zone_map.specs.Wildcards.{exists, star_under, is_starred, asked_star}
 use Rattle.zone_map.specs.Fronts.{IsLongestFront}
 use Rattle.zone_map.specs.Chains.{links, may_be_chain, chain_links}
 
--- a is a proper ancestor of n whose star has a direct set, and no star under a longer one has any
-pub record IsNearestStar (m : Sets) (n : Name) (t : ℕ) (a : Name) : Type 0 where
+-- a is a proper ancestor of n that exists, and no longer one does
+pub record IsClosestEncloser (m : Sets) (n a : Name) : Type 0 where
   pub above : IsAbove a n
-  pub has_set : direct m (star_under a) t ≢ None
-  pub longest : (b : Name) → IsAbove b n → length a < length b → direct m (star_under b) t ≡ None
+  pub there : IsTrue (exists m a)
+  pub longest : (b : Name) → IsAbove b n → length a < length b → IsFalse (exists m b)
 
--- the star that answers is under that ancestor; where there is no such ancestor, no star has a set
-pub record StarIsNearest : Type 0 where
-  pub nearest : (m : Sets) (n : Name) (t : ℕ) (a : Name) → star_source m n t ≡ Some a → IsNearestStar m n t a
-  pub none : (m : Sets) (n : Name) (t : ℕ) → star_source m n t ≡ None → (b : Name) → IsAbove b n → direct m (star_under b) t ≡ None
+-- a star is asked for names that are no stars and don't exist alone, and it is that of their closest encloser; where none is asked for such a name, none of its ancestors exists
+pub record StarIsOfClosestEncloser : Type 0 where
+  pub plain : (m : Sets) (n s : Name) → asked_star m n ≡ Some s → IsFalse (is_starred n)
+  pub absent : (m : Sets) (n s : Name) → asked_star m n ≡ Some s → IsFalse (exists m n)
+  pub encloser : (m : Sets) (n s : Name) → asked_star m n ≡ Some s → (a : Name) × (s ≡ star_under a) × IsClosestEncloser m n a
+  pub none : (m : Sets) (n : Name) → asked_star m n ≡ None → IsFalse (is_starred n) → IsFalse (exists m n) → (b : Name) → IsAbove b n → IsFalse (exists m b)
 
 -- however far the found sets are followed, the chain is their longest front that has at most 8 sets and no name twice
 abbrev pub ChainIsLongestFront : Type 0

@@ -1,12 +1,19 @@
--- What a name has in a zone: a set of its own, or else one of a wildcard (RFC 1034 section 4.3.3)
-use Rattle.std.specs.Prelude.{ℕ, Bool, false, ◌||◌, cond, List, [], ◌∷◌, Option, None, find, map, option_map, option_and_then, is_some}
-use Rattle.std.specs.Option.{option_or}
+-- What a name has in a zone: a set of its own, or else one of a wildcard (RFC 4592)
+use Rattle.std.specs.Prelude.{ℕ, Bool, false, ◌&&◌, ◌||◌, not, cond, List, [], ◌∷◌, Option, None, find, map, option_map, option_and_then}
+use Rattle.std.specs.List.{list_any}
+use Rattle.std.specs.Map.{keys_of}
+use Rattle.std.specs.Option.{option_or, option_map_or}
 use Rattle.zone_proto.specs.declared.record.Record.{Record}
-use Rattle.zone_proto.specs.Names.{Name, label_eq, same_name, is_root, star_label, suffixes}
+use Rattle.zone_proto.specs.Names.{Name, label_eq, same_name, is_at_or_above, is_root, star_label, suffixes}
 use Rattle.zone_proto.specs.Sets.{RRset}
 use Rattle.zone_proto.specs.Types.{IN}
 use Rattle.zone_map.specs.Zones.{Sets}
+use Rattle.zone_map.specs.Upserts.{is_denial_type}
 use Rattle.zone_map.specs.Search.{direct}
+
+-- n exists: n, or a name below it, owns a set of a type other than those of denial (RFC 4592 section 2.2.2)
+abbrev pub exists : Sets → Name → Bool
+exists m n = list_any (λ k. is_at_or_above n k.name && not (is_denial_type k.record_type.0)) (keys_of m)
 
 -- the name's ancestors without itself, the longest first, the root last
 abbrev pub proper_ancestors : Name → List Name
@@ -42,17 +49,21 @@ renamed signed star n s = record {
   signatures = cond signed (map (renamed_signature star n) s.signatures) [];
 }
 
--- the longest proper ancestor whose star has a direct set
-abbrev pub star_source : Sets → Name → ℕ → Option Name
-star_source m n t = find (λ a. is_some (direct m (star_under a) t)) (proper_ancestors n)
+-- the closest encloser: the longest proper ancestor that exists (RFC 4592 section 3.3.1)
+abbrev pub closest_encloser : Sets → Name → Option Name
+closest_encloser m n = find (exists m) (proper_ancestors n)
 
--- the set of that star under the queried name
-abbrev pub from_star : Sets → Bool → Name → ℕ → Option RRset
-from_star m signed n t = option_and_then (λ a. option_map (renamed signed (star_under a) n) (direct m (star_under a) t)) (star_source m n t)
+-- the star that is asked for a name, the source of synthesis (RFC 4592 section 3.3.1): the one under the closest encloser; none for the root, for a name that is itself a wildcard, and for one that exists
+abbrev pub asked_star : Sets → Name → Option Name
+asked_star m n = cond (is_root n || is_starred n || exists m n) None (option_map star_under (closest_encloser m n))
 
--- the same, but nothing for the root and for a name that is itself a wildcard
+-- a star is asked, and exists
+abbrev pub asked_star_exists : Sets → Name → Bool
+asked_star_exists m n = option_map_or (exists m) (asked_star m n) false
+
+-- the direct set of that star under the queried name
 abbrev pub wildcard : Sets → Bool → Name → ℕ → Option RRset
-wildcard m signed n t = cond (is_root n || is_starred n) None (from_star m signed n t)
+wildcard m signed n t = option_and_then (λ s. option_map (renamed signed s n) (direct m s t)) (asked_star m n)
 
 -- the found set: the direct set, else the wildcard's
 abbrev pub found : Sets → Bool → Name → ℕ → Option RRset

@@ -7,6 +7,7 @@ ghost use Rattle.zone_proto.specs.Results.{IsInsertion};
 ghost use Rattle.zone_map.specs.AnyTypes.{is_preferred, any_type};
 ghost use Rattle.zone_map.specs.Counts.{one_more};
 ghost use Rattle.zone_map.specs.Zones.{set_at, has_key_from, owns, owns_at_or_below, put, without, IsStoredAt, IsZone};
+ghost use Rattle.zone_map.specs.Wildcards.{exists};
 ghost use Rattle.zone_map.specs.Upserts.{upserted, with_record, clash, clashes, is_denial_type, CnamesStandAlone};
 
 mod denials;
@@ -146,6 +147,24 @@ impl RecordMap {
             }
             None => false,
         }
+    }
+
+    /// Whether the name of its least key, that of type 0, or a name below it, owns a set of a type other than those of denial,
+    /// so that it exists (RFC 4592 section 2.2.2). Descendants stand together, so one key is read, and the next only after one
+    /// of a type of denial.
+    pub(crate) fn exists(&self, least: &RrKey) -> bool
+        requires { least.now.record_type.0 ≡ 0 }
+        ensures { result ≡ exists self.now least.now.name }
+    {
+        for (key, _) in self.sets.range(least..) {
+            if !least.name.zone_of(&key.name) {
+                break;
+            }
+            if !is_denial_type(key.record_type) {
+                return true;
+            }
+        }
+        false
     }
 
     /// The type that is searched for a query of ANY (RFC 8482 section 4.1) at the name of its least key, that of type 0: the

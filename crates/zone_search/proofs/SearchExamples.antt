@@ -1,20 +1,20 @@
 -- Worked examples of wildcards, chains of aliases and queries of ANY, computed from the definitions
-use Rattle.std.proofs.Common.{◌≡◌, ℕ, true, false, List, [], ◌∷◌, map, ◌+◌, refl}
+use Rattle.std.proofs.Common.{◌≡◌, ℕ, true, false, List, [], ◌∷◌, map, drop, ◌+◌, refl}
 use Rattle.std.specs.Prelude.{codes, Some, None}
 use Rattle.zone_proto.specs.declared.rdata.RData.TheVariants as V
 use Rattle.zone_proto.specs.declared.record.Record.{Record}
 use Rattle.zone_proto.specs.Keys.{key}
 use Rattle.zone_proto.specs.Names.{Name, star_label}
 use Rattle.zone_proto.specs.Sets.{RRset}
-use Rattle.zone_proto.specs.Types.{A, NS, CNAME, MX, TXT, SRV, ANY, IN}
+use Rattle.zone_proto.specs.Types.{A, NS, CNAME, MX, TXT, SRV, NSEC, ANY, IN}
 use Rattle.zone_map.specs.Zones.{Sets}
-use Rattle.zone_map.specs.Wildcards.{star_under, star_source, found}
+use Rattle.zone_map.specs.Wildcards.{star_under, asked_star, found}
 use Rattle.zone_map.specs.Chains.{chain, chain_searches}
 use Rattle.zone_map.specs.AnyTypes.{any_type}
-use Rattle.zone_search.specs.Replies.{IsReply, one_set, answered, denied, nx_domain}
+use Rattle.zone_search.specs.Replies.{denial, IsReply, one_set, answered, denied, name_exists, nx_domain}
 use Rattle.zone_search.proofs.Examples.{apex, at_apex, record_with, set_with, server, unsigned}
 
--- ---- a star under the apex, one under b, and a star at a cut (RFC 1034 section 4.3.3)
+-- ---- a star under the apex, one under b, and a star at a cut (RFC 4592)
 
 abbrev address : ℕ → Record
 address last = record_with (star_under apex) (V.A (192 ∷ 0 ∷ 2 ∷ last ∷ []))
@@ -47,13 +47,50 @@ stars =
     ∷ (key (star_under (at_apex (codes "n"))) NS, star_at_cut)
     ∷ []
 
--- the nearest star answers
-nearest_star : found stars false (in_b (codes "a")) A ≡ Some (record { owner = in_b (codes "a"); record_type = A; class = IN; ttl = 60; serial = 0; records = record_with (in_b (codes "a")) (V.A (192 ∷ 0 ∷ 2 ∷ 2 ∷ [])) ∷ []; signatures = [] })
-nearest_star = refl
+-- the star under the closest encloser answers
+encloser_star : found stars false (in_b (codes "a")) A ≡ Some (record { owner = in_b (codes "a"); record_type = A; class = IN; ttl = 60; serial = 0; records = record_with (in_b (codes "a")) (V.A (192 ∷ 0 ∷ 2 ∷ 2 ∷ [])) ∷ []; signatures = [] })
+encloser_star = refl
 
--- a star without a set for the type is passed over, and a star may answer for a name of several labels
-star_above : star_source stars (codes "x" ∷ codes "y" ∷ at_apex (codes "c")) A ≡ Some apex
+-- a star may answer for a name of several labels
+star_above : asked_star stars (codes "x" ∷ codes "y" ∷ at_apex (codes "c")) ≡ Some (star_under apex)
 star_above = refl
+
+-- it doesn't where its type isn't there, and no star farther up is asked; but the name is then answered for as one that is there (RFC 4592 section 2.2.1)
+type_of_no_star : found stars false (in_b (codes "a")) TXT ≡ None
+type_of_no_star = refl
+
+starred_but_typeless : denial apex stars (in_b (codes "a")) ≡ name_exists
+starred_but_typeless = refl
+
+-- nor does it answer for a name that exists, or below one
+abbrev text_in_b : Sets
+text_in_b = (key (star_under apex) A, star_set) ∷ (key (in_b (codes "x")) TXT, set_with (in_b (codes "x")) TXT server) ∷ []
+
+beside_text : found text_in_b false (in_b (codes "x")) A ≡ None
+beside_text = refl
+
+empty_name : found text_in_b false (at_apex (codes "b")) A ≡ None
+empty_name = refl
+
+below_empty_name : found text_in_b false (in_b (codes "y")) A ≡ None
+below_empty_name = refl
+
+denied_below_empty_name : denial apex text_in_b (in_b (codes "y")) ≡ nx_domain
+denied_below_empty_name = refl
+
+-- a name that owns NSEC alone doesn't exist, and where none does, no star is asked
+abbrev nsec_in_b : Sets
+nsec_in_b = (key (at_apex (codes "b")) NSEC, set_with (at_apex (codes "b")) NSEC server) ∷ []
+
+no_name_exists : asked_star nsec_in_b (in_b (codes "y")) ≡ None
+no_name_exists = refl
+
+passed_over : asked_star ((key (star_under apex) A, star_set) ∷ nsec_in_b) (in_b (codes "y")) ≡ Some (star_under apex)
+passed_over = refl
+
+-- outside the zone too a star that exists comes before the refusal
+star_outside : denial apex ((key (star_under (drop 1 apex)) TXT, set_with (star_under (drop 1 apex)) TXT server) ∷ []) (codes "net" ∷ drop 1 apex) ≡ name_exists
+star_outside = refl
 
 -- the queried name owns the records, with the set's TTL, and the signature that the star owned
 renamed_with_signatures : found stars true (at_apex (codes "q")) A ≡ Some (record {
@@ -79,7 +116,7 @@ renamed_referral : found stars false (codes "x" ∷ at_apex (codes "n")) A ≡ S
 renamed_referral = refl
 
 -- the star under the root is the last
-root_star : star_source ((key (star_under []) A, star_set) ∷ []) (at_apex (codes "q")) A ≡ Some []
+root_star : asked_star ((key (star_under []) A, star_set) ∷ []) (at_apex (codes "q")) ≡ Some (star_under [])
 root_star = refl
 
 -- ---- aliases (RFC 1034 section 3.6.2)

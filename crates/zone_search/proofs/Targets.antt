@@ -10,14 +10,14 @@ use Rattle.zone_proto.specs.declared.record.Record.{Record}
 use Rattle.zone_proto.specs.declared.rr_key.RrKey.{RrKey}
 use Rattle.zone_proto.specs.Data.{type_of}
 use Rattle.zone_proto.specs.Keys.{key}
-use Rattle.zone_proto.specs.Names.{Name, name_eq, is_root}
+use Rattle.zone_proto.specs.Names.{Name, name_eq}
 use Rattle.zone_proto.specs.Sets.{RRset}
 use Rattle.zone_proto.specs.Types.{A, NS, CNAME, SOA, MX, AAAA, SRV, ANAME}
 use Rattle.zone_proto.proofs.Members.{In, In-filter_map, In-map, any_from_In}
 use Rattle.zone_proto.proofs.NameTree.{name_eq-Decides}
 use Rattle.zone_map.specs.Zones.{Sets, set_at, owns, IsZone}
 use Rattle.zone_map.specs.Search.{direct, referral, nearest_delegation, exact, least_owned, types_for}
-use Rattle.zone_map.specs.Wildcards.{found, from_star, star_source, star_under, is_starred, renamed, renamed_record}
+use Rattle.zone_map.specs.Wildcards.{found, wildcard, asked_star, renamed, renamed_record}
 use Rattle.zone_map.specs.Chains.{alias_target, first_target}
 use Rattle.zone_search.specs.Additionals.{followed, first_data, next_name, run_target, names_host, run_types, leads_to, alias_sets}
 use Rattle.zone_map.proofs.Owned.{has_entry}
@@ -61,14 +61,14 @@ module _ (m : Sets) where
   kept n ttl (r ∷ rs) = refl
 
   found_data : (signed : Bool) (n : Name) (t : ℕ) (s : RRset) → found m signed n t ≡ Some s → IsStoredData m (first_data s.records)
-  found_data signed n t s e = by (either (direct m n t) (cond (is_root n || is_starred n) None (from_star m signed n t)) s e)
+  found_data signed n t s e = by (either (direct m n t) (wildcard m signed n t) s e)
     where
-      by : (direct m n t ≡ Some s) ⊎ (cond (is_root n || is_starred n) None (from_star m signed n t) ≡ Some s) → IsStoredData m (first_data s.records)
+      by : (direct m n t ≡ Some s) ⊎ (wildcard m signed n t ≡ Some s) → IsStoredData m (first_data s.records)
       by (inl r) = direct_stored n t s r
       by (inr r) =
-          let a = from_and_then (λ a. option_map (renamed signed (star_under a) n) (direct m (star_under a) t)) (star_source m n t) s (unless (is_root n || is_starred n) (from_star m signed n t) s r) in
-          let b = from_map (renamed signed (star_under a.0) n) (direct m (star_under a.0) t) s a.2 in
-          let c = direct_stored (star_under a.0) t b.0 b.1 in
+          let a = from_and_then (λ star. option_map (renamed signed star n) (direct m star t)) (asked_star m n) s r in
+          let b = from_map (renamed signed a.0 n) (direct m a.0 t) s a.2 in
+          let c = direct_stored a.0 t b.0 b.1 in
           (c.0, c.1, c.2, c.3, c.4 ∙ kept n b.0.ttl b.0.records ∙ ap (λ (x : RRset). first_data x.records) b.2)
 
 -- where data lead

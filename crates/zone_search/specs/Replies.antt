@@ -1,5 +1,5 @@
 -- What a query is answered with
-use Rattle.std.specs.Prelude.{◌≡◌, ◌≢◌, ℕ, Bool, ◌&&◌, not, cond, ◌==◌, List, [], ◌∷◌, Option, MatchOption, option_and_then}
+use Rattle.std.specs.Prelude.{◌≡◌, ◌≢◌, ℕ, Bool, ◌&&◌, ◌||◌, not, cond, ◌==◌, List, [], ◌∷◌, Option, MatchOption, option_and_then}
 use Rattle.zone_proto.specs.declared.record.Record.{Record}
 use Rattle.zone_proto.specs.Names.{Name, is_at_or_above}
 use Rattle.zone_proto.specs.Sets.{RRset}
@@ -11,7 +11,7 @@ use Rattle.zone_handler.specs.declared.lookup_records.LookupRecords.{LookupRecor
 use Rattle.zone_handler.specs.declared.lookup_records.LookupRecords.TheVariants as section
 use Rattle.zone_handler.specs.Answers.{KeepsMany}
 use Rattle.zone_map.specs.Zones.{Sets, owns_at_or_below}
-use Rattle.zone_map.specs.Wildcards.{found}
+use Rattle.zone_map.specs.Wildcards.{asked_star_exists, found}
 use Rattle.zone_map.specs.Chains.{chain}
 use Rattle.zone_map.specs.AnyTypes.{searched_type}
 use Rattle.zone_search.specs.Additionals.{next_name, AreAdditionals}
@@ -23,12 +23,16 @@ pub data Denial : Type 0 where
   nx_domain : Denial
   refused : Denial
 
--- a name is there if it or a name below it owns a set, wherever it stands; else it isn't there, and outside the zone it is refused
+-- a name that isn't there is denied, and outside the zone it is refused
 abbrev pub absent : Name → Name → Denial
 absent origin n = cond (is_at_or_above origin n) nx_domain refused
 
+-- a name is there if it or a name below it owns a set, wherever it stands, or if the star that is asked for it exists, which gives it all types that it has (RFC 4592 section 2.2.1)
+abbrev pub is_there : Sets → Name → Bool
+is_there m n = owns_at_or_below m n || asked_star_exists m n
+
 abbrev pub denial : Name → Sets → Name → Denial
-denial origin m n = cond (owns_at_or_below m n) name_exists (absent origin n)
+denial origin m n = cond (is_there m n) name_exists (absent origin n)
 
 -- what an answer section has: one set, or the sets of a chain
 pub data Answers : Type 0 where

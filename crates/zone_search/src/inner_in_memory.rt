@@ -12,7 +12,7 @@ ghost use Rattle.zone_proto.specs.declared.error.ProtoError.{ProtoError};
 ghost use Rattle.zone_handler.specs.Errors.{error_of_proto};
 ghost use Rattle.zone_search.specs.FoundSets.{found_set, lent_set};
 ghost use Rattle.zone_map.specs.Search.{direct};
-ghost use Rattle.zone_map.specs.Wildcards.{found};
+ghost use Rattle.zone_map.specs.Wildcards.{asked_star_exists, found};
 ghost use Rattle.zone_map.specs.Counts.{one_more, counted_more};
 ghost use Rattle.zone_map.specs.Upserts.{upserted, CnamesStandAlone};
 ghost use Rattle.zone_map.specs.Zones.{set_at, has_key_from, owns_at_or_below, put, without, IsStoredAt, IsZone};
@@ -102,13 +102,15 @@ impl<S: Signer> InnerInMemory<S> {
     ///   the set of the least type that the name owns of the type that is asked for, CNAME and, for addresses, ANAME. A
     ///   query for DS at a cut asks the parent's side, so the cut itself gives no referral for it (RFC 4035 section
     ///   3.1.4.1). Where the nearest name that owns NS owns SOA too, it is an apex, and there is no referral.
-    /// - Else, for a name that is neither the root nor begins with `*`, the direct set of the star under the longest of
-    ///   its proper ancestors whose star has one, under the queried name (RFC 1034 section 4.3.3): of class IN and
-    ///   serial 0, with each record's TTL that of the set, and with signatures only where `lookup_options` ask for
-    ///   DNSSEC; of these the queried name owns those that the star owned.
+    /// - Else, for a name that is neither the root nor begins with `*` nor exists, the direct set of the star under the
+    ///   closest encloser, the longest of its proper ancestors that exists, under the queried name (RFC 4592 section
+    ///   3.3.1): of class IN and serial 0, with each record's TTL that of the set, and with signatures only where
+    ///   `lookup_options` ask for DNSSEC; of these the queried name owns those that the star owned. No other star is
+    ///   asked. A name exists where it, or a name below it, owns a set of a type other than NSEC and NSEC3 (RFC 4592
+    ///   section 2.2.2); where none does, no star is asked.
     ///
     /// A direct set is lent out of the zone with its signatures, whatever the options say. The call adds one to
-    /// `searches`, whatever stars it tries. Refused by `Memory` alone.
+    /// `searches`, whether it asks a star or not. Refused by `Memory` alone.
     pub fn inner_lookup(
         &self,
         name: &LowerName,
@@ -127,7 +129,7 @@ impl<S: Signer> InnerInMemory<S> {
             return Ok(Some(Found::Stored(set)));
         }
         let signed = lookup_options.dnssec_ok;
-        match wildcard::wildcard(&self.records, name, record_type, signed, key)? {
+        match wildcard::wildcard(&self.records, name, record_type, signed)? {
             Some(set) => Ok(Some(Found::Made(set))),
             None => Ok(None),
         }
@@ -264,6 +266,14 @@ impl<S: Signer> InnerInMemory<S> {
             records,
             signers: Vec::new(alloc),
         }
+    }
+
+    /// Whether a star is asked for `name`, as [`InnerInMemory::inner_lookup`] says, and exists. Refused by `Memory` alone.
+    pub fn asked_star_exists(&self, name: &LowerName) -> Result<bool, LookupError>
+        ensures answer { IfOk result (λ there. there ≡ asked_star_exists self.now.records name.now) }
+        ensures err { IsOkUnless result LookupError.Memory }
+    {
+        Ok(wildcard::asked_star_exists(&self.records, name)?)
     }
 
     /// The NSEC sets that deny `name` in the zone of `origin`, lent out of the zone; see [`denial::nsec_denial`]. Refused by

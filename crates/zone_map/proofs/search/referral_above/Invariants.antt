@@ -1,11 +1,11 @@
 use Rattle.std.proofs.Common.{◌≡◌, length}
-use Rattle.zone_map.specs.Walks.{referral_above, IsWalked}
+use Rattle.zone_map.specs.Walks.{referral_above}
 use Rattle.zone_map.proofs.search.referral_above.Given as goal
 
 -- the names that were passed have the referral of what is left, and the key is the least of its name
 abbrev pub invariant-loop-key : goal.invariant-loop-key
 invariant-loop-key l = record {
-  walked : IsWalked l.records l.initial.key.name l.key.name (referral_above l.records l.key.name);
+  left : referral_above l.records l.key.name ≡ referral_above l.records l.initial.key.name;
   type_zero : l.key.record_type.0 ≡ 0;
 }
 

@@ -1,0 +1,165 @@
+-- Which names exist: what the entries from a name's least key on say, and the walk up to the closest encloser
+use Rattle.std.proofs.Common.{◌≡◌, ℕ, ◌&&◌, ◌||◌, not, Bool, true, false, cond, List, [], ◌∷◌, drop, refl, sym, ap, ◌∙◌, subst, true≢false, Ordering, Less, Equal, Greater}
+use Rattle.std.specs.Prelude.{Option, Some, None, find, option_map, unwrap_or, ◌==◌}
+use Rattle.std.specs.Ordering.{is_le}
+use Rattle.std.specs.List.{list_any}
+use Rattle.std.specs.List.Sorted.{IsStrictlySortedBy}
+use Rattle.std.specs.Map.{keys_of}
+use Rattle.std.specs.Option.{option_or}
+use Rattle.std.proofs.lemmas.Map.Keys.{sorted_head, sorted_tail}
+use Rattle.zone_proto.specs.declared.rr_key.RrKey.{RrKey}
+use Rattle.zone_proto.specs.Keys.{key, first_key, key_cmp}
+use Rattle.zone_proto.specs.Names.{Name, name_cmp, name_eq, label_eq, IsAtOrAbove, is_at_or_above, is_root, suffixes, wildcard_of, star_label}
+use Rattle.zone_proto.specs.Sets.{RRset}
+use Rattle.zone_proto.specs.Types.{NS, SOA, DS}
+use Rattle.zone_proto.proofs.Members.{any_from_In, In-map}
+use Rattle.zone_proto.proofs.NameTree.{is_at_or_above_sound, is_at_or_above_complete, name_eq-Decides}
+use Rattle.zone_map.specs.Zones.{Sets, set_at, owns, owns_at_or_below}
+use Rattle.zone_map.specs.Upserts.{is_denial_type}
+use Rattle.zone_map.specs.Search.{is_delegated, is_delegated_for, referral_at, referral, exact, direct}
+use Rattle.zone_map.specs.Walks.{referral_above, own_referral}
+use Rattle.zone_map.specs.Wildcards.{exists, proper_ancestors, is_starred, star_under, closest_encloser, asked_star}
+use Rattle.zone_map.proofs.Owned.{has_entry}
+use Rattle.zone_map.proofs.Neighbours.{from_key, at_or_after, earlier, before_not_below, none_below}
+use Rattle.zone_map.proofs.Walks.{referral_split}
+
+-- ---- what exists owns something, or has something below it
+
+pub absent_where_unowned : (n : Name) (m : Sets) → owns_at_or_below m n ≡ false → exists m n ≡ false
+absent_where_unowned n [] h = refl
+absent_where_unowned n (e ∷ m) h = by (is_at_or_above n e.0.name) h (absent_where_unowned n m)
+  where
+    by : (b : Bool) → b || owns_at_or_below m n ≡ false → (owns_at_or_below m n ≡ false → exists m n ≡ false) → (b && not (is_denial_type e.0.record_type.0)) || exists m n ≡ false
+    by true g ih = absurd (true≢false g)
+    by false g ih = ih g
+
+-- a name that owns a type other than those of denial exists
+owner_exists : (m : Sets) (n : Name) (t : ℕ) → owns m n t ≡ true → not (is_denial_type t) ≡ true → exists m n ≡ true
+owner_exists m n t o k =
+    let e = has_entry m n t o in
+    any_from_In (λ (k : RrKey). is_at_or_above n k.name && not (is_denial_type k.record_type.0)) (key n t) (keys_of m) (In-map (λ (d : RrKey × RRset). d.0) (key n t, e.0) m e.1)
+    (ap (λ b. b && not (is_denial_type t)) (is_at_or_above_complete n n ([], refl)) ∙ k)
+
+-- ---- in a map in order, the entries from a name's least key on tell
+
+-- of the entries in front that are of a name or of names below it, one isn't of a type of denial
+abbrev pub shown_below : Name → Sets → Bool
+shown_below n [] = false
+shown_below n (e ∷ m) = cond (is_at_or_above n e.0.name) (not (is_denial_type e.0.record_type.0) || shown_below n m) false
+
+exists_is_front : (n : Name) (m : Sets) → IsStrictlySortedBy key_cmp (keys_of m) → exists m n ≡ shown_below n (from_key (key n 0) m)
+exists_is_front n [] s = refl
+exists_is_front n (e ∷ m) s = by (name_cmp n e.0.name) refl (exists_is_front n m (sorted_tail key_cmp e.0 (keys_of m) s))
+  where
+    here : is_le (name_cmp n e.0.name) ≡ true → (b : Bool) → is_at_or_above n e.0.name ≡ b → exists m n ≡ shown_below n (from_key (key n 0) m)
+        → (b && not (is_denial_type e.0.record_type.0)) || exists m n ≡ cond b (not (is_denial_type e.0.record_type.0) || shown_below n (from_key (key n 0) m)) false
+    here h true g ih = ap (λ c. not (is_denial_type e.0.record_type.0) || c) ih
+    here h false g ih = absent_where_unowned n m (none_below n e m h g (sorted_head key_cmp e.0 (keys_of m) s))
+
+    first : is_le (name_cmp n e.0.name) ≡ true → exists m n ≡ shown_below n (from_key (key n 0) m) → exists (e ∷ m) n ≡ shown_below n (from_key (key n 0) (e ∷ m))
+    first h ih =
+        here h (is_at_or_above n e.0.name) refl ih
+        ∙ ap (λ b. shown_below n (cond b (e ∷ from_key (key n 0) m) (from_key (key n 0) m))) (sym (at_or_after n e h))
+
+    by : (o : Ordering) → name_cmp n e.0.name ≡ o → exists m n ≡ shown_below n (from_key (key n 0) m) → exists (e ∷ m) n ≡ shown_below n (from_key (key n 0) (e ∷ m))
+    by Less h ih = first (ap is_le h) ih
+    by Equal h ih = first (ap is_le h) ih
+    by Greater h ih =
+        ap (λ b. (b && not (is_denial_type e.0.record_type.0)) || exists m n) (before_not_below n e h)
+        ∙ ih
+        ∙ ap (λ b. shown_below n (cond b (e ∷ from_key (key n 0) m) (from_key (key n 0) m))) (sym (earlier n e h))
+
+-- ---- a loop over these entries
+
+pub whole_exists : (least : RrKey) (m es : Sets) → least.record_type.0 ≡ 0 → IsStrictlySortedBy key_cmp (keys_of es) → es ≡ m → shown_below least.name (from_key least m) ≡ exists m least.name
+whole_exists least m es type_zero sorted same =
+    ap (λ t. shown_below least.name (from_key (key least.name t) m)) type_zero
+    ∙ sym (exists_is_front least.name m (subst (λ (x : Sets). IsStrictlySortedBy key_cmp (keys_of x)) same sorted))
+
+module _ (n : Name) (s t : Sets) (e : RrKey × RRset) (is : s ≡ e ∷ t) (whole : Bool) (left : shown_below n s ≡ whole) where
+  read : cond (is_at_or_above n e.0.name) (not (is_denial_type e.0.record_type.0) || shown_below n t) false ≡ whole
+  read = ap (shown_below n) (sym is) ∙ left
+
+  of_below : IsAtOrAbove n e.0.name → not (is_denial_type e.0.record_type.0) || shown_below n t ≡ whole
+  of_below u = ap (λ b. cond b (not (is_denial_type e.0.record_type.0) || shown_below n t) false) (sym (is_at_or_above_complete n e.0.name u)) ∙ read
+
+  pub denial_passed : IsAtOrAbove n e.0.name → is_denial_type e.0.record_type.0 ≡ true → shown_below n t ≡ whole
+  denial_passed u d = ap (λ b. not b || shown_below n t) (sym d) ∙ of_below u
+
+  pub shown_there : IsAtOrAbove n e.0.name → is_denial_type e.0.record_type.0 ≡ false → true ≡ whole
+  shown_there u d = ap (λ b. not b || shown_below n t) (sym d) ∙ of_below u
+
+  pub none_shown : (IsAtOrAbove n e.0.name → ⊥) → false ≡ whole
+  none_shown u = by (is_at_or_above n e.0.name) refl
+    where
+      by : (b : Bool) → is_at_or_above n e.0.name ≡ b → false ≡ whole
+      by true g = absurd (u (is_at_or_above_sound n e.0.name g))
+      by false g = ap (λ b. cond b (not (is_denial_type e.0.record_type.0) || shown_below n t) false) (sym g) ∙ read
+
+pub none_left : (n : Name) (s : Sets) (whole : Bool) → s ≡ [] → shown_below n s ≡ whole → false ≡ whole
+none_left n s whole e h = ap (shown_below n) (sym e) ∙ h
+
+-- ---- the walk up to the closest encloser
+
+pub encloser_is_next : (m : Sets) (n : Name) → (n ≡ [] → ⊥) → exists m (drop 1 n) ≡ true → closest_encloser m n ≡ Some (drop 1 n)
+encloser_is_next m [] below h = absurd (below refl)
+encloser_is_next m (l ∷ []) below h = ap (λ b. cond b (Some []) None) h
+encloser_is_next m (l ∷ (k ∷ n)) below h = ap (λ b. cond b (Some (k ∷ n)) (find (exists m) (suffixes n))) h
+
+pub star_of_next : (n : Name) → (n ≡ [] → ⊥) → wildcard_of n ≡ star_under (drop 1 n)
+star_of_next [] below = absurd (below refl)
+star_of_next (l ∷ n) below = refl
+
+-- ---- above a name that doesn't exist, and up to its closest encloser, nothing is delegated
+
+undelegated : (m : Sets) (a : Name) → exists m a ≡ false → is_delegated m a ≡ false
+undelegated m a h = by (owns m a NS) refl
+  where
+    none : (b : Bool) → b && false ≡ false
+    none true = refl
+    none false = refl
+
+    by : (b : Bool) → owns m a NS ≡ b → is_delegated m a ≡ false
+    by true o = absurd (true≢false (sym (owner_exists m a NS o refl) ∙ h))
+    by false o = ap (λ b. not (is_root a) && b) o ∙ none (not (is_root a))
+
+above_encloser : (m : Sets) (n e : Name) → find (exists m) (suffixes n) ≡ Some e → referral_above m n ≡ referral_above m e
+above_encloser m [] e h = by (exists m []) h
+  where
+    by : (b : Bool) → cond b (Some []) None ≡ Some e → referral_above m [] ≡ referral_above m e
+    by true g = let same : [] ≡ e = cc in ap (referral_above m) same
+    by false g = absurd cc
+above_encloser m (l ∷ n) e h = by (exists m (l ∷ n)) refl h (above_encloser m n e)
+  where
+    by : (b : Bool) → exists m (l ∷ n) ≡ b → cond b (Some (l ∷ n)) (find (exists m) (suffixes n)) ≡ Some e
+        → (find (exists m) (suffixes n) ≡ Some e → referral_above m n ≡ referral_above m e) → referral_above m (l ∷ n) ≡ referral_above m e
+    by true x g ih = let same : l ∷ n ≡ e = cc in ap (referral_above m) same
+    by false x g ih = ap (λ b. referral_at m (cond b (Some (l ∷ n)) (find (is_delegated m) (suffixes n)))) (undelegated m (l ∷ n) x) ∙ ih g
+
+unsaid : (m : Sets) (n : Name) (t : ℕ) → exists m n ≡ false → own_referral m n t ≡ None
+unsaid m n t h = ap (λ b. cond (b && not ((t == DS) && name_eq n n && not (owns m n SOA))) (Some (referral_at m (Some n))) None) (undelegated m n h)
+
+first_none : (o p : Option RRset) → option_or o p ≡ None → o ≡ None
+first_none None p h = refl
+first_none (Some s) p h = absurd cc
+
+-- what the names above the star that is asked say of the referral, where nothing is found at the name itself
+pub star_unreferred : (m : Sets) (n s : Name) (t : ℕ) → direct m n t ≡ None → asked_star m n ≡ Some s → referral_above m (drop 1 s) ≡ None
+star_unreferred m [] s t none is = absurd cc
+star_unreferred m (l ∷ n) s t none is = by (label_eq l star_label) (exists m (l ∷ n)) refl is
+  where
+    above : exists m (l ∷ n) ≡ false → referral_above m n ≡ None
+    above h =
+        sym (referral_split m (l ∷ n) t ∙ ap (λ o. unwrap_or o (referral_above m n)) (unsaid m (l ∷ n) t h))
+        ∙ first_none (referral m (l ∷ n) t) (exact m (l ∷ n) t) none
+
+    of : exists m (l ∷ n) ≡ false → (o : Option Name) → find (exists m) (suffixes n) ≡ o → option_map star_under o ≡ Some s → referral_above m (drop 1 s) ≡ None
+    of h None f g = absurd cc
+    of h (Some e) f g =
+        let same : star_under e ≡ s = cc in
+        ap (λ x. referral_above m (drop 1 x)) (sym same) ∙ sym (above_encloser m n e f) ∙ above h
+
+    by : (b x : Bool) → exists m (l ∷ n) ≡ x → cond (b || x) None (option_map star_under (find (exists m) (suffixes n))) ≡ Some s → referral_above m (drop 1 s) ≡ None
+    by true x h g = absurd cc
+    by false true h g = absurd cc
+    by false false h g = of h (find (exists m) (suffixes n)) refl g
