@@ -23,7 +23,7 @@ use Rattle.zone_map.proofs.Owned.{owner_owned}
 use Rattle.zone_denial.specs.Nsec3Denial.{result_and_then, has_match, match_of, cover_of, match_owner, cover_owner, encloser_of, next_closer, star_part, enclosed, is_starred_beside, nsec3_denial}
 use Rattle.zone_denial.specs.Nsec3Lent.{sets_of, owner_cmp, enclosed_sets}
 use Rattle.zone_denial.specs.TypeLists.{in_order}
-use Rattle.zone_denial.proofs.Parents.{base_is_drop}
+use Rattle.zone_denial.proofs.NsecEnclosers.{base_is_drop}
 use Rattle.zone_denial.proofs.SetsInOrder.{AllOwn, sets_in_order}
 
 -- ---- refusals

@@ -6,12 +6,13 @@ pub mod SetsJoined
 pub mod SetsInOrder
 pub mod DenialSteps
 pub mod StarTests
-pub mod Parents
+pub mod NsecEnclosers
 pub mod DenialLists
 pub mod InOrder
 pub mod AuthoritativeNames
 pub mod NsecCircle
 pub mod NsecClosest
+pub mod NsecStar
 pub mod CircleReads
 pub mod NsecLists
 pub mod NsecBelow

@@ -18,7 +18,7 @@ ghost use Rattle.zone_denial.specs.Nsec3Laws.{Nsec3CircleListsAllOwned, Nsec3Den
 ghost use Rattle.zone_denial.specs.Nsec3Names.{nsec3_names, IsNsec3Name};
 ghost use Rattle.zone_denial.specs.TypeLists.{nsec_types};
 ghost use Rattle.zone_denial.specs.OwnersRead.{ReadsNoneAfter, CircleReadsOne};
-ghost use Rattle.zone_denial.specs.NsecLaws.{SecuredIsCircle, DenialFindsOrCovers, CircleListsAllOwned, DenialsAgree, NoNextBelowAbsent, NextBelowEmpty};
+ghost use Rattle.zone_denial.specs.NsecLaws.{SecuredIsCircle, DenialFindsOrCovers, DenialProvesStar, CircleListsAllOwned, DenialsAgree, NoNextBelowAbsent, NextBelowEmpty};
 
 /// The types that the NSEC set of a name lists ascend, each stands there once, and they are exactly those that the name owns,
 /// RRSIG and NSEC (RFC 4034 section 4.1.2).
@@ -55,6 +55,14 @@ pub fn secured_is_circle()
 #[tactic(auto, using(crate::proofs::NsecClosest::finds_or_covers))]
 pub fn denial_finds_or_covers()
     ensures { DenialFindsOrCovers }
+{}
+
+/// Where a name of the zone has no NSEC set, its denial has the NSEC set of the star under its closest encloser, where the star
+/// has one, and else a set that covers the star (RFC 4035 section 3.1.3.2). So a reader knows which wildcard might have answered
+/// for the name, and what that one owns or that there is none.
+#[tactic(auto, using(crate::proofs::NsecStar::proves_star))]
+pub fn denial_proves_star()
+    ensures { DenialProvesStar }
 {}
 
 /// What a name owns is in the list of types of its NSEC set. A name of the zone that owns a set and has no NSEC set stands

@@ -1,7 +1,7 @@
-ghost use Rattle.std.specs.Prelude.{◌≡◌, ◌≢◌, ◌⊎◌, ℕ, List, Option, false, [], Ok, Err, IfErr, IfOk, IsTrue, option_copied};
+ghost use Rattle.std.specs.Prelude.{◌≡◌, ◌≢◌, ◌⊎◌, ℕ, List, Option, false, [], Ok, Err, IfErr, IfOk, IsTrue, IsFalse, option_copied};
 ghost use Rattle.zone_proto.specs.declared.rdata.denial.NSEC3PARAM.{NSEC3PARAM as Nsec3Parameters};
 ghost use Rattle.zone_proto.specs.Names.{Name, lower, is_at_or_above};
-ghost use Rattle.zone_proto.specs.Types.{IN, SOA, AXFR};
+ghost use Rattle.zone_proto.specs.Types.{IN, SOA, AXFR, NSEC};
 ghost use Rattle.zone_denial.specs.NsecLaws.{IsNsecZone};
 ghost use Rattle.zone_denial.specs.Nsec3Zones.{IsNsec3Zone, IsHashed, TellsApart};
 ghost use Rattle.zone_handler.specs.Hashing.{digest_for};
@@ -9,7 +9,7 @@ ghost use Rattle.zone_handler.specs.Transfers.{IsNoLookup};
 ghost use Rattle.zone_search.specs.StartOfAuthority.{soa, serial, minimum};
 ghost use Rattle.zone_search.specs.Replies.{absent, denial, IsReplyFor};
 ghost use Rattle.zone_in_memory.specs.Lookup.{error_of, SaysOrMemory, IsLookup, IsAnswered};
-ghost use Rattle.zone_in_memory.specs.NsecAnswers.{IsNsecAnswer, HasNsecProof, AgreesWithCircle};
+ghost use Rattle.zone_in_memory.specs.NsecAnswers.{IsNsecAnswer, HasNsecProof, HasStarProof, AgreesWithCircle};
 ghost use Rattle.zone_in_memory.specs.Nsec3Steps.{IsNsec3Answer};
 ghost use Rattle.zone_in_memory.specs.Nsec3Answers.{AgreesWithNsec3Circle, HasNsec3Proof};
 ghost use Rattle.zone_in_memory.specs.Requests.{IsSearch};
@@ -383,14 +383,17 @@ impl<S: Signer, H: Nsec3Hash> ZoneHandler for InMemoryZoneHandler<S, H> {
     /// `lookup_options` ask for DNSSEC.
     ///
     /// A name that owns an NSEC set is denied by that one, whose list tells what the name owns (RFC 4035 section 3.1.3.1).
-    /// Any other is denied by the closest NSEC sets, as [`InnerInMemory::closest_nsec`] says, of its parent and of the name
-    /// itself, in this order, or by one where they are the same (section 3.1.3.2). Where the parent is outside the zone, the
-    /// origin stands for it, and nothing where that is the name itself. A set that isn't found is left out. So it is in any
-    /// zone, and whatever its kind; the answer has no additional section. `Memory` may come in place of it.
+    /// Any other is denied by the closest NSEC sets, as [`InnerInMemory::closest_nsec`] says, of the star under its closest
+    /// encloser and of the name itself, in this order, or by one where they are the same (section 3.1.3.2). The closest
+    /// encloser is the longest proper ancestor, not above the origin, that owns NSEC or has such a name below it, or else the
+    /// origin. Of a name outside the zone the origin stands in the place of the star, and of the origin nothing does. A set
+    /// that isn't found is left out. So it is in any zone, and whatever its kind; the answer has no additional section.
+    /// `Memory` may come in place of it.
     ///
     /// In a zone whose NSEC sets are a circle, as they are once [`InMemoryZoneHandler::secure_zone_mut`] made them, these
-    /// deny each name of the zone: the name's own set is found, or the last set covers the name. Of names outside the zone
-    /// nothing is said, nor of a wildcard at the closest encloser.
+    /// deny each name of the zone: the name's own set is found, or the last set covers the name; and in this case they also
+    /// have the set of the star under the closest encloser, or one that covers the star. Of names outside the zone nothing is
+    /// said.
     fn nsec_records(
         &self,
         name: &LowerName,
@@ -398,6 +401,8 @@ impl<S: Signer, H: Nsec3Hash> ZoneHandler for InMemoryZoneHandler<S, H> {
     ) -> LookupControlFlow<AuthLookup>
         ensures answer { IsNsecAnswer self.now name.now lookup_options result }
         ensures proof { IsNsecZone self.now.origin self.now.inner.records → IsTrue (is_at_or_above self.now.origin name.now) → HasNsecProof self.now.origin self.now.inner.records name.now result }
+        ensures star { IsNsecZone self.now.origin self.now.inner.records → IsTrue (is_at_or_above self.now.origin name.now) → IsFalse (owns self.now.inner.records name.now NSEC)
+            → HasStarProof self.now.origin self.now.inner.records name.now result }
     {
         LookupControlFlow::Continue(self.nsec_answer(name, lookup_options))
     }
