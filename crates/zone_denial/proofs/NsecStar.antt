@@ -2,7 +2,7 @@
 use Rattle.std.proofs.Common.{◌≡◌, Bool, true, false, cond, ◌&&◌, [], ◌∷◌, refl, sym, ap, ◌∙◌, subst, true≢false, ◌⊎◌, inl, inr, Less}
 use Rattle.std.specs.Prelude.{Option, Some, None, filter, find, is_some, unwrap_or, option_and_then}
 use Rattle.std.specs.List.{Contains}
-use Rattle.zone_proto.specs.Names.{Name, name_eq, name_cmp, is_at_or_above, star_label, suffixes, IsAbove, IsAtOrAbove}
+use Rattle.zone_proto.specs.Names.{Name, name_eq, name_cmp, is_at_or_above, star_label, IsAbove, IsAtOrAbove}
 use Rattle.zone_proto.specs.Order.{is_upto}
 use Rattle.zone_proto.specs.Sets.{RRset}
 use Rattle.zone_proto.specs.Types.{NSEC}
@@ -17,7 +17,7 @@ use Rattle.zone_map.proofs.Owned.{owner_in, set_of}
 use Rattle.zone_denial.specs.Covering.{covers}
 use Rattle.zone_denial.specs.NsecCircle.{nsec_next}
 use Rattle.zone_denial.specs.NsecDenial.{owns_nsec_at_or_below, nsec_encloser, proved_beside, reaches, closest_owner, both_of, denying_owners, nsec_denial}
-use Rattle.zone_denial.specs.NsecLaws.{IsNsecZone, HasCover, HasOwnOrCover, DenialProvesStar}
+use Rattle.zone_denial.specs.NsecLaws.{IsNsecZone, HasOwnOrCover, DenialProvesStar}
 use Rattle.zone_denial.proofs.NsecCircle.{origin_on_circle}
 use Rattle.zone_denial.proofs.NsecClosest.{IsClosest, reaches_from, closest_is, closest_covers}
 use Rattle.zone_denial.proofs.NsecEnclosers.{beside_below}

@@ -1,7 +1,6 @@
 -- How lookups and denials agree with a circle of NSEC sets
 use Rattle.std.proofs.Common.{◌≡◌, ◌⊎◌, inl, inr, ℕ, Bool, true, false, List, refl, sym, ap, ◌∙◌, subst, IsTrue}
-use Rattle.std.specs.Prelude.{IsFalse}
-use Rattle.std.specs.Prelude.{Option, Some, None, Ok, Err, Result, MatchOption}
+use Rattle.std.specs.Prelude.{Option, Some, None, Ok, Err, Result, MatchOption, IsFalse}
 use Rattle.std.specs.Prelude.{cond}
 use Rattle.zone_proto.specs.declared.record.Record.{Record}
 use Rattle.zone_proto.specs.Names.{Name, is_at_or_above}

@@ -3,7 +3,7 @@ ghost use Rattle.zone_proto.specs.declared.rdata.denial.NSEC3PARAM.{NSEC3PARAM a
 ghost use Rattle.zone_proto.specs.Names.{Name, lower, is_at_or_above};
 ghost use Rattle.zone_proto.specs.Types.{IN, SOA, AXFR, NSEC};
 ghost use Rattle.zone_denial.specs.NsecLaws.{IsNsecZone};
-ghost use Rattle.zone_denial.specs.Nsec3Zones.{IsNsec3Zone, IsHashed, TellsApart};
+ghost use Rattle.zone_denial.specs.Nsec3Zones.{IsNsec3Zone, IsCircleName, IsHashed, TellsApart};
 ghost use Rattle.zone_handler.specs.Hashing.{digest_for};
 ghost use Rattle.zone_handler.specs.Transfers.{IsNoLookup};
 ghost use Rattle.zone_search.specs.StartOfAuthority.{soa, serial, minimum};
@@ -11,7 +11,7 @@ ghost use Rattle.zone_search.specs.Replies.{absent, denial, IsReplyFor};
 ghost use Rattle.zone_in_memory.specs.Lookup.{error_of, SaysOrMemory, IsLookup, IsAnswered};
 ghost use Rattle.zone_in_memory.specs.NsecAnswers.{IsNsecAnswer, HasNsecProof, HasStarProof, AgreesWithCircle};
 ghost use Rattle.zone_in_memory.specs.Nsec3Steps.{IsNsec3Answer};
-ghost use Rattle.zone_in_memory.specs.Nsec3Answers.{AgreesWithNsec3Circle, HasNsec3Proof};
+ghost use Rattle.zone_in_memory.specs.Nsec3Answers.{AgreesWithNsec3Circle, HasNsec3Proof, HasNsec3StarProof};
 ghost use Rattle.zone_in_memory.specs.Requests.{IsSearch};
 ghost use Rattle.zone_in_memory.specs.Transfers.{IsZoneTransfer};
 ghost use Rattle.zone_map.specs.AnyTypes.{searched_type};
@@ -413,8 +413,9 @@ impl<S: Signer, H: Nsec3Hash> ZoneHandler for InMemoryZoneHandler<S, H> {
     ///
     /// In a zone whose NSEC3 sets are a circle by the parameters of `info` and by the zone's hash, and below the root, these
     /// deny each name of the zone to which no wildcard answered: the name's own set is found, where the name is on the circle,
-    /// and else the set of its closest encloser and one that covers the next closer name (RFC 5155 section 7.2.1). That is so
-    /// where the hash gives the names on the circle and those that it is asked of digests of one length that differ.
+    /// and else the set of its closest encloser and one that covers the next closer name (RFC 5155 section 7.2.1), and the set of
+    /// the star under that encloser or one that covers the star (section 7.2.2). That is so where the hash gives the names on
+    /// the circle and those that it is asked of digests of one length that differ.
     fn nsec3_records(
         &self,
         info: Nsec3QueryInfo<'_>,
@@ -425,6 +426,11 @@ impl<S: Signer, H: Nsec3Hash> ZoneHandler for InMemoryZoneHandler<S, H> {
             → info.entry.has_wildcard_match ≡ false → IsTrue (is_at_or_above self.now.origin info.entry.qname.now)
             → TellsApart (IsHashed self.now.origin self.now.inner.records parameters.opt_out info.entry.qname.now) (digest_for (H.digest_of self.now.hash) info.entry)
             → HasNsec3Proof self.now.origin self.now.inner.records (digest_for (H.digest_of self.now.hash) info.entry) parameters.opt_out info.entry.qname.now result }
+        ensures star { (parameters : Nsec3Parameters) → IsNsec3Zone self.now.origin self.now.inner.records (digest_for (H.digest_of self.now.hash) info.entry) parameters
+            → info.entry.has_wildcard_match ≡ false → IsTrue (is_at_or_above self.now.origin info.entry.qname.now)
+            → TellsApart (IsHashed self.now.origin self.now.inner.records parameters.opt_out info.entry.qname.now) (digest_for (H.digest_of self.now.hash) info.entry)
+            → (IsCircleName self.now.origin self.now.inner.records parameters.opt_out info.entry.qname.now → ⊥)
+            → HasNsec3StarProof self.now.origin self.now.inner.records (digest_for (H.digest_of self.now.hash) info.entry) parameters.opt_out info.entry.qname.now result }
     {
         LookupControlFlow::Continue(self.nsec3_answer(info, lookup_options))
     }
