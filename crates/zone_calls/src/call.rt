@@ -243,6 +243,8 @@ pub enum HashCall {
     Digest(Hashed),
     /// `owner ZONE NAME ALGORITHM SALT ITERATIONS`: `hashed_owner_name`.
     Owner(LowerName, Hashed),
+    /// `wildcard ZONE ENCLOSER ALGORITHM SALT ITERATIONS`: `hashed_star_name`.
+    Wildcard(LowerName, Hashed),
 }
 
 /// A name, and the parameters by which it is hashed.

@@ -20,6 +20,10 @@ pub fn read_hash_call(
     match verb {
         "base32" => Ok(HashCall::Base32(read_octets(alloc, words)?)),
         "digest" => Ok(HashCall::Digest(read_hashed(alloc, words)?)),
+        "wildcard" => {
+            let zone = read_lower(alloc, words)?;
+            Ok(HashCall::Wildcard(zone, read_hashed(alloc, words)?))
+        }
         _ => {
             let zone = read_lower(alloc, words)?;
             Ok(HashCall::Owner(zone, read_hashed(alloc, words)?))
@@ -48,6 +52,9 @@ pub fn make_hash_call(alloc: Global, call: HashCall) -> Answer {
         HashCall::Digest(hashed) => of_octets(query(&hashed).hash_name(&Sha1Hash, &hashed.name)),
         HashCall::Owner(zone, hashed) => {
             of_lower(query(&hashed).hashed_owner_name(&Sha1Hash, &hashed.name, &zone))
+        }
+        HashCall::Wildcard(zone, hashed) => {
+            of_lower(query(&hashed).hashed_star_name(&Sha1Hash, &hashed.name, &zone))
         }
     }
 }

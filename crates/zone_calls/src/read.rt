@@ -123,7 +123,7 @@ fn subject_of(verb: &str) -> Subject {
         Subject::Denial
     } else if is_among(verb, "owners denying counted exists") {
         Subject::Neighbour
-    } else if is_among(verb, "base32 digest owner") {
+    } else if is_among(verb, "base32 digest owner wildcard") {
         Subject::Hash
     } else if is_among(verb, "transfer") {
         Subject::Transfer

@@ -15,7 +15,7 @@ use Rattle.zone_proto.proofs.Tree.{name_order}
 use Rattle.zone_map.specs.Zones.{Sets, set_at, owners, IsZone}
 use Rattle.zone_map.proofs.Owned.{owner_owned}
 use Rattle.zone_denial.specs.DenialSets.{unless_same}
-use Rattle.zone_denial.specs.NsecDenial.{reaches, closest_owner, closest_nsec, both_of, parent_of, nsec_denial}
+use Rattle.zone_denial.specs.NsecDenial.{reaches, closest_owner, closest_nsec, both_of, proved_beside, nsec_denial}
 
 module _ (m : Sets) (zone : IsZone m) where
   -- a set is that of an owner, or neither is there
@@ -38,11 +38,11 @@ module _ (m : Sets) (zone : IsZone m) where
           let among = (In-from_filter (reaches m x) o (owners m NSEC) (greatest_is name_order _ o e).among).0 in
           stored o (owner_owned m o NSEC among) (set_at m o NSEC) refl
 
-  of_parent : (p : Option Name) → IsSetOf (option_and_then (closest_owner m) p) (option_and_then (closest_nsec m) p)
-  of_parent None = tt
-  of_parent (Some p) = of_closest p
+  of_beside : (p : Option Name) → IsSetOf (option_and_then (closest_owner m) p) (option_and_then (closest_nsec m) p)
+  of_beside None = tt
+  of_beside (Some p) = of_closest p
 
-same_by_order : (a b : Name) → is_eq (name_cmp a b) ≡ name_eq a b
+pub same_by_order : (a b : Name) → is_eq (name_cmp a b) ≡ name_eq a b
 same_by_order a b =
     both_ways (is_eq (name_cmp a b)) (name_eq a b) (λ h. (name_eq-Decides a b).1 (name_order.exact a b (equal_of (name_cmp a b) h)))
     (λ h. ap is_eq (ap (name_cmp a) (sym ((name_eq-Decides a b).0 h)) ∙ name_itself a))
@@ -60,8 +60,8 @@ module _ (m : Sets) (zone : IsZone m) where
   two_sets a b s r e d true = one_set b r d
   two_sets a b s r e d false = ap (λ rs. s ∷ rs) (one_set b r d) ∙ sym (ap (λ o. cons_option o (filter_map (λ o. set_at m o NSEC) (b ∷ []))) e)
 
-  sets_of_both : (a b : Option Name) (above closest : Option RRset) → IsSetOf m zone a above → IsSetOf m zone b closest
-      → option_to_list (unless_same above closest) ++ option_to_list closest ≡ filter_map (λ o. set_at m o NSEC) (both_of a b)
+  sets_of_both : (a b : Option Name) (beside closest : Option RRset) → IsSetOf m zone a beside → IsSetOf m zone b closest
+      → option_to_list (unless_same beside closest) ++ option_to_list closest ≡ filter_map (λ o. set_at m o NSEC) (both_of a b)
   sets_of_both None None None None h k = refl
   sets_of_both None (Some b) None (Some r) h k = one_set b r k.0
   sets_of_both (Some a) None (Some s) None h k = one_set a s h.0
@@ -70,21 +70,21 @@ module _ (m : Sets) (zone : IsZone m) where
       ∙ two_sets a b s r h.0 k.0 (name_eq a b)
   sets_of_both None b (Some s) closest h k = absurd h
   sets_of_both (Some a) b None closest h k = absurd h
-  sets_of_both a None above (Some r) h k = absurd k
-  sets_of_both a (Some b) above None h k = absurd k
+  sets_of_both a None beside (Some r) h k = absurd k
+  sets_of_both a (Some b) beside None h k = absurd k
 
   -- a name that owns NSEC is denied by its own set
   pub own_denial : (origin x : Name) (s : RRset) → set_at m x NSEC ≡ Some s → s ∷ [] ≡ nsec_denial origin m x
   own_denial origin x s e =
       one_set x s e
-      ∙ sym (ap (λ (o : Option RRset). filter_map (λ o. set_at m o NSEC) (cond (is_some o) (x ∷ []) (both_of (option_and_then (closest_owner m) (parent_of origin x)) (closest_owner m x)))) e)
+      ∙ sym (ap (λ (o : Option RRset). filter_map (λ o. set_at m o NSEC) (cond (is_some o) (x ∷ []) (both_of (option_and_then (closest_owner m) (proved_beside origin m x)) (closest_owner m x)))) e)
 
   -- and any other by the closest ones
-  pub closest_denial : (origin x : Name) (above closest : Option RRset) → set_at m x NSEC ≡ None → above ≡ option_and_then (closest_nsec m) (parent_of origin x) → closest ≡ closest_nsec m x
-      → option_to_list (unless_same above closest) ++ option_to_list closest ≡ nsec_denial origin m x
-  closest_denial origin x above closest e is own =
+  pub closest_denial : (origin x : Name) (beside closest : Option RRset) → set_at m x NSEC ≡ None → beside ≡ option_and_then (closest_nsec m) (proved_beside origin m x) → closest ≡ closest_nsec m x
+      → option_to_list (unless_same beside closest) ++ option_to_list closest ≡ nsec_denial origin m x
+  closest_denial origin x beside closest e is own =
       ap (λ o. option_to_list (unless_same o closest) ++ option_to_list closest) is
-      ∙ ap (λ o. option_to_list (unless_same (option_and_then (closest_nsec m) (parent_of origin x)) o) ++ option_to_list o) own
-      ∙ sets_of_both (option_and_then (closest_owner m) (parent_of origin x)) (closest_owner m x) (option_and_then (closest_nsec m) (parent_of origin x)) (closest_nsec m x)
-      (of_parent m zone (parent_of origin x)) (of_closest m zone x)
-      ∙ sym (ap (λ (o : Option RRset). filter_map (λ o. set_at m o NSEC) (cond (is_some o) (x ∷ []) (both_of (option_and_then (closest_owner m) (parent_of origin x)) (closest_owner m x)))) e)
+      ∙ ap (λ o. option_to_list (unless_same (option_and_then (closest_nsec m) (proved_beside origin m x)) o) ++ option_to_list o) own
+      ∙ sets_of_both (option_and_then (closest_owner m) (proved_beside origin m x)) (closest_owner m x) (option_and_then (closest_nsec m) (proved_beside origin m x)) (closest_nsec m x)
+      (of_beside m zone (proved_beside origin m x)) (of_closest m zone x)
+      ∙ sym (ap (λ (o : Option RRset). filter_map (λ o. set_at m o NSEC) (cond (is_some o) (x ∷ []) (both_of (option_and_then (closest_owner m) (proved_beside origin m x)) (closest_owner m x)))) e)

@@ -1,5 +1,5 @@
 -- The NSEC3 sets of a denial step by step, as they are found
-use Rattle.std.proofs.Common.{◌≡◌, ◌==◌, eq-eqb, eqb-true, ℕ, suc, Bool, true, false, cond, not, ◌&&◌, List, [], ◌∷◌, ◌++◌, length, drop, refl, sym, ap, ◌∙◌, subst, true≢false, arith, inl, inr, ◌⊎◌}
+use Rattle.std.proofs.Common.{◌≡◌, ◌==◌, eq-eqb, eqb-true, suc, Bool, true, false, cond, not, ◌&&◌, List, [], ◌∷◌, ◌++◌, length, drop, refl, sym, ap, ◌∙◌, subst, true≢false, arith, inl, inr, ◌⊎◌}
 use Rattle.std.specs.Result.{IsErrAnd}
 use Rattle.std.specs.Prelude.{IfErr, Option, Some, None, Result, Ok, Err, find, filter, filter_map, is_some, option_to_list, option_copied}
 use Rattle.std.specs.Borrow.{Bor}
@@ -12,7 +12,7 @@ use Rattle.zone_proto.specs.declared.error.ProtoError.TheVariants.{Memory}
 use Rattle.zone_proto.specs.Names.{Name, name_cmp, base_name, suffixes, wildcard_of}
 use Rattle.zone_proto.specs.Sets.{RRset}
 use Rattle.zone_proto.specs.Order.{is_before, greatest}
-use Rattle.zone_proto.specs.Types.{DS, NSEC3}
+use Rattle.zone_proto.specs.Types.{NSEC3}
 use Rattle.zone_proto.proofs.Members.{In, In-from_append, In-from_filter}
 use Rattle.zone_proto.proofs.Orders.{greatest_is}
 use Rattle.zone_proto.proofs.Tree.{name_order}
@@ -20,10 +20,10 @@ use Rattle.zone_map.specs.Wildcards.{star_under}
 use Rattle.zone_map.specs.Zones.{Sets, set_at, owns, owners, IsZone}
 use Rattle.zone_map.proofs.Delegations.{found_above}
 use Rattle.zone_map.proofs.Owned.{owner_owned}
-use Rattle.zone_denial.specs.Nsec3Denial.{result_and_then, has_match, match_of, cover_of, match_owner, cover_owner, encloser_of, next_closer, star_part, enclosed, is_starred_beside, nsec3_denial}
+use Rattle.zone_denial.specs.Nsec3Denial.{result_and_then, has_match, match_of, cover_of, match_owner, cover_owner, encloser_of, next_closer, star_part, enclosed, nsec3_denial}
 use Rattle.zone_denial.specs.Nsec3Lent.{sets_of, owner_cmp, enclosed_sets}
 use Rattle.zone_denial.specs.TypeLists.{in_order}
-use Rattle.zone_denial.proofs.Parents.{base_is_drop}
+use Rattle.zone_denial.proofs.NsecEnclosers.{base_is_drop}
 use Rattle.zone_denial.proofs.SetsInOrder.{AllOwn, sets_in_order}
 
 -- ---- refusals
@@ -116,24 +116,24 @@ module _ {E : Type 0} (m : Sets) (hashed : Name → Result Name E) where
 
   -- ---- the name's own set
 
-  pub own_denial : (wildcard : Bool) (t : ℕ) (q : Name) (found : Option RRset) → sets_of m (match_of m hashed q) ≡ Ok (option_to_list found)
-      → nsec3_denial m hashed wildcard t q ≡ cond (is_some found && not wildcard) (Ok (option_to_list found)) (result_and_then (λ encloser. enclosed_sets m hashed wildcard t q encloser) (encloser_of m hashed q))
-  own_denial wildcard t q found e =
+  pub own_denial : (wildcard : Bool) (q : Name) (found : Option RRset) → sets_of m (match_of m hashed q) ≡ Ok (option_to_list found)
+      → nsec3_denial m hashed wildcard q ≡ cond (is_some found && not wildcard) (Ok (option_to_list found)) (result_and_then (λ encloser. enclosed_sets m hashed wildcard q encloser) (encloser_of m hashed q))
+  own_denial wildcard q found e =
       let r = matched q found e in
       ap (λ x. sets_of m (result_and_then (λ own. cond (owns m own NSEC3 && not wildcard) (Ok (own ∷ [])) (rest)) x)) r.1
       ∙ by r.0 found r.2 (owns m r.0 NSEC3) (ap is_some r.2) (not wildcard)
     where
       rest : Result (List Name) E
-      rest = result_and_then (λ encloser. result_and_then (λ os. Ok (in_order name_cmp os)) (enclosed m hashed wildcard (is_starred_beside m hashed q) t q encloser)) (encloser_of m hashed q)
+      rest = result_and_then (λ encloser. result_and_then (λ os. Ok (in_order name_cmp os)) (enclosed m hashed wildcard q encloser)) (encloser_of m hashed q)
 
       through : (r : Result (Option Name) E)
-          → sets_of m (result_and_then (λ encloser. result_and_then (λ os. Ok (in_order name_cmp os)) (enclosed m hashed wildcard (is_starred_beside m hashed q) t q encloser)) r)
-          ≡ result_and_then (λ encloser. enclosed_sets m hashed wildcard t q encloser) r
+          → sets_of m (result_and_then (λ encloser. result_and_then (λ os. Ok (in_order name_cmp os)) (enclosed m hashed wildcard q encloser)) r)
+          ≡ result_and_then (λ encloser. enclosed_sets m hashed wildcard q encloser) r
       through (Ok x) = refl
       through (Err x) = refl
 
       by : (h : Name) (o : Option RRset) → set_at m h NSEC3 ≡ o → (b : Bool) → b ≡ is_some o → (w : Bool)
-          → sets_of m (cond (b && w) (Ok (h ∷ [])) rest) ≡ cond (is_some o && w) (Ok (option_to_list o)) (result_and_then (λ encloser. enclosed_sets m hashed wildcard t q encloser) (encloser_of m hashed q))
+          → sets_of m (cond (b && w) (Ok (h ∷ [])) rest) ≡ cond (is_some o && w) (Ok (option_to_list o)) (result_and_then (λ encloser. enclosed_sets m hashed wildcard q encloser) (encloser_of m hashed q))
       by h None e true g w = cc
       by h None e false g w = through (encloser_of m hashed q)
       by h (Some s) e true g true = ap (λ o. Ok (cons_option o [])) e
@@ -144,11 +144,11 @@ module _ {E : Type 0} (m : Sets) (hashed : Name → Result Name E) where
 
 module _ {E : Type 0} (m : Sets) (hashed : Name → Result Name E) where
   -- where the name's own set isn't the answer
-  pub encloser_denial : (wildcard : Bool) (t : ℕ) (q : Name) (found : Option RRset) → sets_of m (match_of m hashed q) ≡ Ok (option_to_list found) → is_some found && not wildcard ≡ false
-      → (encloser : Option Name) → encloser_of m hashed q ≡ Ok encloser → nsec3_denial m hashed wildcard t q ≡ enclosed_sets m hashed wildcard t q encloser
-  encloser_denial wildcard t q found e h encloser is =
-      let rest = λ (a : Option Name). enclosed_sets m hashed wildcard t q a in
-      own_denial m hashed wildcard t q found e ∙ ap (λ b. cond b (Ok (option_to_list found)) (result_and_then rest (encloser_of m hashed q))) h ∙ ap (result_and_then rest) is
+  pub encloser_denial : (wildcard : Bool) (q : Name) (found : Option RRset) → sets_of m (match_of m hashed q) ≡ Ok (option_to_list found) → is_some found && not wildcard ≡ false
+      → (encloser : Option Name) → encloser_of m hashed q ≡ Ok encloser → nsec3_denial m hashed wildcard q ≡ enclosed_sets m hashed wildcard q encloser
+  encloser_denial wildcard q found e h encloser is =
+      let rest = λ (a : Option Name). enclosed_sets m hashed wildcard q a in
+      own_denial m hashed wildcard q found e ∙ ap (λ b. cond b (Ok (option_to_list found)) (result_and_then rest (encloser_of m hashed q))) h ∙ ap (result_and_then rest) is
 
 -- ---- the sets that are found with an encloser
 
@@ -195,23 +195,25 @@ module _ {E : Type 0} (m : Sets) (zone : IsZone m) (hashed : Name → Result Nam
   pub found_cover : (n : Name) (sets : List RRset) → sets_of m (cover_of m hashed n) ≡ Ok sets → AreFound (cover_of m hashed n) sets
   found_cover n sets e = found_with (cover_owner m) owns_cover (hashed n) sets e
 
-  pub found_star : (starred : Bool) (t : ℕ) (a : Name) (sets : List RRset) → sets_of m (star_part m hashed starred t a) ≡ Ok sets → AreFound (star_part m hashed starred t a) sets
-  found_star true t a sets e = found_match (star_under a) sets e
-  found_star false t a sets e = by (t == DS) e
+  owns_either : (h : Name) → AllOwn m zone (option_to_list (option_or (match_owner m h) (cover_owner m h)))
+  owns_either h = by (match_owner m h) (owns_match h)
     where
-      by : (b : Bool) → sets_of m (cond b (Ok []) (cover_of m hashed (star_under a))) ≡ Ok sets → AreFound (cond b (Ok []) (cover_of m hashed (star_under a))) sets
-      by true e = record { owners = []; is = refl; own = λ o i. absurd i; are = given m hashed _ _ e }
-      by false e = found_cover (star_under a) sets e
+      by : (o : Option Name) → AllOwn m zone (option_to_list o) → AllOwn m zone (option_to_list (option_or o (cover_owner m h)))
+      by None own = owns_cover h
+      by (Some o) own = own
+
+  pub found_star : (a : Name) (sets : List RRset) → sets_of m (star_part m hashed a) ≡ Ok sets → AreFound (star_part m hashed a) sets
+  found_star a sets e = found_with (λ h. option_or (match_owner m h) (cover_owner m h)) owns_either (hashed (star_under a)) sets e
 
   -- these in order are the answer where no wildcard answered
-  pub enclosed_answers : (t : ℕ) (q a c : Name) → next_closer q a ≡ Some c → (closer encloser star : List RRset) → sets_of m (cover_of m hashed c) ≡ Ok closer → sets_of m (match_of m hashed a) ≡ Ok encloser
-      → sets_of m (star_part m hashed (is_starred_beside m hashed q) t a) ≡ Ok star → enclosed_sets m hashed false t q (Some a) ≡ Ok (in_order owner_cmp (encloser ++ closer ++ star))
-  enclosed_answers t q a c is closer encloser star e f g =
+  pub enclosed_answers : (q a c : Name) → next_closer q a ≡ Some c → (closer encloser star : List RRset) → sets_of m (cover_of m hashed c) ≡ Ok closer → sets_of m (match_of m hashed a) ≡ Ok encloser
+      → sets_of m (star_part m hashed a) ≡ Ok star → enclosed_sets m hashed false q (Some a) ≡ Ok (in_order owner_cmp (encloser ++ closer ++ star))
+  enclosed_answers q a c is closer encloser star e f g =
       let k = found_cover c closer e in
       let n = found_match a encloser f in
-      let s = found_star (is_starred_beside m hashed q) t a star g in
+      let s = found_star a star g in
       let sorted = λ (r : Result (List Name) E). sets_of m (result_and_then (λ owners. Ok (in_order name_cmp owners)) r) in
-      let part = star_part m hashed (is_starred_beside m hashed q) t a in
+      let part = star_part m hashed a in
       ap (λ o. sorted (result_and_then (λ closer. result_and_then (λ encloser. result_and_then (λ star. Ok (encloser ++ closer ++ star)) part) (match_of m hashed a)) (option_map_or (cover_of m hashed) o (Ok [])))) is
       ∙ ap (λ r. sorted (result_and_then (λ closer. result_and_then (λ encloser. result_and_then (λ star. Ok (encloser ++ closer ++ star)) part) (match_of m hashed a)) r)) k.is
       ∙ ap (λ r. sorted (result_and_then (λ encloser. result_and_then (λ star. Ok (encloser ++ k.owners ++ star)) part) r)) n.is
@@ -248,6 +250,31 @@ starred_base (l ∷ ls) star is = ap base_name is
 pub closer_star : (q n star : Name) → next_closer q (base_name n) ≡ Some n → star ≡ wildcard_of n → star ≡ star_under (base_name star)
 closer_star q [] star closer is = absurd (true≢false (sym (found_above (λ s. length s == 1) q [] closer).1))
 closer_star q (l ∷ ls) star closer is = is ∙ ap star_under (sym (starred_base (l ∷ ls) star is))
+
+module _ {E : Type 0} (m : Sets) (hashed : Name → Result Name E) where
+  -- where its key was made, what matches it or else what covers it was found
+  pub star_answer : (star h : Name) (sets : List RRset) → star ≡ star_under (base_name star) → hashed star ≡ Ok h
+      → sets ≡ filter_map (λ o. set_at m o NSEC3) (option_to_list (option_or (match_owner m h) (cover_owner m h))) → sets_of m (star_part m hashed (base_name star)) ≡ Ok sets
+  star_answer star h sets is key found =
+      ap (λ n. sets_of m (result_and_then (λ h. Ok (option_to_list (option_or (match_owner m h) (cover_owner m h)))) (hashed n))) (sym is)
+      ∙ ap (λ r. sets_of m (result_and_then (λ h. Ok (option_to_list (option_or (match_owner m h) (cover_owner m h)))) r)) key
+      ∙ ap Ok (sym found)
+
+  pub star_matched : (star h : Name) (s : RRset) → star ≡ star_under (base_name star) → hashed star ≡ Ok h → set_at m h NSEC3 ≡ Some s → sets_of m (star_part m hashed (base_name star)) ≡ Ok (s ∷ [])
+  star_matched star h s is key stands =
+      star_answer star h (s ∷ []) is key
+      (sym (ap (λ o. filter_map (λ o. set_at m o NSEC3) (option_to_list (option_or (cond (is_some o) (Some h) None) (cover_owner m h)))) stands ∙ ap (λ o. cons_option o []) stands))
+
+  pub star_covered : (star h : Name) (sets : List RRset) → star ≡ star_under (base_name star) → hashed star ≡ Ok h → set_at m h NSEC3 ≡ None
+      → sets ≡ filter_map (λ o. set_at m o NSEC3) (option_to_list (cover_owner m h)) → sets_of m (star_part m hashed (base_name star)) ≡ Ok sets
+  star_covered star h sets is key none found =
+      star_answer star h sets is key
+      (found ∙ sym (ap (λ o. filter_map (λ o. set_at m o NSEC3) (option_to_list (option_or (cond (is_some o) (Some h) None) (cover_owner m h)))) none))
+
+  pub star_refused : (star : Name) (e : E) → star ≡ star_under (base_name star) → hashed star ≡ Err e → star_part m hashed (base_name star) ≡ Err e
+  star_refused star e is refused =
+      ap (λ n. result_and_then (λ h. Ok (option_to_list (option_or (match_owner m h) (cover_owner m h)))) (hashed n)) (sym is)
+      ∙ ap (result_and_then (λ h. Ok (option_to_list (option_or (match_owner m h) (cover_owner m h))))) refused
 
 -- ---- when the name's own set isn't the answer
 

@@ -5,13 +5,13 @@ pub mod CoverSets
 pub mod SetsJoined
 pub mod SetsInOrder
 pub mod DenialSteps
-pub mod StarTests
-pub mod Parents
+pub mod NsecEnclosers
 pub mod DenialLists
 pub mod InOrder
 pub mod AuthoritativeNames
 pub mod NsecCircle
 pub mod NsecClosest
+pub mod NsecStar
 pub mod CircleReads
 pub mod NsecLists
 pub mod NsecBelow
@@ -34,6 +34,7 @@ pub mod Nsec3Enclosers
 pub mod Nsec3Owners
 pub mod Nsec3Covers
 pub mod Nsec3Encloses
+pub mod Nsec3Star
 pub mod Nsec3Lists
 pub mod CircleImages
 pub mod AllPassing

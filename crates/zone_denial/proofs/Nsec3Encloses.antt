@@ -1,21 +1,21 @@
 -- The denial by NSEC3 of a name of the zone is the name's own set, or has the set of its closest encloser and one that covers
 -- the next closer name
 use Rattle.std.proofs.Common.{◌≡◌, ℕ, Bool, true, false, cond, ◌&&◌, List, [], ◌∷◌, ◌++◌, refl, sym, ap, ◌∙◌, true≢false, inl, inr}
-use Rattle.std.specs.Prelude.{Option, Some, None, Result, Ok, filter_map, option_map, option_to_list, ◌==◌}
+use Rattle.std.specs.Prelude.{Option, Some, None, Result, Ok, filter_map, option_map, option_to_list}
 use Rattle.std.specs.List.{Contains, cons_option}
-use Rattle.std.specs.Option.{option_map_or}
+use Rattle.std.specs.Option.{option_map_or, option_or}
 use Rattle.zone_proto.specs.declared.error.ProtoError.{ProtoError}
 use Rattle.zone_proto.specs.declared.rdata.denial.NSEC3PARAM.{NSEC3PARAM as Nsec3Parameters}
 use Rattle.zone_proto.specs.HashedOwners.{owner_or_refusal}
 use Rattle.zone_proto.specs.Names.{Name, name_cmp, is_at_or_above, IsAtOrAbove}
 use Rattle.zone_proto.specs.Sets.{RRset}
-use Rattle.zone_proto.specs.Types.{DS, NSEC3}
+use Rattle.zone_proto.specs.Types.{NSEC3}
 use Rattle.zone_proto.proofs.Members.{In, In-Contains, Contains-In, In-filter_map}
 use Rattle.zone_proto.proofs.Tree.{name_order}
 use Rattle.zone_map.specs.Wildcards.{star_under}
 use Rattle.zone_map.specs.Zones.{Sets, set_at, owns}
 use Rattle.zone_denial.specs.Nsec3Circle.{digests, next_digest}
-use Rattle.zone_denial.specs.Nsec3Denial.{match_owner, cover_owner, result_and_then, has_match, match_of, cover_of, encloser_of, star_part, enclosed, is_starred_beside, next_closer}
+use Rattle.zone_denial.specs.Nsec3Denial.{match_owner, cover_owner, result_and_then, has_match, match_of, cover_of, encloser_of, star_part, enclosed, next_closer}
 use Rattle.zone_denial.specs.Nsec3Laws.{IsSetOf, ProvesEncloser, FindsOrEncloses, Nsec3DenialFindsOrEncloses}
 use Rattle.zone_denial.specs.Nsec3Names.{nsec3_names}
 use Rattle.zone_denial.specs.Nsec3Zones.{IsNsec3Zone, IsHashed, TellsApart}
@@ -65,7 +65,7 @@ module _ {origin : Name} {m : Sets} {hash : Name → Option (List ℕ)} {paramet
     closer_hashed : Hashed c
     closer_hashed = hashed_above c e.closer_at e.closer_below
 
-    star_hashed : Hashed (star_under a)
+    pub star_hashed : Hashed (star_under a)
     star_hashed = inr (a, e.is_encloser, inr refl)
 
     encloser_is : encloser_of m hashed x ≡ Ok (Some a)
@@ -73,7 +73,7 @@ module _ {origin : Name} {m : Sets} {hash : Name → Option (List ℕ)} {paramet
 
   -- ---- an answer that has these sets proves the encloser
 
-  abbrev Has : List RRset → Name → Type 0
+  abbrev pub Has : List RRset → Name → Type 0
   Has answer o = (s : RRset) → set_at m o NSEC3 ≡ Some s → Contains answer s
 
   proves : (a c n : Name) (answer : List RRset) → IsEnclosed origin m parameters.opt_out x a c → IsCover zone apart c n → Has answer (owner zone apart a) → Has answer (owner zone apart n)
@@ -197,17 +197,15 @@ module _ {origin : Name} {m : Sets} {hash : Name → Option (List ℕ)} {paramet
               },
             )
 
-  -- the star's part is no refusal where the star is hashed
-  star_answered : (starred : Bool) (t : ℕ) (a : Name) → Hashed (star_under a) → (star : List Name) × (star_part m hashed starred t a ≡ Ok star)
-  star_answered true t a h = (option_to_list (match_owner m (owner zone apart (star_under a))), ap (result_and_then (λ h. Ok (option_to_list (match_owner m h)))) (is_owner zone apart (star_under a) h))
-  star_answered false t a h = by (t == DS)
-    where
-      by : (b : Bool) → (star : List Name) × (cond b (Ok []) (cover_of m hashed (star_under a)) ≡ Ok star)
-      by true = ([], refl)
-      by false = (option_to_list (cover_owner m (owner zone apart (star_under a))), ap (result_and_then (λ h. Ok (option_to_list (cover_owner m h)))) (is_owner zone apart (star_under a) h))
+  -- the owners of the star's part: of what matches the star, or else of what covers it
+  abbrev pub star_owners : Name → List Name
+  star_owners a = option_to_list (option_or (match_owner m (owner zone apart (star_under a))) (cover_owner m (owner zone apart (star_under a))))
+
+  -- it is no refusal where the star is hashed
+  pub star_answered : (a : Name) → Hashed (star_under a) → star_part m hashed a ≡ Ok (star_owners a)
+  star_answered a h = ap (result_and_then (λ h. Ok (option_to_list (option_or (match_owner m h) (cover_owner m h))))) (is_owner zone apart (star_under a) h)
 
 pub finds_or_encloses : Nsec3DenialFindsOrEncloses
-finds_or_encloses origin m hash parameters zone x t inside apart =
+finds_or_encloses origin m hash parameters zone x inside apart =
     let hashed : Name → Result Name ProtoError = λ n. owner_or_refusal origin (hash n) in
-    let starred = is_starred_beside m hashed x in
-    answer_is zone apart (enclosed m hashed false starred t x) (star_part m hashed starred t) (λ a. refl) inside (λ a h. star_answered zone apart starred t a h)
+    answer_is zone apart (enclosed m hashed false x) (star_part m hashed) (λ a. refl) inside (λ a h. (star_owners zone apart a, star_answered zone apart a h))

@@ -8,7 +8,7 @@ use Rattle.zone_proto.specs.declared.rdata.denial.NSEC3PARAM.{NSEC3PARAM as Nsec
 use Rattle.zone_proto.specs.HashedOwners.{hashed_owner, owner_or_refusal}
 use Rattle.zone_proto.specs.Names.{Name, name_eq}
 use Rattle.zone_proto.specs.Sets.{RRset}
-use Rattle.zone_proto.specs.Types.{A, NS, SOA, MX, DS, RRSIG, DNSKEY, NSEC3, NSEC3PARAM, IN}
+use Rattle.zone_proto.specs.Types.{A, NS, SOA, DS, RRSIG, DNSKEY, NSEC3, NSEC3PARAM, IN}
 use Rattle.zone_map.specs.Wildcards.{star_under}
 use Rattle.zone_map.specs.Zones.{Sets, put}
 use Rattle.zone_denial.specs.Nsec3Circle.{nsec3_data, nsec3_types, digests, next_digest}
@@ -118,7 +118,7 @@ abbrev pub b : Name
 b = at_origin (codes "b")
 
 abbrev table : List (Name × List ℕ)
-table = (origin, 64 ∷ []) ∷ (a, 128 ∷ []) ∷ (b, 32 ∷ []) ∷ (star_under origin, 96 ∷ []) ∷ (codes "x" ∷ a, 192 ∷ []) ∷ (star_under a, 48 ∷ []) ∷ []
+table = (origin, 64 ∷ []) ∷ (a, 128 ∷ []) ∷ (b, 32 ∷ []) ∷ (star_under origin, 96 ∷ []) ∷ (codes "x" ∷ a, 192 ∷ []) ∷ (star_under a, 48 ∷ []) ∷ (codes "x" ∷ b, 200 ∷ []) ∷ []
 
 abbrev hosts : Sets
 hosts = linked table (start ∷ public_key ∷ address a ∷ [])
@@ -130,11 +130,11 @@ abbrev host_set : RRset
 host_set = says (128 ∷ []) (64 ∷ []) (A ∷ RRSIG ∷ [])
 
 -- a name that is there: its own set
-own : nsec3_denial hosts (hashed_by table) false MX a ≡ Ok (host_set ∷ [])
+own : nsec3_denial hosts (hashed_by table) false a ≡ Ok (host_set ∷ [])
 own = refl
 
 -- one that isn't: what matches the origin, which covers the star too, and what covers the name
-absent : nsec3_denial hosts (hashed_by table) false A b ≡ Ok (origin_set ∷ host_set ∷ [])
+absent : nsec3_denial hosts (hashed_by table) false b ≡ Ok (origin_set ∷ host_set ∷ [])
 absent = refl
 
 encloser : closest_encloser origin hosts false (codes "x" ∷ a) ≡ Some a
@@ -144,15 +144,23 @@ closer : next_closer (codes "y" ∷ codes "x" ∷ a) a ≡ Some (codes "x" ∷ a
 closer = refl
 
 -- below the host
-below : nsec3_denial hosts (hashed_by table) false A (codes "x" ∷ a) ≡ Ok (host_set ∷ [])
+below : nsec3_denial hosts (hashed_by table) false (codes "x" ∷ a) ≡ Ok (host_set ∷ [])
 below = refl
 
+-- with a star that has a set: of a name further below that one too
+abbrev starred : Sets
+starred = linked table (start ∷ public_key ∷ address a ∷ address (star_under origin) ∷ [])
+
+star_told : nsec3_denial starred (hashed_by table) false (codes "x" ∷ b)
+    ≡ Ok (says (64 ∷ []) (96 ∷ []) (SOA ∷ RRSIG ∷ DNSKEY ∷ NSEC3PARAM ∷ []) ∷ says (96 ∷ []) (128 ∷ []) (A ∷ RRSIG ∷ []) ∷ says (128 ∷ []) (64 ∷ []) (A ∷ RRSIG ∷ []) ∷ [])
+star_told = refl
+
 -- where a wildcard answered: what covers the next closer name alone
-answered_by_wildcard : nsec3_denial hosts (hashed_by table) true A b ≡ Ok (host_set ∷ [])
+answered_by_wildcard : nsec3_denial hosts (hashed_by table) true b ≡ Ok (host_set ∷ [])
 answered_by_wildcard = refl
 
 -- without NSEC3 sets nothing is denied
-unlinked : nsec3_denial bare (hashed_by table) false A b ≡ Ok []
+unlinked : nsec3_denial bare (hashed_by table) false b ≡ Ok []
 unlinked = refl
 
 -- ---- refusals of the hash
@@ -160,23 +168,20 @@ unlinked = refl
 abbrev no_star : List (Name × List ℕ)
 no_star = (origin, 64 ∷ []) ∷ (a, 128 ∷ []) ∷ (b, 32 ∷ []) ∷ []
 
--- the star is hashed last, and not for DS
-star_refused : nsec3_denial hosts (hashed_by no_star) false A b ≡ Err Hash
+-- the star is hashed last
+star_refused : nsec3_denial hosts (hashed_by no_star) false b ≡ Err Hash
 star_refused = refl
-
-star_not_asked : nsec3_denial hosts (hashed_by no_star) false DS b ≡ Ok (origin_set ∷ host_set ∷ [])
-star_not_asked = refl
 
 -- the queried name is hashed first
 abbrev long_name : List (Name × List ℕ)
 long_name = (b, replicate 40 0) ∷ []
 
-first_refusal : nsec3_denial hosts (hashed_by long_name) false A b ≡ Err LabelTooLong
+first_refusal : nsec3_denial hosts (hashed_by long_name) false b ≡ Err LabelTooLong
 first_refusal = refl
 
 -- and then its ancestors
 abbrev long_origin : List (Name × List ℕ)
 long_origin = (b, 32 ∷ []) ∷ (origin, replicate 40 0) ∷ []
 
-second_refusal : nsec3_denial hosts (hashed_by long_origin) false A b ≡ Err LabelTooLong
+second_refusal : nsec3_denial hosts (hashed_by long_origin) false b ≡ Err LabelTooLong
 second_refusal = refl

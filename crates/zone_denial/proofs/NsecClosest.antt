@@ -14,7 +14,7 @@ use Rattle.zone_map.specs.Zones.{Sets, set_at, owns, owners}
 use Rattle.zone_map.proofs.Owned.{owner_in, owner_owned, set_of}
 use Rattle.zone_denial.specs.Covering.{covers}
 use Rattle.zone_denial.specs.NsecCircle.{IsNsecCircle, nsec_next}
-use Rattle.zone_denial.specs.NsecDenial.{goes_past, reaches, closest_owner, nsec_denial, both_of, parent_of}
+use Rattle.zone_denial.specs.NsecDenial.{goes_past, reaches, closest_owner, nsec_denial, both_of, proved_beside}
 use Rattle.zone_denial.specs.NsecLaws.{IsNsecZone, LastCovers, FindsOrCovers, DenialFindsOrCovers}
 use Rattle.zone_denial.proofs.NsecCircle.{above_upto, origin_upto, origin_on_circle, NextIs, least_after, wraps, next_is, next_said}
 
@@ -133,7 +133,7 @@ module _ (origin : Name) (m : Sets) (h : IsNsecZone origin m) where
   pub last_covers : (x o : Name) → IsClosest origin m x o → closest_owner m x ≡ Some o → owns m x NSEC ≡ false → LastCovers (nsec_denial origin m x) x (nsec_next origin m o)
   last_covers x o c is off =
       let s = set_of m o NSEC c.on_circle in
-      let p = option_and_then (closest_owner m) (parent_of origin x) in
+      let p = option_and_then (closest_owner m) (proved_beside origin m x) in
       let last = last_of_both m p o s.0 s.1 in
       record {
         before = last.0;
@@ -148,7 +148,7 @@ module _ (origin : Name) (m : Sets) (h : IsNsecZone origin m) where
 
   found_alone : (x : Name) (s : RRset) → set_at m x NSEC ≡ Some s → owns m x NSEC ≡ true → nsec_denial origin m x ≡ s ∷ []
   found_alone x s e on =
-      ap (λ b. filter_map (λ a. set_at m a NSEC) (cond b (x ∷ []) (both_of (option_and_then (closest_owner m) (parent_of origin x)) (closest_owner m x)))) on
+      ap (λ b. filter_map (λ a. set_at m a NSEC) (cond b (x ∷ []) (both_of (option_and_then (closest_owner m) (proved_beside origin m x)) (closest_owner m x)))) on
       ∙ ap (λ q. cons_option q []) e
 
 pub finds_or_covers : DenialFindsOrCovers

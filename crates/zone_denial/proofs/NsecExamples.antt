@@ -14,7 +14,7 @@ use Rattle.zone_denial.specs.Authority.{is_authoritative, authoritative_names}
 use Rattle.zone_denial.specs.AuthoritativeKeys.{authoritative_keys}
 use Rattle.zone_denial.specs.Covering.{covers}
 use Rattle.zone_denial.specs.NsecCircle.{nsec_next}
-use Rattle.zone_denial.specs.NsecDenial.{nsec_denial}
+use Rattle.zone_denial.specs.NsecDenial.{nsec_encloser, nsec_denial}
 use Rattle.zone_denial.specs.NsecSets.{nsec_set, nsec_set_at}
 use Rattle.zone_denial.specs.OwnersRead.{owners_read}
 
@@ -89,7 +89,7 @@ hosts_a = says (at_origin (codes "a")) (at_origin (codes "c")) (A ∷ RRSIG ∷ 
 abbrev hosts_c : RRset
 hosts_c = says (at_origin (codes "c")) origin (A ∷ RRSIG ∷ NSEC ∷ [])
 
--- a name between the two: the set at its parent, where a wildcard would stand, and then the one that covers it
+-- a name between the two: the set that covers the star under the origin, and then the one that covers the name
 between : nsec_denial origin (linked hosts) (at_origin (codes "b")) ≡ hosts_origin ∷ hosts_a ∷ []
 between = refl
 
@@ -103,6 +103,10 @@ behind = refl
 
 below_last : nsec_denial origin (linked hosts) (codes "b" ∷ at_origin (codes "c")) ≡ hosts_c ∷ []
 below_last = refl
+
+-- a name below one that isn't there: the origin is its closest encloser
+below_absent : nsec_denial origin (linked hosts) (codes "x" ∷ at_origin (codes "b")) ≡ hosts_origin ∷ hosts_a ∷ []
+below_absent = refl
 
 -- a name that is there: its own set
 there : nsec_denial origin (linked hosts) (at_origin (codes "a")) ≡ hosts_a ∷ []
@@ -176,6 +180,25 @@ deep = start ∷ public_key ∷ address (codes "x" ∷ at_origin (codes "y")) �
 
 empty_name : nsec_denial origin (linked deep) (at_origin (codes "y")) ≡ says origin (codes "x" ∷ at_origin (codes "y")) (SOA ∷ RRSIG ∷ NSEC ∷ DNSKEY ∷ []) ∷ []
 empty_name = refl
+
+-- it is the closest encloser of a name below it, and the star under it stands before x.y
+empty_encloser : nsec_encloser origin (linked deep) (codes "z" ∷ at_origin (codes "y")) ≡ at_origin (codes "y")
+empty_encloser = refl
+
+below_empty : nsec_denial origin (linked deep) (codes "z" ∷ at_origin (codes "y"))
+    ≡ says origin (codes "x" ∷ at_origin (codes "y")) (SOA ∷ RRSIG ∷ NSEC ∷ DNSKEY ∷ []) ∷ says (codes "x" ∷ at_origin (codes "y")) origin (A ∷ RRSIG ∷ NSEC ∷ []) ∷ []
+below_empty = refl
+
+-- ---- with a star, whose own set tells of it
+
+abbrev star : Name
+star = at_origin (codes "*")
+
+abbrev starred : Sets
+starred = start ∷ public_key ∷ address star ∷ address (at_origin (codes "c")) ∷ []
+
+star_told : nsec_denial origin (linked starred) (codes "x" ∷ at_origin (codes "d")) ≡ says star (at_origin (codes "c")) (A ∷ RRSIG ∷ NSEC ∷ []) ∷ hosts_c ∷ []
+star_told = refl
 
 -- ---- a name that has nothing but a set of NSEC leaves the circle
 

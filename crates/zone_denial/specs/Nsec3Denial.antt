@@ -1,13 +1,13 @@
 -- The NSEC3 sets that answer a query for a denial, in any zone, whether its NSEC3 sets are a circle or not
-use Rattle.std.specs.Prelude.{ℕ, suc, Bool, ◌&&◌, not, cond, List, [], ◌∷◌, ◌++◌, length, ◌==◌, Option, Some, None, filter, filter_map, find, option_to_list, Result, Ok, Err}
+use Rattle.std.specs.Prelude.{suc, Bool, ◌&&◌, not, cond, List, [], ◌∷◌, ◌++◌, length, ◌==◌, Option, Some, None, filter, filter_map, find, option_to_list, Result, Ok, Err}
 use Rattle.std.specs.List.{list_any}
 use Rattle.std.specs.Option.{option_map_or, option_or}
-use Rattle.zone_proto.specs.Names.{Name, name_cmp, name_eq, is_root, wildcard_of, suffixes}
+use Rattle.zone_proto.specs.Names.{Name, name_cmp, name_eq, is_root, suffixes}
 use Rattle.zone_proto.specs.Order.{is_before, greatest}
 use Rattle.zone_proto.specs.Sets.{RRset}
-use Rattle.zone_proto.specs.Types.{DS, NSEC3}
+use Rattle.zone_proto.specs.Types.{NSEC3}
 use Rattle.zone_map.specs.Wildcards.{proper_ancestors, star_under}
-use Rattle.zone_map.specs.Zones.{Sets, set_at, owns, owners, names_of}
+use Rattle.zone_map.specs.Zones.{Sets, set_at, owns, owners}
 use Rattle.zone_denial.specs.Nsec3Names.{nsec3_names}
 use Rattle.zone_denial.specs.TypeLists.{in_order}
 
@@ -62,27 +62,23 @@ module _ {E : Type 0} (m : Sets) (hashed : Name → Result Name E) where
   abbrev pub encloser_of : Name → Result (Option Name) E
   encloser_of q = find_tested has_match (filter (λ a. not (is_root a)) (proper_ancestors q))
 
-  -- the owner of what says something of the star under a: what matches it, where a star stands in the place of q; else, unless the type is DS, what covers it
-  abbrev pub star_part : Bool → ℕ → Name → Result (List Name) E
-  star_part starred t a = cond starred (match_of (star_under a)) (cond (t == DS) (Ok []) (cover_of (star_under a)))
+  -- the owner of what matches the star under a, or else of what covers it
+  abbrev pub star_part : Name → Result (List Name) E
+  star_part a = result_and_then (λ h. Ok (option_to_list (option_or (match_owner m h) (cover_owner m h)))) (hashed (star_under a))
 
   -- with an encloser: where a wildcard answered, what covers the next closer name (RFC 5155 section 7.2.6); else what matches the encloser, what covers the next closer name, and the star's part (sections 7.2.2 to 7.2.5)
-  abbrev pub enclosed : Bool → Bool → ℕ → Name → Option Name → Result (List Name) E
-  enclosed wildcard starred t q None = Ok []
-  enclosed wildcard starred t q (Some a) =
-      result_and_then (λ closer. cond wildcard (Ok closer) (result_and_then (λ encloser. result_and_then (λ star. Ok (encloser ++ closer ++ star)) (star_part starred t a)) (match_of a)))
+  abbrev pub enclosed : Bool → Name → Option Name → Result (List Name) E
+  enclosed wildcard q None = Ok []
+  enclosed wildcard q (Some a) =
+      result_and_then (λ closer. cond wildcard (Ok closer) (result_and_then (λ encloser. result_and_then (λ star. Ok (encloser ++ closer ++ star)) (star_part a)) (match_of a)))
       (option_map_or cover_of (next_closer q a) (Ok []))
 
-  -- a name is owned in which `*` stands for the first label of q
-  abbrev pub is_starred_beside : Name → Bool
-  is_starred_beside q = list_any (name_eq (wildcard_of q)) (names_of m)
-
   -- the owners of the sets that deny, ascending, each once: the name's own, unless a wildcard answered; else those with an encloser
-  abbrev pub nsec3_denying_owners : Bool → ℕ → Name → Result (List Name) E
-  nsec3_denying_owners wildcard t q =
+  abbrev pub nsec3_denying_owners : Bool → Name → Result (List Name) E
+  nsec3_denying_owners wildcard q =
       result_and_then (λ own. cond (owns m own NSEC3 && not wildcard) (Ok (own ∷ []))
-      (result_and_then (λ encloser. result_and_then (λ owners. Ok (in_order name_cmp owners)) (enclosed wildcard (is_starred_beside q) t q encloser)) (encloser_of q))) (hashed q)
+      (result_and_then (λ encloser. result_and_then (λ owners. Ok (in_order name_cmp owners)) (enclosed wildcard q encloser)) (encloser_of q))) (hashed q)
 
   -- these sets
-  abbrev pub nsec3_denial : Bool → ℕ → Name → Result (List RRset) E
-  nsec3_denial wildcard t q = result_and_then (λ owners. Ok (filter_map (λ o. set_at m o NSEC3) owners)) (nsec3_denying_owners wildcard t q)
+  abbrev pub nsec3_denial : Bool → Name → Result (List RRset) E
+  nsec3_denial wildcard q = result_and_then (λ owners. Ok (filter_map (λ o. set_at m o NSEC3) owners)) (nsec3_denying_owners wildcard q)

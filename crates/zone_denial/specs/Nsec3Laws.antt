@@ -8,7 +8,7 @@ use Rattle.zone_proto.specs.Names.{Name, octets_cmp, is_at_or_above}
 use Rattle.zone_proto.specs.Sets.{RRset}
 use Rattle.zone_proto.specs.Types.{NS, RRSIG, NSEC3}
 use Rattle.zone_map.specs.AnyTypes.{searched_type}
-use Rattle.zone_map.specs.Wildcards.{found}
+use Rattle.zone_map.specs.Wildcards.{found, star_under}
 use Rattle.zone_map.specs.Zones.{Sets, IsZone, set_at, owns, owns_at_or_below}
 use Rattle.zone_denial.specs.Authority.{is_below_cut}
 use Rattle.zone_denial.specs.Covering.{covers}
@@ -46,7 +46,18 @@ module _ (origin : Name) (m : Sets) (hash : Name → Option (List ℕ)) where
     pub hashed : hash n ≡ Some digest
     pub covered : IsTrue (covers octets_cmp owner next digest)
 
+  -- an answer has the NSEC3 set of n, where n is on the circle, and else a set that covers n
+  pub record HasSetOrCover (opt_out : Bool) (n : Name) (answer : List RRset) : Type 0 where
+    pub on : IsCircleName origin m opt_out n → (s : RRset) × IsSetOf n s × Contains answer s
+    pub off : (IsCircleName origin m opt_out n → ⊥) → (s : RRset) × CoversName s n × Contains answer s
+
   module _ (opt_out : Bool) (x : Name) where
+    -- an answer has the set of the star under the closest encloser of x, or covers the star
+    pub record ProvesStar (answer : List RRset) : Type 0 where
+      pub encloser : Name
+      pub is_encloser : closest_encloser origin m opt_out x ≡ Some encloser
+      pub star : HasSetOrCover opt_out (star_under encloser) answer
+
     -- an answer has the set of the closest encloser of x, and one that covers the next closer name (RFC 5155 section 7.2.1)
     pub record ProvesEncloser (answer : List RRset) : Type 0 where
       pub encloser : Name
@@ -78,8 +89,14 @@ module _ (origin : Name) (m : Sets) (hash : Name → Option (List ℕ)) where
 -- the denial of a name of the zone has the name's own set, or proves its closest encloser
 abbrev pub Nsec3DenialFindsOrEncloses : Type 0
 Nsec3DenialFindsOrEncloses = (origin : Name) (m : Sets) (hash : Name → Option (List ℕ)) (parameters : Nsec3Parameters) → IsNsec3Zone origin m hash parameters
-    → (x : Name) (t : ℕ) → IsTrue (is_at_or_above origin x) → TellsApart (IsHashed origin m parameters.opt_out x) hash
-    → (answer : List RRset) × (nsec3_denial m (λ n. owner_or_refusal origin (hash n)) false t x ≡ Ok answer) × FindsOrEncloses origin m hash parameters.opt_out x answer
+    → (x : Name) → IsTrue (is_at_or_above origin x) → TellsApart (IsHashed origin m parameters.opt_out x) hash
+    → (answer : List RRset) × (nsec3_denial m (λ n. owner_or_refusal origin (hash n)) false x ≡ Ok answer) × FindsOrEncloses origin m hash parameters.opt_out x answer
+
+-- where a name of the zone isn't on the circle, its denial has the NSEC3 set of the star under its closest encloser, or covers the star (RFC 5155 section 7.2.2)
+abbrev pub Nsec3DenialProvesStar : Type 0
+Nsec3DenialProvesStar = (origin : Name) (m : Sets) (hash : Name → Option (List ℕ)) (parameters : Nsec3Parameters) → IsNsec3Zone origin m hash parameters
+    → (x : Name) → IsTrue (is_at_or_above origin x) → TellsApart (IsHashed origin m parameters.opt_out x) hash → (IsCircleName origin m parameters.opt_out x → ⊥)
+    → (answer : List RRset) × (nsec3_denial m (λ n. owner_or_refusal origin (hash n)) false x ≡ Ok answer) × ProvesStar origin m hash parameters.opt_out x answer
 
 abbrev pub Nsec3CircleListsAllOwned : Type 0
 Nsec3CircleListsAllOwned = (origin : Name) (m : Sets) (hash : Name → Option (List ℕ)) (parameters : Nsec3Parameters) → IsNsec3Zone origin m hash parameters

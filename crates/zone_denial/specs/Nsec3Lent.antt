@@ -9,7 +9,7 @@ use Rattle.zone_proto.specs.Types.{NSEC3}
 use Rattle.zone_map.specs.Zones.{Sets, set_at}
 use Rattle.zone_handler.specs.Hashing.{digest_for}
 use Rattle.zone_handler.specs.declared.nsec3_query_info.Nsec3QueryInfo.{Nsec3QueryInfo}
-use Rattle.zone_denial.specs.Nsec3Denial.{result_and_then, enclosed, is_starred_beside, nsec3_denial}
+use Rattle.zone_denial.specs.Nsec3Denial.{result_and_then, enclosed, nsec3_denial}
 use Rattle.zone_denial.specs.TypeLists.{joined, in_order}
 
 -- of a zone's origin and of a hash, the hashed owner of a name with the parameters of a query, or its refusal
@@ -18,7 +18,7 @@ hashed_for origin digest_of query name = owner_or_refusal origin (digest_for dig
 
 -- the NSEC3 sets that deny a query in a zone, or the refusal of the first name that is hashed and has no hashed owner
 abbrev pub query_denial : (ℕ → List ℕ → Name → ℕ → Option (List ℕ)) → Name → Sets → Nsec3QueryInfo → Result (List RRset) ProtoError
-query_denial digest_of origin m query = nsec3_denial m (hashed_for origin digest_of query) query.has_wildcard_match query.qtype.0 query.qname.now
+query_denial digest_of origin m query = nsec3_denial m (hashed_for origin digest_of query) query.has_wildcard_match query.qname.now
 
 -- the NSEC3 sets of owners
 abbrev pub sets_of : {E : Type 0} → Sets → Result (List Name) E → Result (List RRset) E
@@ -34,6 +34,5 @@ joined_any None ss = ss
 joined_any (Some s) ss = joined owner_cmp s ss
 
 -- the sets that deny where the name's own set doesn't, for its encloser
-abbrev pub enclosed_sets : {E : Type 0} → Sets → (Name → Result Name E) → Bool → ℕ → Name → Option Name → Result (List RRset) E
-enclosed_sets m hashed wildcard t q encloser =
-    sets_of m (result_and_then (λ owners. Ok (in_order name_cmp owners)) (enclosed m hashed wildcard (is_starred_beside m hashed q) t q encloser))
+abbrev pub enclosed_sets : {E : Type 0} → Sets → (Name → Result Name E) → Bool → Name → Option Name → Result (List RRset) E
+enclosed_sets m hashed wildcard q encloser = sets_of m (result_and_then (λ owners. Ok (in_order name_cmp owners)) (enclosed m hashed wildcard q encloser))

@@ -1,10 +1,12 @@
 -- The NSEC sets that answer a query for a denial, in any zone, whether its NSEC sets are a circle or not
-use Rattle.std.specs.Prelude.{Bool, false, ◌&&◌, ◌||◌, cond, List, [], ◌∷◌, Option, Some, None, filter, filter_map, option_and_then, option_to_list}
+use Rattle.std.specs.Prelude.{Bool, false, ◌&&◌, ◌||◌, cond, List, [], ◌∷◌, Option, Some, None, filter, filter_map, find, unwrap_or, option_and_then, option_to_list}
+use Rattle.std.specs.List.{list_any}
 use Rattle.std.specs.Option.{option_map_or}
-use Rattle.zone_proto.specs.Names.{Name, name_eq, name_cmp, base_name, is_at_or_above}
+use Rattle.zone_proto.specs.Names.{Name, name_eq, name_cmp, is_above, is_at_or_above}
 use Rattle.zone_proto.specs.Order.{is_upto, is_before, greatest}
 use Rattle.zone_proto.specs.Sets.{RRset}
 use Rattle.zone_proto.specs.Types.{NSEC}
+use Rattle.zone_map.specs.Wildcards.{proper_ancestors, star_under}
 use Rattle.zone_map.specs.Zones.{Sets, set_at, owns, owners}
 use Rattle.zone_denial.specs.NsecCircle.{next_of}
 
@@ -34,17 +36,21 @@ both_of None q = option_to_list q
 both_of (Some a) None = a ∷ []
 both_of (Some a) (Some b) = cond (name_eq a b) (b ∷ []) (a ∷ b ∷ [])
 
--- the parent of x, or the origin where the parent is outside the zone
-abbrev pub parent_in_zone : Name → Name → Name
-parent_in_zone origin x = cond (is_at_or_above origin (base_name x)) (base_name x) origin
+-- a name owns NSEC, or a name below it does
+abbrev pub owns_nsec_at_or_below : Sets → Name → Bool
+owns_nsec_at_or_below m a = list_any (is_at_or_above a) (owners m NSEC)
 
--- the same, below which a wildcard that could answer for x might stand; none where it is x itself
-abbrev pub parent_of : Name → Name → Option Name
-parent_of origin x = cond (name_eq (parent_in_zone origin x) x) None (Some (parent_in_zone origin x))
+-- the closest encloser of x: its longest proper ancestor, not above the origin, that owns NSEC or has such a name below it, or else the origin (RFC 4592 section 3.3.1)
+abbrev pub nsec_encloser : Name → Sets → Name → Name
+nsec_encloser origin m x = unwrap_or (find (λ a. is_at_or_above origin a && owns_nsec_at_or_below m a) (proper_ancestors x)) origin
 
--- the owners of the sets that deny: x itself if it owns NSEC; else the closest owner of the parent, and then that of x (RFC 4035 sections 3.1.3.1 and 3.1.3.2)
+-- the name that a denial of x proves something of besides x: below the origin the star under the closest encloser of x; of the origin there is none, and of a name outside the zone it is the origin
+abbrev pub proved_beside : Name → Sets → Name → Option Name
+proved_beside origin m x = cond (is_above origin x) (Some (star_under (nsec_encloser origin m x))) (cond (name_eq x origin) None (Some origin))
+
+-- the owners of the sets that deny: x itself if it owns NSEC; else the closest owner of what is proved beside x, and then that of x (RFC 4035 sections 3.1.3.1 and 3.1.3.2)
 abbrev pub denying_owners : Name → Sets → Name → List Name
-denying_owners origin m x = cond (owns m x NSEC) (x ∷ []) (both_of (option_and_then (closest_owner m) (parent_of origin x)) (closest_owner m x))
+denying_owners origin m x = cond (owns m x NSEC) (x ∷ []) (both_of (option_and_then (closest_owner m) (proved_beside origin m x)) (closest_owner m x))
 
 -- these sets
 abbrev pub nsec_denial : Name → Sets → Name → List RRset

@@ -5,12 +5,12 @@ use Rattle.zone_proto.specs.Names.{Name, name_cmp, lower, is_above, is_at_or_abo
 use Rattle.zone_proto.specs.Sets.{RRset}
 use Rattle.zone_proto.specs.Types.{NSEC, RRSIG}
 use Rattle.zone_map.specs.AnyTypes.{searched_type}
-use Rattle.zone_map.specs.Wildcards.{found}
+use Rattle.zone_map.specs.Wildcards.{found, star_under}
 use Rattle.zone_map.specs.Zones.{Sets, IsZone, set_at, owns, types_at, owns_at_or_below}
 use Rattle.zone_denial.specs.Authority.{is_below_cut, owns_besides}
 use Rattle.zone_denial.specs.Covering.{covers}
 use Rattle.zone_denial.specs.NsecCircle.{IsNsecCircle, next_of, types_of}
-use Rattle.zone_denial.specs.NsecDenial.{nsec_denial}
+use Rattle.zone_denial.specs.NsecDenial.{nsec_encloser, nsec_denial}
 use Rattle.zone_denial.specs.NsecSets.{HasNsecSets}
 
 -- a zone that NSEC denies: its NSEC sets are a circle, and its origin, which owns another set, is on it
@@ -31,6 +31,19 @@ pub record LastCovers (answer : List RRset) (x n : Name) : Type 0 where
 abbrev pub FindsOrCovers : Sets → Name → List RRset → Type 0
 FindsOrCovers m x answer = ((s : RRset) × (set_at m x NSEC ≡ Some s) × (answer ≡ s ∷ [])) ⊎ ((n : Name) × LastCovers answer x n)
 
+-- a set of an answer covers x
+pub record HasCover (answer : List RRset) (x : Name) : Type 0 where
+  pub set : RRset
+  pub among : Contains answer set
+  pub next : Name
+  pub said : next_of set ≡ Some next
+  pub covers : IsTrue (covers name_cmp (lower set.owner) next x)
+
+-- an answer has the NSEC set of x, where x has one, and else a set that covers x
+pub record HasOwnOrCover (m : Sets) (x : Name) (answer : List RRset) : Type 0 where
+  pub on : (s : RRset) → set_at m x NSEC ≡ Some s → Contains answer s
+  pub off : IsFalse (owns m x NSEC) → HasCover answer x
+
 -- a zone that is secured by NSEC sets has a circle of them
 abbrev pub SecuredIsCircle : Type 0
 SecuredIsCircle = (origin : Name) (m after : Sets) (ttl serial : ℕ) → IsZone m → lower origin ≡ origin → HasNsecSets origin m ttl serial after → IsNsecCircle origin after
@@ -38,6 +51,11 @@ SecuredIsCircle = (origin : Name) (m after : Sets) (ttl serial : ℕ) → IsZone
 -- the denial of a name of the zone has the name's own set, or covers the name
 abbrev pub DenialFindsOrCovers : Type 0
 DenialFindsOrCovers = (origin : Name) (m : Sets) → IsNsecZone origin m → (x : Name) → IsTrue (is_at_or_above origin x) → FindsOrCovers m x (nsec_denial origin m x)
+
+-- where a name of the zone has no NSEC set, its denial has that of the star under its closest encloser, or covers the star (RFC 4035 section 3.1.3.2)
+abbrev pub DenialProvesStar : Type 0
+DenialProvesStar = (origin : Name) (m : Sets) → IsNsecZone origin m → (x : Name) → IsTrue (is_at_or_above origin x) → IsFalse (owns m x NSEC)
+    → HasOwnOrCover m (star_under (nsec_encloser origin m x)) (nsec_denial origin m x)
 
 -- what x owns is in the list of its NSEC set; and where it has no such set and is a name of the zone, it stands below a zone cut
 pub record IsListed (origin : Name) (m : Sets) (x : Name) (t : ℕ) : Type 0 where

@@ -1,9 +1,11 @@
 //! The NSEC sets that answer a query for a denial.
-ghost use Rattle.std.specs.Prelude.{◌≡◌, IfOk, IsOkUnless, option_copied, option_and_then};
+ghost use Rattle.std.specs.Prelude.{◌≡◌, ◌||◌, IfOk, IsOkUnless, option_copied, option_and_then};
+ghost use Rattle.zone_proto.specs.Names.{name_eq, IsAbove};
 ghost use Rattle.zone_proto.specs.Results.{IsCopy};
 ghost use Rattle.zone_proto.specs.Types.{NSEC};
+ghost use Rattle.zone_map.specs.Wildcards.{star_under};
 ghost use Rattle.zone_map.specs.Zones.{set_at};
-ghost use Rattle.zone_denial.specs.NsecDenial.{closest_nsec, parent_in_zone, parent_of, nsec_denial};
+ghost use Rattle.zone_denial.specs.NsecDenial.{closest_nsec, owns_nsec_at_or_below, nsec_encloser, proved_beside, nsec_denial};
 ghost use Rattle.zone_denial.specs.DenialSets.{denial_sets, own_set, unless_same};
 
 use crate::closest::closest_nsec;
@@ -15,13 +17,15 @@ use zone_proto::{LowerName, ProtoError, RecordSet, RecordType, RrKey};
 pub enum NsecDenial<'m> {
     /// The name's own set, whose list of types tells what the name owns.
     Own(&'m RecordSet),
-    /// The set closest to what stands above the name, unless it is the other one, and the set closest to the name.
+    /// The set closest to what is proved beside the name, unless it is the other one, and the set closest to the name.
     Closest(Option<&'m RecordSet>, Option<&'m RecordSet>),
 }
 
 /// The NSEC sets that answer a query for a denial of `name` in the zone of `origin` (RFC 4035 sections 3.1.3.1 and
-/// 3.1.3.2): the name's own, or else the closest ones of its parent and of itself. Where the parent is outside the zone, the
-/// origin stands for it, and nothing where that is the name itself. Refused by `Memory` alone.
+/// 3.1.3.2): the name's own, or else the closest ones of the star under its closest encloser and of itself. The closest
+/// encloser is the longest proper ancestor, not above the origin, that owns NSEC or has such a name below it, or else the
+/// origin (RFC 4592 section 3.3.1). Of a name outside the zone the origin stands in the place of the star, and of the origin
+/// nothing does. Refused by `Memory` alone.
 pub fn nsec_denial<'m>(
     records: &'m RecordMap,
     origin: &LowerName,
@@ -36,37 +40,54 @@ pub fn nsec_denial<'m>(
         return Ok(NsecDenial::Own(own));
     }
     let closest = closest_nsec(records, name)?;
-    let above = closest_to_parent(records, origin, key.name)?;
-    Ok(NsecDenial::Closest(unless_same(above, closest), closest))
+    let beside = closest_beside(records, origin, key.name)?;
+    Ok(NsecDenial::Closest(unless_same(beside, closest), closest))
 }
 
-/// The set closest to the parent of a name, or to the origin where the parent is outside the zone; none where that is the name
-/// itself.
-fn closest_to_parent<'m>(
+/// The set closest to what is proved beside a name: the star under its closest encloser, or the origin of a name outside the
+/// zone; none of the origin.
+fn closest_beside<'m>(
     records: &'m RecordMap,
     origin: &LowerName,
     name: LowerName,
 ) -> Result<Option<&'m RecordSet>, ProtoError>
-    ensures found { IfOk result (λ set. option_copied set ≡ option_and_then (closest_nsec records.now) (parent_of origin.now «name»)) }
+    ensures found { IfOk result (λ set. option_copied set ≡ option_and_then (closest_nsec records.now) (proved_beside origin.now records.now «name»)) }
     ensures err { IsOkUnless result ProtoError.Memory }
 {
     if name == *origin {
         return Ok(None);
     }
-    let parent = parent_in_zone(origin, name)?;
-    closest_nsec(records, &parent)
+    if !origin.zone_of(&name) {
+        return closest_nsec(records, origin);
+    }
+    let star = enclosed_star(records, origin, name)?;
+    closest_nsec(records, &star)
 }
 
-/// The parent of a name, or the origin where the parent is outside the zone.
-fn parent_in_zone(origin: &LowerName, mut name: LowerName) -> Result<LowerName, ProtoError>
-    ensures { IsCopy result (parent_in_zone origin.now «name») }
+/// The star under the closest encloser of a name below the origin. Refused by `Memory` alone.
+fn enclosed_star(
+    records: &RecordMap,
+    origin: &LowerName,
+    name: LowerName,
+) -> Result<LowerName, ProtoError>
+    requires { IsAbove origin.now name }
+    ensures { IsCopy result (star_under (nsec_encloser origin.now records.now «name»)) }
 {
-    name.shorten();
-    if origin.zone_of(&name) {
-        Ok(name)
-    } else {
-        origin.clone()
+    let mut next_closer = name;
+    let mut above = next_closer.base_name()?;
+    while !encloses(records, origin, &above) {
+        next_closer.shorten();
+        above.shorten();
     }
+    Ok(next_closer.into_wildcard())
+}
+
+/// Whether a name in the zone is the origin, or owns NSEC, or has a name below it that does.
+#[tactic(auto, using(crate::proofs::DenialLists::same_by_order))]
+fn encloses(records: &RecordMap, origin: &LowerName, name: &LowerName) -> bool
+    ensures { result ≡ name_eq name.now origin.now || owns_nsec_at_or_below records.now name.now }
+{
+    name == origin || records.owns_denial_at_or_below(RecordType::NSEC, name)
 }
 
 /// The first of two sets, unless both are of one owner.

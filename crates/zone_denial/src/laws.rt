@@ -14,11 +14,11 @@ ghost use Rattle.zone_proto.specs.Names.{Name, name_cmp};
 ghost use Rattle.zone_proto.specs.Types.{NSEC, RRSIG};
 ghost use Rattle.zone_map.specs.Zones.{Sets, owns};
 ghost use Rattle.zone_denial.specs.Nsec3Circle.{nsec3_types, IsNsec3Type};
-ghost use Rattle.zone_denial.specs.Nsec3Laws.{Nsec3CircleListsAllOwned, Nsec3DenialFindsOrEncloses, Nsec3DenialsAgree, SecuredIsNsec3Circle};
+ghost use Rattle.zone_denial.specs.Nsec3Laws.{Nsec3CircleListsAllOwned, Nsec3DenialFindsOrEncloses, Nsec3DenialProvesStar, Nsec3DenialsAgree, SecuredIsNsec3Circle};
 ghost use Rattle.zone_denial.specs.Nsec3Names.{nsec3_names, IsNsec3Name};
 ghost use Rattle.zone_denial.specs.TypeLists.{nsec_types};
 ghost use Rattle.zone_denial.specs.OwnersRead.{ReadsNoneAfter, CircleReadsOne};
-ghost use Rattle.zone_denial.specs.NsecLaws.{SecuredIsCircle, DenialFindsOrCovers, CircleListsAllOwned, DenialsAgree, NoNextBelowAbsent, NextBelowEmpty};
+ghost use Rattle.zone_denial.specs.NsecLaws.{SecuredIsCircle, DenialFindsOrCovers, DenialProvesStar, CircleListsAllOwned, DenialsAgree, NoNextBelowAbsent, NextBelowEmpty};
 
 /// The types that the NSEC set of a name lists ascend, each stands there once, and they are exactly those that the name owns,
 /// RRSIG and NSEC (RFC 4034 section 4.1.2).
@@ -55,6 +55,14 @@ pub fn secured_is_circle()
 #[tactic(auto, using(crate::proofs::NsecClosest::finds_or_covers))]
 pub fn denial_finds_or_covers()
     ensures { DenialFindsOrCovers }
+{}
+
+/// Where a name of the zone has no NSEC set, its denial has the NSEC set of the star under its closest encloser, where the star
+/// has one, and else a set that covers the star (RFC 4035 section 3.1.3.2). So a reader knows which wildcard might have answered
+/// for the name, and what that one owns or that there is none.
+#[tactic(auto, using(crate::proofs::NsecStar::proves_star))]
+pub fn denial_proves_star()
+    ensures { DenialProvesStar }
 {}
 
 /// What a name owns is in the list of types of its NSEC set. A name of the zone that owns a set and has no NSEC set stands
@@ -115,6 +123,14 @@ pub fn secured_is_nsec3_circle()
 #[tactic(auto, using(crate::proofs::Nsec3Encloses::finds_or_encloses))]
 pub fn nsec3_denial_finds_or_encloses()
     ensures { Nsec3DenialFindsOrEncloses }
+{}
+
+/// Where a name of the zone isn't on the circle, its denial by NSEC3 has the NSEC3 set of the star under its closest encloser,
+/// where the star is on the circle, and else a set that covers the star (RFC 5155 section 7.2.2). So a reader knows which wildcard
+/// might have answered for the name, and what that one owns or that there is none. The hash has to tell the same names apart.
+#[tactic(auto, using(crate::proofs::Nsec3Star::proves_star))]
+pub fn nsec3_denial_proves_star()
+    ensures { Nsec3DenialProvesStar }
 {}
 
 /// What a name owns besides NSEC3 is in the list of types of its NSEC3 set, where the name is one of the circle's. A name of

@@ -1,9 +1,11 @@
 // The keys of NSEC3 sets, and the sets that match and cover a name.
-ghost use Rattle.std.specs.Prelude.{◌≡◌, ◌⊎◌, length, Ok, Err, IfOk, IfErr, OnOk, option_copied, option_to_list};
+ghost use Rattle.std.specs.Prelude.{◌≡◌, ◌⊎◌, length, Ok, Err, IfOk, IfErr, OnOk, IsOkUnless, filter_map, option_copied, option_to_list};
+ghost use Rattle.zone_proto.specs.Names.{base_name};
 ghost use Rattle.zone_proto.specs.Types.{NSEC3};
 ghost use Rattle.zone_map.specs.Counts.{counted_more};
-ghost use Rattle.zone_map.specs.Zones.{IsZone};
-ghost use Rattle.zone_denial.specs.Nsec3Denial.{match_of, cover_of, cover_owner};
+ghost use Rattle.zone_map.specs.Wildcards.{star_under};
+ghost use Rattle.zone_map.specs.Zones.{set_at, IsZone};
+ghost use Rattle.zone_denial.specs.Nsec3Denial.{match_of, cover_of, cover_owner, star_part};
 ghost use Rattle.zone_denial.specs.Nsec3Lent.{hashed_for, sets_of};
 
 use zone_handler::Nsec3QueryInfo;
@@ -63,7 +65,37 @@ pub(crate) fn covering<'m, H: Nsec3Hash>(
     ensures err { IfErr result (λ e. (e ≡ ProtoError.Memory)
         ⊎ (hashed_for hashing.now.origin.now (H.digest_of hashing.now.hash.now) hashing.now.query.now name.now ≡ Err e)) }
 {
-    let mut key = hashing.key(name)?;
+    cover_set(records, hashing.key(name)?)
+}
+
+/// The set that says something of the star under an encloser: what matches it, or else what covers it.
+pub(crate) fn star_set<'m, H: Nsec3Hash>(
+    records: &'m RecordMap,
+    hashing: &Hashing<'_, H>,
+    star: &LowerName,
+) -> Result<Option<&'m RecordSet>, ProtoError>
+    requires { star.now ≡ star_under (base_name star.now) }
+    ensures ok { IfOk result (λ set. sets_of records.now
+        (star_part records.now (hashed_for hashing.now.origin.now (H.digest_of hashing.now.hash.now) hashing.now.query.now) (base_name star.now))
+        ≡ Ok (option_to_list (option_copied set))) }
+    ensures err { IfErr result (λ e. (e ≡ ProtoError.Memory)
+        ⊎ (star_part records.now (hashed_for hashing.now.origin.now (H.digest_of hashing.now.hash.now) hashing.now.query.now) (base_name star.now) ≡ Err e)) }
+{
+    let key = hashing.key(star)?;
+    match records.get(&key) {
+        Some(set) => Ok(Some(set)),
+        None => cover_set(records, key),
+    }
+}
+
+/// The set that covers the name of which this is the key. Refused by `Memory` alone.
+fn cover_set(records: &RecordMap, mut key: RrKey) -> Result<Option<&RecordSet>, ProtoError>
+    requires { key.record_type.0 ≡ NSEC3 }
+    ensures ok { IfOk result (λ set. option_to_list (option_copied set)
+        ≡ filter_map (λ o. set_at records.now o NSEC3) (option_to_list (cover_owner records.now key.name))) }
+    ensures zone { OnOk result (IsZone records.now) }
+    ensures err { IsOkUnless result ProtoError.Memory }
+{
     let Some(owner) = cover_owner(records, &key.name, &mut Reads::new()) else {
         return Ok(None);
     };

@@ -1,6 +1,6 @@
 ghost use Rattle.std.specs.Prelude.{◌≡◌, ◌⊎◌, Some, None, Ok, Err, IfOk, IfErr};
 ghost use Rattle.zone_proto.specs.HashedOwners.{owner_or_refusal};
-ghost use Rattle.zone_handler.specs.Hashing.{digest_for};
+ghost use Rattle.zone_handler.specs.Hashing.{digest_for, star_owner_or_refusal};
 
 use zone_proto::{LowerName, Nsec3Hash, ProtoError, RecordType, base32_dnssec};
 
@@ -53,5 +53,25 @@ impl Nsec3QueryInfo<'_> {
         let digest = self.hash_name(hash, name)?;
         let label = base32_dnssec(zone.alloc(), &digest)?;
         zone.prepend_label(label.as_bytes())
+    }
+
+    /// The owner of the NSEC3 set of the star under `encloser`, the name with `*` before its labels (RFC 4592 section 2.1.1), in
+    /// the zone of origin `zone`: of the wildcard that a name error denies (RFC 5155 section 7.2.2).
+    ///
+    /// Refused by `NameTooLong` where the star has more than 255 octets in wire form, and by `Memory`; then as
+    /// [`Nsec3QueryInfo::hashed_owner_name`] refuses.
+    pub fn hashed_star_name<H: Nsec3Hash>(
+        &self,
+        hash: &H,
+        encloser: &LowerName,
+        zone: &LowerName,
+    ) -> Result<LowerName, ProtoError>
+        ensures ok { IfOk result (λ owner.
+            star_owner_or_refusal (H.digest_of hash.now) self.now encloser.now zone.now ≡ Ok owner) }
+        ensures err { IfErr result (λ e. (e ≡ ProtoError.Memory)
+            ⊎ (star_owner_or_refusal (H.digest_of hash.now) self.now encloser.now zone.now ≡ Err e)) }
+    {
+        let star = encloser.prepend_label(b"*")?;
+        self.hashed_owner_name(hash, &star, zone)
     }
 }

@@ -1,10 +1,11 @@
 -- How lookups and denials agree with a circle of NSEC sets
 use Rattle.std.proofs.Common.{◌≡◌, ◌⊎◌, inl, inr, ℕ, Bool, ◌||◌, true, false, List, refl, sym, ap, ◌∙◌, subst, IsTrue}
-use Rattle.std.specs.Prelude.{Option, Some, None, Ok, Err, Result, MatchOption}
+use Rattle.std.specs.Prelude.{Option, Some, None, Ok, Err, Result, MatchOption, IsFalse}
 use Rattle.std.specs.Prelude.{cond}
 use Rattle.zone_proto.specs.declared.record.Record.{Record}
 use Rattle.zone_proto.specs.Names.{Name, is_at_or_above}
 use Rattle.zone_proto.specs.Sets.{RRset}
+use Rattle.zone_proto.specs.Types.{NSEC}
 use Rattle.zone_handler.specs.declared.auth_lookup.AuthLookup.{AuthLookup}
 use Rattle.zone_handler.specs.declared.auth_lookup.AuthLookup.TheVariants as answer
 use Rattle.zone_handler.specs.declared.control_flow.LookupControlFlow.{LookupControlFlow}
@@ -15,16 +16,17 @@ use Rattle.zone_handler.specs.declared.lookup_options.LookupOptions.{LookupOptio
 use Rattle.zone_handler.specs.declared.lookup_records.LookupRecords.{LookupRecords}
 use Rattle.zone_handler.specs.Answers.{sets_in}
 use Rattle.zone_map.specs.AnyTypes.{searched_type}
-use Rattle.zone_map.specs.Wildcards.{asked_star_exists, found}
-use Rattle.zone_map.specs.Zones.{Sets, owns_at_or_below}
-use Rattle.zone_denial.specs.NsecDenial.{nsec_denial}
-use Rattle.zone_denial.specs.NsecLaws.{IsNsecZone}
+use Rattle.zone_map.specs.Wildcards.{asked_star_exists, found, star_under}
+use Rattle.zone_map.specs.Zones.{Sets, owns, owns_at_or_below}
+use Rattle.zone_denial.specs.NsecDenial.{nsec_encloser, nsec_denial}
+use Rattle.zone_denial.specs.NsecLaws.{IsNsecZone, HasOwnOrCover}
 use Rattle.zone_denial.proofs.NsecClosest.{finds_or_covers}
 use Rattle.zone_denial.proofs.NsecLists.{lists_all_owned, denials_agree}
 use Rattle.zone_denial.proofs.NsecBelow.{no_next_below, next_below_empty}
+use Rattle.zone_denial.proofs.NsecStar.{proves_star}
 use Rattle.zone_search.specs.Replies.{Denial, name_exists, nx_domain, refused, denial, answered, denied, IsAnswer, IsReplyFor}
 use Rattle.zone_in_memory.specs.Lookup.{error_of, SaysOrMemory}
-use Rattle.zone_in_memory.specs.NsecAnswers.{IsDenialSection, IsNsecProof, HasNsecProof, AgreesWithCircle}
+use Rattle.zone_in_memory.specs.NsecAnswers.{IsDenialSection, IsNsecProof, HasNsecProof, HasStarProof, AgreesWithCircle}
 
 -- the step that denies
 abbrev denies : Denial → LookupControlFlow AuthLookup LookupError
@@ -102,3 +104,11 @@ module _ (origin : Name) (m : Sets) (circle : IsNsecZone origin m) where
       → ((s : LookupRecords) × (step ≡ Continue (Ok (answer.Records s None))) × IsDenialSection origin m options n s) ⊎ (step ≡ Continue (Err error.Memory)) → HasNsecProof origin m n step
   answer_proves options n step inside (inl (s, is, section)) t e = let same : s ≡ t = cc in subst (IsNsecProof origin m n) (sym section.sets ∙ ap sets_in same) (denial_proves n inside)
   answer_proves options n step inside (inr is) t e = absurd cc
+
+  -- of a name off the circle they prove the star under the closest encloser
+  pub star_proves : (options : LookupOptions) (n : Name) (step : LookupControlFlow AuthLookup LookupError) → IsTrue (is_at_or_above origin n) → IsFalse (owns m n NSEC)
+      → ((s : LookupRecords) × (step ≡ Continue (Ok (answer.Records s None))) × IsDenialSection origin m options n s) ⊎ (step ≡ Continue (Err error.Memory)) → HasStarProof origin m n step
+  star_proves options n step inside off (inl (s, is, section)) t e =
+      let same : s ≡ t = cc in
+      subst (HasOwnOrCover m (star_under (nsec_encloser origin m n))) (sym section.sets ∙ ap sets_in same) (proves_star origin m circle n inside off)
+  star_proves options n step inside off (inr is) t e = absurd cc

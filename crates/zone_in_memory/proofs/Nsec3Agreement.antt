@@ -11,21 +11,23 @@ use Rattle.zone_handler.specs.declared.control_flow.LookupControlFlow.{LookupCon
 use Rattle.zone_handler.specs.declared.control_flow.LookupControlFlow.TheVariants.{Continue, Break}
 use Rattle.zone_handler.specs.declared.lookup_error.LookupError.{LookupError}
 use Rattle.zone_handler.specs.declared.lookup_options.LookupOptions.{LookupOptions}
+use Rattle.zone_handler.specs.declared.lookup_records.LookupRecords.{LookupRecords}
 use Rattle.zone_handler.specs.declared.nsec3_query_info.Nsec3QueryInfo.{Nsec3QueryInfo}
 use Rattle.zone_handler.specs.Answers.{sets_in}
 use Rattle.zone_handler.specs.Hashing.{digest_for}
 use Rattle.zone_map.specs.AnyTypes.{searched_type}
 use Rattle.zone_map.specs.Zones.{Sets}
 use Rattle.zone_denial.specs.Nsec3Denial.{nsec3_denial}
-use Rattle.zone_denial.specs.Nsec3Laws.{FindsOrEncloses}
-use Rattle.zone_denial.specs.Nsec3Lent.{hashed_for}
-use Rattle.zone_denial.specs.Nsec3Zones.{IsHashed, IsNsec3Zone, TellsApart}
+use Rattle.zone_denial.specs.Nsec3Laws.{FindsOrEncloses, ProvesStar}
+use Rattle.zone_denial.specs.Nsec3Lent.{hashed_for, query_denial}
+use Rattle.zone_denial.specs.Nsec3Zones.{IsCircleName, IsHashed, IsNsec3Zone, TellsApart}
 use Rattle.zone_denial.proofs.Nsec3Encloses.{finds_or_encloses}
+use Rattle.zone_denial.proofs.Nsec3Star.{proves_star}
 use Rattle.zone_denial.proofs.Nsec3Lists.{lists_all_owned, denials_agree}
 use Rattle.zone_search.specs.Replies.{name_exists, nx_domain, IsReplyFor}
 use Rattle.zone_in_memory.specs.Lookup.{SaysOrMemory}
 use Rattle.zone_in_memory.specs.Handlers.{Zone}
-use Rattle.zone_in_memory.specs.Nsec3Answers.{HasNsec3Proof, AgreesWithNsec3Circle}
+use Rattle.zone_in_memory.specs.Nsec3Answers.{HasNsec3Proof, HasNsec3StarProof, AgreesWithNsec3Circle}
 use Rattle.zone_in_memory.specs.Nsec3Steps.{IsNsec3Answer}
 use Rattle.zone_in_memory.proofs.CircleAgreement.{of_step, exists_owned}
 
@@ -53,16 +55,33 @@ module _ {S H : Type 0} (digest_of : H → ℕ → List ℕ → Name → ℕ →
   abbrev x : Name
   x = query.qname.now
 
+  given : (a b : List RRset) → ◌≡◌ {A = Result (List RRset) ProtoError} (Ok a) (Ok b) → a ≡ b
+  given a b e = cc
+
+  -- the sets of the answer that is given are those of a denial of the same query
+  same_sets : (answer sets : List RRset) (s t : LookupRecords) → nsec3_denial zone.inner.records (hashed_for zone.origin (digest_of zone.hash) query) false x ≡ Ok answer → query.has_wildcard_match ≡ false
+      → query_denial (digest_of zone.hash) zone.origin zone.inner.records query ≡ Ok sets → sets_in s ≡ sets → s ≡ t → answer ≡ sets_in t
+  same_sets answer sets s t is plain denial has section =
+      let same : ◌≡◌ {A = Result (List RRset) ProtoError} (Ok answer) (Ok sets) = sym is ∙ ap (λ w. nsec3_denial zone.inner.records (hashed_for zone.origin (digest_of zone.hash) query) w x) (sym plain) ∙ denial in
+      given answer sets same ∙ sym has ∙ ap sets_in section
+
   pub nsec3_answer_proves : (step : LookupControlFlow AuthLookup LookupError) → IsNsec3Answer digest_of zone query options step
       → (parameters : Nsec3Parameters) → IsNsec3Zone zone.origin zone.inner.records hash parameters → query.has_wildcard_match ≡ false → IsTrue (is_at_or_above zone.origin x)
       → TellsApart (IsHashed zone.origin zone.inner.records parameters.opt_out x) hash → HasNsec3Proof zone.origin zone.inner.records hash parameters.opt_out x step
   nsec3_answer_proves step (inl (sets, denial, (s, is, has, kept))) parameters circle plain inside apart t e =
-      let law = finds_or_encloses zone.origin zone.inner.records hash parameters circle x query.qtype.0 inside apart in
-      let same : ◌≡◌ {A = Result (List RRset) ProtoError} (Ok law.0) (Ok sets) = sym law.1 ∙ ap (λ w. nsec3_denial zone.inner.records (hashed_for zone.origin (digest_of zone.hash) query) w query.qtype.0 x) (sym plain) ∙ denial in
+      let law = finds_or_encloses zone.origin zone.inner.records hash parameters circle x inside apart in
       let section : s ≡ t = cc in
-      subst (FindsOrEncloses zone.origin zone.inner.records hash parameters.opt_out x) (given law.0 sets same ∙ sym has ∙ ap sets_in section) law.2
-    where
-      given : (a b : List RRset) → ◌≡◌ {A = Result (List RRset) ProtoError} (Ok a) (Ok b) → a ≡ b
-      given a b e = cc
+      subst (FindsOrEncloses zone.origin zone.inner.records hash parameters.opt_out x) (same_sets law.0 sets s t law.1 plain denial has section) law.2
   nsec3_answer_proves step (inr (inl (refusal, denial, is))) parameters circle plain inside apart t e = absurd cc
   nsec3_answer_proves step (inr (inr is)) parameters circle plain inside apart t e = absurd cc
+
+  pub nsec3_star_proves : (step : LookupControlFlow AuthLookup LookupError) → IsNsec3Answer digest_of zone query options step
+      → (parameters : Nsec3Parameters) → IsNsec3Zone zone.origin zone.inner.records hash parameters → query.has_wildcard_match ≡ false → IsTrue (is_at_or_above zone.origin x)
+      → TellsApart (IsHashed zone.origin zone.inner.records parameters.opt_out x) hash → (IsCircleName zone.origin zone.inner.records parameters.opt_out x → ⊥)
+      → HasNsec3StarProof zone.origin zone.inner.records hash parameters.opt_out x step
+  nsec3_star_proves step (inl (sets, denial, (s, is, has, kept))) parameters circle plain inside apart off t e =
+      let law = proves_star zone.origin zone.inner.records hash parameters circle x inside apart off in
+      let section : s ≡ t = cc in
+      subst (ProvesStar zone.origin zone.inner.records hash parameters.opt_out x) (same_sets law.0 sets s t law.1 plain denial has section) law.2
+  nsec3_star_proves step (inr (inl (refusal, denial, is))) parameters circle plain inside apart off t e = absurd cc
+  nsec3_star_proves step (inr (inr is)) parameters circle plain inside apart off t e = absurd cc

@@ -14,13 +14,17 @@ use Rattle.zone_handler.specs.declared.lookup_error.LookupError.TheVariants as e
 use Rattle.zone_handler.specs.declared.lookup_records.LookupRecords.{LookupRecords}
 use Rattle.zone_handler.specs.Answers.{sets_in}
 use Rattle.zone_map.specs.Zones.{Sets, owns}
-use Rattle.zone_denial.specs.Nsec3Laws.{types3_of, IsSetOf, FindsOrEncloses, IsNsec3Listed}
+use Rattle.zone_denial.specs.Nsec3Laws.{types3_of, IsSetOf, FindsOrEncloses, ProvesStar, IsNsec3Listed}
 use Rattle.zone_denial.specs.Nsec3Zones.{IsCircleName}
 
 module _ (origin : Name) (m : Sets) (hash : Name → Option (List ℕ)) (opt_out : Bool) (n : Name) where
   -- the sets of the answer that is given, if one is, are the NSEC3 set of n alone, or prove its closest encloser
   abbrev pub HasNsec3Proof : LookupControlFlow AuthLookup LookupError → Type 0
   HasNsec3Proof step = (s : LookupRecords) → step ≡ Continue (Ok (answer.Records s None)) → FindsOrEncloses origin m hash opt_out n (sets_in s)
+
+  -- the same sets have the NSEC3 set of the star under the closest encloser of n, or one that covers the star
+  abbrev pub HasNsec3StarProof : LookupControlFlow AuthLookup LookupError → Type 0
+  HasNsec3StarProof step = (s : LookupRecords) → step ≡ Continue (Ok (answer.Records s None)) → ProvesStar origin m hash opt_out n (sets_in s)
 
   -- how a lookup of n and t agrees with a circle of NSEC3 sets: a name that is denied isn't on it; a type that is denied of a name on it isn't in the list of that name, RRSIG aside; and what is owned, NSEC3 aside, is listed, or stands below a zone cut, or is an unsigned delegation that opt-out leaves out
   pub record AgreesWithNsec3Circle (t : ℕ) (step : LookupControlFlow AuthLookup LookupError) : Type 0 where

@@ -15,11 +15,12 @@ use Rattle.zone_handler.specs.declared.lookup_options.LookupOptions.{LookupOptio
 use Rattle.zone_handler.specs.declared.lookup_records.LookupRecords.{LookupRecords}
 use Rattle.zone_handler.specs.declared.lookup_records.LookupRecords.TheVariants as section
 use Rattle.zone_handler.specs.Answers.{sets_in, KeepsMany}
+use Rattle.zone_map.specs.Wildcards.{star_under}
 use Rattle.zone_map.specs.Zones.{Sets, set_at, owns, types_at, owns_at_or_below}
 use Rattle.zone_denial.specs.Authority.{is_below_cut}
 use Rattle.zone_denial.specs.NsecCircle.{types_of}
-use Rattle.zone_denial.specs.NsecDenial.{nsec_denial}
-use Rattle.zone_denial.specs.NsecLaws.{LastCovers, FindsOrCovers, IsListed}
+use Rattle.zone_denial.specs.NsecDenial.{nsec_encloser, nsec_denial}
+use Rattle.zone_denial.specs.NsecLaws.{LastCovers, FindsOrCovers, HasOwnOrCover, IsListed}
 use Rattle.zone_in_memory.specs.Handlers.{Zone}
 
 -- the section of an answer that denies n: it has the sets that deny n, and keeps the name's own NSEC set by itself, and any others as several
@@ -41,6 +42,10 @@ pub record IsNsecProof (origin : Name) (m : Sets) (n : Name) (sets : List RRset)
 -- the sets of the answer that is given, if one is, say this
 abbrev pub HasNsecProof : Name → Sets → Name → LookupControlFlow AuthLookup LookupError → Type 0
 HasNsecProof origin m n step = (s : LookupRecords) → step ≡ Continue (Ok (answer.Records s None)) → IsNsecProof origin m n (sets_in s)
+
+-- the sets of the answer that is given, if one is, have the NSEC set of the star under the closest encloser of n, where that star has one, and else one that covers the star
+abbrev pub HasStarProof : Name → Sets → Name → LookupControlFlow AuthLookup LookupError → Type 0
+HasStarProof origin m n step = (s : LookupRecords) → step ≡ Continue (Ok (answer.Records s None)) → HasOwnOrCover m (star_under (nsec_encloser origin m n)) (sets_in s)
 
 -- how a lookup of n and t agrees with a circle of NSEC sets: a name that is denied isn't on it, and no name at or below that one comes next in its denial; a type that is denied isn't in the list of the name, RRSIG aside; and what is owned is listed, or stands below a zone cut
 pub record AgreesWithCircle (origin : Name) (m : Sets) (n : Name) (t : ℕ) (step : LookupControlFlow AuthLookup LookupError) : Type 0 where

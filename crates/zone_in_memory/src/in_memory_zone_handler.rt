@@ -1,17 +1,17 @@
-ghost use Rattle.std.specs.Prelude.{◌≡◌, ◌≢◌, ◌⊎◌, ℕ, List, Option, false, [], Ok, Err, IfErr, IfOk, IsOkUnless, IsTrue, option_copied};
+ghost use Rattle.std.specs.Prelude.{◌≡◌, ◌≢◌, ◌⊎◌, ℕ, List, Option, false, [], Ok, Err, IfErr, IfOk, IsOkUnless, IsTrue, IsFalse, option_copied};
 ghost use Rattle.zone_proto.specs.declared.rdata.denial.NSEC3PARAM.{NSEC3PARAM as Nsec3Parameters};
 ghost use Rattle.zone_proto.specs.Names.{Name, lower, is_at_or_above};
-ghost use Rattle.zone_proto.specs.Types.{IN, SOA, AXFR};
+ghost use Rattle.zone_proto.specs.Types.{IN, SOA, AXFR, NSEC};
 ghost use Rattle.zone_denial.specs.NsecLaws.{IsNsecZone};
-ghost use Rattle.zone_denial.specs.Nsec3Zones.{IsNsec3Zone, IsHashed, TellsApart};
+ghost use Rattle.zone_denial.specs.Nsec3Zones.{IsNsec3Zone, IsCircleName, IsHashed, TellsApart};
 ghost use Rattle.zone_handler.specs.Hashing.{digest_for};
 ghost use Rattle.zone_handler.specs.Transfers.{IsNoLookup};
 ghost use Rattle.zone_search.specs.StartOfAuthority.{soa, serial, minimum};
 ghost use Rattle.zone_search.specs.Replies.{absent, denial, is_there, IsReplyFor};
 ghost use Rattle.zone_in_memory.specs.Lookup.{error_of, SaysOrMemory, IsLookup, IsAnswered};
-ghost use Rattle.zone_in_memory.specs.NsecAnswers.{IsNsecAnswer, HasNsecProof, AgreesWithCircle};
+ghost use Rattle.zone_in_memory.specs.NsecAnswers.{IsNsecAnswer, HasNsecProof, HasStarProof, AgreesWithCircle};
 ghost use Rattle.zone_in_memory.specs.Nsec3Steps.{IsNsec3Answer};
-ghost use Rattle.zone_in_memory.specs.Nsec3Answers.{AgreesWithNsec3Circle, HasNsec3Proof};
+ghost use Rattle.zone_in_memory.specs.Nsec3Answers.{AgreesWithNsec3Circle, HasNsec3Proof, HasNsec3StarProof};
 ghost use Rattle.zone_in_memory.specs.Requests.{IsSearch};
 ghost use Rattle.zone_in_memory.specs.Transfers.{IsZoneTransfer};
 ghost use Rattle.zone_map.specs.AnyTypes.{searched_type};
@@ -395,14 +395,17 @@ impl<S: Signer, H: Nsec3Hash> ZoneHandler for InMemoryZoneHandler<S, H> {
     /// `lookup_options` ask for DNSSEC.
     ///
     /// A name that owns an NSEC set is denied by that one, whose list tells what the name owns (RFC 4035 section 3.1.3.1).
-    /// Any other is denied by the closest NSEC sets, as [`InnerInMemory::closest_nsec`] says, of its parent and of the name
-    /// itself, in this order, or by one where they are the same (section 3.1.3.2). Where the parent is outside the zone, the
-    /// origin stands for it, and nothing where that is the name itself. A set that isn't found is left out. So it is in any
-    /// zone, and whatever its kind; the answer has no additional section. `Memory` may come in place of it.
+    /// Any other is denied by the closest NSEC sets, as [`InnerInMemory::closest_nsec`] says, of the star under its closest
+    /// encloser and of the name itself, in this order, or by one where they are the same (section 3.1.3.2). The closest
+    /// encloser is the longest proper ancestor, not above the origin, that owns NSEC or has such a name below it, or else the
+    /// origin. Of a name outside the zone the origin stands in the place of the star, and of the origin nothing does. A set
+    /// that isn't found is left out. So it is in any zone, and whatever its kind; the answer has no additional section.
+    /// `Memory` may come in place of it.
     ///
     /// In a zone whose NSEC sets are a circle, as they are once [`InMemoryZoneHandler::secure_zone_mut`] made them, these
-    /// deny each name of the zone: the name's own set is found, or the last set covers the name. Of names outside the zone
-    /// nothing is said, nor of a wildcard at the closest encloser.
+    /// deny each name of the zone: the name's own set is found, or the last set covers the name; and in this case they also
+    /// have the set of the star under the closest encloser, or one that covers the star. Of names outside the zone nothing is
+    /// said.
     fn nsec_records(
         &self,
         name: &LowerName,
@@ -410,6 +413,8 @@ impl<S: Signer, H: Nsec3Hash> ZoneHandler for InMemoryZoneHandler<S, H> {
     ) -> LookupControlFlow<AuthLookup>
         ensures answer { IsNsecAnswer self.now name.now lookup_options result }
         ensures proof { IsNsecZone self.now.origin self.now.inner.records → IsTrue (is_at_or_above self.now.origin name.now) → HasNsecProof self.now.origin self.now.inner.records name.now result }
+        ensures star { IsNsecZone self.now.origin self.now.inner.records → IsTrue (is_at_or_above self.now.origin name.now) → IsFalse (owns self.now.inner.records name.now NSEC)
+            → HasStarProof self.now.origin self.now.inner.records name.now result }
     {
         LookupControlFlow::Continue(self.nsec_answer(name, lookup_options))
     }
@@ -420,8 +425,9 @@ impl<S: Signer, H: Nsec3Hash> ZoneHandler for InMemoryZoneHandler<S, H> {
     ///
     /// In a zone whose NSEC3 sets are a circle by the parameters of `info` and by the zone's hash, and below the root, these
     /// deny each name of the zone to which no wildcard answered: the name's own set is found, where the name is on the circle,
-    /// and else the set of its closest encloser and one that covers the next closer name (RFC 5155 section 7.2.1). That is so
-    /// where the hash gives the names on the circle and those that it is asked of digests of one length that differ.
+    /// and else the set of its closest encloser and one that covers the next closer name (RFC 5155 section 7.2.1), and the set of
+    /// the star under that encloser or one that covers the star (section 7.2.2). That is so where the hash gives the names on
+    /// the circle and those that it is asked of digests of one length that differ.
     fn nsec3_records(
         &self,
         info: Nsec3QueryInfo<'_>,
@@ -432,6 +438,11 @@ impl<S: Signer, H: Nsec3Hash> ZoneHandler for InMemoryZoneHandler<S, H> {
             → info.entry.has_wildcard_match ≡ false → IsTrue (is_at_or_above self.now.origin info.entry.qname.now)
             → TellsApart (IsHashed self.now.origin self.now.inner.records parameters.opt_out info.entry.qname.now) (digest_for (H.digest_of self.now.hash) info.entry)
             → HasNsec3Proof self.now.origin self.now.inner.records (digest_for (H.digest_of self.now.hash) info.entry) parameters.opt_out info.entry.qname.now result }
+        ensures star { (parameters : Nsec3Parameters) → IsNsec3Zone self.now.origin self.now.inner.records (digest_for (H.digest_of self.now.hash) info.entry) parameters
+            → info.entry.has_wildcard_match ≡ false → IsTrue (is_at_or_above self.now.origin info.entry.qname.now)
+            → TellsApart (IsHashed self.now.origin self.now.inner.records parameters.opt_out info.entry.qname.now) (digest_for (H.digest_of self.now.hash) info.entry)
+            → (IsCircleName self.now.origin self.now.inner.records parameters.opt_out info.entry.qname.now → ⊥)
+            → HasNsec3StarProof self.now.origin self.now.inner.records (digest_for (H.digest_of self.now.hash) info.entry) parameters.opt_out info.entry.qname.now result }
     {
         LookupControlFlow::Continue(self.nsec3_answer(info, lookup_options))
     }

@@ -7,6 +7,7 @@ pub mod Upserting
 pub mod CnamesAlone
 pub mod Lists
 pub mod OwnersKept
+pub mod OwnersBelow
 pub mod Delegations
 pub mod Wildcards
 pub mod Walks

@@ -152,8 +152,8 @@ fn deny(zone: &Zone, key: &RrKey, answer: &mut String) -> Result<(), AllocError>
     }
 }
 
-/// The records that deny a name, or a type of it: NSEC3 records for that type, with the zone's own parameters, where the zone
-/// is of that kind; else NSEC records, whichever type is asked for.
+/// The records that deny a name, or a type of it, whichever that is: NSEC3 records, with the zone's own parameters, where the
+/// zone is of that kind; else NSEC records.
 fn denial(zone: &Zone, key: &RrKey) -> LookupControlFlow<AuthLookup>
     ensures { result ≢ LookupControlFlow.Skip }
 {

@@ -186,9 +186,8 @@ impl<S: Signer> InnerInMemory<S> {
     /// - Else the closest encloser is the nearest proper ancestor of the queried name that a set matches, the root aside.
     ///   Without one there is no set. The next closer name is the one a label longer towards the queried name.
     /// - Where a wildcard answered, the set that covers the next closer name is the answer. Else it is the set that matches the
-    ///   closest encloser, the one that covers the next closer name, and one for the star under the closest encloser: where a
-    ///   set stands at the queried name with `*` in the place of its first label, the set that matches that star, and else,
-    ///   unless the type is DS, the one that covers it.
+    ///   closest encloser, the one that covers the next closer name, and the one that matches the star under the closest
+    ///   encloser or, where none does, covers it. The type of the query isn't read.
     ///
     /// Names are hashed in this order, each only where the answer needs it: the queried name, its ancestors from the nearest on
     /// until one has a match, the next closer name, the closest encloser, and the star. The first that is refused refuses the

@@ -36,8 +36,8 @@ impl<S: Signer, H: Nsec3Hash> InMemoryZoneHandler<S, H> {
     {
         match self.inner.nsec_denial(self.origin(), name)? {
             NsecDenial::Own(set) => Ok(LookupRecords::new(lookup_options, set.clone()?)),
-            NsecDenial::Closest(above, closest) => {
-                let sets = copies(name.alloc(), above, closest)?;
+            NsecDenial::Closest(beside, closest) => {
+                let sets = copies(name.alloc(), beside, closest)?;
                 Ok(LookupRecords::many(lookup_options, sets))
             }
         }

@@ -1,5 +1,7 @@
 // The owners of the sets of denial in the record map.
 ghost use Rattle.std.specs.Prelude.{◌≡◌};
+ghost use Rattle.std.specs.List.{list_any};
+ghost use Rattle.zone_proto.specs.Names.{is_at_or_above};
 ghost use Rattle.zone_map.specs.DenialOwners.{denial_owners, denial_owners_upto, denial_owners_before};
 ghost use Rattle.zone_map.specs.Zones.{IsZone};
 
@@ -48,6 +50,19 @@ impl RecordMap {
         match self.denials.owners(record_type) {
             Some(owners) => LastOwners::new(Some(owners.range(..))),
             None => LastOwners::new(None),
+        }
+    }
+    /// Whether a name, or a name below it, owns a set of a type, if that is NSEC or NSEC3; no for other types. One owner is looked
+    /// at, the first of the type that isn't before the name: the names below a name stand together. Takes no memory.
+    pub fn owns_denial_at_or_below(&self, record_type: RecordType, name: &LowerName) -> bool
+        ensures { result ≡ list_any (is_at_or_above name.now) (denial_owners self.now record_type.0) }
+    {
+        let Some(owners) = self.denials.owners(record_type) else {
+            return false;
+        };
+        match owners.range(name..).next() {
+            Some(first) => name.zone_of(first),
+            None => false,
         }
     }
 }

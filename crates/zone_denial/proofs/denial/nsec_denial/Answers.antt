@@ -2,7 +2,7 @@ use Rattle.std.proofs.Common.{◌≡◌, ◌∙◌, ◌++◌, sym, ap}
 use Rattle.std.specs.Prelude.{option_and_then, option_copied, option_to_list}
 use Rattle.zone_proto.specs.Types.{NSEC}
 use Rattle.zone_map.specs.Zones.{set_at}
-use Rattle.zone_denial.specs.NsecDenial.{closest_nsec, parent_of}
+use Rattle.zone_denial.specs.NsecDenial.{closest_nsec, proved_beside}
 use Rattle.zone_denial.proofs.DenialLists.{closest_denial}
 use Rattle.zone_denial.proofs.denial.nsec_denial.Goals as goal
 
@@ -11,7 +11,7 @@ returns-clause-sets c =
     let m = c.args.records.now in
     let named : c.new-key.result.name ≡ c.args.name.now = ap (λ k. k.name) c.new-key.ensures.value ∙ c.in_ok-clone.ensures.ok in
     ap (λ o. option_to_list o ++ option_to_list (option_copied c.in_ok-closest.closest)) c.unless_same.ensures
-    ∙ closest_denial m c.closest_nsec.ensures.zone c.args.origin.now c.args.name.now (option_copied c.in_ok-above.above) (option_copied c.in_ok-closest.closest)
+    ∙ closest_denial m c.closest_nsec.ensures.zone c.args.origin.now c.args.name.now (option_copied c.in_ok-beside.beside) (option_copied c.in_ok-closest.closest)
     (sym (ap (λ k. set_at m k.name k.record_type.0) c.new-key.ensures.value ∙ ap (λ n. set_at m n NSEC) c.in_ok-clone.ensures.ok) ∙ sym c.get.ensures.found ∙ ap option_copied c.in_default.is)
-    (c.in_ok-above.ensures.found ∙ ap (λ n. option_and_then (closest_nsec m) (parent_of c.args.origin.now n)) named)
+    (c.in_ok-beside.ensures.found ∙ ap (λ n. option_and_then (closest_nsec m) (proved_beside c.args.origin.now m n)) named)
     c.in_ok-closest.ensures.found

@@ -15,6 +15,6 @@ returns-in-Some-clause-err g c =
       | else-is_some-via-then-is_some+else-not-query w ↦ after_wildcard c.in_ok-own.own c.args.query.now.has_wildcard_match w.if-not-query.false
       | else-is_some-via-else-is_some w ↦ without_own c.in_ok-own.own c.args.query.now.has_wildcard_match w.if-is_some.ensures
     ] in
-    let is = encloser_denial c.args.records.now hashed c.args.query.now.has_wildcard_match c.args.query.now.qtype.0 c.args.query.now.qname.now own c.in_ok-own.ensures.ok not_own (Some (base_name c.in-Some.encloser.next_closer))
+    let is = encloser_denial c.args.records.now hashed c.args.query.now.has_wildcard_match c.args.query.now.qname.now own c.in_ok-own.ensures.ok not_own (Some (base_name c.in-Some.encloser.next_closer))
     (c.in_ok-encloser.ensures.found ∙ ap (λ f. Ok (option_map (λ e. base_name e.next_closer) f)) c.in-Some.is) in
     IfErr-weaker c.enclosed.result _ _ (refused_too _ _ is) c.enclosed.ensures.err

@@ -1,6 +1,9 @@
 use Rattle.zone_handler.specs.declared.control_flow.LookupControlFlow.TheVariants.{Continue}
-use Rattle.zone_in_memory.proofs.CircleAgreement.{answer_proves}
+use Rattle.zone_in_memory.proofs.CircleAgreement.{answer_proves, star_proves}
 use Rattle.zone_in_memory.proofs.in_memory_zone_handler.InMemoryZoneHandlerZoneHandler.nsec_records.Goals as goal
 
 pub returns-clause-proof : goal.returns-clause-proof
 returns-clause-proof g c circle inside = answer_proves c.args.self.now.origin c.args.self.now.inner.records circle c.args.lookup_options c.args.name.now (Continue c.nsec_answer.result) inside c.nsec_answer.ensures
+
+pub returns-clause-star : goal.returns-clause-star
+returns-clause-star g c circle inside off = star_proves c.args.self.now.origin c.args.self.now.inner.records circle c.args.lookup_options c.args.name.now (Continue c.nsec_answer.result) inside off c.nsec_answer.ensures
