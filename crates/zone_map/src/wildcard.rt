@@ -84,10 +84,7 @@ fn renamed(
     ensures err { IsOkUnless result ProtoError.Memory }
 {
     let owner = Name::from(name.clone()?);
-    let mut made = RecordSet::with_ttl(owner, set.record_type(), set.ttl());
-    for stored in set.records_without_rrsigs() {
-        made.add_rdata(stored.rdata.clone()?)?;
-    }
+    let mut made = set.clone_under(owner, set.ttl())?;
     if signed {
         for rrsig in set.rrsigs() {
             made.insert_rrsig(renamed_signature(rrsig, star, name)?)?;

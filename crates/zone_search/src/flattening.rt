@@ -37,14 +37,13 @@ fn unsigned_flattened(
     ensures made { IfOk result (λ made. made ≡ unsigned_flattened aname.now record_type.0 last.now) }
     ensures err { IsOkUnless result ProtoError.Memory }
 {
+    let owner = aname.name().clone()?;
     let ttl = aname.ttl().min(last.ttl());
-    let mut made = RecordSet::with_ttl(aname.name().clone()?, record_type, ttl);
     if last.record_type() == record_type {
-        for stored in last.records_without_rrsigs() {
-            made.add_rdata(stored.rdata.clone()?)?;
-        }
+        last.clone_under(owner, ttl)
+    } else {
+        Ok(RecordSet::with_ttl(owner, record_type, ttl))
     }
-    Ok(made)
 }
 
 /// Whether a set is an ANAME set where addresses are asked for.
