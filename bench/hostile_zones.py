@@ -173,14 +173,19 @@ def zone_of_names(names, new):
     return Zone(filled(records), [found(records[-1]), missing, changed("add and drop a name", f"{new} 300 A 192.0.2.1")])
 
 
-def names_with_octet(octet, n):
-    """A zone of so many names of 103 labels, of which the first has this octet."""
-    rest = f"{'a.' * 100}{ORIGIN}"
+def names_with_octet(octet, n, label="a"):
+    """A zone of so many names of 103 labels, of which the first has this octet and the next hundred are alike."""
+    rest = f"{f'{label}.' * 100}{ORIGIN}"
     return zone_of_names([f"{octet}{i:06d}.{rest}" for i in range(n)], f"{octet}.{rest}")
 
 
 def octets_of_zero(n):
     return Pair("n names of 103 labels, an octet 0 in one", names_with_octet("\\000", n), names_with_octet("\\001", n), [RECORD])
+
+
+def labels_of_zero(n):
+    slow, plain = (names_with_octet(octet, n, octet) for octet in ("\\000", "\\001"))
+    return Pair("n names of 103 labels, an octet 0 in 101", slow, plain, [RECORD])
 
 
 def plain_zone_of_names(n):
@@ -299,6 +304,7 @@ ZONES = [
     (addresses_of_a_star, 5000),
     (addresses_of_an_aname, 5000),
     (octets_of_zero, 5000),
+    (labels_of_zero, 5000),
     (names_below_a_cut, 25000),
     (names_below_an_empty_one, 25000),
     (deep_names, 25000),
