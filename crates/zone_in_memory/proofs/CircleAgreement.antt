@@ -25,7 +25,7 @@ use Rattle.zone_denial.proofs.NsecLists.{lists_all_owned, denials_agree}
 use Rattle.zone_denial.proofs.NsecBelow.{no_next_below, next_below_empty}
 use Rattle.zone_denial.proofs.NsecStar.{proves_star}
 use Rattle.zone_search.specs.Replies.{Denial, name_exists, nx_domain, refused, denial, answered, denied, IsAnswer, IsReplyFor}
-use Rattle.zone_in_memory.specs.Lookup.{error_of, SaysOrMemory}
+use Rattle.zone_in_memory.specs.Lookup.{error_of, SaysOrMemory, IsNameError}
 use Rattle.zone_in_memory.specs.NsecAnswers.{IsDenialSection, IsNsecProof, HasNsecProof, HasStarProof, AgreesWithCircle}
 
 -- the step that denies
@@ -63,6 +63,19 @@ module _ (sign : RRset → List Record) (origin : Name) (m : Sets) (options : Lo
   of_step d step (inr e) is = absurd (memory_apart d (sym is ∙ e))
   of_step d step (inl (denied e, reply, says)) is = of_reply d (subst (λ x. IsReplyFor sign origin m options.dnssec_ok n (searched_type m n t) (denied x)) (same_denial e d (sym says ∙ is)) reply)
   of_step d step (inl (answered answers more, reply, (a, says, has))) is = absurd (let e = sym says ∙ is in cc)
+
+-- where the star that is asked exists, the name is there
+denied_there : (origin : Name) (m : Sets) (n : Name) → asked_star_exists m n ≡ true → denial origin m n ≡ nx_domain → ⊥
+denied_there origin m n h e = by (owns_at_or_below m n) (asked_star_exists m n) h e
+  where
+    by : (a s : Bool) → s ≡ true → cond (a || s) name_exists (cond (is_at_or_above origin n) nx_domain refused) ≡ nx_domain → ⊥
+    by true s k e = cc
+    by false true k e = cc
+    by false false k e = cc
+
+pub star_never_denied : (sign : RRset → List Record) (origin : Name) (m : Sets) (options : LookupOptions) (n : Name) (t : ℕ) (step : LookupControlFlow AuthLookup LookupError)
+    → asked_star_exists m n ≡ true → SaysOrMemory options (IsReplyFor sign origin m options.dnssec_ok n (searched_type m n t)) step → IsNameError step → ⊥
+star_never_denied sign origin m options n t step h says e = denied_there origin m n h (of_step sign origin m options n t nx_domain step says e).1
 
 -- what a denial says of the name
 pub exists_owned : (origin : Name) (m : Sets) (n : Name) → denial origin m n ≡ nx_domain → (owns_at_or_below m n ≡ false) × IsTrue (is_at_or_above origin n)

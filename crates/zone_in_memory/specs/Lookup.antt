@@ -23,6 +23,10 @@ error_of name_exists = error.NameExists
 error_of nx_domain = error.ResponseCode code.NXDomain
 error_of refused = error.ResponseCode code.Refused
 
+-- the step that says that a name isn't there (RFC 2308 section 2.1)
+abbrev pub IsNameError : LookupControlFlow AuthLookup LookupError → Type 0
+IsNameError step = step ≡ Continue (Err (error_of nx_domain))
+
 -- how a step of a chain of handlers says a reply
 abbrev pub Says : LookupOptions → Reply → LookupControlFlow AuthLookup LookupError → Type 0
 Says options (denied d) step = step ≡ Continue (Err (error_of d))

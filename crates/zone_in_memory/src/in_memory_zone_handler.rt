@@ -8,7 +8,7 @@ ghost use Rattle.zone_handler.specs.Hashing.{digest_for};
 ghost use Rattle.zone_handler.specs.Transfers.{IsNoLookup};
 ghost use Rattle.zone_search.specs.StartOfAuthority.{soa, serial, minimum};
 ghost use Rattle.zone_search.specs.Replies.{absent, denial, is_there, IsReplyFor};
-ghost use Rattle.zone_in_memory.specs.Lookup.{error_of, SaysOrMemory, IsLookup, IsAnswered};
+ghost use Rattle.zone_in_memory.specs.Lookup.{error_of, SaysOrMemory, IsLookup, IsAnswered, IsNameError};
 ghost use Rattle.zone_in_memory.specs.NsecAnswers.{IsNsecAnswer, HasNsecProof, HasStarProof, AgreesWithCircle};
 ghost use Rattle.zone_in_memory.specs.Nsec3Steps.{IsNsec3Answer};
 ghost use Rattle.zone_in_memory.specs.Nsec3Answers.{AgreesWithNsec3Circle, HasNsec3Proof, HasNsec3StarProof};
@@ -18,6 +18,7 @@ ghost use Rattle.zone_map.specs.AnyTypes.{searched_type};
 ghost use Rattle.zone_in_memory.specs.Construction.{made};
 ghost use Rattle.zone_signing.specs.Signatures.{answer_signatures};
 ghost use Rattle.zone_map.specs.Upserts.{CnamesStandAlone};
+ghost use Rattle.zone_map.specs.Wildcards.{asked_star_exists};
 ghost use Rattle.zone_map.specs.Zones.{owns, IsZone};
 
 mod changes;
@@ -355,6 +356,7 @@ impl<S: Signer, H: Nsec3Hash> ZoneHandler for InMemoryZoneHandler<S, H> {
         ensures answer { IsLookup S.signature_of self.now name.now record_type.0 lookup_options now result }
         ensures transfer { record_type.0 ≡ AXFR → IsNoLookup result }
         ensures owned_is_answered { IsTrue (owns self.now.inner.records name.now record_type.0) → record_type.0 ≢ AXFR → IsAnswered result }
+        ensures existing_star { IsTrue (asked_star_exists self.now.inner.records name.now) → ¬ IsNameError result }
         ensures circle { IsNsecZone self.now.origin self.now.inner.records → AgreesWithCircle self.now.origin self.now.inner.records name.now record_type.0 result }
         ensures nsec3_circle { (hash : Name → Option (List ℕ)) (parameters : Nsec3Parameters) → IsNsec3Zone self.now.origin self.now.inner.records hash parameters
             → AgreesWithNsec3Circle self.now.origin self.now.inner.records hash parameters.opt_out name.now record_type.0 result }

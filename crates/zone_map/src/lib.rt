@@ -1,5 +1,5 @@
 //! The record sets of a zone in one ordered map: how records are taken into it, and what a search finds among its sets: the
-//! referral at a zone cut (RFC 1034 section 4.2.1), the set of a name, that of a wildcard (section 4.3.3), and the type
+//! referral at a zone cut (RFC 1034 section 4.2.1), the set of a name, that of a wildcard (RFC 4592), and the type
 //! that is chosen for ANY (RFC 8482). It is the ground of `zone_store`, whose users need nothing of it.
 //!
 //! Contracts see the map as the list of its sets by name and type, in the order of names. An insertion that answers false

@@ -1,6 +1,6 @@
 use Rattle.zone_handler.specs.declared.control_flow.LookupControlFlow.TheVariants.{Continue}
 use Rattle.zone_signing.specs.Signatures.{answer_signatures}
-use Rattle.zone_in_memory.proofs.CircleAgreement.{lookup_agrees, transfer_agrees}
+use Rattle.zone_in_memory.proofs.CircleAgreement.{lookup_agrees, transfer_agrees, star_never_denied}
 use Rattle.zone_in_memory.proofs.Nsec3Agreement.{nsec3_lookup_agrees, nsec3_transfer_agrees}
 use Rattle.zone_in_memory.proofs.Lookups.{owned_is_answered}
 use Rattle.zone_in_memory.proofs.in_memory_zone_handler.InMemoryZoneHandlerZoneHandler.lookup.Goals as goal
@@ -9,6 +9,14 @@ pub returns-clause-owned_is_answered : goal.returns-clause-owned_is_answered
 returns-clause-owned_is_answered g c owned no_transfer =
     owned_is_answered (answer_signatures g.S.Signer.signature_of c.args.now c.args.lookup_options.dnssec_ok c.args.self.now.inner.signers) c.args.self.now.inner.records c.args.name.now c.args.record_type.0 c.args.lookup_options
     c.args.self.now.origin (Continue c.answer.result) owned c.answer.ensures
+
+pub returns-clause-existing_star : goal.returns-clause-existing_star
+returns-clause-existing_star g c there denied =
+    star_never_denied (answer_signatures g.S.Signer.signature_of c.args.now c.args.lookup_options.dnssec_ok c.args.self.now.inner.signers) c.args.self.now.origin c.args.self.now.inner.records c.args.lookup_options c.args.name.now
+    c.args.record_type.0 (Continue c.answer.result) there c.answer.ensures denied
+
+pub returns-then-eq-clause-existing_star : goal.returns-then-eq-clause-existing_star
+returns-then-eq-clause-existing_star g c there denied = absurd cc
 
 pub returns-clause-circle : goal.returns-clause-circle
 returns-clause-circle g c circle =
