@@ -108,8 +108,8 @@ fn put_place(
     Ok(())
 }
 
-/// Whether a set is equal to one that is listed. Where no other set of its owner and type stands behind the first few, none
-/// there is.
+/// Whether a set is equal to one that is listed. Equal sets have one owner and one type, so where no place is noted for these,
+/// the first few alone are asked.
 fn is_listed(
     sets: &[Found<'_>],
     places: &BTreeMap<RrKey, usize>,
@@ -127,7 +127,8 @@ fn is_listed(
     }
 }
 
-/// Whether a set is equal to one of these. The one at a place is asked before all others.
+/// Whether a set is equal to one of these. The one at a place is asked before all others: a zone has one set of an owner and a
+/// type, so that it is the equal one.
 fn is_among_from(sets: &[Found<'_>], place: usize, set: &RecordSet) -> bool
     ensures { result ≡ list_any (λ f. same_set (found_set f) set.now) sets.now }
 {
