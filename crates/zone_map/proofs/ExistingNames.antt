@@ -1,24 +1,23 @@
 -- Which names exist: what the entries from a name's least key on say, and the walk up to the closest encloser
-use Rattle.std.proofs.Common.{◌≡◌, ℕ, ◌&&◌, ◌||◌, not, Bool, true, false, cond, List, [], ◌∷◌, drop, refl, sym, ap, ◌∙◌, subst, true≢false, Ordering, Less, Equal, Greater}
+use Rattle.std.proofs.Common.{◌≡◌, ℕ, ◌&&◌, ◌||◌, not, Bool, true, false, cond, [], ◌∷◌, drop, refl, sym, ap, ◌∙◌, subst, true≢false, Ordering, Less, Equal, Greater}
 use Rattle.std.specs.Prelude.{Option, Some, None, find, option_map, unwrap_or, ◌==◌}
 use Rattle.std.specs.Ordering.{is_le}
-use Rattle.std.specs.List.{list_any}
 use Rattle.std.specs.List.Sorted.{IsStrictlySortedBy}
 use Rattle.std.specs.Map.{keys_of}
 use Rattle.std.specs.Option.{option_or}
 use Rattle.std.proofs.lemmas.Map.Keys.{sorted_head, sorted_tail}
 use Rattle.zone_proto.specs.declared.rr_key.RrKey.{RrKey}
-use Rattle.zone_proto.specs.Keys.{key, first_key, key_cmp}
+use Rattle.zone_proto.specs.Keys.{key, key_cmp}
 use Rattle.zone_proto.specs.Names.{Name, name_cmp, name_eq, label_eq, IsAtOrAbove, is_at_or_above, is_root, suffixes, wildcard_of, star_label}
 use Rattle.zone_proto.specs.Sets.{RRset}
 use Rattle.zone_proto.specs.Types.{NS, SOA, DS}
 use Rattle.zone_proto.proofs.Members.{any_from_In, In-map}
-use Rattle.zone_proto.proofs.NameTree.{is_at_or_above_sound, is_at_or_above_complete, name_eq-Decides}
-use Rattle.zone_map.specs.Zones.{Sets, set_at, owns, owns_at_or_below}
+use Rattle.zone_proto.proofs.NameTree.{is_at_or_above_sound, is_at_or_above_complete}
+use Rattle.zone_map.specs.Zones.{Sets, owns, owns_at_or_below}
 use Rattle.zone_map.specs.Upserts.{is_denial_type}
-use Rattle.zone_map.specs.Search.{is_delegated, is_delegated_for, referral_at, referral, exact, direct}
+use Rattle.zone_map.specs.Search.{is_delegated, referral_at, referral, exact, direct}
 use Rattle.zone_map.specs.Walks.{referral_above, own_referral}
-use Rattle.zone_map.specs.Wildcards.{exists, proper_ancestors, is_starred, star_under, closest_encloser, asked_star}
+use Rattle.zone_map.specs.Wildcards.{exists, star_under, closest_encloser, asked_star}
 use Rattle.zone_map.proofs.Owned.{has_entry}
 use Rattle.zone_map.proofs.Neighbours.{from_key, at_or_after, earlier, before_not_below, none_below}
 use Rattle.zone_map.proofs.Walks.{referral_split}

@@ -1,16 +1,13 @@
 -- A walk up the suffixes of a name looks for the nearest delegation: what the name says itself, and what the names above it say
-use Rattle.std.proofs.Common.{◌≡◌, ℕ, zero, suc, ◌-◌, ◌<◌, ◌≤◌, Bool, true, false, cond, not, ◌&&◌, List, [], ◌∷◌, length, drop, refl, sym, ap, ◌∙◌, subst, arith, ◌⊎◌, inl, inr}
-use Rattle.std.specs.Prelude.{Option, Some, None, find, ◌||◌, ◌==◌, is_some, unwrap_or, option_map, option_and_then, option_copied}
-use Rattle.std.specs.Borrow.{Bor}
-use Rattle.std.specs.Option.{option_or, option_map_or}
-use Rattle.zone_proto.specs.Names.{Name, label_eq, name_eq, suffixes, is_root, star_label, wildcard_of, IsWildcard}
+use Rattle.std.proofs.Common.{◌≡◌, ℕ, ◌-◌, Bool, true, false, cond, not, ◌&&◌, [], ◌∷◌, drop, refl, sym, ap, ◌∙◌, arith}
+use Rattle.std.specs.Prelude.{Option, Some, None, find, ◌==◌, is_some, unwrap_or}
+use Rattle.std.specs.Option.{option_or}
+use Rattle.zone_proto.specs.Names.{Name, name_eq, suffixes}
 use Rattle.zone_proto.specs.Sets.{RRset}
 use Rattle.zone_proto.specs.Types.{NS, SOA, DS}
-use Rattle.std.proofs.lemmas.Slice.Eq.{bytes_eq-Decides}
 use Rattle.zone_proto.proofs.Tree.{name_eq_itself}
 use Rattle.zone_map.specs.Zones.{Sets, set_at, owns}
 use Rattle.zone_map.specs.Search.{is_delegated, is_delegated_for, referral_at, referral, exact, direct}
-use Rattle.zone_map.specs.Wildcards.{is_starred}
 use Rattle.zone_map.specs.Walks.{referral_above, own_referral}
 use Rattle.zone_map.proofs.Delegations.{find_same, suffix_length, shorter_differs, others_count, and_true}
 
@@ -76,12 +73,3 @@ direct_above m n t r e h =
     direct_split m n t
     ∙ ap (λ o. option_or (unwrap_or o (referral_above m (drop 1 n))) (exact m n t)) e
     ∙ ap (λ p. option_or p (exact m n t)) h
-
--- the tests of the root and of a starred name
-pub neither_test : (n : Name) → (n ≡ [] → ⊥) → (IsWildcard n → ⊥) → is_root n || is_starred n ≡ false
-neither_test [] h k = absurd (h refl)
-neither_test (l ∷ n) h k = by (label_eq l star_label) refl
-  where
-    by : (b : Bool) → label_eq l star_label ≡ b → b ≡ false
-    by true e = absurd (k (n, ap (λ x. x ∷ n) ((bytes_eq-Decides l star_label).0 e)))
-    by false e = refl

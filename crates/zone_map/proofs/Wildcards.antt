@@ -1,5 +1,5 @@
 -- The star that is asked is that of the closest encloser
-use Rattle.std.proofs.Common.{◌≡◌, ◌||◌, Bool, true, false, cond, [], ◌∷◌, refl, sym, ap, ◌∙◌, true≢false, IsTrue, IsFalse}
+use Rattle.std.proofs.Common.{◌≡◌, ◌||◌, Bool, true, false, cond, [], ◌∷◌, refl, sym, ap, ◌∙◌}
 use Rattle.std.specs.Prelude.{Option, Some, None, find, option_map}
 use Rattle.zone_proto.specs.Names.{Name, IsAbove, IsAtOrAbove, is_root, suffixes}
 use Rattle.zone_map.specs.Zones.{Sets}

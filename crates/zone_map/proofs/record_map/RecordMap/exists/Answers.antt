@@ -1,4 +1,4 @@
-use Rattle.std.proofs.Common.{◌≡◌, sym, ◌∙◌, true≢false}
+use Rattle.std.proofs.Common.{sym, ◌∙◌, true≢false}
 use Rattle.zone_map.proofs.ExistingNames.{denial_passed, shown_there, none_shown, none_left, whole_exists}
 use Rattle.zone_map.proofs.record_map.RecordMap.exists.Goals as goal
 
