@@ -22,9 +22,14 @@
 //! Each transcript is run on reads of any length, of seven octets and of one. It is also broken off by a read that fails
 //! before and within each of its first lines, and, on reads of one line each, by a write that fails at each of its first
 //! answers. In each run the answers to lines that were read together have to come in one write, unless they are long.
+//!
+//! One that has the line `! memory is refused to each line` is also run with no memory left while one line is carried out,
+//! and then with a little more each time, until that line is served; so it is done with each line that is answered. Each
+//! refusal has to be answered by `refused Memory` or `error Memory`, and the lines after it as if the line hadn't been there.
 #![tactic(auto)]
 
 mod difference;
+mod drought;
 mod marks;
 mod report;
 mod streams;

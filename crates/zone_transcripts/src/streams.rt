@@ -1,6 +1,6 @@
 //! A reader and a writer in memory that fail when they are told to.
 
-use std::alloc::Global;
+use std::alloc::{AllocError, Global};
 use std::io;
 use std::io::{Read, Write};
 
@@ -68,6 +68,13 @@ impl Capture {
             failed: false,
             good_writes,
         }
+    }
+
+    /// Fails no write, and has room for so many octets from the start.
+    pub fn with_room(alloc: Global, room: usize) -> Result<Capture, AllocError> {
+        let mut capture = Capture::new(alloc, usize::MAX);
+        capture.got = Vec::with_capacity(alloc, room)?;
+        Ok(capture)
     }
 }
 

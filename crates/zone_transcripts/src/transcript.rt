@@ -33,6 +33,8 @@ pub struct Transcript {
     pub line_ends: Vec<LineEnd>,
     pub status: u8,
     pub fault: Vec<u8>,
+    /// Whether it is also run with memory refused to each of its lines.
+    pub is_refused_memory: bool,
     lacks_last_line_feed: bool,
 }
 
@@ -46,6 +48,7 @@ impl Transcript {
             line_ends: Vec::new(alloc),
             status: 0,
             fault: Vec::new(alloc),
+            is_refused_memory: false,
             lacks_last_line_feed: false,
         };
         for (i, line) in text.lines().enumerate() {
@@ -105,6 +108,10 @@ impl Transcript {
         }
         if ending == "no last line feed" {
             self.lacks_last_line_feed = true;
+            return Ok(true);
+        }
+        if ending == "memory is refused to each line" {
+            self.is_refused_memory = true;
             return Ok(true);
         }
         match ending.strip_prefix("status ") {

@@ -1,6 +1,7 @@
 //! Runs of the program that a transcript is compared with.
 
 use crate::difference::{Ending, first_difference};
+use crate::drought::try_refusals;
 use crate::streams::{Capture, Feed, Portion};
 use crate::transcript::Transcript;
 use std::alloc::{AllocError, Global};
@@ -27,7 +28,13 @@ pub fn try_all(alloc: Global, transcript: &Transcript) -> Result<Option<String>,
     if let Some(told) = try_failing_reads(alloc, transcript)? {
         return Ok(Some(told));
     }
-    try_failing_writes(alloc, transcript)
+    if let Some(told) = try_failing_writes(alloc, transcript)? {
+        return Ok(Some(told));
+    }
+    if transcript.is_refused_memory {
+        return try_refusals(alloc, transcript);
+    }
+    Ok(None)
 }
 
 /// Runs a transcript on reads of at most `step` octets.
