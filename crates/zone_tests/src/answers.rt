@@ -152,8 +152,11 @@ fn a_response_lists_its_sections(rt: HostRuntime) -> Result<(), Fail> {
         authorities,
         additionals: list(alloc, 3)?,
     };
+    let scarce = Scarcity::of_all(alloc);
+    let is_scarce = scarce.is_ok();
     let holds = is_response_taken_apart(message);
-    assert!(rt; holds);
+    drop(scarce);
+    assert!(rt; is_scarce && holds);
     Ok(())
 }
 
@@ -174,21 +177,23 @@ fn negative(alloc: Global, response_code: ResponseCode) -> Result<LookupError, P
 }
 
 /// Whether an error denies the name, whether it found no records, how many authority records it has, and the serial of its
-/// SOA.
-fn parts_of(error: LookupError) -> (bool, bool, Option<usize>, Option<u32>) {
-    let denies = error.is_nx_domain();
+/// SOA. All of it is told with every growth refused.
+fn parts_of(alloc: Global, error: LookupError) -> (bool, bool, Option<usize>, Option<u32>) {
+    let scarce = Scarcity::of_all(alloc);
+    let denies = error.is_nx_domain() && scarce.is_ok();
     let finds_none = error.is_no_records_found();
     let authorities = error.authorities().map(|list| list.len());
     let serial = error.into_soa().map(|soa| soa.soa.serial);
+    drop(scarce);
     (denies, finds_none, authorities, serial)
 }
 
 #[test]
 fn negative_responses_give_up_what_they_hold(rt: HostRuntime) -> Result<(), Fail> {
     let alloc = rt.alloc();
-    let denial = parts_of(negative(alloc, ResponseCode::NXDomain)?);
-    let nothing = parts_of(negative(alloc, ResponseCode::NoError)?);
-    let code = parts_of(LookupError::from(ResponseCode::NXDomain));
+    let denial = parts_of(alloc, negative(alloc, ResponseCode::NXDomain)?);
+    let nothing = parts_of(alloc, negative(alloc, ResponseCode::NoError)?);
+    let code = parts_of(alloc, LookupError::from(ResponseCode::NXDomain));
     assert!(rt; denial == (true, true, Some(1), Some(1)));
     assert!(rt; nothing == (false, true, Some(1), Some(1)));
     assert!(rt; code == (true, false, None, None));
@@ -218,21 +223,32 @@ fn gives_up_an_error() -> bool {
 
 #[test]
 fn steps_give_up_what_they_hold(rt: HostRuntime) -> Result<(), Fail> {
-    let holds = gives_up_an_answer(signed_set(rt.alloc(), 1, 2)?) && gives_up_an_error();
-    assert!(rt; holds);
+    let alloc = rt.alloc();
+    let set = signed_set(alloc, 1, 2)?;
+    let scarce = Scarcity::of_all(alloc);
+    let is_scarce = scarce.is_ok();
+    let hold = gives_up_an_answer(set) && gives_up_an_error();
+    drop(scarce);
+    assert!(rt; is_scarce && hold);
     Ok(())
 }
 
 #[test]
 fn defaults_are_empty_and_plain(rt: HostRuntime) {
+    let scarce = Scarcity::of_all(rt.alloc());
+    let is_scarce = scarce.is_ok();
     let are_empty = AuthLookup::default().is_empty() && LookupRecords::default().was_empty();
     let lend_nothing = AuthLookupIter::default().next().is_none()
         && LookupRecordsIter::default().next().is_none();
-    assert!(rt; are_empty && lend_nothing && !LookupOptions::default().dnssec_ok);
+    let is_plain = !LookupOptions::default().dnssec_ok;
+    drop(scarce);
+    assert!(rt; is_scarce && are_empty && lend_nothing && is_plain);
 }
 
 #[test]
 fn options_are_those_of_the_do_bit(rt: HostRuntime) {
+    let scarce = Scarcity::of_all(rt.alloc());
+    let is_scarce = scarce.is_ok();
     let asks = Edns {
         flags: EdnsFlags { dnssec_ok: true },
     };
@@ -242,5 +258,6 @@ fn options_are_those_of_the_do_bit(rt: HostRuntime) {
     let options = LookupOptions::from_edns(Some(&asks));
     let others = LookupOptions::from_edns(Some(&asks_not));
     let without = LookupOptions::from_edns(None);
-    assert!(rt; options.dnssec_ok && !others.dnssec_ok && !without.dnssec_ok);
+    drop(scarce);
+    assert!(rt; is_scarce && options.dnssec_ok && !others.dnssec_ok && !without.dnssec_ok);
 }

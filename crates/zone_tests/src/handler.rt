@@ -3,6 +3,7 @@ ghost use Rattle.std.specs.Prelude.{◌≡◌, true, false};
 ghost use Rattle.zone_proto.specs.Types.{AXFR};
 ghost use Rattle.zone_handler.specs.Transfers.{IsNoLookup};
 
+use scarce::Scarcity;
 use std::alloc::Global;
 use zone_handler::{
     AuthLookup, AxfrPolicy, LookupControlFlow, LookupError, LookupOptions, NetError,
@@ -207,6 +208,8 @@ fn is_name_exists(step: LookupControlFlow<AuthLookup>) -> bool {
 #[test]
 fn handler_answers_through_its_trait(rt: HostRuntime) {
     let alloc = rt.alloc();
+    let scarce = Scarcity::of_all(alloc);
+    let is_scarce = scarce.is_ok();
     let zone = Parked::new(alloc);
     let query = make_query(alloc, RecordType::A);
     let transfer = make_query(alloc, RecordType::AXFR);
@@ -217,13 +220,16 @@ fn handler_answers_through_its_trait(rt: HostRuntime) {
     let is_mapped = matches!(step, LookupControlFlow::Continue(Err(false)));
     let is_empty = at_origin(&zone, &query).unwrap_or_default().is_empty();
     let is_broken_off = at_origin(&zone, &transfer).is_break();
-    assert!(rt; is_type && is_policy && AxfrPolicy::default() == AxfrPolicy::Deny);
+    drop(scarce);
+    assert!(rt; is_scarce && is_type && is_policy && AxfrPolicy::default() == AxfrPolicy::Deny);
     assert!(rt; is_kept && is_mapped && is_empty && is_broken_off);
 }
 
 #[test]
 fn handler_has_the_calls_that_it_leaves_to_its_trait(rt: HostRuntime) {
     let alloc = rt.alloc();
+    let scarce = Scarcity::of_all(alloc);
+    let is_scarce = scarce.is_ok();
     let mut zone = Parked::new(alloc);
     let request = Request {
         queries: Vec::new(alloc),
@@ -233,7 +239,8 @@ fn handler_has_the_calls_that_it_leaves_to_its_trait(rt: HostRuntime) {
     let is_final = consulted(alloc, &zone, LookupControlFlow::Skip).is_break();
     let last = LookupControlFlow::Continue(Ok(AuthLookup::Empty));
     let is_handed_on = consulted(alloc, &zone, last).is_continue();
-    assert!(rt; !zone.can_validate_dnssec() && is_refused);
+    drop(scarce);
+    assert!(rt; is_scarce && !zone.can_validate_dnssec() && is_refused);
     assert!(rt; is_broken_off && is_final && is_handed_on);
 }
 

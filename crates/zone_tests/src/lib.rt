@@ -27,4 +27,6 @@ mod texts;
 #[cfg(test)]
 mod transfers;
 #[cfg(test)]
+mod without_memory;
+#[cfg(test)]
 mod zones;

@@ -25,7 +25,7 @@ impl Desk {
     fn new(alloc: Global) -> Result<Desk, AllocError> {
         Ok(Desk {
             args: vec![in alloc; String::from_str(alloc, "example.com.")?]?,
-            output: Capture::with_capacity(alloc, 16_384)?,
+            output: Capture::with_capacity(alloc, 32_768)?,
             fault: Capture::with_capacity(alloc, 4_096)?,
         })
     }
@@ -255,22 +255,29 @@ example.com. 300 IN NSEC names-of-more-than-32-octets.example.com. SOA RRSIG NSE
 names-of-more-than-32-octets.example.com. 300 IN NSEC example.com. A RRSIG NSEC
 ";
 
-/// Runs the program with ever more room for a denial, until it is answered: how often memory was refused to it; none where a
-/// run ended otherwise.
-fn refusals_of_a_denial(alloc: Global, desk: &mut Desk) -> Option<usize> {
-    for refused in 0..ROOMS {
+/// Runs the program on three texts, with ever more room while it has the second, until it writes what is wanted: how often
+/// memory was refused to it; none where a run ended otherwise.
+fn refusals_between(
+    alloc: Global,
+    desk: &mut Desk,
+    step: usize,
+    texts: [&[u8]; 3],
+    refused: &[u8],
+    served: &[u8],
+) -> Option<usize> {
+    for refusals in 0..ROOMS {
         let mut drought = Drought {
             alloc,
-            room: refused.saturating_mul(STEP),
-            texts: [SECURED, DENIED, DENIED_AGAIN],
+            room: refusals.saturating_mul(step),
+            texts,
             given: 0,
             scarce: None,
         };
         let is_served = desk.run(alloc, &mut drought) == 0 && desk.complained(b"");
-        if is_served && desk.wrote(PROVED) {
-            return Some(refused);
+        if is_served && desk.wrote(served) {
+            return Some(refusals);
         }
-        if !is_served || !desk.wrote(REFUSED) {
+        if !is_served || !desk.wrote(refused) {
             return None;
         }
     }
@@ -283,7 +290,87 @@ fn refusals_of_a_denial(alloc: Global, desk: &mut Desk) -> Option<usize> {
 fn memory_is_refused_to_a_denial(rt: HostRuntime) -> Result<(), Fail> {
     let alloc = rt.alloc();
     let mut desk = Desk::new(alloc)?;
-    let refused = refusals_of_a_denial(alloc, &mut desk);
-    assert!(rt; refused.is_some_and(|refused| refused > 2));
+    let texts = [SECURED, DENIED, DENIED_AGAIN];
+    let refusals = refusals_between(alloc, &mut desk, STEP, texts, REFUSED, PROVED);
+    assert!(rt; refusals.is_some_and(|refusals| refusals > 2));
+    Ok(())
+}
+
+/// The first and last labels of names whose texts have more than 8,192 octets in all.
+const OWNERS: &[u8] = b"abcdefghijk";
+
+/// A circle of their owners, and a line that takes no memory.
+const LISTED: &[u8] = b"circle
+lookup z.example.com. A
+";
+
+const LISTED_AGAIN: &[u8] = b"circle
+";
+
+/// Writes a name of three labels of 63 octets, and more above them. In texts each octet may have several.
+fn write_owner(text: &mut Vec<u8>, octet: &[u8], above: u8) -> Result<(), AllocError> {
+    for _ in 0..3 {
+        for _ in 0..63 {
+            text.extend_from_slice(octet)?;
+        }
+        text.push(b'.')?;
+    }
+    text.push(above)?;
+    text.extend_from_slice(b".example.com.")
+}
+
+/// A zone of these names that is secured.
+fn wide_zone(alloc: Global) -> Result<Vec<u8>, AllocError> {
+    let mut input = Vec::with_capacity(alloc, 8_192)?;
+    input.extend_from_slice(b"kind nsec\n")?;
+    for above in OWNERS {
+        input.extend_from_slice(b"add ")?;
+        write_owner(&mut input, b"@", *above)?;
+        input.extend_from_slice(b" 60 A 192.0.2.1\n")?;
+    }
+    input.extend_from_slice(b"key 7\nsecure 1000\n")?;
+    Ok(input)
+}
+
+/// Writes what answers to `circle`: an octet that isn't a letter, a digit, `-`, `_` or `*` is written by its number.
+fn write_circle(text: &mut Vec<u8>) -> Result<(), AllocError> {
+    text.extend_from_slice(b"circle 12\nexample.com.\n")?;
+    for above in OWNERS {
+        write_owner(text, b"\\064", *above)?;
+        text.push(b'\n')?;
+    }
+    Ok(())
+}
+
+/// What the program writes, where memory is refused to the first circle, or isn't.
+fn wide_answers(alloc: Global, is_refused: bool) -> Result<Vec<u8>, AllocError> {
+    let mut output = Vec::with_capacity(alloc, 32_768)?;
+    output.extend_from_slice(b"ok\n")?;
+    for _ in OWNERS {
+        output.extend_from_slice(b"yes\n")?;
+    }
+    output.extend_from_slice(b"ok\nok 0\n")?;
+    if is_refused {
+        output.extend_from_slice(b"error Memory\n")?;
+    } else {
+        write_circle(&mut output)?;
+    }
+    output.extend_from_slice(b"error NXDomain\n")?;
+    write_circle(&mut output)?;
+    Ok(output)
+}
+
+/// A circle whose text has more octets than there is room for from the start needs memory for it. Where that is refused, the
+/// answer is that alone, nothing of the list stands, and the lines after it are served.
+#[test]
+fn memory_is_refused_to_the_text_of_a_circle(rt: HostRuntime) -> Result<(), Fail> {
+    let alloc = rt.alloc();
+    let zone = wide_zone(alloc)?;
+    let (refused, served) = (wide_answers(alloc, true)?, wide_answers(alloc, false)?);
+    let mut desk = Desk::new(alloc)?;
+    let texts = [zone.as_slice(), LISTED, LISTED_AGAIN];
+    let (refused, served) = (refused.as_slice(), served.as_slice());
+    let refusals = refusals_between(alloc, &mut desk, 4_096, texts, refused, served);
+    assert!(rt; refusals.is_some_and(|refusals| refusals > 1));
     Ok(())
 }

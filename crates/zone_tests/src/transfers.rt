@@ -5,7 +5,7 @@ use scarce::Scarcity;
 use std::alloc::Global;
 use std::test::Fail;
 use zone_handler::{AxfrRecords, LookupOptions, LookupRecords, ZoneTransfer};
-use zone_proto::{Name, RecordSet, RecordType};
+use zone_proto::{Name, Record, RecordSet, RecordType};
 
 /// Two signed sets, with an SOA between them.
 fn sets(alloc: Global) -> Result<Vec<RecordSet>, Fail> {
@@ -19,7 +19,7 @@ fn sets(alloc: Global) -> Result<Vec<RecordSet>, Fail> {
 /// Whether a transfer lends records of these marks, and then nothing again and again.
 fn lends(transfer: &ZoneTransfer, wanted: &[u8]) -> bool {
     let mut left = wanted.iter();
-    let mut records = transfer.iter();
+    let mut records = transfer.into_iter();
     for record in records.by_ref() {
         if left.next().copied() != Some(mark(record)) {
             return false;
@@ -55,20 +55,25 @@ fn a_transfer_lends_its_parts_and_takes_no_memory(rt: HostRuntime) -> Result<(),
     Ok(())
 }
 
-/// Whether sets without records, and no sets, lend nothing.
-fn lend_nothing(empty: RecordSet, none: Vec<RecordSet>) -> bool {
+/// Whether sets without records, no sets and no records lend nothing.
+fn lend_nothing(empty: RecordSet, none: Vec<RecordSet>, no_records: Vec<Record>) -> bool {
+    let records = AxfrRecords::of_records(no_records);
+    let is_empty = (&records).into_iter().next().is_none();
     let transfer = ZoneTransfer {
         start_soa: LookupRecords::new(LookupOptions::default(), empty),
         records: AxfrRecords::new(true, none),
         end_soa: LookupRecords::Empty,
     };
-    transfer.start_soa.was_empty() && lends(&transfer, &[])
+    is_empty && transfer.start_soa.was_empty() && lends(&transfer, &[])
 }
 
 #[test]
 fn a_transfer_may_have_empty_parts(rt: HostRuntime) {
     let alloc = rt.alloc();
+    let scarce = Scarcity::of_all(alloc);
+    let is_scarce = scarce.is_ok();
     let empty = RecordSet::new(Name::root(alloc), RecordType::TXT, 0);
-    let holds = lend_nothing(empty, Vec::new(alloc));
-    assert!(rt; holds);
+    let holds = lend_nothing(empty, Vec::new(alloc), Vec::new(alloc));
+    drop(scarce);
+    assert!(rt; is_scarce && holds);
 }

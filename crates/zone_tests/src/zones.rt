@@ -1,6 +1,7 @@
 //! A zone made of a thousand sets, a map of records by itself, and a set that a search makes.
 
 use crate::records::soa_set;
+use scarce::Scarcity;
 use std::alloc::Global;
 use std::collections::BTreeMap;
 use std::test::Fail;
@@ -160,7 +161,10 @@ fn is_handed_out(made: RecordSet) -> bool {
 
 #[test]
 fn a_made_set_is_handed_out(rt: HostRuntime) {
-    let made = RecordSet::new(Name::root(rt.alloc()), RecordType::A, 7);
-    let holds = is_handed_out(made);
-    assert!(rt; holds);
+    let alloc = rt.alloc();
+    let scarce = Scarcity::of_all(alloc);
+    let is_scarce = scarce.is_ok();
+    let holds = is_handed_out(RecordSet::new(Name::root(alloc), RecordType::A, 7));
+    drop(scarce);
+    assert!(rt; is_scarce && holds);
 }

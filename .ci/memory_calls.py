@@ -1,0 +1,99 @@
+#!/usr/bin/env python3
+"""Checks the lists of public calls that take memory and of those that take none, docs/calls-with-memory.txt and
+docs/calls-without-memory.txt.
+
+A line there is `CALL: ROW`, `CALL: test NAME` or `CALL: transcript NAME`, as the heads of the lists say. Each public call has to
+stand in one of the lists, and once, and what a line names has to be there: a row of crates/zone_calls/data that refuses memory
+to the call, a test of crates/zone_tests, or a transcript of crates/zone_transcripts that refuses memory to its lines.
+Prints what is wrong, and ends with status 1 where something is.
+"""
+import glob
+import os
+import re
+import sys
+
+TOP = os.path.dirname(os.path.dirname(os.path.realpath(__file__)))
+
+# The crates whose items all are the library's, and those of which zone_store hands items on.
+OWN = ["zone_proto", "zone_text", "zone_handler"]
+HANDED_ON = ["zone_map", "zone_search", "zone_in_memory", "zone_program"]
+
+# The calls that a type has by these traits are listed too; those of the library's own traits stand under the trait.
+TRAITS = ["Clone", "Default", "From", "IntoIterator", "Iterator", "Ord", "PartialEq", "PartialOrd"]
+
+# The lists, and how a row of each refuses memory to its call.
+LISTS = [("calls-with-memory.txt", r"after [1-9]\d* refusals: "), ("calls-without-memory.txt", "without memory: ")]
+
+
+def read(path):
+    with open(f"{TOP}/{path}", encoding="utf-8") as it:
+        return it.read()
+
+
+def texts(pattern):
+    return [read(it) for it in sorted(glob.glob(pattern, root_dir=TOP, recursive=True))]
+
+
+def offered(crate):
+    """The names of the items that a crate hands out."""
+    uses = re.findall(r"pub use [\w:]*?(\{[^}]*\}|\w+);", read(f"crates/{crate}/src/lib.rt"))
+    return {name for use in uses for name in re.findall(r"\w+", use)}
+
+
+def calls_in(text, items):
+    """The public calls of these items in a source, as `Type::call`, `Trait::call` or `call`."""
+    owner, are_public = "", False
+    # What is hidden from the library's documents is for the crates above.
+    for line in re.sub(r"#\[doc\(hidden\)\]\nimpl.*?\n}\n", "", text, flags=re.S).split("\n"):
+        if head := re.match(r"(pub trait|impl)(?:<.*?>)? (?:(\w+)(?:<.*>)? for )?&?(?:'\w+ )?(\w+)", line):
+            owner, are_public = head[3] + "::", head[1] == "pub trait" or head[2] in TRAITS
+        elif line == "}":
+            owner, are_public = "", False
+        elif call := re.match(r"(?:    )?(pub )?(?:const )?fn (\w+)", line):
+            if (call[1] or are_public) and (owner.removesuffix("::") or call[2]) in items:
+                yield owner + call[2]
+
+
+def public_calls():
+    calls = set()
+    for crate in OWN + HANDED_ON:
+        items = offered(crate if crate in OWN else "zone_store")
+        calls.update(*(calls_in(text, items) for text in texts(f"crates/{crate}/src/**/*.rt")))
+    return calls
+
+
+def listed(name):
+    """The lines of a list: each call, and where its growths are refused."""
+    lines = [it for it in read(f"docs/{name}").split("\n") if it and not it.startswith("#")]
+    return [tuple(it.split(": ", 1)) for it in lines]
+
+
+def named():
+    """The tests of files in which memory is refused, and the transcripts that refuse memory to their lines, as the lists name them."""
+    scarce = [it for it in texts("crates/zone_tests/src/*.rt") if "use scarce::Scarcity;" in it]
+    tests = re.findall(r"#\[test\]\nfn (\w+)", "\n".join(scarce))
+    form = r"^## (\w+)\n(?:[#$].*\n)*! memory is refused to each line$"
+    transcripts = re.findall(form, "\n".join(texts("crates/zone_transcripts/data/*")), re.M)
+    return {f"test {it}" for it in tests} | {f"transcript {it}" for it in transcripts}
+
+
+def main():
+    rows, others = "\n".join(texts("crates/zone_calls/data/*")), named()
+    seen, wrong = set(), []
+    for name, form in LISTS:
+        for call, where in listed(name):
+            if call in seen:
+                wrong.append(f"{call} is listed twice")
+            seen.add(call)
+            if where not in others and not re.search(f"^{form}{re.escape(where)} ", rows, re.M):
+                wrong.append(f"docs/{name}: {call}: nothing refuses memory to '{where}'")
+    public = public_calls()
+    wrong += [f"{it} is a public call, and in no list of docs/" for it in sorted(public - seen)]
+    wrong += [f"{it} is listed, and is no public call" for it in sorted(seen - public)]
+    for it in wrong:
+        print(f"memory_calls: {it}")
+    return 1 if wrong else 0
+
+
+if __name__ == "__main__":
+    sys.exit(main())
