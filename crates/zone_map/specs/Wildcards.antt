@@ -5,7 +5,7 @@ use Rattle.std.specs.Map.{keys_of}
 use Rattle.std.specs.Option.{option_or, option_map_or}
 use Rattle.zone_proto.specs.declared.record.Record.{Record}
 use Rattle.zone_proto.specs.Names.{Name, label_eq, same_name, is_at_or_above, is_root, star_label, suffixes}
-use Rattle.zone_proto.specs.Sets.{RRset}
+use Rattle.zone_proto.specs.Sets.{RRset, record_under}
 use Rattle.zone_proto.specs.Types.{IN}
 use Rattle.zone_map.specs.Zones.{Sets}
 use Rattle.zone_map.specs.Upserts.{is_denial_type}
@@ -29,10 +29,6 @@ abbrev pub is_starred : Name → Bool
 is_starred [] = false
 is_starred (l ∷ ls) = label_eq l star_label
 
--- a record of a star's set under the queried name: of class IN and the set's TTL, and of the same data
-abbrev pub renamed_record : Name → ℕ → Record → Record
-renamed_record n ttl r = record { name = n; dns_class = record { 0 = IN }; ttl = ttl; rdata = r.rdata }
-
 -- a signature of a star's set: one that the star owns is owned by the queried name then, and any other stays as it is
 abbrev pub renamed_signature : Name → Name → Record → Record
 renamed_signature star n r = cond (same_name r.name star) (record r { name = n }) r
@@ -45,7 +41,7 @@ renamed signed star n s = record {
   class = IN;
   ttl = s.ttl;
   serial = 0;
-  records = map (renamed_record n s.ttl) s.records;
+  records = map (record_under n s.ttl) s.records;
   signatures = cond signed (map (renamed_signature star n) s.signatures) [];
 }
 

@@ -11,13 +11,13 @@ use Rattle.zone_proto.specs.declared.rr_key.RrKey.{RrKey}
 use Rattle.zone_proto.specs.Data.{type_of}
 use Rattle.zone_proto.specs.Keys.{key}
 use Rattle.zone_proto.specs.Names.{Name, name_eq}
-use Rattle.zone_proto.specs.Sets.{RRset}
+use Rattle.zone_proto.specs.Sets.{RRset, record_under}
 use Rattle.zone_proto.specs.Types.{A, NS, CNAME, SOA, MX, AAAA, SRV, ANAME}
 use Rattle.zone_proto.proofs.Members.{In, In-filter_map, In-map, any_from_In}
 use Rattle.zone_proto.proofs.NameTree.{name_eq-Decides}
 use Rattle.zone_map.specs.Zones.{Sets, set_at, owns, IsZone}
 use Rattle.zone_map.specs.Search.{direct, referral, nearest_delegation, exact, least_owned, types_for}
-use Rattle.zone_map.specs.Wildcards.{found, wildcard, asked_star, renamed, renamed_record}
+use Rattle.zone_map.specs.Wildcards.{found, wildcard, asked_star, renamed}
 use Rattle.zone_map.specs.Chains.{alias_target, first_target}
 use Rattle.zone_search.specs.Additionals.{followed, first_data, next_name, run_target, names_host, run_types, leads_to, alias_sets}
 use Rattle.zone_map.proofs.Owned.{has_entry}
@@ -56,7 +56,7 @@ module _ (m : Sets) where
           (a.0, NS, s, unless (owns m a.0 SOA) (set_at m a.0 NS) s a.2, refl)
       by (inr r) = let a = from_and_then (set_at m n) (least_owned m n (types_for t)) s r in (n, a.0, s, a.2, refl)
 
-  kept : (n : Name) (ttl : ℕ) (rs : List Record) → first_data rs ≡ first_data (map (renamed_record n ttl) rs)
+  kept : (n : Name) (ttl : ℕ) (rs : List Record) → first_data rs ≡ first_data (map (record_under n ttl) rs)
   kept n ttl [] = refl
   kept n ttl (r ∷ rs) = refl
 

@@ -2,10 +2,9 @@
 use Rattle.std.specs.Prelude.{ℕ, Bool, ◌&&◌, not, ◌-◌, cond, List, [], ◌∷◌, map, min, length, ◌==◌, Option, slice_get}
 use Rattle.std.specs.Option.{option_map_or}
 use Rattle.zone_proto.specs.declared.record.Record.{Record}
-use Rattle.zone_proto.specs.Sets.{RRset}
+use Rattle.zone_proto.specs.Sets.{RRset, record_under}
 use Rattle.zone_proto.specs.Types.{IN, ANAME}
 use Rattle.zone_map.specs.Search.{is_address}
-use Rattle.zone_map.specs.Wildcards.{renamed_record}
 
 -- the last set of a list
 abbrev pub last_set : List RRset → Option RRset
@@ -27,7 +26,7 @@ unsigned_flattened aname t last = record {
   class = IN;
   ttl = flattened_ttl aname last;
   serial = 0;
-  records = cond (last.record_type == t) (map (renamed_record aname.owner (flattened_ttl aname last)) last.records) [];
+  records = cond (last.record_type == t) (map (record_under aname.owner (flattened_ttl aname last)) last.records) [];
   signatures = [];
 }
 

@@ -3,9 +3,8 @@ use Rattle.std.specs.Prelude.{IfOk}
 use Rattle.zone_proto.specs.declared.error.ProtoError.{ProtoError}
 use Rattle.zone_proto.specs.Names.{Name}
 use Rattle.zone_proto.specs.Results.{IsCopy}
-use Rattle.zone_proto.specs.Sets.{RRset, set_under}
+use Rattle.zone_proto.specs.Sets.{RRset, record_under, set_under}
 use Rattle.zone_proto.specs.Types.{IN}
-use Rattle.zone_map.specs.Wildcards.{renamed_record}
 use Rattle.zone_search.specs.Flattening.{flattened_ttl, unsigned_flattened}
 use Rattle.zone_search.proofs.flattening.unsigned_flattened.Goals as goal
 
@@ -17,7 +16,7 @@ module _ (aname : RRset) (t : ℕ) (last : RRset) (o : Name) (ttl : ℕ) where
     class = IN;
     ttl = least i;
     serial = 0;
-    records = cond (sym same i) (map (renamed_record (owner i) (least i)) last.records) [];
+    records = cond (sym same i) (map (record_under (owner i) (least i)) last.records) [];
     signatures = [];
   }
 
@@ -36,7 +35,7 @@ module _ (aname : RRset) (t : ℕ) (last : RRset) (o : Name) (ttl : ℕ) where
     class = IN;
     ttl = least i;
     serial = 0;
-    records = cond (sym other i) (map (renamed_record (owner i) (least i)) last.records) [];
+    records = cond (sym other i) (map (record_under (owner i) (least i)) last.records) [];
     signatures = [];
   })
 
