@@ -15,6 +15,9 @@ pub mod NsecStar
 pub mod CircleReads
 pub mod NsecLists
 pub mod NsecBelow
+pub mod LongestAncestors
+pub mod ExistingAncestors
+pub mod NsecAskedStar
 pub mod NsecSecured
 mod NsecExamples
 mod NsecPremises
@@ -27,6 +30,7 @@ pub mod CircleSets
 mod Nsec3Examples
 mod Nsec3SetExamples
 mod Nsec3Premises
+mod StarExamples
 pub mod Nsec3NameLaws
 pub mod Nsec3TypeLaws
 pub mod CoveringPairs
@@ -35,6 +39,7 @@ pub mod Nsec3Owners
 pub mod Nsec3Covers
 pub mod Nsec3Encloses
 pub mod Nsec3Star
+pub mod Nsec3AskedStar
 pub mod Nsec3Lists
 pub mod CircleImages
 pub mod AllPassing

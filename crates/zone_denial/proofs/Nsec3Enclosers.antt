@@ -1,5 +1,5 @@
 -- The closest encloser of a name of the zone that isn't on the circle of NSEC3 sets, and the next closer name
-use Rattle.std.proofs.Common.{◌≡◌, ◌≢◌, ◌<◌, suc, Bool, true, false, cond, not, List, [], ◌∷◌, ◌++◌, length, drop, refl, sym, ap, ◌∙◌, subst, true≢false, ◌⊎◌, inl, inr, arith, eqb-true, eq-eqb, ◌==◌}
+use Rattle.std.proofs.Common.{◌≡◌, ◌≢◌, suc, Bool, true, false, cond, not, List, [], ◌∷◌, ◌++◌, length, refl, sym, ap, ◌∙◌, subst, true≢false, ◌⊎◌, inl, inr, arith, eqb-true, eq-eqb, ◌==◌}
 use Rattle.std.specs.Prelude.{Option, Some, None, Result, Ok, find, filter}
 use Rattle.std.specs.List.{list_any}
 use Rattle.std.proofs.lemmas.List.{length-append}
@@ -9,10 +9,11 @@ use Rattle.zone_proto.proofs.NameTree.{name_eq-Decides, is_at_or_above_sound}
 use Rattle.zone_proto.proofs.Tree.{name_eq_itself, above_cases}
 use Rattle.zone_map.specs.Wildcards.{proper_ancestors}
 use Rattle.zone_map.specs.Zones.{Sets}
-use Rattle.zone_map.proofs.Delegations.{found_above, found_longest, none_found}
+use Rattle.zone_map.proofs.Delegations.{found_above, none_found}
 use Rattle.zone_denial.specs.Nsec3Denial.{closest_encloser, next_closer, find_tested, result_and_then}
 use Rattle.zone_denial.specs.Nsec3Names.{nsec3_names, IsNsec3Name}
 use Rattle.zone_denial.proofs.Nsec3NameLaws.{names_are_exact}
+use Rattle.zone_denial.proofs.LongestAncestors.{IsLongestAbove, longest_above}
 use Rattle.zone_denial.proofs.NsecBelow.{above_at, comparable}
 
 -- ---- the name one label longer than an ancestor
@@ -44,32 +45,6 @@ below_ancestor x a c (l, f, e) (g, q) h = by (comparable (l ∷ f) g a c (sym e 
     by (inr (k, r)) = absurd (omega (arith, h, ap length r ∙ length-append k c))
 
 -- ---- the longest proper ancestor that passes a test
-
-pub record IsLongestAbove (p : Name → Bool) (x a : Name) : Type 0 where
-  pub found : find p (proper_ancestors x) ≡ Some a
-  pub above : IsAbove a x
-  pub passes : p a ≡ true
-  pub longest : (b : Name) → IsAbove b x → length a < length b → p b ≡ false
-
-longest_above : (p : Name → Bool) (x o : Name) → IsAbove o x → p o ≡ true → (a : Name) × IsLongestAbove p x a
-longest_above p [] o (l, f, e) h = absurd cc
-longest_above p (l ∷ ls) o above h = by (find p (suffixes ls)) refl
-  where
-    parent : (b : Name) → IsAbove b (l ∷ ls) → IsAtOrAbove b ls
-    parent b (k, f, e) = (f, ap (drop 1) e)
-
-    by : (r : Option Name) → find p (suffixes ls) ≡ r → (a : Name) × IsLongestAbove p (l ∷ ls) a
-    by None e = absurd (true≢false (sym h ∙ none_found p ls e o (parent o above)))
-    by (Some a) e =
-        let r = found_above p ls a e in (
-          a,
-          record {
-            found = e;
-            above = (l, r.0.0, ap (λ n. l ∷ n) r.0.1);
-            passes = r.1;
-            longest = λ b u k. found_longest p ls a e b (parent b u) k;
-          },
-        )
 
 -- a test that may be refused finds it too, where it isn't refused for the names up to there, and the root doesn't pass
 module _ {E : Type 0} (test : Name → Result Bool E) (p : Name → Bool) (root : p [] ≡ false) where

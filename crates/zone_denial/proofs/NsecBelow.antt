@@ -32,7 +32,7 @@ no_next_below origin m h x inside none =
 pub above_at : (a n : Name) → IsAbove a n → IsAtOrAbove a n
 above_at a n (l, f, e) = (l ∷ f, e)
 
-above_through : (a b c : Name) → IsAtOrAbove a b → IsAtOrAbove b c → IsAtOrAbove a c
+pub above_through : (a b c : Name) → IsAtOrAbove a b → IsAtOrAbove b c → IsAtOrAbove a c
 above_through a b c (f, e) (g, q) = (g ++ f, q ∙ ap (λ w. g ++ w) e ∙ sym (append_assoc g f a))
 
 -- of two ancestors of one name one is at or above the other

@@ -18,4 +18,5 @@ pub mod HashedNames
 pub mod HashedOrder
 pub mod Nsec3Zones
 pub mod Nsec3Laws
+pub mod StarLaws
 pub mod Nsec3Lent

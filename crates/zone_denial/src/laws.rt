@@ -19,6 +19,7 @@ ghost use Rattle.zone_denial.specs.Nsec3Names.{nsec3_names, IsNsec3Name};
 ghost use Rattle.zone_denial.specs.TypeLists.{nsec_types};
 ghost use Rattle.zone_denial.specs.OwnersRead.{ReadsNoneAfter, CircleReadsOne};
 ghost use Rattle.zone_denial.specs.NsecLaws.{SecuredIsCircle, DenialFindsOrCovers, DenialProvesStar, CircleListsAllOwned, DenialsAgree, NoNextBelowAbsent, NextBelowEmpty};
+ghost use Rattle.zone_denial.specs.StarLaws.{EnclosersAgree, ProvedStarIsAsked, AbsentStarIsDenied, Nsec3EnclosersAgree, Nsec3ProvedStarIsAsked, Nsec3AbsentStarIsDenied};
 
 /// The types that the NSEC set of a name lists ascend, each stands there once, and they are exactly those that the name owns,
 /// RRSIG and NSEC (RFC 4034 section 4.1.2).
@@ -95,6 +96,21 @@ pub fn next_below_empty()
     ensures { NextBelowEmpty }
 {}
 
+/// Of a name below the origin with no zone cut above it, the closest encloser that its denial has is its longest ancestor that
+/// exists. So the star that the denial tells of is the one that is asked for the name, where one is: where the name neither
+/// begins with `*` nor exists (RFC 4592 section 3.3.1). That is so where no name owns NSEC3.
+pub fn enclosers_agree()
+    ensures encloser { EnclosersAgree }
+    ensures star { ProvedStarIsAsked }
+{}
+
+/// Of a name of the zone that doesn't begin with `*`, and where neither it nor a name below it owns a set nor the star that is
+/// asked for it exists, so that there is no such name, the denial tells that there is no star: the one under its closest
+/// encloser has no NSEC set, and a set of the denial covers it (RFC 4035 section 3.1.3.2). That is so where no name owns NSEC3.
+pub fn absent_star_is_denied()
+    ensures { AbsentStarIsDenied }
+{}
+
 /// A search for the closest NSEC set to a name reads no owner after the name: at most as many as there are owners of NSEC sets
 /// at or before it.
 #[tactic(auto, using(crate::proofs::CircleReads::none_after))]
@@ -147,4 +163,19 @@ pub fn nsec3_circle_lists_all_owned()
 /// sets that they sign and in no set of their own.
 pub fn nsec3_denials_agree()
     ensures { Nsec3DenialsAgree }
+{}
+
+/// The same as [`enclosers_agree`], of denials by NSEC3 without opt-out: of a name below the origin with no zone cut above it,
+/// the closest encloser is the longest ancestor that exists, and the star that is proved is the one that is asked. That is so
+/// where no name owns NSEC.
+pub fn nsec3_enclosers_agree()
+    ensures encloser { Nsec3EnclosersAgree }
+    ensures star { Nsec3ProvedStarIsAsked }
+{}
+
+/// The same as [`absent_star_is_denied`], of denials by NSEC3 without opt-out: of a name of which there is no such name, the
+/// star under the closest encloser isn't on the circle, and a set of the denial covers it (RFC 5155 section 7.2.2). That is so
+/// where no name owns NSEC, and the hash tells the names on the circle and those that the denial asks of apart.
+pub fn nsec3_absent_star_is_denied()
+    ensures { Nsec3AbsentStarIsDenied }
 {}

@@ -1,0 +1,8 @@
+use Rattle.zone_denial.proofs.NsecAskedStar.{enclosers_agree, proved_star_is_asked}
+use Rattle.zone_denial.proofs.laws.enclosers_agree.Goals as goal
+
+pub returns-clause-encloser : goal.returns-clause-encloser
+returns-clause-encloser c = enclosers_agree
+
+pub returns-clause-star : goal.returns-clause-star
+returns-clause-star c = proved_star_is_asked

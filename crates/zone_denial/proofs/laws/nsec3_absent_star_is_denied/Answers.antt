@@ -1,0 +1,5 @@
+use Rattle.zone_denial.proofs.Nsec3AskedStar.{absent_star_is_denied}
+use Rattle.zone_denial.proofs.laws.nsec3_absent_star_is_denied.Goals as goal
+
+pub returns : goal.returns
+returns c = absent_star_is_denied
