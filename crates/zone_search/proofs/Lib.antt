@@ -9,6 +9,7 @@ pub mod SeenNames
 pub mod ListedSets
 pub mod SecuredRecords
 pub mod Replies
+pub mod DeniedReplies
 pub mod Examples
 pub mod SearchExamples
 pub mod AdditionalExamples

@@ -8,4 +8,5 @@ pub mod Additionals
 pub mod AdditionalLaws
 pub mod Flattening
 pub mod Replies
+pub mod ReplyLaws
 pub mod Securing

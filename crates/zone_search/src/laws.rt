@@ -1,6 +1,14 @@
-//! Laws of the definitions of additional records. Each is an empty function whose contract is the law, so a program has no
-//! need to call one.
+//! Laws of the definitions of replies and of additional records. Each is an empty function whose contract is the law, so a
+//! program has no need to call one.
 ghost use Rattle.zone_search.specs.AdditionalLaws.{OneRun, NoNameTwice, RunIsLongestFront, RunIsShort, SearchesAreFew, OneList};
+ghost use Rattle.zone_search.specs.ReplyLaws.{DeniedIsNotFound, DeniedByName};
+
+/// A query is denied only where nothing is found for it, and by the name's own denial: so what holds where nothing is found,
+/// as that the answer agrees with a circle of denials, holds of each reply that denies.
+pub fn denied_is_not_found()
+    ensures found { DeniedIsNotFound }
+    ensures denial { DeniedByName }
+{}
 
 /// A run of an additional search searches exactly one list of names: no name twice, and none that was seen before. They are
 /// at most one more than the zone has CNAME and ANAME sets.
