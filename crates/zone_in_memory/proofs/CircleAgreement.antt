@@ -1,11 +1,11 @@
 -- How lookups and denials agree with a circle of NSEC sets
-use Rattle.std.proofs.Common.{◌≡◌, ◌⊎◌, inl, inr, ℕ, Bool, ◌||◌, true, false, List, refl, sym, ap, ◌∙◌, subst, IsTrue}
-use Rattle.std.specs.Prelude.{Option, Some, None, Ok, Err, Result, MatchOption, IsFalse}
+use Rattle.std.proofs.Common.{◌≡◌, ◌⊎◌, inl, inr, ℕ, Bool, ◌||◌, true, false, List, refl, sym, ap, ◌∙◌, subst, IsTrue, true≢false}
+use Rattle.std.specs.Prelude.{None, Ok, Err, Result, IsFalse}
 use Rattle.std.specs.Prelude.{cond}
 use Rattle.zone_proto.specs.declared.record.Record.{Record}
 use Rattle.zone_proto.specs.Names.{Name, is_at_or_above}
 use Rattle.zone_proto.specs.Sets.{RRset}
-use Rattle.zone_proto.specs.Types.{NSEC}
+use Rattle.zone_proto.specs.Types.{NSEC, NSEC3}
 use Rattle.zone_handler.specs.declared.auth_lookup.AuthLookup.{AuthLookup}
 use Rattle.zone_handler.specs.declared.auth_lookup.AuthLookup.TheVariants as answer
 use Rattle.zone_handler.specs.declared.control_flow.LookupControlFlow.{LookupControlFlow}
@@ -16,15 +16,18 @@ use Rattle.zone_handler.specs.declared.lookup_options.LookupOptions.{LookupOptio
 use Rattle.zone_handler.specs.declared.lookup_records.LookupRecords.{LookupRecords}
 use Rattle.zone_handler.specs.Answers.{sets_in}
 use Rattle.zone_map.specs.AnyTypes.{searched_type}
-use Rattle.zone_map.specs.Wildcards.{asked_star_exists, found, star_under}
+use Rattle.zone_map.specs.Wildcards.{asked_star_exists, found, is_starred, star_under}
 use Rattle.zone_map.specs.Zones.{Sets, owns, owns_at_or_below}
 use Rattle.zone_denial.specs.NsecDenial.{nsec_encloser, nsec_denial}
 use Rattle.zone_denial.specs.NsecLaws.{IsNsecZone, HasOwnOrCover}
+use Rattle.zone_denial.specs.StarLaws.{OwnsNone, StarIsDenied}
+use Rattle.zone_denial.proofs.NsecAskedStar.{absent_star_is_denied}
 use Rattle.zone_denial.proofs.NsecClosest.{finds_or_covers}
 use Rattle.zone_denial.proofs.NsecLists.{lists_all_owned, denials_agree}
 use Rattle.zone_denial.proofs.NsecBelow.{no_next_below, next_below_empty}
 use Rattle.zone_denial.proofs.NsecStar.{proves_star}
-use Rattle.zone_search.specs.Replies.{Denial, name_exists, nx_domain, refused, denial, answered, denied, IsAnswer, IsReplyFor}
+use Rattle.zone_search.specs.Replies.{Denial, name_exists, nx_domain, refused, denial, answered, denied, IsReplyFor}
+use Rattle.zone_search.proofs.DeniedReplies.{reply_denies}
 use Rattle.zone_in_memory.specs.Lookup.{error_of, SaysOrMemory, IsNameError}
 use Rattle.zone_in_memory.specs.NsecAnswers.{IsDenialSection, IsNsecProof, HasNsecProof, HasStarProof, AgreesWithCircle}
 
@@ -49,43 +52,38 @@ memory_apart nx_domain h = cc
 memory_apart refused h = cc
 
 module _ (sign : RRset → List Record) (origin : Name) (m : Sets) (options : LookupOptions) (n : Name) (t : ℕ) where
-  -- a reply that denies says what was found, which is nothing, and which denial it is
-  of_reply : (d : Denial) → IsReplyFor sign origin m options.dnssec_ok n (searched_type m n t) (denied d) → (found m options.dnssec_ok n (searched_type m n t) ≡ None) × (denial origin m n ≡ d)
-  of_reply d = by (found m options.dnssec_ok n (searched_type m n t))
-    where
-      by : (o : Option RRset) → MatchOption o (denied d ≡ denied (denial origin m n)) (λ s. IsAnswer sign m options.dnssec_ok n (searched_type m n t) s (denied d)) → (o ≡ None) × (denial origin m n ≡ d)
-      by None e = (refl, cc)
-      by (Some s) i = absurd (let e = i.sections in cc)
-
-  -- a step that denies is that of such a reply
+  -- a step that denies is that of a reply that does, which says what was found, nothing, and which denial it is
   pub of_step : (d : Denial) (step : LookupControlFlow AuthLookup LookupError) → SaysOrMemory options (IsReplyFor sign origin m options.dnssec_ok n (searched_type m n t)) step → step ≡ denies d
       → (found m options.dnssec_ok n (searched_type m n t) ≡ None) × (denial origin m n ≡ d)
   of_step d step (inr e) is = absurd (memory_apart d (sym is ∙ e))
-  of_step d step (inl (denied e, reply, says)) is = of_reply d (subst (λ x. IsReplyFor sign origin m options.dnssec_ok n (searched_type m n t) (denied x)) (same_denial e d (sym says ∙ is)) reply)
+  of_step d step (inl (denied e, reply, says)) is = reply_denies sign origin m options.dnssec_ok n (searched_type m n t) d (subst (λ x. IsReplyFor sign origin m options.dnssec_ok n (searched_type m n t) (denied x)) (same_denial e d (sym says ∙ is)) reply)
   of_step d step (inl (answered answers more, reply, (a, says, has))) is = absurd (let e = sym says ∙ is in cc)
 
--- where the star that is asked exists, the name is there
-denied_there : (origin : Name) (m : Sets) (n : Name) → asked_star_exists m n ≡ true → denial origin m n ≡ nx_domain → ⊥
-denied_there origin m n h e = by (owns_at_or_below m n) (asked_star_exists m n) h e
+-- a name error says that neither the name nor a name below it owns a set, that no star that is asked for it exists, and that it is the zone's
+pub record IsNameAbsent (origin : Name) (m : Sets) (n : Name) : Type 0 where
+  pub unowned : owns_at_or_below m n ≡ false
+  pub no_star : asked_star_exists m n ≡ false
+  pub inside : IsTrue (is_at_or_above origin n)
+
+pub name_absent : (origin : Name) (m : Sets) (n : Name) → denial origin m n ≡ nx_domain → IsNameAbsent origin m n
+name_absent origin m n e =
+    let r = by (owns_at_or_below m n) (asked_star_exists m n) (is_at_or_above origin n) e in
+    record { unowned = r.0; no_star = r.1; inside = r.2 }
   where
-    by : (a s : Bool) → s ≡ true → cond (a || s) name_exists (cond (is_at_or_above origin n) nx_domain refused) ≡ nx_domain → ⊥
-    by true s k e = cc
-    by false true k e = cc
-    by false false k e = cc
+    by : (a s b : Bool) → cond (a || s) name_exists (cond b nx_domain refused) ≡ nx_domain → (a ≡ false) × (s ≡ false) × (b ≡ true)
+    by true s b e = absurd cc
+    by false true b e = absurd cc
+    by false false true e = (refl, refl, refl)
+    by false false false e = absurd cc
+
+-- so it is where a lookup answers by one
+pub of_name_error : (sign : RRset → List Record) (origin : Name) (m : Sets) (options : LookupOptions) (n : Name) (t : ℕ) (step : LookupControlFlow AuthLookup LookupError)
+    → SaysOrMemory options (IsReplyFor sign origin m options.dnssec_ok n (searched_type m n t)) step → IsNameError step → IsNameAbsent origin m n
+of_name_error sign origin m options n t step says e = name_absent origin m n (of_step sign origin m options n t nx_domain step says e).1
 
 pub star_never_denied : (sign : RRset → List Record) (origin : Name) (m : Sets) (options : LookupOptions) (n : Name) (t : ℕ) (step : LookupControlFlow AuthLookup LookupError)
     → asked_star_exists m n ≡ true → SaysOrMemory options (IsReplyFor sign origin m options.dnssec_ok n (searched_type m n t)) step → IsNameError step → ⊥
-star_never_denied sign origin m options n t step h says e = denied_there origin m n h (of_step sign origin m options n t nx_domain step says e).1
-
--- what a denial says of the name
-pub exists_owned : (origin : Name) (m : Sets) (n : Name) → denial origin m n ≡ nx_domain → (owns_at_or_below m n ≡ false) × IsTrue (is_at_or_above origin n)
-exists_owned origin m n = by (owns_at_or_below m n) (asked_star_exists m n) (is_at_or_above origin n)
-  where
-    by : (a s b : Bool) → cond (a || s) name_exists (cond b nx_domain refused) ≡ nx_domain → (a ≡ false) × IsTrue b
-    by true s b e = absurd cc
-    by false true b e = absurd cc
-    by false false true e = (refl, refl)
-    by false false false e = absurd cc
+star_never_denied sign origin m options n t step h says e = true≢false (sym h ∙ (of_name_error sign origin m options n t step says e).no_star)
 
 module _ (origin : Name) (m : Sets) (circle : IsNsecZone origin m) where
   pub lookup_agrees : (sign : RRset → List Record) (options : LookupOptions) (n : Name) (t : ℕ) (step : LookupControlFlow AuthLookup LookupError)
@@ -94,11 +92,18 @@ module _ (origin : Name) (m : Sets) (circle : IsNsecZone origin m) where
       record {
         name = λ e.
             let of = of_step sign origin m options n t nx_domain step says e in
-            let none = exists_owned origin m n of.1 in
-            ((denials_agree origin m circle options.dnssec_ok n t of.0).name none.0, no_next_below origin m circle n none.1 none.0);
+            let absent = name_absent origin m n of.1 in
+            ((denials_agree origin m circle options.dnssec_ok n t of.0).name absent.unowned, no_next_below origin m circle n absent.inside absent.unowned);
         type' = λ e. (denials_agree origin m circle options.dnssec_ok n t (of_step sign origin m options n t name_exists step says e).0).type';
         owned = λ h. lists_all_owned origin m circle n t h;
       }
+
+  -- where it answers by a name error, the denial says that there is no star
+  pub absent_star_agrees : (sign : RRset → List Record) (options : LookupOptions) (n : Name) (t : ℕ) (step : LookupControlFlow AuthLookup LookupError) → OwnsNone m NSEC3 → IsFalse (is_starred n)
+      → SaysOrMemory options (IsReplyFor sign origin m options.dnssec_ok n (searched_type m n t)) step → IsNameError step → StarIsDenied origin m n
+  absent_star_agrees sign options n t step none plain says e =
+      let absent = of_name_error sign origin m options n t step says e in
+      absent_star_is_denied origin m circle none n absent.inside plain absent.unowned absent.no_star
 
   -- nor does the step that breaks a query for a transfer off deny anything
   pub transfer_agrees : (n : Name) (t : ℕ) (result : Result AuthLookup LookupError) → AgreesWithCircle origin m n t (Break result)

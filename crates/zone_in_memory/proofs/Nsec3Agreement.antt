@@ -1,14 +1,15 @@
 -- How lookups agree with a circle of NSEC3 sets
-use Rattle.std.proofs.Common.{◌≡◌, ◌⊎◌, inl, inr, ℕ, List, false, IsTrue, sym, ap, subst, ◌∙◌, true≢false}
-use Rattle.std.specs.Prelude.{Option, Result, Ok}
+use Rattle.std.proofs.Common.{◌≡◌, inl, inr, ℕ, List, false, IsTrue, sym, ap, subst, ◌∙◌, true≢false}
+use Rattle.std.specs.Prelude.{Option, Result, Ok, IsFalse}
 use Rattle.zone_proto.specs.declared.rdata.denial.NSEC3PARAM.{NSEC3PARAM as Nsec3Parameters}
 use Rattle.zone_proto.specs.declared.error.ProtoError.{ProtoError}
 use Rattle.zone_proto.specs.declared.record.Record.{Record}
 use Rattle.zone_proto.specs.Names.{Name, is_at_or_above}
 use Rattle.zone_proto.specs.Sets.{RRset}
+use Rattle.zone_proto.specs.Types.{NSEC}
 use Rattle.zone_handler.specs.declared.auth_lookup.AuthLookup.{AuthLookup}
 use Rattle.zone_handler.specs.declared.control_flow.LookupControlFlow.{LookupControlFlow}
-use Rattle.zone_handler.specs.declared.control_flow.LookupControlFlow.TheVariants.{Continue, Break}
+use Rattle.zone_handler.specs.declared.control_flow.LookupControlFlow.TheVariants.{Break}
 use Rattle.zone_handler.specs.declared.lookup_error.LookupError.{LookupError}
 use Rattle.zone_handler.specs.declared.lookup_options.LookupOptions.{LookupOptions}
 use Rattle.zone_handler.specs.declared.lookup_records.LookupRecords.{LookupRecords}
@@ -16,20 +17,23 @@ use Rattle.zone_handler.specs.declared.nsec3_query_info.Nsec3QueryInfo.{Nsec3Que
 use Rattle.zone_handler.specs.Answers.{sets_in}
 use Rattle.zone_handler.specs.Hashing.{digest_for}
 use Rattle.zone_map.specs.AnyTypes.{searched_type}
+use Rattle.zone_map.specs.Wildcards.{is_starred}
 use Rattle.zone_map.specs.Zones.{Sets}
 use Rattle.zone_denial.specs.Nsec3Denial.{nsec3_denial}
 use Rattle.zone_denial.specs.Nsec3Laws.{FindsOrEncloses, ProvesStar}
 use Rattle.zone_denial.specs.Nsec3Lent.{hashed_for, query_denial}
 use Rattle.zone_denial.specs.Nsec3Zones.{IsCircleName, IsHashed, IsNsec3Zone, TellsApart}
+use Rattle.zone_denial.specs.StarLaws.{OwnsNone, Nsec3StarIsDenied}
+use Rattle.zone_denial.proofs.Nsec3AskedStar.{absent_star_is_denied}
 use Rattle.zone_denial.proofs.Nsec3Encloses.{finds_or_encloses}
 use Rattle.zone_denial.proofs.Nsec3Star.{proves_star}
 use Rattle.zone_denial.proofs.Nsec3Lists.{lists_all_owned, denials_agree}
 use Rattle.zone_search.specs.Replies.{name_exists, nx_domain, IsReplyFor}
-use Rattle.zone_in_memory.specs.Lookup.{SaysOrMemory}
+use Rattle.zone_in_memory.specs.Lookup.{SaysOrMemory, IsNameError}
 use Rattle.zone_in_memory.specs.Handlers.{Zone}
 use Rattle.zone_in_memory.specs.Nsec3Answers.{HasNsec3Proof, HasNsec3StarProof, AgreesWithNsec3Circle}
 use Rattle.zone_in_memory.specs.Nsec3Steps.{IsNsec3Answer}
-use Rattle.zone_in_memory.proofs.CircleAgreement.{of_step, exists_owned}
+use Rattle.zone_in_memory.proofs.CircleAgreement.{of_step, of_name_error, name_absent}
 
 module _ (origin : Name) (m : Sets) (hash : Name → Option (List ℕ)) (parameters : Nsec3Parameters) (circle : IsNsec3Zone origin m hash parameters) where
   pub nsec3_lookup_agrees : (sign : RRset → List Record) (options : LookupOptions) (n : Name) (t : ℕ) (step : LookupControlFlow AuthLookup LookupError)
@@ -38,10 +42,18 @@ module _ (origin : Name) (m : Sets) (hash : Name → Option (List ℕ)) (paramet
       record {
         name = λ e on.
             let of = of_step sign origin m options n t nx_domain step says e in
-            true≢false (sym ((denials_agree origin m hash parameters circle options.dnssec_ok n t of.0).name on) ∙ (exists_owned origin m n of.1).0);
+            true≢false (sym ((denials_agree origin m hash parameters circle options.dnssec_ok n t of.0).name on) ∙ (name_absent origin m n of.1).unowned);
         type' = λ e. (denials_agree origin m hash parameters circle options.dnssec_ok n t (of_step sign origin m options n t name_exists step says e).0).type';
         owned = λ ne h. lists_all_owned origin m hash parameters circle n t ne h;
       }
+
+  -- where it answers by a name error, the denial says that there is no star, without opt-out
+  pub nsec3_absent_star_agrees : (sign : RRset → List Record) (options : LookupOptions) (n : Name) (t : ℕ) (step : LookupControlFlow AuthLookup LookupError) → IsFalse parameters.opt_out → OwnsNone m NSEC
+      → TellsApart (IsHashed origin m parameters.opt_out n) hash → IsFalse (is_starred n) → SaysOrMemory options (IsReplyFor sign origin m options.dnssec_ok n (searched_type m n t)) step → IsNameError step
+      → Nsec3StarIsDenied origin m hash parameters.opt_out n
+  nsec3_absent_star_agrees sign options n t step all_in none apart plain says e =
+      let absent = of_name_error sign origin m options n t step says e in
+      absent_star_is_denied origin m hash parameters circle all_in none n absent.inside apart plain absent.unowned absent.no_star
 
   -- nor does the step that breaks a query for a transfer off deny anything
   pub nsec3_transfer_agrees : (n : Name) (t : ℕ) (result : Result AuthLookup LookupError) → AgreesWithNsec3Circle origin m hash parameters.opt_out n t (Break result)

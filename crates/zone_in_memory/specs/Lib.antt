@@ -9,6 +9,7 @@ pub use Rattle.zone_search.specs.Additionals
 pub use Rattle.zone_search.specs.AdditionalLaws
 pub use Rattle.zone_search.specs.Flattening
 pub use Rattle.zone_search.specs.Replies
+pub use Rattle.zone_search.specs.ReplyLaws
 pub use Rattle.zone_search.specs.Securing
 pub mod Handlers
 pub mod Insertions

@@ -1,9 +1,10 @@
 ghost use Rattle.std.specs.Prelude.{◌≡◌, ◌≢◌, ◌⊎◌, ℕ, List, Option, false, [], Ok, Err, IfErr, IfOk, IsOkUnless, IsTrue, IsFalse, option_copied};
 ghost use Rattle.zone_proto.specs.declared.rdata.denial.NSEC3PARAM.{NSEC3PARAM as Nsec3Parameters};
 ghost use Rattle.zone_proto.specs.Names.{Name, lower, is_at_or_above};
-ghost use Rattle.zone_proto.specs.Types.{IN, SOA, AXFR, NSEC};
+ghost use Rattle.zone_proto.specs.Types.{IN, SOA, AXFR, NSEC, NSEC3};
 ghost use Rattle.zone_denial.specs.NsecLaws.{IsNsecZone};
 ghost use Rattle.zone_denial.specs.Nsec3Zones.{IsNsec3Zone, IsCircleName, IsHashed, TellsApart};
+ghost use Rattle.zone_denial.specs.StarLaws.{OwnsNone, StarIsDenied, Nsec3StarIsDenied};
 ghost use Rattle.zone_handler.specs.Hashing.{digest_for};
 ghost use Rattle.zone_handler.specs.Transfers.{IsNoLookup};
 ghost use Rattle.zone_search.specs.StartOfAuthority.{soa, serial, minimum};
@@ -18,7 +19,7 @@ ghost use Rattle.zone_map.specs.AnyTypes.{searched_type};
 ghost use Rattle.zone_in_memory.specs.Construction.{made};
 ghost use Rattle.zone_signing.specs.Signatures.{answer_signatures};
 ghost use Rattle.zone_map.specs.Upserts.{CnamesStandAlone};
-ghost use Rattle.zone_map.specs.Wildcards.{asked_star_exists};
+ghost use Rattle.zone_map.specs.Wildcards.{asked_star_exists, is_starred};
 ghost use Rattle.zone_map.specs.Zones.{owns, IsZone};
 
 mod changes;
@@ -345,6 +346,10 @@ impl<S: Signer, H: Nsec3Hash> ZoneHandler for InMemoryZoneHandler<S, H> {
     ///
     /// In a zone whose NSEC or NSEC3 sets are a circle the answer agrees with them: `NXDomain` comes only for a name that
     /// isn't on the circle, and `NameExists` for a name on it only for a type that its set doesn't list, RRSIG aside.
+    /// `NXDomain` for a name that doesn't begin with `*` also comes only where the star under the name's closest encloser
+    /// isn't on the circle, and then a set of the name's denial covers this star (RFC 4035 section 3.1.3.2, RFC 5155 section
+    /// 7.2.2): so it is where the zone has no sets of the other of the two types and, with NSEC3, no opt-out, and the hash
+    /// gives the names on the circle and those that the denial asks of digests of one length that differ.
     fn lookup(
         &self,
         name: &LowerName,
@@ -360,6 +365,11 @@ impl<S: Signer, H: Nsec3Hash> ZoneHandler for InMemoryZoneHandler<S, H> {
         ensures circle { IsNsecZone self.now.origin self.now.inner.records → AgreesWithCircle self.now.origin self.now.inner.records name.now record_type.0 result }
         ensures nsec3_circle { (hash : Name → Option (List ℕ)) (parameters : Nsec3Parameters) → IsNsec3Zone self.now.origin self.now.inner.records hash parameters
             → AgreesWithNsec3Circle self.now.origin self.now.inner.records hash parameters.opt_out name.now record_type.0 result }
+        ensures absent_star { IsNsecZone self.now.origin self.now.inner.records → OwnsNone self.now.inner.records NSEC3 → IsFalse (is_starred name.now) → IsNameError result
+            → StarIsDenied self.now.origin self.now.inner.records name.now }
+        ensures nsec3_absent_star { (hash : Name → Option (List ℕ)) (parameters : Nsec3Parameters) → IsNsec3Zone self.now.origin self.now.inner.records hash parameters
+            → IsFalse parameters.opt_out → OwnsNone self.now.inner.records NSEC → TellsApart (IsHashed self.now.origin self.now.inner.records parameters.opt_out name.now) hash
+            → IsFalse (is_starred name.now) → IsNameError result → Nsec3StarIsDenied self.now.origin self.now.inner.records hash parameters.opt_out name.now }
     {
         if record_type == RecordType::AXFR {
             let error = NetError::from("AXFR must be handled with ZoneHandler::zone_transfer()");

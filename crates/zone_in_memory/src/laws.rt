@@ -17,7 +17,9 @@ ghost use Rattle.zone_in_memory.specs.CircleLaws.{UntakenKeepsCircle, RefusedKey
 ghost use Rattle.zone_in_memory.specs.TransferLaws.{BeginsAndEndsWithSoa, HasEachRecord, HasNoneTwice};
 
 use zone_proto::{Nsec3Hash, Signer};
-pub use zone_search::laws::{additionals_are_one_list, run_is_longest_front, runs_end};
+pub use zone_search::laws::{
+    additionals_are_one_list, denied_is_not_found, run_is_longest_front, runs_end,
+};
 
 /// A zone may have no sets, and its sets stay those of a zone when a set is put under its own owner and type, when one is
 /// taken out, and when a record is inserted.

@@ -1,7 +1,7 @@
 use Rattle.zone_handler.specs.declared.control_flow.LookupControlFlow.TheVariants.{Continue}
 use Rattle.zone_signing.specs.Signatures.{answer_signatures}
-use Rattle.zone_in_memory.proofs.CircleAgreement.{lookup_agrees, transfer_agrees, star_never_denied}
-use Rattle.zone_in_memory.proofs.Nsec3Agreement.{nsec3_lookup_agrees, nsec3_transfer_agrees}
+use Rattle.zone_in_memory.proofs.CircleAgreement.{lookup_agrees, absent_star_agrees, transfer_agrees, star_never_denied}
+use Rattle.zone_in_memory.proofs.Nsec3Agreement.{nsec3_lookup_agrees, nsec3_absent_star_agrees, nsec3_transfer_agrees}
 use Rattle.zone_in_memory.proofs.Lookups.{owned_is_answered}
 use Rattle.zone_in_memory.proofs.in_memory_zone_handler.InMemoryZoneHandlerZoneHandler.lookup.Goals as goal
 
@@ -33,3 +33,19 @@ returns-clause-nsec3_circle g c hash parameters circle =
 
 pub returns-then-eq-clause-nsec3_circle : goal.returns-then-eq-clause-nsec3_circle
 returns-then-eq-clause-nsec3_circle g c hash parameters circle = nsec3_transfer_agrees c.args.self.now.origin c.args.self.now.inner.records hash parameters circle c.args.name.now c.args.record_type.0 _
+
+pub returns-clause-absent_star : goal.returns-clause-absent_star
+returns-clause-absent_star g c circle none plain denied =
+    absent_star_agrees c.args.self.now.origin c.args.self.now.inner.records circle (answer_signatures g.S.Signer.signature_of c.args.now c.args.lookup_options.dnssec_ok c.args.self.now.inner.signers) c.args.lookup_options c.args.name.now
+    c.args.record_type.0 (Continue c.answer.result) none plain c.answer.ensures denied
+
+pub returns-then-eq-clause-absent_star : goal.returns-then-eq-clause-absent_star
+returns-then-eq-clause-absent_star g c circle none plain denied = absurd cc
+
+pub returns-clause-nsec3_absent_star : goal.returns-clause-nsec3_absent_star
+returns-clause-nsec3_absent_star g c hash parameters circle all_in none apart plain denied =
+    nsec3_absent_star_agrees c.args.self.now.origin c.args.self.now.inner.records hash parameters circle (answer_signatures g.S.Signer.signature_of c.args.now c.args.lookup_options.dnssec_ok c.args.self.now.inner.signers) c.args.lookup_options
+    c.args.name.now c.args.record_type.0 (Continue c.answer.result) all_in none apart plain c.answer.ensures denied
+
+pub returns-then-eq-clause-nsec3_absent_star : goal.returns-then-eq-clause-nsec3_absent_star
+returns-then-eq-clause-nsec3_absent_star g c hash parameters circle all_in none apart plain denied = absurd cc
