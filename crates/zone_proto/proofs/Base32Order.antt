@@ -38,7 +38,7 @@ last_then Equal = refl
 last_then Greater = refl
 
 -- a number of two digits in base b is ordered by the first, then by the second
-weighed : (b x r y s : ℕ) → r < b → s < b → nat_cmp (b * x + r) (b * y + s) ≡ ordering_then (nat_cmp x y) (nat_cmp r s)
+pub weighed : (b x r y s : ℕ) → r < b → s < b → nat_cmp (b * x + r) (b * y + s) ≡ ordering_then (nat_cmp x y) (nat_cmp r s)
 weighed b x r y s h k = by (nat_cmp x y) refl (ranked x y (nat_cmp x y) refl)
   where
     by : (o : Ordering) → nat_cmp x y ≡ o → MatchOrdering o (x < y) (x ≡ y) (y < x) → nat_cmp (b * x + r) (b * y + s) ≡ ordering_then o (nat_cmp r s)

@@ -1,4 +1,5 @@
 pub mod FromLeft
+mod OctetOrder
 pub mod Faults
 pub mod Packings
 pub mod FirstLabels

@@ -14,7 +14,9 @@ pub fn base32_dnssec(alloc: Global, octets: &[u8]) -> Result<String, ProtoError>
     ensures err { IsOkUnless result ProtoError.Memory }
 {
     let mut text = String::with_capacity(alloc, character_count(octets))?;
-    write!(text, "{}", Base32Text(octets))?;
+    for i in 0..character_count(octets) {
+        text.push(character(five_bits(octets, i)))?;
+    }
     Ok(text)
 }
 

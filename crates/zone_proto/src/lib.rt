@@ -26,6 +26,7 @@ mod name_hash;
 mod name_order;
 mod nsec3_hash;
 mod nx_proof_kind;
+mod octet_order;
 mod packed;
 mod parser;
 mod rdata;

@@ -11,6 +11,7 @@ ghost use Rattle.zone_proto.specs.Vectors.{octets_of};
 
 use crate::letter_case::lower_octets;
 use crate::name_order::compare_label;
+use crate::octet_order::compare_octets;
 use smallvec::SmallVec;
 use std::alloc::{AllocError, Global};
 use std::cmp::Ordering;
@@ -124,7 +125,7 @@ impl Packed {
     pub(crate) fn compare(&self, other: &Packed) -> Ordering
         ensures { result ≡ name_cmp self.now other.now }
     {
-        self.octets.cmp(&other.octets)
+        compare_octets(&self.octets, &other.octets)
     }
 
     /// The canonical order, the case of letters ignored.

@@ -7,6 +7,6 @@ use Rattle.zone_proto.proofs.packed.Packed.compare.Goals as goal
 pub returns : goal.returns
 returns c =
     rw (← c.self.view_is, ← c.other.view_is)
-    (c.cmp.ensures
-    ∙ (λ i. slice_cmp nat_cmp (c.self.invariant.octets i) (c.other.invariant.octets i))
+    (c.compare_octets.ensures
+    ∙ (λ i. slice_cmp nat_cmp ((c.deref.ensures ∙ c.self.invariant.octets) i) ((c.deref-2.ensures ∙ c.other.invariant.octets) i))
     ∙ packing_cmp _ _ c.self.invariant.packable c.other.invariant.packable)
