@@ -1,0 +1,3 @@
+pub mod Encloser
+pub mod NsecRecords
+pub mod NsecProofs
