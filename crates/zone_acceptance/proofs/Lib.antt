@@ -1,0 +1,9 @@
+pub mod Gaps
+pub mod Readings
+pub mod Speaking
+pub mod ShownEnclosers
+pub mod Stars
+pub mod NameErrors
+pub mod OwnTypes
+pub mod EmptyAnswers
+pub mod JudgedExamples
