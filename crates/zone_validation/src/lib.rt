@@ -5,3 +5,5 @@
 #![tactic(auto)]
 
 mod asked_labels;
+mod asked_name;
+mod name_labels;
