@@ -1,2 +1,9 @@
-//! What a validator concludes from the records of a denial (RFC 4035 section 5.4), told by these records alone.
+//! What a validator concludes from the records of a denial: the judgement of RFC 4035 section 5.4 and RFC 5155 section 8, by
+//! these records alone.
+//!
+//! Signatures are not looked at: the records are taken as validated, with the apex as the name that signed them.
 #![tactic(auto)]
+
+mod asked_labels;
+mod asked_name;
+mod name_labels;

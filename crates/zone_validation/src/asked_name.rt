@@ -1,0 +1,100 @@
+// Names as the records of a denial and a question have them, compared without memory.
+ghost use Rattle.std.specs.Prelude.{◌≡◌};
+ghost use Rattle.zone_proto.specs.Names.{lower, name_cmp, name_eq, is_above, is_at_or_above};
+ghost use Rattle.zone_proto.specs.Order.{is_before};
+ghost use Rattle.zone_validation.specs.Encloser.{star_under};
+
+use crate::asked_labels::{AskedLabels, compare_labels, labels_are_above};
+use crate::name_labels::NameLabels;
+use std::cmp::Ordering;
+use std::marker::Model;
+use zone_proto::{LowerName, Name};
+
+/// A name, or the star under one, lent; contracts see it in lower case.
+#[derive(Drop)]
+pub(crate) struct AskedName<'n> {
+    labels: AskedLabels<'n>,
+}
+
+impl<'n> Model for AskedName<'n> {
+    ghost use Rattle.std.specs.Prelude.{List, ℕ};
+    ghost use Rattle.zone_proto.specs.Names.{lower};
+
+    ghost Value = { List (List ℕ) };
+
+    ghost view = { λ n. lower n.labels };
+}
+
+impl<'n> AskedName<'n> {
+    /// The name itself.
+    pub(crate) fn of(name: &'n LowerName) -> AskedName<'n>
+        ensures { result ≡ name.now }
+    {
+        AskedName {
+            labels: AskedLabels::of(NameLabels::of(name)),
+        }
+    }
+
+    /// Any name, the case of its letters ignored.
+    pub(crate) fn of_any(name: &'n Name) -> AskedName<'n>
+        ensures { result ≡ lower name.now }
+    {
+        AskedName {
+            labels: AskedLabels::of(NameLabels::of_any(name)),
+        }
+    }
+
+    /// The name whose labels are left.
+    pub(crate) fn of_labels(labels: NameLabels<'n>) -> AskedName<'n>
+        ensures { result ≡ lower labels.entry }
+    {
+        AskedName {
+            labels: AskedLabels::of(labels),
+        }
+    }
+
+    /// The star under it (RFC 4592 section 2.1.1).
+    pub(crate) fn star_under(base: NameLabels<'n>) -> AskedName<'n>
+        ensures { result ≡ star_under (lower base.entry) }
+    {
+        AskedName {
+            labels: AskedLabels::of_star(base),
+        }
+    }
+
+    /// The canonical order (RFC 4034 section 6.1).
+    fn compare(&self, other: &AskedName<'_>) -> Ordering
+        ensures { result ≡ name_cmp self.now other.now }
+    {
+        compare_labels(self.labels.clone(), other.labels.clone())
+    }
+
+    /// Whether they are the same name.
+    pub(crate) fn equals(&self, other: &AskedName<'_>) -> bool
+        ensures { result ≡ name_eq self.now other.now }
+    {
+        self.compare(other).is_eq()
+    }
+
+    /// Whether this name stands before the other.
+    pub(crate) fn is_before(&self, other: &AskedName<'_>) -> bool
+        ensures { result ≡ is_before name_cmp self.now other.now }
+    {
+        self.compare(other).is_lt()
+    }
+
+    /// Whether the other name is this one or below it.
+    pub(crate) fn is_at_or_above(&self, other: &AskedName<'_>) -> bool
+        ensures { result ≡ is_at_or_above self.now other.now }
+    {
+        labels_are_above(self.labels.clone(), other.labels.clone())
+    }
+
+    /// Whether the other name is below this one.
+    pub(crate) fn is_above(&self, other: &AskedName<'_>) -> bool
+        ensures { result ≡ is_above self.now other.now }
+    {
+        let mut parent = other.labels.clone();
+        parent.next().is_some() && labels_are_above(self.labels.clone(), parent)
+    }
+}
