@@ -21,7 +21,7 @@ use Rattle.zone_denial.proofs.DenialLists.{own_denial}
 use Rattle.zone_denial.proofs.NsecBelow.{next_below_empty}
 use Rattle.zone_denial.proofs.NsecLists.{off_circle}
 use Rattle.zone_denial.proofs.NsecStar.{proves_star}
-use Rattle.zone_acceptance.specs.Replies.{name_exists, nx_domain, refused, absent, denial}
+use Rattle.zone_search.specs.Replies.{name_exists, nx_domain, refused, absent, denial}
 use Rattle.zone_validation.specs.NsecProofs.{lists, denies_type, shows_empty, shows_unsigned_delegation, proves_no_data, proves_empty_non_terminal, proves_wildcard_no_data, proves_empty_answer}
 use Rattle.zone_validation.specs.NsecRecords.{NsecRecord}
 use Rattle.zone_acceptance.specs.Acceptance.{NoDataAccepted, EmptyAccepted, WildcardNoDataAccepted, UnsignedDelegationAccepted, DenialAccepted}

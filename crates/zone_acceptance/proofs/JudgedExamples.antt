@@ -12,7 +12,7 @@ use Rattle.zone_map.specs.Zones.{Sets}
 use Rattle.zone_denial.specs.Nsec3Circle.{nsec3_data}
 use Rattle.zone_denial.proofs.NsecExamples.{origin, at_origin, entry, address, start, linked}
 use Rattle.zone_denial.proofs.Nsec3Examples.{parameters, b}
-use Rattle.zone_acceptance.specs.Replies.{name_exists, nx_domain, denial}
+use Rattle.zone_search.specs.Replies.{name_exists, nx_domain, denial}
 use Rattle.zone_validation.specs.NsecProofs.{DNAME, proves_name_error, proves_no_data, proves_empty_answer, proves_wildcard_answer}
 use Rattle.zone_acceptance.specs.Judged.{denial_records}
 

@@ -19,7 +19,7 @@ use Rattle.zone_denial.specs.NsecLaws.{IsNsecZone}
 use Rattle.zone_denial.proofs.NsecBelow.{no_next_below}
 use Rattle.zone_denial.proofs.NsecLists.{off_circle}
 use Rattle.zone_denial.proofs.NsecStar.{proves_star}
-use Rattle.zone_acceptance.specs.Replies.{name_exists, nx_domain, refused, absent, denial}
+use Rattle.zone_search.specs.Replies.{name_exists, nx_domain, refused, absent, denial}
 use Rattle.zone_validation.specs.NsecProofs.{may_tell_of, covers, denies_name, shown_encloser, denied_and_star, proves_name_error}
 use Rattle.zone_validation.specs.NsecRecords.{NsecRecord}
 use Rattle.zone_acceptance.specs.Acceptance.{NameErrorAccepted, StarredErrorAccepted, WildcardAnswerAccepted, NameErrorSound}

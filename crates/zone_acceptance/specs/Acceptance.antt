@@ -6,7 +6,7 @@ use Rattle.zone_map.specs.AnyTypes.{searched_type}
 use Rattle.zone_map.specs.Wildcards.{found, star_under, is_starred, asked_star}
 use Rattle.zone_map.specs.Zones.{Sets, owns, owns_at_or_below}
 use Rattle.zone_denial.specs.NsecDenial.{nsec_encloser}
-use Rattle.zone_acceptance.specs.Replies.{name_exists, nx_domain, denial}
+use Rattle.zone_search.specs.Replies.{name_exists, nx_domain, denial}
 use Rattle.zone_validation.specs.NsecProofs.{proves_name_error, proves_no_data, proves_empty_non_terminal, proves_wildcard_no_data, proves_empty_answer, proves_wildcard_answer, proves_unsigned_delegation}
 use Rattle.zone_validation.specs.NsecRecords.{NsecRecord}
 use Rattle.zone_acceptance.specs.Judged.{denial_records, AreOfZone, IsJudged, IsJudgedType}

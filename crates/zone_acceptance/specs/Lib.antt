@@ -1,3 +1,2 @@
-pub mod Replies
 pub mod Judged
 pub mod Acceptance
