@@ -7,3 +7,6 @@ pub mod NameErrors
 pub mod OwnTypes
 pub mod EmptyAnswers
 pub mod JudgedExamples
+pub mod Circles
+pub mod Nsec3Readings
+pub mod Nsec3Matches

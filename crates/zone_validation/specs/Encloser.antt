@@ -1,5 +1,5 @@
 -- The ancestors of a name, and the stars under them
-use Rattle.std.specs.Prelude.{List, [], ◌∷◌}
+use Rattle.std.specs.Prelude.{suc, List, [], ◌∷◌, length, ◌==◌, Option, find}
 use Rattle.zone_proto.specs.Names.{Name, star_label, suffixes}
 
 -- the name's ancestors without itself, the longest first, the root last
@@ -10,3 +10,8 @@ proper_ancestors (l ∷ ls) = suffixes ls
 -- the star under a name: `*` before its labels (RFC 4592 section 2.1.1)
 abbrev pub star_under : Name → Name
 star_under a = star_label ∷ a
+
+-- the next closer name of x and an ancestor: the name one label longer than the ancestor, which is x or an ancestor of it (RFC 5155
+-- section 1.3)
+abbrev pub next_closer : Name → Name → Option Name
+next_closer x a = find (λ s. length s == suc (length a)) (suffixes x)

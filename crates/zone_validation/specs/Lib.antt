@@ -1,3 +1,5 @@
 pub mod Encloser
 pub mod NsecRecords
 pub mod NsecProofs
+pub mod Nsec3Records
+pub mod Nsec3Proofs
