@@ -42,7 +42,7 @@ module _ (origin : Name) (m : Sets) (h : IsNsecZone origin m) (x : Name) (on : o
       shown origin m h x x s.0 (subst (λ sets. Contains sets s.0) (own_denial m h.zone origin x s.0 s.1) (In-Contains s.0 (s.0 ∷ []) (inl refl))) s.1
 
 -- a type that isn't ANY is searched itself
-searched_itself : (m : Sets) (x : Name) (t : ℕ) → t ≢ ANY → searched_type m x t ≡ t
+pub searched_itself : (m : Sets) (x : Name) (t : ℕ) → t ≢ ANY → searched_type m x t ≡ t
 searched_itself m x t any = ap (λ b. cond b (any_type m x) t) (differs t ANY any)
 
 pub no_data_accepted : NoDataAccepted
@@ -75,6 +75,19 @@ empty_accepted origin m x j off some =
 
 -- ---- by that of the star
 
+-- where neither a name nor one below it owns a set, and yet the name is there, a star that is asked exists
+pub exists_means : (origin : Name) (m : Sets) (x : Name) → owns_at_or_below m x ≡ false → denial origin m x ≡ name_exists → asked_star_exists m x ≡ true
+exists_means origin m x none e = by (owns_at_or_below m x) (asked_star_exists m x) none e
+  where
+    inside : (c : Bool) → cond c nx_domain refused ≡ name_exists → false ≡ true
+    inside true q = absurd cc
+    inside false q = absurd cc
+
+    by : (a b : Bool) → a ≡ false → cond (a || b) name_exists (absent origin x) ≡ name_exists → b ≡ true
+    by true b u q = absurd (true≢false u)
+    by false true u q = refl
+    by false false u q = inside (is_at_or_above origin x) q
+
 pub wildcard_no_data_accepted : WildcardNoDataAccepted
 wildcard_no_data_accepted origin m signed x t j deniable none nothing e =
     denied_with origin m x j none (λ w. list_any (λ r. denies_type origin r w t || shows_empty origin r w) (denial_records origin m x)) (by (owns m star NSEC) refl)
@@ -88,17 +101,8 @@ wildcard_no_data_accepted origin m signed x t j deniable none nothing e =
     up : IsAbove origin x
     up = over origin m x j none
 
-    exists_means : (a b : Bool) → a ≡ false → cond (a || b) name_exists (absent origin x) ≡ name_exists → b ≡ true
-    exists_means true b u q = absurd (true≢false u)
-    exists_means false true u q = refl
-    exists_means false false u q = inside (is_at_or_above origin x) q
-      where
-        inside : (c : Bool) → cond c nx_domain refused ≡ name_exists → false ≡ true
-        inside true q = absurd cc
-        inside false q = absurd cc
-
     there : (asked_star m x ≡ Some star) × (owns_at_or_below m star ≡ true)
-    there = star_there origin m x j up (exists_means (owns_at_or_below m x) (asked_star_exists m x) none e)
+    there = star_there origin m x j up (exists_means origin m x none e)
 
     lost : (o : Option RRset) → option_map (renamed signed star x) o ≡ None → o ≡ None
     lost None e = refl

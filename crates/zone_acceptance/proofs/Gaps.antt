@@ -14,7 +14,7 @@ use Rattle.zone_denial.specs.NsecLaws.{IsNsecZone}
 use Rattle.zone_denial.proofs.NsecBelow.{above_at}
 use Rattle.zone_denial.proofs.NsecCircle.{above_upto, origin_upto, NextIs, least_after, wraps, next_is}
 
-either : (a b : Bool) → a || b ≡ true → (a ≡ true) ⊎ (b ≡ true)
+pub either : (a b : Bool) → a || b ≡ true → (a ≡ true) ⊎ (b ≡ true)
 either true b h = inl refl
 either false b h = inr h
 

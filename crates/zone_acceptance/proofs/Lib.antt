@@ -10,3 +10,7 @@ pub mod JudgedExamples
 pub mod Circles
 pub mod Nsec3Readings
 pub mod Nsec3Matches
+pub mod Nsec3Shown
+pub mod Nsec3Judging
+pub mod Nsec3NameErrors
+pub mod Nsec3EmptyAnswers

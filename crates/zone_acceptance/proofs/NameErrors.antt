@@ -69,7 +69,7 @@ module _ (origin : Name) (m : Sets) (x : Name) (j : IsJudged origin m x) (none :
       t = star_spanned (off_circle m star starless)
 
 -- a name error says that nothing is there, and that no star that is asked exists
-error_means : (origin : Name) (m : Sets) (x : Name) → denial origin m x ≡ nx_domain → (owns_at_or_below m x ≡ false) × (asked_star_exists m x ≡ false)
+pub error_means : (origin : Name) (m : Sets) (x : Name) → denial origin m x ≡ nx_domain → (owns_at_or_below m x ≡ false) × (asked_star_exists m x ≡ false)
 error_means origin m x e = by (owns_at_or_below m x) (asked_star_exists m x) e
   where
     by : (a b : Bool) → cond (a || b) name_exists (absent origin x) ≡ nx_domain → (a ≡ false) × (b ≡ false)

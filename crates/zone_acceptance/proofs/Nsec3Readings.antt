@@ -43,7 +43,7 @@ read_from sets s r i j =
     let q = In-from_filter_map read_nsec3 r s.records j in
     In-filter_map read_nsec3 q.0 r (flat_map (λ (s : RRset). s.records) sets) (In-flat_map (λ (s : RRset). s.records) s q.0 sets i q.1) q.2
 
-from_read : (sets : List RRset) (r : Nsec3Record) → In r (read_nsec3_sets sets) → (s : RRset) × In s sets × In r (nsec3_records s.records)
+pub from_read : (sets : List RRset) (r : Nsec3Record) → In r (read_nsec3_sets sets) → (s : RRset) × In s sets × In r (nsec3_records s.records)
 from_read sets r i =
     let q = In-from_filter_map read_nsec3 r (flat_map (λ (s : RRset). s.records) sets) i in
     let s = In-from_flat_map (λ (s : RRset). s.records) q.0 sets q.1 in

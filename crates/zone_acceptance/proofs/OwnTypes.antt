@@ -46,14 +46,14 @@ module _ (m : Sets) (y : Name) (t : ℕ) (nothing : direct m y t ≡ None) where
           (sym (In-from_filter (owns m y) g.0 (types_for t) g.2.among).1
           ∙ ap is_some (sym (ap (option_and_then (set_at m y)) g.1) ∙ (neither (referral m y t) (exact m y t) nothing).1)))
 
-  own_type : owns m y t ≡ false
+  pub own_type : owns m y t ≡ false
   own_type = not_owned t (by (is_address t))
     where
       by : (b : Bool) → In t (cond b (t ∷ CNAME ∷ 65305 ∷ []) (t ∷ CNAME ∷ []))
       by true = inl refl
       by false = inl refl
 
-  own_alias : owns m y CNAME ≡ false
+  pub own_alias : owns m y CNAME ≡ false
   own_alias = not_owned CNAME (by (is_address t))
     where
       by : (b : Bool) → In CNAME (cond b (t ∷ CNAME ∷ 65305 ∷ []) (t ∷ CNAME ∷ []))
@@ -61,7 +61,7 @@ module _ (m : Sets) (y : Name) (t : ℕ) (nothing : direct m y t ≡ None) where
       by false = inr (inl refl)
 
   -- NS stands there only at an apex
-  own_delegation : (y ≡ [] → ⊥) → (t == DS) ≡ false → owns m y NS ≡ true → owns m y SOA ≡ true
+  pub own_delegation : (y ≡ [] → ⊥) → (t == DS) ≡ false → owns m y NS ≡ true → owns m y SOA ≡ true
   own_delegation below d k = by (owns m y SOA) refl
     where
       by : (b : Bool) → owns m y SOA ≡ b → b ≡ true

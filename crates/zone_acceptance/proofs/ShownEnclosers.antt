@@ -25,7 +25,7 @@ use Rattle.zone_acceptance.proofs.Gaps.{IsBetween, owner_near}
 use Rattle.zone_acceptance.proofs.Readings.{record_at}
 
 -- names at or above each other are one
-same_name : (a b : Name) → IsAtOrAbove a b → IsAtOrAbove b a → a ≡ b
+pub same_name : (a b : Name) → IsAtOrAbove a b → IsAtOrAbove b a → a ≡ b
 same_name a b u v = by (above_cases a b u) (above_cases b a v)
   where
     by : (a ≡ b) ⊎ IsAbove a b → (b ≡ a) ⊎ IsAbove b a → a ≡ b
@@ -33,7 +33,7 @@ same_name a b u v = by (above_cases a b u) (above_cases b a v)
     by (inr w) (inl e) = sym e
     by (inr w) (inr k) = absurd (asym name_order a b (above_is_less a b w) (above_is_less b a k))
 
-above_star : (a e : Name) → IsAbove a (star_under e) → IsAtOrAbove a e
+pub above_star : (a e : Name) → IsAbove a (star_under e) → IsAtOrAbove a e
 above_star a e (l, f, q) = (f, ap (drop 1) q)
 
 module _ (origin : Name) (m : Sets) (x : Name) (j : IsJudged origin m x) (over : IsAbove origin x) where

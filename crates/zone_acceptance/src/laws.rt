@@ -6,6 +6,7 @@
 //! it is secured, and that has no NSEC3 sets; and of those names that neither a zone cut nor a DNAME stands above (`IsJudged`).
 //! Signatures are taken as verified.
 ghost use Rattle.zone_acceptance.specs.Acceptance.{NameErrorAccepted, StarredErrorAccepted, NameErrorSound, NoDataAccepted, EmptyAccepted, WildcardNoDataAccepted, WildcardAnswerAccepted, UnsignedDelegationAccepted, DenialAccepted};
+ghost use Rattle.zone_acceptance.specs.Nsec3Acceptance.{Nsec3NameErrorSound, Nsec3DenialAccepted};
 
 /// Where a name that doesn't begin with `*` is denied by NXDomain, the records of its denial prove a name error (RFC 4035 sections
 /// 3.1.3.2 and 5.4). So they do for a name that begins with `*`, where neither the star under its closest encloser nor a name
@@ -52,4 +53,20 @@ pub fn unsigned_delegations_are_accepted()
 #[tactic(auto, using(crate::proofs::EmptyAnswers::denial_accepted))]
 pub fn denials_are_accepted()
     ensures { DenialAccepted }
+{}
+
+/// The same as [`denials_are_accepted`], of denials by NSEC3 without opt-out, to which no wildcard answered: a name error is proved
+/// exactly where the name is denied by NXDomain (RFC 5155 section 8.4), and absent data (sections 8.5 to 8.7), a star that may answer
+/// (section 8.8) and an unsigned delegation (section 8.9) are proved. That is so where no name owns NSEC, the name itself owns no
+/// NSEC3, the origin is no delegation, and the hash tells the names on the circle and those that the denial asks of apart
+/// (`IsNsec3Judged`).
+#[tactic(auto, using(crate::proofs::Nsec3EmptyAnswers::nsec3_denial_accepted))]
+pub fn nsec3_denials_are_accepted()
+    ensures { Nsec3DenialAccepted }
+{}
+
+/// The same as [`name_errors_are_sound`], of NSEC3 records of the zone, on the same conditions.
+#[tactic(auto, using(crate::proofs::Nsec3NameErrors::nsec3_name_error_sound))]
+pub fn nsec3_name_errors_are_sound()
+    ensures { Nsec3NameErrorSound }
 {}

@@ -1,8 +1,8 @@
 -- What NSEC3 records prove to a validator. It knows the NSEC3 records of a response, whose signatures it has verified and which have
 -- all the same parameters, the hash by these parameters, the apex of the zone, which is the name that signed them, and what was
 -- asked. It knows no zone.
-use Rattle.std.specs.Prelude.{ℕ, Bool, true, false, ◌&&◌, ◌||◌, not, cond, List, [], ◌==◌, Option, find, option_map, is_none}
-use Rattle.std.specs.List.{list_any, is_nil}
+use Rattle.std.specs.Prelude.{ℕ, Bool, true, false, ◌&&◌, ◌||◌, not, cond, List, ◌==◌, Option, find, option_map}
+use Rattle.std.specs.List.{list_any}
 use Rattle.std.specs.Option.{option_map_or}
 use Rattle.zone_proto.specs.HashedOwners.{hashed_owner}
 use Rattle.zone_proto.specs.Names.{Name, name_cmp, name_eq, is_above, is_at_or_above}
