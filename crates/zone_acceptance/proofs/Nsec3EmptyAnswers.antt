@@ -21,12 +21,13 @@ use Rattle.zone_denial.specs.Nsec3Denial.{nsec3_denial}
 use Rattle.zone_denial.specs.Nsec3Names.{nsec3_names}
 use Rattle.zone_denial.specs.Nsec3Zones.{IsNsec3Zone, IsHashed, TellsApart}
 use Rattle.zone_denial.proofs.ExistingAncestors.{exists_from}
+use Rattle.zone_denial.proofs.Nsec3Covers.{IsCover}
 use Rattle.zone_denial.proofs.Nsec3Enclosers.{is_named, named_in, IsEnclosed}
 use Rattle.zone_search.specs.Replies.{name_exists, nx_domain, denial}
 use Rattle.zone_validation.specs.Encloser.{next_closer}
 use Rattle.zone_validation.specs.Nsec3Proofs.{lists, lists_none, is_wrong_side, denies_type, matches, covers, is_covered, proves_name_error, proves_no_data, proves_opted_out, proves_wildcard_no_data, proves_empty_answer, proves_wildcard_answer, proves_unsigned_delegation}
 use Rattle.zone_validation.specs.Nsec3Records.{Nsec3Record}
-use Rattle.zone_acceptance.specs.Nsec3Acceptance.{IsNsec3Accepted, Nsec3DenialAccepted}
+use Rattle.zone_acceptance.specs.Nsec3Acceptance.{IsNsec3Accepted, Nsec3DenialAccepted, Nsec3WildcardAnswerAccepted}
 use Rattle.zone_acceptance.specs.Nsec3Judged.{read_nsec3_sets, IsNsec3Judged, IsNsec3JudgedType}
 use Rattle.zone_acceptance.proofs.EmptyAnswers.{searched_itself, exists_means}
 use Rattle.zone_acceptance.proofs.NameErrors.{error_means}
@@ -34,7 +35,7 @@ use Rattle.zone_acceptance.proofs.Nsec3Judging.{listed_type, owned_listed, liste
 use Rattle.zone_acceptance.proofs.Nsec3Matches.{covers_is, matches_itself}
 use Rattle.zone_acceptance.proofs.Nsec3NameErrors.{enclosed, over, of_names, enclosing, error_proved, nsec3_name_error_sound}
 use Rattle.zone_acceptance.proofs.Nsec3Readings.{record_of}
-use Rattle.zone_acceptance.proofs.Nsec3Shown.{nsec3_denial_of_zone, own_shown}
+use Rattle.zone_acceptance.proofs.Nsec3Shown.{nsec3_denial_of_zone, own_shown, closer_shown}
 use Rattle.zone_acceptance.proofs.OwnTypes.{neither, differs, own_type, own_alias, own_delegation}
 
 -- ---- where nothing is found at a name of the circle, its record denies the type
@@ -82,6 +83,37 @@ module _ {origin : Name} {m : Sets} {hash : Name → Option (List ℕ)} {paramet
   type_denied =
       or_right (lists_none r) (not (t == ANY) && not (lists r t) && not (lists r CNAME) && not (is_wrong_side r t))
       (λ i. not (differs t ANY any i) && not (type_not i) && not (alias_not i) && not (wrong_not i))
+
+-- ---- an answer of a star
+
+module _ {origin : Name} {m : Sets} {hash : Name → Option (List ℕ)} {parameters : Nsec3Parameters} {x : Name} (j : IsNsec3Judged origin m hash parameters x) (e : Name) (asked : asked_star m x ≡ Some (star_under e)) where
+  -- a name for which a star is asked isn't on the circle
+  asked_off : is_named origin m parameters.opt_out x ≡ false
+  asked_off = sym (exists_is j x (is_at_or_above_sound origin x j.inside) j.uncut) ∙ law.absent m x (star_under e) asked
+    where
+      law : StarIsOfClosestEncloser
+      law = star_is_of_closest_encloser
+
+  abbrev n : (a : Name) × (c : Name) × IsEnclosed origin m parameters.opt_out x a c
+  n = enclosed j asked_off
+
+  -- what covers its next closer name proves the star
+  star_proved : (rs : List Nsec3Record) → (k : Name) × IsCover j.zone j.apart n.1 k × In (record_of j.zone j.apart k) rs → proves_wildcard_answer origin hash rs x e ≡ true
+  star_proved rs k =
+      ap (λ a. is_above a x && option_map_or (is_covered origin hash rs) (next_closer x a) false) same
+      ∙ (λ i. (above_test n.0 x).1 (encloser_above j n.0 n.2.is_encloser) i && (ap (λ o. option_map_or (is_covered origin hash rs) o false) n.2.is_closer ∙ covered) i)
+    where
+      same : e ≡ n.0
+      same = ap (drop 1) (asked_only j n.0 n.2.is_encloser (over j asked_off) (star_under e) asked).0
+
+      covered : is_covered origin hash rs n.1 ≡ true
+      covered =
+          any_from_In (λ r. covers origin hash r n.1) (record_of j.zone j.apart k.0) rs k.2
+          (covers_is j.zone j.apart k.0 n.1 k.1.on (inr (n.0, n.2.is_encloser, inl (n.2.closer_at, n.2.closer_below))) ∙ k.1.covered)
+
+pub nsec3_wildcard_answer_accepted : Nsec3WildcardAnswerAccepted
+nsec3_wildcard_answer_accepted origin m hash parameters x e j answer given asked =
+    star_proved j e asked (read_nsec3_sets answer) (closer_shown j.zone j.apart (n j e asked).0 (n j e asked).1 (n j e asked).2 answer given)
 
 -- ---- the parts
 
@@ -170,28 +202,10 @@ module _ {origin : Name} {m : Sets} {hash : Name → Option (List ℕ)} {paramet
       by false off = or_right (first || second) (proves_wildcard_no_data origin hash rs x t) (wildcard_no_data signed t deniable nothing e (there_is j ∙ off))
 
   wildcard_accepted : (e : Name) → asked_star m x ≡ Some (star_under e) → proves_wildcard_answer origin hash rs x e ≡ true
-  wildcard_accepted e asked = by (on_circle x) refl
-    where
-      law : StarIsOfClosestEncloser
-      law = star_is_of_closest_encloser
-
-      by : (b : Bool) → on_circle x ≡ b → is_above e x && option_map_or (is_covered origin hash rs) (next_closer x e) false ≡ true
-      by true on = absurd (true≢false (sym (exists_is j x (is_at_or_above_sound origin x j.inside) j.uncut ∙ on) ∙ law.absent m x (star_under e) asked))
-      by false off =
-          ap (λ a. is_above a x && option_map_or (is_covered origin hash rs) (next_closer x a) false) same
-          ∙ (λ i. (above_test n.0 x).1 (encloser_above j n.0 n.2.is_encloser) i && (ap (λ o. option_map_or (is_covered origin hash rs) o false) n.2.is_closer ∙ covered) i)
-        where
-          n : (a : Name) × (c : Name) × IsEnclosed origin m parameters.opt_out x a c
-          n = enclosed j off
-
-          same : e ≡ n.0
-          same = ap (drop 1) (asked_only j n.0 n.2.is_encloser (over j off) (star_under e) asked).0
-
-          covered : is_covered origin hash rs n.1 ≡ true
-          covered =
-              let s = enclosing j off answer given in
-              any_from_In (λ r. covers origin hash r n.1) (record_of j.zone j.apart s.cover) rs s.has_cover
-              (covers_is j.zone j.apart s.cover n.1 s.is_cover.on (inr (n.0, n.2.is_encloser, inl (n.2.closer_at, n.2.closer_below))) ∙ s.is_cover.covered)
+  wildcard_accepted e asked =
+      let off = asked_off j e asked in
+      let s = enclosing j off answer given in
+      star_proved j e asked rs (s.cover, s.is_cover, s.has_cover)
 
   delegation_accepted : owns m x NS ≡ true → owns m x DS ≡ false → owns m x SOA ≡ false → proves_unsigned_delegation origin hash rs x ≡ true
   delegation_accepted ns ds soa =

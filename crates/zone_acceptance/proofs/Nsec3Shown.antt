@@ -1,25 +1,26 @@
 -- What the denial of a name by NSEC3 shows to a validator: the name's own record; or those of its closest encloser, of what covers the
 -- next closer name, and of the star under the encloser or of what covers that star
-use Rattle.std.proofs.Common.{◌≡◌, ℕ, Bool, true, false, cond, List, [], ◌∷◌, refl, sym, ap, ◌∙◌, subst, inl, inr}
+use Rattle.std.proofs.Common.{◌≡◌, ℕ, Bool, true, false, cond, ◌&&◌, List, [], ◌∷◌, ◌++◌, refl, sym, ap, ◌∙◌, subst, inl, inr}
 use Rattle.std.specs.Prelude.{Option, Some, None, Result, Ok, Err, filter_map, option_to_list}
 use Rattle.std.specs.List.{Contains}
-use Rattle.std.specs.Option.{option_or}
+use Rattle.std.specs.Option.{option_or, option_map_or}
 use Rattle.zone_proto.specs.declared.error.ProtoError.{ProtoError}
 use Rattle.zone_proto.specs.declared.rdata.denial.NSEC3PARAM.{NSEC3PARAM as Nsec3Parameters}
 use Rattle.zone_proto.specs.HashedOwners.{hashed_owner, owner_or_refusal}
-use Rattle.zone_proto.specs.Names.{Name}
+use Rattle.zone_proto.specs.Names.{Name, name_cmp}
 use Rattle.zone_proto.specs.Sets.{RRset}
 use Rattle.zone_proto.specs.Types.{NSEC3}
-use Rattle.zone_proto.proofs.Members.{In, In-Contains, Contains-In, In-from_filter_map}
+use Rattle.zone_proto.proofs.Members.{In, In-Contains, Contains-In, In-filter_map, In-from_filter_map}
 use Rattle.zone_map.specs.Wildcards.{star_under}
 use Rattle.zone_map.specs.Zones.{Sets, set_at, owns}
-use Rattle.zone_denial.specs.Nsec3Denial.{cover_owner, enclosed, star_part, nsec3_denying_owners, nsec3_denial, result_and_then}
+use Rattle.zone_denial.specs.Nsec3Denial.{match_of, cover_of, cover_owner, encloser_of, enclosed, star_part, nsec3_denying_owners, nsec3_denial, result_and_then}
 use Rattle.zone_denial.specs.Nsec3Names.{nsec3_names}
 use Rattle.zone_denial.specs.Nsec3Zones.{IsNsec3Zone, IsHashed, TellsApart}
+use Rattle.zone_denial.specs.TypeLists.{in_order}
 use Rattle.zone_denial.proofs.Nsec3Covers.{IsCover, has_cover}
 use Rattle.zone_denial.proofs.Nsec3Enclosers.{is_named, named_in, IsEnclosed}
-use Rattle.zone_denial.proofs.Nsec3Encloses.{star_hashed, star_owners, star_answered, answer_on, IsEnclosing, answer_off}
-use Rattle.zone_denial.proofs.Nsec3Owners.{owner, named_owns, owns_as_named}
+use Rattle.zone_denial.proofs.Nsec3Encloses.{encloser_is, cover_is, star_hashed, star_owners, star_answered, answer_on, IsEnclosing, answer_off}
+use Rattle.zone_denial.proofs.Nsec3Owners.{owner, is_owner, named_owns, owns_as_named}
 use Rattle.zone_validation.specs.Nsec3Records.{Nsec3Record, nsec3_records}
 use Rattle.zone_acceptance.specs.Nsec3Judged.{read_nsec3_sets, AreNsec3OfZone}
 use Rattle.zone_acceptance.proofs.Nsec3Readings.{record_of, shown, from_read}
@@ -110,3 +111,39 @@ module _ {origin : Name} {m : Sets} {hash : Name → Option (List ℕ)} {paramet
       unnamed : (In star names → ⊥) → (b : Bool) → is_named origin m parameters.opt_out star ≡ b → is_named origin m parameters.opt_out star ≡ false
       unnamed away true q = absurd (away (named_in origin m parameters.opt_out star q))
       unnamed away false q = q
+
+  -- and where a wildcard answered, what covers the next closer name
+  pub closer_shown : (a c : Name) → IsEnclosed origin m parameters.opt_out x a c → (answer : List RRset) → nsec3_denial m hashed true x ≡ Ok answer
+      → (k : Name) × IsCover zone apart c k × In (record_of zone apart k) (read_nsec3_sets answer)
+  closer_shown a c e answer given =
+      (cover.0, cover.1, shown zone apart answer cover.0 cover.1.on (λ s q. subst (λ sets. Contains sets s) (same_answer (filter_map (λ o. set_at m o NSEC3) owners) answer (sym (ap with_sets owners_are) ∙ given)) (In-Contains s (filter_map (λ o. set_at m o NSEC3) owners) (In-filter_map (λ o. set_at m o NSEC3) (owner zone apart cover.0) s owners (inl refl) q))))
+    where
+      closer_hashed : IsHashed origin m parameters.opt_out x c
+      closer_hashed = inr (a, e.is_encloser, inl (e.closer_at, e.closer_below))
+
+      cover : (k : Name) × IsCover zone apart c k
+      cover = has_cover zone apart c closer_hashed e.off
+
+      owners : List Name
+      owners = owner zone apart cover.0 ∷ []
+
+      with_sets : Result (List Name) ProtoError → Result (List RRset) ProtoError
+      with_sets = result_and_then (λ owners. Ok (filter_map (λ o. set_at m o NSEC3) owners))
+
+      of_encloser : Result (List Name) ProtoError
+      of_encloser = result_and_then (λ encloser. result_and_then (λ owners. Ok (in_order name_cmp owners)) (enclosed m hashed true x encloser)) (encloser_of m hashed x)
+
+      passed : (b : Bool) (own : Name) → cond (b && false) (Ok (own ∷ [])) of_encloser ≡ of_encloser
+      passed true own = refl
+      passed false own = refl
+
+      owners_are : nsec3_denying_owners m hashed true x ≡ Ok (owner zone apart cover.0 ∷ [])
+      owners_are =
+          ap (result_and_then (λ own. cond (owns m own NSEC3 && false) (Ok (own ∷ [])) of_encloser)) (is_owner zone apart x (inr (a, e.is_encloser, inl (([], refl), e.above))))
+          ∙ passed (owns m (owner zone apart x) NSEC3) (owner zone apart x)
+          ∙ ap (result_and_then (λ encloser. result_and_then (λ owners. Ok (in_order name_cmp owners)) (enclosed m hashed true x encloser))) (encloser_is zone apart a c e)
+          ∙ ap
+          (λ o. result_and_then (λ owners. Ok (in_order name_cmp owners))
+          (result_and_then (λ closer. cond true (Ok closer) (result_and_then (λ encloser. result_and_then (λ star. Ok (encloser ++ closer ++ star)) (star_part m hashed a)) (match_of m hashed a))) (option_map_or (cover_of m hashed) o (Ok [])))) e.is_closer
+          ∙ ap (λ r. result_and_then (λ owners. Ok (in_order name_cmp owners)) (result_and_then (λ closer. cond true (Ok closer) (result_and_then (λ encloser. result_and_then (λ star. Ok (encloser ++ closer ++ star)) (star_part m hashed a)) (match_of m hashed a))) r))
+          (cover_is zone apart c cover.0 closer_hashed cover.1)

@@ -1,5 +1,5 @@
 -- What a validator makes of the denials of a zone by NSEC3, without opt-out
-use Rattle.std.specs.Prelude.{◌↔◌, ◌≡◌, ℕ, Bool, false, List, Option, Some, None, Ok, IsTrue, IsFalse}
+use Rattle.std.specs.Prelude.{◌↔◌, ◌≡◌, ℕ, Bool, true, false, List, Option, Some, None, Ok, IsTrue, IsFalse}
 use Rattle.zone_proto.specs.declared.rdata.denial.NSEC3PARAM.{NSEC3PARAM as Nsec3Parameters}
 use Rattle.zone_proto.specs.HashedOwners.{owner_or_refusal}
 use Rattle.zone_proto.specs.Names.{Name}
@@ -26,6 +26,11 @@ pub record IsNsec3Accepted (origin : Name) (m : Sets) (hash : Name → Option (L
 abbrev pub Nsec3DenialAccepted : Type 0
 Nsec3DenialAccepted = (origin : Name) (m : Sets) (hash : Name → Option (List ℕ)) (parameters : Nsec3Parameters) (x : Name) → IsNsec3Judged origin m hash parameters x
     → (answer : List RRset) → nsec3_denial m (λ n. owner_or_refusal origin (hash n)) false x ≡ Ok answer → IsNsec3Accepted origin m hash parameters.opt_out x (read_nsec3_sets answer)
+
+-- where the star under e is asked for x, the records of the denial to which a wildcard answered, which are fewer, prove that this star may answer
+abbrev pub Nsec3WildcardAnswerAccepted : Type 0
+Nsec3WildcardAnswerAccepted = (origin : Name) (m : Sets) (hash : Name → Option (List ℕ)) (parameters : Nsec3Parameters) (x e : Name) → IsNsec3Judged origin m hash parameters x
+    → (answer : List RRset) → nsec3_denial m (λ n. owner_or_refusal origin (hash n)) true x ≡ Ok answer → asked_star m x ≡ Some (star_under e) → IsTrue (proves_wildcard_answer origin hash (read_nsec3_sets answer) x e)
 
 -- and whatever records of the zone prove a name error, the name is denied by NXDomain
 abbrev pub Nsec3NameErrorSound : Type 0

@@ -6,7 +6,7 @@
 //! it is secured, and that has no NSEC3 sets; and of those names that neither a zone cut nor a DNAME stands above (`IsJudged`).
 //! Signatures are taken as verified.
 ghost use Rattle.zone_acceptance.specs.Acceptance.{NameErrorAccepted, StarredErrorAccepted, NameErrorSound, NoDataAccepted, EmptyAccepted, WildcardNoDataAccepted, WildcardAnswerAccepted, UnsignedDelegationAccepted, DenialAccepted};
-ghost use Rattle.zone_acceptance.specs.Nsec3Acceptance.{Nsec3NameErrorSound, Nsec3DenialAccepted};
+ghost use Rattle.zone_acceptance.specs.Nsec3Acceptance.{Nsec3NameErrorSound, Nsec3DenialAccepted, Nsec3WildcardAnswerAccepted};
 
 /// Where a name that doesn't begin with `*` is denied by NXDomain, the records of its denial prove a name error (RFC 4035 sections
 /// 3.1.3.2 and 5.4). So they do for a name that begins with `*`, where neither the star under its closest encloser nor a name
@@ -63,6 +63,13 @@ pub fn denials_are_accepted()
 #[tactic(auto, using(crate::proofs::Nsec3EmptyAnswers::nsec3_denial_accepted))]
 pub fn nsec3_denials_are_accepted()
     ensures { Nsec3DenialAccepted }
+{}
+
+/// Where a star is asked for a name, the fewer records of a denial by NSEC3 to which a wildcard answered prove that an answer may come
+/// from this star (RFC 5155 sections 7.2.6 and 8.8), on the same conditions.
+#[tactic(auto, using(crate::proofs::Nsec3EmptyAnswers::nsec3_wildcard_answer_accepted))]
+pub fn nsec3_wildcard_answers_are_accepted()
+    ensures { Nsec3WildcardAnswerAccepted }
 {}
 
 /// The same as [`name_errors_are_sound`], of NSEC3 records of the zone, on the same conditions.
