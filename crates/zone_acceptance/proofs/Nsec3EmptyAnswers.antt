@@ -112,7 +112,7 @@ module _ {origin : Name} {m : Sets} {hash : Name → Option (List ℕ)} {paramet
           (covers_is j.zone j.apart k.0 n.1 k.1.on (inr (n.0, n.2.is_encloser, inl (n.2.closer_at, n.2.closer_below))) ∙ k.1.covered)
 
 pub nsec3_wildcard_answer_accepted : Nsec3WildcardAnswerAccepted
-nsec3_wildcard_answer_accepted origin m hash parameters x e j answer given asked =
+nsec3_wildcard_answer_accepted origin m hash parameters x j answer given e asked =
     star_proved j e asked (read_nsec3_sets answer) (closer_shown j.zone j.apart (n j e asked).0 (n j e asked).1 (n j e asked).2 answer given)
 
 -- ---- the parts

@@ -27,10 +27,14 @@ abbrev pub Nsec3DenialAccepted : Type 0
 Nsec3DenialAccepted = (origin : Name) (m : Sets) (hash : Name → Option (List ℕ)) (parameters : Nsec3Parameters) (x : Name) → IsNsec3Judged origin m hash parameters x
     → (answer : List RRset) → nsec3_denial m (λ n. owner_or_refusal origin (hash n)) false x ≡ Ok answer → IsNsec3Accepted origin m hash parameters.opt_out x (read_nsec3_sets answer)
 
--- where the star under e is asked for x, the records of the denial to which a wildcard answered, which are fewer, prove that this star may answer
+-- records prove that the star that is asked for x may answer
+abbrev pub ProvesAskedStar : Name → Sets → (Name → Option (List ℕ)) → Name → List Nsec3Record → Type 0
+ProvesAskedStar origin m hash x rs = (e : Name) → asked_star m x ≡ Some (star_under e) → IsTrue (proves_wildcard_answer origin hash rs x e)
+
+-- so do those of the denial of x to which a wildcard answered, which are fewer
 abbrev pub Nsec3WildcardAnswerAccepted : Type 0
-Nsec3WildcardAnswerAccepted = (origin : Name) (m : Sets) (hash : Name → Option (List ℕ)) (parameters : Nsec3Parameters) (x e : Name) → IsNsec3Judged origin m hash parameters x
-    → (answer : List RRset) → nsec3_denial m (λ n. owner_or_refusal origin (hash n)) true x ≡ Ok answer → asked_star m x ≡ Some (star_under e) → IsTrue (proves_wildcard_answer origin hash (read_nsec3_sets answer) x e)
+Nsec3WildcardAnswerAccepted = (origin : Name) (m : Sets) (hash : Name → Option (List ℕ)) (parameters : Nsec3Parameters) (x : Name) → IsNsec3Judged origin m hash parameters x
+    → (answer : List RRset) → nsec3_denial m (λ n. owner_or_refusal origin (hash n)) true x ≡ Ok answer → ProvesAskedStar origin m hash x (read_nsec3_sets answer)
 
 -- and whatever records of the zone prove a name error, the name is denied by NXDomain
 abbrev pub Nsec3NameErrorSound : Type 0

@@ -1,5 +1,5 @@
 -- How lookups agree with a circle of NSEC3 sets
-use Rattle.std.proofs.Common.{◌≡◌, inl, inr, ℕ, List, false, IsTrue, sym, ap, subst, ◌∙◌, true≢false}
+use Rattle.std.proofs.Common.{◌≡◌, inl, inr, ℕ, Bool, List, true, false, IsTrue, sym, ap, subst, ◌∙◌, true≢false}
 use Rattle.std.specs.Prelude.{Option, Result, Ok, IsFalse}
 use Rattle.zone_proto.specs.declared.rdata.denial.NSEC3PARAM.{NSEC3PARAM as Nsec3Parameters}
 use Rattle.zone_proto.specs.declared.error.ProtoError.{ProtoError}
@@ -29,9 +29,12 @@ use Rattle.zone_denial.proofs.Nsec3Encloses.{finds_or_encloses}
 use Rattle.zone_denial.proofs.Nsec3Star.{proves_star}
 use Rattle.zone_denial.proofs.Nsec3Lists.{lists_all_owned, denials_agree}
 use Rattle.zone_search.specs.Replies.{name_exists, nx_domain, IsReplyFor}
+use Rattle.zone_acceptance.specs.Nsec3Acceptance.{IsNsec3Accepted, ProvesAskedStar}
+use Rattle.zone_acceptance.specs.Nsec3Judged.{read_nsec3_sets}
+use Rattle.zone_acceptance.proofs.Nsec3EmptyAnswers.{nsec3_denial_accepted, nsec3_wildcard_answer_accepted}
 use Rattle.zone_in_memory.specs.Lookup.{SaysOrMemory, IsNameError}
 use Rattle.zone_in_memory.specs.Handlers.{Zone}
-use Rattle.zone_in_memory.specs.Nsec3Answers.{HasNsec3Proof, HasNsec3StarProof, AgreesWithNsec3Circle}
+use Rattle.zone_in_memory.specs.Nsec3Answers.{HasNsec3Proof, HasNsec3StarProof, HasAcceptedNsec3Records, HasAskedStarProof, AgreesWithNsec3Circle}
 use Rattle.zone_in_memory.specs.Nsec3Steps.{IsNsec3Answer}
 use Rattle.zone_in_memory.proofs.CircleAgreement.{of_step, of_name_error, name_absent}
 
@@ -97,3 +100,27 @@ module _ {S H : Type 0} (digest_of : H → ℕ → List ℕ → Name → ℕ →
       subst (ProvesStar zone.origin zone.inner.records hash parameters.opt_out x) (same_sets law.0 sets s t law.1 plain denial has section) law.2
   nsec3_star_proves step (inr (inl (refusal, denial, is))) parameters circle plain inside apart off t e = absurd cc
   nsec3_star_proves step (inr (inr is)) parameters circle plain inside apart off t e = absurd cc
+
+  -- the denial of the query is one of the sets that are given
+  denied_sets : (sets : List RRset) (wildcard : Bool) → query.has_wildcard_match ≡ wildcard → query_denial (digest_of zone.hash) zone.origin zone.inner.records query ≡ Ok sets
+      → nsec3_denial zone.inner.records (hashed_for zone.origin (digest_of zone.hash) query) wildcard x ≡ Ok sets
+  denied_sets sets wildcard is denial = ap (λ w. nsec3_denial zone.inner.records (hashed_for zone.origin (digest_of zone.hash) query) w x) (sym is) ∙ denial
+
+  -- a validator accepts their records
+  pub nsec3_answer_accepted : (step : LookupControlFlow AuthLookup LookupError) → IsNsec3Answer digest_of zone query options step → query.has_wildcard_match ≡ false
+      → HasAcceptedNsec3Records digest_of zone query step
+  nsec3_answer_accepted step (inl (sets, denial, (s, is, has, kept))) plain parameters judged t e =
+      let law = nsec3_denial_accepted zone.origin zone.inner.records hash parameters x judged sets (denied_sets sets false plain denial) in
+      let section : s ≡ t = cc in
+      subst (λ sets. IsNsec3Accepted zone.origin zone.inner.records hash parameters.opt_out x (read_nsec3_sets sets)) (sym has ∙ ap sets_in section) law
+  nsec3_answer_accepted step (inr (inl (refusal, denial, is))) plain parameters judged t e = absurd cc
+  nsec3_answer_accepted step (inr (inr is)) plain parameters judged t e = absurd cc
+
+  pub nsec3_asked_star_proves : (step : LookupControlFlow AuthLookup LookupError) → IsNsec3Answer digest_of zone query options step → query.has_wildcard_match ≡ true
+      → HasAskedStarProof digest_of zone query step
+  nsec3_asked_star_proves step (inl (sets, denial, (s, is, has, kept))) wildcard parameters judged t e =
+      let law = nsec3_wildcard_answer_accepted zone.origin zone.inner.records hash parameters x judged sets (denied_sets sets true wildcard denial) in
+      let section : s ≡ t = cc in
+      subst (λ sets. ProvesAskedStar zone.origin zone.inner.records hash x (read_nsec3_sets sets)) (sym has ∙ ap sets_in section) law
+  nsec3_asked_star_proves step (inr (inl (refusal, denial, is))) wildcard parameters judged t e = absurd cc
+  nsec3_asked_star_proves step (inr (inr is)) wildcard parameters judged t e = absurd cc

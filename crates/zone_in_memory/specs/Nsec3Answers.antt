@@ -2,6 +2,7 @@
 use Rattle.std.specs.Prelude.{◌≡◌, ◌≢◌, ℕ, Bool, List, Option, Some, None, Ok, Err, IsTrue}
 use Rattle.std.specs.List.{Contains}
 use Rattle.zone_proto.specs.declared.response_code.ResponseCode.TheVariants as code
+use Rattle.zone_proto.specs.declared.rdata.denial.NSEC3PARAM.{NSEC3PARAM as Nsec3Parameters}
 use Rattle.zone_proto.specs.Names.{Name}
 use Rattle.zone_proto.specs.Sets.{RRset}
 use Rattle.zone_proto.specs.Types.{NSEC3, RRSIG}
@@ -12,10 +13,15 @@ use Rattle.zone_handler.specs.declared.control_flow.LookupControlFlow.TheVariant
 use Rattle.zone_handler.specs.declared.lookup_error.LookupError.{LookupError}
 use Rattle.zone_handler.specs.declared.lookup_error.LookupError.TheVariants as error
 use Rattle.zone_handler.specs.declared.lookup_records.LookupRecords.{LookupRecords}
+use Rattle.zone_handler.specs.declared.nsec3_query_info.Nsec3QueryInfo.{Nsec3QueryInfo}
 use Rattle.zone_handler.specs.Answers.{sets_in}
+use Rattle.zone_handler.specs.Hashing.{digest_for}
 use Rattle.zone_map.specs.Zones.{Sets, owns}
 use Rattle.zone_denial.specs.Nsec3Laws.{types3_of, IsSetOf, FindsOrEncloses, ProvesStar, IsNsec3Listed}
 use Rattle.zone_denial.specs.Nsec3Zones.{IsCircleName}
+use Rattle.zone_acceptance.specs.Nsec3Acceptance.{IsNsec3Accepted, ProvesAskedStar}
+use Rattle.zone_acceptance.specs.Nsec3Judged.{read_nsec3_sets, IsNsec3Judged}
+use Rattle.zone_in_memory.specs.Handlers.{Zone}
 
 module _ (origin : Name) (m : Sets) (hash : Name → Option (List ℕ)) (opt_out : Bool) (n : Name) where
   -- the sets of the answer that is given, if one is, are the NSEC3 set of n alone, or prove its closest encloser
@@ -31,3 +37,18 @@ module _ (origin : Name) (m : Sets) (hash : Name → Option (List ℕ)) (opt_out
     pub name : step ≡ Continue (Err (error.ResponseCode code.NXDomain)) → IsCircleName origin m opt_out n → ⊥
     pub type' : step ≡ Continue (Err error.NameExists) → IsCircleName origin m opt_out n → (s : RRset) (types : List ℕ) → IsSetOf origin m hash n s → types3_of s ≡ Some types → Contains types t → t ≡ RRSIG
     pub owned : t ≢ NSEC3 → IsTrue (owns m n t) → IsNsec3Listed origin m hash opt_out n t
+
+-- where the name of a query is judged, the records of the answer that is given, if one is
+module _ {S H : Type 0} (digest_of : H → ℕ → List ℕ → Name → ℕ → Option (List ℕ)) (zone : Zone S H) (query : Nsec3QueryInfo) (step : LookupControlFlow AuthLookup LookupError) where
+  abbrev hash : Name → Option (List ℕ)
+  hash = digest_for (digest_of zone.hash) query
+
+  -- what a validator makes of them is what the zone has of the name
+  abbrev pub HasAcceptedNsec3Records : Type 0
+  HasAcceptedNsec3Records = (parameters : Nsec3Parameters) → IsNsec3Judged zone.origin zone.inner.records hash parameters query.qname.now
+      → (s : LookupRecords) → step ≡ Continue (Ok (answer.Records s None)) → IsNsec3Accepted zone.origin zone.inner.records hash parameters.opt_out query.qname.now (read_nsec3_sets (sets_in s))
+
+  -- they prove that the star that is asked for the name may answer
+  abbrev pub HasAskedStarProof : Type 0
+  HasAskedStarProof = (parameters : Nsec3Parameters) → IsNsec3Judged zone.origin zone.inner.records hash parameters query.qname.now
+      → (s : LookupRecords) → step ≡ Continue (Ok (answer.Records s None)) → ProvesAskedStar zone.origin zone.inner.records hash query.qname.now (read_nsec3_sets (sets_in s))

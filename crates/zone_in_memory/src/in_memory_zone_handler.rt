@@ -1,4 +1,4 @@
-ghost use Rattle.std.specs.Prelude.{◌≡◌, ◌≢◌, ◌⊎◌, ℕ, List, Option, false, [], Ok, Err, IfErr, IfOk, IsOkUnless, IsTrue, IsFalse, option_copied};
+ghost use Rattle.std.specs.Prelude.{◌≡◌, ◌≢◌, ◌⊎◌, ℕ, List, Option, true, false, [], Ok, Err, IfErr, IfOk, IsOkUnless, IsTrue, IsFalse, option_copied};
 ghost use Rattle.zone_proto.specs.declared.rdata.denial.NSEC3PARAM.{NSEC3PARAM as Nsec3Parameters};
 ghost use Rattle.zone_proto.specs.Names.{Name, lower, is_at_or_above};
 ghost use Rattle.zone_proto.specs.Types.{IN, SOA, AXFR, NSEC, NSEC3};
@@ -13,7 +13,7 @@ ghost use Rattle.zone_in_memory.specs.Lookup.{error_of, SaysOrMemory, IsLookup, 
 ghost use Rattle.zone_acceptance.specs.Judged.{IsJudged};
 ghost use Rattle.zone_in_memory.specs.NsecAnswers.{IsNsecAnswer, HasNsecProof, HasStarProof, HasAcceptedRecords, AgreesWithCircle};
 ghost use Rattle.zone_in_memory.specs.Nsec3Steps.{IsNsec3Answer};
-ghost use Rattle.zone_in_memory.specs.Nsec3Answers.{AgreesWithNsec3Circle, HasNsec3Proof, HasNsec3StarProof};
+ghost use Rattle.zone_in_memory.specs.Nsec3Answers.{AgreesWithNsec3Circle, HasNsec3Proof, HasNsec3StarProof, HasAcceptedNsec3Records, HasAskedStarProof};
 ghost use Rattle.zone_in_memory.specs.Requests.{IsSearch};
 ghost use Rattle.zone_in_memory.specs.Transfers.{IsZoneTransfer};
 ghost use Rattle.zone_map.specs.AnyTypes.{searched_type};
@@ -420,11 +420,10 @@ impl<S: Signer, H: Nsec3Hash> ZoneHandler for InMemoryZoneHandler<S, H> {
     /// have the set of the star under the closest encloser, or one that covers the star. Of names outside the zone nothing is
     /// said.
     ///
-    /// A validator makes of their records what [`InMemoryZoneHandler::lookup`] answers, by the judgement of `zone_validation`,
-    /// which knows no zone: of a name that doesn't begin with `*` they prove a name error exactly where it is answered by
-    /// `NXDomain` (RFC 4035 section 5.4); where `NameExists` is answered they prove that there is no data; and they prove the
-    /// star that answers, and that a delegation has no DS. That is so of a name of the zone which neither a zone cut nor a DNAME
-    /// stands above, where no name owns NSEC3, and of every type but RRSIG and ANY, and DS at the apex of a zone.
+    /// A validator makes of their records what [`InMemoryZoneHandler::lookup`] answers, as `zone_validation`, which knows no
+    /// zone, says: they prove a name error exactly where `NXDomain` is answered, if `name` doesn't begin with `*`, and absent
+    /// data, the star that answers or a delegation without DS (RFC 4035 section 5.4). So it is of a name of the zone that no
+    /// zone cut and no DNAME stands above, where no name owns NSEC3; but not of RRSIG, ANY and the DS of an apex.
     fn nsec_records(
         &self,
         name: &LowerName,
@@ -448,6 +447,9 @@ impl<S: Signer, H: Nsec3Hash> ZoneHandler for InMemoryZoneHandler<S, H> {
     /// and else the set of its closest encloser and one that covers the next closer name (RFC 5155 section 7.2.1), and the set of
     /// the star under that encloser or one that covers the star (section 7.2.2). That is so where the hash gives the names on
     /// the circle and those that it is asked of digests of one length that differ.
+    ///
+    /// Without opt-out a validator makes of their records what is answered, as with [`InMemoryZoneHandler::nsec_records`] (RFC
+    /// 5155 section 8): of such a name that owns no NSEC3, where no name owns NSEC and the origin is no delegation.
     fn nsec3_records(
         &self,
         info: Nsec3QueryInfo<'_>,
@@ -463,6 +465,8 @@ impl<S: Signer, H: Nsec3Hash> ZoneHandler for InMemoryZoneHandler<S, H> {
             → TellsApart (IsHashed self.now.origin self.now.inner.records parameters.opt_out info.entry.qname.now) (digest_for (H.digest_of self.now.hash) info.entry)
             → (IsCircleName self.now.origin self.now.inner.records parameters.opt_out info.entry.qname.now → ⊥)
             → HasNsec3StarProof self.now.origin self.now.inner.records (digest_for (H.digest_of self.now.hash) info.entry) parameters.opt_out info.entry.qname.now result }
+        ensures accepted { info.entry.has_wildcard_match ≡ false → HasAcceptedNsec3Records H.digest_of self.now info.entry result }
+        ensures wildcard { info.entry.has_wildcard_match ≡ true → HasAskedStarProof H.digest_of self.now info.entry result }
     {
         LookupControlFlow::Continue(self.nsec3_answer(info, lookup_options))
     }

@@ -18,7 +18,9 @@ ghost use Rattle.zone_in_memory.specs.TransferLaws.{BeginsAndEndsWithSoa, HasEac
 
 pub use zone_acceptance::laws::{
     absent_data_are_accepted, denials_are_accepted, name_errors_are_accepted,
-    name_errors_are_sound, unsigned_delegations_are_accepted, wildcard_answers_are_accepted,
+    name_errors_are_sound, nsec3_denials_are_accepted, nsec3_name_errors_are_sound,
+    nsec3_wildcard_answers_are_accepted, unsigned_delegations_are_accepted,
+    wildcard_answers_are_accepted,
 };
 use zone_proto::{Nsec3Hash, Signer};
 pub use zone_search::laws::{

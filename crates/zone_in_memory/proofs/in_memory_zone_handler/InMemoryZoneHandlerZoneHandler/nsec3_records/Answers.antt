@@ -1,5 +1,5 @@
 use Rattle.zone_handler.specs.declared.control_flow.LookupControlFlow.TheVariants.{Continue}
-use Rattle.zone_in_memory.proofs.Nsec3Agreement.{nsec3_answer_proves, nsec3_star_proves}
+use Rattle.zone_in_memory.proofs.Nsec3Agreement.{nsec3_answer_proves, nsec3_star_proves, nsec3_answer_accepted, nsec3_asked_star_proves}
 use Rattle.zone_in_memory.proofs.in_memory_zone_handler.InMemoryZoneHandlerZoneHandler.nsec3_records.Goals as goal
 
 pub returns-clause-proof : goal.returns-clause-proof
@@ -7,3 +7,9 @@ returns-clause-proof g c = nsec3_answer_proves g.H.Nsec3Hash.digest_of c.args.se
 
 pub returns-clause-star : goal.returns-clause-star
 returns-clause-star g c = nsec3_star_proves g.H.Nsec3Hash.digest_of c.args.self.now c.args.info c.args.lookup_options (Continue c.nsec3_answer.result) c.nsec3_answer.ensures
+
+pub returns-clause-accepted : goal.returns-clause-accepted
+returns-clause-accepted g c = nsec3_answer_accepted g.H.Nsec3Hash.digest_of c.args.self.now c.args.info c.args.lookup_options (Continue c.nsec3_answer.result) c.nsec3_answer.ensures
+
+pub returns-clause-wildcard : goal.returns-clause-wildcard
+returns-clause-wildcard g c = nsec3_asked_star_proves g.H.Nsec3Hash.digest_of c.args.self.now c.args.info c.args.lookup_options (Continue c.nsec3_answer.result) c.nsec3_answer.ensures
