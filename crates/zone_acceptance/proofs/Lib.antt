@@ -6,7 +6,8 @@ pub mod Stars
 pub mod NameErrors
 pub mod OwnTypes
 pub mod EmptyAnswers
-pub mod JudgedExamples
+mod JudgedExamples
+mod Nsec3JudgedExamples
 pub mod Circles
 pub mod Nsec3Readings
 pub mod Nsec3Matches
