@@ -1,1 +1,4 @@
 pub mod NameCounts
+pub mod NameTests
+pub mod ListTests
+pub mod AncestorWalk
