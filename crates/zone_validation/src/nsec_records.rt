@@ -8,29 +8,30 @@ use zone_proto::Record;
 
 /// Lends the NSEC records among some records, in their order.
 #[derive(Drop)]
-pub(crate) struct NsecRecords<'r> {
-    rest: &'r [&'r Record],
+pub(crate) struct NsecRecords<'s, 'r> {
+    records: &'s [&'r Record],
+    next: usize,
 }
 
-impl<'r> Model for NsecRecords<'r> {
-    ghost use Rattle.std.specs.Prelude.{List, map};
+impl<'s, 'r> Model for NsecRecords<'s, 'r> {
+    ghost use Rattle.std.specs.Prelude.{List, map, drop};
     ghost use Rattle.zone_validation.specs.NsecRecords.{NsecRecord, nsec_records};
 
     ghost Value = { List NsecRecord };
 
-    ghost view = { λ s. nsec_records (map (λ r. r.now) s.rest.now) };
+    ghost view = { λ s. nsec_records (map (λ r. r.now) (drop s.next s.records.now)) };
 }
 
-impl<'r> NsecRecords<'r> {
+impl<'s, 'r> NsecRecords<'s, 'r> {
     /// Those among these.
-    pub(crate) fn among(records: &'r [&'r Record]) -> NsecRecords<'r>
+    pub(crate) fn among(records: &'s [&'r Record]) -> NsecRecords<'s, 'r>
         ensures { result ≡ nsec_records (map (λ r. r.now) records.now) }
     {
-        NsecRecords { rest: records }
+        NsecRecords { records, next: 0 }
     }
 }
 
-impl<'r> Iterator for NsecRecords<'r> {
+impl<'s, 'r> Iterator for NsecRecords<'s, 'r> {
     type Item = LentNsec<'r>;
 
     ghost use Rattle.std.specs.Iterator.{YieldsFirstBy, item_count};
@@ -40,12 +41,13 @@ impl<'r> Iterator for NsecRecords<'r> {
     ghost remaining = { item_count (λ s. s) };
 
     fn next(&mut self) -> Option<LentNsec<'r>> {
-        loop {
-            let (first, rest) = self.rest.split_first()?;
-            self.rest = rest;
-            if let Some(nsec) = LentNsec::read(first) {
+        while self.next < self.records.len() {
+            let lent = self.records[self.next];
+            self.next += 1;
+            if let Some(nsec) = LentNsec::read(lent) {
                 return Some(nsec);
             }
         }
+        None
     }
 }
