@@ -2,3 +2,4 @@ pub mod NameCounts
 pub mod NameTests
 pub mod ListTests
 pub mod AncestorWalk
+pub mod EncloserLabels

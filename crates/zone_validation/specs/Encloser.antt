@@ -1,5 +1,5 @@
 -- The ancestors of a name, and the stars under them
-use Rattle.std.specs.Prelude.{List, [], ◌∷◌}
+use Rattle.std.specs.Prelude.{ℕ, List, [], ◌∷◌, length, ◌==◌, Option, find}
 use Rattle.zone_proto.specs.Names.{Name, star_label, suffixes}
 
 -- the name's ancestors without itself, the longest first, the root last
@@ -10,3 +10,7 @@ proper_ancestors (l ∷ ls) = suffixes ls
 -- the star under a name: `*` before its labels (RFC 4592 section 2.1.1)
 abbrev pub star_under : Name → Name
 star_under a = star_label ∷ a
+
+-- the proper ancestor of a name that has so many labels
+abbrev pub ancestor_of : Name → ℕ → Option Name
+ancestor_of n labels = find (λ a. length a == labels) (proper_ancestors n)

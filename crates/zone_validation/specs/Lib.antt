@@ -1,3 +1,4 @@
 pub mod Encloser
 pub mod NsecRecords
 pub mod NsecProofs
+pub mod Judgement
