@@ -1,6 +1,7 @@
 -- The closest encloser that a circle has for a name, and the name's longest ancestor that exists
 use Rattle.std.proofs.Common.{◌≡◌, ℕ, Bool, true, false, cond, not, ◌&&◌, ◌||◌, [], ◌∷◌, refl, sym, ap, ◌∙◌, true≢false, ◌⊎◌, inl, inr}
 use Rattle.std.specs.Prelude.{None, filter, option_map, ◌==◌}
+use Rattle.std.specs.Cmp.{both_ways}
 use Rattle.std.specs.Map.{keys_of}
 use Rattle.zone_proto.specs.declared.rr_key.RrKey.{RrKey}
 use Rattle.zone_proto.specs.Keys.{key}
@@ -158,6 +159,18 @@ module _ (origin : Name) (m : Sets) (c : ℕ) (P : Name → Bool) (test : IsEncl
               side : IsAtOrAbove e a ⊎ IsAtOrAbove a e → Below e
               side (inl r) = on a s.authoritative r
               side (inr r) = above (above_cases a e r)
+
+  -- where no zone cut stands above a name of the zone, it exists exactly where it passes
+  pub exists_as_passes : (e : Name) → IsAtOrAbove origin e → is_below_cut origin m e ≡ false → exists m e ≡ P e
+  exists_as_passes e u uncut = both_ways (exists m e) (P e) (λ h. of (below e u h)) (λ h. there (test.to e h))
+    where
+      of : Below e → P e ≡ true
+      of (on a k v) = test.from e a u k v
+      of (over a k v) = absurd (true≢false (sym (cut_by origin m c a e k.below k.delegates v) ∙ uncut))
+
+      there : (e ≡ origin) ⊎ ((b : Name) × (is_authoritative origin m c b ≡ true) × IsAtOrAbove e b) → exists m e ≡ true
+      there (inl q) = ap (exists m) q ∙ test.origin_there
+      there (inr (b, k, v)) = above_authority e b k v
 
   -- of a name x below the origin, e is the longest existing ancestor and a is the closest encloser of the circle
   module _ (x e a : Name) (u : IsAbove origin x) (there : IsLongestAbove (exists m) x e) (encloses : IsLongestAbove P x a) where

@@ -19,7 +19,7 @@ pub mod LongestAncestors
 pub mod ExistingAncestors
 pub mod NsecAskedStar
 pub mod NsecSecured
-mod NsecExamples
+pub mod NsecExamples
 mod NsecPremises
 pub mod TypesJoined
 pub mod AboveTests
@@ -27,7 +27,7 @@ pub mod CircleKeys
 pub mod Linking
 pub mod KeyRuns
 pub mod CircleSets
-mod Nsec3Examples
+pub mod Nsec3Examples
 mod Nsec3SetExamples
 mod Nsec3Premises
 mod StarExamples

@@ -16,7 +16,7 @@ use Rattle.zone_denial.specs.Nsec3Names.{is_unsigned_delegation, counted_names, 
 use Rattle.zone_denial.specs.Nsec3Zones.{IsCircleName}
 use Rattle.zone_denial.specs.StarLaws.{OwnsNone, Nsec3EnclosersAgree, Nsec3ProvedStarIsAsked, Nsec3AbsentStarIsDenied}
 use Rattle.zone_denial.proofs.AuthoritativeNames.{authoritative_listed}
-use Rattle.zone_denial.proofs.ExistingAncestors.{exists_from, unowned_absent, asked_is, IsEncloserTest, above_authority, encloser_in, same_encloser, no_star}
+use Rattle.zone_denial.proofs.ExistingAncestors.{exists_from, unowned_absent, asked_is, IsEncloserTest, above_authority, encloser_in, exists_as_passes, same_encloser, no_star}
 use Rattle.zone_denial.proofs.LongestAncestors.{IsLongestAbove, longest_is, longest_above}
 use Rattle.zone_denial.proofs.Nsec3Enclosers.{is_named, named_in, in_named, origin_in}
 use Rattle.zone_denial.proofs.Nsec3NameLaws.{names_are_exact}
@@ -65,6 +65,10 @@ module _ (origin : Name) (m : Sets) (opt_out : Bool) (announced : owns m origin 
     origin_passes = in_named origin m opt_out origin (origin_in origin m opt_out);
     origin_there = exists_from m origin origin NSEC3PARAM announced refl ([], refl);
   }
+
+  -- where no zone cut stands above a name of the zone, it exists exactly where it is on the circle
+  pub exists_on_circle : (n : Name) → IsAtOrAbove origin n → is_below_cut origin m n ≡ false → exists m n ≡ is_named origin m opt_out n
+  exists_on_circle = exists_as_passes origin m NSEC3 (is_named origin m opt_out) test
 
   -- a name of the circle exists
   circle_exists : (a : Name) → IsCircleName origin m opt_out a → exists m a ≡ true

@@ -45,7 +45,7 @@ module _ {origin : Name} {m : Sets} {hash : Name → Option (List ℕ)} {paramet
       ap (result_and_then (λ h. Ok (option_to_list (match_owner m h)))) (is_owner zone apart n (named_hashed zone apart n i))
       ∙ ap (λ b. Ok (option_to_list (cond b (Some (owner zone apart n)) None))) (named_owns zone apart n i)
 
-  cover_is : (c n : Name) → Hashed c → IsCover zone apart c n → cover_of m hashed c ≡ Ok (owner zone apart n ∷ [])
+  pub cover_is : (c n : Name) → Hashed c → IsCover zone apart c n → cover_of m hashed c ≡ Ok (owner zone apart n ∷ [])
   cover_is c n h cover =
       ap (result_and_then (λ h. Ok (option_to_list (cover_owner m h)))) (is_owner zone apart c h)
       ∙ ap (λ o. Ok (option_to_list o)) cover.is_cover
@@ -68,7 +68,7 @@ module _ {origin : Name} {m : Sets} {hash : Name → Option (List ℕ)} {paramet
     pub star_hashed : Hashed (star_under a)
     star_hashed = inr (a, e.is_encloser, inr refl)
 
-    encloser_is : encloser_of m hashed x ≡ Ok (Some a)
+    pub encloser_is : encloser_of m hashed x ≡ Ok (Some a)
     encloser_is = walked (has_match m hashed) on_circle (root_off origin m parameters.opt_out zone.below_root) x a e.is_encloser (λ n above below. match_test n (hashed_above n above below))
 
   -- ---- an answer that has these sets proves the encloser

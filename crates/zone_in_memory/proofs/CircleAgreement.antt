@@ -28,8 +28,11 @@ use Rattle.zone_denial.proofs.NsecBelow.{no_next_below, next_below_empty}
 use Rattle.zone_denial.proofs.NsecStar.{proves_star}
 use Rattle.zone_search.specs.Replies.{Denial, name_exists, nx_domain, refused, denial, answered, denied, IsReplyFor}
 use Rattle.zone_search.proofs.DeniedReplies.{reply_denies}
+use Rattle.zone_acceptance.specs.Acceptance.{IsAccepted}
+use Rattle.zone_acceptance.specs.Judged.{read, IsJudged}
+use Rattle.zone_acceptance.proofs.EmptyAnswers.{denial_accepted}
 use Rattle.zone_in_memory.specs.Lookup.{error_of, SaysOrMemory, IsNameError}
-use Rattle.zone_in_memory.specs.NsecAnswers.{IsDenialSection, IsNsecProof, HasNsecProof, HasStarProof, AgreesWithCircle}
+use Rattle.zone_in_memory.specs.NsecAnswers.{IsDenialSection, IsNsecProof, HasNsecProof, HasStarProof, HasAcceptedRecords, AgreesWithCircle}
 
 -- the step that denies
 abbrev denies : Denial → LookupControlFlow AuthLookup LookupError
@@ -130,3 +133,11 @@ module _ (origin : Name) (m : Sets) (circle : IsNsecZone origin m) where
       let same : s ≡ t = cc in
       subst (HasOwnOrCover m (star_under (nsec_encloser origin m n))) (sym section.sets ∙ ap sets_in same) (proves_star origin m circle n inside off)
   star_proves options n step inside off (inr is) t e = absurd cc
+
+-- a validator accepts the records of the answer that is given
+pub answer_accepted : (origin : Name) (m : Sets) (options : LookupOptions) (n : Name) (step : LookupControlFlow AuthLookup LookupError) → IsJudged origin m n
+    → ((s : LookupRecords) × (step ≡ Continue (Ok (answer.Records s None))) × IsDenialSection origin m options n s) ⊎ (step ≡ Continue (Err error.Memory)) → HasAcceptedRecords origin m n step
+answer_accepted origin m options n step judged (inl (s, is, section)) t e =
+    let same : s ≡ t = cc in
+    subst (λ sets. IsAccepted origin m n (read sets)) (sym section.sets ∙ ap sets_in same) (denial_accepted origin m n judged)
+answer_accepted origin m options n step judged (inr is) t e = absurd cc

@@ -21,6 +21,8 @@ use Rattle.zone_denial.specs.Authority.{is_below_cut}
 use Rattle.zone_denial.specs.NsecCircle.{types_of}
 use Rattle.zone_denial.specs.NsecDenial.{nsec_encloser, nsec_denial}
 use Rattle.zone_denial.specs.NsecLaws.{LastCovers, FindsOrCovers, HasOwnOrCover, IsListed}
+use Rattle.zone_acceptance.specs.Acceptance.{IsAccepted}
+use Rattle.zone_acceptance.specs.Judged.{read}
 use Rattle.zone_in_memory.specs.Handlers.{Zone}
 
 -- the section of an answer that denies n: it has the sets that deny n, and keeps the name's own NSEC set by itself, and any others as several
@@ -46,6 +48,10 @@ HasNsecProof origin m n step = (s : LookupRecords) → step ≡ Continue (Ok (an
 -- the sets of the answer that is given, if one is, have the NSEC set of the star under the closest encloser of n, where that star has one, and else one that covers the star
 abbrev pub HasStarProof : Name → Sets → Name → LookupControlFlow AuthLookup LookupError → Type 0
 HasStarProof origin m n step = (s : LookupRecords) → step ≡ Continue (Ok (answer.Records s None)) → HasOwnOrCover m (star_under (nsec_encloser origin m n)) (sets_in s)
+
+-- what a validator makes of the records of these sets is what the zone has of n
+abbrev pub HasAcceptedRecords : Name → Sets → Name → LookupControlFlow AuthLookup LookupError → Type 0
+HasAcceptedRecords origin m n step = (s : LookupRecords) → step ≡ Continue (Ok (answer.Records s None)) → IsAccepted origin m n (read (sets_in s))
 
 -- how a lookup of n and t agrees with a circle of NSEC sets: a name that is denied isn't on it, and no name at or below that one comes next in its denial; a type that is denied isn't in the list of the name, RRSIG aside; and what is owned is listed, or stands below a zone cut
 pub record AgreesWithCircle (origin : Name) (m : Sets) (n : Name) (t : ℕ) (step : LookupControlFlow AuthLookup LookupError) : Type 0 where

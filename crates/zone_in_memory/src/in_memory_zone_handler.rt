@@ -10,7 +10,8 @@ ghost use Rattle.zone_handler.specs.Transfers.{IsNoLookup};
 ghost use Rattle.zone_search.specs.StartOfAuthority.{soa, serial, minimum};
 ghost use Rattle.zone_search.specs.Replies.{absent, denial, is_there, IsReplyFor};
 ghost use Rattle.zone_in_memory.specs.Lookup.{error_of, SaysOrMemory, IsLookup, IsAnswered, IsNameError};
-ghost use Rattle.zone_in_memory.specs.NsecAnswers.{IsNsecAnswer, HasNsecProof, HasStarProof, AgreesWithCircle};
+ghost use Rattle.zone_acceptance.specs.Judged.{IsJudged};
+ghost use Rattle.zone_in_memory.specs.NsecAnswers.{IsNsecAnswer, HasNsecProof, HasStarProof, HasAcceptedRecords, AgreesWithCircle};
 ghost use Rattle.zone_in_memory.specs.Nsec3Steps.{IsNsec3Answer};
 ghost use Rattle.zone_in_memory.specs.Nsec3Answers.{AgreesWithNsec3Circle, HasNsec3Proof, HasNsec3StarProof};
 ghost use Rattle.zone_in_memory.specs.Requests.{IsSearch};
@@ -418,6 +419,12 @@ impl<S: Signer, H: Nsec3Hash> ZoneHandler for InMemoryZoneHandler<S, H> {
     /// deny each name of the zone: the name's own set is found, or the last set covers the name; and in this case they also
     /// have the set of the star under the closest encloser, or one that covers the star. Of names outside the zone nothing is
     /// said.
+    ///
+    /// A validator makes of their records what [`InMemoryZoneHandler::lookup`] answers, by the judgement of `zone_validation`,
+    /// which knows no zone: of a name that doesn't begin with `*` they prove a name error exactly where it is answered by
+    /// `NXDomain` (RFC 4035 section 5.4); where `NameExists` is answered they prove that there is no data; and they prove the
+    /// star that answers, and that a delegation has no DS. That is so of a name of the zone which neither a zone cut nor a DNAME
+    /// stands above, where no name owns NSEC3, and of every type but RRSIG and ANY, and DS at the apex of a zone.
     fn nsec_records(
         &self,
         name: &LowerName,
@@ -427,6 +434,7 @@ impl<S: Signer, H: Nsec3Hash> ZoneHandler for InMemoryZoneHandler<S, H> {
         ensures proof { IsNsecZone self.now.origin self.now.inner.records → IsTrue (is_at_or_above self.now.origin name.now) → HasNsecProof self.now.origin self.now.inner.records name.now result }
         ensures star { IsNsecZone self.now.origin self.now.inner.records → IsTrue (is_at_or_above self.now.origin name.now) → IsFalse (owns self.now.inner.records name.now NSEC)
             → HasStarProof self.now.origin self.now.inner.records name.now result }
+        ensures accepted { IsJudged self.now.origin self.now.inner.records name.now → HasAcceptedRecords self.now.origin self.now.inner.records name.now result }
     {
         LookupControlFlow::Continue(self.nsec_answer(name, lookup_options))
     }

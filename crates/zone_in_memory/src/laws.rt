@@ -16,6 +16,10 @@ ghost use Rattle.zone_map.specs.Zones.{Sets, set_at, owns, names_of, owners, typ
 ghost use Rattle.zone_in_memory.specs.CircleLaws.{UntakenKeepsCircle, RefusedKeyKeepsCircle, RefusedSecuringKeepsCircle};
 ghost use Rattle.zone_in_memory.specs.TransferLaws.{BeginsAndEndsWithSoa, HasEachRecord, HasNoneTwice};
 
+pub use zone_acceptance::laws::{
+    absent_data_are_accepted, denials_are_accepted, name_errors_are_accepted,
+    name_errors_are_sound, unsigned_delegations_are_accepted, wildcard_answers_are_accepted,
+};
 use zone_proto::{Nsec3Hash, Signer};
 pub use zone_search::laws::{
     additionals_are_one_list, denied_is_not_found, run_is_longest_front, runs_end,

@@ -2,3 +2,5 @@ pub mod Encloser
 pub mod NsecRecords
 pub mod NsecProofs
 pub mod Judgement
+pub mod Nsec3Records
+pub mod Nsec3Proofs

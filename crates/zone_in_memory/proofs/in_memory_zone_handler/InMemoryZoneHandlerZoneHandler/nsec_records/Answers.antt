@@ -1,5 +1,5 @@
 use Rattle.zone_handler.specs.declared.control_flow.LookupControlFlow.TheVariants.{Continue}
-use Rattle.zone_in_memory.proofs.CircleAgreement.{answer_proves, star_proves}
+use Rattle.zone_in_memory.proofs.CircleAgreement.{answer_proves, star_proves, answer_accepted}
 use Rattle.zone_in_memory.proofs.in_memory_zone_handler.InMemoryZoneHandlerZoneHandler.nsec_records.Goals as goal
 
 pub returns-clause-proof : goal.returns-clause-proof
@@ -7,3 +7,6 @@ returns-clause-proof g c circle inside = answer_proves c.args.self.now.origin c.
 
 pub returns-clause-star : goal.returns-clause-star
 returns-clause-star g c circle inside off = star_proves c.args.self.now.origin c.args.self.now.inner.records circle c.args.lookup_options c.args.name.now (Continue c.nsec_answer.result) inside off c.nsec_answer.ensures
+
+pub returns-clause-accepted : goal.returns-clause-accepted
+returns-clause-accepted g c judged = answer_accepted c.args.self.now.origin c.args.self.now.inner.records c.args.lookup_options c.args.name.now (Continue c.nsec_answer.result) judged c.nsec_answer.ensures

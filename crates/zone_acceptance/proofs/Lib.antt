@@ -1,0 +1,16 @@
+pub mod Gaps
+pub mod Readings
+pub mod Speaking
+pub mod ShownEnclosers
+pub mod Stars
+pub mod NameErrors
+pub mod OwnTypes
+pub mod EmptyAnswers
+pub mod JudgedExamples
+pub mod Circles
+pub mod Nsec3Readings
+pub mod Nsec3Matches
+pub mod Nsec3Shown
+pub mod Nsec3Judging
+pub mod Nsec3NameErrors
+pub mod Nsec3EmptyAnswers
