@@ -1,1 +1,5 @@
 pub mod NameCounts
+pub mod NameTests
+pub mod ListTests
+pub mod AncestorWalk
+pub mod EncloserLabels

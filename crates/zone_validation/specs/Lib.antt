@@ -1,5 +1,6 @@
 pub mod Encloser
 pub mod NsecRecords
 pub mod NsecProofs
+pub mod Judgement
 pub mod Nsec3Records
 pub mod Nsec3Proofs

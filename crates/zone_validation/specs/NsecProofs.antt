@@ -1,6 +1,6 @@
 -- What NSEC records prove to a validator. It knows the NSEC records of a response, whose signatures it has verified, the apex of
 -- the zone, which is the name that signed them, and what was asked. It knows no zone.
-use Rattle.std.specs.Prelude.{ℕ, Bool, false, ◌&&◌, ◌||◌, not, cond, List, ◌==◌, Option, find}
+use Rattle.std.specs.Prelude.{ℕ, Bool, false, ◌&&◌, ◌||◌, not, cond, List, ◌==◌, Option, find, option_and_then}
 use Rattle.std.specs.List.{list_any}
 use Rattle.std.specs.Option.{option_map_or}
 use Rattle.zone_proto.specs.Names.{Name, name_cmp, name_eq, is_above, is_at_or_above}
@@ -101,6 +101,10 @@ module _ (apex : Name) (rs : List NsecRecord) where
   -- and 5.3.4)
   abbrev pub proves_wildcard_answer : Name → Name → Bool
   proves_wildcard_answer x e = denied_and_star x (name_eq (star_under e))
+
+  -- the closest encloser of x that the first record shows which denies x
+  abbrev pub denied_encloser : Name → Option Name
+  denied_encloser x = option_and_then (λ r. shown_encloser r x) (find (λ r. denies_name apex r x) rs)
 
 -- an unsigned delegation (RFC 4035 section 5.2)
 abbrev pub proves_unsigned_delegation : List NsecRecord → Name → Bool

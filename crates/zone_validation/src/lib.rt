@@ -7,3 +7,9 @@
 mod asked_labels;
 mod asked_name;
 mod name_labels;
+pub mod nsec;
+mod nsec_record;
+mod nsec_records;
+mod proof;
+
+pub use proof::Proof;

@@ -1,0 +1,25 @@
+-- Tests of the elements of lists
+use Rattle.std.proofs.Common.{◌≡◌, Bool, true, false, ◌&&◌, ◌||◌, List, [], ◌∷◌, map, Option, Some, None, option_map, refl, ap, ◌∙◌}
+use Rattle.std.specs.List.{list_any}
+use Rattle.std.specs.Option.{option_map_or}
+
+pub list_any-map : {X Y : Type 0} (p : Y → Bool) (f : X → Y) (xs : List X) → list_any (λ x. p (f x)) xs ≡ list_any p (map f xs)
+list_any-map p f [] = refl
+list_any-map p f (x ∷ xs) = ap (λ b. p (f x) || b) (list_any-map p f xs)
+
+pub option_map-itself : {X : Type 0} (o : Option X) → option_map (λ x. x) o ≡ o
+option_map-itself None = refl
+option_map-itself (Some x) = refl
+
+none_passes : (b : Bool) → ((b && false) || false) ≡ false
+none_passes true = refl
+none_passes false = refl
+
+-- a test of each element that depends on a value, taken out of the list
+pub list_any-with : {X Y : Type 0} (p q : X → Bool) (test : Y → X → Bool) (value : Option Y)
+    → ((x : X) → q x ≡ option_map_or (λ y. test y x) value false) → (xs : List X)
+    → list_any (λ x. p x && q x) xs ≡ option_map_or (λ y. list_any (λ x. p x && test y x) xs) value false
+list_any-with p q test None h [] = refl
+list_any-with p q test None h (x ∷ xs) = (λ i. (p x && h x i) || list_any-with p q test None h xs i) ∙ none_passes (p x)
+list_any-with p q test (Some y) h [] = refl
+list_any-with p q test (Some y) h (x ∷ xs) = λ i. (p x && h x i) || list_any-with p q test (Some y) h xs i

@@ -1,0 +1,25 @@
+/// What the records of a denial prove of a name and a type. Where they prove several of these, the first in this order is
+/// told.
+#[derive(Clone, Copy, PartialEq, Eq, Debug)]
+pub enum Proof {
+    /// The name doesn't exist, and nor does the wildcard that would answer in its place: NXDomain is right (RFC 4035 section
+    /// 3.1.3.2, RFC 5155 section 8.4).
+    NameError,
+    /// The name is a zone cut, and the parent has no DS of it, so that the child isn't signed by the parent's word (RFC 4035
+    /// section 5.2, RFC 5155 section 8.9).
+    UnsignedDelegation,
+    /// The name owns no set of any type, and stands above names that do (RFC 4592 section 2.2.2).
+    EmptyNonTerminal,
+    /// The name owns no set of the type, and no alias either (RFC 4035 section 3.1.3.1, RFC 5155 sections 8.5 and 8.6).
+    NoData,
+    /// The name doesn't exist, and the wildcard that answers in its place has no set of the type (RFC 4035 section 3.1.3.4,
+    /// RFC 5155 section 8.7).
+    WildcardNoData,
+    /// The name doesn't exist, so that an answer that was made from the wildcard under its closest encloser is right (RFC 4035
+    /// section 3.1.3.3, RFC 5155 section 8.8).
+    WildcardAnswer {
+        /// How many labels the closest encloser has. The RRSIG record of such an answer has this number in its labels field
+        /// (RFC 4034 section 3.1.3).
+        encloser_labels: usize,
+    },
+}
