@@ -41,7 +41,7 @@ use Rattle.zone_acceptance.proofs.OwnTypes.{neither, differs, own_type, own_alia
 -- ---- where nothing is found at a name of the circle, its record denies the type
 
 module _ {origin : Name} {m : Sets} {hash : Name → Option (List ℕ)} {parameters : Nsec3Parameters} {x : Name} (zone : IsNsec3Zone origin m hash parameters) (apart : TellsApart (IsHashed origin m parameters.opt_out x) hash)
-         (y : Name) (inside : IsAtOrAbove origin y) (t : ℕ) (nothing : direct m y t ≡ None) (signed : t ≢ RRSIG) (any : t ≢ ANY) (child : t ≡ DS → owns m y SOA ≡ false) where
+    (y : Name) (inside : IsAtOrAbove origin y) (t : ℕ) (nothing : direct m y t ≡ None) (signed : t ≢ RRSIG) (any : t ≢ ANY) (child : t ≡ DS → owns m y SOA ≡ false) where
   abbrev r : Nsec3Record
   r = record_of zone apart y
 
@@ -118,7 +118,7 @@ nsec3_wildcard_answer_accepted origin m hash parameters x j answer given e asked
 -- ---- the parts
 
 module _ {origin : Name} {m : Sets} {hash : Name → Option (List ℕ)} {parameters : Nsec3Parameters} {x : Name} (j : IsNsec3Judged origin m hash parameters x) (answer : List RRset)
-         (given : nsec3_denial m (λ n. owner_or_refusal origin (hash n)) false x ≡ Ok answer) where
+    (given : nsec3_denial m (λ n. owner_or_refusal origin (hash n)) false x ≡ Ok answer) where
   abbrev names : List Name
   names = nsec3_names origin m parameters.opt_out
 

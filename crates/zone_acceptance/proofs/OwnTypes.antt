@@ -77,7 +77,7 @@ module _ (m : Sets) (y : Name) (t : ℕ) (nothing : direct m y t ≡ None) where
 -- ---- so its record denies the type
 
 module _ (origin : Name) (m : Sets) (h : IsNsecZone origin m) (y : Name) (t : ℕ) (nothing : direct m y t ≡ None) (on : owns m y NSEC ≡ true) (signed : t ≢ RRSIG) (any : t ≢ ANY)
-         (child : t ≡ DS → owns m y SOA ≡ false) where
+    (child : t ≡ DS → owns m y SOA ≡ false) where
   abbrev r : NsecRecord
   r = record_at origin m h y
 

@@ -93,8 +93,13 @@ pub fn proves_wildcard_no_data(
     ensures { result ≡ proves_wildcard_no_data apex.now (nsec_records (map (λ r. r.now) records.now)) name.now record_type.0 }
 {
     let apex = AskedName::of(apex);
-    NsecRecords::among(records)
-        .any(|nsec| denies_with_bare_star(&apex, records, &nsec, name, record_type))
+    NsecRecords::among(records).any(|nsec| denies_with_bare_star(
+        &apex,
+        records,
+        &nsec,
+        name,
+        record_type,
+    ))
 }
 
 /// Whether the records prove that an answer to `name` was rightly made from the wildcard under its ancestor with
@@ -199,11 +204,7 @@ fn encloser_has_labels(nsec: &LentNsec<'_>, name: &LowerName, labels: usize) -> 
 }
 
 /// How many labels the closest encloser has that the first record shows which denies the name.
-fn denied_encloser_labels(
-    apex: &LowerName,
-    records: &[&Record],
-    name: &LowerName,
-) -> Option<usize>
+fn denied_encloser_labels(apex: &LowerName, records: &[&Record], name: &LowerName) -> Option<usize>
     ensures { result ≡ option_map length (denied_encloser apex.now (nsec_records (map (λ r. r.now) records.now)) name.now) }
 {
     let nsec = first_denying(&AskedName::of(apex), records, &AskedName::of(name))?;
