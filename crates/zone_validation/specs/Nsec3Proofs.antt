@@ -1,7 +1,7 @@
 -- What NSEC3 records prove to a validator. It knows the NSEC3 records of a response, whose signatures it has verified and which have
--- all the same parameters, the hash by these parameters, the apex of the zone, which is the name that signed them, and what was
--- asked. It knows no zone.
-use Rattle.std.specs.Prelude.{ℕ, Bool, true, false, ◌&&◌, ◌||◌, not, cond, List, ◌==◌, Option, find, option_map}
+-- all the same parameters (`Nsec3Parameters` says which these are), the hash by these parameters, the apex of the zone, which is the
+-- name that signed them, and what was asked. It knows no zone.
+use Rattle.std.specs.Prelude.{ℕ, Bool, true, false, ◌&&◌, ◌||◌, not, cond, List, ◌==◌, Option, find, filter, reverse, option_map}
 use Rattle.std.specs.List.{list_any}
 use Rattle.std.specs.Option.{option_map_or}
 use Rattle.zone_proto.specs.HashedOwners.{hashed_owner}
@@ -105,6 +105,15 @@ module _ (apex : Name) (hash : Name → Option (List ℕ)) where
     abbrev pub proves_wildcard_answer : Name → Name → Bool
     proves_wildcard_answer x e = is_above e x && option_map_or is_covered (next_closer x e) false
 
-    -- an unsigned delegation: by its record, with NS and neither DS nor SOA, or as one that opt-out leaves out (RFC 5155 section 8.9)
+    -- of the ancestors from which they prove that a wildcard may have answered, not above the apex, the shortest: where the records are
+    -- of one zone, no other of these exists
+    abbrev pub answering_encloser : Name → Option Name
+    answering_encloser x = find (proves_wildcard_answer x) (reverse (filter (is_at_or_above apex) (proper_ancestors x)))
+
+    -- an unsigned delegation by its own record, with NS and neither DS nor SOA (RFC 5155 section 8.9)
+    abbrev pub shows_unsigned_delegation : Name → Bool
+    shows_unsigned_delegation x = list_any (λ r. matches r x && lists r NS && not (lists r DS) && not (lists r SOA)) rs
+
+    -- an unsigned delegation: by its record, or as one that opt-out leaves out (RFC 5155 section 8.9)
     abbrev pub proves_unsigned_delegation : Name → Bool
-    proves_unsigned_delegation x = list_any (λ r. matches r x && lists r NS && not (lists r DS) && not (lists r SOA)) rs || proves_opted_out x
+    proves_unsigned_delegation x = shows_unsigned_delegation x || proves_opted_out x
