@@ -1,5 +1,5 @@
 -- Tests of the elements of lists
-use Rattle.std.proofs.Common.{◌≡◌, Bool, true, false, ◌&&◌, ◌||◌, List, [], ◌∷◌, map, Option, Some, None, option_map, refl, ap, ◌∙◌}
+use Rattle.std.proofs.Common.{◌≡◌, ◌==◌, ne_eqb, arith, not, length, Bool, true, false, ◌&&◌, ◌||◌, List, [], ◌∷◌, map, Option, Some, None, option_map, refl, ap, ◌∙◌}
 use Rattle.std.specs.List.{list_any}
 use Rattle.std.specs.Option.{option_map_or}
 
@@ -23,3 +23,8 @@ list_any-with p q test None h [] = refl
 list_any-with p q test None h (x ∷ xs) = (λ i. (p x && h x i) || list_any-with p q test None h xs i) ∙ none_passes (p x)
 list_any-with p q test (Some y) h [] = refl
 list_any-with p q test (Some y) h (x ∷ xs) = λ i. (p x && h x i) || list_any-with p q test (Some y) h xs i
+
+-- no element is there where the length says so
+pub empty_by_length : {X Y : Type 0} (f : X → Y) (xs : List X) → (length xs == 0) ≡ not (list_any (λ y. true) (map f xs))
+empty_by_length f [] = refl
+empty_by_length f (x ∷ xs) = ne_eqb (length (x ∷ xs)) 0 (λ e. omega (arith, e))

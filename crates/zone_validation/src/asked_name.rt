@@ -1,5 +1,5 @@
 // Names as the records of a denial and a question have them, compared without memory.
-ghost use Rattle.std.specs.Prelude.{◌≡◌, ◌∷◌};
+ghost use Rattle.std.specs.Prelude.{◌≡◌, ◌&&◌, ◌||◌, ◌∷◌};
 ghost use Rattle.zone_proto.specs.Names.{lower, name_cmp, name_eq, is_above, is_at_or_above};
 ghost use Rattle.zone_proto.specs.Order.{is_before, is_upto};
 ghost use Rattle.zone_validation.specs.Encloser.{star_under};
@@ -93,10 +93,20 @@ impl<'n> AskedName<'n> {
     }
 
     /// Whether this name is the other or stands before it.
-    pub(crate) fn is_upto(&self, other: &AskedName<'_>) -> bool
+    fn is_upto(&self, other: &AskedName<'_>) -> bool
         ensures { result ≡ is_upto name_cmp self.now other.now }
     {
         self.compare(other).is_le()
+    }
+
+    /// Whether it stands between an owner and the next one, or past the ends of the last pair, whose next is the first (RFC 5155
+    /// section 1.3).
+    pub(crate) fn is_between(&self, owner: &AskedName<'_>, next: &AskedName<'_>) -> bool
+        ensures { result ≡ ((is_before name_cmp owner.now self.now && is_before name_cmp self.now next.now)
+            || (is_upto name_cmp next.now owner.now && (is_before name_cmp owner.now self.now || is_before name_cmp self.now next.now))) }
+    {
+        (owner.is_before(self) && self.is_before(next))
+            || (next.is_upto(owner) && (owner.is_before(self) || self.is_before(next)))
     }
 
     /// Whether the other name is this one or below it.

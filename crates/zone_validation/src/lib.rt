@@ -6,8 +6,12 @@
 
 mod asked_labels;
 mod asked_name;
+mod hashed_owner;
 mod name_labels;
 pub mod nsec;
+mod nsec3_parameters;
+mod nsec3_record;
+mod nsec3_records;
 mod nsec_record;
 mod nsec_records;
 mod proof;
