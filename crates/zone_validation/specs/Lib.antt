@@ -5,3 +5,4 @@ pub mod Judgement
 pub mod Nsec3Records
 pub mod Nsec3Proofs
 pub mod Nsec3Parameters
+pub mod Nsec3Responses

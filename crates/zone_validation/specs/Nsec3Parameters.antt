@@ -16,28 +16,34 @@ same_parameters p d = p.algorithm == d.algorithm && p.iterations == d.iterations
 abbrev pub has_parameters : Nsec3Data → Record → Bool
 has_parameters p r = option_map_or (same_parameters p) (nsec3_data r.rdata) false
 
+-- the NSEC3 records that have them, among some records
+abbrev pub records_with : Nsec3Data → List Record → List Nsec3Record
+records_with p rs = nsec3_records (filter (has_parameters p) rs)
+
 -- the data of the NSEC3 records among some records
 abbrev pub nsec3_datas : List Record → List Nsec3Data
 nsec3_datas rs = filter_map (λ r. nsec3_data r.rdata) rs
 
+-- with a hash, which has digests by algorithm, salt, name and iterations, where x is asked
 module _ (digest_of : ℕ → List ℕ → Name → ℕ → Option (List ℕ)) where
-  -- the digest of a name by such parameters (RFC 5155 section 5)
+  -- the digest of a name by parameters (RFC 5155 section 5)
   abbrev pub digest_by : Nsec3Data → Name → Option (List ℕ)
   digest_by p x = digest_of p.algorithm p.salt x p.iterations
 
-  module _ (rs : List Record) (x : Name) where
+  module _ (x : Name) where
     -- the hash knows the algorithm: it has a digest of x. A validator ignores the records of others (RFC 5155 section 8.1)
     abbrev pub is_known : Nsec3Data → Bool
     is_known d = is_some (digest_by d x)
 
-    -- a record that it knows has other parameters than these
-    abbrev pub is_other_known : Nsec3Data → Bool
-    is_other_known p = list_any (λ d. not (same_parameters p d) && is_known d) (nsec3_datas rs)
+    module _ (rs : List Record) where
+      -- a record that it knows has other parameters than these
+      abbrev pub is_other_known : Nsec3Data → Bool
+      is_other_known p = list_any (λ d. not (same_parameters p d) && is_known d) (nsec3_datas rs)
 
-    -- the parameters of all records that it knows; none where these have not all the same (RFC 5155 section 8.2)
-    abbrev pub common_parameters : Option Nsec3Data
-    common_parameters = option_and_then (λ p. cond (is_other_known p) None (Some p)) (find is_known (nsec3_datas rs))
+      -- the parameters of all records that it knows; none where these have not all the same (RFC 5155 section 8.2)
+      abbrev pub common_parameters : Option Nsec3Data
+      common_parameters = option_and_then (λ p. cond (is_other_known p) None (Some p)) (find is_known (nsec3_datas rs))
 
-    -- a judgement by the hash with these parameters and by the records that have them; without such parameters, what is given
-    abbrev pub judged : {A : Type 0} → A → ((Name → Option (List ℕ)) → List Nsec3Record → A) → A
-    judged nothing judge = option_map_or (λ p. judge (digest_by p) (nsec3_records (filter (has_parameters p) rs))) common_parameters nothing
+      -- what a judgement gives, by the hash with these parameters and by the records that have them; without such parameters, nothing
+      abbrev pub judged : {A : Type 0} → (nothing : A) → ((Name → Option (List ℕ)) → List Nsec3Record → A) → A
+      judged nothing judgement = option_map_or (λ p. judgement (digest_by p) (records_with p rs)) common_parameters nothing

@@ -1,6 +1,7 @@
 // The owners of NSEC3 records, as digests tell them.
 ghost use Rattle.std.specs.Prelude.{◌≡◌, IfOk, IsOkUnless};
 ghost use Rattle.zone_proto.specs.HashedOwners.{hashed_owner};
+ghost use Rattle.zone_proto.specs.Results.{IsCopy};
 
 use crate::asked_name::AskedName;
 use crate::name_labels::NameLabels;
@@ -33,6 +34,16 @@ impl<'z> HashedOwner<'z> {
     {
         let label = base32_dnssec(apex.alloc(), digest)?;
         Ok(HashedOwner { label, apex })
+    }
+
+    /// A copy. Refused only for want of memory.
+    pub(crate) fn clone(&self) -> Result<HashedOwner<'z>, ProtoError>
+        ensures { IsCopy result self.now }
+    {
+        Ok(HashedOwner {
+            label: self.label.clone()?,
+            apex: self.apex,
+        })
     }
 
     /// The name, to be compared with others.

@@ -12,6 +12,7 @@ pub mod nsec;
 mod nsec3_parameters;
 mod nsec3_record;
 mod nsec3_records;
+mod nsec3_response;
 mod nsec_record;
 mod nsec_records;
 mod proof;

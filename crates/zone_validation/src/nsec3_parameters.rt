@@ -80,7 +80,7 @@ pub(crate) fn common_parameters<'z, 'r, H: Nsec3Hash>(
     hash: &H,
 ) -> Result<Option<KnownParameters<'z, 'r>>, ProtoError>
     ensures common { IfOk result (λ known. option_map (λ k. k.parameters.now) known
-        ≡ common_parameters (H.digest_of hash.now) (map (λ r. r.now) records.now) name.now) }
+        ≡ common_parameters (H.digest_of hash.now) name.now (map (λ r. r.now) records.now)) }
     ensures owner { IfOk result (λ known. IfSome known (λ k.
         Some k.owner ≡ owner_of apex.now (digest_by (H.digest_of hash.now) k.parameters.now) name.now)) }
     ensures err { IsOkUnless result ProtoError.Memory }
@@ -102,7 +102,7 @@ fn first_known<'z, 'r, H: Nsec3Hash>(
     hash: &H,
 ) -> Result<Option<KnownParameters<'z, 'r>>, ProtoError>
     ensures first { IfOk result (λ known. option_map (λ k. k.parameters.now) known
-        ≡ find (is_known (H.digest_of hash.now) (map (λ r. r.now) records.now) name.now) (nsec3_datas (map (λ r. r.now) records.now))) }
+        ≡ find (is_known (H.digest_of hash.now) name.now) (nsec3_datas (map (λ r. r.now) records.now))) }
     ensures owner { IfOk result (λ known. IfSome known (λ k.
         Some k.owner ≡ owner_of apex.now (digest_by (H.digest_of hash.now) k.parameters.now) name.now)) }
     ensures err { IsOkUnless result ProtoError.Memory }
@@ -124,7 +124,7 @@ fn known_parameters<'z, 'r, H: Nsec3Hash>(
     hash: &H,
 ) -> Result<Option<KnownParameters<'z, 'r>>, ProtoError>
     ensures known { IfOk result (λ known. option_map (λ k. k.parameters.now) known
-        ≡ option_and_then (λ d. cond (is_some (digest_by (H.digest_of hash.now) d name.now)) (Some d) None) (nsec3_data lent.now.rdata)) }
+        ≡ option_and_then (λ d. cond (is_known (H.digest_of hash.now) name.now d) (Some d) None) (nsec3_data lent.now.rdata)) }
     ensures owner { IfOk result (λ known. IfSome known (λ k.
         Some k.owner ≡ owner_of apex.now (digest_by (H.digest_of hash.now) k.parameters.now) name.now)) }
     ensures err { IsOkUnless result ProtoError.Memory }
@@ -145,7 +145,7 @@ fn is_other_known<H: Nsec3Hash>(
     hash: &H,
     parameters: &NSEC3,
 ) -> Result<bool, ProtoError>
-    ensures ok { IfOk result (λ other. other ≡ is_other_known (H.digest_of hash.now) (map (λ r. r.now) records.now) name.now parameters.now) }
+    ensures ok { IfOk result (λ other. other ≡ is_other_known (H.digest_of hash.now) name.now (map (λ r. r.now) records.now) parameters.now) }
     ensures err { IsOkUnless result ProtoError.Memory }
 {
     for lent in records {
@@ -164,7 +164,7 @@ fn has_other_known<H: Nsec3Hash>(
     parameters: &NSEC3,
 ) -> Result<bool, ProtoError>
     ensures ok { IfOk result (λ other. other
-        ≡ option_map_or (λ d. not (same_parameters parameters.now d) && is_some (digest_by (H.digest_of hash.now) d name.now)) (nsec3_data lent.now.rdata) false) }
+        ≡ option_map_or (λ d. not (same_parameters parameters.now d) && is_known (H.digest_of hash.now) name.now d) (nsec3_data lent.now.rdata) false) }
     ensures err { IsOkUnless result ProtoError.Memory }
 {
     match nsec3_data(lent) {

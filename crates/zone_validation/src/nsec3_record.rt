@@ -97,8 +97,8 @@ impl<'r> LentNsec3<'r> {
 
     /// Whether it has the hashed owner of a name: whether it matches the name (RFC 5155 section 1.3). That of a name without
     /// a digest it has not.
-    pub(crate) fn has_owner(&self, hashed: &Option<HashedOwner<'_>>) -> bool
-        ensures { result ≡ option_map_or (name_eq self.now.owner) hashed.now false }
+    pub(crate) fn has_owner(&self, hashed: Option<&HashedOwner<'_>>) -> bool
+        ensures { result ≡ option_map_or (name_eq self.now.owner) (option_copied hashed.entry) false }
     {
         match hashed {
             Some(owner) => self.owner.equals(&owner.name()),
@@ -107,8 +107,8 @@ impl<'r> LentNsec3<'r> {
     }
 
     /// Whether it is that of a name with this hashed owner, and the name a delegation without DS (RFC 5155 section 8.9).
-    pub(crate) fn shows_unsigned_delegation(&self, hashed: &Option<HashedOwner<'_>>) -> bool
-        ensures { result ≡ option_map_or (name_eq self.now.owner) hashed.now false && lists self.now NS && not (lists self.now DS) && not (lists self.now SOA) }
+    pub(crate) fn shows_unsigned_delegation(&self, hashed: Option<&HashedOwner<'_>>) -> bool
+        ensures { result ≡ option_map_or (name_eq self.now.owner) (option_copied hashed.entry) false && lists self.now NS && not (lists self.now DS) && not (lists self.now SOA) }
     {
         self.has_owner(hashed)
             && self.lists(RecordType::NS)

@@ -1,7 +1,6 @@
 // The NSEC3 records of a response that have the same parameters.
-ghost use Rattle.std.specs.Prelude.{◌≡◌, map, filter};
-ghost use Rattle.zone_validation.specs.Nsec3Parameters.{has_parameters};
-ghost use Rattle.zone_validation.specs.Nsec3Records.{nsec3_records};
+ghost use Rattle.std.specs.Prelude.{◌≡◌, map};
+ghost use Rattle.zone_validation.specs.Nsec3Parameters.{records_with};
 
 use crate::nsec3_parameters::has_parameters;
 use crate::nsec3_record::LentNsec3;
@@ -17,19 +16,19 @@ pub(crate) struct Nsec3Records<'s, 'r> {
 }
 
 impl<'s, 'r> Model for Nsec3Records<'s, 'r> {
-    ghost use Rattle.std.specs.Prelude.{List, map, filter, drop};
-    ghost use Rattle.zone_validation.specs.Nsec3Parameters.{has_parameters};
-    ghost use Rattle.zone_validation.specs.Nsec3Records.{Nsec3Record, nsec3_records};
+    ghost use Rattle.std.specs.Prelude.{List, map, drop};
+    ghost use Rattle.zone_validation.specs.Nsec3Parameters.{records_with};
+    ghost use Rattle.zone_validation.specs.Nsec3Records.{Nsec3Record};
 
     ghost Value = { List Nsec3Record };
 
-    ghost view = { λ s. nsec3_records (filter (has_parameters s.parameters.now) (map (λ r. r.now) (drop s.next s.records.now))) };
+    ghost view = { λ s. records_with s.parameters.now (map (λ r. r.now) (drop s.next s.records.now)) };
 }
 
 impl<'s, 'r> Nsec3Records<'s, 'r> {
     /// Those among these.
     pub(crate) fn among(records: &'s [&'r Record], parameters: &'s NSEC3) -> Nsec3Records<'s, 'r>
-        ensures { result ≡ nsec3_records (filter (has_parameters parameters.now) (map (λ r. r.now) records.now)) }
+        ensures { result ≡ records_with parameters.now (map (λ r. r.now) records.now) }
     {
         Nsec3Records {
             records,
