@@ -3,3 +3,4 @@ pub mod NameTests
 pub mod ListTests
 pub mod AncestorWalk
 pub mod EncloserLabels
+pub mod ShownWalk

@@ -1,7 +1,7 @@
 -- What NSEC3 records prove to a validator. It knows the NSEC3 records of a response, whose signatures it has verified and which have
 -- all the same parameters (`Nsec3Parameters` says which these are), the hash by these parameters, the apex of the zone, which is the
 -- name that signed them, and what was asked. It knows no zone.
-use Rattle.std.specs.Prelude.{ℕ, Bool, true, false, ◌&&◌, ◌||◌, not, cond, List, ◌==◌, Option, find, filter, reverse, option_map}
+use Rattle.std.specs.Prelude.{ℕ, Bool, true, false, ◌&&◌, ◌||◌, not, cond, List, ◌==◌, Option, None, find, filter, reverse, option_map}
 use Rattle.std.specs.List.{list_any}
 use Rattle.std.specs.Option.{option_map_or}
 use Rattle.zone_proto.specs.HashedOwners.{hashed_owner}
@@ -78,6 +78,10 @@ module _ (apex : Name) (hash : Name → Option (List ℕ)) where
     encloser_and cover x rest =
         is_above apex x && not (is_matched x)
         && option_map_or (λ e. list_any (λ r. matches r e && is_of_encloser r) rs && option_map_or (λ c. list_any (λ r. covers r c && cover r) rs) (next_closer x e) false && rest e) (shown_encloser x) false
+
+    -- the closest encloser that they prove: the one that they show, where the proof stands
+    abbrev pub proved_encloser : Name → Option Name
+    proved_encloser x = cond (encloser_and (λ r. true) x (λ e. true)) (shown_encloser x) None
 
     -- a name error: the closest encloser proof, and the star under the encloser is covered (RFC 5155 section 8.4)
     abbrev pub proves_name_error : Name → Bool

@@ -9,6 +9,7 @@ mod asked_name;
 mod hashed_owner;
 mod name_labels;
 pub mod nsec;
+mod nsec3_encloser;
 mod nsec3_parameters;
 mod nsec3_record;
 mod nsec3_records;
