@@ -4,3 +4,4 @@ pub mod ListTests
 pub mod AncestorWalk
 pub mod EncloserLabels
 pub mod ShownWalk
+pub mod EncloserProofs
