@@ -76,6 +76,36 @@ module _ (apex : Name) (hash : Name → Option (List ℕ)) (rs : List Nsec3Recor
       by true = refl
       by false = refl
 
+  -- whatever is asked of the encloser besides is asked of the one that is proved
+  pub with_rest : (rest : Name → Bool) → encloser_and apex hash rs (λ r. true) x rest ≡ option_map_or rest (proved_encloser apex hash rs x) false
+  with_rest rest = by (is_above apex x && not (is_matched apex hash rs x)) (shown_encloser apex hash rs x)
+    where
+      shows : Name → Bool
+      shows e = list_any (λ r. matches apex hash r e && is_of_encloser r) rs && option_map_or (λ c. list_any (λ r. covers apex hash r c && true) rs) (next_closer x e) false
+
+      at : (a zone : Bool) (e : Name) → (a && (zone && rest e)) ≡ option_map_or rest (cond (a && (zone && true)) (Some e) None) false
+      at true true e = refl
+      at true false e = refl
+      at false zone e = refl
+
+      none : (a : Bool) → (a && false) ≡ option_map_or rest (cond (a && false) None None) false
+      none true = refl
+      none false = refl
+
+      by : (a : Bool) (shown : Option Name)
+          → (a && option_map_or (λ e. shows e && rest e) shown false) ≡ option_map_or rest (cond (a && option_map_or (λ e. shows e && true) shown false) shown None) false
+      by a None = none a
+      by a (Some e) = at a (shows e) e
+
+  -- where the proof stands no record matches x
+  pub unmatched_by : (e : Name) → proved_encloser apex hash rs x ≡ Some e → is_matched apex hash rs x ≡ false
+  unmatched_by e proved = by (is_matched apex hash rs x) refl
+    where
+      by : (b : Bool) → is_matched apex hash rs x ≡ b → b ≡ false
+      by false h = refl
+      by true h =
+          let none : proved_encloser apex hash rs x ≡ None = ap (λ b. cond b (shown_encloser apex hash rs x) None) (matched_none (λ r. true) (λ a. true) h) in cc
+
   module _ (e c : Name) (unmatched : is_matched apex hash rs x ≡ false) (shown : shown_encloser apex hash rs x ≡ Some e) (closer : next_closer x e ≡ Some c) where
     in_parts : (cover : Nsec3Record → Bool) (rest : Name → Bool) → encloser_and apex hash rs cover x rest ≡ by_parts e c cover rest
     in_parts cover rest =
@@ -106,3 +136,9 @@ module _ (apex : Name) (hash : Name → Option (List ℕ)) (rs : List Nsec3Recor
         none : (b : Bool) → (b && false && true) ≡ false
         none true = refl
         none false = refl
+
+  -- what is asked of the star, where the proof stands
+  pub star_rest : (star : Name) → Some (base_name star) ≡ proved_encloser apex hash rs x → star ≡ star_under (base_name star) → (test : Name → Bool)
+      → encloser_and apex hash rs (λ r. true) x (λ e. test (star_under e)) ≡ test star
+  star_rest star proved is test =
+      with_rest (λ e. test (star_under e)) ∙ ap (λ o. option_map_or (λ e. test (star_under e)) o false) (sym proved) ∙ ap test (sym is)

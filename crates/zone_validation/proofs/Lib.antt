@@ -5,3 +5,4 @@ pub mod AncestorWalk
 pub mod EncloserLabels
 pub mod ShownWalk
 pub mod EncloserProofs
+pub mod WildcardAnswers

@@ -5,7 +5,7 @@ use Rattle.std.specs.Prelude.{ℕ, Bool, true, false, ◌&&◌, ◌||◌, not, c
 use Rattle.std.specs.List.{list_any}
 use Rattle.std.specs.Option.{option_map_or}
 use Rattle.zone_proto.specs.HashedOwners.{hashed_owner}
-use Rattle.zone_proto.specs.Names.{Name, name_cmp, name_eq, is_above, is_at_or_above}
+use Rattle.zone_proto.specs.Names.{Name, name_cmp, name_eq, is_above, is_at_or_above, suffixes}
 use Rattle.zone_proto.specs.Order.{is_before, is_upto}
 use Rattle.zone_proto.specs.Types.{NS, CNAME, SOA, DS, ANY}
 use Rattle.zone_validation.specs.Encloser.{proper_ancestors, star_under, next_closer}
@@ -109,10 +109,10 @@ module _ (apex : Name) (hash : Name → Option (List ℕ)) where
     abbrev pub proves_wildcard_answer : Name → Name → Bool
     proves_wildcard_answer x e = is_above e x && option_map_or is_covered (next_closer x e) false
 
-    -- of the ancestors from which they prove that a wildcard may have answered, not above the apex, the shortest: where the records are
-    -- of one zone, no other of these exists
-    abbrev pub answering_encloser : Name → Option Name
-    answering_encloser x = find (proves_wildcard_answer x) (reverse (filter (is_at_or_above apex) (proper_ancestors x)))
+    -- of x and its ancestors, below the apex, the shortest that a record covers. It is the next closer name of the encloser from whose
+    -- star an answer may have been made: where the records are of one zone, those closer to x don't exist
+    abbrev pub covered_closer : Name → Option Name
+    covered_closer x = find is_covered (reverse (filter (is_above apex) (suffixes x)))
 
     -- an unsigned delegation by its own record, with NS and neither DS nor SOA (RFC 5155 section 8.9)
     abbrev pub shows_unsigned_delegation : Name → Bool
