@@ -6,3 +6,4 @@ pub mod EncloserLabels
 pub mod ShownWalk
 pub mod EncloserProofs
 pub mod WildcardAnswers
+pub mod Nsec3Sums

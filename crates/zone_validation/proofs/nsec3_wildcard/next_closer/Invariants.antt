@@ -1,5 +1,5 @@
 use Rattle.std.proofs.Common.{◌≡◌, drop}
 use Rattle.zone_validation.proofs.nsec3_wildcard.next_closer.Given as goal
 
-abbrev pub invariant-loop-i : goal.invariant-loop-i
-invariant-loop-i l = l.closer ≡ drop l.i l.fn.name
+abbrev pub invariant-loop : goal.invariant-loop
+invariant-loop l = l.closer ≡ drop l.counter l.fn.name
