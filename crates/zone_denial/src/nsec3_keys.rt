@@ -36,36 +36,31 @@ impl<H: Nsec3Hash> Hashing<'_, H> {
     }
 }
 
-/// The set that matches a name (RFC 5155 section 1.3).
+/// A name that was hashed, and what matches it (RFC 5155 section 1.3).
+#[derive(Drop)]
+pub(crate) struct Matched<'m> {
+    /// The key that the NSEC3 set of the name has, or would have.
+    pub key: RrKey,
+    /// The set under that key, if there is one.
+    pub set: Option<&'m RecordSet>,
+}
+
+/// Hashes a name, and looks for the set that matches it.
 pub(crate) fn matching<'m, H: Nsec3Hash>(
     records: &'m RecordMap,
     hashing: &Hashing<'_, H>,
     name: &LowerName,
-) -> Result<Option<&'m RecordSet>, ProtoError>
-    ensures ok { IfOk result (λ set. sets_of records.now
-        (match_of records.now (hashed_for hashing.now.origin.now (H.digest_of hashing.now.hash.now) hashing.now.query.now) name.now)
-        ≡ Ok (option_to_list (option_copied set))) }
+) -> Result<Matched<'m>, ProtoError>
+    ensures key { IfOk result (λ matched.
+        hashed_for hashing.now.origin.now (H.digest_of hashing.now.hash.now) hashing.now.query.now name.now ≡ Ok matched.key.name) }
+    ensures nsec3 { IfOk result (λ matched. matched.key.record_type.0 ≡ NSEC3) }
+    ensures set { IfOk result (λ matched. option_copied matched.set ≡ set_at records.now matched.key.name NSEC3) }
     ensures err { IfErr result (λ e. (e ≡ ProtoError.Memory)
         ⊎ (hashed_for hashing.now.origin.now (H.digest_of hashing.now.hash.now) hashing.now.query.now name.now ≡ Err e)) }
 {
-    Ok(records.get(&hashing.key(name)?))
-}
-
-/// The set that covers a name (RFC 5155 section 1.3): that of the greatest owner before the hashed owner, or of the greatest
-/// of all where none is before.
-pub(crate) fn covering<'m, H: Nsec3Hash>(
-    records: &'m RecordMap,
-    hashing: &Hashing<'_, H>,
-    name: &LowerName,
-) -> Result<Option<&'m RecordSet>, ProtoError>
-    ensures ok { IfOk result (λ set. sets_of records.now
-        (cover_of records.now (hashed_for hashing.now.origin.now (H.digest_of hashing.now.hash.now) hashing.now.query.now) name.now)
-        ≡ Ok (option_to_list (option_copied set))) }
-    ensures zone { OnOk result (IsZone records.now) }
-    ensures err { IfErr result (λ e. (e ≡ ProtoError.Memory)
-        ⊎ (hashed_for hashing.now.origin.now (H.digest_of hashing.now.hash.now) hashing.now.query.now name.now ≡ Err e)) }
-{
-    cover_set(records, hashing.key(name)?)
+    let key = hashing.key(name)?;
+    let set = records.get(&key);
+    Ok(Matched { key, set })
 }
 
 /// The set that says something of the star under an encloser: what matches it, or else what covers it.
@@ -81,15 +76,19 @@ pub(crate) fn star_set<'m, H: Nsec3Hash>(
     ensures err { IfErr result (λ e. (e ≡ ProtoError.Memory)
         ⊎ (star_part records.now (hashed_for hashing.now.origin.now (H.digest_of hashing.now.hash.now) hashing.now.query.now) (base_name star.now) ≡ Err e)) }
 {
-    let key = hashing.key(star)?;
-    match records.get(&key) {
+    let Matched { key, set } = matching(records, hashing, star)?;
+    match set {
         Some(set) => Ok(Some(set)),
         None => cover_set(records, key),
     }
 }
 
-/// The set that covers the name of which this is the key. Refused by `Memory` alone.
-fn cover_set(records: &RecordMap, mut key: RrKey) -> Result<Option<&RecordSet>, ProtoError>
+/// The set that covers the name of which this is the key (RFC 5155 section 1.3): that of the greatest owner before the hashed
+/// owner, or of the greatest of all where none is before. Refused by `Memory` alone.
+pub(crate) fn cover_set(
+    records: &RecordMap,
+    mut key: RrKey,
+) -> Result<Option<&RecordSet>, ProtoError>
     requires { key.record_type.0 ≡ NSEC3 }
     ensures ok { IfOk result (λ set. option_to_list (option_copied set)
         ≡ filter_map (λ o. set_at records.now o NSEC3) (option_to_list (cover_owner records.now key.name))) }
