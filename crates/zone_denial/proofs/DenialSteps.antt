@@ -89,10 +89,10 @@ module _ {E : Type 0} (m : Sets) (hashed : Name → Result Name E) where
     at_step : encloser_of m hashed n ≡ result_and_then (λ passes. cond passes (Ok (Some (drop 1 n))) (encloser_of m hashed (drop 1 n))) (has_match m hashed above)
     at_step = encloser_step n below ∙ ap (λ a. result_and_then (λ passes. cond passes (Ok (Some (drop 1 n))) (encloser_of m hashed (drop 1 n))) (has_match m hashed a)) (sym is)
 
-    pub walk_on : (h : Name) → hashed above ≡ Ok h → None ≡ set_at m h NSEC3 → encloser_of m hashed n ≡ encloser_of m hashed (drop 1 n)
+    walk_on : (h : Name) → hashed above ≡ Ok h → None ≡ set_at m h NSEC3 → encloser_of m hashed n ≡ encloser_of m hashed (drop 1 n)
     walk_on h is stands = at_step ∙ ap (result_and_then (λ passes. cond passes (Ok (Some (drop 1 n))) (encloser_of m hashed (drop 1 n)))) (has_match_found above h None is stands)
 
-    pub walk_found : (h : Name) (s : RRset) → hashed above ≡ Ok h → Some s ≡ set_at m h NSEC3 → encloser_of m hashed n ≡ Ok (Some (base_name n))
+    walk_found : (h : Name) (s : RRset) → hashed above ≡ Ok h → Some s ≡ set_at m h NSEC3 → encloser_of m hashed n ≡ Ok (Some (base_name n))
     walk_found h s is stands =
         at_step ∙ ap (result_and_then (λ passes. cond passes (Ok (Some (drop 1 n))) (encloser_of m hashed (drop 1 n)))) (has_match_found above h (Some s) is stands) ∙ ap (λ a. Ok (Some a)) (base_is_drop n)
 
@@ -100,7 +100,7 @@ module _ {E : Type 0} (m : Sets) (hashed : Name → Result Name E) where
     pub encloser_matched : (h : Name) (s : RRset) → hashed above ≡ Ok h → Some s ≡ set_at m h NSEC3 → sets_of m (match_of m hashed (base_name n)) ≡ Ok (s ∷ [])
     encloser_matched h s is stands = ap (λ a. sets_of m (match_of m hashed a)) (sym is_base) ∙ sets_matched above h (Some s) is stands
 
-    pub walk_refused : (e : E) → hashed above ≡ Err e → encloser_of m hashed n ≡ Err e
+    walk_refused : (e : E) → hashed above ≡ Err e → encloser_of m hashed n ≡ Err e
     walk_refused e h = at_step ∙ ap (λ r. result_and_then (λ passes. cond passes (Ok (Some (drop 1 n))) (encloser_of m hashed (drop 1 n))) (result_and_then (λ h. Ok (owns m h NSEC3)) r)) h
 
     pub passed_on : (q front : Name) → q ≡ front ++ n → (f : Name) × (q ≡ f ++ drop 1 n)
@@ -232,23 +232,34 @@ module _ {E : Type 0} (m : Sets) (zone : IsZone m) (hashed : Name → Result Nam
           filter_map-append (λ o. set_at m o NSEC3) (xs ++ ys) zs ∙ ap (λ rs. rs ++ filter_map (λ o. set_at m o NSEC3) zs) (filter_map-append (λ o. set_at m o NSEC3) xs ys)
           ∙ (λ i. (h i ++ k i) ++ l i)
 
--- ---- refusals of the walk
+-- ---- the walk, as far as it has come: it goes on, it found the encloser, or it is refused
 
 module _ (m : Sets) (hashed : Name → Result Name ProtoError) (whole n above : Name) (is : above ≡ drop 1 n) (inner : above ≡ [] → ⊥) (so_far : encloser_of m hashed whole ≡ encloser_of m hashed n) where
-  pub refused_walk : (e : ProtoError) → (e ≡ Memory) ⊎ (hashed above ≡ Err e) → (e ≡ Memory) ⊎ (encloser_of m hashed whole ≡ Err e)
-  refused_walk e (inl memory) = inl memory
-  refused_walk e (inr h) = inr (so_far ∙ walk_refused m hashed n above is inner e h)
+  pub goes_on : (h : Name) → hashed above ≡ Ok h → None ≡ set_at m h NSEC3 → encloser_of m hashed whole ≡ encloser_of m hashed (drop 1 n)
+  goes_on h key stands = so_far ∙ walk_on m hashed n above is inner h key stands
+
+  pub is_found : (h : Name) (s : RRset) → hashed above ≡ Ok h → Some s ≡ set_at m h NSEC3 → encloser_of m hashed whole ≡ Ok (Some (base_name n))
+  is_found h s key stands = so_far ∙ walk_found m hashed n above is inner h s key stands
+
+  pub is_refused : (e : ProtoError) → (e ≡ Memory) ⊎ (hashed above ≡ Err e) → (e ≡ Memory) ⊎ (encloser_of m hashed whole ≡ Err e)
+  is_refused e (inl memory) = inl memory
+  is_refused e (inr h) = inr (so_far ∙ walk_refused m hashed n above is inner e h)
 
 -- ---- the star under the encloser
 
 -- it is the next closer name with a star for its first label
-pub starred_base : (n star : Name) → star ≡ wildcard_of n → base_name star ≡ base_name n
-starred_base [] star is = ap base_name is
-starred_base (l ∷ ls) star is = ap base_name is
+closer_star : (q n : Name) → next_closer q (base_name n) ≡ Some n → wildcard_of n ≡ star_under (base_name n)
+closer_star q [] closer = absurd (true≢false (sym (found_above (λ s. length s == 1) q [] closer).1))
+closer_star q (l ∷ ls) closer = refl
 
-pub closer_star : (q n star : Name) → next_closer q (base_name n) ≡ Some n → star ≡ wildcard_of n → star ≡ star_under (base_name star)
-closer_star q [] star closer is = absurd (true≢false (sym (found_above (λ s. length s == 1) q [] closer).1))
-closer_star q (l ∷ ls) star closer is = is ∙ ap star_under (sym (starred_base (l ∷ ls) star is))
+module _ {E : Type 0} (m : Sets) (hashed : Name → Result Name E) (q n : Name) (closer : next_closer q (base_name n) ≡ Some n) where
+  star_is : (r : Result Name E) → hashed (wildcard_of n) ≡ r → star_part m hashed (base_name n) ≡ result_and_then (λ h. Ok (option_to_list (option_or (match_owner m h) (cover_owner m h)))) r
+  star_is r is = ap (result_and_then (λ h. Ok (option_to_list (option_or (match_owner m h) (cover_owner m h))))) (ap hashed (sym (closer_star q n closer)) ∙ is)
+
+  -- what matches it or else what covers it was found
+  pub star_found : (h : Name) (sets : List RRset) → hashed (wildcard_of n) ≡ Ok h → sets ≡ filter_map (λ o. set_at m o NSEC3) (option_to_list (option_or (match_owner m h) (cover_owner m h)))
+      → sets_of m (star_part m hashed (base_name n)) ≡ Ok sets
+  star_found h sets is found = ap (sets_of m) (star_is (Ok h) is) ∙ ap Ok (sym found)
 
 -- ---- when the name's own set isn't the answer
 
