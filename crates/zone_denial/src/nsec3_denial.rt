@@ -126,7 +126,7 @@ fn enclosed<'m, H: Nsec3Hash>(
         return in_owner_order(alloc, closer, None, None);
     }
     let star_owner = star_owner(hashing, next_closer, closer_owner)?;
-    let star = matching_or_covering(records, star_owner)?;
+    let star = matching_or_covering(records, &star_owner)?;
     in_owner_order(alloc, Some(set), closer, star)
 }
 

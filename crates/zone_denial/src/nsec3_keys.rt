@@ -62,19 +62,20 @@ pub(crate) fn matching<'m, H: Nsec3Hash>(
     })
 }
 
-/// The set that matches the name of which this is the hashed owner, or else the one that covers it. Refused by `Memory` alone.
-pub(crate) fn matching_or_covering(
-    records: &RecordMap,
-    hashed: LowerName,
-) -> Result<Option<&RecordSet>, ProtoError>
+/// The set that matches the name of which this is the hashed owner, or else the one that covers it: that of the greatest owner
+/// that isn't after it, or of the greatest of all where each is after it. Refused by `Memory` alone.
+pub(crate) fn matching_or_covering<'m>(
+    records: &'m RecordMap,
+    hashed: &LowerName,
+) -> Result<Option<&'m RecordSet>, ProtoError>
     ensures ok { IfOk result (λ set. option_to_list (option_copied set)
-        ≡ filter_map (λ o. set_at records.now o NSEC3) (option_to_list (option_or (match_owner records.now hashed) (cover_owner records.now hashed)))) }
+        ≡ filter_map (λ o. set_at records.now o NSEC3) (option_to_list (option_or (match_owner records.now hashed.now) (cover_owner records.now hashed.now)))) }
     ensures err { IsOkUnless result ProtoError.Memory }
 {
-    let key = RrKey::new(hashed, RecordType::NSEC3);
-    match records.get(&key) {
-        Some(set) => Ok(Some(set)),
-        None => covering(records, &key.name),
+    let mut upto = records.denial_owners_upto(RecordType::NSEC3, hashed);
+    match upto.read_last(&mut Reads::new()) {
+        Some(owner) => own_set(records, owner),
+        None => covering(records, hashed),
     }
 }
 
@@ -89,9 +90,20 @@ pub(crate) fn covering<'m>(
     ensures zone { OnOk result (IsZone records.now) }
     ensures err { IsOkUnless result ProtoError.Memory }
 {
-    let Some(owner) = cover_owner(records, hashed, &mut Reads::new()) else {
-        return Ok(None);
-    };
+    match cover_owner(records, hashed, &mut Reads::new()) {
+        Some(owner) => own_set(records, owner),
+        None => Ok(None),
+    }
+}
+
+/// The NSEC3 set of an owner. Refused by `Memory` alone.
+fn own_set<'m>(
+    records: &'m RecordMap,
+    owner: &LowerName,
+) -> Result<Option<&'m RecordSet>, ProtoError>
+    ensures ok { IfOk result (λ set. option_copied set ≡ set_at records.now owner.now NSEC3) }
+    ensures err { IsOkUnless result ProtoError.Memory }
+{
     let key = RrKey::new(owner.clone()?, RecordType::NSEC3);
     Ok(records.get(&key))
 }
