@@ -94,7 +94,7 @@ impl<'m> AtName<'m> {
     /// Whether the name of its least key, at which this stands, or a name below it, owns a set: the first key from there on
     /// tells, since the names below a name stand together after it.
     pub(crate) fn is_there(self, records: &RecordMap, least: &RrKey) -> bool
-        requires { option_copied self.entry.first ≡ first_key_from records.now least.now.name }
+        requires { option_copied self.first ≡ first_key_from records.now least.now.name }
         ensures { result ≡ owns_at_or_below records.now least.now.name }
     {
         // Its clause says that the keys ascend.
@@ -110,7 +110,7 @@ impl<'m> AtName<'m> {
     /// denial is a further one read.
     pub(crate) fn exists(self, records: &RecordMap, least: &RrKey) -> bool
         requires type_zero { least.now.record_type.0 ≡ 0 }
-        requires first { option_copied self.entry.first ≡ first_key_from records.now least.now.name }
+        requires first { option_copied self.first ≡ first_key_from records.now least.now.name }
         ensures { result ≡ exists records.now least.now.name }
     {
         // Its clause says that the keys ascend.

@@ -147,7 +147,7 @@ fn cut_above<'m>(
     here: AtName<'m>,
 ) -> Result<&'m RecordSet, Missing>
     requires least { key.old.record_type.0 ≡ 0 }
-    requires first { option_copied here.entry.first ≡ first_key_from records.now key.old.name }
+    requires first { option_copied here.first ≡ first_key_from records.now key.old.name }
     ensures found { IfOk result (λ set. referral_above records.now (drop 1 key.old.name) ≡ Some set.now) }
     ensures none { OnErr result (referral_above records.now (drop 1 key.old.name) ≡ None) }
     ensures there { IfErr result (λ missing. missing.is_there ≡ owns_at_or_below records.now key.old.name) }
@@ -172,7 +172,7 @@ fn cut_above<'m>(
 /// Whether a star is asked for the name of its least key, at which `here` stands, if an ancestor exists.
 fn asks_star(records: &RecordMap, least: &RrKey, here: AtName<'_>) -> bool
     requires type_zero { least.now.record_type.0 ≡ 0 }
-    requires first { option_copied here.entry.first ≡ first_key_from records.now least.now.name }
+    requires first { option_copied here.first ≡ first_key_from records.now least.now.name }
     ensures { result ≡ not (is_root least.now.name || is_starred least.now.name || exists records.now least.now.name) }
 {
     !least.name.is_root() && !least.name.is_wildcard() && !here.exists(records, least)
@@ -211,8 +211,8 @@ fn referral_from<'m>(
     key: &mut RrKey,
     here: AtName<'m>,
 ) -> Option<&'m RecordSet>
-    requires ns { option_copied here.entry.ns ≡ set_at records.now key.old.name NS }
-    requires soa { here.entry.owns_soa ≡ owns records.now key.old.name SOA }
+    requires ns { option_copied here.ns ≡ set_at records.now key.old.name NS }
+    requires soa { here.owns_soa ≡ owns records.now key.old.name SOA }
     ensures { option_copied result ≡ referral_above records.now key.old.name }
 {
     match own_referral(here, &key.name, RecordType::NS) {

@@ -1,7 +1,7 @@
 use Rattle.std.proofs.Common.{sym, ◌∙◌}
 use Rattle.std.specs.Prelude.{None}
 use Rattle.zone_map.proofs.Walks.{direct_above}
-use Rattle.zone_map.proofs.search.direct_below.Goals as goal
+use Rattle.zone_map.proofs.search.at_star.Goals as goal
 
 pub returns-in-None : goal.returns-in-None
 returns-in-None c =
