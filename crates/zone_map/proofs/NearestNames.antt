@@ -1,6 +1,7 @@
 -- The nearest of a name and its ancestors that exists, as a walk up finds it, and what a search has seen where it finds nothing
-use Rattle.std.proofs.Common.{◌≡◌, ℕ, zero, suc, ◌≤◌, ◌||◌, not, Bool, true, false, cond, [], ◌∷◌, length, drop, refl, sym, ap, ◌∙◌, true≢false, arith}
-use Rattle.std.specs.Prelude.{Option, Some, None, find, option_map}
+use Rattle.std.proofs.Common.{Bor, subst, ◌≡◌, ℕ, zero, suc, ◌≤◌, ◌||◌, not, Bool, true, false, cond, [], ◌∷◌, length, drop, refl, sym, ap, ◌∙◌, true≢false, arith}
+use Rattle.std.specs.Prelude.{Option, Some, None, Result, Ok, Err, IfErr, IfOk, OnErr, find, ok_or, option_copied, option_map}
+use Rattle.std.specs.Result.{result_ok}
 use Rattle.zone_proto.specs.Names.{Label, Name, is_root, suffixes, wildcard_of, wire_length}
 use Rattle.zone_proto.specs.Sets.{RRset}
 use Rattle.zone_map.specs.Zones.{Sets, owns_at_or_below}
@@ -84,3 +85,21 @@ pub star_of_nearest : (m : Sets) (n e : Name) (k : ℕ) → not (is_root n || is
 star_of_nearest m [] e k h f is within = cc
 star_of_nearest m (l ∷ n) e k h f is within =
     ap Some (star_in_place k l n within) ∙ ap (λ x. Some (star_under x)) (sym is) ∙ sym (asked_of_nearest m (l ∷ n) (Some e) h f)
+
+-- ---- an option or a refusal, of a set that is lent
+
+module _ {E : Type 0} (o : Option (Bor RRset)) where
+  pub lent_or : (x : Option RRset) (r : Result (Bor RRset) E) → o ≡ result_ok r → option_copied o ≡ x → IfOk r (λ s. x ≡ Some s.now)
+  lent_or x (Ok s) h e = sym e ∙ ap option_copied h
+  lent_or x (Err y) h e = tt
+
+  pub none_or : (x : Option RRset) (r : Result (Bor RRset) E) → o ≡ result_ok r → option_copied o ≡ x → OnErr r (x ≡ None)
+  none_or x (Ok s) h e = tt
+  none_or x (Err y) h e = sym e ∙ ap option_copied h
+
+  pub fault_or : (y : E) (r : Result (Bor RRset) E) (P : E → Type 0) → r ≡ ok_or o y → P y → IfErr r P
+  fault_or y r P h p = subst (λ q. IfErr q P) (sym h) (by o)
+    where
+      by : (q : Option (Bor RRset)) → IfErr (ok_or q y) P
+      by None = p
+      by (Some s) = tt
