@@ -1,5 +1,5 @@
 -- A walk up the suffixes of a name looks for the nearest delegation: what the name says itself, and what the names above it say
-use Rattle.std.proofs.Common.{◌≡◌, ℕ, ◌-◌, Bool, true, false, cond, not, ◌&&◌, [], ◌∷◌, drop, refl, sym, ap, ◌∙◌, arith}
+use Rattle.std.proofs.Common.{◌≡◌, ℕ, Bool, true, false, cond, not, ◌&&◌, [], ◌∷◌, drop, refl, sym, ap, ◌∙◌, arith}
 use Rattle.std.specs.Prelude.{Option, Some, None, find, ◌==◌, is_some, unwrap_or}
 use Rattle.std.specs.Option.{option_or}
 use Rattle.zone_proto.specs.Names.{Name, name_eq, suffixes}

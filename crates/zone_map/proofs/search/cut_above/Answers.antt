@@ -1,8 +1,7 @@
 use Rattle.std.proofs.Common.{◌≡◌, ◌||◌, not, true, length, drop, sym, ap, ◌∙◌, arith}
 use Rattle.std.specs.Prelude.{find, option_map}
-use Rattle.zone_proto.specs.Names.{Name, is_root, suffixes, wildcard_of}
+use Rattle.zone_proto.specs.Names.{is_root, suffixes, wildcard_of}
 use Rattle.zone_map.specs.declared.search.Missing.{Missing}
-use Rattle.zone_map.specs.Walks.{referral_above}
 use Rattle.zone_map.specs.Wildcards.{exists, is_starred, asked_star}
 use Rattle.zone_map.proofs.ExistingNames.{above_encloser}
 use Rattle.zone_map.proofs.NearestNames.{unreferred_without, star_of_nearest, lent_or, none_or, fault_or}

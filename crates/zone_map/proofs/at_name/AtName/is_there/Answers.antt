@@ -1,5 +1,5 @@
-use Rattle.std.proofs.Common.{◌≡◌, sym, ap, ◌∙◌}
-use Rattle.std.specs.Prelude.{Some, None, option_copied}
+use Rattle.std.proofs.Common.{sym, ap, ◌∙◌}
+use Rattle.std.specs.Prelude.{option_copied}
 use Rattle.std.specs.Cmp.{both_ways}
 use Rattle.zone_proto.specs.Names.{is_at_or_above}
 use Rattle.zone_proto.proofs.NameTree.{is_at_or_above_sound, is_at_or_above_complete}
