@@ -41,8 +41,7 @@ module _ (sign : RRset → List Record) (m : Sets) (n : Name) (t : ℕ) (options
       inl (answered answers more, subst (λ o. MatchOption o (answered answers more ≡ denied (denial origin m n)) (λ s. IsAnswer sign m options.dnssec_ok n t s (answered answers more))) (sym f) is, (a, refl, has))
 
   -- and none is denied
-  pub says_none : (origin : Name) (e : LookupError) → found m options.dnssec_ok n t ≡ None → (e ≡ error_of (denial origin m n)) ⊎ (e ≡ error.Memory)
+  pub says_none : (origin : Name) (e : LookupError) → found m options.dnssec_ok n t ≡ None → e ≡ error_of (denial origin m n)
       → SaysOrMemory options (IsReplyFor sign origin m options.dnssec_ok n t) (Continue (Err e))
-  says_none origin e f (inr q) = inr (ap (λ x. Continue (Err x)) q)
-  says_none origin e f (inl q) =
+  says_none origin e f q =
       inl (denied (denial origin m n), subst (λ o. MatchOption o (denied (denial origin m n) ≡ denied (denial origin m n)) (λ s. IsAnswer sign m options.dnssec_ok n t s (denied (denial origin m n)))) (sym f) refl, ap (λ x. Continue (Err x)) q)
