@@ -239,11 +239,7 @@ impl<S: Signer, H: Nsec3Hash> InMemoryZoneHandler<S, H> {
             (IsReplyFor (answer_signatures S.signature_of now lookup_options.dnssec_ok self.now.inner.signers) self.now.origin self.now.inner.records lookup_options.dnssec_ok name.now (searched_type self.now.inner.records name.now record_type.0))
             (LookupControlFlow.Continue result) }
     {
-        let record_type = if record_type == RecordType::ANY {
-            self.inner.replace_any(name)?
-        } else {
-            record_type
-        };
+        let record_type = self.searched_type(name, record_type)?;
         let mut searches = Searches::new();
         let inner = &self.inner;
         match inner.search(name, record_type, lookup_options, &mut searches)? {
@@ -253,6 +249,21 @@ impl<S: Signer, H: Nsec3Hash> InMemoryZoneHandler<S, H> {
             Search::NoData => Err(LookupError::for_name_exists()),
             Search::NoName => Err(denial_of_absent(&self.apex.name, name)),
         }
+    }
+
+    /// The type that is searched for a query of a type: for one of ANY it is chosen.
+    fn searched_type(
+        &self,
+        name: &LowerName,
+        record_type: RecordType,
+    ) -> Result<RecordType, LookupError>
+        ensures searched { IfOk result (λ searched. searched.0 ≡ searched_type self.now.inner.records name.now record_type.0) }
+        ensures err { IsOkUnless result LookupError.Memory }
+    {
+        if record_type == RecordType::ANY {
+            return self.inner.replace_any(name);
+        }
+        Ok(record_type)
     }
 }
 
