@@ -1,5 +1,5 @@
 -- How a lookup says what is found, and that what is owned is answered
-use Rattle.std.proofs.Common.{◌≡◌, ℕ, true, List, refl, sym, ap, true≢false, ◌⊎◌, inl, inr, subst}
+use Rattle.std.proofs.Common.{◌≡◌, ℕ, true, List, refl, sym, ap, true≢false, inl, inr, subst}
 use Rattle.std.specs.Prelude.{Option, Some, None, Ok, Err, is_some, MatchOption}
 use Rattle.zone_proto.specs.declared.record.Record.{Record}
 use Rattle.zone_proto.specs.Names.{Name}
@@ -8,7 +8,6 @@ use Rattle.zone_handler.specs.declared.auth_lookup.AuthLookup.{AuthLookup}
 use Rattle.zone_handler.specs.declared.control_flow.LookupControlFlow.{LookupControlFlow}
 use Rattle.zone_handler.specs.declared.control_flow.LookupControlFlow.TheVariants.{Continue}
 use Rattle.zone_handler.specs.declared.lookup_error.LookupError.{LookupError}
-use Rattle.zone_handler.specs.declared.lookup_error.LookupError.TheVariants as error
 use Rattle.zone_handler.specs.declared.lookup_options.LookupOptions.{LookupOptions}
 use Rattle.zone_map.specs.Zones.{Sets, owns}
 use Rattle.zone_map.specs.Wildcards.{found}

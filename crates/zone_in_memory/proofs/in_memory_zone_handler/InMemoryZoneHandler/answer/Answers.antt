@@ -1,7 +1,6 @@
 use Rattle.std.proofs.Common.{◌≡◌, ap, sym, ◌∙◌, cond, subst}
 use Rattle.std.specs.Prelude.{Ok, Err, option_map}
 use Rattle.zone_handler.specs.declared.control_flow.LookupControlFlow.TheVariants.{Continue}
-use Rattle.zone_map.specs.AnyTypes.{searched_type}
 use Rattle.zone_search.specs.FoundSets.{found_set, search_found, SaysThere}
 use Rattle.zone_search.specs.Replies.{name_exists, absent, is_there, IsAnswer, IsReplyFor, SaysAnswer}
 use Rattle.zone_in_memory.specs.Lookup.{error_of, SaysOrMemory}
