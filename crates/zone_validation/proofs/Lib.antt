@@ -5,3 +5,4 @@ pub mod AncestorWalk
 pub mod EncloserLabels
 mod NsecExamples
 mod NsecForgeries
+mod Nsec3Examples
