@@ -70,21 +70,16 @@ fn judge(
     let records = lent(alloc, denial)?;
     for record in &records {
         println!(rt; "{}", RecordText(record))?;
-        print_proof(rt, "alone it proves", proof_of_a(apex, &[*record], absent))?;
+        let proof = proof_of_a(apex, &[*record], absent);
+        print_proof(rt, "alone it proves", proof)?;
     }
-    print_proof(
-        rt,
-        "they prove",
-        proof_of_a(apex, records.as_slice(), absent),
-    )?;
+    let proof = proof_of_a(apex, records.as_slice(), absent);
+    print_proof(rt, "they prove", proof)?;
     // A name that is there: genuine records, shown in the wrong place.
     let present = LowerName::parse(alloc, "c.example.com.")?;
     println!(rt; "shown for {present}:")?;
-    print_proof(
-        rt,
-        "they prove",
-        proof_of_a(apex, records.as_slice(), &present),
-    )
+    let proof = proof_of_a(apex, records.as_slice(), &present);
+    print_proof(rt, "they prove", proof)
 }
 
 /// The records of an answer, lent in a list.
