@@ -1,11 +1,10 @@
 -- Which words are no command
-use Rattle.std.proofs.Common.{◌≡◌, ◌≢◌, ℕ, List, [], ◌∷◌, Bool, true, false, refl, sym, ap, ◌∙◌, subst, Option, Some, None, rules}
+use Rattle.std.proofs.Common.{◌≡◌, ◌≢◌, ℕ, List, [], ◌∷◌, Bool, true, false, refl, sym, ap, ◌∙◌, subst, Some, None, rules}
 use lib.Utf8.{encode}
-use Rattle.std.specs.Prelude.{bytes_eq, codes, if◌then◌else◌}
+use Rattle.std.specs.Prelude.{bytes_eq, codes}
 use Rattle.std.specs.Str.{IsUtf8}
 use Rattle.std.proofs.lemmas.Slice.Eq.{bytes_eq-Decides}
-use Rattle.zone_proto.specs.declared.nx_proof_kind.NxProofKind.{NxProofKind}
-use Rattle.zone_text.specs.Reading.{WordList, Reading, next_word, then_read}
+use Rattle.zone_text.specs.Reading.{WordList}
 use Rattle.zone_commands.specs.declared.command.Command.{Command}
 use Rattle.zone_commands.specs.Commands.{Form, forms, read_by, all_read, if_none_left, command_of_words, kind_by_word, next_kind}
 
@@ -32,10 +31,28 @@ no_form (form ∷ more) w ws texts wrong = rw (not_text w form.verb wrong texts.
 
 forms_are_texts : AreTexts forms
 unfolding encode
-forms_are_texts =
-    ((codes "add", (refl, refl)), ((codes "drop", (refl, refl)), ((codes "kind", (refl, refl)), ((codes "key", (refl, refl)),
-    ((codes "secure", (refl, refl)), ((codes "lookup", (refl, refl)), ((codes "deny", (refl, refl)),
-    ((codes "circle", (refl, refl)), ((codes "transfer", (refl, refl)), tt)))))))))
+forms_are_texts = (
+  (codes "add", (refl, refl)),
+  (
+    (codes "drop", (refl, refl)),
+    (
+      (codes "kind", (refl, refl)),
+      (
+        (codes "key", (refl, refl)),
+        (
+          (codes "secure", (refl, refl)),
+          (
+            (codes "lookup", (refl, refl)),
+            (
+              (codes "deny", (refl, refl)),
+              ((codes "circle", (refl, refl)), ((codes "transfer", (refl, refl)), tt)),
+            ),
+          ),
+        ),
+      ),
+    ),
+  ),
+)
 
 -- where the first word is no text, words are no command
 pub verb_not_text : (w : List ℕ) (ws : WordList) → ¬ (IsUtf8 w) → command_of_words (w ∷ ws) ≡ None

@@ -2,7 +2,7 @@
 use Rattle.std.specs.Prelude.{ℕ, ◌==◌, List, [], ◌∷◌, Bool, Option, Some, None, option_map, if◌then◌else◌, codes, bytes_eq}
 use Rattle.zone_proto.specs.declared.nx_proof_kind.NxProofKind.{NxProofKind}
 use Rattle.zone_proto.specs.declared.nx_proof_kind.NxProofKind.TheVariants as kind
-use Rattle.zone_proto.specs.Names.{Name, lower}
+use Rattle.zone_proto.specs.Names.{lower}
 use Rattle.zone_handler.specs.declared.lookup_options.LookupOptions.{LookupOptions}
 use Rattle.zone_text.specs.Hex.{hex_word}
 use Rattle.zone_text.specs.Numbers.{number_within}

@@ -1,5 +1,5 @@
 -- What was read of an input and wasn't taken yet
-use Rattle.std.specs.Prelude.{◌≡◌, ◌<◌, ◌≢◌, ℕ, List, ◌∷◌, ◌++◌, All, Bool, true, false, Option, Some, None, length, if◌then◌else◌}
+use Rattle.std.specs.Prelude.{◌≡◌, ◌<◌, ◌≢◌, ℕ, List, ◌∷◌, ◌++◌, All, Option, Some, None, length}
 use Rattle.zone_commands.specs.Lines.{lines_of}
 
 -- what `Lines` has in hand

@@ -87,11 +87,7 @@ fn read_words(alloc: Global, first: &[u8], words: &mut Words<'_>) -> Result<Comm
 
 /// Reads the words behind the first word of a command.
 #[tactic(auto, using(zone_text::proofs::ReadingFacts::reading))]
-fn read_arguments(
-    alloc: Global,
-    verb: &str,
-    words: &mut Words<'_>,
-) -> Result<Command, TextError>
+fn read_arguments(alloc: Global, verb: &str, words: &mut Words<'_>) -> Result<Command, TextError>
     ensures ok { IfOk result (λ command. read_by forms verb.now words.old ≡ Some (command, words.new)) }
     ensures refusal { IfErr result (λ e. e ≡ TextError.BadText → read_by forms verb.now words.old ≡ None) }
 {

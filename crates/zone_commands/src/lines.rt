@@ -1,9 +1,10 @@
-ghost use Rattle.std.specs.Prelude.{◌≡◌, ◌≤◌, ◌<◌, ◌+◌, ◌↔◌, ◌≢◌, ℕ, List, [], ◌∷◌, ◌++◌, Some, None, vec_len, vec_capacity, length, IfOk, IfSome, IfNone, OnOk, OnErr, IsTrue, position, if◌then◌else◌};
+ghost use Rattle.std.specs.Prelude.{◌≡◌, ◌≤◌, ◌<◌, ◌+◌, ◌↔◌, ◌≢◌, ℕ, List, [], ◌∷◌, ◌++◌, Some, None, vec_len, vec_capacity, length, IfOk, IfSome, IfNone, OnOk, OnErr, IsTrue, true, nat_le, position, if◌then◌else◌};
 ghost use Rattle.std.specs.Bool.{OnFalse};
 ghost use Rattle.std.specs.Io.KnownBytes.{Consumes, IsAtEnd, Keeps, ReadConsumes};
 ghost use Rattle.std.specs.Io.{ReadsAtMost};
+ghost use Rattle.std.specs.List.{list_all};
 ghost use Rattle.std.specs.Str.Lines.{strip_carriage_return};
-ghost use Rattle.zone_commands.specs.Lines.{lines_of, plain};
+ghost use Rattle.zone_commands.specs.Lines.{is_plain, lines_of, plain};
 ghost use Rattle.zone_commands.specs.InHand.{IsBegun};
 ghost use Rattle.zone_commands.specs.Told.{told};
 ghost use Rattle.zone_commands.specs.Kept.{begun_of, is_feed, kept_if, IsCut};
@@ -158,6 +159,8 @@ fn put(line: &mut Vec<u8>, piece: &[u8], is_begun: bool, fits: bool) -> bool
     requires room { 4097 ≤ vec_capacity line.old }
     requires short { vec_len line.old ≤ 4097 }
     ensures begun { (begun : List ℕ) → IsBegun (begun_of is_begun fits line.old.items) begun → IsBegun (kept_if result line.new.items) (begun ++ piece.now) }
+    ensures whole { IsTrue result → is_begun ≡ true → fits ≡ true }
+    ensures len { IsTrue result → vec_len line.new ≡ (if is_begun then vec_len line.old else 0) + length piece.now }
     ensures short { vec_len line.new ≤ 4097 }
     ensures room { 4097 ≤ vec_capacity line.new }
 {
@@ -194,11 +197,24 @@ fn drop_carriage_return(line: &mut Vec<u8>)
 fn judge(line: &[u8], fits: bool) -> Line
     ensures { told result line.now ≡ (if fits then plain line.now else None) }
 {
-    if fits && line.len() <= LINE_LIMIT && line.iter().all(|octet| *octet <= 126) {
+    if fits && is_plain(line) {
         Line::Whole
     } else {
         Line::Bad
     }
+}
+
+/// Whether a line is within the limits.
+fn is_plain(line: &[u8]) -> bool
+    ensures { result ≡ is_plain line.now }
+{
+    line.len() <= LINE_LIMIT && has_plain_octets(line)
+}
+
+fn has_plain_octets(line: &[u8]) -> bool
+    ensures { result ≡ list_all (λ octet. nat_le octet 126) line.now }
+{
+    line.iter().all(|octet| *octet <= 126)
 }
 
 /// Reads once, and again where a signal came first.
