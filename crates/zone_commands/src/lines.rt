@@ -1,5 +1,5 @@
 ghost use Rattle.std.specs.Prelude.{◌≡◌, ◌≤◌, ◌<◌, ◌+◌, ◌↔◌, ◌≢◌, ℕ, List, [], ◌∷◌, ◌++◌, Some, None, vec_len, vec_capacity, length, IfOk, IfSome, IfNone, OnOk, OnErr, IsTrue, true, nat_le, position, if◌then◌else◌};
-ghost use Rattle.std.specs.Bool.{OnFalse};
+ghost use Rattle.std.specs.Bool.{OnFalse, OnTrue};
 ghost use Rattle.std.specs.Io.KnownBytes.{Consumes, IsAtEnd, Keeps, ReadConsumes};
 ghost use Rattle.std.specs.Io.{ReadsAtMost};
 ghost use Rattle.std.specs.List.{list_all};
@@ -123,8 +123,8 @@ impl Lines {
         requires { self.old.ahead ≡ [] }
         ensures kept { self.new ≡ record self.old { ahead = self.new.ahead } }
         ensures read { OnOk result (Consumes (R.remaining input.old) (R.remaining input.new) self.new.ahead) }
-        ensures more { IfOk result (λ is_more. IsTrue is_more ↔ (self.new.ahead ≢ [])) }
-        ensures end { IfOk result (λ is_more. OnFalse is_more (IsAtEnd (R.remaining input.new))) }
+        ensures more { IfOk result (λ is_more. OnTrue is_more (self.new.ahead ≢ [])) }
+        ensures end { IfOk result (λ is_more. OnFalse is_more ((self.new.ahead ≡ []) × IsAtEnd (R.remaining input.new))) }
         ensures err { OnErr result ((self.new.ahead ≡ []) × Keeps (R.remaining input.old) (R.remaining input.new)) }
     {
         self.at = 0;
