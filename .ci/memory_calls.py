@@ -15,7 +15,7 @@ import sys
 TOP = os.path.dirname(os.path.dirname(os.path.realpath(__file__)))
 
 # The crates whose items all are the library's, and those of which zone_store hands items on.
-OWN = ["zone_proto", "zone_text", "zone_handler"]
+OWN = ["zone_proto", "zone_text", "zone_validation", "zone_handler"]
 HANDED_ON = ["zone_map", "zone_search", "zone_in_memory", "zone_program"]
 
 # The calls that a type has by these traits are listed too; those of the library's own traits stand under the trait.
@@ -40,6 +40,13 @@ def offered(crate):
     return {name for use in uses for name in re.findall(r"\w+", use)}
 
 
+def module_calls(crate):
+    """The calls of the modules that a crate of the library hands out, as `module::call`. Laws do nothing, and aren't calls."""
+    for module in re.findall(r"^pub mod (\w+);", read(f"crates/{crate}/src/lib.rt"), re.M):
+        if not module.endswith("laws"):
+            yield from (f"{module}::{call}" for call in re.findall(r"^pub fn (\w+)", read(f"crates/{crate}/src/{module}.rt"), re.M))
+
+
 def calls_in(text, items):
     """The public calls of these items in a source, as `Type::call`, `Trait::call` or `call`."""
     owner, are_public = "", False
@@ -59,6 +66,8 @@ def public_calls():
     for crate in OWN + HANDED_ON:
         items = offered(crate if crate in OWN else "zone_store")
         calls.update(*(calls_in(text, items) for text in texts(f"crates/{crate}/src/**/*.rt")))
+    for crate in OWN:
+        calls.update(module_calls(crate))
     return calls
 
 

@@ -1,8 +1,10 @@
 //! A program that keeps a zone, puts records into it and asks it.
 #![tactic(auto)]
 
+mod judged;
 mod unsigned;
 
+use judged::judge_a_denial;
 use std::alloc::Global;
 use unsigned::{NoHash, NoSigner};
 use zone_handler::{
@@ -26,7 +28,8 @@ fn main(rt: HostRuntime) -> anyhow::Result<()> {
         None,
         NoHash,
     );
-    serve(&rt, alloc, &mut zone)
+    serve(&rt, alloc, &mut zone)?;
+    judge_a_denial(&rt, alloc)
 }
 
 /// Puts three records into the zone, asks it five questions, and has it list all that it holds.

@@ -8,7 +8,7 @@ use Rattle.zone_proto.specs.Sets.{RRset}
 use Rattle.zone_proto.specs.Types.{A, NS, SOA, TXT, DS, RRSIG, NSEC3, ANY, ANAME}
 use Rattle.zone_map.specs.AnyTypes.{searched_type}
 use Rattle.zone_map.specs.Wildcards.{found, star_under, asked_star}
-use Rattle.zone_map.specs.Zones.{Sets}
+use Rattle.zone_map.specs.Zones.{Sets, put}
 use Rattle.zone_denial.specs.Nsec3Circle.{nsec3_data}
 use Rattle.zone_denial.proofs.NsecExamples.{origin, at_origin, entry, address, start, linked}
 use Rattle.zone_denial.proofs.Nsec3Examples.{parameters, b}
@@ -38,6 +38,45 @@ bare_denied = refl
 
 bare_proved : proves_name_error origin (denial_records origin bare b) b ≡ true
 bare_proved = refl
+
+-- ---- a zone without NSEC sets: no record tells of the name
+
+unsigned_denied : denial origin (start ∷ []) b ≡ nx_domain
+unsigned_denied = refl
+
+unsigned_refused : proves_name_error origin (denial_records origin (start ∷ []) b) b ≡ false
+unsigned_refused = refl
+
+-- and one that has a further name since its NSEC sets were made: the record of the origin still denies it
+
+abbrev late : Sets
+late = put bare b A (address b).1
+
+late_found : found late true b TXT ≡ None
+late_found = refl
+
+late_exists : denial origin late b ≡ name_exists
+late_exists = refl
+
+late_error : proves_name_error origin (denial_records origin late b) b ≡ true
+late_error = refl
+
+-- ---- a name outside the zone that owns a set: no record of the zone tells of it
+
+abbrev outside : Name
+outside = codes "other" ∷ []
+
+abbrev stray : Sets
+stray = linked (start ∷ address outside ∷ [])
+
+stray_found : found stray true outside TXT ≡ None
+stray_found = refl
+
+stray_exists : denial origin stray outside ≡ name_exists
+stray_exists = refl
+
+stray_refused : proves_empty_answer origin (denial_records origin stray outside) outside TXT ≡ false
+stray_refused = refl
 
 -- ---- a starred name: a lookup asks no star for *.b, but a star there is, and answers for it too (RFC 4592 section 3.3.1)
 

@@ -26,6 +26,7 @@ use Rattle.zone_denial.specs.Authority.{owns_besides, is_authoritative}
 use Rattle.zone_denial.specs.AuthoritativeKeys.{is_circle_key, authoritative_keys}
 use Rattle.zone_denial.proofs.AuthoritativeNames.{besides_from}
 use Rattle.zone_denial.proofs.Ascending.{Ascends, Ascends-from_sorted}
+use Rattle.zone_denial.proofs.ReadBack.{filter_same}
 
 -- a name stands below a cut, if there is one
 abbrev pub below : Option Name → Name → Bool
@@ -108,11 +109,6 @@ or_false false = refl
 
 eq_swap : (a b : ℕ) → (a == b) ≡ (b == a)
 eq_swap a b = grind (arith, nat_tests)
-
--- tests that agree on the elements of a list keep the same
-filter_same : {A : Type 0} (p q : A → Bool) (xs : List A) → ((x : A) → In x xs → p x ≡ q x) → filter p xs ≡ filter q xs
-filter_same p q [] h = refl
-filter_same p q (x ∷ xs) h = (λ i. cond (h x (inl refl) i) (x ∷ filter_same p q xs (λ y j. h y (inr j)) i) (filter_same p q xs (λ y j. h y (inr j)) i))
 
 module _ (origin : Name) where
   -- below the old cut, or below the key's name if that is a cut, is below the new one

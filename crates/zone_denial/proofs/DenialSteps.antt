@@ -46,24 +46,17 @@ module _ {E : Type 0} (m : Sets) (hashed : Name → Result Name E) where
   given : {A : Type 0} (a b : A) → ◌≡◌ {A = Result A E} (Ok a) (Ok b) → a ≡ b
   given a b e = cc
 
-  same_option : {A : Type 0} (a b : Option A) → option_to_list a ≡ option_to_list b → a ≡ b
-  same_option None None e = refl
-  same_option None (Some b) e = cc
-  same_option (Some a) None e = cc
-  same_option (Some a) (Some b) e = cc
+  -- what matches a name, where its hashed owner is known
+  pub sets_matched : (n h : Name) (found : Option RRset) → hashed n ≡ Ok h → found ≡ set_at m h NSEC3 → sets_of m (match_of m hashed n) ≡ Ok (option_to_list found)
+  sets_matched n h found is stands = ap (λ r. sets_of m (result_and_then (λ h. Ok (option_to_list (match_owner m h))) r)) is ∙ ap Ok (sets_of_match h ∙ ap option_to_list (sym stands))
 
-  -- the hashed owner of a name, where what matches it was found
-  pub matched : (n : Name) (found : Option RRset) → sets_of m (match_of m hashed n) ≡ Ok (option_to_list found) → (h : Name) × (hashed n ≡ Ok h) × (set_at m h NSEC3 ≡ found)
-  matched n found e = by (hashed n) refl e
-    where
-      by : (r : Result Name E) → hashed n ≡ r → sets_of m (result_and_then (λ h. Ok (option_to_list (match_owner m h))) r) ≡ Ok (option_to_list found)
-          → (h : Name) × (hashed n ≡ Ok h) × (set_at m h NSEC3 ≡ found)
-      by (Ok h) is e = (h, is, same_option (set_at m h NSEC3) found (sym (sets_of_match h) ∙ given _ _ e))
-      by (Err x) is e = absurd cc
+  -- and what covers it
+  pub sets_covering : (n h : Name) (sets : List RRset) → hashed n ≡ Ok h → sets ≡ filter_map (λ o. set_at m o NSEC3) (option_to_list (cover_owner m h)) → sets_of m (cover_of m hashed n) ≡ Ok sets
+  sets_covering n h sets is cover = ap (λ r. sets_of m (result_and_then (λ h. Ok (option_to_list (cover_owner m h))) r)) is ∙ ap Ok (sym cover)
 
   -- whether it has a match
-  pub has_match_found : (n : Name) (found : Option RRset) → sets_of m (match_of m hashed n) ≡ Ok (option_to_list found) → has_match m hashed n ≡ Ok (is_some found)
-  has_match_found n found e = let r = matched n found e in ap (result_and_then (λ h. Ok (owns m h NSEC3))) r.1 ∙ ap (λ o. Ok (is_some o)) r.2
+  has_match_found : (n h : Name) (found : Option RRset) → hashed n ≡ Ok h → found ≡ set_at m h NSEC3 → has_match m hashed n ≡ Ok (is_some found)
+  has_match_found n h found is stands = ap (result_and_then (λ h. Ok (owns m h NSEC3))) is ∙ ap (λ o. Ok (is_some o)) (sym stands)
 
   -- ---- the walk to the encloser
 
@@ -90,17 +83,24 @@ module _ {E : Type 0} (m : Sets) (hashed : Name → Result Name E) where
     below : drop 1 n ≡ [] → ⊥
     below e = inner (is ∙ e)
 
+    is_base : above ≡ base_name n
+    is_base = is ∙ base_is_drop n
+
     at_step : encloser_of m hashed n ≡ result_and_then (λ passes. cond passes (Ok (Some (drop 1 n))) (encloser_of m hashed (drop 1 n))) (has_match m hashed above)
     at_step = encloser_step n below ∙ ap (λ a. result_and_then (λ passes. cond passes (Ok (Some (drop 1 n))) (encloser_of m hashed (drop 1 n))) (has_match m hashed a)) (sym is)
 
-    pub walk_on : sets_of m (match_of m hashed above) ≡ Ok [] → encloser_of m hashed n ≡ encloser_of m hashed (drop 1 n)
-    walk_on e = at_step ∙ ap (result_and_then (λ passes. cond passes (Ok (Some (drop 1 n))) (encloser_of m hashed (drop 1 n)))) (has_match_found above None e)
+    walk_on : (h : Name) → hashed above ≡ Ok h → None ≡ set_at m h NSEC3 → encloser_of m hashed n ≡ encloser_of m hashed (drop 1 n)
+    walk_on h is stands = at_step ∙ ap (result_and_then (λ passes. cond passes (Ok (Some (drop 1 n))) (encloser_of m hashed (drop 1 n)))) (has_match_found above h None is stands)
 
-    pub walk_found : (s : RRset) → sets_of m (match_of m hashed above) ≡ Ok (s ∷ []) → encloser_of m hashed n ≡ Ok (Some (base_name n))
-    walk_found s e =
-        at_step ∙ ap (result_and_then (λ passes. cond passes (Ok (Some (drop 1 n))) (encloser_of m hashed (drop 1 n)))) (has_match_found above (Some s) e) ∙ ap (λ a. Ok (Some a)) (base_is_drop n)
+    walk_found : (h : Name) (s : RRset) → hashed above ≡ Ok h → Some s ≡ set_at m h NSEC3 → encloser_of m hashed n ≡ Ok (Some (base_name n))
+    walk_found h s is stands =
+        at_step ∙ ap (result_and_then (λ passes. cond passes (Ok (Some (drop 1 n))) (encloser_of m hashed (drop 1 n)))) (has_match_found above h (Some s) is stands) ∙ ap (λ a. Ok (Some a)) (base_is_drop n)
 
-    pub walk_refused : (e : E) → hashed above ≡ Err e → encloser_of m hashed n ≡ Err e
+    -- the set that was found matches the encloser
+    pub encloser_matched : (h : Name) (s : RRset) → hashed above ≡ Ok h → Some s ≡ set_at m h NSEC3 → sets_of m (match_of m hashed (base_name n)) ≡ Ok (s ∷ [])
+    encloser_matched h s is stands = ap (λ a. sets_of m (match_of m hashed a)) (sym is_base) ∙ sets_matched above h (Some s) is stands
+
+    walk_refused : (e : E) → hashed above ≡ Err e → encloser_of m hashed n ≡ Err e
     walk_refused e h = at_step ∙ ap (λ r. result_and_then (λ passes. cond passes (Ok (Some (drop 1 n))) (encloser_of m hashed (drop 1 n))) (result_and_then (λ h. Ok (owns m h NSEC3)) r)) h
 
     pub passed_on : (q front : Name) → q ≡ front ++ n → (f : Name) × (q ≡ f ++ drop 1 n)
@@ -116,12 +116,11 @@ module _ {E : Type 0} (m : Sets) (hashed : Name → Result Name E) where
 
   -- ---- the name's own set
 
-  pub own_denial : (wildcard : Bool) (q : Name) (found : Option RRset) → sets_of m (match_of m hashed q) ≡ Ok (option_to_list found)
+  own_denial : (wildcard : Bool) (q h : Name) (found : Option RRset) → hashed q ≡ Ok h → found ≡ set_at m h NSEC3
       → nsec3_denial m hashed wildcard q ≡ cond (is_some found && not wildcard) (Ok (option_to_list found)) (result_and_then (λ encloser. enclosed_sets m hashed wildcard q encloser) (encloser_of m hashed q))
-  own_denial wildcard q found e =
-      let r = matched q found e in
-      ap (λ x. sets_of m (result_and_then (λ own. cond (owns m own NSEC3 && not wildcard) (Ok (own ∷ [])) (rest)) x)) r.1
-      ∙ by r.0 found r.2 (owns m r.0 NSEC3) (ap is_some r.2) (not wildcard)
+  own_denial wildcard q h found is stands =
+      ap (λ x. sets_of m (result_and_then (λ own. cond (owns m own NSEC3 && not wildcard) (Ok (own ∷ [])) (rest)) x)) is
+      ∙ by h found (sym stands) (owns m h NSEC3) (ap is_some (sym stands)) (not wildcard)
     where
       rest : Result (List Name) E
       rest = result_and_then (λ encloser. result_and_then (λ os. Ok (in_order name_cmp os)) (enclosed m hashed wildcard q encloser)) (encloser_of m hashed q)
@@ -144,11 +143,11 @@ module _ {E : Type 0} (m : Sets) (hashed : Name → Result Name E) where
 
 module _ {E : Type 0} (m : Sets) (hashed : Name → Result Name E) where
   -- where the name's own set isn't the answer
-  pub encloser_denial : (wildcard : Bool) (q : Name) (found : Option RRset) → sets_of m (match_of m hashed q) ≡ Ok (option_to_list found) → is_some found && not wildcard ≡ false
+  pub encloser_denial : (wildcard : Bool) (q h : Name) (found : Option RRset) → hashed q ≡ Ok h → found ≡ set_at m h NSEC3 → is_some found && not wildcard ≡ false
       → (encloser : Option Name) → encloser_of m hashed q ≡ Ok encloser → nsec3_denial m hashed wildcard q ≡ enclosed_sets m hashed wildcard q encloser
-  encloser_denial wildcard q found e h encloser is =
+  encloser_denial wildcard q h found key stands not_own encloser is =
       let rest = λ (a : Option Name). enclosed_sets m hashed wildcard q a in
-      own_denial m hashed wildcard q found e ∙ ap (λ b. cond b (Ok (option_to_list found)) (result_and_then rest (encloser_of m hashed q))) h ∙ ap (result_and_then rest) is
+      own_denial m hashed wildcard q h found key stands ∙ ap (λ b. cond b (Ok (option_to_list found)) (result_and_then rest (encloser_of m hashed q))) not_own ∙ ap (result_and_then rest) is
 
 -- ---- the sets that are found with an encloser
 
@@ -233,48 +232,34 @@ module _ {E : Type 0} (m : Sets) (zone : IsZone m) (hashed : Name → Result Nam
           filter_map-append (λ o. set_at m o NSEC3) (xs ++ ys) zs ∙ ap (λ rs. rs ++ filter_map (λ o. set_at m o NSEC3) zs) (filter_map-append (λ o. set_at m o NSEC3) xs ys)
           ∙ (λ i. (h i ++ k i) ++ l i)
 
--- ---- refusals of the walk
+-- ---- the walk, as far as it has come: it goes on, it found the encloser, or it is refused
 
 module _ (m : Sets) (hashed : Name → Result Name ProtoError) (whole n above : Name) (is : above ≡ drop 1 n) (inner : above ≡ [] → ⊥) (so_far : encloser_of m hashed whole ≡ encloser_of m hashed n) where
-  pub refused_walk : (e : ProtoError) → (e ≡ Memory) ⊎ (hashed above ≡ Err e) → (e ≡ Memory) ⊎ (encloser_of m hashed whole ≡ Err e)
-  refused_walk e (inl memory) = inl memory
-  refused_walk e (inr h) = inr (so_far ∙ walk_refused m hashed n above is inner e h)
+  pub goes_on : (h : Name) → hashed above ≡ Ok h → None ≡ set_at m h NSEC3 → encloser_of m hashed whole ≡ encloser_of m hashed (drop 1 n)
+  goes_on h key stands = so_far ∙ walk_on m hashed n above is inner h key stands
+
+  pub is_found : (h : Name) (s : RRset) → hashed above ≡ Ok h → Some s ≡ set_at m h NSEC3 → encloser_of m hashed whole ≡ Ok (Some (base_name n))
+  is_found h s key stands = so_far ∙ walk_found m hashed n above is inner h s key stands
+
+  pub is_refused : (e : ProtoError) → (e ≡ Memory) ⊎ (hashed above ≡ Err e) → (e ≡ Memory) ⊎ (encloser_of m hashed whole ≡ Err e)
+  is_refused e (inl memory) = inl memory
+  is_refused e (inr h) = inr (so_far ∙ walk_refused m hashed n above is inner e h)
 
 -- ---- the star under the encloser
 
 -- it is the next closer name with a star for its first label
-pub starred_base : (n star : Name) → star ≡ wildcard_of n → base_name star ≡ base_name n
-starred_base [] star is = ap base_name is
-starred_base (l ∷ ls) star is = ap base_name is
+closer_star : (q n : Name) → next_closer q (base_name n) ≡ Some n → wildcard_of n ≡ star_under (base_name n)
+closer_star q [] closer = absurd (true≢false (sym (found_above (λ s. length s == 1) q [] closer).1))
+closer_star q (l ∷ ls) closer = refl
 
-pub closer_star : (q n star : Name) → next_closer q (base_name n) ≡ Some n → star ≡ wildcard_of n → star ≡ star_under (base_name star)
-closer_star q [] star closer is = absurd (true≢false (sym (found_above (λ s. length s == 1) q [] closer).1))
-closer_star q (l ∷ ls) star closer is = is ∙ ap star_under (sym (starred_base (l ∷ ls) star is))
+module _ {E : Type 0} (m : Sets) (hashed : Name → Result Name E) (q n : Name) (closer : next_closer q (base_name n) ≡ Some n) where
+  star_is : (r : Result Name E) → hashed (wildcard_of n) ≡ r → star_part m hashed (base_name n) ≡ result_and_then (λ h. Ok (option_to_list (option_or (match_owner m h) (cover_owner m h)))) r
+  star_is r is = ap (result_and_then (λ h. Ok (option_to_list (option_or (match_owner m h) (cover_owner m h))))) (ap hashed (sym (closer_star q n closer)) ∙ is)
 
-module _ {E : Type 0} (m : Sets) (hashed : Name → Result Name E) where
-  -- where its key was made, what matches it or else what covers it was found
-  pub star_answer : (star h : Name) (sets : List RRset) → star ≡ star_under (base_name star) → hashed star ≡ Ok h
-      → sets ≡ filter_map (λ o. set_at m o NSEC3) (option_to_list (option_or (match_owner m h) (cover_owner m h))) → sets_of m (star_part m hashed (base_name star)) ≡ Ok sets
-  star_answer star h sets is key found =
-      ap (λ n. sets_of m (result_and_then (λ h. Ok (option_to_list (option_or (match_owner m h) (cover_owner m h)))) (hashed n))) (sym is)
-      ∙ ap (λ r. sets_of m (result_and_then (λ h. Ok (option_to_list (option_or (match_owner m h) (cover_owner m h)))) r)) key
-      ∙ ap Ok (sym found)
-
-  pub star_matched : (star h : Name) (s : RRset) → star ≡ star_under (base_name star) → hashed star ≡ Ok h → set_at m h NSEC3 ≡ Some s → sets_of m (star_part m hashed (base_name star)) ≡ Ok (s ∷ [])
-  star_matched star h s is key stands =
-      star_answer star h (s ∷ []) is key
-      (sym (ap (λ o. filter_map (λ o. set_at m o NSEC3) (option_to_list (option_or (cond (is_some o) (Some h) None) (cover_owner m h)))) stands ∙ ap (λ o. cons_option o []) stands))
-
-  pub star_covered : (star h : Name) (sets : List RRset) → star ≡ star_under (base_name star) → hashed star ≡ Ok h → set_at m h NSEC3 ≡ None
-      → sets ≡ filter_map (λ o. set_at m o NSEC3) (option_to_list (cover_owner m h)) → sets_of m (star_part m hashed (base_name star)) ≡ Ok sets
-  star_covered star h sets is key none found =
-      star_answer star h sets is key
-      (found ∙ sym (ap (λ o. filter_map (λ o. set_at m o NSEC3) (option_to_list (option_or (cond (is_some o) (Some h) None) (cover_owner m h)))) none))
-
-  pub star_refused : (star : Name) (e : E) → star ≡ star_under (base_name star) → hashed star ≡ Err e → star_part m hashed (base_name star) ≡ Err e
-  star_refused star e is refused =
-      ap (λ n. result_and_then (λ h. Ok (option_to_list (option_or (match_owner m h) (cover_owner m h)))) (hashed n)) (sym is)
-      ∙ ap (result_and_then (λ h. Ok (option_to_list (option_or (match_owner m h) (cover_owner m h))))) refused
+  -- what matches it or else what covers it was found
+  pub star_found : (h : Name) (sets : List RRset) → hashed (wildcard_of n) ≡ Ok h → sets ≡ filter_map (λ o. set_at m o NSEC3) (option_to_list (option_or (match_owner m h) (cover_owner m h)))
+      → sets_of m (star_part m hashed (base_name n)) ≡ Ok sets
+  star_found h sets is found = ap (sets_of m) (star_is (Ok h) is) ∙ ap Ok (sym found)
 
 -- ---- when the name's own set isn't the answer
 

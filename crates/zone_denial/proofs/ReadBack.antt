@@ -9,6 +9,11 @@ use Rattle.zone_proto.proofs.Members.{In, In-filter, In-from_filter, In-from_app
 use Rattle.zone_proto.proofs.Orders.{IsOrder, IsTop, greatest_from, greatest_is, irrefl, asym, upto_before, upto_cases, upto_same}
 use Rattle.zone_denial.proofs.Ascending.{Ascends, Ascends-end, Ascends-apart, Ascends-filter}
 
+-- tests that agree on the elements of a list keep the same
+pub filter_same : {A : Type 0} (p q : A → Bool) (xs : List A) → ((x : A) → In x xs → p x ≡ q x) → filter p xs ≡ filter q xs
+filter_same p q [] h = refl
+filter_same p q (x ∷ xs) h = (λ i. cond (h x (inl refl) i) (x ∷ filter_same p q xs (λ y j. h y (inr j)) i) (filter_same p q xs (λ y j. h y (inr j)) i))
+
 module _ {A : Type 0} (p : A → Bool) where
   pub filter_all : (xs : List A) → ((y : A) → In y xs → p y ≡ true) → filter p xs ≡ xs
   filter_all [] h = refl

@@ -1,10 +1,10 @@
 //! The NSEC3 sets that answer a query for a denial.
 ghost use Rattle.std.specs.Prelude.{◌≡◌, ◌⊎◌, [], ◌∷◌, Some, Ok, Err, map, IfOk, IfErr, IfSome, option_map};
-ghost use Rattle.zone_proto.specs.Names.{base_name};
+ghost use Rattle.zone_proto.specs.Names.{base_name, wildcard_of};
 ghost use Rattle.zone_denial.specs.Nsec3Denial.{match_of, encloser_of, next_closer as next_closer_of};
 ghost use Rattle.zone_denial.specs.Nsec3Lent.{hashed_for, query_denial, sets_of, enclosed_sets};
 
-use crate::nsec3_keys::{Hashing, covering, matching, star_set};
+use crate::nsec3_keys::{Hashing, Matched, covering, matching, matching_or_covering};
 use crate::owner_order::in_owner_order;
 use zone_handler::Nsec3QueryInfo;
 use zone_map::RecordMap;
@@ -15,6 +15,8 @@ use zone_proto::{LowerName, Nsec3Hash, ProtoError, RecordSet};
 struct Encloser<'m> {
     /// The name one label longer than the ancestor: the queried name or an ancestor of it (RFC 5155 section 1.3).
     next_closer: LowerName,
+    /// The owner that the NSEC3 set of that name has, or would have.
+    closer_owner: LowerName,
     /// The set that matches the ancestor.
     set: &'m RecordSet,
 }
@@ -27,9 +29,9 @@ struct Encloser<'m> {
 /// where none did, the set that matches the encloser, the one that covers the next closer name, and the one that matches the
 /// star under the encloser or, where none does, covers it. Without an encloser there is none. The type isn't read.
 ///
-/// Names are hashed one after the other, and each only where the answer needs it: the queried name, its ancestors from the
-/// longest on up to the encloser, the next closer name, and the star. Refused as the first of them is that has no hashed
-/// owner, as [`Nsec3QueryInfo::hashed_owner_name`] says, and by `Memory`.
+/// Names are hashed one after the other, each once, and only where the answer needs it: the queried name, its ancestors from
+/// the longest on up to the encloser, and the star. The next closer name is one of them. Refused as the first of them is that
+/// has no hashed owner, as [`Nsec3QueryInfo::hashed_owner_name`] says, and by `Memory`.
 pub fn nsec3_denial<'m, H: Nsec3Hash>(
     records: &'m RecordMap,
     origin: &LowerName,
@@ -44,37 +46,48 @@ pub fn nsec3_denial<'m, H: Nsec3Hash>(
         query,
         hash,
     };
-    let own = matching(records, &hashing, query.qname)?;
-    if own.is_some() && !query.has_wildcard_match {
-        return in_owner_order(origin.alloc(), own, None, None);
+    let Matched { owner, set } = matching(records, &hashing, query.qname)?;
+    if set.is_some() && !query.has_wildcard_match {
+        return in_owner_order(origin.alloc(), set, None, None);
     }
-    match closest_encloser(records, &hashing, query.qname)? {
+    match closest_encloser(records, &hashing, query.qname, owner)? {
         Some(encloser) => enclosed(records, &hashing, encloser),
         None => Ok(Vec::new(origin.alloc())),
     }
 }
 
-/// The encloser of a name, if there is one.
+/// The encloser of a name of which this is the hashed owner, if there is one.
 fn closest_encloser<'m, H: Nsec3Hash>(
     records: &'m RecordMap,
     hashing: &Hashing<'_, H>,
     name: &LowerName,
+    owner: LowerName,
 ) -> Result<Option<Encloser<'m>>, ProtoError>
+    requires { hashed_for hashing.now.origin.now (H.digest_of hashing.now.hash.now) hashing.now.query.now name.now ≡ Ok owner }
     ensures found { IfOk result (λ found. encloser_of records.now (hashed_for hashing.now.origin.now (H.digest_of hashing.now.hash.now) hashing.now.query.now) name.now
         ≡ Ok (option_map (λ e. base_name e.next_closer) found)) }
     ensures closer { IfOk result (λ found. IfSome found (λ e. next_closer_of name.now (base_name e.next_closer) ≡ Some e.next_closer)) }
+    ensures owner { IfOk result (λ found. IfSome found (λ e.
+        hashed_for hashing.now.origin.now (H.digest_of hashing.now.hash.now) hashing.now.query.now e.next_closer ≡ Ok e.closer_owner)) }
     ensures matched { IfOk result (λ found. IfSome found (λ e. sets_of records.now
         (match_of records.now (hashed_for hashing.now.origin.now (H.digest_of hashing.now.hash.now) hashing.now.query.now) (base_name e.next_closer))
         ≡ Ok (e.set.now ∷ []))) }
     ensures err { IfErr result (λ e. (e ≡ ProtoError.Memory)
         ⊎ (encloser_of records.now (hashed_for hashing.now.origin.now (H.digest_of hashing.now.hash.now) hashing.now.query.now) name.now ≡ Err e)) }
 {
+    let mut closer_owner = owner;
     let mut next_closer = name.clone()?;
     let mut above = name.base_name()?;
     while !above.is_root() {
-        if let Some(set) = matching(records, hashing, &above)? {
-            return Ok(Some(Encloser { next_closer, set }));
+        let Matched { owner, set } = matching(records, hashing, &above)?;
+        if let Some(set) = set {
+            return Ok(Some(Encloser {
+                next_closer,
+                closer_owner,
+                set,
+            }));
         }
+        closer_owner = owner;
         next_closer.shorten();
         above.shorten();
     }
@@ -88,6 +101,8 @@ fn enclosed<'m, H: Nsec3Hash>(
     encloser: Encloser<'m>,
 ) -> Result<Vec<&'m RecordSet>, ProtoError>
     requires closer { next_closer_of hashing.now.query.now.qname.now (base_name encloser.next_closer) ≡ Some encloser.next_closer }
+    requires owner { hashed_for hashing.now.origin.now (H.digest_of hashing.now.hash.now) hashing.now.query.now encloser.next_closer
+        ≡ Ok encloser.closer_owner }
     requires matched { sets_of records.now
         (match_of records.now (hashed_for hashing.now.origin.now (H.digest_of hashing.now.hash.now) hashing.now.query.now) (base_name encloser.next_closer))
         ≡ Ok (encloser.set.now ∷ []) }
@@ -100,12 +115,36 @@ fn enclosed<'m, H: Nsec3Hash>(
         hashing.now.query.now.has_wildcard_match hashing.now.query.now.qname.now (Some (base_name encloser.entry.next_closer))
         ≡ Err e)) }
 {
-    let Encloser { next_closer, set } = encloser;
+    let Encloser {
+        next_closer,
+        closer_owner,
+        set,
+    } = encloser;
     let alloc = next_closer.alloc();
-    let closer = covering(records, hashing, &next_closer)?;
+    let closer = covering(records, &closer_owner)?;
     if hashing.query.has_wildcard_match {
         return in_owner_order(alloc, closer, None, None);
     }
-    let star = star_set(records, hashing, &next_closer.into_wildcard())?;
+    let star_owner = star_owner(hashing, next_closer, closer_owner)?;
+    let star = matching_or_covering(records, &star_owner)?;
     in_owner_order(alloc, Some(set), closer, star)
+}
+
+/// The hashed owner of the star under the encloser, which is the next closer name with a star for its first label. Where that
+/// has a star there, as in a query for a star, its own hashed owner is at hand.
+fn star_owner<H: Nsec3Hash>(
+    hashing: &Hashing<'_, H>,
+    next_closer: LowerName,
+    closer_owner: LowerName,
+) -> Result<LowerName, ProtoError>
+    requires { hashed_for hashing.now.origin.now (H.digest_of hashing.now.hash.now) hashing.now.query.now next_closer ≡ Ok closer_owner }
+    ensures ok { IfOk result (λ owner.
+        hashed_for hashing.now.origin.now (H.digest_of hashing.now.hash.now) hashing.now.query.now (wildcard_of next_closer) ≡ Ok owner) }
+    ensures err { IfErr result (λ e. (e ≡ ProtoError.Memory)
+        ⊎ (hashed_for hashing.now.origin.now (H.digest_of hashing.now.hash.now) hashing.now.query.now (wildcard_of next_closer) ≡ Err e)) }
+{
+    if next_closer.is_wildcard() {
+        return Ok(closer_owner);
+    }
+    hashing.owner(&next_closer.into_wildcard())
 }

@@ -1,12 +1,11 @@
-// The keys of NSEC3 sets, and the sets that match and cover a name.
+// The hashed owners of names, and the sets that match and cover a name.
 ghost use Rattle.std.specs.Prelude.{◌≡◌, ◌⊎◌, length, Ok, Err, IfOk, IfErr, OnOk, IsOkUnless, filter_map, option_copied, option_to_list};
-ghost use Rattle.zone_proto.specs.Names.{base_name};
+ghost use Rattle.std.specs.Option.{option_or};
 ghost use Rattle.zone_proto.specs.Types.{NSEC3};
 ghost use Rattle.zone_map.specs.Counts.{counted_more};
-ghost use Rattle.zone_map.specs.Wildcards.{star_under};
 ghost use Rattle.zone_map.specs.Zones.{set_at, IsZone};
-ghost use Rattle.zone_denial.specs.Nsec3Denial.{match_of, cover_of, cover_owner, star_part};
-ghost use Rattle.zone_denial.specs.Nsec3Lent.{hashed_for, sets_of};
+ghost use Rattle.zone_denial.specs.Nsec3Denial.{match_owner, cover_owner};
+ghost use Rattle.zone_denial.specs.Nsec3Lent.{hashed_for};
 
 use zone_handler::Nsec3QueryInfo;
 use zone_map::{Reads, RecordMap};
@@ -24,82 +23,88 @@ pub(crate) struct Hashing<'q, H> {
 }
 
 impl<H: Nsec3Hash> Hashing<'_, H> {
-    /// The key that the NSEC3 set of a name has, or would have.
-    pub fn key(&self, name: &LowerName) -> Result<RrKey, ProtoError>
-        ensures ok { IfOk result (λ key. hashed_for self.now.origin.now (H.digest_of self.now.hash.now) self.now.query.now name.now ≡ Ok key.name) }
-        ensures nsec3 { IfOk result (λ key. key.record_type.0 ≡ NSEC3) }
+    /// The owner that the NSEC3 set of a name has, or would have.
+    pub fn owner(&self, name: &LowerName) -> Result<LowerName, ProtoError>
+        ensures ok { IfOk result (λ owner. hashed_for self.now.origin.now (H.digest_of self.now.hash.now) self.now.query.now name.now ≡ Ok owner) }
         ensures err { IfErr result (λ e. (e ≡ ProtoError.Memory)
             ⊎ (hashed_for self.now.origin.now (H.digest_of self.now.hash.now) self.now.query.now name.now ≡ Err e)) }
     {
-        let owner = self.query.hashed_owner_name(self.hash, name, self.origin)?;
-        Ok(RrKey::new(owner, RecordType::NSEC3))
+        self.query.hashed_owner_name(self.hash, name, self.origin)
     }
 }
 
-/// The set that matches a name (RFC 5155 section 1.3).
+/// A name that was hashed, and what matches it (RFC 5155 section 1.3).
+#[derive(Drop)]
+pub(crate) struct Matched<'m> {
+    /// The owner that the NSEC3 set of the name has, or would have.
+    pub owner: LowerName,
+    /// That set, if there is one.
+    pub set: Option<&'m RecordSet>,
+}
+
+/// Hashes a name, and looks for the set that matches it.
 pub(crate) fn matching<'m, H: Nsec3Hash>(
     records: &'m RecordMap,
     hashing: &Hashing<'_, H>,
     name: &LowerName,
-) -> Result<Option<&'m RecordSet>, ProtoError>
-    ensures ok { IfOk result (λ set. sets_of records.now
-        (match_of records.now (hashed_for hashing.now.origin.now (H.digest_of hashing.now.hash.now) hashing.now.query.now) name.now)
-        ≡ Ok (option_to_list (option_copied set))) }
+) -> Result<Matched<'m>, ProtoError>
+    ensures owner { IfOk result (λ matched.
+        hashed_for hashing.now.origin.now (H.digest_of hashing.now.hash.now) hashing.now.query.now name.now ≡ Ok matched.owner) }
+    ensures set { IfOk result (λ matched. option_copied matched.set ≡ set_at records.now matched.owner NSEC3) }
     ensures err { IfErr result (λ e. (e ≡ ProtoError.Memory)
         ⊎ (hashed_for hashing.now.origin.now (H.digest_of hashing.now.hash.now) hashing.now.query.now name.now ≡ Err e)) }
 {
-    Ok(records.get(&hashing.key(name)?))
+    let key = RrKey::new(hashing.owner(name)?, RecordType::NSEC3);
+    let set = records.get(&key);
+    Ok(Matched {
+        owner: key.name,
+        set,
+    })
 }
 
-/// The set that covers a name (RFC 5155 section 1.3): that of the greatest owner before the hashed owner, or of the greatest
-/// of all where none is before.
-pub(crate) fn covering<'m, H: Nsec3Hash>(
+/// The set that matches the name of which this is the hashed owner, or else the one that covers it: that of the greatest owner
+/// that isn't after it, or of the greatest of all where each is after it. Refused by `Memory` alone.
+pub(crate) fn matching_or_covering<'m>(
     records: &'m RecordMap,
-    hashing: &Hashing<'_, H>,
-    name: &LowerName,
+    hashed: &LowerName,
 ) -> Result<Option<&'m RecordSet>, ProtoError>
-    ensures ok { IfOk result (λ set. sets_of records.now
-        (cover_of records.now (hashed_for hashing.now.origin.now (H.digest_of hashing.now.hash.now) hashing.now.query.now) name.now)
-        ≡ Ok (option_to_list (option_copied set))) }
-    ensures zone { OnOk result (IsZone records.now) }
-    ensures err { IfErr result (λ e. (e ≡ ProtoError.Memory)
-        ⊎ (hashed_for hashing.now.origin.now (H.digest_of hashing.now.hash.now) hashing.now.query.now name.now ≡ Err e)) }
+    ensures ok { IfOk result (λ set. option_to_list (option_copied set)
+        ≡ filter_map (λ o. set_at records.now o NSEC3) (option_to_list (option_or (match_owner records.now hashed.now) (cover_owner records.now hashed.now)))) }
+    ensures err { IsOkUnless result ProtoError.Memory }
 {
-    cover_set(records, hashing.key(name)?)
-}
-
-/// The set that says something of the star under an encloser: what matches it, or else what covers it.
-pub(crate) fn star_set<'m, H: Nsec3Hash>(
-    records: &'m RecordMap,
-    hashing: &Hashing<'_, H>,
-    star: &LowerName,
-) -> Result<Option<&'m RecordSet>, ProtoError>
-    requires { star.now ≡ star_under (base_name star.now) }
-    ensures ok { IfOk result (λ set. sets_of records.now
-        (star_part records.now (hashed_for hashing.now.origin.now (H.digest_of hashing.now.hash.now) hashing.now.query.now) (base_name star.now))
-        ≡ Ok (option_to_list (option_copied set))) }
-    ensures err { IfErr result (λ e. (e ≡ ProtoError.Memory)
-        ⊎ (star_part records.now (hashed_for hashing.now.origin.now (H.digest_of hashing.now.hash.now) hashing.now.query.now) (base_name star.now) ≡ Err e)) }
-{
-    let key = hashing.key(star)?;
-    match records.get(&key) {
-        Some(set) => Ok(Some(set)),
-        None => cover_set(records, key),
+    let mut upto = records.denial_owners_upto(RecordType::NSEC3, hashed);
+    match upto.read_last(&mut Reads::new()) {
+        Some(owner) => own_set(records, owner),
+        None => covering(records, hashed),
     }
 }
 
-/// The set that covers the name of which this is the key. Refused by `Memory` alone.
-fn cover_set(records: &RecordMap, mut key: RrKey) -> Result<Option<&RecordSet>, ProtoError>
-    requires { key.record_type.0 ≡ NSEC3 }
+/// The set that covers the name of which this is the hashed owner (RFC 5155 section 1.3): that of the greatest owner before it,
+/// or of the greatest of all where none is before. Refused by `Memory` alone.
+pub(crate) fn covering<'m>(
+    records: &'m RecordMap,
+    hashed: &LowerName,
+) -> Result<Option<&'m RecordSet>, ProtoError>
     ensures ok { IfOk result (λ set. option_to_list (option_copied set)
-        ≡ filter_map (λ o. set_at records.now o NSEC3) (option_to_list (cover_owner records.now key.name))) }
+        ≡ filter_map (λ o. set_at records.now o NSEC3) (option_to_list (cover_owner records.now hashed.now))) }
     ensures zone { OnOk result (IsZone records.now) }
     ensures err { IsOkUnless result ProtoError.Memory }
 {
-    let Some(owner) = cover_owner(records, &key.name, &mut Reads::new()) else {
-        return Ok(None);
-    };
-    key.name = owner.clone()?;
+    match cover_owner(records, hashed, &mut Reads::new()) {
+        Some(owner) => own_set(records, owner),
+        None => Ok(None),
+    }
+}
+
+/// The NSEC3 set of an owner. Refused by `Memory` alone.
+fn own_set<'m>(
+    records: &'m RecordMap,
+    owner: &LowerName,
+) -> Result<Option<&'m RecordSet>, ProtoError>
+    ensures ok { IfOk result (λ set. option_copied set ≡ set_at records.now owner.now NSEC3) }
+    ensures err { IsOkUnless result ProtoError.Memory }
+{
+    let key = RrKey::new(owner.clone()?, RecordType::NSEC3);
     Ok(records.get(&key))
 }
 

@@ -1,5 +1,5 @@
 -- How a lookup says what is found, and that what is owned is answered
-use Rattle.std.proofs.Common.{◌≡◌, ℕ, true, List, refl, sym, ap, true≢false, ◌⊎◌, inl, inr, subst}
+use Rattle.std.proofs.Common.{◌≡◌, ℕ, true, List, refl, sym, ap, true≢false, inl, inr, subst}
 use Rattle.std.specs.Prelude.{Option, Some, None, Ok, Err, is_some, MatchOption}
 use Rattle.zone_proto.specs.declared.record.Record.{Record}
 use Rattle.zone_proto.specs.Names.{Name}
@@ -8,7 +8,6 @@ use Rattle.zone_handler.specs.declared.auth_lookup.AuthLookup.{AuthLookup}
 use Rattle.zone_handler.specs.declared.control_flow.LookupControlFlow.{LookupControlFlow}
 use Rattle.zone_handler.specs.declared.control_flow.LookupControlFlow.TheVariants.{Continue}
 use Rattle.zone_handler.specs.declared.lookup_error.LookupError.{LookupError}
-use Rattle.zone_handler.specs.declared.lookup_error.LookupError.TheVariants as error
 use Rattle.zone_handler.specs.declared.lookup_options.LookupOptions.{LookupOptions}
 use Rattle.zone_map.specs.Zones.{Sets, owns}
 use Rattle.zone_map.specs.Wildcards.{found}
@@ -41,8 +40,7 @@ module _ (sign : RRset → List Record) (m : Sets) (n : Name) (t : ℕ) (options
       inl (answered answers more, subst (λ o. MatchOption o (answered answers more ≡ denied (denial origin m n)) (λ s. IsAnswer sign m options.dnssec_ok n t s (answered answers more))) (sym f) is, (a, refl, has))
 
   -- and none is denied
-  pub says_none : (origin : Name) (e : LookupError) → found m options.dnssec_ok n t ≡ None → (e ≡ error_of (denial origin m n)) ⊎ (e ≡ error.Memory)
+  pub says_none : (origin : Name) (e : LookupError) → found m options.dnssec_ok n t ≡ None → e ≡ error_of (denial origin m n)
       → SaysOrMemory options (IsReplyFor sign origin m options.dnssec_ok n t) (Continue (Err e))
-  says_none origin e f (inr q) = inr (ap (λ x. Continue (Err x)) q)
-  says_none origin e f (inl q) =
+  says_none origin e f q =
       inl (denied (denial origin m n), subst (λ o. MatchOption o (denied (denial origin m n) ≡ denied (denial origin m n)) (λ s. IsAnswer sign m options.dnssec_ok n t s (denied (denial origin m n)))) (sym f) refl, ap (λ x. Continue (Err x)) q)

@@ -8,7 +8,7 @@ ghost use Rattle.zone_denial.specs.StarLaws.{OwnsNone, StarIsDenied, Nsec3StarIs
 ghost use Rattle.zone_handler.specs.Hashing.{digest_for};
 ghost use Rattle.zone_handler.specs.Transfers.{IsNoLookup};
 ghost use Rattle.zone_search.specs.StartOfAuthority.{soa, serial, minimum};
-ghost use Rattle.zone_search.specs.Replies.{absent, denial, is_there, IsReplyFor};
+ghost use Rattle.zone_search.specs.Replies.{absent, IsReplyFor};
 ghost use Rattle.zone_in_memory.specs.Lookup.{error_of, SaysOrMemory, IsLookup, IsAnswered, IsNameError};
 ghost use Rattle.zone_acceptance.specs.Judged.{IsJudged};
 ghost use Rattle.zone_in_memory.specs.NsecAnswers.{IsNsecAnswer, HasNsecProof, HasStarProof, HasAcceptedRecords, AgreesWithCircle};
@@ -34,13 +34,12 @@ use zone_handler::{
     AuthLookup, AxfrPolicy, LookupControlFlow, LookupError, LookupOptions, NetError,
     Nsec3QueryInfo, Request, RequestInfo, TSigResponseContext, ZoneHandler, ZoneTransfer, ZoneType,
 };
-use zone_map::Reads;
 use zone_proto::{
     DNSClass, LowerName, Name, Nsec3Hash, NxProofKind, RecordSet, RecordType, ResponseCode, RrKey,
     SOA, Signer,
 };
 use zone_search::start_of_authority::first_soa;
-use zone_search::{InnerInMemory, Searches, ZoneError};
+use zone_search::{InnerInMemory, Search, Searches, ZoneError};
 
 // The class of every zone that is made here.
 const CLASS: DNSClass = DNSClass::IN;
@@ -240,41 +239,31 @@ impl<S: Signer, H: Nsec3Hash> InMemoryZoneHandler<S, H> {
             (IsReplyFor (answer_signatures S.signature_of now lookup_options.dnssec_ok self.now.inner.signers) self.now.origin self.now.inner.records lookup_options.dnssec_ok name.now (searched_type self.now.inner.records name.now record_type.0))
             (LookupControlFlow.Continue result) }
     {
-        let record_type = if record_type == RecordType::ANY {
-            self.inner.replace_any(name)?
-        } else {
-            record_type
-        };
+        let record_type = self.searched_type(name, record_type)?;
         let mut searches = Searches::new();
         let inner = &self.inner;
-        match inner.inner_lookup(name, record_type, lookup_options, &mut searches)? {
-            Some(found) => {
+        match inner.search(name, record_type, lookup_options, &mut searches)? {
+            Search::Found(found) => {
                 Ok(inner.answer(name, record_type, found, lookup_options, now, &mut searches)?)
             }
-            None => Err(self.denial(name)),
+            Search::NoData => Err(LookupError::for_name_exists()),
+            Search::NoName => Err(denial_of_absent(&self.apex.name, name)),
         }
     }
 
-    /// The negative answer for a name, or want of memory.
-    fn denial(&self, name: &LowerName) -> LookupError
-        ensures { (result ≡ error_of (denial self.now.origin self.now.inner.records name.now)) ⊎ (result ≡ LookupError.Memory) }
-    {
-        match self.is_there(name) {
-            Err(_) => LookupError::Memory,
-            Ok(true) => LookupError::for_name_exists(),
-            Ok(false) => denial_of_absent(&self.apex.name, name),
-        }
-    }
-
-    /// Whether a name is there: it or a name below it owns a set, or the star that is asked for it exists.
-    fn is_there(&self, name: &LowerName) -> Result<bool, LookupError>
-        ensures answer { IfOk result (λ there. there ≡ is_there self.now.inner.records name.now) }
+    /// The type that is searched for a query of a type: for one of ANY it is chosen.
+    fn searched_type(
+        &self,
+        name: &LowerName,
+        record_type: RecordType,
+    ) -> Result<RecordType, LookupError>
+        ensures searched { IfOk result (λ searched. searched.0 ≡ searched_type self.now.inner.records name.now record_type.0) }
         ensures err { IsOkUnless result LookupError.Memory }
     {
-        if self.inner.owns_at_or_below(name, &mut Reads::new())? {
-            return Ok(true);
+        if record_type == RecordType::ANY {
+            return self.inner.replace_any(name);
         }
-        self.inner.asked_star_exists(name)
+        Ok(record_type)
     }
 }
 

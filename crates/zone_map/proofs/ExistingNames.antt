@@ -1,4 +1,4 @@
--- Which names exist: what the entries from a name's least key on say, and the walk up to the closest encloser
+-- Which names exist: what the entries from a name's least key on say, and what isn't delegated below the closest encloser
 use Rattle.std.proofs.Common.{◌≡◌, ℕ, ◌&&◌, ◌||◌, not, Bool, true, false, cond, [], ◌∷◌, drop, refl, sym, ap, ◌∙◌, subst, true≢false, Ordering, Less, Equal, Greater}
 use Rattle.std.specs.Prelude.{Option, Some, None, find, option_map, unwrap_or, ◌==◌}
 use Rattle.std.specs.Ordering.{is_le}
@@ -8,7 +8,7 @@ use Rattle.std.specs.Option.{option_or}
 use Rattle.std.proofs.lemmas.Map.Keys.{sorted_head, sorted_tail}
 use Rattle.zone_proto.specs.declared.rr_key.RrKey.{RrKey}
 use Rattle.zone_proto.specs.Keys.{key, key_cmp}
-use Rattle.zone_proto.specs.Names.{Name, name_cmp, name_eq, label_eq, IsAtOrAbove, is_at_or_above, is_root, suffixes, wildcard_of, star_label}
+use Rattle.zone_proto.specs.Names.{Name, name_cmp, name_eq, label_eq, IsAtOrAbove, is_at_or_above, is_root, suffixes, star_label}
 use Rattle.zone_proto.specs.Sets.{RRset}
 use Rattle.zone_proto.specs.Types.{NS, SOA, DS}
 use Rattle.zone_proto.proofs.Members.{any_from_In, In-map}
@@ -17,7 +17,7 @@ use Rattle.zone_map.specs.Zones.{Sets, owns, owns_at_or_below}
 use Rattle.zone_map.specs.Upserts.{is_denial_type}
 use Rattle.zone_map.specs.Search.{is_delegated, referral_at, referral, exact, direct}
 use Rattle.zone_map.specs.Walks.{referral_above, own_referral}
-use Rattle.zone_map.specs.Wildcards.{exists, star_under, closest_encloser, asked_star}
+use Rattle.zone_map.specs.Wildcards.{exists, star_under, asked_star}
 use Rattle.zone_map.proofs.Owned.{has_entry}
 use Rattle.zone_map.proofs.Neighbours.{from_key, at_or_after, earlier, before_not_below, none_below}
 use Rattle.zone_map.proofs.Walks.{referral_split}
@@ -46,7 +46,7 @@ abbrev pub shown_below : Name → Sets → Bool
 shown_below n [] = false
 shown_below n (e ∷ m) = cond (is_at_or_above n e.0.name) (not (is_denial_type e.0.record_type.0) || shown_below n m) false
 
-exists_is_front : (n : Name) (m : Sets) → IsStrictlySortedBy key_cmp (keys_of m) → exists m n ≡ shown_below n (from_key (key n 0) m)
+pub exists_is_front : (n : Name) (m : Sets) → IsStrictlySortedBy key_cmp (keys_of m) → exists m n ≡ shown_below n (from_key (key n 0) m)
 exists_is_front n [] s = refl
 exists_is_front n (e ∷ m) s = by (name_cmp n e.0.name) refl (exists_is_front n m (sorted_tail key_cmp e.0 (keys_of m) s))
   where
@@ -98,20 +98,9 @@ module _ (n : Name) (s t : Sets) (e : RrKey × RRset) (is : s ≡ e ∷ t) (whol
 pub none_left : (n : Name) (s : Sets) (whole : Bool) → s ≡ [] → shown_below n s ≡ whole → false ≡ whole
 none_left n s whole e h = ap (shown_below n) (sym e) ∙ h
 
--- ---- the walk up to the closest encloser
-
-pub encloser_is_next : (m : Sets) (n : Name) → (n ≡ [] → ⊥) → exists m (drop 1 n) ≡ true → closest_encloser m n ≡ Some (drop 1 n)
-encloser_is_next m [] below h = absurd (below refl)
-encloser_is_next m (l ∷ []) below h = ap (λ b. cond b (Some []) None) h
-encloser_is_next m (l ∷ (k ∷ n)) below h = ap (λ b. cond b (Some (k ∷ n)) (find (exists m) (suffixes n))) h
-
-pub star_of_next : (n : Name) → (n ≡ [] → ⊥) → wildcard_of n ≡ star_under (drop 1 n)
-star_of_next [] below = absurd (below refl)
-star_of_next (l ∷ n) below = refl
-
 -- ---- above a name that doesn't exist, and up to its closest encloser, nothing is delegated
 
-undelegated : (m : Sets) (a : Name) → exists m a ≡ false → is_delegated m a ≡ false
+pub undelegated : (m : Sets) (a : Name) → exists m a ≡ false → is_delegated m a ≡ false
 undelegated m a h = by (owns m a NS) refl
   where
     none : (b : Bool) → b && false ≡ false
@@ -122,7 +111,7 @@ undelegated m a h = by (owns m a NS) refl
     by true o = absurd (true≢false (sym (owner_exists m a NS o refl) ∙ h))
     by false o = ap (λ b. not (is_root a) && b) o ∙ none (not (is_root a))
 
-above_encloser : (m : Sets) (n e : Name) → find (exists m) (suffixes n) ≡ Some e → referral_above m n ≡ referral_above m e
+pub above_encloser : (m : Sets) (n e : Name) → find (exists m) (suffixes n) ≡ Some e → referral_above m n ≡ referral_above m e
 above_encloser m [] e h = by (exists m []) h
   where
     by : (b : Bool) → cond b (Some []) None ≡ Some e → referral_above m [] ≡ referral_above m e
@@ -135,7 +124,7 @@ above_encloser m (l ∷ n) e h = by (exists m (l ∷ n)) refl h (above_encloser 
     by true x g ih = let same : l ∷ n ≡ e = cc in ap (referral_above m) same
     by false x g ih = ap (λ b. referral_at m (cond b (Some (l ∷ n)) (find (is_delegated m) (suffixes n)))) (undelegated m (l ∷ n) x) ∙ ih g
 
-unsaid : (m : Sets) (n : Name) (t : ℕ) → exists m n ≡ false → own_referral m n t ≡ None
+pub unsaid : (m : Sets) (n : Name) (t : ℕ) → exists m n ≡ false → own_referral m n t ≡ None
 unsaid m n t h = ap (λ b. cond (b && not ((t == DS) && name_eq n n && not (owns m n SOA))) (Some (referral_at m (Some n))) None) (undelegated m n h)
 
 first_none : (o p : Option RRset) → option_or o p ≡ None → o ≡ None

@@ -12,6 +12,8 @@ pub mod Delegations
 pub mod Wildcards
 pub mod Walks
 pub mod ExistingNames
+pub mod FirstKeys
+pub mod NearestNames
 pub mod Renaming
 pub mod AnyTypes
 pub mod AtName

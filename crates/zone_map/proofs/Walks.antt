@@ -1,5 +1,5 @@
 -- A walk up the suffixes of a name looks for the nearest delegation: what the name says itself, and what the names above it say
-use Rattle.std.proofs.Common.{◌≡◌, ℕ, ◌-◌, Bool, true, false, cond, not, ◌&&◌, [], ◌∷◌, drop, refl, sym, ap, ◌∙◌, arith}
+use Rattle.std.proofs.Common.{◌≡◌, ℕ, Bool, true, false, cond, not, ◌&&◌, [], ◌∷◌, drop, refl, sym, ap, ◌∙◌, arith}
 use Rattle.std.specs.Prelude.{Option, Some, None, find, ◌==◌, is_some, unwrap_or}
 use Rattle.std.specs.Option.{option_or}
 use Rattle.zone_proto.specs.Names.{Name, name_eq, suffixes}
@@ -73,3 +73,6 @@ direct_above m n t r e h =
     direct_split m n t
     ∙ ap (λ o. option_or (unwrap_or o (referral_above m (drop 1 n))) (exact m n t)) e
     ∙ ap (λ p. option_or p (exact m n t)) h
+
+pub direct_own : (m : Sets) (n : Name) (t : ℕ) (r : Option RRset) → own_referral m n t ≡ Some r → direct m n t ≡ option_or r (exact m n t)
+direct_own m n t r e = direct_split m n t ∙ ap (λ o. option_or (unwrap_or o (referral_above m (drop 1 n))) (exact m n t)) e

@@ -3,10 +3,12 @@ ghost use Rattle.std.specs.Prelude.{◌≡◌, ℕ, ◌<◌, ◌≤◌, ◌==◌
 ghost use Rattle.std.specs.List.{list_any};
 ghost use Rattle.std.specs.Option.{option_or};
 ghost use Rattle.zone_proto.specs.Types.{NS, SOA};
-ghost use Rattle.zone_map.specs.Zones.{set_at, owns};
+ghost use Rattle.zone_map.specs.Zones.{set_at, owns, owns_at_or_below};
 ghost use Rattle.zone_map.specs.Search.{exact, types_for};
+ghost use Rattle.zone_map.specs.Walks.{first_key_from};
+ghost use Rattle.zone_map.specs.Wildcards.{exists};
 
-use crate::record_map::RecordMap;
+use crate::record_map::{RecordMap, is_denial_type};
 use crate::search::is_address;
 use zone_proto::{RecordSet, RecordType, RrKey};
 
@@ -19,6 +21,8 @@ pub(crate) struct AtName<'m> {
     pub(crate) ns: Option<&'m RecordSet>,
     /// Whether there is a set of type SOA.
     pub(crate) owns_soa: bool,
+    /// The first key from the name's least key on, of the name or of another.
+    pub(crate) first: Option<&'m RrKey>,
 }
 
 /// What stands at the name of its least key, that of type 0, for a query of `record_type`.
@@ -31,13 +35,16 @@ pub(crate) fn at_name<'m>(
     ensures exact { option_copied result.exact ≡ exact records.now least.now.name record_type.0 }
     ensures ns { option_copied result.ns ≡ set_at records.now least.now.name NS }
     ensures soa { result.owns_soa ≡ owns records.now least.now.name SOA }
+    ensures first { option_copied result.first ≡ first_key_from records.now least.now.name }
 {
     let mut here = AtName {
         exact: None,
         ns: None,
         owns_soa: false,
+        first: None,
     };
     for (key, set) in records.as_map().range(least..) {
+        here.first = here.first.or(Some(key));
         if key.name != least.name {
             break;
         }
@@ -57,6 +64,7 @@ impl<'m> AtName<'m> {
             ≡ option_or (option_copied self.entry.exact) (cond (list_any (λ u. set_type.0 == u) (types_for record_type.0)) (Some set.now) None) }
         ensures ns { option_copied result.ns ≡ option_or (option_copied self.entry.ns) (cond (NS == set_type.0) (Some set.now) None) }
         ensures soa { result.owns_soa ≡ (self.entry.owns_soa || (SOA == set_type.0)) }
+        ensures first { option_copied result.first ≡ option_copied self.entry.first }
     {
         let mut here = self;
         if here.exact.is_none() && answers(set_type, record_type) {
@@ -80,6 +88,39 @@ impl<'m> AtName<'m> {
             RecordType::ANAME
         } else {
             record_type.max(RecordType::SOA)
+        }
+    }
+
+    /// Whether the name of its least key, at which this stands, or a name below it, owns a set: the first key from there on
+    /// tells, since the names below a name stand together after it.
+    pub(crate) fn is_there(self, records: &RecordMap, least: &RrKey) -> bool
+        requires { option_copied self.first ≡ first_key_from records.now least.now.name }
+        ensures { result ≡ owns_at_or_below records.now least.now.name }
+    {
+        // Its clause says that the keys ascend.
+        let _ = records.as_map();
+        match self.first {
+            Some(first) => least.name.zone_of(&first.name),
+            None => false,
+        }
+    }
+
+    /// Whether the name of its least key, that of type 0, at which this stands, or a name below it, owns a set of a type other
+    /// than those of denial, so that it exists (RFC 4592 section 2.2.2). Only where the first key from there on is of a type of
+    /// denial is a further one read.
+    pub(crate) fn exists(self, records: &RecordMap, least: &RrKey) -> bool
+        requires type_zero { least.now.record_type.0 ≡ 0 }
+        requires first { option_copied self.first ≡ first_key_from records.now least.now.name }
+        ensures { result ≡ exists records.now least.now.name }
+    {
+        // Its clause says that the keys ascend.
+        let _ = records.as_map();
+        match self.first {
+            Some(first) => {
+                least.name.zone_of(&first.name)
+                    && (!is_denial_type(first.record_type) || records.exists(least))
+            }
+            None => false,
         }
     }
 }

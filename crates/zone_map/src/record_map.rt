@@ -302,7 +302,7 @@ fn none_clashes_after(record_type: RecordType, seen: RecordType) -> bool
 }
 
 /// Whether a type is one of denial, which may stand beside a CNAME.
-fn is_denial_type(record_type: RecordType) -> bool
+pub(crate) fn is_denial_type(record_type: RecordType) -> bool
     ensures { result ≡ is_denial_type record_type.0 }
 {
     record_type == RecordType::NSEC || record_type == RecordType::NSEC3

@@ -1,76 +1,69 @@
 //! The wildcard that answers for a name that doesn't exist (RFC 4592).
-ghost use Rattle.std.specs.Prelude.{◌≡◌, IfOk, IsOkUnless, None, option_map};
+ghost use Rattle.std.specs.Prelude.{◌≡◌, drop, IfOk, IsOkUnless, None, option_map};
 ghost use Rattle.zone_proto.specs.Keys.{first_key};
+ghost use Rattle.zone_proto.specs.Names.{wildcard_of};
 ghost use Rattle.zone_map.specs.Search.{direct};
-ghost use Rattle.zone_map.specs.Wildcards.{star_under, closest_encloser, asked_star, asked_star_exists, renamed, renamed_signature, wildcard};
+ghost use Rattle.zone_map.specs.Wildcards.{asked_star, asked_star_exists, renamed, renamed_signature, wildcard};
 
 use crate::record_map::RecordMap;
-use crate::search::direct_below;
+use crate::search::{Missing, at_star};
 use zone_proto::{LowerName, Name, ProtoError, Record, RecordSet, RecordType, RrKey};
 
-/// The set that a wildcard gives a name without a direct set (RFC 4592 section 3.3.1): the direct set of the star under the
-/// closest encloser, the longest of the name's proper ancestors that exists, under the name, with signatures only if
-/// `signed`. Nothing for the root, for a name that begins with `*`, and for one that exists. Refused by `Memory` alone.
+/// What a wildcard makes of a query for a name without a direct set.
+#[derive(Drop)]
+pub struct Synthesis {
+    /// The set that it gives the name.
+    pub set: Option<RecordSet>,
+    /// Whether a star is asked for the name, and exists.
+    pub is_there: bool,
+}
+
+/// What a wildcard makes of a query for a name without a direct set (RFC 4592 section 3.3.1): the direct set of the star under
+/// the closest encloser, the longest of the name's proper ancestors that exists, under the name, with signatures only if
+/// `signed`. No star is asked for the root, for a name that begins with `*`, and for one that exists: `missing` is what the
+/// search for a direct set has seen. Refused by `Memory` alone.
 pub fn wildcard(
     records: &RecordMap,
     name: &LowerName,
     record_type: RecordType,
     signed: bool,
-) -> Result<Option<RecordSet>, ProtoError>
-    requires { direct records.now name.now record_type.0 ≡ None }
-    ensures found { IfOk result (λ set. set ≡ wildcard records.now signed name.now record_type.0) }
+    missing: Missing,
+) -> Result<Synthesis, ProtoError>
+    requires none { direct records.now name.now record_type.0 ≡ None }
+    requires star { option_map (λ k. wildcard_of (drop k name.now)) missing.star ≡ asked_star records.now name.now }
+    ensures set { IfOk result (λ synthesis. synthesis.set ≡ wildcard records.now signed name.now record_type.0) }
+    ensures there { IfOk result (λ synthesis. synthesis.is_there ≡ asked_star_exists records.now name.now) }
     ensures err { IsOkUnless result ProtoError.Memory }
 {
-    let Some(star) = asked_star(records, name)? else {
-        return Ok(None);
+    let Some(labels) = missing.star else {
+        return Ok(Synthesis {
+            set: None,
+            is_there: false,
+        });
     };
-    match direct_below(records, &star, record_type) {
-        Some(set) => Ok(Some(renamed(set, &Name::from(star.name), name, signed)?)),
-        None => Ok(None),
-    }
+    let star = first_of_star(name, labels)?;
+    let here = at_star(records, &star, record_type);
+    let set = match here.set {
+        Some(set) => Some(renamed(set, &Name::from(star.name), name, signed)?),
+        None => None,
+    };
+    Ok(Synthesis {
+        set,
+        is_there: here.exists,
+    })
 }
 
-/// Whether a star is asked for a name, as [`wildcard`] says, and exists. Refused by `Memory` alone.
-pub fn asked_star_exists(records: &RecordMap, name: &LowerName) -> Result<bool, ProtoError>
-    ensures answer { IfOk result (λ there. there ≡ asked_star_exists records.now name.now) }
+/// The least key of the name that has `*` in the place of the first of its labels that are left without so many. Refused by
+/// `Memory` alone.
+fn first_of_star(name: &LowerName, labels: usize) -> Result<RrKey, ProtoError>
+    ensures made { IfOk result (λ least. least ≡ first_key (wildcard_of (drop labels name.now))) }
     ensures err { IsOkUnless result ProtoError.Memory }
 {
-    match asked_star(records, name)? {
-        Some(star) => Ok(records.exists(&star)),
-        None => Ok(false),
+    let mut next_closer = name.clone()?;
+    for _ in 0..labels {
+        next_closer.shorten();
     }
-}
-
-/// The least key of the star that is asked for a name.
-fn asked_star(records: &RecordMap, name: &LowerName) -> Result<Option<RrKey>, ProtoError>
-    ensures found { IfOk result (λ star. star ≡ option_map first_key (asked_star records.now name.now)) }
-    ensures err { IsOkUnless result ProtoError.Memory }
-{
-    if name.is_root() || name.is_wildcard() {
-        return Ok(None);
-    }
-    let least = RrKey::first_of(name)?;
-    if records.exists(&least) {
-        return Ok(None);
-    }
-    Ok(star_of_encloser(records, least, name.clone()?))
-}
-
-/// The least key of the star under the longest proper ancestor of a name that exists. `least` is the name's own least key.
-fn star_of_encloser(records: &RecordMap, least: RrKey, name: LowerName) -> Option<RrKey>
-    requires { least ≡ first_key name }
-    ensures { result ≡ option_map (λ a. first_key (star_under a)) (closest_encloser records.now name) }
-{
-    let mut encloser = least;
-    let mut below = name;
-    while !below.is_root() {
-        encloser.name.shorten();
-        if records.exists(&encloser) {
-            return Some(RrKey::new(below.into_wildcard(), RecordType(0)));
-        }
-        below.shorten();
-    }
-    None
+    Ok(RrKey::new(next_closer.into_wildcard(), RecordType(0)))
 }
 
 /// A star's set under the queried name.

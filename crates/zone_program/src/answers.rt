@@ -1,12 +1,12 @@
 ghost use Rattle.std.specs.Prelude.{◌≢◌};
 
 use crate::circle::circle;
-use crate::command::Command;
 use crate::demo_signer::DemoSigner;
 use crate::sha1_hash::Sha1Hash;
 use crate::signing::{add_key, renew, secure};
 use std::alloc::AllocError;
 use std::fmt;
+use zone_commands::Command;
 use zone_handler::{
     AuthLookup, AxfrPolicy, LookupControlFlow, LookupError, LookupOptions, LookupRecordsIter,
     Nsec3QueryInfo, Request, ZoneHandler, ZoneTransfer, ZoneType,

@@ -1,24 +1,22 @@
-//! The program `zonectl`: reads a command from each line, and writes an answer to each. Its lines are read and its records
-//! printed as `zone_text` does, and its zone is that of `zone_in_memory`; the signer of its demonstrations is no cryptography.
+//! The program `zonectl`: carries out the command of each line, and writes an answer to each. Its lines are read and its
+//! commands told as `zone_commands` does, its records are printed as `zone_text` does, and its zone is that of
+//! `zone_in_memory`; the signer of its demonstrations is no cryptography.
 #![tactic(auto)]
 
 ghost use Rattle.std.specs.Prelude.{◌≡◌, ◌≢◌, ◌≤◌, length, IsErrOf};
 
 mod answers;
 mod circle;
-mod command;
 mod demo_signer;
-mod lines;
 mod sha1_hash;
 mod signing;
 
 use answers::{Served, carry_out, empty_zone};
-use command::read_command;
 pub use demo_signer::DemoSigner;
-use lines::{Line, Lines};
 pub use sha1_hash::Sha1Hash;
 use std::alloc::{AllocError, Global};
 use std::io::{Read, Write};
+use zone_commands::{Line, Lines, read_command};
 use zone_proto::{Name, ProtoError};
 use zone_text::TextError;
 

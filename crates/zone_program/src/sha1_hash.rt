@@ -3,10 +3,8 @@ ghost use Rattle.sha1.specs.Sha1.{sha1};
 ghost use Rattle.zone_program.specs.Nsec3Digests.{iterated_hash, nsec3_digest};
 
 use sha1::Sha1;
+use zone_commands::SHA_1;
 use zone_proto::{LowerName, Nsec3Hash, ProtoError};
-
-/// The number of SHA-1 among the hash algorithms of NSEC3 records (RFC 5155 section 11).
-pub const SHA_1: u8 = 1;
 
 /// How many octets a digest has (FIPS 180-4 section 1).
 const DIGEST_LENGTH: usize = 20;

@@ -1,5 +1,5 @@
 ghost use Rattle.std.specs.Prelude.{◌≡◌, IfOk, IsOkUnless};
-ghost use Rattle.zone_search.specs.FoundSets.{found_set};
+ghost use Rattle.zone_search.specs.FoundSets.{found_set, search_found};
 
 use zone_handler::LookupError;
 use zone_proto::RecordSet;
@@ -32,6 +32,30 @@ impl<'z> Found<'z> {
         match self {
             Found::Stored(set) => Ok(set.clone()?),
             Found::Made(set) => Ok(set),
+        }
+    }
+}
+
+/// What a search in a zone gives: no user of a zone needs it.
+#[doc(hidden)]
+#[derive(Drop)]
+pub enum Search<'z> {
+    /// The set that was found.
+    Found(Found<'z>),
+    /// No set, though the name is there, or the star that is asked for it exists.
+    NoData,
+    /// No set, where neither is so.
+    NoName,
+}
+
+impl<'z> Search<'z> {
+    /// The set that was found.
+    pub(crate) fn into_found(self) -> Option<Found<'z>>
+        ensures { result ≡ search_found self.entry }
+    {
+        match self {
+            Search::Found(found) => Some(found),
+            Search::NoData | Search::NoName => None,
         }
     }
 }

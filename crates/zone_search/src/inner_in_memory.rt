@@ -10,16 +10,17 @@ ghost use Rattle.zone_denial.specs.OwnersRead.{owners_read, GrewByAtMost};
 ghost use Rattle.zone_proto.specs.Names.{Name};
 ghost use Rattle.zone_proto.specs.declared.error.ProtoError.{ProtoError};
 ghost use Rattle.zone_handler.specs.Errors.{error_of_proto};
-ghost use Rattle.zone_search.specs.FoundSets.{found_set, lent_set};
+ghost use Rattle.zone_search.specs.FoundSets.{found_set, lent_set, search_found, SaysThere};
+ghost use Rattle.zone_search.specs.Replies.{is_there};
 ghost use Rattle.zone_map.specs.Search.{direct};
-ghost use Rattle.zone_map.specs.Wildcards.{asked_star_exists, found};
+ghost use Rattle.zone_map.specs.Wildcards.{found};
 ghost use Rattle.zone_map.specs.Counts.{one_more, counted_more};
 ghost use Rattle.zone_map.specs.Upserts.{upserted, CnamesStandAlone};
 ghost use Rattle.zone_map.specs.Zones.{set_at, has_key_from, owns_at_or_below, put, without, IsStoredAt, IsZone};
 
 mod securing;
 
-use crate::found::Found;
+use crate::found::{Found, Search};
 use crate::searches::Searches;
 use crate::zone_error::ZoneError;
 use std::alloc::Global;
@@ -123,16 +124,8 @@ impl<S: Signer> InnerInMemory<S> {
         ensures counted { searches.new ≡ one_more searches.old }
         ensures err { IsOkUnless result LookupError.Memory }
     {
-        searches.add_one();
-        let mut key = RrKey::new(name.clone()?, record_type);
-        if let Some(set) = search::direct(&self.records, &mut key) {
-            return Ok(Some(Found::Stored(set)));
-        }
-        let signed = lookup_options.dnssec_ok;
-        match wildcard::wildcard(&self.records, name, record_type, signed)? {
-            Some(set) => Ok(Some(Found::Made(set))),
-            None => Ok(None),
-        }
+        let search = self.search(name, record_type, lookup_options, searches)?;
+        Ok(search.into_found())
     }
 
     /// The type that is searched for a query of ANY (RFC 8482 section 4.1): the least of A, CNAME, MX and AAAA that the
@@ -267,12 +260,35 @@ impl<S: Signer> InnerInMemory<S> {
         }
     }
 
-    /// Whether a star is asked for `name`, as [`InnerInMemory::inner_lookup`] says, and exists. Refused by `Memory` alone.
-    pub fn asked_star_exists(&self, name: &LowerName) -> Result<bool, LookupError>
-        ensures answer { IfOk result (λ there. there ≡ asked_star_exists self.now.records name.now) }
+    /// The search of [`InnerInMemory::inner_lookup`], which also tells of a name for which there is no set whether it is there:
+    /// whether the name or a name below it owns a set, or the star that is asked for it exists. The walk up the name that looks
+    /// for a zone cut sees this on its way. The call adds one to `searches`. Refused by `Memory` alone.
+    pub fn search(
+        &self,
+        name: &LowerName,
+        record_type: RecordType,
+        lookup_options: LookupOptions,
+        searches: &mut Searches,
+    ) -> Result<Search<'_>, LookupError>
+        ensures found { IfOk result (λ search. option_map found_set (search_found search) ≡ found self.now.records lookup_options.dnssec_ok name.now record_type.0) }
+        ensures lent { IfOk result (λ search. option_and_then lent_set (search_found search) ≡ direct self.now.records name.now record_type.0) }
+        ensures there { IfOk result (λ search. SaysThere (is_there self.now.records name.now) search) }
+        ensures counted { searches.new ≡ one_more searches.old }
         ensures err { IsOkUnless result LookupError.Memory }
     {
-        Ok(wildcard::asked_star_exists(&self.records, name)?)
+        searches.add_one();
+        let mut key = RrKey::new(name.clone()?, record_type);
+        let missing = match search::direct(&self.records, &mut key) {
+            Ok(set) => return Ok(Search::Found(Found::Stored(set))),
+            Err(missing) => missing,
+        };
+        let signed = lookup_options.dnssec_ok;
+        let made = wildcard::wildcard(&self.records, name, record_type, signed, missing)?;
+        match made.set {
+            Some(set) => Ok(Search::Found(Found::Made(set))),
+            None if missing.is_there || made.is_there => Ok(Search::NoData),
+            None => Ok(Search::NoName),
+        }
     }
 
     /// The NSEC sets that deny `name` in the zone of `origin`, lent out of the zone; see [`denial::nsec_denial`]. Refused by

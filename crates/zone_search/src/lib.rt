@@ -20,7 +20,7 @@ mod seen_names;
 pub mod start_of_authority;
 mod zone_error;
 
-pub use found::Found;
+pub use found::{Found, Search};
 pub use inner_in_memory::InnerInMemory;
 pub use searches::Searches;
 pub use zone_error::ZoneError;

@@ -15,6 +15,8 @@ mod handler;
 #[cfg(test)]
 mod iterators;
 #[cfg(test)]
+mod judged;
+#[cfg(test)]
 mod program_memory;
 #[cfg(test)]
 mod records;

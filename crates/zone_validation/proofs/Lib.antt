@@ -7,3 +7,6 @@ pub mod ShownWalk
 pub mod EncloserProofs
 pub mod WildcardAnswers
 pub mod Nsec3Sums
+mod NsecExamples
+mod NsecForgeries
+mod Nsec3Examples

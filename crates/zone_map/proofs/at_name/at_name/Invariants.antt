@@ -6,6 +6,7 @@ use Rattle.zone_proto.specs.Types.{NS, SOA}
 use Rattle.zone_map.specs.Search.{types_for}
 use Rattle.zone_map.proofs.AnyTypes.{Ascends}
 use Rattle.zone_map.proofs.AtName.{first_set}
+use Rattle.zone_map.proofs.FirstKeys.{front_key}
 use Rattle.zone_map.proofs.Neighbours.{front_types, from_key}
 use Rattle.zone_map.proofs.at_name.at_name.Given as goal
 
@@ -17,5 +18,6 @@ invariant-loop-key l = record {
       ≡ first_set (λ u. list_any (λ v. u == v) (types_for l.record_type.0)) l.least.name (from_key l.least l.records);
   ns : option_or (option_copied l.here.ns) (first_set (λ u. NS == u) l.least.name l.key-iterator) ≡ first_set (λ u. NS == u) l.least.name (from_key l.least l.records);
   soa : l.here.owns_soa || list_any (λ u. SOA == u) (front_types l.least.name l.key-iterator) ≡ list_any (λ u. SOA == u) (front_types l.least.name (from_key l.least l.records));
+  first : option_or (option_copied l.here.first) (front_key l.key-iterator) ≡ front_key (from_key l.least l.records);
   ascend : Ascends (front_types l.least.name l.key-iterator);
 }

@@ -1,4 +1,4 @@
-use Rattle.std.proofs.Common.{◌≡◌, ◌∙◌, ap, sym}
+use Rattle.std.proofs.Common.{◌∙◌, ap, sym}
 use Rattle.std.specs.Prelude.{option_map}
 use Rattle.zone_map.specs.DenialOwners.{denial_owners, owners_of}
 use Rattle.zone_map.specs.Upserts.{is_denial_type}
