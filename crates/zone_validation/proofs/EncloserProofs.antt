@@ -127,15 +127,12 @@ module _ (apex : Name) (hash : Name → Option (List ℕ)) (rs : List Nsec3Recor
     opted_out_is in_zone opted_out zone out =
         in_parts (λ r. r.opt_out) (λ a. true) ∙ alone (list_any (λ r. matches apex hash r e && is_of_encloser r) rs && list_any (λ r. covers apex hash r c && r.opt_out) rs) ∙ (λ i. sym zone i && sym out i)
 
-    pub unopted_is : list_any (λ r. covers apex hash r c) rs ≡ false → proves_opted_out apex hash rs x ≡ false
-    unopted_is uncovered =
-        in_parts (λ r. r.opt_out) (λ a. true)
-        ∙ ap (λ b. list_any (λ r. matches apex hash r e && is_of_encloser r) rs && b && true) (list_any-both_none (λ r. covers apex hash r c) (λ r. r.opt_out) rs uncovered)
-        ∙ none (list_any (λ r. matches apex hash r e && is_of_encloser r) rs)
-      where
-        none : (b : Bool) → (b && false && true) ≡ false
-        none true = refl
-        none false = refl
+    -- nor does opt-out leave x out where the proof doesn't stand
+    pub unopted_is : (in_zone covered : Bool) → in_zone ≡ list_any (λ r. matches apex hash r e && is_of_encloser r) rs → covered ≡ is_covered apex hash rs c → (in_zone && covered) ≡ false
+        → proves_opted_out apex hash rs x ≡ false
+    unopted_is false covered zone cover h = opted_out_is false (list_any (λ r. covers apex hash r c && r.opt_out) rs) zone refl
+    unopted_is true covered zone cover h =
+        opted_out_is true (list_any (λ r. covers apex hash r c && r.opt_out) rs) zone refl ∙ list_any-both_none (λ r. covers apex hash r c) (λ r. r.opt_out) rs (sym cover ∙ h)
 
   -- what is asked of the star, where the proof stands
   pub star_rest : (star : Name) → Some (base_name star) ≡ proved_encloser apex hash rs x → star ≡ star_under (base_name star) → (test : Name → Bool)

@@ -1,5 +1,5 @@
 -- What NSEC3 records prove, summed up
-use Rattle.std.proofs.Common.{◌≡◌, ℕ, ◌&&◌, not, Bool, true, false, List, length, Option, Some, None, option_map, refl, sym, ap, ◌∙◌}
+use Rattle.std.proofs.Common.{◌≡◌, ℕ, ◌&&◌, not, cond, Bool, true, false, List, length, Option, Some, None, option_map, refl, sym, ap, ◌∙◌}
 use Rattle.std.specs.Prelude.{if◌then◌else◌}
 use Rattle.std.specs.List.{list_any}
 use Rattle.std.specs.Option.{option_map_or}
@@ -12,10 +12,10 @@ use Rattle.zone_validation.specs.declared.proof.Proof.TheVariants.{NameError, Un
 use Rattle.zone_validation.specs.Encloser.{star_under}
 use Rattle.zone_validation.specs.Judgement.{nsec3_proof, wildcard_proof}
 use Rattle.zone_validation.specs.Nsec3Parameters.{common_parameters, digest_by, records_with, judged}
-use Rattle.zone_validation.specs.Nsec3Proofs.{lists, denies_type, matches, is_matched, is_covered, proved_encloser, covered_closer, proves_name_error, proves_no_data, proves_opted_out, proves_wildcard_no_data, shows_unsigned_delegation}
+use Rattle.zone_validation.specs.Nsec3Proofs.{lists, denies_type, matches, is_matched, is_covered, shown_encloser, proved_encloser, answering_labels, proves_name_error, proves_no_data, proves_opted_out, proves_wildcard_no_data, shows_unsigned_delegation}
 use Rattle.zone_validation.specs.Nsec3Records.{Nsec3Record}
 use Rattle.zone_validation.specs.Nsec3Responses.{Nsec3Response, hash_of, nsec3_response}
-use Rattle.zone_validation.proofs.EncloserProofs.{star_rest, unmatched_by}
+use Rattle.zone_validation.proofs.EncloserProofs.{star_rest, unmatched_by, with_rest, hidden_none}
 use Rattle.zone_validation.proofs.ListTests.{list_any-both_none}
 
 -- what is judged by the records of a response is judged by those that were read
@@ -33,18 +33,38 @@ judged_is {H} digest_of apex rs x hash response read {A} nothing judgement = by 
         ap (λ (r : Nsec3Response H). judgement r.apex (hash_of digest_of r) r.records r.name) is
 
 module _ (apex : Name) (hash : Name → Option (List ℕ)) (rs : List Nsec3Record) (x : Name) (t : ℕ) where
+  -- where no record matches x, its own record shows nothing
+  own_none : is_matched apex hash rs x ≡ false → proves_no_data apex hash rs x t ≡ false
+  own_none unmatched = list_any-both_none (λ r. matches apex hash r x) (λ r. denies_type r t) rs unmatched
+
+  cut_none : is_matched apex hash rs x ≡ false → shows_unsigned_delegation apex hash rs x ≡ false
+  cut_none unmatched =
+      list_any-both_none (λ r. matches apex hash r x && lists r NS && not (lists r DS)) (λ r. not (lists r SOA)) rs
+      (list_any-both_none (λ r. matches apex hash r x && lists r NS) (λ r. not (lists r DS)) rs (list_any-both_none (λ r. matches apex hash r x) (λ r. lists r NS) rs unmatched))
+
   -- where the closest encloser is proved it is what the star shows, or what opt-out leaves out, or a wildcard's answer
   pub with_star : (star : Name) → Some (base_name star) ≡ proved_encloser apex hash rs x → star ≡ star_under (base_name star)
       → (covered denied opted_out : Bool) → covered ≡ is_covered apex hash rs star → denied ≡ proves_no_data apex hash rs star t → opted_out ≡ proves_opted_out apex hash rs x
       → nsec3_proof apex hash rs x t
       ≡ (if covered then Some NameError else (if denied then Some WildcardNoData else (if opted_out then Some UnsignedDelegation
-      else wildcard_proof (option_map (λ c. length (base_name c)) (covered_closer apex hash rs x)))))
+      else wildcard_proof (answering_labels apex hash rs x))))
   with_star star proved is covered denied opted_out cover deny out =
       let unmatched = unmatched_by apex hash rs x (base_name star) (sym proved) in
       let error = star_rest apex hash rs x star proved is (is_covered apex hash rs) ∙ sym cover in
       let wildcard = star_rest apex hash rs x star proved is (λ n. proves_no_data apex hash rs n t) ∙ sym deny in
-      let own = list_any-both_none (λ r. matches apex hash r x) (λ r. denies_type r t) rs unmatched in
-      let cut = list_any-both_none (λ r. matches apex hash r x && lists r NS && not (lists r DS)) (λ r. not (lists r SOA)) rs
-      (list_any-both_none (λ r. matches apex hash r x && lists r NS) (λ r. not (lists r DS)) rs (list_any-both_none (λ r. matches apex hash r x) (λ r. lists r NS) rs unmatched)) in
-      λ i. if error i then Some NameError else (if cut i then Some UnsignedDelegation else (if own i then Some NoData else (if wildcard i then Some WildcardNoData
-      else (if sym out i then Some UnsignedDelegation else wildcard_proof (option_map (λ c. length (base_name c)) (covered_closer apex hash rs x))))))
+      λ i. if error i then Some NameError else (if cut_none unmatched i then Some UnsignedDelegation else (if own_none unmatched i then Some NoData else (if wildcard i then Some WildcardNoData
+      else (if sym out i then Some UnsignedDelegation else wildcard_proof (answering_labels apex hash rs x)))))
+
+  -- where no record matches x and no closest encloser is proved, it is a wildcard's answer
+  pub without_proof : is_matched apex hash rs x ≡ false → proved_encloser apex hash rs x ≡ None → proves_opted_out apex hash rs x ≡ false
+      → nsec3_proof apex hash rs x t ≡ wildcard_proof (answering_labels apex hash rs x)
+  without_proof unmatched unproved kept =
+      let error = with_rest apex hash rs x (λ e. is_covered apex hash rs (star_under e)) ∙ ap (λ o. option_map_or (λ e. is_covered apex hash rs (star_under e)) o false) unproved in
+      let wildcard = with_rest apex hash rs x (λ e. proves_no_data apex hash rs (star_under e) t) ∙ ap (λ o. option_map_or (λ e. proves_no_data apex hash rs (star_under e) t) o false) unproved in
+      λ i. if error i then Some NameError else (if cut_none unmatched i then Some UnsignedDelegation else (if own_none unmatched i then Some NoData else (if wildcard i then Some WildcardNoData
+      else (if kept i then Some UnsignedDelegation else wildcard_proof (answering_labels apex hash rs x)))))
+
+  -- so it is where no encloser is shown
+  pub without_encloser : is_matched apex hash rs x ≡ false → shown_encloser apex hash rs x ≡ None → nsec3_proof apex hash rs x t ≡ wildcard_proof (answering_labels apex hash rs x)
+  without_encloser unmatched hidden =
+      without_proof unmatched (ap (λ b. cond b (shown_encloser apex hash rs x) None) (hidden_none apex hash rs x (λ r. true) (λ e. true) hidden)) (hidden_none apex hash rs x (λ r. r.opt_out) (λ e. true) hidden)

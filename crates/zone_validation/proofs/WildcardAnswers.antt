@@ -8,7 +8,7 @@ use Rattle.std.proofs.lemmas.List.Folds.{find-append}
 use Rattle.zone_proto.specs.Names.{Name, base_name, name_eq, is_above, is_at_or_above, suffixes}
 use Rattle.zone_proto.proofs.Tree.{name_eq_itself}
 use Rattle.zone_validation.specs.Encloser.{ancestor_of, next_closer, proper_ancestors}
-use Rattle.zone_validation.specs.Nsec3Proofs.{is_covered, covered_closer, proves_wildcard_answer}
+use Rattle.zone_validation.specs.Nsec3Proofs.{is_covered, covered_closer, answering_labels, proves_wildcard_answer}
 use Rattle.zone_validation.specs.Nsec3Records.{Nsec3Record}
 use Rattle.zone_validation.proofs.ListTests.{find_passes}
 
@@ -98,7 +98,7 @@ module _ (apex : Name) (hash : Name → Option (List ℕ)) (rs : List Nsec3Recor
       not_above [] e = refl
       not_above (k ∷ ks) e = rest (name_eq apex (k ∷ ks)) (is_at_or_above apex ks) e
 
-  pub closer_ends : (n : Name) → is_above apex n ≡ false → covered_closer apex hash rs n ≡ None
+  closer_ends : (n : Name) → is_above apex n ≡ false → covered_closer apex hash rs n ≡ None
   closer_ends n h = ap (λ ns. find (is_covered apex hash rs) (reverse ns)) (none_below n h)
 
   closer_on : (n : Name) → is_above apex n ≡ true → covered_closer apex hash rs n ≡ option_or (covered_closer apex hash rs (drop 1 n)) (cond (is_covered apex hash rs n) (Some n) None)
@@ -109,24 +109,31 @@ module _ (apex : Name) (hash : Name → Option (List ℕ)) (rs : List Nsec3Recor
       ∙ ap (find (is_covered apex hash rs)) (reverse_onto below (l ∷ ls) [])
       ∙ find-append (is_covered apex hash rs) (reverse below) ((l ∷ ls) ∷ [])
 
-  -- the labels of the encloser under the shortest of them
-  abbrev pub covered_labels : Name → Option ℕ
-  covered_labels n = option_map (λ c. length (base_name c)) (covered_closer apex hash rs n)
+  pub no_labels : (n : Name) → is_above apex n ≡ false → answering_labels apex hash rs n ≡ None
+  no_labels n h = ap (option_map (λ (c : Name). length (base_name c))) (closer_ends n h)
 
-  pub labels_end : (n : Name) (found : Option ℕ) → is_above apex n ≡ false → option_or (covered_labels n) found ≡ found
-  labels_end n found h = ap (λ c. option_or (option_map (λ (c : Name). length (base_name c)) c) found) (closer_ends n h)
+  pub labels_end : (n : Name) (found : Option ℕ) → is_above apex n ≡ false → option_or (answering_labels apex hash rs n) found ≡ found
+  labels_end n found h = ap (λ k. option_or k found) (no_labels n h)
 
   pub labels_on : (n rest : Name) (covered : Bool) (found : Option ℕ) → is_above apex n ≡ true → covered ≡ is_covered apex hash rs n → rest ≡ drop 1 n
-      → option_or (covered_labels n) found ≡ option_or (covered_labels rest) (cond covered (Some (length rest)) found)
+      → option_or (answering_labels apex hash rs n) found ≡ option_or (answering_labels apex hash rs rest) (cond covered (Some (length rest)) found)
   labels_on [] rest covered found h cover is = absurd (true≢false (sym h))
   labels_on (l ∷ ls) rest covered found h cover is =
       ap (λ c. option_or (option_map (λ (c : Name). length (base_name c)) c) found) (closer_on (l ∷ ls) h)
       ∙ ap (λ b. option_or (option_map (λ (c : Name). length (base_name c)) (option_or (covered_closer apex hash rs ls) (cond b (Some (l ∷ ls)) None))) found) (sym cover)
       ∙ by (covered_closer apex hash rs ls) covered
-      ∙ (λ i. option_or (covered_labels (sym is i)) (cond covered (Some (length (sym is i))) found))
+      ∙ (λ i. option_or (answering_labels apex hash rs (sym is i)) (cond covered (Some (length (sym is i))) found))
     where
       by : (c : Option Name) (b : Bool) → option_or (option_map (λ (c : Name). length (base_name c)) (option_or c (cond b (Some (l ∷ ls)) None))) found
           ≡ option_or (option_map (λ (c : Name). length (base_name c)) c) (cond b (Some (length ls)) found)
       by (Some c) b = refl
       by None true = refl
       by None false = refl
+
+  pub labels_first : (n rest : Name) (covered : Bool) → is_above apex n ≡ true → covered ≡ is_covered apex hash rs n → rest ≡ drop 1 n
+      → option_or (answering_labels apex hash rs rest) (cond covered (Some (length rest)) None) ≡ answering_labels apex hash rs n
+  labels_first n rest covered h cover is = sym (labels_on n rest covered None h cover is) ∙ or_none (answering_labels apex hash rs n)
+    where
+      or_none : (k : Option ℕ) → option_or k None ≡ k
+      or_none None = refl
+      or_none (Some k) = refl

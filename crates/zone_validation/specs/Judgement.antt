@@ -1,6 +1,6 @@
 -- What records prove of a name and a type, summed up
 use Rattle.std.specs.Prelude.{ℕ, Bool, List, Option, Some, None, find, length, option_map, option_and_then, if◌then◌else◌}
-use Rattle.zone_proto.specs.Names.{Name, base_name}
+use Rattle.zone_proto.specs.Names.{Name}
 use Rattle.zone_validation.specs.declared.proof.Proof.{Proof}
 use Rattle.zone_validation.specs.declared.proof.Proof.TheVariants.{NameError, UnsignedDelegation, EmptyNonTerminal, NoData, WildcardNoData, WildcardAnswer}
 use Rattle.zone_validation.specs.NsecRecords.{NsecRecord}
@@ -39,4 +39,4 @@ nsec3_proof apex hash rs x t =
     else (if nsec3.proves_no_data apex hash rs x t then Some NoData
     else (if nsec3.proves_wildcard_no_data apex hash rs x t then Some WildcardNoData
     else (if nsec3.proves_opted_out apex hash rs x then Some UnsignedDelegation
-    else wildcard_proof (option_map (λ c. length (base_name c)) (nsec3.covered_closer apex hash rs x))))))
+    else wildcard_proof (nsec3.answering_labels apex hash rs x)))))

@@ -1,11 +1,11 @@
 -- What NSEC3 records prove to a validator. It knows the NSEC3 records of a response, whose signatures it has verified and which have
 -- all the same parameters (`Nsec3Parameters` says which these are), the hash by these parameters, the apex of the zone, which is the
 -- name that signed them, and what was asked. It knows no zone.
-use Rattle.std.specs.Prelude.{ℕ, Bool, true, false, ◌&&◌, ◌||◌, not, cond, List, ◌==◌, Option, None, find, filter, reverse, option_map}
+use Rattle.std.specs.Prelude.{ℕ, Bool, true, false, ◌&&◌, ◌||◌, not, cond, List, ◌==◌, Option, None, find, filter, length, reverse, option_map}
 use Rattle.std.specs.List.{list_any}
 use Rattle.std.specs.Option.{option_map_or}
 use Rattle.zone_proto.specs.HashedOwners.{hashed_owner}
-use Rattle.zone_proto.specs.Names.{Name, name_cmp, name_eq, is_above, is_at_or_above, suffixes}
+use Rattle.zone_proto.specs.Names.{Name, base_name, name_cmp, name_eq, is_above, is_at_or_above, suffixes}
 use Rattle.zone_proto.specs.Order.{is_before, is_upto}
 use Rattle.zone_proto.specs.Types.{NS, CNAME, SOA, DS, ANY}
 use Rattle.zone_validation.specs.Encloser.{proper_ancestors, star_under, next_closer}
@@ -113,6 +113,10 @@ module _ (apex : Name) (hash : Name → Option (List ℕ)) where
     -- star an answer may have been made: where the records are of one zone, those closer to x don't exist
     abbrev pub covered_closer : Name → Option Name
     covered_closer x = find is_covered (reverse (filter (is_above apex) (suffixes x)))
+
+    -- how many labels this encloser has
+    abbrev pub answering_labels : Name → Option ℕ
+    answering_labels x = option_map (λ c. length (base_name c)) (covered_closer x)
 
     -- an unsigned delegation by its own record, with NS and neither DS nor SOA (RFC 5155 section 8.9)
     abbrev pub shows_unsigned_delegation : Name → Bool

@@ -1,25 +1,37 @@
 // The closest encloser proof (RFC 5155 section 8.3).
-ghost use Rattle.std.specs.Prelude.{◌≡◌, ◌&&◌, false, Some, None, option_map, IfOk, IfSome, IsOkUnless};
+ghost use Rattle.std.specs.Prelude.{◌≡◌, ◌&&◌, cond, false, true, Some, option_map, IfOk, IfSome, IsOkUnless, MatchOption};
 ghost use Rattle.std.specs.List.{list_any};
-ghost use Rattle.std.specs.Option.{option_map_or};
+ghost use Rattle.std.specs.Option.{option_map_or, option_or};
 ghost use Rattle.zone_proto.specs.Names.{base_name};
 ghost use Rattle.zone_validation.specs.Encloser.{next_closer, star_under};
-ghost use Rattle.zone_validation.specs.Nsec3Proofs.{matches, is_matched, is_of_encloser, owner_of, shown_encloser, proved_encloser, proves_opted_out};
+ghost use Rattle.zone_validation.specs.Nsec3Proofs.{matches, is_matched, is_covered, is_of_encloser, owner_of, shown_encloser, proved_encloser, proves_opted_out, answering_labels};
 ghost use Rattle.zone_validation.specs.Nsec3Responses.{hash_of};
 
 use crate::hashed_owner::HashedOwner;
 use crate::nsec3_response::Nsec3Response;
+use crate::nsec3_wildcard::nearest_labels;
 use zone_proto::{LowerName, Nsec3Hash, ProtoError};
 
 /// The closest encloser of a name that the records show.
 #[derive(Drop)]
-struct ShownEncloser<'q> {
+pub(crate) struct ShownEncloser<'q> {
     /// The next closer name: the name one label longer than the encloser, which is the name or an ancestor of it.
-    next_closer: LowerName,
+    pub next_closer: LowerName,
     /// The hashed owner of the next closer name, if the hash has a digest of it.
-    hashed: Option<HashedOwner<'q>>,
+    pub hashed: Option<HashedOwner<'q>>,
+    /// Whether a record covers the next closer name.
+    pub covered: bool,
     /// Whether a record matches the encloser that is of this zone, and of no name that hands on what is below it.
-    in_zone: bool,
+    pub in_zone: bool,
+}
+
+/// The walk from a name up to the closest encloser that the records show, or else to the apex.
+#[derive(Drop)]
+pub(crate) struct EncloserWalk<'q> {
+    /// The encloser.
+    pub shown: Option<ShownEncloser<'q>>,
+    /// How many labels the parent has of the last name on the walk that a record covers, of those longer than the encloser.
+    pub labels: Option<usize>,
 }
 
 /// The closest encloser of a name that the records prove.
@@ -44,19 +56,20 @@ impl<'q, 'r, H: Nsec3Hash> Nsec3Response<'q, 'r, H> {
         if self.is_matched(Some(self.own())) {
             return Ok(None);
         }
-        match self.shown_encloser()? {
+        let EncloserWalk { shown, labels: _ } = self.encloser_walk()?;
+        match shown {
             Some(encloser) => self.proof_of(encloser),
             None => Ok(None),
         }
     }
 
-    /// What the encloser that they show proves: nothing where it isn't of the zone, and where the next closer name isn't covered.
-    /// Refused only for want of memory.
+    /// What the encloser that they show proves, if anything. Refused only for want of memory.
     fn proof_of(&self, encloser: ShownEncloser<'_>) -> Result<Option<ProvedEncloser>, ProtoError>
         requires unmatched { is_matched self.now.apex (hash_of H.digest_of self.now) self.now.records self.now.name ≡ false }
         requires shown { shown_encloser self.now.apex (hash_of H.digest_of self.now) self.now.records self.now.name ≡ Some (base_name encloser.next_closer) }
         requires closer { next_closer self.now.name (base_name encloser.next_closer) ≡ Some encloser.next_closer }
         requires hashed { encloser.hashed ≡ owner_of self.now.apex (hash_of H.digest_of self.now) encloser.next_closer }
+        requires covered { encloser.covered ≡ is_covered self.now.apex (hash_of H.digest_of self.now) self.now.records encloser.next_closer }
         requires in_zone { encloser.in_zone
             ≡ list_any (λ r. matches self.now.apex (hash_of H.digest_of self.now) r (base_name encloser.next_closer) && is_of_encloser r) self.now.records }
         ensures proved { IfOk result (λ proved. option_map (λ p. base_name p.star) proved
@@ -66,52 +79,86 @@ impl<'q, 'r, H: Nsec3Hash> Nsec3Response<'q, 'r, H> {
             ≡ proves_opted_out self.now.apex (hash_of H.digest_of self.now) self.now.records self.now.name) }
         ensures err { IsOkUnless result ProtoError.Memory }
     {
-        let ShownEncloser {
-            next_closer,
-            hashed,
-            in_zone,
-        } = encloser;
-        if !in_zone {
-            return Ok(None);
+        if encloser.stands() {
+            Ok(Some(self.standing(encloser)?))
+        } else {
+            Ok(None)
         }
-        if !self.is_covered(hashed.as_ref())? {
-            return Ok(None);
-        }
-        let opted_out = self.is_opted_out(hashed.as_ref())?;
-        Ok(Some(ProvedEncloser {
-            star: next_closer.into_wildcard(),
-            opted_out,
-        }))
     }
 
-    /// The closest encloser of the name that the records show: from the name up, the first ancestor that a record matches.
-    /// Refused only for want of memory.
-    fn shown_encloser(&self) -> Result<Option<ShownEncloser<'q>>, ProtoError>
-        ensures shown { IfOk result (λ shown. option_map (λ e. base_name e.next_closer) shown
+    /// What an encloser proves whose proof stands. Refused only for want of memory.
+    pub(crate) fn standing(&self, encloser: ShownEncloser<'_>) -> Result<ProvedEncloser, ProtoError>
+        requires unmatched { is_matched self.now.apex (hash_of H.digest_of self.now) self.now.records self.now.name ≡ false }
+        requires shown { shown_encloser self.now.apex (hash_of H.digest_of self.now) self.now.records self.now.name ≡ Some (base_name encloser.next_closer) }
+        requires closer { next_closer self.now.name (base_name encloser.next_closer) ≡ Some encloser.next_closer }
+        requires hashed { encloser.hashed ≡ owner_of self.now.apex (hash_of H.digest_of self.now) encloser.next_closer }
+        requires covered { is_covered self.now.apex (hash_of H.digest_of self.now) self.now.records encloser.next_closer ≡ true }
+        requires in_zone { list_any (λ r. matches self.now.apex (hash_of H.digest_of self.now) r (base_name encloser.next_closer) && is_of_encloser r) self.now.records ≡ true }
+        ensures proved { IfOk result (λ p. Some (base_name p.star)
+            ≡ proved_encloser self.now.apex (hash_of H.digest_of self.now) self.now.records self.now.name) }
+        ensures encloser { IfOk result (λ p. base_name p.star ≡ base_name encloser.entry.next_closer) }
+        ensures star { IfOk result (λ p. p.star ≡ star_under (base_name p.star)) }
+        ensures opted_out { IfOk result (λ p. p.opted_out
+            ≡ proves_opted_out self.now.apex (hash_of H.digest_of self.now) self.now.records self.now.name) }
+        ensures err { IsOkUnless result ProtoError.Memory }
+    {
+        let opted_out = self.is_opted_out(encloser.hashed.as_ref())?;
+        Ok(ProvedEncloser {
+            star: encloser.next_closer.into_wildcard(),
+            opted_out,
+        })
+    }
+
+    /// The walk from the name up: its ancestors are hashed from the longest on, each once, up to the first that a record matches,
+    /// which is the encloser, or else up to the apex. Refused only for want of memory.
+    pub(crate) fn encloser_walk(&self) -> Result<EncloserWalk<'q>, ProtoError>
+        ensures shown { IfOk result (λ walk. option_map (λ e. base_name e.next_closer) walk.shown
             ≡ shown_encloser self.now.apex (hash_of H.digest_of self.now) self.now.records self.now.name) }
-        ensures closer { IfOk result (λ shown. IfSome shown (λ e. next_closer self.now.name (base_name e.next_closer) ≡ Some e.next_closer)) }
-        ensures hashed { IfOk result (λ shown. IfSome shown (λ e. e.hashed ≡ owner_of self.now.apex (hash_of H.digest_of self.now) e.next_closer)) }
-        ensures in_zone { IfOk result (λ shown. IfSome shown (λ e. e.in_zone
+        ensures closer { IfOk result (λ walk. IfSome walk.shown (λ e. next_closer self.now.name (base_name e.next_closer) ≡ Some e.next_closer)) }
+        ensures hashed { IfOk result (λ walk. IfSome walk.shown (λ e. e.hashed ≡ owner_of self.now.apex (hash_of H.digest_of self.now) e.next_closer)) }
+        ensures covered { IfOk result (λ walk. IfSome walk.shown (λ e. e.covered ≡ is_covered self.now.apex (hash_of H.digest_of self.now) self.now.records e.next_closer)) }
+        ensures in_zone { IfOk result (λ walk. IfSome walk.shown (λ e. e.in_zone
             ≡ list_any (λ r. matches self.now.apex (hash_of H.digest_of self.now) r (base_name e.next_closer) && is_of_encloser r) self.now.records)) }
+        ensures labels { IfOk result (λ walk. MatchOption walk.shown
+            (walk.labels ≡ answering_labels self.now.apex (hash_of H.digest_of self.now) self.now.records self.now.name)
+            (λ e. option_or (answering_labels self.now.apex (hash_of H.digest_of self.now) self.now.records (base_name e.next_closer)) walk.labels
+                ≡ answering_labels self.now.apex (hash_of H.digest_of self.now) self.now.records self.now.name)) }
         ensures err { IsOkUnless result ProtoError.Memory }
     {
         let mut next_closer = self.name().clone()?;
         let mut above = self.name().base_name()?;
         let mut hashed = Some(self.own().clone()?);
+        let mut labels = None;
         while self.is_below_apex(&next_closer) {
+            let covered = self.is_covered(hashed.as_ref())?;
+            labels = nearest_labels(covered, &above, labels);
             let owner = self.owner_of(&above)?;
             if self.is_matched(owner.as_ref()) {
                 let in_zone = self.is_matched_in_zone(owner.as_ref());
-                return Ok(Some(ShownEncloser {
+                let shown = Some(ShownEncloser {
                     next_closer,
                     hashed,
+                    covered,
                     in_zone,
-                }));
+                });
+                return Ok(EncloserWalk { shown, labels });
             }
             hashed = owner;
             next_closer.shorten();
             above.shorten();
         }
-        Ok(None)
+        Ok(EncloserWalk {
+            shown: None,
+            labels,
+        })
+    }
+}
+
+impl ShownEncloser<'_> {
+    /// Whether it proves that the name doesn't exist.
+    pub(crate) fn stands(&self) -> bool
+        ensures { result ≡ (self.now.in_zone && self.now.covered) }
+    {
+        self.in_zone && self.covered
     }
 }

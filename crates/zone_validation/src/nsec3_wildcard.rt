@@ -1,11 +1,10 @@
 // Answers that were made from a wildcard (RFC 5155 section 8.8).
-ghost use Rattle.std.specs.Prelude.{◌≡◌, ◌<◌, ◌-◌, suc, false, length, drop, map, option_map, IfOk, IsOkUnless};
-ghost use Rattle.std.specs.Option.{option_map_or};
-ghost use Rattle.zone_proto.specs.Names.{base_name};
+ghost use Rattle.std.specs.Prelude.{◌≡◌, ◌<◌, ◌-◌, suc, cond, false, Some, length, drop, IfOk, IsOkUnless};
+ghost use Rattle.std.specs.Option.{option_map_or, option_or};
 ghost use Rattle.zone_proto.specs.Results.{IsCopy};
 ghost use Rattle.zone_validation.specs.Encloser.{ancestor_of};
 ghost use Rattle.zone_validation.specs.Judgement.{wildcard_proof};
-ghost use Rattle.zone_validation.specs.Nsec3Proofs.{is_covered, covered_closer, proves_wildcard_answer};
+ghost use Rattle.zone_validation.specs.Nsec3Proofs.{is_covered, proves_wildcard_answer, answering_labels};
 ghost use Rattle.zone_validation.specs.Nsec3Responses.{hash_of};
 
 use crate::nsec3_response::Nsec3Response;
@@ -26,26 +25,40 @@ impl<'q, 'r, H: Nsec3Hash> Nsec3Response<'q, 'r, H> {
         self.covers(&next_closer(self.name(), encloser_labels)?)
     }
 
-    /// The wildcard answer that they may prove: with the closest encloser that is nearest to the apex. Refused only for want of
-    /// memory.
+    /// The wildcard answer that they may prove of the name. Refused only for want of memory.
     pub(crate) fn wildcard_answer(&self) -> Result<Option<Proof>, ProtoError>
         ensures ok { IfOk result (λ proof. proof
-            ≡ wildcard_proof (option_map (λ c. length (base_name c)) (covered_closer self.now.apex (hash_of H.digest_of self.now) self.now.records self.now.name))) }
+            ≡ wildcard_proof (answering_labels self.now.apex (hash_of H.digest_of self.now) self.now.records self.now.name)) }
         ensures err { IsOkUnless result ProtoError.Memory }
     {
-        let mut encloser_labels = None;
-        let mut rest = self.name().clone()?;
+        if !self.is_below_apex(self.name()) {
+            return Ok(None);
+        }
+        let covered = self.is_covered(Some(self.own()))?;
+        let above = self.name().base_name()?;
+        let labels = nearest_labels(covered, &above, None);
+        self.wildcard_answer_above(above, labels)
+    }
+
+    /// The wildcard answer that they may prove of an ancestor, or else by the labels of an encloser below it. Refused only for want
+    /// of memory.
+    pub(crate) fn wildcard_answer_above(
+        &self,
+        ancestor: LowerName,
+        below: Option<usize>,
+    ) -> Result<Option<Proof>, ProtoError>
+        ensures ok { IfOk result (λ proof. proof
+            ≡ wildcard_proof (option_or (answering_labels self.now.apex (hash_of H.digest_of self.now) self.now.records ancestor) below)) }
+        ensures err { IsOkUnless result ProtoError.Memory }
+    {
+        let mut labels = below;
+        let mut rest = ancestor;
         while self.is_below_apex(&rest) {
             let covered = self.covers(&rest)?;
             rest.shorten();
-            if covered {
-                encloser_labels = Some(rest.num_labels());
-            }
+            labels = nearest_labels(covered, &rest, labels);
         }
-        match encloser_labels {
-            Some(encloser_labels) => Ok(Some(Proof::WildcardAnswer { encloser_labels })),
-            None => Ok(None),
-        }
+        Ok(wildcard_proof(labels))
     }
 
     /// Whether a record covers a name. Refused only for want of memory.
@@ -55,6 +68,29 @@ impl<'q, 'r, H: Nsec3Hash> Nsec3Response<'q, 'r, H> {
     {
         let hashed = self.owner_of(name)?;
         self.is_covered(hashed.as_ref())
+    }
+}
+
+/// What is proved by the labels of an encloser, if there is one.
+pub(crate) fn wildcard_proof(labels: Option<usize>) -> Option<Proof>
+    ensures { result ≡ wildcard_proof labels }
+{
+    let encloser_labels = labels?;
+    Some(Proof::WildcardAnswer { encloser_labels })
+}
+
+/// How many labels an encloser has, where the name under it is covered; else those of an encloser below.
+pub(crate) fn nearest_labels(
+    covered: bool,
+    encloser: &LowerName,
+    below: Option<usize>,
+) -> Option<usize>
+    ensures { result ≡ cond covered (Some (length encloser.now)) below }
+{
+    if covered {
+        Some(encloser.num_labels())
+    } else {
+        below
     }
 }
 

@@ -1,14 +1,15 @@
-use Rattle.std.proofs.Common.{Some, length, option_map, refl, sym, ap, ◌∙◌}
+use Rattle.std.proofs.Common.{Some, refl, sym, ap, ◌∙◌}
 use Rattle.std.specs.Prelude.{if◌then◌else◌}
+use Rattle.std.specs.Option.{option_or}
 use Rattle.std.proofs.lemmas.Result.{IfOk-weaker}
-use Rattle.zone_proto.specs.Names.{base_name}
 use Rattle.zone_validation.specs.declared.proof.Proof.TheVariants.{NameError, UnsignedDelegation, WildcardNoData}
 use Rattle.zone_validation.specs.Judgement.{wildcard_proof}
-use Rattle.zone_validation.specs.Nsec3Proofs.{proves_no_data, proves_opted_out, covered_closer}
+use Rattle.zone_validation.specs.Nsec3Proofs.{proves_no_data, proves_opted_out, answering_labels}
 use Rattle.zone_validation.specs.Nsec3Responses.{hash_of}
 use Rattle.zone_validation.proofs.EncloserProofs.{covered_by, denied_by}
 use Rattle.zone_validation.proofs.Nsec3Sums.{with_star}
-use Rattle.zone_validation.proofs.nsec3_response.Nsec3Response.proof_with.Goals as goal
+use Rattle.zone_validation.proofs.ShownWalk.{base_is_drop}
+use Rattle.zone_validation.proofs.nsec3_response.Nsec3Response.proof_by_star.Goals as goal
 
 pub returns-then-branch-clause-ok : goal.returns-then-branch-clause-ok
 returns-then-branch-clause-ok g c =
@@ -19,9 +20,9 @@ returns-then-branch-clause-ok g c =
     let star = c.args.encloser.star in
     let t = c.args.record_type.0 in
     sym
-    (with_star apex hash rs x t star (sym c.requires.proved) c.requires.star c.in_ok-is_covered.field-0 (proves_no_data apex hash rs star t) (proves_opted_out apex hash rs x)
+    (with_star apex hash rs x t star c.requires.proved c.requires.star c.in_ok-is_covered.field-0 (proves_no_data apex hash rs star t) (proves_opted_out apex hash rs x)
     (c.in_ok-is_covered.ensures.ok ∙ covered_by apex hash rs star _ (c.as_ref.ensures.value ∙ c.in_ok-star.ensures.ok)) refl refl
-    ∙ (λ i. if c.if-branch.true i then Some NameError else (if proves_no_data apex hash rs star t then Some WildcardNoData else (if proves_opted_out apex hash rs x then Some UnsignedDelegation else wildcard_proof (option_map (λ c. length (base_name c)) (covered_closer apex hash rs x))))))
+    ∙ (λ i. if c.if-branch.true i then Some NameError else (if proves_no_data apex hash rs star t then Some WildcardNoData else (if proves_opted_out apex hash rs x then Some UnsignedDelegation else wildcard_proof (answering_labels apex hash rs x)))))
 
 pub returns-then-denies_type-clause-ok : goal.returns-then-denies_type-clause-ok
 returns-then-denies_type-clause-ok g c =
@@ -32,10 +33,10 @@ returns-then-denies_type-clause-ok g c =
     let star = c.args.encloser.star in
     let t = c.args.record_type.0 in
     sym
-    (with_star apex hash rs x t star (sym c.requires.proved) c.requires.star c.in_ok-is_covered.field-0 c.denies_type.result (proves_opted_out apex hash rs x)
+    (with_star apex hash rs x t star c.requires.proved c.requires.star c.in_ok-is_covered.field-0 c.denies_type.result (proves_opted_out apex hash rs x)
     (c.in_ok-is_covered.ensures.ok ∙ covered_by apex hash rs star _ (c.as_ref.ensures.value ∙ c.in_ok-star.ensures.ok))
     (c.denies_type.ensures ∙ denied_by apex hash rs star _ (c.as_ref-2.ensures.value ∙ c.in_ok-star.ensures.ok) t) refl
-    ∙ (λ i. if c.if-branch.false i then Some NameError else (if c.if-denies_type.true i then Some WildcardNoData else (if proves_opted_out apex hash rs x then Some UnsignedDelegation else wildcard_proof (option_map (λ c. length (base_name c)) (covered_closer apex hash rs x))))))
+    ∙ (λ i. if c.if-branch.false i then Some NameError else (if c.if-denies_type.true i then Some WildcardNoData else (if proves_opted_out apex hash rs x then Some UnsignedDelegation else wildcard_proof (answering_labels apex hash rs x)))))
 
 pub returns-then-encloser-clause-ok : goal.returns-then-encloser-clause-ok
 returns-then-encloser-clause-ok g c =
@@ -46,10 +47,10 @@ returns-then-encloser-clause-ok g c =
     let star = c.args.encloser.star in
     let t = c.args.record_type.0 in
     sym
-    (with_star apex hash rs x t star (sym c.requires.proved) c.requires.star c.in_ok-is_covered.field-0 c.denies_type.result c.args.encloser.opted_out
+    (with_star apex hash rs x t star c.requires.proved c.requires.star c.in_ok-is_covered.field-0 c.denies_type.result c.args.encloser.opted_out
     (c.in_ok-is_covered.ensures.ok ∙ covered_by apex hash rs star _ (c.as_ref.ensures.value ∙ c.in_ok-star.ensures.ok))
     (c.denies_type.ensures ∙ denied_by apex hash rs star _ (c.as_ref-2.ensures.value ∙ c.in_ok-star.ensures.ok) t) c.requires.opted_out
-    ∙ (λ i. if c.if-branch.false i then Some NameError else (if c.if-denies_type.false i then Some WildcardNoData else (if c.if-encloser.true i then Some UnsignedDelegation else wildcard_proof (option_map (λ c. length (base_name c)) (covered_closer apex hash rs x))))))
+    ∙ (λ i. if c.if-branch.false i then Some NameError else (if c.if-denies_type.false i then Some WildcardNoData else (if c.if-encloser.true i then Some UnsignedDelegation else wildcard_proof (answering_labels apex hash rs x)))))
 
 pub returns-clause-ok : goal.returns-clause-ok
 returns-clause-ok g c =
@@ -60,8 +61,9 @@ returns-clause-ok g c =
     let star = c.args.encloser.star in
     let t = c.args.record_type.0 in
     let sum =
-    with_star apex hash rs x t star (sym c.requires.proved) c.requires.star c.in_ok-is_covered.field-0 c.denies_type.result c.args.encloser.opted_out
+    with_star apex hash rs x t star c.requires.proved c.requires.star c.in_ok-is_covered.field-0 c.denies_type.result c.args.encloser.opted_out
     (c.in_ok-is_covered.ensures.ok ∙ covered_by apex hash rs star _ (c.as_ref.ensures.value ∙ c.in_ok-star.ensures.ok))
     (c.denies_type.ensures ∙ denied_by apex hash rs star _ (c.as_ref-2.ensures.value ∙ c.in_ok-star.ensures.ok) t) c.requires.opted_out
-    ∙ (λ i. if c.if-branch.false i then Some NameError else (if c.if-denies_type.false i then Some WildcardNoData else (if c.if-encloser.false i then Some UnsignedDelegation else wildcard_proof (option_map (λ c. length (base_name c)) (covered_closer apex hash rs x))))) in
-    IfOk-weaker c.wildcard_answer.result _ _ (λ p is. is ∙ sym sum) c.wildcard_answer.ensures.ok
+    ∙ (λ i. if c.if-branch.false i then Some NameError else (if c.if-denies_type.false i then Some WildcardNoData else (if c.if-encloser.false i then Some UnsignedDelegation else wildcard_proof (answering_labels apex hash rs x)))) in
+    let labels = ap (λ n. option_or (answering_labels apex hash rs n) c.args.labels) (c.shorten.ensures ∙ sym (base_is_drop star)) ∙ c.requires.labels in
+    IfOk-weaker c.wildcard_answer_above.result _ _ (λ p is. is ∙ ap wildcard_proof labels ∙ sym sum) c.wildcard_answer_above.ensures.ok

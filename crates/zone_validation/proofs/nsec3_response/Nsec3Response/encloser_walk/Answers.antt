@@ -1,0 +1,67 @@
+use Rattle.std.proofs.Common.{◌≡◌, true, false, ◌++◌, sym, ap, drop, ◌∙◌}
+use Rattle.std.specs.Option.{option_or}
+use Rattle.zone_proto.specs.Names.{is_above}
+use Rattle.zone_validation.specs.Nsec3Proofs.{owner_of, is_matched, shown_encloser, answering_labels}
+use Rattle.zone_validation.specs.Nsec3Responses.{hash_of}
+use Rattle.zone_validation.proofs.EncloserProofs.{matched_by, covered_by}
+use Rattle.zone_validation.proofs.ShownWalk.{base_is_drop, walk_ends, walk_found, walk_on, passed_on, closer_is}
+use Rattle.zone_validation.proofs.WildcardAnswers.{labels_end, labels_on}
+use Rattle.zone_validation.proofs.nsec3_response.Nsec3Response.encloser_walk.Goals as goal
+
+pub returns-then-is_matched-clause-shown : goal.returns-then-is_matched-clause-shown
+returns-then-is_matched-clause-shown g c =
+    let apex = c.args.self.now.apex in
+    let hash = hash_of g.H.Nsec3Hash.digest_of c.args.self.now in
+    let rs = c.args.self.now.records in
+    let n = c.loop-hashed.next_closer in
+    let owner = c.as_ref-in-loop-hashed.ensures.value ∙ c.in_ok-owner.ensures.ok ∙ ap (owner_of apex hash) c.loop-hashed.invariant.above in
+    let matched : is_matched apex hash rs (drop 1 n) ≡ true =
+        sym (c.is_matched.ensures ∙ matched_by apex hash rs (drop 1 n) _ owner) ∙ c.if-is_matched.true in
+    sym (c.loop-hashed.invariant.shown ∙ walk_found apex hash rs n (sym c.is_below_apex.ensures ∙ c.loop-hashed-test.true) matched)
+
+pub returns-then-is_matched-clause-closer : goal.returns-then-is_matched-clause-closer
+returns-then-is_matched-clause-closer g c =
+    closer_is c.args.self.now.apex c.loop-hashed.next_closer c.args.self.now.name c.loop-hashed.invariant.passed.0 (sym c.is_below_apex.ensures ∙ c.loop-hashed-test.true) c.loop-hashed.invariant.passed.1
+
+pub loop-hashed-preserved : goal.loop-hashed-preserved
+loop-hashed-preserved g c =
+    let apex = c.args.self.now.apex in
+    let hash = hash_of g.H.Nsec3Hash.digest_of c.args.self.now in
+    let rs = c.args.self.now.records in
+    let n = c.loop-hashed.next_closer in
+    let now : c.shorten.new.self ≡ drop 1 n = c.shorten.ensures in
+    let below : is_above apex n ≡ true = sym c.is_below_apex.ensures ∙ c.loop-hashed-test.true in
+    let owner = c.as_ref-in-loop-hashed.ensures.value ∙ c.in_ok-owner.ensures.ok ∙ ap (owner_of apex hash) c.loop-hashed.invariant.above in
+    let passed = passed_on apex n c.args.self.now.name c.loop-hashed.invariant.passed.0 below c.loop-hashed.invariant.passed.1 in
+    let unmatched : is_matched apex hash rs (drop 1 n) ≡ false =
+        sym (c.is_matched.ensures ∙ matched_by apex hash rs (drop 1 n) _ owner) ∙ c.if-is_matched.false in
+    let covered = c.in_ok-covered.ensures.ok ∙ covered_by apex hash rs n _ (c.as_ref.ensures.value ∙ c.loop-hashed.invariant.hashed) in
+    let labels = labels_on apex hash rs n c.loop-hashed.above c.in_ok-covered.covered c.loop-hashed.labels below covered c.loop-hashed.invariant.above in
+    record {
+      above = c.shorten-in-loop-hashed.ensures ∙ ap (drop 1) (c.loop-hashed.invariant.above ∙ sym now);
+      passed = (passed.0, passed.1 ∙ ap (λ m. passed.0 ++ m) (sym now));
+      hashed = c.in_ok-owner.ensures.ok ∙ ap (owner_of apex hash) (c.loop-hashed.invariant.above ∙ sym now);
+      shown = c.loop-hashed.invariant.shown ∙ walk_on apex hash rs n below unmatched ∙ ap (shown_encloser apex hash rs) (sym now);
+      labels = (λ i. option_or (answering_labels apex hash rs ((now ∙ sym c.loop-hashed.invariant.above) i)) (c.nearest_labels-labels.ensures i)) ∙ sym labels ∙ c.loop-hashed.invariant.labels;
+    }
+
+pub returns-clause-shown : goal.returns-clause-shown
+returns-clause-shown g c =
+    sym
+    (c.loop-hashed.invariant.shown
+    ∙ walk_ends c.args.self.now.apex (hash_of g.H.Nsec3Hash.digest_of c.args.self.now) c.args.self.now.records c.loop-hashed.next_closer (sym c.is_below_apex.ensures ∙ c.loop-hashed-test.false))
+
+pub returns-then-is_matched-clause-labels : goal.returns-then-is_matched-clause-labels
+returns-then-is_matched-clause-labels g c =
+    let apex = c.args.self.now.apex in
+    let hash = hash_of g.H.Nsec3Hash.digest_of c.args.self.now in
+    let rs = c.args.self.now.records in
+    let n = c.loop-hashed.next_closer in
+    let covered = c.in_ok-covered.ensures.ok ∙ covered_by apex hash rs n _ (c.as_ref.ensures.value ∙ c.loop-hashed.invariant.hashed) in
+    let labels = labels_on apex hash rs n c.loop-hashed.above c.in_ok-covered.covered c.loop-hashed.labels (sym c.is_below_apex.ensures ∙ c.loop-hashed-test.true) covered c.loop-hashed.invariant.above in
+    (λ i. option_or (answering_labels apex hash rs ((base_is_drop n ∙ sym c.loop-hashed.invariant.above) i)) (c.nearest_labels-labels.ensures i)) ∙ sym labels ∙ c.loop-hashed.invariant.labels
+
+pub returns-clause-labels : goal.returns-clause-labels
+returns-clause-labels g c =
+    sym (labels_end c.args.self.now.apex (hash_of g.H.Nsec3Hash.digest_of c.args.self.now) c.args.self.now.records c.loop-hashed.next_closer c.loop-hashed.labels (sym c.is_below_apex.ensures ∙ c.loop-hashed-test.false))
+    ∙ c.loop-hashed.invariant.labels

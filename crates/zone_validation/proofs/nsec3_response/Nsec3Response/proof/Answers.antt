@@ -1,0 +1,17 @@
+use Rattle.std.proofs.Common.{◌≡◌, None, false, sym, ap, ◌∙◌}
+use Rattle.zone_validation.specs.Judgement.{wildcard_proof}
+use Rattle.zone_validation.specs.Nsec3Proofs.{is_matched, shown_encloser}
+use Rattle.zone_validation.specs.Nsec3Responses.{hash_of}
+use Rattle.zone_validation.proofs.EncloserProofs.{matched_by}
+use Rattle.zone_validation.proofs.Nsec3Sums.{without_encloser}
+use Rattle.zone_validation.proofs.nsec3_response.Nsec3Response.proof.Goals as goal
+
+pub returns-in-None-clause-ok : goal.returns-in-None-clause-ok
+returns-in-None-clause-ok g c =
+    let apex = c.args.self.now.apex in
+    let hash = hash_of g.H.Nsec3Hash.digest_of c.args.self.now in
+    let rs = c.args.self.now.records in
+    let x = c.args.self.now.name in
+    let unmatched : is_matched apex hash rs x ≡ false = sym (c.is_matched.ensures ∙ matched_by apex hash rs x _ c.own.ensures) ∙ c.if-is_matched.false in
+    let hidden : shown_encloser apex hash rs x ≡ None = sym (rw c.in-None.is at c.in_ok-shown.ensures.shown) in
+    c.wildcard_proof.ensures ∙ ap wildcard_proof (rw c.in-None.is at c.in_ok-shown.ensures.labels) ∙ sym (without_encloser apex hash rs x c.args.record_type.0 unmatched hidden)
