@@ -41,10 +41,15 @@ module _ (apex : Name) (hash : Name → Option (List ℕ)) (rs : List Nsec3Recor
   walk_on [] h m = absurd (true≢false (sym h))
   walk_on (l ∷ ls) h m = step l ls h ∙ ap (λ b. cond b (Some ls) (shown_encloser apex hash rs ls)) m
 
--- the base of a name below the apex is the name without its first label
+-- the base of a name is the name without its first label
 pub base_is_drop : (n : Name) → base_name n ≡ drop 1 n
 base_is_drop [] = refl
 base_is_drop (l ∷ ls) = refl
+
+pub base_of_base : (n : Name) → drop 1 (drop 1 n) ≡ base_name (base_name n)
+base_of_base [] = refl
+base_of_base (l ∷ []) = refl
+base_of_base (l ∷ k ∷ ks) = refl
 
 -- what has passed of a name below the apex, and a label more
 pub passed_on : (apex n q front : Name) → is_above apex n ≡ true → q ≡ front ++ n → (f : Name) × (q ≡ f ++ drop 1 n)

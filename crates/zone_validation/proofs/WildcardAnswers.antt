@@ -11,6 +11,7 @@ use Rattle.zone_validation.specs.Encloser.{ancestor_of, next_closer, proper_ance
 use Rattle.zone_validation.specs.Nsec3Proofs.{is_covered, covered_closer, answering_labels, proves_wildcard_answer}
 use Rattle.zone_validation.specs.Nsec3Records.{Nsec3Record}
 use Rattle.zone_validation.proofs.ListTests.{find_passes}
+use Rattle.zone_validation.proofs.ShownWalk.{base_is_drop}
 
 -- ---- the ancestor with so many labels
 
@@ -86,17 +87,17 @@ module _ (apex : Name) (hash : Name → Option (List ℕ)) (rs : List Nsec3Recor
 
   -- ---- the shortest covered name below the apex
 
+  rest_false : (here below : Bool) → (here || below) ≡ false → below ≡ false
+  rest_false true below e = absurd (true≢false e)
+  rest_false false below e = e
+
+  not_above : (m : Name) → is_at_or_above apex m ≡ false → is_above apex m ≡ false
+  not_above [] e = refl
+  not_above (k ∷ ks) e = rest_false (name_eq apex (k ∷ ks)) (is_at_or_above apex ks) e
+
   none_below : (n : Name) → is_above apex n ≡ false → filter (is_above apex) (suffixes n) ≡ []
   none_below [] h = refl
   none_below (l ∷ ls) h = ap (λ b. cond b ((l ∷ ls) ∷ filter (is_above apex) (suffixes ls)) (filter (is_above apex) (suffixes ls))) h ∙ none_below ls (not_above ls h)
-    where
-      rest : (here below : Bool) → (here || below) ≡ false → below ≡ false
-      rest true below e = absurd (true≢false e)
-      rest false below e = e
-
-      not_above : (m : Name) → is_at_or_above apex m ≡ false → is_above apex m ≡ false
-      not_above [] e = refl
-      not_above (k ∷ ks) e = rest (name_eq apex (k ∷ ks)) (is_at_or_above apex ks) e
 
   closer_ends : (n : Name) → is_above apex n ≡ false → covered_closer apex hash rs n ≡ None
   closer_ends n h = ap (λ ns. find (is_covered apex hash rs) (reverse ns)) (none_below n h)
@@ -109,7 +110,7 @@ module _ (apex : Name) (hash : Name → Option (List ℕ)) (rs : List Nsec3Recor
       ∙ ap (find (is_covered apex hash rs)) (reverse_onto below (l ∷ ls) [])
       ∙ find-append (is_covered apex hash rs) (reverse below) ((l ∷ ls) ∷ [])
 
-  pub no_labels : (n : Name) → is_above apex n ≡ false → answering_labels apex hash rs n ≡ None
+  no_labels : (n : Name) → is_above apex n ≡ false → answering_labels apex hash rs n ≡ None
   no_labels n h = ap (option_map (λ (c : Name). length (base_name c))) (closer_ends n h)
 
   pub labels_end : (n : Name) (found : Option ℕ) → is_above apex n ≡ false → option_or (answering_labels apex hash rs n) found ≡ found
@@ -130,10 +131,18 @@ module _ (apex : Name) (hash : Name → Option (List ℕ)) (rs : List Nsec3Recor
       by None true = refl
       by None false = refl
 
-  pub labels_first : (n rest : Name) (covered : Bool) → is_above apex n ≡ true → covered ≡ is_covered apex hash rs n → rest ≡ drop 1 n
-      → option_or (answering_labels apex hash rs rest) (cond covered (Some (length rest)) None) ≡ answering_labels apex hash rs n
-  labels_first n rest covered h cover is = sym (labels_on n rest covered None h cover is) ∙ or_none (answering_labels apex hash rs n)
-    where
-      or_none : (k : Option ℕ) → option_or k None ≡ k
-      or_none None = refl
-      or_none (Some k) = refl
+  -- a step of the walk where the hashed owner of a name is known: outside, not covered, and covered
+  pub labels_outside : (n : Name) (found : Option ℕ) → is_above apex n ≡ false → option_or (answering_labels apex hash rs (base_name n)) found ≡ option_or (answering_labels apex hash rs n) found
+  labels_outside [] found h = refl
+  labels_outside (l ∷ ls) found h = labels_end ls found (not_above ls h) ∙ sym (labels_end (l ∷ ls) found h)
+
+  pub labels_kept : (n : Name) (found : Option ℕ) → is_above apex n ≡ true → is_covered apex hash rs n ≡ false
+      → option_or (answering_labels apex hash rs (base_name n)) found ≡ option_or (answering_labels apex hash rs n) found
+  labels_kept n found h uncovered = sym (labels_on n (base_name n) false found h (sym uncovered) (base_is_drop n))
+
+  pub labels_new : (n : Name) (k : ℕ) (found : Option ℕ) → is_above apex n ≡ true → is_covered apex hash rs n ≡ true → k ≡ length n
+      → option_or (answering_labels apex hash rs (base_name n)) (Some (k - 1)) ≡ option_or (answering_labels apex hash rs n) found
+  labels_new [] k found h covered count = absurd (true≢false (sym h))
+  labels_new (l ∷ ls) k found h covered count =
+      let same : k - 1 ≡ length ls = omega arith in
+      ap (λ (m : ℕ). option_or (answering_labels apex hash rs ls) (Some m)) same ∙ sym (labels_on (l ∷ ls) ls true found h (sym covered) refl)

@@ -30,7 +30,8 @@ pub(crate) struct ShownEncloser<'q> {
 pub(crate) struct EncloserWalk<'q> {
     /// The encloser.
     pub shown: Option<ShownEncloser<'q>>,
-    /// How many labels the parent has of the last name on the walk that a record covers, of those longer than the encloser.
+    /// How many labels the parent has of the last name on the walk, the encloser among them, that is below the apex and that a
+    /// record covers.
     pub labels: Option<usize>,
 }
 
@@ -121,7 +122,7 @@ impl<'q, 'r, H: Nsec3Hash> Nsec3Response<'q, 'r, H> {
             ≡ list_any (λ r. matches self.now.apex (hash_of H.digest_of self.now) r (base_name e.next_closer) && is_of_encloser r) self.now.records)) }
         ensures labels { IfOk result (λ walk. MatchOption walk.shown
             (walk.labels ≡ answering_labels self.now.apex (hash_of H.digest_of self.now) self.now.records self.now.name)
-            (λ e. option_or (answering_labels self.now.apex (hash_of H.digest_of self.now) self.now.records (base_name e.next_closer)) walk.labels
+            (λ e. option_or (answering_labels self.now.apex (hash_of H.digest_of self.now) self.now.records (base_name (base_name e.next_closer))) walk.labels
                 ≡ answering_labels self.now.apex (hash_of H.digest_of self.now) self.now.records self.now.name)) }
         ensures err { IsOkUnless result ProtoError.Memory }
     {
@@ -135,6 +136,7 @@ impl<'q, 'r, H: Nsec3Hash> Nsec3Response<'q, 'r, H> {
             let owner = self.owner_of(&above)?;
             if self.is_matched(owner.as_ref()) {
                 let in_zone = self.is_matched_in_zone(owner.as_ref());
+                let labels = self.labels_with(&above, owner.as_ref(), labels)?;
                 let shown = Some(ShownEncloser {
                     next_closer,
                     hashed,

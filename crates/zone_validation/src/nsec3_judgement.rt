@@ -119,7 +119,7 @@ impl<'q, 'r, H: Nsec3Hash> Nsec3Response<'q, 'r, H> {
         requires covered { encloser.covered ≡ is_covered self.now.apex (hash_of H.digest_of self.now) self.now.records encloser.next_closer }
         requires in_zone { encloser.in_zone
             ≡ list_any (λ r. matches self.now.apex (hash_of H.digest_of self.now) r (base_name encloser.next_closer) && is_of_encloser r) self.now.records }
-        requires labels { option_or (answering_labels self.now.apex (hash_of H.digest_of self.now) self.now.records (base_name encloser.next_closer)) labels
+        requires labels { option_or (answering_labels self.now.apex (hash_of H.digest_of self.now) self.now.records (base_name (base_name encloser.next_closer))) labels
             ≡ answering_labels self.now.apex (hash_of H.digest_of self.now) self.now.records self.now.name }
         ensures ok { IfOk result (λ proof. proof ≡ nsec3_proof self.now.apex (hash_of H.digest_of self.now) self.now.records self.now.name record_type.0) }
         ensures err { IsOkUnless result ProtoError.Memory }
@@ -129,6 +129,7 @@ impl<'q, 'r, H: Nsec3Hash> Nsec3Response<'q, 'r, H> {
             return self.proof_by_star(proved, labels, record_type);
         }
         let mut above = encloser.next_closer;
+        above.shorten();
         above.shorten();
         self.wildcard_answer_above(above, labels)
     }
@@ -143,7 +144,7 @@ impl<'q, 'r, H: Nsec3Hash> Nsec3Response<'q, 'r, H> {
         requires proved { Some (base_name encloser.star) ≡ proved_encloser self.now.apex (hash_of H.digest_of self.now) self.now.records self.now.name }
         requires star { encloser.star ≡ star_under (base_name encloser.star) }
         requires opted_out { encloser.opted_out ≡ proves_opted_out self.now.apex (hash_of H.digest_of self.now) self.now.records self.now.name }
-        requires labels { option_or (answering_labels self.now.apex (hash_of H.digest_of self.now) self.now.records (base_name encloser.star)) labels
+        requires labels { option_or (answering_labels self.now.apex (hash_of H.digest_of self.now) self.now.records (base_name (base_name encloser.star))) labels
             ≡ answering_labels self.now.apex (hash_of H.digest_of self.now) self.now.records self.now.name }
         ensures ok { IfOk result (λ proof. proof ≡ nsec3_proof self.now.apex (hash_of H.digest_of self.now) self.now.records self.now.name record_type.0) }
         ensures err { IsOkUnless result ProtoError.Memory }
@@ -159,6 +160,7 @@ impl<'q, 'r, H: Nsec3Hash> Nsec3Response<'q, 'r, H> {
             return Ok(Some(Proof::UnsignedDelegation));
         }
         let mut above = encloser.star;
+        above.shorten();
         above.shorten();
         self.wildcard_answer_above(above, labels)
     }

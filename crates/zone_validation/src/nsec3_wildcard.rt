@@ -1,12 +1,14 @@
 // Answers that were made from a wildcard (RFC 5155 section 8.8).
-ghost use Rattle.std.specs.Prelude.{◌≡◌, ◌<◌, ◌-◌, suc, cond, false, Some, length, drop, IfOk, IsOkUnless};
+ghost use Rattle.std.specs.Prelude.{◌≡◌, ◌<◌, ◌-◌, suc, cond, false, Some, length, drop, option_copied, IfOk, IsOkUnless};
 ghost use Rattle.std.specs.Option.{option_map_or, option_or};
+ghost use Rattle.zone_proto.specs.Names.{base_name};
 ghost use Rattle.zone_proto.specs.Results.{IsCopy};
 ghost use Rattle.zone_validation.specs.Encloser.{ancestor_of};
 ghost use Rattle.zone_validation.specs.Judgement.{wildcard_proof};
-ghost use Rattle.zone_validation.specs.Nsec3Proofs.{is_covered, proves_wildcard_answer, answering_labels};
+ghost use Rattle.zone_validation.specs.Nsec3Proofs.{is_covered, owner_of, proves_wildcard_answer, answering_labels};
 ghost use Rattle.zone_validation.specs.Nsec3Responses.{hash_of};
 
+use crate::hashed_owner::HashedOwner;
 use crate::nsec3_response::Nsec3Response;
 use crate::proof::Proof;
 use zone_proto::{LowerName, Nsec3Hash, ProtoError};
@@ -31,13 +33,8 @@ impl<'q, 'r, H: Nsec3Hash> Nsec3Response<'q, 'r, H> {
             ≡ wildcard_proof (answering_labels self.now.apex (hash_of H.digest_of self.now) self.now.records self.now.name)) }
         ensures err { IsOkUnless result ProtoError.Memory }
     {
-        if !self.is_below_apex(self.name()) {
-            return Ok(None);
-        }
-        let covered = self.is_covered(Some(self.own()))?;
-        let above = self.name().base_name()?;
-        let labels = nearest_labels(covered, &above, None);
-        self.wildcard_answer_above(above, labels)
+        let labels = self.labels_with(self.name(), Some(self.own()), None)?;
+        self.wildcard_answer_above(self.name().base_name()?, labels)
     }
 
     /// The wildcard answer that they may prove of an ancestor, or else by the labels of an encloser below it. Refused only for want
@@ -59,6 +56,28 @@ impl<'q, 'r, H: Nsec3Hash> Nsec3Response<'q, 'r, H> {
             labels = nearest_labels(covered, &rest, labels);
         }
         Ok(wildcard_proof(labels))
+    }
+
+    /// How many labels the parent of a name has, where the name is below the apex and a record covers it; else those of an encloser
+    /// below. It is told the hashed owner of the name. Refused only for want of memory.
+    pub(crate) fn labels_with(
+        &self,
+        name: &LowerName,
+        hashed: Option<&HashedOwner<'_>>,
+        below: Option<usize>,
+    ) -> Result<Option<usize>, ProtoError>
+        requires { option_copied hashed ≡ owner_of self.now.apex (hash_of H.digest_of self.now) name.now }
+        ensures ok { IfOk result (λ labels. option_or (answering_labels self.now.apex (hash_of H.digest_of self.now) self.now.records (base_name name.now)) labels
+            ≡ option_or (answering_labels self.now.apex (hash_of H.digest_of self.now) self.now.records name.now) below) }
+        ensures err { IsOkUnless result ProtoError.Memory }
+    {
+        if !self.is_below_apex(name) {
+            return Ok(below);
+        }
+        if !self.is_covered(hashed)? {
+            return Ok(below);
+        }
+        Ok(Some(name.num_labels() - 1))
     }
 
     /// Whether a record covers a name. Refused only for want of memory.

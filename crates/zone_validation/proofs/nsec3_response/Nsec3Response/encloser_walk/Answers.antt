@@ -1,6 +1,6 @@
 use Rattle.std.proofs.Common.{◌≡◌, true, false, ◌++◌, sym, ap, drop, ◌∙◌}
 use Rattle.std.specs.Option.{option_or}
-use Rattle.zone_proto.specs.Names.{is_above}
+use Rattle.zone_proto.specs.Names.{base_name, is_above}
 use Rattle.zone_validation.specs.Nsec3Proofs.{owner_of, is_matched, shown_encloser, answering_labels}
 use Rattle.zone_validation.specs.Nsec3Responses.{hash_of}
 use Rattle.zone_validation.proofs.EncloserProofs.{matched_by, covered_by}
@@ -59,7 +59,8 @@ returns-then-is_matched-clause-labels g c =
     let n = c.loop-hashed.next_closer in
     let covered = c.in_ok-covered.ensures.ok ∙ covered_by apex hash rs n _ (c.as_ref.ensures.value ∙ c.loop-hashed.invariant.hashed) in
     let labels = labels_on apex hash rs n c.loop-hashed.above c.in_ok-covered.covered c.loop-hashed.labels (sym c.is_below_apex.ensures ∙ c.loop-hashed-test.true) covered c.loop-hashed.invariant.above in
-    (λ i. option_or (answering_labels apex hash rs ((base_is_drop n ∙ sym c.loop-hashed.invariant.above) i)) (c.nearest_labels-labels.ensures i)) ∙ sym labels ∙ c.loop-hashed.invariant.labels
+    ap (λ a. option_or (answering_labels apex hash rs (base_name a)) c.in_ok-labels.labels) (base_is_drop n ∙ sym c.loop-hashed.invariant.above)
+    ∙ c.in_ok-labels.ensures.ok ∙ ap (option_or (answering_labels apex hash rs c.loop-hashed.above)) c.nearest_labels-labels.ensures ∙ sym labels ∙ c.loop-hashed.invariant.labels
 
 pub returns-clause-labels : goal.returns-clause-labels
 returns-clause-labels g c =

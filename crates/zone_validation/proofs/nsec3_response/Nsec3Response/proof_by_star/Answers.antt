@@ -1,4 +1,4 @@
-use Rattle.std.proofs.Common.{Some, refl, sym, ap, ◌∙◌}
+use Rattle.std.proofs.Common.{Some, drop, refl, sym, ap, ◌∙◌}
 use Rattle.std.specs.Prelude.{if◌then◌else◌}
 use Rattle.std.specs.Option.{option_or}
 use Rattle.std.proofs.lemmas.Result.{IfOk-weaker}
@@ -8,7 +8,7 @@ use Rattle.zone_validation.specs.Nsec3Proofs.{proves_no_data, proves_opted_out, 
 use Rattle.zone_validation.specs.Nsec3Responses.{hash_of}
 use Rattle.zone_validation.proofs.EncloserProofs.{covered_by, denied_by}
 use Rattle.zone_validation.proofs.Nsec3Sums.{with_star}
-use Rattle.zone_validation.proofs.ShownWalk.{base_is_drop}
+use Rattle.zone_validation.proofs.ShownWalk.{base_of_base}
 use Rattle.zone_validation.proofs.nsec3_response.Nsec3Response.proof_by_star.Goals as goal
 
 pub returns-then-branch-clause-ok : goal.returns-then-branch-clause-ok
@@ -65,5 +65,5 @@ returns-clause-ok g c =
     (c.in_ok-is_covered.ensures.ok ∙ covered_by apex hash rs star _ (c.as_ref.ensures.value ∙ c.in_ok-star.ensures.ok))
     (c.denies_type.ensures ∙ denied_by apex hash rs star _ (c.as_ref-2.ensures.value ∙ c.in_ok-star.ensures.ok) t) c.requires.opted_out
     ∙ (λ i. if c.if-branch.false i then Some NameError else (if c.if-denies_type.false i then Some WildcardNoData else (if c.if-encloser.false i then Some UnsignedDelegation else wildcard_proof (answering_labels apex hash rs x)))) in
-    let labels = ap (λ n. option_or (answering_labels apex hash rs n) c.args.labels) (c.shorten.ensures ∙ sym (base_is_drop star)) ∙ c.requires.labels in
+    let labels = ap (λ n. option_or (answering_labels apex hash rs n) c.args.labels) (c.shorten-2.ensures ∙ ap (drop 1) c.shorten.ensures ∙ base_of_base star) ∙ c.requires.labels in
     IfOk-weaker c.wildcard_answer_above.result _ _ (λ p is. is ∙ ap wildcard_proof labels ∙ sym sum) c.wildcard_answer_above.ensures.ok
