@@ -21,8 +21,12 @@ impl<'q, 'r, H: Nsec3Hash> Nsec3Response<'q, 'r, H> {
             ≡ option_map_or (proves_wildcard_answer self.now.apex (hash_of H.digest_of self.now) self.now.records self.now.name) (ancestor_of self.now.name encloser_labels) false) }
         ensures err { IsOkUnless result ProtoError.Memory }
     {
-        if self.name().num_labels() <= encloser_labels {
+        let count = self.name().num_labels();
+        if count <= encloser_labels {
             return Ok(false);
+        }
+        if count == encloser_labels + 1 {
+            return self.is_covered(Some(self.own()));
         }
         self.covers(&next_closer(self.name(), encloser_labels)?)
     }
