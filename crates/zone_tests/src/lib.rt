@@ -17,6 +17,8 @@ mod iterators;
 #[cfg(test)]
 mod judged;
 #[cfg(test)]
+mod judged_nsec3;
+#[cfg(test)]
 mod program_memory;
 #[cfg(test)]
 mod records;

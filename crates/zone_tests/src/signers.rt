@@ -70,7 +70,7 @@ fn a_signer_answers_through_its_bound(rt: HostRuntime) -> Result<(), Fail> {
 
 /// No cryptography: the digest of a name is its wire form, for algorithm 1 alone.
 #[derive(Drop)]
-struct PlainHash;
+pub(crate) struct PlainHash;
 
 impl Nsec3Hash for PlainHash {
     ghost use Rattle.std.specs.Prelude.{Some, None, ◌==◌, if◌then◌else◌};
