@@ -4,15 +4,15 @@
 //! those of other types than NSEC3 are passed over. The signatures are taken as checked, each under the owner itself: a record
 //! that was made from a wildcard proves nothing.
 //!
-//! Names are hashed by the parameters of the records. A record is ignored if `hash` doesn't know its algorithm, which is where it
-//! has no digest of the name by the record's parameters (RFC 5155 section 8.1). The others must all have the same algorithm,
-//! iterations and salt, else they prove nothing (section 8.2). A further name of which `hash` has no digest is one that no record
-//! matches or covers.
+//! Names are hashed by the parameters of the records. A record is ignored if `hash` doesn't know its algorithm: if it has no
+//! digest of the name by the record's parameters (RFC 5155 section 8.1). The others must all have the same algorithm,
+//! iterations and salt, else they prove nothing (section 8.2). A further name of which `hash` has no digest is one that no
+//! record matches or covers.
 //!
-//! Digests take memory, and their texts do: each call is refused by `Memory`, and by nothing else. It hashes the name; where that
-//! isn't enough its ancestors, from the longest on up to the closest encloser, each once; and then the wildcard under that. What
-//! a hash may cost grows with the iterations that the records name, up to 65535, so one who asks should look at these first (RFC
-//! 9276 section 3.2).
+//! Digests and their texts take memory: each call is refused by `Memory`, and by nothing else. It hashes the name, and each
+//! other name only where it needs it, and once: the ancestors from the longest on up to the closest encloser, and the wildcard
+//! under that. What a digest costs grows with the iterations that the records name, up to 65535; a validator should look at
+//! these first (RFC 9276 section 3.2).
 ghost use Rattle.std.specs.Prelude.{◌≡◌, None, false, map, IfOk, IsOkUnless};
 ghost use Rattle.std.specs.Option.{option_map_or};
 ghost use Rattle.zone_validation.specs.Encloser.{ancestor_of};
@@ -27,11 +27,11 @@ use zone_proto::{LowerName, Nsec3Hash, ProtoError, Record, RecordType};
 /// What the records prove of `name` and a type: the first case of [`Proof`] that holds, and nothing where none does. Refused by
 /// `Memory` alone.
 ///
-/// An unsigned delegation that opt-out leaves out is told only after no data by a wildcard, since under opt-out nearly each
-/// denial shows that there may be one. The empty non-terminal is never told: such a name has a record, which denies each type.
+/// A delegation that opt-out may have left out is told after no data by a wildcard, since under opt-out nearly every denial
+/// shows that there may be one. The empty non-terminal is never told: such a name has a record, which denies each type.
 ///
-/// A wildcard answer is told with the encloser that is nearest to the apex of those from which the records prove that a wildcard
-/// may have answered. For this all ancestors below the apex are hashed, some of them once more.
+/// A wildcard answer is told where nothing else is proved, with the encloser that is nearest to the apex of those from whose
+/// wildcard the answer may have been made. For this all ancestors below the apex are hashed.
 pub fn proof<H: Nsec3Hash>(
     apex: &LowerName,
     records: &[&Record],
@@ -130,8 +130,8 @@ pub fn proves_wildcard_answer<H: Nsec3Hash>(
     }
 }
 
-/// Whether the records prove that `name` is a zone cut of which the parent has no DS, or that it would be one, which opt-out
-/// left out (RFC 5155 sections 8.6 and 8.9): what a referral to an unsigned child needs. Refused by `Memory` alone.
+/// Whether the records prove that `name` is a zone cut of which the parent has no DS, or that it may be one which opt-out left
+/// out (RFC 5155 sections 8.6 and 8.9): what a referral to an unsigned child needs. Refused by `Memory` alone.
 pub fn proves_unsigned_delegation<H: Nsec3Hash>(
     apex: &LowerName,
     records: &[&Record],

@@ -1,12 +1,12 @@
 /// What the records of a denial prove of a name and a type. Where they prove several of these, the first in this order is
-/// told.
+/// told, but that a delegation which opt-out may have left out comes after no data by a wildcard.
 #[derive(Clone, Copy, PartialEq, Eq, Debug)]
 pub enum Proof {
     /// The name doesn't exist, and nor does the wildcard that would answer in its place: NXDomain is right (RFC 4035 section
     /// 3.1.3.2, RFC 5155 section 8.4).
     NameError,
     /// The name is a zone cut, and the parent has no DS of it, so that the child isn't signed by the parent's word (RFC 4035
-    /// section 5.2, RFC 5155 section 8.9).
+    /// section 5.2, RFC 5155 section 8.9). By NSEC3 records with the flag Opt-Out: if the name is a zone cut, it is such a one.
     UnsignedDelegation,
     /// The name owns no set of any type, and stands above names that do (RFC 4592 section 2.2.2).
     EmptyNonTerminal,
