@@ -10,3 +10,4 @@ pub mod Nsec3Sums
 mod NsecExamples
 mod NsecForgeries
 mod Nsec3Examples
+mod Nsec3SumExamples
