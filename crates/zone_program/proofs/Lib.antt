@@ -1,1 +1,3 @@
 pub mod DemoSigning
+pub mod Pushing
+pub mod Stepping

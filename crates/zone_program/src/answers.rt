@@ -1,4 +1,7 @@
-ghost use Rattle.std.specs.Prelude.{◌≢◌};
+ghost use Rattle.std.specs.Prelude.{◌≡◌, ◌≢◌, OnOk};
+ghost use Rattle.std.specs.String.{string_bytes};
+ghost use Rattle.zone_proto.specs.Names.{lower};
+ghost use Rattle.zone_program.specs.Steps.{empty_zone, IsAdded, IsDropped, Adds};
 
 use crate::circle::circle;
 use crate::command::Command;
@@ -22,7 +25,9 @@ pub type Zone = InMemoryZoneHandler<DemoSigner, Sha1Hash>;
 
 /// A zone without records and signers, which denies what it doesn't hold in this way once it is secured. The program is its
 /// source, and transfers it to anybody.
-pub fn empty_zone(origin: Name, nx_proof_kind: Option<NxProofKind>) -> Zone {
+pub fn empty_zone(origin: Name, nx_proof_kind: Option<NxProofKind>) -> Zone
+    ensures { result ≡ empty_zone (lower origin) nx_proof_kind }
+{
     InMemoryZoneHandler::empty(
         origin,
         ZoneType::Primary,
@@ -46,8 +51,8 @@ pub fn carry_out(
     answer: &mut String,
 ) -> Result<(), AllocError> {
     match command {
-        Command::Add(record) => add(&mut served.zone, record, answer),
-        Command::Drop(key) => drop_set(&mut served.zone, &key, answer),
+        Command::Add(record) => add(served, record, answer),
+        Command::Drop(key) => drop_set(served, &key, answer),
         Command::Renew(nx_proof_kind) => renew(served, nx_proof_kind, answer),
         Command::Key(number) => add_key(served, number, answer),
         Command::Secure(now) => secure(served, now, answer),
@@ -63,23 +68,25 @@ pub fn carry_out(
 }
 
 /// Upserts a record with the zone's serial.
-fn add(zone: &mut Zone, record: Record, answer: &mut String) -> Result<(), AllocError> {
-    let serial = zone.serial();
-    let reply = match zone.upsert(record, serial) {
-        Ok(true) => "yes\n",
-        Ok(false) => "no\n",
-        Err(_) => "error Memory\n",
-    };
-    answer.push_str(reply)
+fn add(served: &mut Served, record: Record, answer: &mut String) -> Result<(), AllocError>
+    ensures { OnOk result (Adds (λ reply. IsAdded served.old «record» reply served.new) (string_bytes answer.old) (string_bytes answer.new)) }
+{
+    let serial = served.zone.serial();
+    match served.zone.upsert(record, serial) {
+        Ok(true) => answer.push_str("yes\n"),
+        Ok(false) => answer.push_str("no\n"),
+        Err(_) => answer.push_str("error Memory\n"),
+    }
 }
 
 /// Takes a record set out, and tells whether it was there.
-fn drop_set(zone: &mut Zone, key: &RrKey, answer: &mut String) -> Result<(), AllocError> {
-    let reply = match zone.remove_set(key) {
-        Some(_) => "yes\n",
-        None => "no\n",
-    };
-    answer.push_str(reply)
+fn drop_set(served: &mut Served, key: &RrKey, answer: &mut String) -> Result<(), AllocError>
+    ensures { OnOk result (Adds (λ reply. IsDropped served.old key.now reply served.new) (string_bytes answer.old) (string_bytes answer.new)) }
+{
+    match served.zone.remove_set(key) {
+        Some(_) => answer.push_str("yes\n"),
+        None => answer.push_str("no\n"),
+    }
 }
 
 /// Answers a query at the moment of the last `secure`.
