@@ -1,15 +1,19 @@
 -- Commands carried out by the calls of the zone
-use Rattle.std.proofs.Common.{◌≡◌, ℕ, Bool, true, false, Option, Some, None, Result, Ok, Err, OnErr, refl, ap, ◌∙◌, sym, subst, inl, inr, ◌⊎◌}
+use Rattle.std.proofs.Common.{◌≡◌, ℕ, Bool, true, false, Option, Some, None, Result, Ok, Err, OnOk, OnErr, refl, ap, ◌∙◌, sym, subst, inl, inr, ◌⊎◌}
 use Rattle.std.specs.Prelude.{is_some, unwrap_or, MatchOption, if◌then◌else◌}
+use Rattle.zone_handler.specs.declared.key_error.KeyError.{KeyError}
+use Rattle.zone_proto.specs.declared.rdata.signing.DNSKEY.{DNSKEY}
 use Rattle.zone_proto.specs.declared.record.Record.{Record}
 use Rattle.zone_map.specs.Upserts.{upserted}
 use Rattle.zone_map.specs.Zones.{Sets}
 use Rattle.zone_search.specs.declared.zone_error.ZoneError.{ZoneError}
 use Rattle.zone_search.specs.StartOfAuthority.{serial}
 use Rattle.zone_in_memory.specs.Insertions.{IsUpsert}
+use Rattle.zone_in_memory.specs.Signing.{with_key, IsKeyAdded}
 use Rattle.zone_program.specs.declared.answers.Served.{Served}
-use Rattle.zone_program.specs.Replies.{yes, no, failed, memory}
-use Rattle.zone_program.specs.Steps.{DemoZone, with_sets, with_zone, IsOutOfMemory, IsAdded}
+use Rattle.zone_program.specs.DemoSigners.{Demo, demo_key}
+use Rattle.zone_program.specs.Replies.{yes, no, done, refused, failed, memory}
+use Rattle.zone_program.specs.Steps.{DemoZone, signer_of, with_sets, with_zone, IsOutOfMemory, IsAdded, IsKeyed}
 
 -- a record that was taken, or wasn't
 taken_or_not : (old : Served) (new : DemoZone) (made : Option Sets) (taken : Bool) → taken ≡ is_some made
@@ -26,3 +30,19 @@ add_taken old new r n taken is_serial upsert =
 
 pub add_refused : (old : Served) (new : DemoZone) (r : Record) (n : ℕ) (result : Result Bool ZoneError) (e : ZoneError) → result ≡ Err e → IsUpsert old.zone r n result new → IsAdded old r (failed memory) (with_zone old new)
 add_refused old new r n result e is upsert = inr (refl, ap (with_zone old) (subst (λ res. OnErr res (new ≡ old.zone)) is upsert.same))
+
+-- a demonstration signer has its key
+the_key : (signer : Demo) (key : DNSKEY) → Some (demo_key signer) ≡ Some key → demo_key signer ≡ key
+the_key signer key is = cc
+
+pub key_added : (old : Served) (new : DemoZone) (number : ℕ) (signer : Demo) → signer ≡ signer_of old.zone number
+    → (result : Result (Unit {0}) KeyError) (x : Unit {0}) → result ≡ Ok x → IsKeyAdded (λ s. Some (demo_key s)) old.zone signer result new → IsKeyed old number done (with_zone old new)
+key_added old new number signer made result x is added =
+    let h = subst (λ (res : Result (Unit {0}) KeyError). OnOk res ((key : DNSKEY) × (Some (demo_key signer) ≡ Some key) × (new ≡ with_key old.zone signer key))) is added.ok in
+    inl (refl, ap (with_zone old) (h.2 ∙ ap (with_key old.zone signer) (sym (the_key signer h.0 h.1)) ∙ ap (λ (s : Demo). with_key old.zone s (demo_key s)) made))
+
+pub key_refused : (old : Served) (new : DemoZone) (number : ℕ) (signer : Demo) (result : Result (Unit {0}) KeyError) (e : KeyError) → result ≡ Err e
+    → IsKeyAdded (λ s. Some (demo_key s)) old.zone signer result new → IsKeyed old number (refused memory) (with_zone old new)
+key_refused old new number signer result e is added =
+    let same : new ≡ old.zone = subst (λ (res : Result (Unit {0}) KeyError). OnErr res (new ≡ old.zone)) is added.same in
+    inr (refl, ap (with_zone old) same)

@@ -3,7 +3,7 @@ ghost use Rattle.std.specs.Prelude.{◌≡◌, IfOk, OnOk, IsOkUnless};
 ghost use Rattle.std.specs.String.{string_bytes};
 ghost use Rattle.zone_proto.specs.Names.{lower};
 ghost use Rattle.zone_program.specs.Replies.{secure_word};
-ghost use Rattle.zone_program.specs.Steps.{IsKeyed, IsRenewed, IsSecuredAt, Adds};
+ghost use Rattle.zone_program.specs.Steps.{signer_of, IsKeyed, IsRenewed, IsSecuredAt, Adds};
 
 use crate::answers::{Served, empty_zone};
 use crate::demo_signer::DemoSigner;
@@ -30,8 +30,7 @@ pub fn renew(
 
 /// A copy of the zone's origin.
 fn origin_of(served: &Served) -> Result<Name, ProtoError>
-    ensures ok { IfOk result (λ origin. origin ≡ served.now.zone.origin) }
-    ensures low { lower served.now.zone.origin ≡ served.now.zone.origin }
+    ensures ok { IfOk result (λ origin. (origin ≡ served.now.zone.origin) × (lower origin ≡ origin)) }
     ensures err { IsOkUnless result ProtoError.Memory }
 {
     Ok(Name::from(served.zone.origin().clone()?))
@@ -41,7 +40,7 @@ fn origin_of(served: &Served) -> Result<Name, ProtoError>
 pub fn add_key(served: &mut Served, number: u16, answer: &mut String) -> Result<(), AllocError>
     ensures { OnOk result (Adds (λ reply. IsKeyed served.old number reply served.new) (string_bytes answer.old) (string_bytes answer.new)) }
 {
-    let Ok(signer) = DemoSigner::new(number, served.zone.origin()) else {
+    let Ok(signer) = signer_for(served, number) else {
         return answer.push_str("refused Memory\n");
     };
     match served.zone.add_zone_signing_key_mut(signer) {
@@ -49,6 +48,14 @@ pub fn add_key(served: &mut Served, number: u16, answer: &mut String) -> Result<
         Err(KeyError::NoKey) => answer.push_str("refused NoKey\n"),
         Err(KeyError::Memory) => answer.push_str("refused Memory\n"),
     }
+}
+
+/// The demonstration signer of a number for the zone.
+fn signer_for(served: &Served, number: u16) -> Result<DemoSigner, ProtoError>
+    ensures made { IfOk result (λ signer. signer ≡ signer_of served.now.zone number) }
+    ensures err { IsOkUnless result ProtoError.Memory }
+{
+    DemoSigner::new(number, served.zone.origin())
 }
 
 /// Secures the zone, and tells the serial that it has then.
