@@ -1,3 +1,4 @@
 pub mod DemoSigning
+pub mod Listing
 pub mod Pushing
 pub mod Stepping

@@ -1,5 +1,6 @@
 -- What each command does to the session, and which reply it has
 use Rattle.std.specs.Prelude.{◌≡◌, ◌⊎◌, ℕ, false, if◌then◌else◌, List, [], ◌∷◌, ◌++◌, Option, Some, None, is_some, Result, Ok, Err, MatchOption, unwrap_or}
+use Rattle.std.specs.Option.{option_map_or}
 use Rattle.zone_proto.specs.declared.message.Query.{Query}
 use Rattle.zone_proto.specs.declared.nx_proof_kind.NxProofKind.{NxProofKind}
 use Rattle.zone_proto.specs.declared.nx_proof_kind.NxProofKind.TheVariants as kind
@@ -14,6 +15,7 @@ use Rattle.zone_handler.specs.declared.axfr_policy.AxfrPolicy.TheVariants.{Allow
 use Rattle.zone_handler.specs.declared.control_flow.LookupControlFlow.{LookupControlFlow}
 use Rattle.zone_handler.specs.declared.control_flow.LookupControlFlow.TheVariants.{Continue, Break, Skip}
 use Rattle.zone_handler.specs.declared.lookup_error.LookupError.{LookupError}
+use Rattle.zone_handler.specs.declared.lookup_error.LookupError.TheVariants as lookup_error
 use Rattle.zone_handler.specs.declared.lookup_options.LookupOptions.{LookupOptions}
 use Rattle.zone_handler.specs.declared.nsec3_query_info.Nsec3QueryInfo.{Nsec3QueryInfo}
 use Rattle.zone_handler.specs.declared.secure_error.SecureError.{SecureError}
@@ -110,9 +112,13 @@ module _ (old : Served) where
   abbrev pub IsSecuredAt : ℕ → Reply → Served → Type 0
   IsSecuredAt now reply new = (result : Result (Unit {0}) SecureError) × IsSecuring signature_of digest_of old.zone now result new.zone × TellsSecured now result reply new
 
--- a step of a lookup as a reply
+-- the additional records of an answer, none where it has no such section
+abbrev pub additionals_beside : AuthLookup → List Record
+additionals_beside found = unwrap_or (additionals_of found) []
+
+-- an answer, and a step of a lookup, as a reply
 abbrev pub found_reply : AuthLookup → Reply
-found_reply found = answered (records_of found) (unwrap_or (additionals_of found) [])
+found_reply found = answered (records_of found) (additionals_beside found)
 
 abbrev pub lookup_reply : LookupControlFlow AuthLookup LookupError → Reply
 lookup_reply (Continue (Ok found)) = found_reply found
@@ -149,11 +155,14 @@ IsDenialOf zone key _ step = IsNsecAnswer zone key.name plain step
 abbrev pub transfer_query : Name → Query
 transfer_query origin = record { name = origin; query_type = record { 0 = AXFR }; query_class = record { 0 = IN } }
 
--- the owners of the sets by which a zone of a kind denies
-abbrev pub circle_owners : Option NxProofKind → Sets → List Name
-circle_owners None sets = []
-circle_owners (Some kind.Nsec) sets = denial_owners sets NSEC
-circle_owners (Some (kind.Nsec3 algorithm salt iterations opt_out)) sets = denial_owners sets NSEC3
+-- the type of the sets by which a zone of a kind denies, and their owners
+abbrev pub denial_type : Option NxProofKind → Option ℕ
+denial_type None = None
+denial_type (Some kind.Nsec) = Some NSEC
+denial_type (Some (kind.Nsec3 algorithm salt iterations opt_out)) = Some NSEC3
+
+abbrev pub circle_owners : DemoZone → List Name
+circle_owners zone = option_map_or (denial_owners zone.inner.records) (denial_type zone.kind) []
 
 module _ (session : Served) where
   -- `lookup`: what the zone answers at the moment of the last `secure`
@@ -167,14 +176,16 @@ module _ (session : Served) where
 
   -- `circle`: the owners, or no memory for their text
   abbrev pub IsCircled : Reply → Type 0
-  IsCircled reply = (reply ≡ listed (circle_owners session.zone.kind session.zone.inner.records)) ⊎ (reply ≡ failed memory)
+  IsCircled reply = (reply ≡ listed (circle_owners session.zone)) ⊎ (reply ≡ failed memory)
 
-  -- `transfer`: what the zone answers to a query for its transfer, or no memory for the query
+  -- what the zone answers to a query for its transfer at the moment of the last `secure`, unless no memory is found for the query
+  abbrev pub IsTransferAnswer : LookupOptions → Result ZoneTransfer LookupError → Type 0
+  IsTransferAnswer options answer =
+      IsZoneTransfer signature_of session.zone (transfer_query session.zone.origin ∷ []) options session.moment (Some (answer, None)) ⊎ (answer ≡ Err lookup_error.Memory)
+
+  -- `transfer`: the zone's records, or why there are none
   abbrev pub IsTransferred : LookupOptions → Reply → Type 0
-  IsTransferred options reply =
-      ((answer : Result ZoneTransfer LookupError)
-      × IsZoneTransfer signature_of session.zone (transfer_query session.zone.origin ∷ []) options session.moment (Some (answer, None)) × (reply ≡ transfer_reply answer))
-      ⊎ (reply ≡ failed memory)
+  IsTransferred options reply = (answer : Result ZoneTransfer LookupError) × IsTransferAnswer options answer × (reply ≡ transfer_reply answer)
 
 -- of the session before, a command, the reply to it, and the session after
 abbrev pub IsStep : Served → Command → Reply → Served → Type 0
