@@ -1,5 +1,8 @@
 -- Lists that are counted, and then written item after item
-use Rattle.std.proofs.Common.{◌≡◌, ℕ, suc, ◌+◌, ◌-◌, ◌^◌, ◌≤◌, min, List, [], ◌∷◌, ◌++◌, length, codes, decimal, flat_map, append_assoc, append-nil, sym, ap, ◌∙◌, arith}
+use Rattle.std.proofs.Common.{◌≡◌, ℕ, suc, ◌+◌, ◌-◌, ◌^◌, ◌≤◌, min, List, [], ◌∷◌, ◌++◌, length, codes, decimal, flat_map, append_assoc, append-nil, refl, sym, ap, ◌∙◌, arith}
+use Rattle.std.specs.Fmt.{HasWritten}
+use Rattle.std.specs.declared.fmt.Formatter.{Formatter}
+use Rattle.std.proofs.Output.{has_written_append, has_written_of_eq}
 use Rattle.zone_program.specs.Replies.{count_of, list_text}
 
 -- items were counted, up to a limit, and some are left
@@ -68,3 +71,30 @@ listing_more word text_of all left x rest before after next h is is_next = recor
 pub listing_done : {A : Type 0} (word : List ℕ) (text_of : A → List ℕ) (all left : List A) (before after : List ℕ)
     → Listing word text_of all left before after → left ≡ [] → after ≡ before ++ list_text word text_of all
 listing_done word text_of all left before after h is = sym (append-nil after) ∙ sym (ap (λ xs. after ++ lines_of text_of xs) is) ∙ h.lines
+
+-- the same of what was written by a formatter
+pub record Showing {W : Type 0} (took : W → List ℕ → W → Type 0) {A : Type 0} (word : List ℕ) (text_of : A → List ℕ) (all left : List A) (f g : Formatter W) : Type 0 where
+  pub text : List ℕ
+  pub written : HasWritten took f text g
+  pub lines : text ++ lines_of text_of left ≡ list_text word text_of all
+
+pub showing_begun : {W : Type 0} (took : W → List ℕ → W → Type 0) {A : Type 0} (word : List ℕ) (text_of : A → List ℕ) (all left : List A) (count : ℕ) (f g : Formatter W) (text : List ℕ)
+    → count ≡ count_of all → text ≡ word ++ (codes " " ++ (decimal count ++ codes "\n")) → HasWritten took f text g → left ≡ all → Showing took word text_of all left f g
+showing_begun took word text_of all left count f g text is_count is_text wrote is = record {
+  text = text;
+  written = wrote;
+  lines = (listing_begun word text_of all left count [] text is_count is_text is).lines;
+}
+
+pub showing_more : {W : Type 0} (took : W → List ℕ → W → Type 0) {A : Type 0} (word : List ℕ) (text_of : A → List ℕ) (all left : List A) (x : A) (rest : List A) (f g h : Formatter W)
+    → Showing took word text_of all left f g → left ≡ x ∷ rest → HasWritten took g (text_of x ++ codes "\n") h → Showing took word text_of all rest f h
+showing_more took word text_of all left x rest f g h shown is wrote = record {
+  text = shown.text ++ (text_of x ++ codes "\n");
+  written = has_written_append _ _ _ _ _ _ shown.written wrote;
+  lines = (listing_more word text_of all left x rest [] shown.text (shown.text ++ (text_of x ++ codes "\n")) (record { lines = shown.lines }) is refl).lines;
+}
+
+pub showing_done : {W : Type 0} (took : W → List ℕ → W → Type 0) {A : Type 0} (word : List ℕ) (text_of : A → List ℕ) (all left : List A) (f g : Formatter W)
+    → Showing took word text_of all left f g → left ≡ [] → HasWritten took f (list_text word text_of all) g
+showing_done took word text_of all left f g shown is =
+    has_written_of_eq _ _ _ _ _ (listing_done word text_of all left [] shown.text (record { lines = shown.lines }) is) shown.written

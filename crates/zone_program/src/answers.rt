@@ -5,7 +5,7 @@ ghost use Rattle.zone_handler.specs.Answers.{left_in};
 ghost use Rattle.zone_handler.specs.AuthLookup.{records_of};
 ghost use Rattle.zone_handler.specs.Transfers.{transfer_records};
 ghost use Rattle.zone_program.specs.Replies.{lookup_word, records_text, reply_text};
-ghost use Rattle.zone_program.specs.Steps.{additionals_beside, empty_zone, found_reply, transfer_query, IsAdded, IsDenialOf, IsDenied, IsDropped, IsLookedUp, IsTransferAnswer, IsTransferred, Adds, Carries};
+ghost use Rattle.zone_program.specs.Steps.{additionals_beside, empty_zone, found_reply, transfer_query, AsksFor, IsAdded, IsDenialOf, IsDenied, IsDropped, IsLookedUp, IsTransferAnswer, IsTransferred, Adds, Carries};
 
 use crate::circle::circle;
 use crate::command::Command;
@@ -205,17 +205,29 @@ fn ask_denial(zone: &Zone, key: &RrKey) -> LookupControlFlow<AuthLookup>
                 ..
             },
         ) => {
-            let info = Nsec3QueryInfo {
-                qname: &key.name,
-                qtype: key.record_type,
-                has_wildcard_match: false,
-                algorithm: *algorithm,
-                salt: salt.as_slice(),
-                iterations: *iterations,
-            };
-            zone.nsec3_records(info, options)
+            let query = denial_query(key, *algorithm, salt.as_slice(), *iterations);
+            zone.nsec3_records(query, options)
         }
         _ => zone.nsec_records(&key.name, options),
+    }
+}
+
+/// The query for the NSEC3 records that deny a name, or a type of it, with a zone's parameters.
+fn denial_query<'q>(
+    key: &'q RrKey,
+    algorithm: u8,
+    salt: &'q [u8],
+    iterations: u16,
+) -> Nsec3QueryInfo<'q>
+    ensures { AsksFor key.now algorithm salt.now iterations result }
+{
+    Nsec3QueryInfo {
+        qname: &key.name,
+        qtype: key.record_type,
+        has_wildcard_match: false,
+        algorithm,
+        salt,
+        iterations,
     }
 }
 

@@ -1,5 +1,5 @@
 // The command that lists the owners of the sets of denial.
-ghost use Rattle.std.specs.Prelude.{◌≡◌, codes, option_map, OnOk, Some};
+ghost use Rattle.std.specs.Prelude.{◌≡◌, codes, option_copied, option_map, OnOk, Some};
 ghost use Rattle.std.specs.String.{string_bytes};
 ghost use Rattle.zone_proto.specs.Text.{name_text};
 ghost use Rattle.zone_map.specs.DenialOwners.{denial_owners};
