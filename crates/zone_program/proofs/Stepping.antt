@@ -1,9 +1,13 @@
 -- Commands carried out by the calls of the zone
-use Rattle.std.proofs.Common.{◌≡◌, ℕ, Bool, true, false, Option, Some, None, Result, Ok, Err, OnOk, OnErr, refl, ap, ◌∙◌, sym, subst, inl, inr, ◌⊎◌}
+use Rattle.std.proofs.Common.{◌≡◌, ℕ, Bool, true, false, Option, Some, None, Result, Ok, Err, OnOk, OnErr, refl, ap, ◌∙◌, sym, subst, inl, inr, ◌⊎◌, [], ◌++◌, codes, arith}
 use Rattle.std.specs.Prelude.{is_some, unwrap_or, MatchOption, if◌then◌else◌}
+use Rattle.std.specs.Option.{option_map, option_map_or}
+use Rattle.std.proofs.lemmas.Fmt.{decimal_digit}
 use Rattle.zone_handler.specs.declared.key_error.KeyError.{KeyError}
 use Rattle.zone_proto.specs.declared.rdata.signing.DNSKEY.{DNSKEY}
 use Rattle.zone_proto.specs.declared.record.Record.{Record}
+use Rattle.zone_proto.specs.declared.record_type.RecordType.{RecordType}
+use Rattle.zone_map.specs.DenialOwners.{denial_owners}
 use Rattle.zone_map.specs.Upserts.{upserted}
 use Rattle.zone_map.specs.Zones.{Sets}
 use Rattle.zone_search.specs.declared.zone_error.ZoneError.{ZoneError}
@@ -12,8 +16,8 @@ use Rattle.zone_in_memory.specs.Insertions.{IsUpsert}
 use Rattle.zone_in_memory.specs.Signing.{with_key, IsKeyAdded}
 use Rattle.zone_program.specs.declared.answers.Served.{Served}
 use Rattle.zone_program.specs.DemoSigners.{Demo, demo_key}
-use Rattle.zone_program.specs.Replies.{yes, no, done, refused, failed, memory}
-use Rattle.zone_program.specs.Steps.{DemoZone, signer_of, with_sets, with_zone, IsOutOfMemory, IsAdded, IsKeyed}
+use Rattle.zone_program.specs.Replies.{yes, no, done, refused, failed, listed, memory, reply_text}
+use Rattle.zone_program.specs.Steps.{DemoZone, circle_owners, denial_type, signer_of, with_sets, with_zone, IsOutOfMemory, IsAdded, IsKeyed}
 
 -- a record that was taken, or wasn't
 taken_or_not : (old : Served) (new : DemoZone) (made : Option Sets) (taken : Bool) → taken ≡ is_some made
@@ -46,3 +50,18 @@ pub key_refused : (old : Served) (new : DemoZone) (number : ℕ) (signer : Demo)
 key_refused old new number signer result e is added =
     let same : new ≡ old.zone = subst (λ (res : Result (Unit {0}) KeyError). OnErr res (new ≡ old.zone)) is added.same in
     inr (refl, ap (with_zone old) same)
+
+-- the owners that a zone of a kind lists, where its kind has a type of denial, and where it has none
+pub owners_of_type : (zone : DemoZone) (found : Option RecordType) (t : RecordType) → option_map (λ u. u.0) found ≡ denial_type zone.kind → found ≡ Some t
+    → circle_owners zone ≡ denial_owners zone.inner.records t.0
+owners_of_type zone found t is found_is =
+    ap (λ (u : Option ℕ). option_map_or (denial_owners zone.inner.records) u []) (sym is ∙ ap (option_map (λ (u : RecordType). u.0)) found_is)
+
+pub owners_of_none : (zone : DemoZone) (found : Option RecordType) → option_map (λ u. u.0) found ≡ denial_type zone.kind → found ≡ None → circle_owners zone ≡ []
+owners_of_none zone found is found_is =
+    ap (λ (u : Option ℕ). option_map_or (denial_owners zone.inner.records) u []) (sym is ∙ ap (option_map (λ (u : RecordType). u.0)) found_is)
+
+-- the text of a circle without owners
+pub none_listed : codes "circle 0\n" ≡ reply_text (listed [])
+none_listed =
+    sym (ap (λ digits. codes "circle " ++ digits ++ codes "\n" ++ []) (decimal_digit 0 (omega arith)))
