@@ -1,3 +1,4 @@
+pub mod Carrying
 pub mod DemoSigning
 pub mod Listing
 pub mod Pushing

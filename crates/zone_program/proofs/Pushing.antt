@@ -1,5 +1,5 @@
 -- Texts of replies behind a text
-use Rattle.std.proofs.Common.{◌≡◌, ℕ, List, ◌++◌, cond, OnOk, Ok, Err, Result, is_ok, subst, refl, sym, ap, ◌∙◌}
+use Rattle.std.proofs.Common.{◌≡◌, ℕ, List, ◌++◌, cond, OnOk, Ok, Err, Result, is_ok, subst, sym, ap, ◌∙◌}
 use Rattle.zone_program.specs.Replies.{Reply, reply_text}
 use Rattle.zone_program.specs.Steps.{Adds}
 
@@ -20,9 +20,3 @@ pub written : (IsReply : Reply → Type 0) (reply : Reply) (before text after : 
     → OnOk done (after ≡ before ++ text) → text ≡ reply_text reply → IsReply reply → OnOk done (Adds IsReply before after)
 written IsReply reply before text after (Ok x) is_text same_text is_reply = (reply, is_reply, is_text ∙ ap (λ t. before ++ t) same_text)
 written IsReply reply before text after (Err e) is_text same_text is_reply = tt
-
--- a reply to what changes nothing
-pub unchanged : {S : Type 0} (old : S) (IsReply : Reply → Type 0) (before after : List ℕ) {E : Type 0} (done : Result (Unit {0}) E)
-    → OnOk done (Adds IsReply before after) → OnOk done (Adds (λ reply. IsReply reply × (old ≡ old)) before after)
-unchanged old IsReply before after (Ok x) adds = (adds.0, (adds.1, refl), adds.2)
-unchanged old IsReply before after (Err e) adds = tt
