@@ -61,7 +61,7 @@ empty_zone origin kind = record {
   axfr_policy = AllowAll;
   kind = kind;
   inner = record { records = []; signers = [] };
-  hash = record { };
+  hash = record {};
 }
 
 -- the demonstration signer of a number for a zone

@@ -232,11 +232,7 @@ fn denial_query<'q>(
 }
 
 /// Lists the zone as one query for a transfer of it is answered.
-fn transfer(
-    served: &Served,
-    options: LookupOptions,
-    answer: &mut String,
-) -> Result<(), AllocError>
+fn transfer(served: &Served, options: LookupOptions, answer: &mut String) -> Result<(), AllocError>
     ensures { OnOk result (Adds (IsTransferred served.now options) (string_bytes answer.old) (string_bytes answer.new)) }
 {
     match ask_transfer(served, options) {
