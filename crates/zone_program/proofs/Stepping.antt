@@ -1,8 +1,8 @@
 -- Commands carried out by the calls of the zone
-use Rattle.std.proofs.Common.{◌≡◌, ℕ, Bool, true, false, Option, Some, None, Result, Ok, Err, OnOk, OnErr, refl, ap, ◌∙◌, sym, subst, inl, inr, ◌⊎◌, [], ◌++◌, codes, arith}
+use Rattle.std.proofs.Common.{◌≡◌, ℕ, Bool, Option, Some, None, Result, Ok, Err, OnOk, OnErr, refl, ap, ◌∙◌, sym, subst, inl, inr, ◌⊎◌, [], codes}
 use Rattle.std.specs.Prelude.{is_some, unwrap_or, MatchOption, if◌then◌else◌}
 use Rattle.std.specs.Option.{option_map, option_map_or}
-use Rattle.std.proofs.lemmas.Fmt.{decimal_digit}
+use Rattle.std.specs.Fmt.{digits}
 use Rattle.zone_handler.specs.declared.key_error.KeyError.{KeyError}
 use Rattle.zone_proto.specs.declared.rdata.signing.DNSKEY.{DNSKEY}
 use Rattle.zone_proto.specs.declared.record.Record.{Record}
@@ -63,5 +63,5 @@ owners_of_none zone found is found_is =
 
 -- the text of a circle without owners
 pub none_listed : codes "circle 0\n" ≡ reply_text (listed [])
-none_listed =
-    sym (ap (λ digits. codes "circle " ++ digits ++ codes "\n" ++ []) (decimal_digit 0 (omega arith)))
+unfolding digits
+none_listed = refl

@@ -1,5 +1,5 @@
 -- The replies to commands, and the text of each
-use Rattle.std.specs.Prelude.{ℕ, ◌^◌, ◌-◌, ◌++◌, Bool, if◌then◌else◌, List, length, min, codes}
+use Rattle.std.specs.Prelude.{ℕ, ◌^◌, ◌-◌, ◌++◌, List, length, min, codes}
 use Rattle.std.specs.Fmt.{decimal}
 use Rattle.std.specs.List.{flat_map}
 use Rattle.zone_proto.specs.declared.record.Record.{Record}

@@ -1,4 +1,3 @@
-use Rattle.std.proofs.Common.{string_bytes}
 use Rattle.zone_program.specs.Steps.{IsCircled, IsDenied, IsLookedUp, IsTransferred}
 use Rattle.zone_program.proofs.Carrying.{carried, unchanged}
 use Rattle.zone_program.proofs.answers.carry_out.Goals as goal

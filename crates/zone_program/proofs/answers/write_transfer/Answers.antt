@@ -1,4 +1,4 @@
-use Rattle.std.proofs.Common.{codes, ap, ◌∙◌}
+use Rattle.std.proofs.Common.{codes}
 use Rattle.zone_handler.specs.Transfers.{transfer_records}
 use Rattle.zone_text.specs.Printing.{record_text}
 use Rattle.zone_program.proofs.Listing.{counting_done, listing_begun}

@@ -1,8 +1,6 @@
-use Rattle.std.proofs.Common.{◌≡◌, Result, Some, Ok, Err, OnErr, OnOk, inl, inr, sym, refl, ap, ◌∙◌, subst}
-use Rattle.zone_handler.specs.declared.key_error.KeyError.{KeyError}
-use Rattle.zone_program.specs.DemoSigners.{demo_key}
+use Rattle.std.proofs.Common.{inr, refl}
 use Rattle.zone_program.specs.Replies.{Reply, done, refused, memory}
-use Rattle.zone_program.specs.Steps.{IsKeyed, signer_of, with_zone}
+use Rattle.zone_program.specs.Steps.{IsKeyed, with_zone}
 use Rattle.zone_program.proofs.Pushing.{pushed}
 use Rattle.zone_program.proofs.Stepping.{key_added, key_refused}
 use Rattle.zone_program.proofs.signing.add_key.Goals as goal
