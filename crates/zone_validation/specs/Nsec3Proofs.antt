@@ -1,11 +1,11 @@
 -- What NSEC3 records prove to a validator. It knows the NSEC3 records of a response, whose signatures it has verified and which have
--- all the same parameters, the hash by these parameters, the apex of the zone, which is the name that signed them, and what was
--- asked. It knows no zone.
-use Rattle.std.specs.Prelude.{ℕ, Bool, true, false, ◌&&◌, ◌||◌, not, cond, List, ◌==◌, Option, find, option_map}
+-- all the same parameters (`Nsec3Parameters` says which these are), the hash by these parameters, the apex of the zone, which is the
+-- name that signed them, and what was asked. It knows no zone.
+use Rattle.std.specs.Prelude.{ℕ, Bool, true, false, ◌&&◌, ◌||◌, not, cond, List, ◌==◌, Option, None, find, filter, reverse, option_map}
 use Rattle.std.specs.List.{list_any}
 use Rattle.std.specs.Option.{option_map_or}
 use Rattle.zone_proto.specs.HashedOwners.{hashed_owner}
-use Rattle.zone_proto.specs.Names.{Name, name_cmp, name_eq, is_above, is_at_or_above}
+use Rattle.zone_proto.specs.Names.{Name, name_cmp, name_eq, is_above, is_at_or_above, suffixes}
 use Rattle.zone_proto.specs.Order.{is_before, is_upto}
 use Rattle.zone_proto.specs.Types.{NS, CNAME, SOA, DS, ANY}
 use Rattle.zone_validation.specs.Encloser.{proper_ancestors, star_under, next_closer}
@@ -79,6 +79,10 @@ module _ (apex : Name) (hash : Name → Option (List ℕ)) where
         is_above apex x && not (is_matched x)
         && option_map_or (λ e. list_any (λ r. matches r e && is_of_encloser r) rs && option_map_or (λ c. list_any (λ r. covers r c && cover r) rs) (next_closer x e) false && rest e) (shown_encloser x) false
 
+    -- the closest encloser that they prove: the one that they show, where the proof stands
+    abbrev pub proved_encloser : Name → Option Name
+    proved_encloser x = cond (encloser_and (λ r. true) x (λ e. true)) (shown_encloser x) None
+
     -- a name error: the closest encloser proof, and the star under the encloser is covered (RFC 5155 section 8.4)
     abbrev pub proves_name_error : Name → Bool
     proves_name_error x = encloser_and (λ r. true) x (λ e. is_covered (star_under e))
@@ -105,6 +109,15 @@ module _ (apex : Name) (hash : Name → Option (List ℕ)) where
     abbrev pub proves_wildcard_answer : Name → Name → Bool
     proves_wildcard_answer x e = is_above e x && option_map_or is_covered (next_closer x e) false
 
-    -- an unsigned delegation: by its record, with NS and neither DS nor SOA, or as one that opt-out leaves out (RFC 5155 section 8.9)
+    -- of x and its ancestors, below the apex, the shortest that a record covers. It is the next closer name of the encloser from whose
+    -- star an answer may have been made: where the records are of one zone, those closer to x don't exist
+    abbrev pub covered_closer : Name → Option Name
+    covered_closer x = find is_covered (reverse (filter (is_above apex) (suffixes x)))
+
+    -- an unsigned delegation by its own record, with NS and neither DS nor SOA (RFC 5155 section 8.9)
+    abbrev pub shows_unsigned_delegation : Name → Bool
+    shows_unsigned_delegation x = list_any (λ r. matches r x && lists r NS && not (lists r DS) && not (lists r SOA)) rs
+
+    -- an unsigned delegation: by its record, or as one that opt-out leaves out (RFC 5155 section 8.9)
     abbrev pub proves_unsigned_delegation : Name → Bool
-    proves_unsigned_delegation x = list_any (λ r. matches r x && lists r NS && not (lists r DS) && not (lists r SOA)) rs || proves_opted_out x
+    proves_unsigned_delegation x = shows_unsigned_delegation x || proves_opted_out x

@@ -1,29 +1,28 @@
-// The labels of a name, or of the star under it, compared with those of another.
-ghost use Rattle.std.specs.Prelude.{◌≡◌, ◌↔◌, map, length, drop, IsTrue};
+// The labels of a name, or of a name one label below it, compared with those of another.
+ghost use Rattle.std.specs.Prelude.{◌≡◌, ◌↔◌, ◌∷◌, map, length, drop, IsTrue};
 ghost use Rattle.std.specs.Char.{to_ascii_lowercase};
 ghost use Rattle.std.specs.Cmp.Lexicographic.{slice_cmp};
 ghost use Rattle.std.specs.Ordering.{nat_cmp};
 ghost use Rattle.zone_proto.specs.Names.{caseless_cmp, lower, IsAtOrAbove};
-ghost use Rattle.zone_validation.specs.Encloser.{star_under};
 
 use crate::name_labels::NameLabels;
 use std::cmp::Ordering;
 use std::marker::Model;
 
-/// The labels of a name, or of the star under it, leftmost first.
+/// The labels of a name, or of a name one label below it, leftmost first.
 #[derive(Drop)]
 pub(crate) struct AskedLabels<'n> {
-    starred: bool,
+    first: Option<&'n [u8]>,
     base: NameLabels<'n>,
 }
 
 impl<'n> Model for AskedLabels<'n> {
-    ghost use Rattle.std.specs.Prelude.{List, ℕ, cond};
-    ghost use Rattle.zone_validation.specs.Encloser.{star_under};
+    ghost use Rattle.std.specs.Prelude.{List, ℕ, ◌∷◌};
+    ghost use Rattle.std.specs.Option.{option_map_or};
 
     ghost Value = { List (List ℕ) };
 
-    ghost view = { λ a. cond a.starred (star_under a.base) a.base };
+    ghost view = { λ a. option_map_or (λ l. l.now ∷ a.base) a.first a.base };
 }
 
 impl<'n> AskedLabels<'n> {
@@ -32,17 +31,17 @@ impl<'n> AskedLabels<'n> {
         ensures { result ≡ name.entry }
     {
         AskedLabels {
-            starred: false,
+            first: None,
             base: name,
         }
     }
 
-    /// The labels of the star under it.
-    pub(crate) fn of_star(base: NameLabels<'n>) -> AskedLabels<'n>
-        ensures { result ≡ star_under base.entry }
+    /// The labels of the name with this label before its own.
+    pub(crate) fn below(first: &'n [u8], base: NameLabels<'n>) -> AskedLabels<'n>
+        ensures { result ≡ first.now ∷ base.entry }
     {
         AskedLabels {
-            starred: true,
+            first: Some(first),
             base,
         }
     }
@@ -52,7 +51,7 @@ impl<'n> AskedLabels<'n> {
         ensures { result ≡ self.now }
     {
         AskedLabels {
-            starred: self.starred,
+            first: self.first,
             base: self.base.clone(),
         }
     }
@@ -61,7 +60,7 @@ impl<'n> AskedLabels<'n> {
     pub(crate) fn len(&self) -> usize
         ensures { result ≡ length self.now }
     {
-        if self.starred {
+        if self.first.is_some() {
             self.base.len() + 1
         } else {
             self.base.len()
@@ -79,11 +78,10 @@ impl<'n> Iterator for AskedLabels<'n> {
     ghost remaining = { item_count (λ s. s) };
 
     fn next(&mut self) -> Option<&'n [u8]> {
-        if self.starred {
-            self.starred = false;
-            return Some(b"*");
+        match self.first.take() {
+            Some(first) => Some(first),
+            None => self.base.next(),
         }
-        self.base.next()
     }
 }
 

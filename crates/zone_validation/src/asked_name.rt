@@ -1,7 +1,7 @@
 // Names as the records of a denial and a question have them, compared without memory.
-ghost use Rattle.std.specs.Prelude.{◌≡◌};
+ghost use Rattle.std.specs.Prelude.{◌≡◌, ◌&&◌, ◌||◌, ◌∷◌};
 ghost use Rattle.zone_proto.specs.Names.{lower, name_cmp, name_eq, is_above, is_at_or_above};
-ghost use Rattle.zone_proto.specs.Order.{is_before};
+ghost use Rattle.zone_proto.specs.Order.{is_before, is_upto};
 ghost use Rattle.zone_validation.specs.Encloser.{star_under};
 
 use crate::asked_labels::{AskedLabels, compare_labels, labels_are_above};
@@ -10,7 +10,7 @@ use std::cmp::Ordering;
 use std::marker::Model;
 use zone_proto::{LowerName, Name};
 
-/// A name, or the star under one, lent; contracts see it in lower case.
+/// A name, or one a label below it, lent; contracts see it in lower case.
 #[derive(Drop)]
 pub(crate) struct AskedName<'n> {
     labels: AskedLabels<'n>,
@@ -58,7 +58,16 @@ impl<'n> AskedName<'n> {
         ensures { result ≡ star_under (lower base.entry) }
     {
         AskedName {
-            labels: AskedLabels::of_star(base),
+            labels: AskedLabels::below(b"*", base),
+        }
+    }
+
+    /// The name with this label before the labels of another.
+    pub(crate) fn below(first: &'n [u8], base: NameLabels<'n>) -> AskedName<'n>
+        ensures { result ≡ lower (first.now ∷ base.entry) }
+    {
+        AskedName {
+            labels: AskedLabels::below(first, base),
         }
     }
 
@@ -81,6 +90,23 @@ impl<'n> AskedName<'n> {
         ensures { result ≡ is_before name_cmp self.now other.now }
     {
         self.compare(other).is_lt()
+    }
+
+    /// Whether this name is the other or stands before it.
+    fn is_upto(&self, other: &AskedName<'_>) -> bool
+        ensures { result ≡ is_upto name_cmp self.now other.now }
+    {
+        self.compare(other).is_le()
+    }
+
+    /// Whether it stands between an owner and the next one, or past the ends of the last pair, whose next is the first (RFC 5155
+    /// section 1.3).
+    pub(crate) fn is_between(&self, owner: &AskedName<'_>, next: &AskedName<'_>) -> bool
+        ensures { result ≡ ((is_before name_cmp owner.now self.now && is_before name_cmp self.now next.now)
+            || (is_upto name_cmp next.now owner.now && (is_before name_cmp owner.now self.now || is_before name_cmp self.now next.now))) }
+    {
+        (owner.is_before(self) && self.is_before(next))
+            || (next.is_upto(owner) && (owner.is_before(self) || self.is_before(next)))
     }
 
     /// Whether the other name is this one or below it.

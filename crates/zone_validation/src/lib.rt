@@ -6,8 +6,17 @@
 
 mod asked_labels;
 mod asked_name;
+mod hashed_owner;
 mod name_labels;
 pub mod nsec;
+pub mod nsec3;
+mod nsec3_encloser;
+mod nsec3_judgement;
+mod nsec3_parameters;
+mod nsec3_record;
+mod nsec3_records;
+mod nsec3_response;
+mod nsec3_wildcard;
 mod nsec_record;
 mod nsec_records;
 mod proof;

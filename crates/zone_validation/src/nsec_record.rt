@@ -12,7 +12,7 @@ use std::marker::Model;
 use zone_proto::{LowerName, RData, Record, RecordType};
 
 /// Another name for all names below the owner (RFC 6672 section 2.1).
-const DNAME: RecordType = RecordType(39);
+pub(crate) const DNAME: RecordType = RecordType(39);
 
 /// An NSEC record, lent.
 #[derive(Drop)]
@@ -161,7 +161,7 @@ impl<'r> LentNsec<'r> {
 }
 
 /// Whether a type is one of a list.
-fn has_type(types: &[RecordType], record_type: RecordType) -> bool
+pub(crate) fn has_type(types: &[RecordType], record_type: RecordType) -> bool
     ensures { result ≡ list_any (λ (t : RecordType). t.0 == record_type.0) types.now }
 {
     types.iter().any(|listed| listed.0 == record_type.0)

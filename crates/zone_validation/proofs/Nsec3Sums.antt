@@ -1,0 +1,50 @@
+-- What NSEC3 records prove, summed up
+use Rattle.std.proofs.Common.{◌≡◌, ℕ, ◌&&◌, not, Bool, true, false, List, length, Option, Some, None, option_map, refl, sym, ap, ◌∙◌}
+use Rattle.std.specs.Prelude.{if◌then◌else◌}
+use Rattle.std.specs.List.{list_any}
+use Rattle.std.specs.Option.{option_map_or}
+use Rattle.zone_proto.specs.declared.rdata.denial.NSEC3.{NSEC3 as Nsec3Data}
+use Rattle.zone_proto.specs.declared.record.Record.{Record}
+use Rattle.zone_proto.specs.Names.{Name, base_name}
+use Rattle.zone_proto.specs.Types.{NS, SOA, DS}
+use Rattle.zone_validation.specs.declared.proof.Proof.{Proof}
+use Rattle.zone_validation.specs.declared.proof.Proof.TheVariants.{NameError, UnsignedDelegation, NoData, WildcardNoData}
+use Rattle.zone_validation.specs.Encloser.{star_under}
+use Rattle.zone_validation.specs.Judgement.{nsec3_proof, wildcard_proof}
+use Rattle.zone_validation.specs.Nsec3Parameters.{common_parameters, digest_by, records_with, judged}
+use Rattle.zone_validation.specs.Nsec3Proofs.{lists, denies_type, matches, is_matched, is_covered, proved_encloser, covered_closer, proves_name_error, proves_no_data, proves_opted_out, proves_wildcard_no_data, shows_unsigned_delegation}
+use Rattle.zone_validation.specs.Nsec3Records.{Nsec3Record}
+use Rattle.zone_validation.specs.Nsec3Responses.{Nsec3Response, hash_of, nsec3_response}
+use Rattle.zone_validation.proofs.EncloserProofs.{star_rest, unmatched_by}
+use Rattle.zone_validation.proofs.ListTests.{list_any-both_none}
+
+-- what is judged by the records of a response is judged by those that were read
+pub judged_is : {H : Type 0} (digest_of : H → ℕ → List ℕ → Name → ℕ → Option (List ℕ)) (apex : Name) (rs : List Record) (x : Name) (hash : H) (response : Nsec3Response H)
+    → Some response ≡ nsec3_response digest_of apex rs x hash → {A : Type 0} (nothing : A) (judgement : Name → (Name → Option (List ℕ)) → List Nsec3Record → Name → A)
+    → judgement response.apex (hash_of digest_of response) response.records response.name ≡ judged (digest_of hash) x rs nothing (λ digest read. judgement apex digest read x)
+judged_is {H} digest_of apex rs x hash response read {A} nothing judgement = by (common_parameters (digest_of hash) x rs) read
+  where
+    by : (common : Option Nsec3Data) → Some response ≡ option_map (λ p. record { apex = apex; name = x; hash = hash; parameters = p; records = records_with p rs }) common
+        → judgement response.apex (hash_of digest_of response) response.records response.name
+        ≡ option_map_or (λ p. judgement apex (digest_by (digest_of hash) p) (records_with p rs) x) common nothing
+    by None e = cc
+    by (Some p) e =
+        let is : response ≡ record { apex = apex; name = x; hash = hash; parameters = p; records = records_with p rs } = cc in
+        ap (λ (r : Nsec3Response H). judgement r.apex (hash_of digest_of r) r.records r.name) is
+
+module _ (apex : Name) (hash : Name → Option (List ℕ)) (rs : List Nsec3Record) (x : Name) (t : ℕ) where
+  -- where the closest encloser is proved it is what the star shows, or what opt-out leaves out, or a wildcard's answer
+  pub with_star : (star : Name) → Some (base_name star) ≡ proved_encloser apex hash rs x → star ≡ star_under (base_name star)
+      → (covered denied opted_out : Bool) → covered ≡ is_covered apex hash rs star → denied ≡ proves_no_data apex hash rs star t → opted_out ≡ proves_opted_out apex hash rs x
+      → nsec3_proof apex hash rs x t
+      ≡ (if covered then Some NameError else (if denied then Some WildcardNoData else (if opted_out then Some UnsignedDelegation
+      else wildcard_proof (option_map (λ c. length (base_name c)) (covered_closer apex hash rs x)))))
+  with_star star proved is covered denied opted_out cover deny out =
+      let unmatched = unmatched_by apex hash rs x (base_name star) (sym proved) in
+      let error = star_rest apex hash rs x star proved is (is_covered apex hash rs) ∙ sym cover in
+      let wildcard = star_rest apex hash rs x star proved is (λ n. proves_no_data apex hash rs n t) ∙ sym deny in
+      let own = list_any-both_none (λ r. matches apex hash r x) (λ r. denies_type r t) rs unmatched in
+      let cut = list_any-both_none (λ r. matches apex hash r x && lists r NS && not (lists r DS)) (λ r. not (lists r SOA)) rs
+      (list_any-both_none (λ r. matches apex hash r x && lists r NS) (λ r. not (lists r DS)) rs (list_any-both_none (λ r. matches apex hash r x) (λ r. lists r NS) rs unmatched)) in
+      λ i. if error i then Some NameError else (if cut i then Some UnsignedDelegation else (if own i then Some NoData else (if wildcard i then Some WildcardNoData
+      else (if sym out i then Some UnsignedDelegation else wildcard_proof (option_map (λ c. length (base_name c)) (covered_closer apex hash rs x))))))

@@ -1,0 +1,132 @@
+-- Answers that were made from a wildcard, by NSEC3 records: the encloser by its labels, and the walk to the covered name that is
+-- nearest to the apex
+use Rattle.std.proofs.Common.{◌≡◌, ℕ, ◌==◌, ◌&&◌, ◌||◌, ◌<◌, ◌≤◌, ◌-◌, suc, Bool, true, false, cond, List, [], ◌∷◌, ◌++◌, length, drop, Option, Some, None, find, reverse, option_map, refl, sym, ap, ◌∙◌, true≢false, eqb-true, eq-eqb, ne_eqb, arith}
+use Rattle.std.specs.Prelude.{filter}
+use Rattle.std.specs.Option.{option_map_or, option_or}
+use Rattle.std.proofs.lemmas.Grind.{reverse_onto}
+use Rattle.std.proofs.lemmas.List.Folds.{find-append}
+use Rattle.zone_proto.specs.Names.{Name, base_name, name_eq, is_above, is_at_or_above, suffixes}
+use Rattle.zone_proto.proofs.Tree.{name_eq_itself}
+use Rattle.zone_validation.specs.Encloser.{ancestor_of, next_closer, proper_ancestors}
+use Rattle.zone_validation.specs.Nsec3Proofs.{is_covered, covered_closer, proves_wildcard_answer}
+use Rattle.zone_validation.specs.Nsec3Records.{Nsec3Record}
+use Rattle.zone_validation.proofs.ListTests.{find_passes}
+
+-- ---- the ancestor with so many labels
+
+either_true : (a b : Bool) → b ≡ true → (a || b) ≡ true
+either_true true b h = refl
+either_true false b h = h
+
+at_or_above_itself : (n : Name) → is_at_or_above n n ≡ true
+at_or_above_itself [] = name_eq_itself []
+at_or_above_itself (l ∷ ls) = ap (λ b. b || is_at_or_above (l ∷ ls) ls) (name_eq_itself (l ∷ ls))
+
+above_is_at_or_above : (a n : Name) → is_above a n ≡ true → is_at_or_above a n ≡ true
+above_is_at_or_above a [] h = absurd (true≢false (sym h))
+above_is_at_or_above a (l ∷ ls) h = either_true (name_eq a (l ∷ ls)) (is_at_or_above a ls) h
+
+find_suffix : (p : Name → Bool) (n : Name) → find p (suffixes n) ≡ cond (p n) (Some n) (find p (proper_ancestors n))
+find_suffix p [] = refl
+find_suffix p (l ∷ ls) = refl
+
+-- a name has no ancestor with as many labels or more
+pub too_many_labels : (n : Name) (k : ℕ) → length n ≤ k → ancestor_of n k ≡ None
+too_many_labels [] k h = refl
+too_many_labels (l ∷ ls) k h =
+    find_suffix (λ (a : Name). length a == k) ls
+    ∙ ap (λ b. cond b (Some ls) (ancestor_of ls k)) (ne_eqb (length ls) k (λ e. omega (arith, e)))
+    ∙ too_many_labels ls k (omega arith)
+
+-- that with fewer labels, and its next closer name
+record IsAncestor (n : Name) (k : ℕ) : Type 0 where
+  ancestor : Name
+  is : ancestor_of n k ≡ Some ancestor
+  above : is_above ancestor n ≡ true
+  closer : next_closer n ancestor ≡ Some (drop (length n - suc k) n)
+
+ancestor_is : (n : Name) (k : ℕ) → k < length n → IsAncestor n k
+ancestor_is [] k h = absurd (omega arith)
+ancestor_is (l ∷ ls) k h = by (length ls == k) refl (ancestor_is ls k)
+  where
+    by : (b : Bool) → (length ls == k) ≡ b → (k < length ls → IsAncestor ls k) → IsAncestor (l ∷ ls) k
+    by true e up =
+        let same : length ls ≡ k = eqb-true (length ls) k e in
+        let none : length (l ∷ ls) - suc k ≡ 0 = omega arith in
+        record {
+          ancestor = ls;
+          is = find_suffix (λ (a : Name). length a == k) ls ∙ ap (λ b. cond b (Some ls) (ancestor_of ls k)) e;
+          above = at_or_above_itself ls;
+          closer = ap (λ b. cond b (Some (l ∷ ls)) (find (λ (s : Name). length s == suc (length ls)) (suffixes ls))) (eq-eqb (length (l ∷ ls)) (suc (length ls)) refl)
+              ∙ ap (λ j. Some (drop j (l ∷ ls))) (sym none);
+        }
+    by false e up =
+        let fewer : k < length ls = omega (arith, λ (s : length ls ≡ k). true≢false (sym (eq-eqb (length ls) k s) ∙ e)) in
+        let of = up fewer in
+        let has : length of.ancestor ≡ k = eqb-true (length of.ancestor) k (find_passes (λ (a : Name). length a == k) (proper_ancestors ls) of.ancestor of.is) in
+        let more : length (l ∷ ls) - suc k ≡ suc (length ls - suc k) = omega arith in
+        record {
+          ancestor = of.ancestor;
+          is = find_suffix (λ (a : Name). length a == k) ls ∙ ap (λ b. cond b (Some ls) (ancestor_of ls k)) e ∙ of.is;
+          above = above_is_at_or_above of.ancestor ls of.above;
+          closer = ap (λ b. cond b (Some (l ∷ ls)) (find (λ (s : Name). length s == suc (length of.ancestor)) (suffixes ls))) (ne_eqb (length (l ∷ ls)) (suc (length of.ancestor)) (λ s. omega (arith, s, has, fewer)))
+              ∙ of.closer ∙ ap (λ j. Some (drop j (l ∷ ls))) (sym more);
+        }
+
+module _ (apex : Name) (hash : Name → Option (List ℕ)) (rs : List Nsec3Record) where
+  pub answer_by_closer : (x : Name) (k : ℕ) → k < length x
+      → option_map_or (proves_wildcard_answer apex hash rs x) (ancestor_of x k) false ≡ is_covered apex hash rs (drop (length x - suc k) x)
+  answer_by_closer x k h =
+      let of = ancestor_is x k h in
+      ap (λ o. option_map_or (proves_wildcard_answer apex hash rs x) o false) of.is
+      ∙ (λ i. of.above i && option_map_or (is_covered apex hash rs) (of.closer i) false)
+
+  pub no_answer : (x : Name) (k : ℕ) → length x ≤ k → option_map_or (proves_wildcard_answer apex hash rs x) (ancestor_of x k) false ≡ false
+  no_answer x k h = ap (λ o. option_map_or (proves_wildcard_answer apex hash rs x) o false) (too_many_labels x k h)
+
+  -- ---- the shortest covered name below the apex
+
+  none_below : (n : Name) → is_above apex n ≡ false → filter (is_above apex) (suffixes n) ≡ []
+  none_below [] h = refl
+  none_below (l ∷ ls) h = ap (λ b. cond b ((l ∷ ls) ∷ filter (is_above apex) (suffixes ls)) (filter (is_above apex) (suffixes ls))) h ∙ none_below ls (not_above ls h)
+    where
+      rest : (here below : Bool) → (here || below) ≡ false → below ≡ false
+      rest true below e = absurd (true≢false e)
+      rest false below e = e
+
+      not_above : (m : Name) → is_at_or_above apex m ≡ false → is_above apex m ≡ false
+      not_above [] e = refl
+      not_above (k ∷ ks) e = rest (name_eq apex (k ∷ ks)) (is_at_or_above apex ks) e
+
+  pub closer_ends : (n : Name) → is_above apex n ≡ false → covered_closer apex hash rs n ≡ None
+  closer_ends n h = ap (λ ns. find (is_covered apex hash rs) (reverse ns)) (none_below n h)
+
+  closer_on : (n : Name) → is_above apex n ≡ true → covered_closer apex hash rs n ≡ option_or (covered_closer apex hash rs (drop 1 n)) (cond (is_covered apex hash rs n) (Some n) None)
+  closer_on [] h = absurd (true≢false (sym h))
+  closer_on (l ∷ ls) h =
+      let below = filter (is_above apex) (suffixes ls) in
+      ap (λ b. find (is_covered apex hash rs) (reverse (cond b ((l ∷ ls) ∷ below) below))) h
+      ∙ ap (find (is_covered apex hash rs)) (reverse_onto below (l ∷ ls) [])
+      ∙ find-append (is_covered apex hash rs) (reverse below) ((l ∷ ls) ∷ [])
+
+  -- the labels of the encloser under the shortest of them
+  abbrev pub covered_labels : Name → Option ℕ
+  covered_labels n = option_map (λ c. length (base_name c)) (covered_closer apex hash rs n)
+
+  pub labels_end : (n : Name) (found : Option ℕ) → is_above apex n ≡ false → option_or (covered_labels n) found ≡ found
+  labels_end n found h = ap (λ c. option_or (option_map (λ (c : Name). length (base_name c)) c) found) (closer_ends n h)
+
+  pub labels_on : (n rest : Name) (covered : Bool) (found : Option ℕ) → is_above apex n ≡ true → covered ≡ is_covered apex hash rs n → rest ≡ drop 1 n
+      → option_or (covered_labels n) found ≡ option_or (covered_labels rest) (cond covered (Some (length rest)) found)
+  labels_on [] rest covered found h cover is = absurd (true≢false (sym h))
+  labels_on (l ∷ ls) rest covered found h cover is =
+      ap (λ c. option_or (option_map (λ (c : Name). length (base_name c)) c) found) (closer_on (l ∷ ls) h)
+      ∙ ap (λ b. option_or (option_map (λ (c : Name). length (base_name c)) (option_or (covered_closer apex hash rs ls) (cond b (Some (l ∷ ls)) None))) found) (sym cover)
+      ∙ by (covered_closer apex hash rs ls) covered
+      ∙ (λ i. option_or (covered_labels (sym is i)) (cond covered (Some (length (sym is i))) found))
+    where
+      by : (c : Option Name) (b : Bool) → option_or (option_map (λ (c : Name). length (base_name c)) (option_or c (cond b (Some (l ∷ ls)) None))) found
+          ≡ option_or (option_map (λ (c : Name). length (base_name c)) c) (cond b (Some (length ls)) found)
+      by (Some c) b = refl
+      by None true = refl
+      by None false = refl

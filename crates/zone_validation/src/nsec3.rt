@@ -1,0 +1,149 @@
+//! What NSEC3 records prove (RFC 5155 section 8).
+//!
+//! Each call is told the apex of the zone, which is the name that signed the records, and is lent the records of a response;
+//! those of other types than NSEC3 are passed over. The signatures are taken as checked, each under the owner itself: a record
+//! that was made from a wildcard proves nothing.
+//!
+//! Names are hashed by the parameters of the records. A record is ignored if `hash` doesn't know its algorithm, which is where it
+//! has no digest of the name by the record's parameters (RFC 5155 section 8.1). The others must all have the same algorithm,
+//! iterations and salt, else they prove nothing (section 8.2). A further name of which `hash` has no digest is one that no record
+//! matches or covers.
+//!
+//! Digests take memory, and their texts do: each call is refused by `Memory`, and by nothing else. It hashes the name; where that
+//! isn't enough its ancestors, from the longest on up to the closest encloser, each once; and then the wildcard under that. What
+//! a hash may cost grows with the iterations that the records name, up to 65535, so one who asks should look at these first (RFC
+//! 9276 section 3.2).
+ghost use Rattle.std.specs.Prelude.{◌≡◌, None, false, map, IfOk, IsOkUnless};
+ghost use Rattle.std.specs.Option.{option_map_or};
+ghost use Rattle.zone_validation.specs.Encloser.{ancestor_of};
+ghost use Rattle.zone_validation.specs.Judgement.{nsec3_proof};
+ghost use Rattle.zone_validation.specs.Nsec3Parameters.{judged};
+ghost use Rattle.zone_validation.specs.Nsec3Proofs.{proves_name_error, proves_no_data, proves_wildcard_no_data, proves_wildcard_answer, proves_unsigned_delegation};
+
+use crate::nsec3_response::Nsec3Response;
+use crate::proof::Proof;
+use zone_proto::{LowerName, Nsec3Hash, ProtoError, Record, RecordType};
+
+/// What the records prove of `name` and a type: the first case of [`Proof`] that holds, and nothing where none does. Refused by
+/// `Memory` alone.
+///
+/// An unsigned delegation that opt-out leaves out is told only after no data by a wildcard, since under opt-out nearly each
+/// denial shows that there may be one. The empty non-terminal is never told: such a name has a record, which denies each type.
+///
+/// A wildcard answer is told with the encloser that is nearest to the apex of those from which the records prove that a wildcard
+/// may have answered. For this all ancestors below the apex are hashed, some of them once more.
+pub fn proof<H: Nsec3Hash>(
+    apex: &LowerName,
+    records: &[&Record],
+    name: &LowerName,
+    record_type: RecordType,
+    hash: &H,
+) -> Result<Option<Proof>, ProtoError>
+    ensures ok { IfOk result (λ proof. proof
+        ≡ judged (H.digest_of hash.now) name.now (map (λ r. r.now) records.now) None (λ digest rs. nsec3_proof apex.now digest rs name.now record_type.0)) }
+    ensures err { IsOkUnless result ProtoError.Memory }
+{
+    match Nsec3Response::read(apex, records, name, hash)? {
+        Some(response) => response.proof(record_type),
+        None => Ok(None),
+    }
+}
+
+/// Whether the records prove a name error: by a closest encloser proof that `name` doesn't exist, and that nor does the
+/// wildcard under the encloser (RFC 5155 section 8.4). Refused by `Memory` alone.
+pub fn proves_name_error<H: Nsec3Hash>(
+    apex: &LowerName,
+    records: &[&Record],
+    name: &LowerName,
+    hash: &H,
+) -> Result<bool, ProtoError>
+    ensures ok { IfOk result (λ proved. proved
+        ≡ judged (H.digest_of hash.now) name.now (map (λ r. r.now) records.now) false (λ digest rs. proves_name_error apex.now digest rs name.now)) }
+    ensures err { IsOkUnless result ProtoError.Memory }
+{
+    match Nsec3Response::read(apex, records, name, hash)? {
+        Some(response) => response.proves_name_error(),
+        None => Ok(false),
+    }
+}
+
+/// Whether the records prove that `name` owns neither a set of the type nor an alias, or no set at all, by the name's own
+/// record (RFC 5155 sections 8.5 and 8.6). Refused by `Memory` alone.
+///
+/// Of a zone cut the parent's record denies DS alone (RFC 6840 section 4.1), and the child's all but DS (RFC 4035 section 5.2).
+/// ANY is denied only of a name without sets. Only the name is hashed.
+pub fn proves_no_data<H: Nsec3Hash>(
+    apex: &LowerName,
+    records: &[&Record],
+    name: &LowerName,
+    record_type: RecordType,
+    hash: &H,
+) -> Result<bool, ProtoError>
+    ensures ok { IfOk result (λ proved. proved
+        ≡ judged (H.digest_of hash.now) name.now (map (λ r. r.now) records.now) false (λ digest rs. proves_no_data apex.now digest rs name.now record_type.0)) }
+    ensures err { IsOkUnless result ProtoError.Memory }
+{
+    match Nsec3Response::read(apex, records, name, hash)? {
+        Some(response) => Ok(response.proves_no_data(record_type)),
+        None => Ok(false),
+    }
+}
+
+/// Whether the records prove that `name` doesn't exist, and that the wildcard under its closest encloser owns neither a set of
+/// the type nor an alias, or no set at all (RFC 5155 section 8.7). Refused by `Memory` alone.
+pub fn proves_wildcard_no_data<H: Nsec3Hash>(
+    apex: &LowerName,
+    records: &[&Record],
+    name: &LowerName,
+    record_type: RecordType,
+    hash: &H,
+) -> Result<bool, ProtoError>
+    ensures ok { IfOk result (λ proved. proved
+        ≡ judged (H.digest_of hash.now) name.now (map (λ r. r.now) records.now) false (λ digest rs. proves_wildcard_no_data apex.now digest rs name.now record_type.0)) }
+    ensures err { IsOkUnless result ProtoError.Memory }
+{
+    match Nsec3Response::read(apex, records, name, hash)? {
+        Some(response) => response.proves_wildcard_no_data(record_type),
+        None => Ok(false),
+    }
+}
+
+/// Whether the records prove that an answer to `name` was rightly made from the wildcard under its ancestor with
+/// `encloser_labels` labels: that no name closer to `name` exists (RFC 5155 section 8.8). Refused by `Memory` alone.
+///
+/// `encloser_labels` is what the labels field of the answer's RRSIG record says (RFC 4034 section 3.1.3). Two names are hashed.
+pub fn proves_wildcard_answer<H: Nsec3Hash>(
+    apex: &LowerName,
+    records: &[&Record],
+    name: &LowerName,
+    encloser_labels: usize,
+    hash: &H,
+) -> Result<bool, ProtoError>
+    ensures ok { IfOk result (λ proved. proved
+        ≡ judged (H.digest_of hash.now) name.now (map (λ r. r.now) records.now) false
+        (λ digest rs. option_map_or (proves_wildcard_answer apex.now digest rs name.now) (ancestor_of name.now encloser_labels) false)) }
+    ensures err { IsOkUnless result ProtoError.Memory }
+{
+    match Nsec3Response::read(apex, records, name, hash)? {
+        Some(response) => response.proves_wildcard_answer(encloser_labels),
+        None => Ok(false),
+    }
+}
+
+/// Whether the records prove that `name` is a zone cut of which the parent has no DS, or that it would be one, which opt-out
+/// left out (RFC 5155 sections 8.6 and 8.9): what a referral to an unsigned child needs. Refused by `Memory` alone.
+pub fn proves_unsigned_delegation<H: Nsec3Hash>(
+    apex: &LowerName,
+    records: &[&Record],
+    name: &LowerName,
+    hash: &H,
+) -> Result<bool, ProtoError>
+    ensures ok { IfOk result (λ proved. proved
+        ≡ judged (H.digest_of hash.now) name.now (map (λ r. r.now) records.now) false (λ digest rs. proves_unsigned_delegation apex.now digest rs name.now)) }
+    ensures err { IsOkUnless result ProtoError.Memory }
+{
+    match Nsec3Response::read(apex, records, name, hash)? {
+        Some(response) => response.proves_unsigned_delegation(),
+        None => Ok(false),
+    }
+}

@@ -1,0 +1,62 @@
+// The NSEC3 records of a response that have the same parameters.
+ghost use Rattle.std.specs.Prelude.{◌≡◌, map};
+ghost use Rattle.zone_validation.specs.Nsec3Parameters.{records_with};
+
+use crate::nsec3_parameters::has_parameters;
+use crate::nsec3_record::LentNsec3;
+use std::marker::Model;
+use zone_proto::{NSEC3, Record};
+
+/// Lends the NSEC3 records among some records that have these parameters, in their order.
+#[derive(Drop)]
+pub(crate) struct Nsec3Records<'s, 'r> {
+    records: &'s [&'r Record],
+    parameters: &'s NSEC3,
+    next: usize,
+}
+
+impl<'s, 'r> Model for Nsec3Records<'s, 'r> {
+    ghost use Rattle.std.specs.Prelude.{List, map, drop};
+    ghost use Rattle.zone_validation.specs.Nsec3Parameters.{records_with};
+    ghost use Rattle.zone_validation.specs.Nsec3Records.{Nsec3Record};
+
+    ghost Value = { List Nsec3Record };
+
+    ghost view = { λ s. records_with s.parameters.now (map (λ r. r.now) (drop s.next s.records.now)) };
+}
+
+impl<'s, 'r> Nsec3Records<'s, 'r> {
+    /// Those among these.
+    pub(crate) fn among(records: &'s [&'r Record], parameters: &'s NSEC3) -> Nsec3Records<'s, 'r>
+        ensures { result ≡ records_with parameters.now (map (λ r. r.now) records.now) }
+    {
+        Nsec3Records {
+            records,
+            parameters,
+            next: 0,
+        }
+    }
+}
+
+impl<'s, 'r> Iterator for Nsec3Records<'s, 'r> {
+    type Item = LentNsec3<'r>;
+
+    ghost use Rattle.std.specs.Iterator.{YieldsFirstBy, item_count};
+
+    ghost next_gives = { YieldsFirstBy (λ x. x) (λ s. s) };
+
+    ghost remaining = { item_count (λ s. s) };
+
+    fn next(&mut self) -> Option<LentNsec3<'r>> {
+        while self.next < self.records.len() {
+            let lent = self.records[self.next];
+            self.next += 1;
+            if has_parameters(self.parameters, lent) {
+                if let Some(nsec3) = LentNsec3::read(lent) {
+                    return Some(nsec3);
+                }
+            }
+        }
+        None
+    }
+}
