@@ -17,7 +17,7 @@ returns-then-is_matched-clause-shown g c =
     let n = c.loop-above.next_closer in
     let owner = c.as_ref.ensures.value ∙ c.in_ok-owner.ensures.ok ∙ ap (owner_of apex hash) c.loop-above.invariant.above in
     let matched : is_matched apex hash rs (drop 1 n) ≡ true =
-        sym (c.is_matched.ensures ∙ (λ i. list_any (λ (r : Nsec3Record). option_map_or (name_eq r.owner) (owner i) false) rs)) ∙ c.if-is_matched.true in
+    sym (c.is_matched.ensures ∙ (λ i. list_any (λ (r : Nsec3Record). option_map_or (name_eq r.owner) (owner i) false) rs)) ∙ c.if-is_matched.true in
     sym (c.loop-above.invariant.shown ∙ walk_found apex hash rs n (sym c.is_below_apex.ensures ∙ c.loop-above-test.true) matched)
 
 pub returns-then-is_matched-clause-closer : goal.returns-then-is_matched-clause-closer
@@ -35,7 +35,7 @@ loop-above-preserved g c =
     let owner = c.as_ref.ensures.value ∙ c.in_ok-owner.ensures.ok ∙ ap (owner_of apex hash) c.loop-above.invariant.above in
     let passed = passed_on apex n c.args.self.now.name c.loop-above.invariant.passed.0 below c.loop-above.invariant.passed.1 in
     let unmatched : is_matched apex hash rs (drop 1 n) ≡ false =
-        sym (c.is_matched.ensures ∙ (λ i. list_any (λ (r : Nsec3Record). option_map_or (name_eq r.owner) (owner i) false) rs)) ∙ c.if-is_matched.false in
+    sym (c.is_matched.ensures ∙ (λ i. list_any (λ (r : Nsec3Record). option_map_or (name_eq r.owner) (owner i) false) rs)) ∙ c.if-is_matched.false in
     record {
       above = c.shorten-in-loop-above.ensures ∙ ap (drop 1) (c.loop-above.invariant.above ∙ sym now);
       passed = (passed.0, passed.1 ∙ ap (λ m. passed.0 ++ m) (sym now));
