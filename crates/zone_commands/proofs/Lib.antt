@@ -1,2 +1,3 @@
 pub mod CommandFacts
 pub mod LineFacts
+mod CommandExamples

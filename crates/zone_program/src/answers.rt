@@ -1,4 +1,11 @@
-ghost use Rattle.std.specs.Prelude.{◌≢◌};
+ghost use Rattle.std.specs.Prelude.{◌≡◌, ◌≢◌, [], ◌∷◌, ◌++◌, codes, IfOk, OnOk, IsOkUnless, Some};
+ghost use Rattle.std.specs.String.{string_bytes};
+ghost use Rattle.zone_proto.specs.Names.{lower};
+ghost use Rattle.zone_handler.specs.Answers.{left_in};
+ghost use Rattle.zone_handler.specs.AuthLookup.{records_of};
+ghost use Rattle.zone_handler.specs.Transfers.{transfer_records};
+ghost use Rattle.zone_program.specs.Replies.{lookup_word, records_text, reply_text};
+ghost use Rattle.zone_program.specs.Steps.{additionals_beside, empty_zone, found_reply, transfer_query, AsksFor, IsAdded, IsDenialOf, IsDenied, IsDropped, IsLookedUp, IsTransferAnswer, IsTransferred, Adds, Carries};
 
 use crate::circle::circle;
 use crate::demo_signer::DemoSigner;
@@ -22,7 +29,9 @@ pub type Zone = InMemoryZoneHandler<DemoSigner, Sha1Hash>;
 
 /// A zone without records and signers, which denies what it doesn't hold in this way once it is secured. The program is its
 /// source, and transfers it to anybody.
-pub fn empty_zone(origin: Name, nx_proof_kind: Option<NxProofKind>) -> Zone {
+pub fn empty_zone(origin: Name, nx_proof_kind: Option<NxProofKind>) -> Zone
+    ensures { result ≡ empty_zone (lower origin) nx_proof_kind }
+{
     InMemoryZoneHandler::empty(
         origin,
         ZoneType::Primary,
@@ -44,10 +53,12 @@ pub fn carry_out(
     served: &mut Served,
     command: Command,
     answer: &mut String,
-) -> Result<(), AllocError> {
+) -> Result<(), AllocError>
+    ensures { OnOk result (Carries served.old command (string_bytes answer.old) (string_bytes answer.new) served.new) }
+{
     match command {
-        Command::Add(record) => add(&mut served.zone, record, answer),
-        Command::Drop(key) => drop_set(&mut served.zone, &key, answer),
+        Command::Add(record) => add(served, record, answer),
+        Command::Drop(key) => drop_set(served, &key, answer),
         Command::Renew(nx_proof_kind) => renew(served, nx_proof_kind, answer),
         Command::Key(number) => add_key(served, number, answer),
         Command::Secure(now) => secure(served, now, answer),
@@ -56,30 +67,32 @@ pub fn carry_out(
             record_type,
             options,
         } => lookup(served, &name, record_type, options, answer),
-        Command::Deny(key) => deny(&served.zone, &key, answer),
-        Command::Circle => circle(&served.zone, answer),
+        Command::Deny(key) => deny(served, &key, answer),
+        Command::Circle => circle(served, answer),
         Command::Transfer(options) => transfer(served, options, answer),
     }
 }
 
 /// Upserts a record with the zone's serial.
-fn add(zone: &mut Zone, record: Record, answer: &mut String) -> Result<(), AllocError> {
-    let serial = zone.serial();
-    let reply = match zone.upsert(record, serial) {
-        Ok(true) => "yes\n",
-        Ok(false) => "no\n",
-        Err(_) => "error Memory\n",
-    };
-    answer.push_str(reply)
+fn add(served: &mut Served, record: Record, answer: &mut String) -> Result<(), AllocError>
+    ensures { OnOk result (Adds (λ reply. IsAdded served.old «record» reply served.new) (string_bytes answer.old) (string_bytes answer.new)) }
+{
+    let serial = served.zone.serial();
+    match served.zone.upsert(record, serial) {
+        Ok(true) => answer.push_str("yes\n"),
+        Ok(false) => answer.push_str("no\n"),
+        Err(_) => answer.push_str("error Memory\n"),
+    }
 }
 
 /// Takes a record set out, and tells whether it was there.
-fn drop_set(zone: &mut Zone, key: &RrKey, answer: &mut String) -> Result<(), AllocError> {
-    let reply = match zone.remove_set(key) {
-        Some(_) => "yes\n",
-        None => "no\n",
-    };
-    answer.push_str(reply)
+fn drop_set(served: &mut Served, key: &RrKey, answer: &mut String) -> Result<(), AllocError>
+    ensures { OnOk result (Adds (λ reply. IsDropped served.old key.now reply served.new) (string_bytes answer.old) (string_bytes answer.new)) }
+{
+    match served.zone.remove_set(key) {
+        Some(_) => answer.push_str("yes\n"),
+        None => answer.push_str("no\n"),
+    }
 }
 
 /// Answers a query at the moment of the last `secure`.
@@ -89,14 +102,15 @@ fn lookup(
     record_type: RecordType,
     options: LookupOptions,
     answer: &mut String,
-) -> Result<(), AllocError> {
-    match served
+) -> Result<(), AllocError>
+    ensures { OnOk result (Adds (IsLookedUp served.now name.now record_type.0 options) (string_bytes answer.old) (string_bytes answer.new)) }
+{
+    let step = served
         .zone
-        .lookup(name, record_type, None, options, served.moment)
-    {
-        LookupControlFlow::Continue(Ok(found)) | LookupControlFlow::Break(Ok(found)) => write_found(
-            &found, answer,
-        ),
+        .lookup(name, record_type, None, options, served.moment);
+    match step {
+        LookupControlFlow::Continue(Ok(found)) => write_found(&found, answer),
+        LookupControlFlow::Break(Ok(found)) => write_found(&found, answer),
         LookupControlFlow::Continue(Err(error)) => writeln!(answer, "error {}", ErrorWord(&error)),
         LookupControlFlow::Break(Err(error)) => writeln!(
             answer,
@@ -108,13 +122,17 @@ fn lookup(
 }
 
 /// Writes the records that answer a question, and those that may help beside them, each after their count.
-fn write_found(found: &AuthLookup, answer: &mut String) -> Result<(), AllocError> {
+fn write_found(found: &AuthLookup, answer: &mut String) -> Result<(), AllocError>
+    ensures { OnOk result (string_bytes answer.new ≡ string_bytes answer.old ++ reply_text (found_reply found.now)) }
+{
     write_records("answer", found, answer)?;
     write_additionals(found, answer)
 }
 
 /// Writes the records of an answer after a word and their count.
-fn write_records(word: &str, found: &AuthLookup, answer: &mut String) -> Result<(), AllocError> {
+fn write_records(word: &str, found: &AuthLookup, answer: &mut String) -> Result<(), AllocError>
+    ensures { OnOk result (string_bytes answer.new ≡ string_bytes answer.old ++ records_text word.now (records_of found.now)) }
+{
     let mut count = 0u64;
     for _ in found.iter() {
         count = count.saturating_add(1);
@@ -126,7 +144,10 @@ fn write_records(word: &str, found: &AuthLookup, answer: &mut String) -> Result<
     Ok(())
 }
 
-fn write_additionals(found: &AuthLookup, answer: &mut String) -> Result<(), AllocError> {
+/// Writes the records that may help beside an answer after their count.
+fn write_additionals(found: &AuthLookup, answer: &mut String) -> Result<(), AllocError>
+    ensures { OnOk result (string_bytes answer.new ≡ string_bytes answer.old ++ records_text (codes "additional") (additionals_beside found.now)) }
+{
     let mut count = 0u64;
     for _ in additionals_of(found) {
         count = count.saturating_add(1);
@@ -139,25 +160,42 @@ fn write_additionals(found: &AuthLookup, answer: &mut String) -> Result<(), Allo
 }
 
 /// Lends the records that may help beside an answer, none where it has no such section.
-fn additionals_of(found: &AuthLookup) -> LookupRecordsIter<'_> {
-    found.additionals().unwrap_or(LookupRecordsIter::Empty)
+fn additionals_of(found: &AuthLookup) -> LookupRecordsIter<'_>
+    ensures { left_in result ≡ additionals_beside found.now }
+{
+    match found.additionals() {
+        Some(additionals) => additionals,
+        None => LookupRecordsIter::Empty,
+    }
 }
 
 /// Lists the records that deny a name, or that it owns a type.
-fn deny(zone: &Zone, key: &RrKey, answer: &mut String) -> Result<(), AllocError> {
-    match denial(zone, key).map_result() {
-        Some(Ok(proof)) => write_records("proof", &proof, answer),
-        Some(Err(error)) => writeln!(answer, "error {}", ErrorWord(&error)),
+fn deny(served: &Served, key: &RrKey, answer: &mut String) -> Result<(), AllocError>
+    ensures { OnOk result (Adds (IsDenied served.now key.now) (string_bytes answer.old) (string_bytes answer.new)) }
+{
+    match denial(served, key) {
+        Ok(proof) => write_records("proof", &proof, answer),
+        Err(error) => writeln!(answer, "error {}", ErrorWord(&error)),
+    }
+}
+
+/// The records that deny a name, or a type of it.
+fn denial(served: &Served, key: &RrKey) -> Result<AuthLookup, LookupError>
+    ensures { IsDenialOf served.now.zone key.now served.now.zone.kind (LookupControlFlow.Continue result) }
+{
+    match ask_denial(&served.zone, key).map_result() {
+        Some(answer) => answer,
         None => unreachable!(),
     }
 }
 
-/// The records that deny a name, or a type of it, whichever that is: NSEC3 records, with the zone's own parameters, where the
+/// What the zone answers to one who asks for these, whichever that is: NSEC3 records, with the zone's own parameters, where the
 /// zone is of that kind; else NSEC records.
-fn denial(zone: &Zone, key: &RrKey) -> LookupControlFlow<AuthLookup>
-    ensures { result ≢ LookupControlFlow.Skip }
+fn ask_denial(zone: &Zone, key: &RrKey) -> LookupControlFlow<AuthLookup>
+    ensures answer { IsDenialOf zone.now key.now zone.now.kind result }
+    ensures there { result ≢ LookupControlFlow.Skip }
 {
-    let options = LookupOptions::default();
+    let options = LookupOptions { dnssec_ok: false };
     match zone.nx_proof_kind() {
         Some(
             NxProofKind::Nsec3 {
@@ -167,33 +205,46 @@ fn denial(zone: &Zone, key: &RrKey) -> LookupControlFlow<AuthLookup>
                 ..
             },
         ) => {
-            let info = Nsec3QueryInfo {
-                qname: &key.name,
-                qtype: key.record_type,
-                has_wildcard_match: false,
-                algorithm: *algorithm,
-                salt: salt.as_slice(),
-                iterations: *iterations,
-            };
-            zone.nsec3_records(info, options)
+            let query = denial_query(key, *algorithm, salt.as_slice(), *iterations);
+            zone.nsec3_records(query, options)
         }
         _ => zone.nsec_records(&key.name, options),
     }
 }
 
+/// The query for the NSEC3 records that deny a name, or a type of it, with a zone's parameters.
+fn denial_query<'q>(
+    key: &'q RrKey,
+    algorithm: u8,
+    salt: &'q [u8],
+    iterations: u16,
+) -> Nsec3QueryInfo<'q>
+    ensures { AsksFor key.now algorithm salt.now iterations result }
+{
+    Nsec3QueryInfo {
+        qname: &key.name,
+        qtype: key.record_type,
+        has_wildcard_match: false,
+        algorithm,
+        salt,
+        iterations,
+    }
+}
+
 /// Lists the zone as one query for a transfer of it is answered.
-fn transfer(
-    served: &Served,
-    options: LookupOptions,
-    answer: &mut String,
-) -> Result<(), AllocError> {
+fn transfer(served: &Served, options: LookupOptions, answer: &mut String) -> Result<(), AllocError>
+    ensures { OnOk result (Adds (IsTransferred served.now options) (string_bytes answer.old) (string_bytes answer.new)) }
+{
     match ask_transfer(served, options) {
         Ok(transfer) => write_transfer(&transfer, answer),
         Err(error) => writeln!(answer, "error {}", ErrorWord(&error)),
     }
 }
 
-fn ask_transfer(served: &Served, options: LookupOptions) -> Result<ZoneTransfer, LookupError> {
+/// What the zone answers to a query for its transfer.
+fn ask_transfer(served: &Served, options: LookupOptions) -> Result<ZoneTransfer, LookupError>
+    ensures { IsTransferAnswer served.now options result }
+{
     let request = transfer_request(served.zone.origin())?;
     match served.zone.zone_transfer(&request, options, served.moment) {
         Some((reply, _)) => reply,
@@ -202,7 +253,10 @@ fn ask_transfer(served: &Served, options: LookupOptions) -> Result<ZoneTransfer,
 }
 
 /// A request of one query, for the transfer of the zone of this name (AXFR, RFC 5936 section 2.1).
-fn transfer_request(zone: &LowerName) -> Result<Request, ProtoError> {
+fn transfer_request(zone: &LowerName) -> Result<Request, ProtoError>
+    ensures ok { IfOk result (λ request. request.queries.items ≡ transfer_query zone.now ∷ []) }
+    ensures err { IsOkUnless result ProtoError.Memory }
+{
     let query = Query {
         name: zone.clone()?,
         query_type: RecordType::AXFR,
@@ -214,7 +268,9 @@ fn transfer_request(zone: &LowerName) -> Result<Request, ProtoError> {
 }
 
 /// Writes the records of a transfer after their count.
-fn write_transfer(transfer: &ZoneTransfer, answer: &mut String) -> Result<(), AllocError> {
+fn write_transfer(transfer: &ZoneTransfer, answer: &mut String) -> Result<(), AllocError>
+    ensures { OnOk result (string_bytes answer.new ≡ string_bytes answer.old ++ records_text (codes "transfer") (transfer_records transfer.now)) }
+{
     let mut count = 0u64;
     for _ in transfer {
         count = count.saturating_add(1);
@@ -231,6 +287,8 @@ fn write_transfer(transfer: &ZoneTransfer, answer: &mut String) -> Result<(), Al
 struct ErrorWord<'e>(&'e LookupError);
 
 impl fmt::Display for ErrorWord<'_> {
+    ghost output = { λ word. Some (lookup_word word.0.now) };
+
     fn fmt<W: fmt::Write>(&self, f: &mut fmt::Formatter<W>) -> fmt::Result {
         match self.0 {
             LookupError::BadQueryCount(_) => write!(f, "BadQueryCount"),

@@ -1,4 +1,10 @@
 // The commands that sign the zone.
+ghost use Rattle.std.specs.Prelude.{◌≡◌, IfOk, OnOk, IsOkUnless};
+ghost use Rattle.std.specs.String.{string_bytes};
+ghost use Rattle.zone_proto.specs.Names.{lower};
+ghost use Rattle.zone_program.specs.Replies.{secure_word};
+ghost use Rattle.zone_program.specs.Steps.{signer_of, IsKeyed, IsRenewed, IsSecuredAt, Adds};
+
 use crate::answers::{Served, empty_zone};
 use crate::demo_signer::DemoSigner;
 use std::alloc::AllocError;
@@ -10,37 +16,52 @@ pub fn renew(
     served: &mut Served,
     nx_proof_kind: Option<NxProofKind>,
     answer: &mut String,
-) -> Result<(), AllocError> {
-    let reply = match origin_of(served) {
+) -> Result<(), AllocError>
+    ensures { OnOk result (Adds (λ reply. IsRenewed served.old nx_proof_kind reply served.new) (string_bytes answer.old) (string_bytes answer.new)) }
+{
+    match origin_of(served) {
         Ok(origin) => {
             served.zone = empty_zone(origin, nx_proof_kind);
-            "ok\n"
+            answer.push_str("ok\n")
         }
-        Err(_) => "error Memory\n",
-    };
-    answer.push_str(reply)
+        Err(_) => answer.push_str("error Memory\n"),
+    }
 }
 
-fn origin_of(served: &Served) -> Result<Name, ProtoError> {
+/// A copy of the zone's origin.
+fn origin_of(served: &Served) -> Result<Name, ProtoError>
+    ensures ok { IfOk result (λ origin. (origin ≡ served.now.zone.origin) × (lower origin ≡ origin)) }
+    ensures err { IsOkUnless result ProtoError.Memory }
+{
     Ok(Name::from(served.zone.origin().clone()?))
 }
 
 /// Adds the demonstration signer of a number.
-pub fn add_key(served: &mut Served, number: u16, answer: &mut String) -> Result<(), AllocError> {
-    let added = match DemoSigner::new(number, served.zone.origin()) {
-        Ok(signer) => served.zone.add_zone_signing_key_mut(signer),
-        Err(_) => Err(KeyError::Memory),
+pub fn add_key(served: &mut Served, number: u16, answer: &mut String) -> Result<(), AllocError>
+    ensures { OnOk result (Adds (λ reply. IsKeyed served.old number reply served.new) (string_bytes answer.old) (string_bytes answer.new)) }
+{
+    let Ok(signer) = signer_for(served, number) else {
+        return answer.push_str("refused Memory\n");
     };
-    let reply = match added {
-        Ok(()) => "ok\n",
-        Err(KeyError::NoKey) => "refused NoKey\n",
-        Err(KeyError::Memory) => "refused Memory\n",
-    };
-    answer.push_str(reply)
+    match served.zone.add_zone_signing_key_mut(signer) {
+        Ok(()) => answer.push_str("ok\n"),
+        Err(KeyError::NoKey) => answer.push_str("refused NoKey\n"),
+        Err(KeyError::Memory) => answer.push_str("refused Memory\n"),
+    }
+}
+
+/// The demonstration signer of a number for the zone.
+fn signer_for(served: &Served, number: u16) -> Result<DemoSigner, ProtoError>
+    ensures made { IfOk result (λ signer. signer ≡ signer_of served.now.zone number) }
+    ensures err { IsOkUnless result ProtoError.Memory }
+{
+    DemoSigner::new(number, served.zone.origin())
 }
 
 /// Secures the zone, and tells the serial that it has then.
-pub fn secure(served: &mut Served, now: u64, answer: &mut String) -> Result<(), AllocError> {
+pub fn secure(served: &mut Served, now: u64, answer: &mut String) -> Result<(), AllocError>
+    ensures { OnOk result (Adds (λ reply. IsSecuredAt served.old now reply served.new) (string_bytes answer.old) (string_bytes answer.new)) }
+{
     match served.zone.secure_zone_mut(now) {
         Ok(()) => {
             served.moment = now;
@@ -51,7 +72,9 @@ pub fn secure(served: &mut Served, now: u64, answer: &mut String) -> Result<(), 
 }
 
 /// The word for a refusal: the name of its case.
-fn word_of(error: SecureError) -> &'static str {
+fn word_of(error: SecureError) -> &'static str
+    ensures { result.now ≡ secure_word error }
+{
     match error {
         SecureError::TimeOutOfRange => "TimeOutOfRange",
         SecureError::CnameAtOrigin => "CnameAtOrigin",

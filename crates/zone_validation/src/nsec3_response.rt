@@ -130,8 +130,7 @@ impl<'q, 'r, H: Nsec3Hash> Nsec3Response<'q, 'r, H> {
     ) -> bool
         ensures { result ≡ list_any (λ r. option_map_or (name_eq r.owner) (option_copied hashed.entry) false && denies_type r record_type.0) self.now.records }
     {
-        self.records()
-            .any(|nsec3| nsec3.has_owner(hashed) && nsec3.denies_type(record_type))
+        self.records().any(|nsec3| nsec3.has_owner(hashed) && nsec3.denies_type(record_type))
     }
 
     /// Whether a record matches it and shows a delegation without DS.
