@@ -66,24 +66,9 @@ fn nsec3_record(
 /// that name, and the apex.
 fn circle(alloc: Global) -> Result<Vec<Record>, ProtoError> {
     let mut records = Vec::with_capacity(alloc, 5)?;
-    records.push(nsec3_record(
-        alloc,
-        "*.w.example.",
-        "a.example.",
-        &[RecordType::MX],
-    )?)?;
-    records.push(nsec3_record(
-        alloc,
-        "a.example.",
-        "c.example.",
-        &[RecordType::A],
-    )?)?;
-    records.push(nsec3_record(
-        alloc,
-        "c.example.",
-        "w.example.",
-        &[RecordType::NS],
-    )?)?;
+    records.push(nsec3_record(alloc, "*.w.example.", "a.example.", &[RecordType::MX])?)?;
+    records.push(nsec3_record(alloc, "a.example.", "c.example.", &[RecordType::A])?)?;
+    records.push(nsec3_record(alloc, "c.example.", "w.example.", &[RecordType::NS])?)?;
     records.push(nsec3_record(alloc, "w.example.", "example.", &[])?)?;
     let types = [RecordType::NS, RecordType::SOA];
     records.push(nsec3_record(alloc, "example.", "*.w.example.", &types)?)?;

@@ -1,5 +1,5 @@
 -- The tests of names, as the program makes them
-use Rattle.std.proofs.Common.{◌≡◌, ℕ, Bool, true, false, List, [], ◌∷◌, MatchOption, Option, Some, None, is_some, sym, ap, ◌∙◌, Bor}
+use Rattle.std.proofs.Common.{◌≡◌, ℕ, Bool, true, List, [], ◌∷◌, MatchOption, Option, Some, None, is_some, sym, ap, ◌∙◌, Bor}
 use Rattle.std.specs.Cmp.{both_ways}
 use Rattle.std.specs.Ordering.{is_eq}
 use Rattle.std.specs.Prelude.{◌↔◌, IsTrue}

@@ -1,18 +1,16 @@
 -- What NSEC3 records prove, summed up
-use Rattle.std.proofs.Common.{◌≡◌, ℕ, ◌&&◌, not, cond, Bool, true, false, List, length, Option, Some, None, option_map, refl, sym, ap, ◌∙◌}
+use Rattle.std.proofs.Common.{◌≡◌, ℕ, ◌&&◌, not, cond, Bool, true, false, List, Option, Some, None, option_map, sym, ap, ◌∙◌}
 use Rattle.std.specs.Prelude.{if◌then◌else◌}
-use Rattle.std.specs.List.{list_any}
 use Rattle.std.specs.Option.{option_map_or}
 use Rattle.zone_proto.specs.declared.rdata.denial.NSEC3.{NSEC3 as Nsec3Data}
 use Rattle.zone_proto.specs.declared.record.Record.{Record}
 use Rattle.zone_proto.specs.Names.{Name, base_name}
 use Rattle.zone_proto.specs.Types.{NS, SOA, DS}
-use Rattle.zone_validation.specs.declared.proof.Proof.{Proof}
 use Rattle.zone_validation.specs.declared.proof.Proof.TheVariants.{NameError, UnsignedDelegation, NoData, WildcardNoData}
 use Rattle.zone_validation.specs.Encloser.{star_under}
 use Rattle.zone_validation.specs.Judgement.{nsec3_proof, wildcard_proof}
 use Rattle.zone_validation.specs.Nsec3Parameters.{common_parameters, digest_by, records_with, judged}
-use Rattle.zone_validation.specs.Nsec3Proofs.{lists, denies_type, matches, is_matched, is_covered, shown_encloser, proved_encloser, answering_labels, proves_name_error, proves_no_data, proves_opted_out, proves_wildcard_no_data, shows_unsigned_delegation}
+use Rattle.zone_validation.specs.Nsec3Proofs.{lists, denies_type, matches, is_matched, is_covered, shown_encloser, proved_encloser, answering_labels, proves_no_data, proves_opted_out, shows_unsigned_delegation}
 use Rattle.zone_validation.specs.Nsec3Records.{Nsec3Record}
 use Rattle.zone_validation.specs.Nsec3Responses.{Nsec3Response, hash_of, nsec3_response}
 use Rattle.zone_validation.proofs.EncloserProofs.{star_rest, unmatched_by, with_rest, hidden_none}

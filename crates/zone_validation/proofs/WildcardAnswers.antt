@@ -1,6 +1,6 @@
 -- Answers that were made from a wildcard, by NSEC3 records: the encloser by its labels, and the walk to the covered name that is
 -- nearest to the apex
-use Rattle.std.proofs.Common.{◌≡◌, ℕ, ◌==◌, ◌&&◌, ◌||◌, ◌<◌, ◌≤◌, ◌-◌, suc, Bool, true, false, cond, List, [], ◌∷◌, ◌++◌, length, drop, Option, Some, None, find, reverse, option_map, refl, sym, ap, ◌∙◌, true≢false, eqb-true, eq-eqb, ne_eqb, arith}
+use Rattle.std.proofs.Common.{◌≡◌, ℕ, ◌==◌, ◌&&◌, ◌||◌, ◌<◌, ◌≤◌, ◌-◌, suc, Bool, true, false, cond, List, [], ◌∷◌, length, drop, Option, Some, None, find, reverse, option_map, refl, sym, ap, ◌∙◌, true≢false, eqb-true, eq-eqb, ne_eqb, arith}
 use Rattle.std.specs.Prelude.{filter}
 use Rattle.std.specs.Option.{option_map_or, option_or}
 use Rattle.std.proofs.lemmas.Grind.{reverse_onto}

@@ -1,5 +1,5 @@
 -- What records prove of a name and a type, summed up
-use Rattle.std.specs.Prelude.{ℕ, Bool, List, Option, Some, None, find, length, option_map, option_and_then, if◌then◌else◌}
+use Rattle.std.specs.Prelude.{ℕ, Bool, List, Option, Some, length, option_map, if◌then◌else◌}
 use Rattle.zone_proto.specs.Names.{Name}
 use Rattle.zone_validation.specs.declared.proof.Proof.{Proof}
 use Rattle.zone_validation.specs.declared.proof.Proof.TheVariants.{NameError, UnsignedDelegation, EmptyNonTerminal, NoData, WildcardNoData, WildcardAnswer}

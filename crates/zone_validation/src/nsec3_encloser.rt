@@ -123,7 +123,7 @@ impl<'q, 'r, H: Nsec3Hash> Nsec3Response<'q, 'r, H> {
         ensures labels { IfOk result (λ walk. MatchOption walk.shown
             (walk.labels ≡ answering_labels self.now.apex (hash_of H.digest_of self.now) self.now.records self.now.name)
             (λ e. option_or (answering_labels self.now.apex (hash_of H.digest_of self.now) self.now.records (base_name (base_name e.next_closer))) walk.labels
-                ≡ answering_labels self.now.apex (hash_of H.digest_of self.now) self.now.records self.now.name)) }
+            ≡ answering_labels self.now.apex (hash_of H.digest_of self.now) self.now.records self.now.name)) }
         ensures err { IsOkUnless result ProtoError.Memory }
     {
         let mut next_closer = self.name().clone()?;

@@ -1,5 +1,5 @@
-use Rattle.std.proofs.Common.{◌≡◌, sym, ◌∙◌}
-use Rattle.zone_proto.specs.Names.{lower, is_above, is_at_or_above}
+use Rattle.std.proofs.Common.{sym, ◌∙◌}
+use Rattle.zone_proto.specs.Names.{lower, is_above}
 use Rattle.zone_validation.proofs.NameTests.{at_or_above_by, above_by_parent}
 use Rattle.zone_validation.proofs.asked_name.AskedName.is_above.Goals as goal
 

@@ -16,7 +16,7 @@ returns-then-is_matched-clause-shown g c =
     let n = c.loop-hashed.next_closer in
     let owner = c.as_ref-in-loop-hashed.ensures.value ∙ c.in_ok-owner.ensures.ok ∙ ap (owner_of apex hash) c.loop-hashed.invariant.above in
     let matched : is_matched apex hash rs (drop 1 n) ≡ true =
-        sym (c.is_matched.ensures ∙ matched_by apex hash rs (drop 1 n) _ owner) ∙ c.if-is_matched.true in
+    sym (c.is_matched.ensures ∙ matched_by apex hash rs (drop 1 n) _ owner) ∙ c.if-is_matched.true in
     sym (c.loop-hashed.invariant.shown ∙ walk_found apex hash rs n (sym c.is_below_apex.ensures ∙ c.loop-hashed-test.true) matched)
 
 pub returns-then-is_matched-clause-closer : goal.returns-then-is_matched-clause-closer
@@ -34,7 +34,7 @@ loop-hashed-preserved g c =
     let owner = c.as_ref-in-loop-hashed.ensures.value ∙ c.in_ok-owner.ensures.ok ∙ ap (owner_of apex hash) c.loop-hashed.invariant.above in
     let passed = passed_on apex n c.args.self.now.name c.loop-hashed.invariant.passed.0 below c.loop-hashed.invariant.passed.1 in
     let unmatched : is_matched apex hash rs (drop 1 n) ≡ false =
-        sym (c.is_matched.ensures ∙ matched_by apex hash rs (drop 1 n) _ owner) ∙ c.if-is_matched.false in
+    sym (c.is_matched.ensures ∙ matched_by apex hash rs (drop 1 n) _ owner) ∙ c.if-is_matched.false in
     let covered = c.in_ok-covered.ensures.ok ∙ covered_by apex hash rs n _ (c.as_ref.ensures.value ∙ c.loop-hashed.invariant.hashed) in
     let labels = labels_on apex hash rs n c.loop-hashed.above c.in_ok-covered.covered c.loop-hashed.labels below covered c.loop-hashed.invariant.above in
     record {

@@ -1,4 +1,4 @@
-use Rattle.std.proofs.Common.{◌≡◌, Bool, true, false, ◌||◌, Some, None, find, ap, sym, ◌∙◌}
+use Rattle.std.proofs.Common.{◌≡◌, Bool, true, false, ◌||◌, Some, ap, sym, ◌∙◌}
 use Rattle.zone_proto.specs.Names.{Name, lower, is_at_or_above}
 use Rattle.zone_validation.specs.NsecRecords.{NsecRecord}
 use Rattle.zone_validation.proofs.AncestorWalk.{found_here, found_above, found_nowhere, lower_parent}

@@ -1,6 +1,5 @@
-use Rattle.std.proofs.Common.{◌≡◌, ◌||◌, find}
-use Rattle.zone_proto.specs.Names.{lower, is_at_or_above}
-use Rattle.zone_validation.specs.Encloser.{proper_ancestors}
+use Rattle.std.proofs.Common.{◌≡◌}
+use Rattle.zone_proto.specs.Names.{lower}
 use Rattle.zone_validation.specs.NsecProofs.{shown_encloser}
 use Rattle.zone_validation.proofs.nsec_record.LentNsec.shown_encloser.Given as goal
 

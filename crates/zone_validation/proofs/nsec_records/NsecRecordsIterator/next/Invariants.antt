@@ -1,4 +1,4 @@
-use Rattle.std.proofs.Common.{length, ◌-◌, ◌≡◌, ◌≤◌, map, drop}
+use Rattle.std.proofs.Common.{length, ◌-◌, ◌≡◌, map, drop}
 use Rattle.zone_validation.specs.NsecRecords.{nsec_records}
 use Rattle.zone_validation.proofs.nsec_records.NsecRecordsIterator.next.Given as goal
 
