@@ -9,10 +9,10 @@
 //! iterations and salt, else they prove nothing (section 8.2). A further name of which `hash` has no digest is one that no
 //! record matches or covers.
 //!
-//! Digests and their texts take memory: each call is refused by `Memory`, and by nothing else. It hashes the name, and each
-//! other name only where it needs it, and once: the ancestors from the longest on up to the closest encloser, and the wildcard
-//! under that. What a digest costs grows with the iterations that the records name, up to 65535; a validator should look at
-//! these first (RFC 9276 section 3.2).
+//! Digests and their texts take memory: each call is refused by `Memory`, and by nothing else. It hashes the name, and others
+//! only where it needs them: the ancestors from the longest on up to the closest encloser, each once, and the wildcard under
+//! that. What a digest costs grows with the iterations that the records name, up to 65535; a validator should look at these
+//! first (RFC 9276 section 3.2).
 ghost use Rattle.std.specs.Prelude.{◌≡◌, None, false, map, IfOk, IsOkUnless};
 ghost use Rattle.std.specs.Option.{option_map_or};
 ghost use Rattle.zone_validation.specs.Encloser.{ancestor_of};
