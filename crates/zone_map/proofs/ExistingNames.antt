@@ -33,7 +33,7 @@ absent_where_unowned n (e ∷ m) h = by (is_at_or_above n e.0.name) h (absent_wh
     by false g ih = ih g
 
 -- a name that owns a type other than those of denial exists
-owner_exists : (m : Sets) (n : Name) (t : ℕ) → owns m n t ≡ true → not (is_denial_type t) ≡ true → exists m n ≡ true
+pub owner_exists : (m : Sets) (n : Name) (t : ℕ) → owns m n t ≡ true → not (is_denial_type t) ≡ true → exists m n ≡ true
 owner_exists m n t o k =
     let e = has_entry m n t o in
     any_from_In (λ (k : RrKey). is_at_or_above n k.name && not (is_denial_type k.record_type.0)) (key n t) (keys_of m) (In-map (λ (d : RrKey × RRset). d.0) (key n t, e.0) m e.1)

@@ -25,6 +25,15 @@ pub(crate) struct AtName<'m> {
     pub(crate) first: Option<&'m RrKey>,
 }
 
+/// Whether a name is there.
+#[derive(Clone, Copy, Drop)]
+pub(crate) struct Presence {
+    /// Whether it, or a name below it, owns a set.
+    pub(crate) is_there: bool,
+    /// Whether one of them owns a set of a type other than those of denial, so that the name exists (RFC 4592 section 2.2.2).
+    pub(crate) exists: bool,
+}
+
 /// What stands at the name of its least key, that of type 0, for a query of `record_type`.
 pub(crate) fn at_name<'m>(
     records: &'m RecordMap,
@@ -91,36 +100,29 @@ impl<'m> AtName<'m> {
         }
     }
 
-    /// Whether the name of its least key, at which this stands, or a name below it, owns a set: the first key from there on
-    /// tells, since the names below a name stand together after it.
-    pub(crate) fn is_there(self, records: &RecordMap, least: &RrKey) -> bool
-        requires { option_copied self.first ≡ first_key_from records.now least.now.name }
-        ensures { result ≡ owns_at_or_below records.now least.now.name }
-    {
-        // Its clause says that the keys ascend.
-        let _ = records.as_map();
-        match self.first {
-            Some(first) => least.name.zone_of(&first.name),
-            None => false,
-        }
-    }
-
-    /// Whether the name of its least key, that of type 0, at which this stands, or a name below it, owns a set of a type other
-    /// than those of denial, so that it exists (RFC 4592 section 2.2.2). Only where the first key from there on is of a type of
-    /// denial is a further one read.
-    pub(crate) fn exists(self, records: &RecordMap, least: &RrKey) -> bool
+    /// Whether the name of its least key, that of type 0, at which this stands, is there. The first key from there on tells, since
+    /// the names below a name stand together after it; only where that key is of a type of denial is a further one read.
+    pub(crate) fn presence(self, records: &RecordMap, least: &RrKey) -> Presence
         requires type_zero { least.now.record_type.0 ≡ 0 }
         requires first { option_copied self.first ≡ first_key_from records.now least.now.name }
-        ensures { result ≡ exists records.now least.now.name }
+        ensures there { result.is_there ≡ owns_at_or_below records.now least.now.name }
+        ensures exists { result.exists ≡ exists records.now least.now.name }
     {
         // Its clause says that the keys ascend.
         let _ = records.as_map();
-        match self.first {
-            Some(first) => {
-                least.name.zone_of(&first.name)
-                    && (!is_denial_type(first.record_type) || records.exists(least))
-            }
-            None => false,
+        let absent = Presence {
+            is_there: false,
+            exists: false,
+        };
+        let Some(first) = self.first else {
+            return absent;
+        };
+        if !least.name.zone_of(&first.name) {
+            return absent;
+        }
+        Presence {
+            is_there: true,
+            exists: !is_denial_type(first.record_type) || records.exists(least),
         }
     }
 }

@@ -7,7 +7,7 @@ ghost use Rattle.zone_map.specs.Search.{is_address, direct};
 ghost use Rattle.zone_map.specs.Walks.{referral_above, own_referral, first_key_from};
 ghost use Rattle.zone_map.specs.Wildcards.{exists, is_starred, asked_star};
 
-use crate::at_name::{AtName, at_name};
+use crate::at_name::{AtName, Presence, at_name};
 use crate::record_map::RecordMap;
 use zone_proto::{LowerName, RecordSet, RecordType, RrKey};
 
@@ -81,7 +81,7 @@ pub(crate) fn at_star<'m>(
     ensures exists { result.exists ≡ exists records.now least.now.name }
 {
     let here = at_name(records, least, record_type);
-    let exists = here.exists(records, least);
+    let exists = here.presence(records, least).exists;
     let set = match own_referral(here, &least.name, record_type) {
         Some(Some(cut)) => Some(cut),
         Some(None) => here.exact,
@@ -153,29 +153,31 @@ fn cut_above<'m>(
     ensures there { IfErr result (λ missing. missing.is_there ≡ owns_at_or_below records.now key.old.name) }
     ensures star { IfErr result (λ missing. option_map (λ k. wildcard_of (drop k key.old.name)) missing.star ≡ asked_star records.now key.old.name) }
 {
-    let is_there = here.is_there(records, key);
-    let is_asked = asks_star(records, key, here);
+    let Presence { is_there, exists } = here.presence(records, key);
+    let is_asked = asks_star(&key.name, exists);
+    let without_star = Missing {
+        is_there,
+        star: None,
+    };
     key.name.shorten();
     if !is_asked {
-        let star = None;
-        return referral_above(records, key).ok_or(Missing { is_there, star });
+        return referral_above(records, key).ok_or(without_star);
     }
     let Some(nearest) = nearest_existing(records, key) else {
-        let star = None;
-        return Err(Missing { is_there, star });
+        return Err(without_star);
     };
-    let star = Some(nearest.absent);
-    let missing = Missing { is_there, star };
-    referral_from(records, key, nearest.here).ok_or(missing)
+    let with_star = Missing {
+        is_there,
+        star: Some(nearest.absent),
+    };
+    referral_from(records, key, nearest.here).ok_or(with_star)
 }
 
-/// Whether a star is asked for the name of its least key, at which `here` stands, if an ancestor exists.
-fn asks_star(records: &RecordMap, least: &RrKey, here: AtName<'_>) -> bool
-    requires type_zero { least.now.record_type.0 ≡ 0 }
-    requires first { option_copied here.first ≡ first_key_from records.now least.now.name }
-    ensures { result ≡ not (is_root least.now.name || is_starred least.now.name || exists records.now least.now.name) }
+/// Whether a star is asked for a name, if an ancestor of it exists.
+fn asks_star(name: &LowerName, exists: bool) -> bool
+    ensures { result ≡ not (is_root name.now || is_starred name.now || exists) }
 {
-    !least.name.is_root() && !least.name.is_wildcard() && !here.exists(records, least)
+    !name.is_root() && !name.is_wildcard() && !exists
 }
 
 /// The nearest of the names from the key's own up that exists, to which the name is shortened.
@@ -194,7 +196,8 @@ fn nearest_existing<'m>(records: &'m RecordMap, key: &mut RrKey) -> Option<Neare
     loop {
         // An ancestor refers queries of all types alike, as it would one of NS.
         let here = at_name(records, key, RecordType::NS);
-        if here.exists(records, key) {
+        // A name that owns NS exists.
+        if here.ns.is_some() || here.presence(records, key).exists {
             return Some(Nearest { absent, here });
         }
         if key.name.is_root() {

@@ -30,7 +30,8 @@ pub returns-clause-star : goal.returns-clause-star
 returns-clause-star c =
     let m = c.args.records.now in
     let n = c.args.key.now.name in
-    let asked : not (is_root n || is_starred n || exists m n) ≡ true = sym c.asks_star-is_asked.ensures ∙ c.if-not-is_asked.false in
+    let asked : not (is_root n || is_starred n || exists m n) ≡ true =
+    ap (λ b. not (is_root n || is_starred n || b)) (sym c.presence-is_there.ensures.exists) ∙ sym c.asks_star-is_asked.ensures ∙ c.if-not-is_asked.false in
     let nearest = ap (λ a. find (exists m) (suffixes a)) (sym c.shorten.ensures) ∙ sym c.in-Some.ensures.name in
     fault_or c.referral_from.result _ c.ok_or-2.result (λ (missing : Missing). option_map (λ k. wildcard_of (drop k n)) missing.star ≡ asked_star m n) c.ok_or-2.ensures.value
     (star_of_nearest m n c.nearest_existing.new.key.name c.in-Some.nearest.absent asked nearest
