@@ -9,7 +9,7 @@ ghost use Rattle.zone_proto.specs.Vectors.{octets_of};
 use crate::counted::Counted;
 use crate::labels_iter::Labels;
 use crate::letter_case::lower_all;
-use crate::name_order::{compare_labels, labels_are_above};
+use crate::name_order::{compare_labels, labels_are_above, labels_are_same};
 use crate::packed::Packed;
 use std::alloc::{AllocError, Global};
 use std::cmp::Ordering;
@@ -163,6 +163,16 @@ impl Form {
         match (self, other) {
             (Form::InOnePiece(own), Form::InOnePiece(theirs)) => own.compare_caseless(theirs),
             _ => compare_labels(self.labels(), other.labels()),
+        }
+    }
+
+    /// Whether the labels are identical, the case of letters included.
+    pub(crate) fn is_same(&self, other: &Form) -> bool
+        ensures { IsTrue result ↔ (labels_of self.now ≡ labels_of other.now) }
+    {
+        match (self, other) {
+            (Form::InOnePiece(own), Form::InOnePiece(theirs)) => own.is_same(theirs),
+            _ => labels_are_same(self.labels(), other.labels()),
         }
     }
 

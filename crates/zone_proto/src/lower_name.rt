@@ -140,6 +140,13 @@ impl LowerName {
         self.name.zone_of(&other.name)
     }
 
+    /// Whether a name is this one with its letters in lower case too, which `==` of names doesn't tell. Takes no memory.
+    pub fn is_exactly(&self, name: &Name) -> bool
+        ensures { IsTrue result ↔ (name.now ≡ self.now) }
+    {
+        name.form().is_same(self.form())
+    }
+
     /// The name with one more label, put into lower case, before its first. Refused as `Name::prepend_label` is.
     pub fn prepend_label(&self, label: &[u8]) -> Result<LowerName, ProtoError>
         ensures ok { IfOk result (λ n. n ≡ lower_label label.now ∷ self.now) }

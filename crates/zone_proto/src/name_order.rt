@@ -115,6 +115,22 @@ pub(crate) fn labels_are_above(a: Labels<'_>, b: Labels<'_>) -> bool
     compare_alike(a, skip(b, j - i)).is_eq()
 }
 
+/// Whether the labels are identical, the case of letters included.
+pub(crate) fn labels_are_same(a: Labels<'_>, b: Labels<'_>) -> bool
+    ensures { IsTrue result ↔ (a.entry ≡ b.entry) }
+{
+    let mut others = b;
+    for label in a {
+        let Some(other) = others.next() else {
+            return false;
+        };
+        if label != other {
+            return false;
+        }
+    }
+    others.next().is_none()
+}
+
 /// The labels after the first ones.
 fn skip<'n>(labels: Labels<'n>, count: usize) -> Labels<'n>
     ensures { result ≡ drop count labels.entry }

@@ -135,6 +135,13 @@ impl Packed {
         compare_label(&self.octets, &other.octets)
     }
 
+    /// Whether the names are identical, the case of letters included.
+    pub(crate) fn is_same(&self, other: &Packed) -> bool
+        ensures { IsTrue result ↔ (self.now ≡ other.now) }
+    {
+        *self.octets == *other.octets
+    }
+
     /// Whether the other name is this one or below it, the case of letters ignored.
     pub(crate) fn zone_of(&self, other: &Packed) -> bool
         ensures { IsTrue result ↔ IsAtOrAbove (lower self.now) (lower other.now) }

@@ -320,6 +320,13 @@ impl RecordSet {
         }
     }
 
+    /// Puts another serial in the place of the set's; its records and signatures stay. Takes no memory.
+    pub fn set_serial(&mut self, other: u32)
+        ensures { self.new ≡ record self.old { serial = other } }
+    {
+        self.serial = other;
+    }
+
     /// Drops the signatures. Takes no memory.
     pub fn clear_rrsigs(&mut self)
         ensures { self.new ≡ record self.old { signatures = [] } }
