@@ -16,4 +16,4 @@ pub mod wildcard;
 
 pub use denial_owners::{DenialOwners, LastOwners};
 pub use reads::Reads;
-pub use record_map::RecordMap;
+pub use record_map::{RecordMap, Replaced};

@@ -12,10 +12,12 @@ ghost use Rattle.zone_map.specs.Upserts.{upserted, with_record, clash, clashes, 
 
 mod denials;
 mod entries;
+mod puts;
 mod renewal;
 
 use crate::denial_index::DenialIndex;
 use crate::reads::Reads;
+pub use puts::Replaced;
 use std::alloc::Global;
 use std::collections::BTreeMap;
 use std::marker::Model;

@@ -1,5 +1,6 @@
 -- The record sets of a zone once it is secured
-use Rattle.std.specs.Prelude.{◌≡◌, ℕ, Bool, true, false, not, if◌then◌else◌, List, [], Option, None, Some, option_map, ◌==◌}
+use Rattle.std.specs.Prelude.{◌≡◌, ℕ, Bool, true, false, not, ◌&&◌, if◌then◌else◌, List, [], ◌∷◌, filter, Option, None, Some, option_map, ◌==◌}
+use Rattle.std.specs.Map.{keys_of}
 use Rattle.std.specs.Option.{option_or}
 use Rattle.zone_proto.specs.declared.rdata.signing.RRSIG.{RRSIG}
 use Rattle.zone_proto.specs.declared.rr_key.RrKey.{RrKey}
@@ -9,7 +10,7 @@ use Rattle.zone_proto.specs.Sets.{RRset}
 use Rattle.zone_proto.specs.Signing.{SignedPart}
 use Rattle.zone_proto.specs.Stepping.{stepped}
 use Rattle.zone_proto.specs.Types.{SOA}
-use Rattle.zone_map.specs.Zones.{Sets, set_at}
+use Rattle.zone_map.specs.Zones.{Sets, set_at, owns, without}
 use Rattle.zone_signing.specs.Signatures.{signatures}
 
 -- record sets by name and type, where they are said and not stored
@@ -20,6 +21,19 @@ SetsBy = Name → ℕ → Option RRset
 abbrev pub stays : Option ℕ → ℕ → Bool
 stays None t = true
 stays (Some denials) t = not (t == denials)
+
+-- whether the set under a key goes: it is of that type, and no new denial comes in its place
+abbrev pub goes : Option ℕ → Sets → RrKey → Bool
+goes denials new_denials k = not (stays denials k.record_type.0) && not (owns new_denials k.name k.record_type.0)
+
+-- the keys of the sets that go
+abbrev pub gone : Option ℕ → Sets → Sets → List RrKey
+gone denials new_denials zone = filter (goes denials new_denials) (keys_of zone)
+
+-- sets without those under these keys
+abbrev pub without_all : Sets → List RrKey → Sets
+without_all m [] = m
+without_all m (k ∷ ks) = without_all (without m k.name k.record_type.0) ks
 
 -- a set without its signatures
 abbrev pub bare : RRset → RRset

@@ -1,12 +1,14 @@
 //! The record sets of a zone as they are once it is secured.
-ghost use Rattle.std.specs.Prelude.{◌≡◌, ℕ, List, [], ◌++◌, IfOk, OnOk, OnErr, IsOkUnless, option_map, map};
+ghost use Rattle.std.specs.Prelude.{◌≡◌, ◌≤◌, ℕ, List, [], ◌++◌, true, IfOk, OnOk, OnErr, IsOkUnless, option_map, map};
+ghost use Rattle.std.specs.List.{list_any};
+ghost use Rattle.std.specs.Map.{keys_of};
 ghost use Rattle.zone_proto.specs.declared.record.Record.{Record as Signature};
-ghost use Rattle.zone_proto.specs.Keys.{key as key_at};
+ghost use Rattle.zone_proto.specs.Keys.{key as key_at, key_eq};
 ghost use Rattle.zone_proto.specs.Names.{Name};
 ghost use Rattle.zone_proto.specs.Types.{SOA};
 ghost use Rattle.zone_map.specs.Renewals.{IsHanded, AreHanded};
 ghost use Rattle.zone_map.specs.Zones.{set_at, IsStoredAt, IsZone};
-ghost use Rattle.zone_signing.specs.Secured.{bare, stays, unsigned_at, secured_set, IsSecured};
+ghost use Rattle.zone_signing.specs.Secured.{stays, goes, gone, without_all, unsigned_at, secured_set, IsSecured};
 
 use crate::signatures::add_signatures;
 use std::alloc::Global;
@@ -40,10 +42,19 @@ pub fn secure<S: Signer>(
     if denials.is_none() && new_denials.is_empty() {
         return sign_all(zone, apex, signers, now);
     }
-    let mut unsigned = with_denials(apex.name.alloc(), zone, denials, new_denials)?;
-    sign_all(&mut unsigned, apex, signers, now)?;
-    *zone = unsigned;
-    Ok(())
+    let alloc = apex.name.alloc();
+    let gone = gone_keys(alloc, zone, denials, &new_denials)?;
+    let replaced = zone.put_all(alloc, new_denials)?;
+    match sign_all(zone, apex, signers, now) {
+        Ok(()) => {
+            remove_all(zone, gone);
+            Ok(())
+        }
+        Err(error) => {
+            zone.put_back(replaced);
+            Err(error)
+        }
+    }
 }
 
 /// Steps the serial of the zone whose SOA stands under `apex`, and signs all sets. All signatures are made before the first
@@ -131,27 +142,83 @@ fn sign_next<S: Signer>(
     add_signatures(made, set, signers, now)
 }
 
-/// Copies of the sets of the zone, those of the type `denials` excepted, and the new denials; all without signatures.
-fn with_denials(
+/// The keys of the sets that go: of the type `denials`, where no new set comes in their place.
+fn gone_keys(
     alloc: Global,
     zone: &RecordMap,
     denials: Option<RecordType>,
-    new_denials: RecordMap,
-) -> Result<RecordMap, ProtoError>
-    ensures ok { IfOk result (λ map. (n : Name) (t : ℕ) → set_at map n t ≡ option_map bare (unsigned_at (option_map (λ d. d.0) denials) zone.now new_denials n t)) }
+    new_denials: &RecordMap,
+) -> Result<Vec<RrKey>, ProtoError>
+    ensures ok { IfOk result (λ keys. keys.items ≡ gone (option_map (λ d. d.0) denials) new_denials.now zone.now) }
     ensures err { IsOkUnless result ProtoError.Memory }
 {
-    let mut entries = Vec::with_capacity(alloc, zone.len())?;
-    for (key, set) in zone.iter() {
-        if stays(denials, key.record_type) {
-            entries.push((key.clone()?, set.clone_without_rrsigs()?))?;
+    let new_keys = keys_of(alloc, new_denials)?;
+    let mut keys = Vec::new(alloc);
+    let mut passed = 0;
+    for (key, _) in zone.iter() {
+        if goes(denials, new_denials, new_keys.as_slice(), &mut passed, key) {
+            keys.push(key.clone()?)?;
         }
     }
-    for (key, mut set) in new_denials.into_entries() {
-        set.clear_rrsigs();
-        entries.push((key, set))?;
+    Ok(keys)
+}
+
+/// The keys of a map in their order.
+fn keys_of(alloc: Global, sets: &RecordMap) -> Result<Vec<&RrKey>, ProtoError>
+    ensures ok { IfOk result (λ keys. map (λ k. k.now) keys.items ≡ keys_of sets.now) }
+    ensures err { IsOkUnless result ProtoError.Memory }
+{
+    let mut keys = Vec::with_capacity(alloc, sets.len())?;
+    for (key, _) in sets.iter() {
+        keys.push(key)?;
     }
-    RecordMap::from_entries(alloc, entries)
+    Ok(keys)
+}
+
+/// Whether the set under a key goes. Where one is asked after the other in order, the new keys that stand before have been
+/// passed, and a new set under the key is mostly the next one: then none is looked up.
+fn goes(
+    denials: Option<RecordType>,
+    new_denials: &RecordMap,
+    new_keys: &[&RrKey],
+    passed: &mut usize,
+    key: &RrKey,
+) -> bool
+    requires { map (λ k. k.now) new_keys.now ≡ keys_of new_denials.now }
+    ensures { result ≡ goes (option_map (λ d. d.0) denials) new_denials.now key.now }
+{
+    if stays(denials, key.record_type) {
+        return false;
+    }
+    *passed = first_not_before(new_keys, *passed, key);
+    !stands_at(new_keys, *passed, key) && new_denials.get(key).is_none()
+}
+
+/// The place of the first of these keys, from `start` on, that doesn't stand before another key; else where they end.
+fn first_not_before(keys: &[&RrKey], start: usize, key: &RrKey) -> usize
+    ensures { start ≤ result }
+{
+    let mut place = start;
+    while place < keys.len() && *keys[place] < *key {
+        place += 1;
+    }
+    place
+}
+
+/// Whether a key is the one at this place among others.
+fn stands_at(keys: &[&RrKey], place: usize, key: &RrKey) -> bool
+    ensures { result ≡ true → list_any (key_eq key.now) (map (λ k. k.now) keys.now) ≡ true }
+{
+    place < keys.len() && key.same_as(keys[place])
+}
+
+/// Takes the sets under these keys out.
+fn remove_all(zone: &mut RecordMap, keys: Vec<RrKey>)
+    ensures { zone.new ≡ without_all zone.old keys.items }
+{
+    for key in keys {
+        let _ = zone.remove(&key);
+    }
 }
 
 /// Whether the sets of a type stay, where those of the old denials go.
