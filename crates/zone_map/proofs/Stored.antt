@@ -54,7 +54,7 @@ above_without b k (e ∷ m) a = by (key_eq k e.0) (above_without b k m a.1)
     by true i = a.1
     by false i = (a.0, i)
 
-sorted_without : (k : RrKey) (m : Sets) → IsStrictlySortedBy key_cmp (keys_of m) → IsStrictlySortedBy key_cmp (keys_of (remove_entry (key_eq k) m))
+pub sorted_without : (k : RrKey) (m : Sets) → IsStrictlySortedBy key_cmp (keys_of m) → IsStrictlySortedBy key_cmp (keys_of (remove_entry (key_eq k) m))
 unfolding IsStrictlySortedBy
 sorted_without k [] s = tt
 sorted_without k (e ∷ m) s = by (key_eq k e.0) (sorted_without k m s.1)
@@ -65,7 +65,7 @@ sorted_without k (e ∷ m) s = by (key_eq k e.0) (sorted_without k m s.1)
 
 -- ---- what a look-up finds where a set was put
 
-pub put_found : (m : Sets) (k : RrKey) (v : RRset) → lookup (key_eq k) (insert_entry key_cmp m k v) ≡ Some v
+put_found : (m : Sets) (k : RrKey) (v : RRset) → lookup (key_eq k) (insert_entry key_cmp m k v) ≡ Some v
 put_found [] k v = ap (λ b. cond b (Some v) None) (key_itself k)
 put_found (e ∷ m) k v = by (key_cmp k e.0) refl (put_found m k v)
   where

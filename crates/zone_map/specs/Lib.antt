@@ -10,4 +10,5 @@ pub mod SearchLaws
 pub mod Renewals
 pub mod Counts
 pub mod DenialOwners
+pub mod Ahead
 pub mod Puts

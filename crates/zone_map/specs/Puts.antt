@@ -1,35 +1,44 @@
 -- Sets that are put into a zone together, and what takes them out again
-use Rattle.std.specs.Prelude.{◌≡◌, List, [], ◌∷◌, Option, Some, None}
-use Rattle.std.specs.BTreeMap.{insert_entry}
-use Rattle.std.specs.Map.{remove_entry, set_value}
+use Rattle.std.specs.Prelude.{◌≡◌, List, [], ◌∷◌, Option}
+use Rattle.std.specs.List.Sorted.{IsStrictlySortedBy}
+use Rattle.std.specs.Map.{keys_of, lookup, set_value}
+use Rattle.std.specs.Option.{option_or, unwrap_or}
 use Rattle.zone_proto.specs.declared.rr_key.RrKey.{RrKey}
 use Rattle.zone_proto.specs.Keys.{key_cmp, key_eq}
 use Rattle.zone_proto.specs.Sets.{RRset}
 use Rattle.zone_map.specs.DenialOwners.{Owners, owners_of}
-use Rattle.zone_map.specs.Zones.{Sets, IsZone}
+use Rattle.zone_map.specs.Zones.{Sets, without, IsZone}
 
--- sets with others put under their keys, one after the other
-abbrev pub with_all : Sets → Sets → Sets
-with_all m [] = m
-with_all m (e ∷ es) = with_all (insert_entry key_cmp m e.0 e.1) es
+-- sets of which those under these keys are exchanged for others, one after the other
+abbrev pub with_exchanged : Sets → Sets → Sets
+with_exchanged m [] = m
+with_exchanged m (e ∷ es) = with_exchanged (set_value (key_eq e.0) m e.1) es
 
--- sets with what stood under a key before: that set, or none
-abbrev pub with_before_at : Sets → RrKey → Option RRset → Sets
-with_before_at m k None = remove_entry (key_eq k) m
-with_before_at m k (Some s) = set_value (key_eq k) m s
-
--- the same for keys under which sets were put one after the other: the last one is undone first
-abbrev pub with_before : Sets → List (RrKey × Option RRset) → Sets
+-- the same, the last one first
+abbrev pub with_before : Sets → Sets → Sets
 with_before m [] = m
-with_before m (e ∷ log) = with_before_at (with_before m log) e.0 e.1
+with_before m (e ∷ es) = set_value (key_eq e.0) (with_before m es) e.1
 
--- what stood under the keys, in the order in which sets were put under them; and the owners of the sets of denial
+-- sets without those under these keys
+abbrev pub without_all : Sets → List RrKey → Sets
+without_all m [] = m
+without_all m (k ∷ ks) = without_all (without m k.name k.record_type.0) ks
+
+-- sets that others were put into: under each key is the one that was put there, else the one that stood there
+pub record ArePut (had more after : Sets) : Type 0 where
+  pub was_ordered : IsStrictlySortedBy key_cmp (keys_of more)
+  pub ordered : IsStrictlySortedBy key_cmp (keys_of after)
+  pub found : (k : RrKey) → lookup (key_eq k) after ≡ option_or (lookup (key_eq k) more) (lookup (key_eq k) had)
+
+-- what stood there before sets were put in: those in whose place others came, each under its key; the keys under which none
+-- stood; and the owners of the sets of denial, if others came
 pub record Before : Type 0 where
-  pub log : List (RrKey × Option RRset)
-  pub owners : Owners
+  pub exchanged : Sets
+  pub added : List RrKey
+  pub owners : Option Owners
 
 -- with it, the sets that a zone has after others were put there are again those that it had
 pub record Restores (before : Before) (after had : Sets) : Type 0 where
   pub zone : IsZone had
-  pub sets : with_before after before.log ≡ had
-  pub index : before.owners ≡ owners_of had
+  pub sets : with_before (without_all after before.added) before.exchanged ≡ had
+  pub index : unwrap_or before.owners (owners_of after) ≡ owners_of had

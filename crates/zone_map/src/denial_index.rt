@@ -1,5 +1,5 @@
 //! The index of the owners of sets of denial.
-ghost use Rattle.std.specs.Prelude.{◌≡◌, [], cond, IfOk, OnOk, OnErr, IsOkUnless, None, Some, option_map};
+ghost use Rattle.std.specs.Prelude.{◌≡◌, [], true, cond, IfOk, OnOk, OnErr, IsOkUnless, None, Some, option_map};
 ghost use Rattle.std.specs.BTreeMap.{insert_entry};
 ghost use Rattle.std.specs.BTreeSet.{insert_key, IsFromIterResult};
 ghost use Rattle.std.specs.Map.{remove_entry};
@@ -88,6 +88,14 @@ impl DenialIndex {
     {
         self.nsec.clear();
         self.nsec3.clear();
+    }
+
+    /// Whether there are none. Takes no memory.
+    pub(crate) fn is_empty(&self) -> bool
+        ensures nsec { result ≡ true → self.now.nsec ≡ [] }
+        ensures nsec3 { result ≡ true → self.now.nsec3 ≡ [] }
+    {
+        self.nsec.is_empty() && self.nsec3.is_empty()
     }
 
     /// The owners of the sets of a type, if it is one of denial.

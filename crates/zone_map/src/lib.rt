@@ -9,6 +9,7 @@
 mod at_name;
 mod denial_index;
 mod denial_owners;
+mod keys_ahead;
 mod reads;
 mod record_map;
 pub mod search;

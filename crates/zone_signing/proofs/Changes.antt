@@ -1,27 +1,20 @@
 -- Sets by their keys, of which some go, new ones come and each is changed
 use Rattle.std.proofs.Common.{◌≡◌, ℕ, Bool, true, false, List, [], ◌∷◌, cond, refl, sym, ap, ◌∙◌}
-use Rattle.std.specs.Prelude.{Option, Some, None, ◌&&◌, ◌||◌, not, map, is_some, option_map, if◌then◌else◌}
-use Rattle.std.specs.Cmp.{eq_by_cmp_equiv}
-use Rattle.std.specs.List.{IsDistinct, list_any}
+use Rattle.std.specs.Prelude.{Option, Some, None, ◌&&◌, not, map, is_some, option_map, if◌then◌else◌}
+use Rattle.std.specs.List.{list_any}
 use Rattle.std.specs.Option.{option_or}
 use Rattle.std.specs.Map.{lookup, keys_of}
-use Rattle.std.proofs.lemmas.Map.{lookup-remove_entry}
-use Rattle.std.proofs.lemmas.Map.Keys.{IsDistinct-from_sorted}
 use Rattle.std.proofs.lemmas.Map.Made.{is_some-lookup}
 use Rattle.std.proofs.lemmas.Map.Views.{any-filter_same}
 use Rattle.zone_proto.specs.declared.rr_key.RrKey.{RrKey}
-use Rattle.zone_proto.specs.Keys.{key, key_cmp, key_eq}
+use Rattle.zone_proto.specs.Keys.{key, key_eq}
 use Rattle.zone_proto.specs.Names.{Name}
 use Rattle.zone_proto.specs.Sets.{RRset}
-use Rattle.zone_proto.proofs.KeyLaws.{key_cmp_total}
 use Rattle.zone_proto.proofs.KeyOrder.{key_same}
+use Rattle.zone_map.specs.Puts.{without_all}
 use Rattle.zone_map.specs.Zones.{Sets, set_at, without, IsZone}
 use Rattle.zone_map.proofs.Stored.{IsZone-without}
-use Rattle.zone_signing.specs.Secured.{stays, goes, gone, without_all, unsigned_at}
-
--- no key of a zone stands twice
-keys_differ : (es : Sets) → IsZone es → IsDistinct key_eq (keys_of es)
-keys_differ es zone = IsDistinct-from_sorted key_cmp (keys_of es) zone.ordered
+use Rattle.zone_signing.specs.Secured.{stays, goes, gone, unsigned_at}
 
 -- sets, each changed by what its key is
 abbrev pub changed : (RrKey → RRset → RRset) → Sets → Sets
@@ -41,23 +34,6 @@ lookup-changed h q (e ∷ es) = by (key_eq q e.0) refl (lookup-changed h q es)
 pub IsZone-without_all : (m : Sets) (ks : List RrKey) → IsZone m → IsZone (without_all m ks)
 IsZone-without_all m [] zone = zone
 IsZone-without_all m (k ∷ ks) zone = IsZone-without_all (without m k.name k.record_type.0) ks (IsZone-without m k zone)
-
--- what is found under a key is what was there, if the key isn't among those that are taken out
-pub set_at-without_all : (m : Sets) (ks : List RrKey) (n : Name) (t : ℕ) → IsZone m → set_at (without_all m ks) n t ≡ cond (list_any (key_eq (key n t)) ks) None (set_at m n t)
-set_at-without_all m [] n t zone = refl
-set_at-without_all m (k ∷ ks) n t zone =
-    let q = key n t in
-    let left : set_at (without m k.name k.record_type.0) n t ≡ cond (key_eq k q) None (set_at m n t) =
-    lookup-remove_entry (eq_by_cmp_equiv key_cmp_total) (key_eq k) (λ x y e. ap (λ j. key_eq j y) (key_same k x e)) q m (keys_differ m zone) in
-    set_at-without_all (without m k.name k.record_type.0) ks n t (IsZone-without m k zone)
-    ∙ ap (cond (list_any (key_eq q) ks) None) (left ∙ ap (λ b. cond b None (set_at m n t)) ((eq_by_cmp_equiv key_cmp_total).symm k q))
-    ∙ by (key_eq q k) (list_any (key_eq q) ks) (set_at m n t)
-  where
-    by : (b c : Bool) (o : Option RRset) → cond c None (cond b None o) ≡ cond (b || c) None o
-    by true true o = refl
-    by true false o = refl
-    by false true o = refl
-    by false false o = refl
 
 -- once those that go are taken out, what is left of the new denials and of the zone, each changed, is what was to be changed
 pub unsigned_left : (f : RRset → RRset) (denials : Option ℕ) (zone fresh : Sets) (n : Name) (t : ℕ)

@@ -10,7 +10,7 @@ use Rattle.zone_proto.specs.Sets.{RRset}
 use Rattle.zone_proto.specs.Signing.{SignedPart}
 use Rattle.zone_proto.specs.Stepping.{stepped}
 use Rattle.zone_proto.specs.Types.{SOA}
-use Rattle.zone_map.specs.Zones.{Sets, set_at, owns, without}
+use Rattle.zone_map.specs.Zones.{Sets, set_at, owns}
 use Rattle.zone_signing.specs.Signatures.{signatures}
 
 -- record sets by name and type, where they are said and not stored
@@ -29,11 +29,6 @@ goes denials new_denials k = not (stays denials k.record_type.0) && not (owns ne
 -- the keys of the sets that go
 abbrev pub gone : Option ℕ → Sets → Sets → List RrKey
 gone denials new_denials zone = filter (goes denials new_denials) (keys_of zone)
-
--- sets without those under these keys
-abbrev pub without_all : Sets → List RrKey → Sets
-without_all m [] = m
-without_all m (k ∷ ks) = without_all (without m k.name k.record_type.0) ks
 
 -- a set without its signatures
 abbrev pub bare : RRset → RRset

@@ -6,9 +6,10 @@ ghost use Rattle.zone_proto.specs.declared.record.Record.{Record as Signature};
 ghost use Rattle.zone_proto.specs.Keys.{key as key_at, key_eq};
 ghost use Rattle.zone_proto.specs.Names.{Name};
 ghost use Rattle.zone_proto.specs.Types.{SOA};
+ghost use Rattle.zone_map.specs.Puts.{without_all};
 ghost use Rattle.zone_map.specs.Renewals.{IsHanded, AreHanded};
 ghost use Rattle.zone_map.specs.Zones.{set_at, IsStoredAt, IsZone};
-ghost use Rattle.zone_signing.specs.Secured.{stays, goes, gone, without_all, unsigned_at, secured_set, IsSecured};
+ghost use Rattle.zone_signing.specs.Secured.{stays, goes, gone, unsigned_at, secured_set, IsSecured};
 
 use crate::signatures::add_signatures;
 use std::alloc::Global;

@@ -63,7 +63,7 @@ impl RecordMap {
 }
 
 /// The map of these sets by their keys.
-fn collect_entries(
+pub(super) fn collect_entries(
     alloc: Global,
     entries: Vec<(RrKey, RecordSet)>,
 ) -> Result<BTreeMap<RrKey, RecordSet>, AllocError>

@@ -1,16 +1,24 @@
 // Sets that are put into the record map together, and taken out again.
-ghost use Rattle.std.specs.Prelude.{◌≡◌, ℕ, IfOk, OnOk, OnErr, IsOkUnless};
+ghost use Rattle.std.specs.Prelude.{◌≡◌, ℕ, ◌+◌, ◌≤◌, not, filter, IfOk, OnOk, OnErr, IsOkUnless, unwrap_or, vec_len, vec_capacity};
+ghost use Rattle.std.specs.BTreeMap.{BTreeMap as Tree, InsertsAll, MovesPrefix};
+ghost use Rattle.std.specs.List.{list_any};
+ghost use Rattle.std.specs.List.Sorted.{IsStrictlySortedBy};
+ghost use Rattle.std.specs.Map.{keys_of};
 ghost use Rattle.std.specs.Option.{option_or};
+ghost use Rattle.zone_proto.specs.declared.rr_key.RrKey.{RrKey as Key};
+ghost use Rattle.zone_proto.specs.Keys.{key_cmp, key_eq};
+ghost use Rattle.zone_proto.specs.Sets.{RRset};
 ghost use Rattle.zone_proto.specs.Names.{Name};
 ghost use Rattle.zone_map.specs.DenialOwners.{owners_of};
-ghost use Rattle.zone_map.specs.Puts.{with_all, with_before, Restores};
+ghost use Rattle.zone_map.specs.Puts.{with_exchanged, with_before, without_all, ArePut, Restores};
 ghost use Rattle.zone_map.specs.Zones.{Sets, set_at, IsZone};
 
 use crate::denial_index::DenialIndex;
+use crate::keys_ahead::KeysAhead;
 use crate::record_map::RecordMap;
+use crate::record_map::entries::collect_entries;
 use std::alloc::Global;
 use std::collections::BTreeMap;
-use std::collections::btree_map::IntoIter;
 use std::marker::Model;
 use std::mem::replace;
 use zone_proto::{ProtoError, RecordSet, RrKey};
@@ -18,10 +26,12 @@ use zone_proto::{ProtoError, RecordSet, RrKey};
 /// What stood in a record map before sets were put into it. With it they are taken out again, which takes no memory.
 #[derive(Drop)]
 pub struct Replaced {
-    /// The keys in the order in which sets were put under them, each with the set that stood there.
-    log: Vec<(RrKey, Option<RecordSet>)>,
-    /// The owners of the sets of denial.
-    denials: DenialIndex,
+    /// The sets in whose place others came, each under its key.
+    exchanged: Vec<(RrKey, RecordSet)>,
+    /// The keys under which none stood.
+    added: Vec<RrKey>,
+    /// The index as it was, where another one came.
+    denials: Option<DenialIndex>,
 }
 
 impl Model for Replaced {
@@ -29,7 +39,18 @@ impl Model for Replaced {
 
     ghost Value = { Before };
 
-    ghost view = { λ r. record { log = r.log.items; owners = r.denials } };
+    ghost view = { λ r. record { exchanged = r.exchanged.items; added = r.added.items; owners = r.denials } };
+}
+
+/// Sets that are to be put into a map, in the order of their keys.
+#[derive(Drop)]
+struct Parted {
+    /// Those under whose keys sets stand there.
+    common: Vec<(RrKey, RecordSet)>,
+    /// The others.
+    fresh: Vec<(RrKey, RecordSet)>,
+    /// The keys of the others.
+    added: Vec<RrKey>,
 }
 
 impl RecordMap {
@@ -42,14 +63,27 @@ impl RecordMap {
         ensures err { IsOkUnless result ProtoError.Memory }
         ensures same { OnErr result (self.new ≡ self.old) }
     {
-        let mut log = Vec::with_capacity(alloc, sets.len())?;
-        match put_and_index(alloc, &mut self.sets, sets.into_entries(), &mut log) {
+        let RecordMap {
+            sets: more,
+            denials,
+        } = sets;
+        let parted = part(alloc, &self.sets, more)?;
+        let Parted {
+            common,
+            fresh,
+            added,
+        } = parted;
+        let fresh = collect_entries(alloc, fresh)?;
+        let mut exchanged = Vec::with_capacity(alloc, common.len())?;
+        exchange(&mut self.sets, common, &mut exchanged);
+        match add(alloc, &mut self.sets, &mut self.denials, fresh, denials) {
             Ok(denials) => Ok(Replaced {
-                log,
-                denials: replace(&mut self.denials, denials),
+                exchanged,
+                added,
+                denials,
             }),
             Err(error) => {
-                put_back(&mut self.sets, log);
+                put_back(&mut self.sets, added, exchanged);
                 Err(error)
             }
         }
@@ -60,64 +94,111 @@ impl RecordMap {
         requires { (sets : Sets) × Restores replaced self.old sets }
         ensures { (sets : Sets) → Restores replaced self.old sets → self.new ≡ sets }
     {
-        let Replaced { log, denials } = replaced;
-        put_back(&mut self.sets, log);
-        self.denials = denials;
-    }
-}
-
-/// Puts sets under their keys, and behind those of `log` each key with the set that stood there. The answer is the index of
-/// all sets.
-fn put_and_index(
-    alloc: Global,
-    sets: &mut BTreeMap<RrKey, RecordSet>,
-    more: IntoIter<RrKey, RecordSet, Global>,
-    log: &mut Vec<(RrKey, Option<RecordSet>)>,
-) -> Result<DenialIndex, ProtoError>
-    ensures put { OnOk result (sets.new.entries ≡ with_all sets.old.entries more) }
-    ensures index { IfOk result (λ index. index ≡ owners_of sets.new.entries) }
-    ensures before { with_before sets.new.entries log.new.items ≡ with_before sets.old.entries log.old.items }
-    ensures err { IsOkUnless result ProtoError.Memory }
-{
-    put_each(sets, more, log)?;
-    DenialIndex::of_map(alloc, sets)
-}
-
-/// Puts sets under their keys, and behind those of `log` each key with the set that stood there.
-fn put_each(
-    sets: &mut BTreeMap<RrKey, RecordSet>,
-    more: IntoIter<RrKey, RecordSet, Global>,
-    log: &mut Vec<(RrKey, Option<RecordSet>)>,
-) -> Result<(), ProtoError>
-    ensures put { OnOk result (sets.new.entries ≡ with_all sets.old.entries more) }
-    ensures before { with_before sets.new.entries log.new.items ≡ with_before sets.old.entries log.old.items }
-    ensures err { IsOkUnless result ProtoError.Memory }
-{
-    for (key, set) in more {
-        let copy = key.clone()?;
-        log.reserve(1)?;
-        match sets.insert(key, set) {
-            Ok(before) => log.push_reserved((copy, before)),
-            Err(_) => return Err(ProtoError::Memory),
+        let Replaced {
+            exchanged,
+            added,
+            denials,
+        } = replaced;
+        put_back(&mut self.sets, added, exchanged);
+        if let Some(denials) = denials {
+            self.denials = denials;
         }
     }
-    Ok(())
 }
 
-/// Puts back what stood under keys before sets were put there, under the last one first.
-fn put_back(sets: &mut BTreeMap<RrKey, RecordSet>, mut log: Vec<(RrKey, Option<RecordSet>)>)
-    ensures { sets.new.entries ≡ with_before sets.old.entries log.items }
+/// Parts the sets of a map by whether others stand under their keys: one pass over both maps.
+fn part(
+    alloc: Global,
+    sets: &BTreeMap<RrKey, RecordSet>,
+    more: BTreeMap<RrKey, RecordSet>,
+) -> Result<Parted, ProtoError>
+    ensures common { IfOk result (λ parted. parted.common.items ≡ filter (λ e. list_any (key_eq e.0) (keys_of sets.now.entries)) more.entries) }
+    ensures fresh { IfOk result (λ parted. parted.fresh.items ≡ filter (λ e. not (list_any (key_eq e.0) (keys_of sets.now.entries))) more.entries) }
+    ensures added { IfOk result (λ parted. parted.added.items ≡ keys_of parted.fresh.items) }
+    ensures err { IsOkUnless result ProtoError.Memory }
 {
-    while let Some((key, before)) = log.pop() {
-        match before {
-            Some(before) => {
-                if let Some(set) = sets.get_mut(&key) {
-                    *set = before;
-                }
-            }
-            None => {
-                let _ = sets.remove(&key);
-            }
+    let mut common = Vec::new(alloc);
+    let mut fresh = Vec::new(alloc);
+    let mut added = Vec::new(alloc);
+    let mut ahead = KeysAhead::new(sets);
+    for (key, set) in more {
+        if ahead.has(&key) {
+            common.push((key, set))?;
+        } else {
+            added.push(key.clone()?)?;
+            fresh.push((key, set))?;
+        }
+    }
+    Ok(Parted {
+        common,
+        fresh,
+        added,
+    })
+}
+
+/// Puts sets in the place of those that stand under their keys, which go behind those of `exchanged`, where there is room.
+fn exchange(
+    sets: &mut BTreeMap<RrKey, RecordSet>,
+    common: Vec<(RrKey, RecordSet)>,
+    exchanged: &mut Vec<(RrKey, RecordSet)>,
+)
+    requires { vec_len exchanged.old + vec_len common ≤ vec_capacity exchanged.old }
+    ensures put { sets.new.entries ≡ with_exchanged sets.old.entries common.items }
+    ensures before { with_before sets.new.entries exchanged.new.items ≡ with_before sets.old.entries exchanged.old.items }
+    ensures ordered { IsStrictlySortedBy key_cmp (keys_of sets.new.entries) }
+{
+    // Its clauses say that the keys ascend.
+    let _ = sets.len();
+    for (key, set) in common {
+        if let Some(stood) = sets.get_mut(&key) {
+            exchanged.push_reserved((key, replace(stood, set)));
+        }
+    }
+}
+
+/// Adds sets under whose keys none stand, and their owners to the index. The answer is the index as it was, if another one came
+/// in its place.
+fn add(
+    alloc: Global,
+    sets: &mut BTreeMap<RrKey, RecordSet>,
+    denials: &mut DenialIndex,
+    mut fresh: BTreeMap<RrKey, RecordSet>,
+    fresh_denials: DenialIndex,
+) -> Result<Option<DenialIndex>, ProtoError>
+    ensures added { OnOk result (InsertsAll key_cmp sets.old fresh.entries sets.new) }
+    ensures moved { (rest : Tree Key RRset) × MovesPrefix key_cmp sets.old fresh sets.new rest }
+    ensures index { OnOk result ((had more : Sets) → keys_of sets.old.entries ≡ keys_of had → denials.old ≡ owners_of had → fresh_denials ≡ owners_of more → ArePut had more sets.new.entries → denials.new ≡ owners_of sets.new.entries) }
+    ensures was { IfOk result (λ was. unwrap_or was denials.new ≡ denials.old) }
+    ensures same { OnErr result (denials.new ≡ denials.old) }
+    ensures err { IsOkUnless result ProtoError.Memory }
+{
+    // Its clauses say that the keys ascend.
+    let _ = sets.len();
+    if fresh.is_empty() {
+        return Ok(None);
+    }
+    sets.append(&mut fresh)?;
+    if denials.is_empty() {
+        return Ok(Some(replace(denials, fresh_denials)));
+    }
+    let index = DenialIndex::of_map(alloc, sets)?;
+    Ok(Some(replace(denials, index)))
+}
+
+/// Takes out the sets under the keys that were added, and puts back those that were exchanged, the last one first.
+fn put_back(
+    sets: &mut BTreeMap<RrKey, RecordSet>,
+    added: Vec<RrKey>,
+    mut exchanged: Vec<(RrKey, RecordSet)>,
+)
+    ensures { sets.new.entries ≡ with_before (without_all sets.old.entries added.items) exchanged.items }
+{
+    for key in added {
+        let _ = sets.remove(&key);
+    }
+    while let Some((key, stood)) = exchanged.pop() {
+        if let Some(set) = sets.get_mut(&key) {
+            *set = stood;
         }
     }
 }

@@ -1,6 +1,6 @@
 use Rattle.std.proofs.Common.{◌≡◌}
 use Rattle.std.specs.Vec.Iter.{into_iter_items}
-use Rattle.zone_signing.specs.Secured.{without_all}
+use Rattle.zone_map.specs.Puts.{without_all}
 use Rattle.zone_signing.proofs.securing.remove_all.Given as goal
 
 -- without the keys that are left the sets are without all keys

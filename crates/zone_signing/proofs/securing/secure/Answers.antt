@@ -5,8 +5,9 @@ use Rattle.std.specs.Option.{option_or}
 use Rattle.zone_proto.specs.Keys.{key, key_eq}
 use Rattle.zone_proto.specs.Types.{SOA}
 use Rattle.zone_map.specs.Zones.{Sets, set_at, IsZone}
+use Rattle.zone_map.proofs.Putting.{found_without_all}
 use Rattle.zone_signing.specs.Secured.{gone, unsigned_at, secured_set}
-use Rattle.zone_signing.proofs.Changes.{IsZone-without_all, set_at-without_all, unsigned_left}
+use Rattle.zone_signing.proofs.Changes.{IsZone-without_all, unsigned_left}
 use Rattle.zone_signing.proofs.securing.secure.Goals as goal
 
 pub returns-in-Ok-clause-ok : goal.returns-in-Ok-clause-ok
@@ -20,7 +21,7 @@ returns-in-Ok-clause-ok g c =
           let q = key n t in
           let f = secured c.args.apex.now c.args.signers.now q in
           ap (λ (m : Sets). set_at m n t) c.remove_all.ensures
-          ∙ set_at-without_all c.sign_all-2.new.zone c.in_ok-gone.gone.items n t c.in-Ok.ensures.zone
+          ∙ found_without_all c.sign_all-2.new.zone c.in_ok-gone.gone.items q c.in-Ok.ensures.zone.ordered
           ∙ ap (cond (list_any (key_eq q) c.in_ok-gone.gone.items) None) (c.in-Ok.ensures.ok n t ∙ ap (option_map f) (c.in_ok-replaced.ensures.ok n t))
           ∙ ap (λ ks. cond (list_any (key_eq q) ks) None (option_map f (option_or (set_at fresh n t) (set_at zone n t)))) c.in_ok-gone.ensures.ok
           ∙ unsigned_left f d zone fresh n t

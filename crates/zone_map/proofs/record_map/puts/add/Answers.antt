@@ -1,0 +1,25 @@
+use Rattle.std.proofs.Common.{◌≡◌, [], length, refl, sym, ap, ◌∙◌}
+use Rattle.std.specs.Map.{lookup, update_all}
+use Rattle.std.proofs.lemmas.List.{nil_from_length}
+use Rattle.zone_proto.specs.Keys.{key_eq}
+use Rattle.zone_map.specs.Zones.{Sets}
+use Rattle.zone_map.proofs.OwnersKept.{index_of_keys}
+use Rattle.zone_map.proofs.Putting.{index_put}
+use Rattle.zone_map.proofs.record_map.puts.add.Goals as goal
+
+pub returns-then-is_empty-clause-added : goal.returns-then-is_empty-clause-added
+returns-then-is_empty-clause-added c =
+    let none : c.args.fresh.entries ≡ [] = nil_from_length c.args.fresh.entries (c.is_empty.ensures.0 c.if-is_empty.true) in
+    (λ q. sym (ap (λ (xs : Sets). update_all key_eq (λ k. lookup (key_eq k) c.args.sets.now.entries) xs q) none), c.len.ensures.ordered)
+
+pub returns-then-is_empty-clause-moved : goal.returns-then-is_empty-clause-moved
+returns-then-is_empty-clause-moved c = (c.args.fresh, ([], refl, ((λ q. refl), c.len.ensures.ordered)))
+
+pub returns-then-is_empty-clause-index : goal.returns-then-is_empty-clause-index
+returns-then-is_empty-clause-index c = λ had more keys is are put. index_of_keys had c.args.sets.now.entries c.args.denials.now keys is
+
+pub returns-then-is_empty-2-clause-index : goal.returns-then-is_empty-2-clause-index
+returns-then-is_empty-2-clause-index c =
+    λ had more keys is are put.
+    c.replace.ensures.after
+    ∙ index_put had more _ c.args.denials.now c.args.fresh_denials put (c.is_empty-2.ensures.nsec c.if-is_empty-2.true) (c.is_empty-2.ensures.nsec3 c.if-is_empty-2.true) is are
