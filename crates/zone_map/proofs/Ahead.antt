@@ -1,15 +1,14 @@
 -- A pass over keys that ascend
-use Rattle.std.proofs.Common.{◌≡◌, Bool, true, false, List, [], ◌∷◌, refl, sym, ap, ◌∙◌, subst, Ordering, Less, Equal, Greater}
+use Rattle.std.proofs.Common.{◌≡◌, Bool, true, false, List, [], ◌∷◌, refl, sym, ap, ◌∙◌, Ordering, Less, Equal, Greater}
 use Rattle.std.specs.Prelude.{Option, Some, None, ◌||◌, MatchOption, option_copied}
 use denote.Ref.{Bor}
 use Rattle.std.specs.List.{AllByRecursion, list_any}
 use Rattle.std.specs.List.Sorted.{IsStrictlySortedBy}
 use Rattle.std.specs.Ordering.{is_eq, is_le}
-use Rattle.std.proofs.lemmas.Map.Keys.{sorted_head, sorted_tail}
+use Rattle.std.proofs.lemmas.Map.Keys.{sorted_head}
 use Rattle.zone_proto.specs.declared.rr_key.RrKey.{RrKey}
 use Rattle.zone_proto.specs.Keys.{key_cmp, key_eq}
 use Rattle.zone_proto.specs.Order.{is_upto}
-use Rattle.zone_proto.proofs.KeyLaws.{key_cmp_total}
 use Rattle.zone_proto.proofs.KeyOrder.{key_same, key_itself}
 use Rattle.zone_map.specs.Ahead.{ahead}
 use Rattle.zone_map.proofs.Stored.{all_above}

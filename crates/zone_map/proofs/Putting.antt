@@ -2,7 +2,6 @@
 use Rattle.std.proofs.Common.{◌≡◌, ℕ, Bool, true, false, cond, List, [], ◌∷◌, ◌++◌, refl, sym, ap, ◌∙◌, subst, Ordering, Less, Equal, Greater}
 use Rattle.std.specs.Prelude.{Option, Some, None, is_some, not, ◌&&◌, ◌||◌, filter}
 use Rattle.std.specs.BTreeMap.{BTreeMap, InsertsAll, MovesPrefix, IsFromIterResult}
-use Rattle.std.specs.BTreeSet.{BTreeSet}
 use Rattle.std.specs.Cmp.{eq_by_cmp_equiv}
 use Rattle.std.specs.List.{AllByRecursion, list_any}
 use Rattle.std.specs.List.Sorted.{IsStrictlySortedBy}
@@ -30,7 +29,7 @@ use Rattle.zone_map.specs.Puts.{with_exchanged, with_before, without_all, ArePut
 use Rattle.zone_map.specs.Zones.{Sets, set_at, owns, owners, without, IsStoredAt, IsZone}
 use Rattle.zone_map.proofs.Lists.{owners_ascend, contains_owner, contained_owner}
 use Rattle.zone_map.proofs.Ahead.{none_above}
-use Rattle.zone_map.proofs.Stored.{all_above, sorted_without, IsZone-without}
+use Rattle.zone_map.proofs.Stored.{all_above, sorted_without}
 
 abbrev nothing : RrKey → Option RRset
 nothing k = None

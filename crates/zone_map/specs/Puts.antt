@@ -5,7 +5,6 @@ use Rattle.std.specs.Map.{keys_of, lookup, set_value}
 use Rattle.std.specs.Option.{option_or, unwrap_or}
 use Rattle.zone_proto.specs.declared.rr_key.RrKey.{RrKey}
 use Rattle.zone_proto.specs.Keys.{key_cmp, key_eq}
-use Rattle.zone_proto.specs.Sets.{RRset}
 use Rattle.zone_map.specs.DenialOwners.{Owners, owners_of}
 use Rattle.zone_map.specs.Zones.{Sets, without, IsZone}
 

@@ -1,5 +1,5 @@
 -- The record sets of a zone once it is secured
-use Rattle.std.specs.Prelude.{◌≡◌, ℕ, Bool, true, false, not, ◌&&◌, if◌then◌else◌, List, [], ◌∷◌, filter, Option, None, Some, option_map, ◌==◌}
+use Rattle.std.specs.Prelude.{◌≡◌, ℕ, Bool, true, false, not, ◌&&◌, if◌then◌else◌, List, [], filter, Option, None, Some, option_map, ◌==◌}
 use Rattle.std.specs.Map.{keys_of}
 use Rattle.std.specs.Option.{option_or}
 use Rattle.zone_proto.specs.declared.rdata.signing.RRSIG.{RRSIG}

@@ -3,7 +3,6 @@ use Rattle.std.specs.Prelude.{None, option_map}
 use Rattle.std.specs.List.{list_any}
 use Rattle.std.specs.Option.{option_or}
 use Rattle.zone_proto.specs.Keys.{key, key_eq}
-use Rattle.zone_proto.specs.Types.{SOA}
 use Rattle.zone_map.specs.Zones.{Sets, set_at, IsZone}
 use Rattle.zone_map.proofs.Putting.{found_without_all}
 use Rattle.zone_signing.specs.Secured.{gone, unsigned_at, secured_set}

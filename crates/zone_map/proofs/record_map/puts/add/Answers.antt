@@ -1,4 +1,4 @@
-use Rattle.std.proofs.Common.{◌≡◌, [], length, refl, sym, ap, ◌∙◌}
+use Rattle.std.proofs.Common.{◌≡◌, [], refl, sym, ap, ◌∙◌}
 use Rattle.std.specs.Map.{lookup, update_all}
 use Rattle.std.proofs.lemmas.List.{nil_from_length}
 use Rattle.zone_proto.specs.Keys.{key_eq}
