@@ -24,6 +24,15 @@ pub fn closest_nsec<'m>(
     ensures zone { IsZone records.now }
     ensures err { IsOkUnless result ProtoError.Memory }
 {
+    // Its clauses say that the keys ascend.
+    let _ = records.as_map();
+    // Mostly the closest set stands right before the place that the name's own would have: then no owner is read.
+    let place = RrKey::new(name.clone()?, RecordType::NSEC);
+    if let Some((owner, set)) = records.last_of_type_upto(&place) {
+        if says_past(set, owner, name)? {
+            return Ok(Some(set));
+        }
+    }
     closest_nsec_counted(records, name, &mut Reads::new())
 }
 
@@ -62,11 +71,18 @@ fn set_past<'m>(
     let Some(set) = records.get(&key) else {
         return Ok(None);
     };
-    let Some(next) = next_name(set) else {
-        return Ok(None);
-    };
-    let next = LowerName::new(next)?;
-    Ok(goes_past(owner, name, &next).then_some(set))
+    Ok(says_past(set, owner, name)?.then_some(set))
+}
+
+/// Whether the next name of an owner's set goes past `name`.
+fn says_past(set: &RecordSet, owner: &LowerName, name: &LowerName) -> Result<bool, ProtoError>
+    ensures past { IfOk result (λ past. past ≡ option_map_or (goes_past owner.now name.now) (next_of set.now) false) }
+    ensures err { IsOkUnless result ProtoError.Memory }
+{
+    match next_name(set) {
+        Some(next) => Ok(goes_past(owner, name, &LowerName::new(next)?)),
+        None => Ok(false),
+    }
 }
 
 /// Whether the next name of an owner stands after `name`, or isn't after the owner.

@@ -5,6 +5,7 @@ pub mod Entries
 pub mod Renewing
 pub mod Upserting
 pub mod CnamesAlone
+pub mod LastKeys
 pub mod Lists
 pub mod OwnersKept
 pub mod OwnersBelow
