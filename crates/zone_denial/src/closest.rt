@@ -26,14 +26,21 @@ pub fn closest_nsec<'m>(
 {
     // Its clauses say that the keys ascend.
     let _ = records.as_map();
-    // Mostly the closest set stands right before the place that the name's own would have: then no owner is read.
-    let place = RrKey::new(name.clone()?, RecordType::NSEC);
-    if let Some((owner, set)) = records.last_of_type_upto(&place) {
-        if says_past(set, owner, name)? {
-            return Ok(Some(set));
+    if are_many(records) {
+        let place = RrKey::new(name.clone()?, RecordType::NSEC);
+        if let Some((owner, set)) = records.last_of_type_upto(&place) {
+            if says_past(set, owner, name)? {
+                return Ok(Some(set));
+            }
         }
     }
     closest_nsec_counted(records, name, &mut Reads::new())
+}
+
+/// Whether so many sets are NSEC sets that the closest one to a name mostly stands right before the place that the name's own
+/// would have: then one read of the map finds it, and the index needn't be asked.
+fn are_many(records: &RecordMap) -> bool {
+    records.denial_owners(RecordType::NSEC).size_hint().0 >= records.len() / 8
 }
 
 /// The same, and counts the owners of NSEC sets that are read for it: from `name` back those down to the closest one, or all
