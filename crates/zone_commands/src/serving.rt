@@ -41,9 +41,16 @@ pub enum Stop {
     Write,
 }
 
-/// Has a session answer each line of an input, and tells whether all lines were good. Answers to lines that were read together
-/// are written together: those that wait are written in one piece before `input` is read again and at its end, and as soon as
-/// they have 4,096 octets or more.
+/// Has a session answer each line of an input, one after the other, and tells whether all lines were good. A line is answered as
+/// [`read_command`] reads it: a command is carried out, a bad line is answered by `bad line N`, counted from 1, and a blank line
+/// and a comment by nothing. Where no memory is found to read a line, its answer is `error Memory`.
+///
+/// Answers to lines that were read together are written together: those that wait are written in one piece before `input` is
+/// read again and at its end, and as soon as they have 4,096 octets or more.
+///
+/// An error says why not all lines were answered. After a read that failed, the answers to all lines before it are written;
+/// after a write that failed nothing more is. Where it is the text of an answer that finds no memory, the answers before it are
+/// written and nothing of it.
 pub fn serve<S: Session, R: Read, W: Write>(
     alloc: Global,
     session: &mut S,
