@@ -3,6 +3,7 @@ pub mod Neighbours
 pub mod Stored
 pub mod Entries
 pub mod Renewing
+pub mod Renumbering
 pub mod Upserting
 pub mod CnamesAlone
 pub mod LastKeys

@@ -10,3 +10,4 @@ pub mod SearchLaws
 pub mod Renewals
 pub mod Counts
 pub mod DenialOwners
+pub mod Standing

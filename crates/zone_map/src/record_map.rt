@@ -13,6 +13,7 @@ ghost use Rattle.zone_map.specs.Upserts.{upserted, with_record, clash, clashes, 
 mod denials;
 mod entries;
 mod renewal;
+mod serials;
 
 use crate::denial_index::DenialIndex;
 use crate::reads::Reads;
