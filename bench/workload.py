@@ -124,6 +124,14 @@ def parent(name):
     return name.split(".", 1)[1]
 
 
+def ancestors(name):
+    """The name and what is above it, up to the origin."""
+    while name != ORIGIN:
+        yield name
+        name = parent(name)
+    yield ORIGIN
+
+
 def owned_types(adds):
     """The types that the names of the zone own that these lines fill, whose origin has a key beside them, by the names that
     stand below no cut."""
@@ -195,11 +203,15 @@ def denials(title, adds, absent, present):
     records = nsec_records(adds)
     owners = list(records)
     places = [place(owner) for owner in owners]
+    shown = {ancestor for owner in owners for ancestor in ancestors(owner)}
 
     def closest(name):
         return records[owners[bisect.bisect(places, place(name)) - 1]]
 
-    denied = [proof(closest(parent(name)), closest(name)) for name in absent]
+    def star(name):
+        return f"*.{next(ancestor for ancestor in ancestors(parent(name)) if ancestor in shown)}"
+
+    denied = [proof(closest(star(name)), closest(name)) for name in absent]
     questions = [Phase(title, [f"deny {name} A" for name in absent], denied)]
     if present:
         questions.append(Phase("deny a type", [f"deny {name} TXT" for name in present], [proof(records[name]) for name in present]))

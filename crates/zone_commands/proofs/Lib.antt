@@ -1,3 +1,5 @@
 pub mod CommandFacts
 pub mod LineFacts
+pub mod ServedLines
+pub mod TranscriptFacts
 mod CommandExamples

@@ -3,3 +3,6 @@ pub mod Lines
 pub mod InHand
 pub mod Told
 pub mod Kept
+pub mod Transcripts
+pub mod TranscriptLaws
+pub mod Serving

@@ -56,3 +56,4 @@ pub mod NewAncestors
 pub mod Nsec3Runs
 pub mod Naming
 pub mod NamingSteps
+pub mod StandingSets

@@ -20,3 +20,4 @@ pub mod Nsec3Zones
 pub mod Nsec3Laws
 pub mod StarLaws
 pub mod Nsec3Lent
+pub mod StandingSets

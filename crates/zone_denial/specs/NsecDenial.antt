@@ -1,8 +1,8 @@
 -- The NSEC sets that answer a query for a denial, in any zone, whether its NSEC sets are a circle or not
-use Rattle.std.specs.Prelude.{Bool, false, ◌&&◌, ◌||◌, cond, List, [], ◌∷◌, Option, Some, None, filter, filter_map, find, unwrap_or, option_and_then, option_to_list}
+use Rattle.std.specs.Prelude.{◌≡◌, IfSome, Bool, false, ◌&&◌, ◌||◌, cond, List, [], ◌∷◌, Option, Some, None, filter, filter_map, find, unwrap_or, option_and_then, option_to_list}
 use Rattle.std.specs.List.{list_any}
 use Rattle.std.specs.Option.{option_map_or}
-use Rattle.zone_proto.specs.Names.{Name, name_eq, name_cmp, is_above, is_at_or_above}
+use Rattle.zone_proto.specs.Names.{Name, lower, name_eq, name_cmp, is_above, is_at_or_above}
 use Rattle.zone_proto.specs.Order.{is_upto, is_before, greatest}
 use Rattle.zone_proto.specs.Sets.{RRset}
 use Rattle.zone_proto.specs.Types.{NSEC}
@@ -29,6 +29,10 @@ closest_owner m x = greatest name_cmp (filter (reaches m x) (owners m NSEC))
 -- its set
 abbrev pub closest_nsec : Sets → Name → Option RRset
 closest_nsec m x = option_and_then (λ o. set_at m o NSEC) (closest_owner m x)
+
+-- if a set is there, it is the NSEC set of its owner
+abbrev pub IsOwnersNsec : Sets → Option RRset → Type 0
+IsOwnersNsec m set = IfSome set (λ s. set_at m (lower s.owner) NSEC ≡ Some s)
 
 -- two owners that may be there, the one of them where they are the same
 abbrev pub both_of : Option Name → Option Name → List Name

@@ -6,7 +6,7 @@ ghost use Rattle.zone_proto.specs.Types.{NSEC};
 ghost use Rattle.zone_map.specs.Counts.{counted_more};
 ghost use Rattle.zone_map.specs.Zones.{set_at, IsZone};
 ghost use Rattle.zone_denial.specs.NsecCircle.{next_of};
-ghost use Rattle.zone_denial.specs.NsecDenial.{goes_past, says_past, closest_nsec};
+ghost use Rattle.zone_denial.specs.NsecDenial.{goes_past, says_past, closest_nsec, IsOwnersNsec};
 ghost use Rattle.zone_denial.specs.OwnersRead.{owners_read, GrewByAtMost};
 
 use zone_map::{Reads, RecordMap};
@@ -24,7 +24,37 @@ pub fn closest_nsec<'m>(
     ensures zone { IsZone records.now }
     ensures err { IsOkUnless result ProtoError.Memory }
 {
-    closest_nsec_counted(records, name, &mut Reads::new())
+    closest_nsec_knowing(records, name, None)
+}
+
+/// The same, where the NSEC set of some owner is at hand, which isn't looked up then.
+pub(crate) fn closest_nsec_knowing<'m>(
+    records: &'m RecordMap,
+    name: &LowerName,
+    known: Option<&'m RecordSet>,
+) -> Result<Option<&'m RecordSet>, ProtoError>
+    requires { IsOwnersNsec records.now (option_copied known) }
+    ensures found { IfOk result (λ set. option_copied set ≡ closest_nsec records.now name.now) }
+    ensures zone { IsZone records.now }
+    ensures err { IsOkUnless result ProtoError.Memory }
+{
+    // Its clauses say that the keys ascend.
+    let _ = records.as_map();
+    if are_many(records) {
+        let place = RrKey::new(name.clone()?, RecordType::NSEC);
+        if let Some((owner, set)) = records.last_of_type_upto(&place) {
+            if says_past(set, owner, name)? {
+                return Ok(Some(set));
+            }
+        }
+    }
+    closest_by_index(records, name, known, &mut Reads::new())
+}
+
+/// Whether so many sets are NSEC sets that the closest one to a name mostly stands right before the place that the name's own
+/// would have: then one read of the map finds it, and the index, which is large, needn't be asked.
+pub(crate) fn are_many(records: &RecordMap) -> bool {
+    records.denial_owners(RecordType::NSEC).size_hint().0 >= records.len() / 8
 }
 
 /// The same, and counts the owners of NSEC sets that are read for it: from `name` back those down to the closest one, or all
@@ -40,9 +70,26 @@ pub fn closest_nsec_counted<'m>(
     ensures zone { IsZone records.now }
     ensures err { IsOkUnless result ProtoError.Memory }
 {
+    closest_by_index(records, name, None, reads)
+}
+
+/// The same, where the NSEC set of some owner is at hand.
+fn closest_by_index<'m>(
+    records: &'m RecordMap,
+    name: &LowerName,
+    known: Option<&'m RecordSet>,
+    reads: &mut Reads,
+) -> Result<Option<&'m RecordSet>, ProtoError>
+    requires { IsOwnersNsec records.now (option_copied known) }
+    ensures found { IfOk result (λ set. option_copied set ≡ closest_nsec records.now name.now) }
+    ensures counted { OnOk result (reads.new ≡ counted_more (length (owners_read records.now name.now)) reads.old) }
+    ensures refused { OnErr result (GrewByAtMost (length (owners_read records.now name.now)) reads.old reads.new) }
+    ensures zone { IsZone records.now }
+    ensures err { IsOkUnless result ProtoError.Memory }
+{
     let mut owners = records.denial_owners_upto(RecordType::NSEC, name);
     while let Some(owner) = owners.read_last(reads) {
-        if let Some(set) = set_past(records, owner, name)? {
+        if let Some(set) = set_past(records, owner, name, known)? {
             return Ok(Some(set));
         }
     }
@@ -54,19 +101,48 @@ fn set_past<'m>(
     records: &'m RecordMap,
     owner: &LowerName,
     name: &LowerName,
+    known: Option<&'m RecordSet>,
 ) -> Result<Option<&'m RecordSet>, ProtoError>
+    requires { IsOwnersNsec records.now (option_copied known) }
     ensures found { IfOk result (λ set. option_copied set ≡ cond (says_past records.now name.now owner.now) (set_at records.now owner.now NSEC) None) }
     ensures err { IsOkUnless result ProtoError.Memory }
 {
+    let Some(set) = nsec_of(records, owner, known)? else {
+        return Ok(None);
+    };
+    Ok(says_past(set, owner, name)?.then_some(set))
+}
+
+/// The NSEC set of an owner.
+fn nsec_of<'m>(
+    records: &'m RecordMap,
+    owner: &LowerName,
+    known: Option<&'m RecordSet>,
+) -> Result<Option<&'m RecordSet>, ProtoError>
+    requires { IsOwnersNsec records.now (option_copied known) }
+    ensures found { IfOk result (λ set. option_copied set ≡ set_at records.now owner.now NSEC) }
+    ensures err { IsOkUnless result ProtoError.Memory }
+{
+    // Its clauses say that the owner is in lower case.
+    let _ = owner.labels();
+    if let Some(known) = known {
+        if owner.is_exactly(known.name()) {
+            return Ok(Some(known));
+        }
+    }
     let key = RrKey::new(owner.clone()?, RecordType::NSEC);
-    let Some(set) = records.get(&key) else {
-        return Ok(None);
-    };
-    let Some(next) = next_name(set) else {
-        return Ok(None);
-    };
-    let next = LowerName::new(next)?;
-    Ok(goes_past(owner, name, &next).then_some(set))
+    Ok(records.get(&key))
+}
+
+/// Whether the next name of an owner's set goes past `name`.
+fn says_past(set: &RecordSet, owner: &LowerName, name: &LowerName) -> Result<bool, ProtoError>
+    ensures past { IfOk result (λ past. past ≡ option_map_or (goes_past owner.now name.now) (next_of set.now) false) }
+    ensures err { IsOkUnless result ProtoError.Memory }
+{
+    match next_name(set) {
+        Some(next) => Ok(goes_past(owner, name, &LowerName::new(next)?)),
+        None => Ok(false),
+    }
 }
 
 /// Whether the next name of an owner stands after `name`, or isn't after the owner.

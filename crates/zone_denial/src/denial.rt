@@ -5,10 +5,10 @@ ghost use Rattle.zone_proto.specs.Results.{IsCopy};
 ghost use Rattle.zone_proto.specs.Types.{NSEC};
 ghost use Rattle.zone_map.specs.Wildcards.{star_under};
 ghost use Rattle.zone_map.specs.Zones.{set_at};
-ghost use Rattle.zone_denial.specs.NsecDenial.{closest_nsec, owns_nsec_at_or_below, nsec_encloser, proved_beside, nsec_denial};
+ghost use Rattle.zone_denial.specs.NsecDenial.{closest_nsec, owns_nsec_at_or_below, nsec_encloser, proved_beside, nsec_denial, IsOwnersNsec};
 ghost use Rattle.zone_denial.specs.DenialSets.{denial_sets, own_set, unless_same};
 
-use crate::closest::closest_nsec;
+use crate::closest::{are_many, closest_nsec, closest_nsec_knowing};
 use zone_map::RecordMap;
 use zone_proto::{LowerName, ProtoError, RecordSet, RecordType, RrKey};
 
@@ -36,21 +36,34 @@ pub fn nsec_denial<'m>(
     ensures err { IsOkUnless result ProtoError.Memory }
 {
     let key = RrKey::new(name.clone()?, RecordType::NSEC);
-    if let Some(own) = records.get(&key) {
+    if let Some(own) = own_nsec(records, &key) {
         return Ok(NsecDenial::Own(own));
     }
     let closest = closest_nsec(records, name)?;
-    let beside = closest_beside(records, origin, key.name)?;
+    let beside = closest_beside(records, origin, key.name, closest)?;
     Ok(NsecDenial::Closest(unless_same(beside, closest), closest))
 }
 
+/// The NSEC set under a key. Where few sets are NSEC sets the index, which is small then, is asked first.
+fn own_nsec<'m>(records: &'m RecordMap, key: &RrKey) -> Option<&'m RecordSet>
+    requires { key.now.record_type.0 ≡ NSEC }
+    ensures { option_copied result ≡ set_at records.now key.now.name NSEC }
+{
+    if !are_many(records) && !records.owns_denial_at_or_below(RecordType::NSEC, &key.name) {
+        return None;
+    }
+    records.get(key)
+}
+
 /// The set closest to what is proved beside a name: the star under its closest encloser, or the origin of a name outside the
-/// zone; none of the origin.
+/// zone; none of the origin. The set closest to the name itself is at hand.
 fn closest_beside<'m>(
     records: &'m RecordMap,
     origin: &LowerName,
     name: LowerName,
+    closest: Option<&'m RecordSet>,
 ) -> Result<Option<&'m RecordSet>, ProtoError>
+    requires { IsOwnersNsec records.now (option_copied closest) }
     ensures found { IfOk result (λ set. option_copied set ≡ option_and_then (closest_nsec records.now) (proved_beside origin.now records.now «name»)) }
     ensures err { IsOkUnless result ProtoError.Memory }
 {
@@ -58,10 +71,10 @@ fn closest_beside<'m>(
         return Ok(None);
     }
     if !origin.zone_of(&name) {
-        return closest_nsec(records, origin);
+        return closest_nsec_knowing(records, origin, closest);
     }
     let star = enclosed_star(records, origin, name)?;
-    closest_nsec(records, &star)
+    closest_nsec_knowing(records, &star, closest)
 }
 
 /// The star under the closest encloser of a name below the origin. Refused by `Memory` alone.

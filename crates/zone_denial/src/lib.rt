@@ -17,4 +17,5 @@ mod nsec3_names;
 pub mod nsec3_sets;
 pub mod nsec_sets;
 mod owner_order;
+mod standing;
 mod type_list;

@@ -1,15 +1,18 @@
 //! The NSEC sets that a zone gets when it is secured.
-ghost use Rattle.std.specs.Prelude.{◌≡◌, ℕ, map, IfOk, IsOkUnless};
+ghost use Rattle.std.specs.Prelude.{◌≡◌, ℕ, map, IfOk, IfSome, IsOkUnless};
+ghost use Rattle.std.specs.Option.{IfNone};
 ghost use Rattle.std.specs.List.Sorted.{IsStrictlySortedBy};
 ghost use Rattle.zone_proto.specs.Keys.{key as key_at, key_cmp};
 ghost use Rattle.zone_proto.specs.Names.{Name};
 ghost use Rattle.zone_proto.specs.Types.{NSEC as nsec_type};
+ghost use Rattle.zone_map.specs.Standing.{standing_at};
 ghost use Rattle.zone_map.specs.Zones.{set_at};
 ghost use Rattle.zone_denial.specs.NsecSets.{nsec_set_at, nsec_data, new_set};
 ghost use Rattle.zone_denial.specs.NsecLinks.{AreLinked, first_name};
 
 use crate::authoritative_keys::authoritative_keys;
 use crate::key_runs::count_of_name;
+use crate::standing::nsec_sets_stand;
 use crate::type_list::type_list;
 use zone_map::RecordMap;
 use zone_proto::{
@@ -20,19 +23,24 @@ use zone_proto::{
 ///
 /// The set of a name has one record, with the next of these names in canonical order, after the last one the origin, and with
 /// the types that the name owns, NSEC and RRSIG among them (RFC 4034 section 4). Its TTL is `ttl`, in seconds, and its serial
-/// `serial`. NSEC sets that stand in the zone count for nothing. Refused by `Memory` alone.
+/// `serial`. No set is made, and the answer is none, where those that stand in the zone are already these, serials and
+/// signatures aside; else they count for nothing. Refused by `Memory` alone.
 pub fn nsec_sets(
     records: &RecordMap,
     origin: &LowerName,
     ttl: u32,
     serial: u32,
-) -> Result<RecordMap, ProtoError>
-    ensures ok { IfOk result (λ map. (n : Name) (t : ℕ) → set_at map n t ≡ nsec_set_at origin.now records.now ttl serial n t) }
+) -> Result<Option<RecordMap>, ProtoError>
+    ensures made { IfOk result (λ made. IfSome made (λ map. (n : Name) (t : ℕ) → set_at map n t ≡ nsec_set_at origin.now records.now ttl serial n t)) }
+    ensures standing { IfOk result (λ made. IfNone made ((n : Name) (t : ℕ) → standing_at records.now nsec_type serial n t ≡ nsec_set_at origin.now records.now ttl serial n t)) }
     ensures err { IsOkUnless result ProtoError.Memory }
 {
     let keys = authoritative_keys(records, origin, RecordType::NSEC)?;
+    if nsec_sets_stand(records, keys.as_slice(), origin, ttl)? {
+        return Ok(None);
+    }
     let entries = nsec_entries(keys.as_slice(), origin, ttl, serial)?;
-    RecordMap::from_entries(origin.alloc(), entries)
+    Ok(Some(RecordMap::from_entries(origin.alloc(), entries)?))
 }
 
 /// The NSEC sets that these keys give, by their own keys: one for each name, with the types of its keys.
@@ -61,7 +69,7 @@ fn nsec_entries(
 }
 
 /// The name of the first key, or the origin where there is none.
-fn first_name<'a>(keys: &[&'a RrKey], origin: &'a LowerName) -> &'a LowerName
+pub(crate) fn first_name<'a>(keys: &[&'a RrKey], origin: &'a LowerName) -> &'a LowerName
     ensures { result.now ≡ first_name origin.now (map (λ k. k.now) keys.now) }
 {
     match keys.first() {

@@ -3,10 +3,12 @@ pub mod Neighbours
 pub mod Stored
 pub mod Entries
 pub mod Renewing
+pub mod Renumbering
 pub mod Upserting
 pub mod Ahead
 pub mod Putting
 pub mod CnamesAlone
+pub mod LastKeys
 pub mod Lists
 pub mod OwnersKept
 pub mod OwnersBelow

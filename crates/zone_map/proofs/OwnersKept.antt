@@ -207,7 +207,7 @@ pub not_listed : (b : Bool) (names : List Name) → None ≡ cond b (Some names)
 not_listed true names e = absurd cc
 not_listed false names e = refl
 
-upto_bound : (n o : Name) → range_contains name_cmp Unbounded (Included n) o ≡ is_upto name_cmp o n
+pub upto_bound : (n o : Name) → range_contains name_cmp Unbounded (Included n) o ≡ is_upto name_cmp o n
 upto_bound n o = by (name_cmp n o) ∙ sym (ap is_le (name_order.total.antisymm o n))
   where
     by : (c : Ordering) → not (is_lt c) ≡ is_le (ordering_reverse c)

@@ -29,7 +29,7 @@ StandAs [] [] = Unit {0}
 StandAs (e ∷ es) (f ∷ fs) = (f.0 ≡ e.0) × ((n : Name) (t : ℕ) → IsStoredAt n t e.1 → IsStoredAt n t f.1) × StandAs es fs
 StandAs es fs = ⊥
 
-keys_of-standing : (es fs : Sets) → StandAs es fs → keys_of fs ≡ keys_of es
+pub keys_of-standing : (es fs : Sets) → StandAs es fs → keys_of fs ≡ keys_of es
 keys_of-standing [] [] stand = refl
 keys_of-standing (e ∷ es) (f ∷ fs) (same, here, rest) = ap (λ k. k ∷ keys_of fs) same ∙ ap (λ ks. e.0 ∷ ks) (keys_of-standing es fs rest)
 keys_of-standing [] (f ∷ fs) stand = absurd stand
@@ -53,7 +53,7 @@ found_standing n t (e ∷ es) (f ∷ fs) s (same, here, rest) h =
         some e = cc
     by false g i = i g
 
-IsZone-standing : (es fs : Sets) → StandAs es fs → IsZone es → IsZone fs
+pub IsZone-standing : (es fs : Sets) → StandAs es fs → IsZone es → IsZone fs
 IsZone-standing es fs stand zone =
     record {
       ordered = subst (IsStrictlySortedBy key_cmp) (sym (keys_of-standing es fs stand)) zone.ordered;

@@ -1,10 +1,18 @@
 -- The owners of the sets of denial in a zone
-use Rattle.std.specs.Prelude.{◌≡◌, ℕ, cond, List, [], filter}
+use Rattle.std.specs.Prelude.{◌≡◌, ℕ, cond, List, [], ◌∷◌, ◌++◌, filter}
 use Rattle.zone_proto.specs.Names.{Name, name_cmp}
 use Rattle.zone_proto.specs.Order.{is_before, is_upto}
 use Rattle.zone_proto.specs.Types.{NSEC, NSEC3}
 use Rattle.zone_map.specs.Upserts.{is_denial_type}
 use Rattle.zone_map.specs.Zones.{Sets, owners, IsZone}
+
+-- the owners of a type that stand at or before a name
+abbrev pub owners_upto : Sets → ℕ → Name → List Name
+owners_upto m t n = filter (λ o. is_upto name_cmp o n) (owners m t)
+
+-- a name is the last of some
+abbrev pub IsLastOf : Name → List Name → Type 0
+IsLastOf o names = (front : List Name) × (names ≡ front ++ o ∷ [])
 
 -- the owners of the sets of a type, ascending, if it is NSEC or NSEC3; of other types none
 abbrev pub denial_owners : Sets → ℕ → List Name

@@ -12,3 +12,4 @@ pub mod Counts
 pub mod DenialOwners
 pub mod Ahead
 pub mod Puts
+pub mod Standing

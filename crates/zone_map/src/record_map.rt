@@ -14,6 +14,7 @@ mod denials;
 mod entries;
 mod puts;
 mod renewal;
+mod serials;
 
 use crate::denial_index::DenialIndex;
 use crate::reads::Reads;

@@ -5,6 +5,7 @@ ghost use Rattle.zone_handler.specs.Answers.{left_in};
 ghost use Rattle.zone_handler.specs.AuthLookup.{records_of};
 ghost use Rattle.zone_handler.specs.Transfers.{transfer_records};
 ghost use Rattle.zone_program.specs.Replies.{lookup_word, records_text, reply_text};
+ghost use Rattle.zone_program.specs.Sessions.{IsAnswer};
 ghost use Rattle.zone_program.specs.Steps.{additionals_beside, empty_zone, found_reply, transfer_query, AsksFor, IsAdded, IsDenialOf, IsDenied, IsDropped, IsLookedUp, IsTransferAnswer, IsTransferred, Adds, Carries};
 
 use crate::circle::circle;
@@ -13,7 +14,7 @@ use crate::sha1_hash::Sha1Hash;
 use crate::signing::{add_key, renew, secure};
 use std::alloc::AllocError;
 use std::fmt;
-use zone_commands::Command;
+use zone_commands::{Command, Session};
 use zone_handler::{
     AuthLookup, AxfrPolicy, LookupControlFlow, LookupError, LookupOptions, LookupRecordsIter,
     Nsec3QueryInfo, Request, ZoneHandler, ZoneTransfer, ZoneType,
@@ -48,12 +49,16 @@ pub struct Served {
     pub moment: u64,
 }
 
+impl Session for Served {
+    ghost carries = { IsAnswer };
+
+    fn carry_out(&mut self, command: Command, answer: &mut String) -> Result<(), AllocError> {
+        carry_out(self, command, answer)
+    }
+}
+
 /// Carries out a command, and adds its answer to the text. An error says that memory was refused for the text.
-pub fn carry_out(
-    served: &mut Served,
-    command: Command,
-    answer: &mut String,
-) -> Result<(), AllocError>
+fn carry_out(served: &mut Served, command: Command, answer: &mut String) -> Result<(), AllocError>
     ensures { OnOk result (Carries served.old command (string_bytes answer.old) (string_bytes answer.new) served.new) }
 {
     match command {

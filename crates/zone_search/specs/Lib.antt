@@ -10,3 +10,4 @@ pub mod Flattening
 pub mod Replies
 pub mod ReplyLaws
 pub mod Securing
+pub mod Denials

@@ -182,9 +182,9 @@ impl<S: Signer> InnerInMemory<S> {
     ///   closest encloser, the one that covers the next closer name, and the one that matches the star under the closest
     ///   encloser or, where none does, covers it. The type of the query isn't read.
     ///
-    /// Names are hashed in this order, each only where the answer needs it: the queried name, its ancestors from the nearest on
-    /// until one has a match, the next closer name, the closest encloser, and the star. The first that is refused refuses the
-    /// call, as [`Nsec3QueryInfo::hashed_owner_name`] says; so does want of memory.
+    /// Names are hashed in this order, each once and only where the answer needs it: the queried name, its ancestors from the
+    /// nearest on until one has a match, the closest encloser, and the star. The first that is refused refuses the call, as
+    /// [`Nsec3QueryInfo::hashed_owner_name`] says; so does want of memory.
     pub fn proof<H: Nsec3Hash>(
         &self,
         info: Nsec3QueryInfo<'_>,

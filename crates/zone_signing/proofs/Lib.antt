@@ -2,4 +2,5 @@ pub mod SignedSets
 pub mod Handings
 pub mod Changes
 pub mod SecuredSets
+pub mod KeptSets
 mod SecuredExamples

@@ -10,6 +10,7 @@ use Rattle.zone_proto.specs.Sets.{RRset}
 use Rattle.zone_proto.specs.Signing.{SignedPart}
 use Rattle.zone_proto.specs.Stepping.{stepped}
 use Rattle.zone_proto.specs.Types.{SOA}
+use Rattle.zone_map.specs.Standing.{standing_at}
 use Rattle.zone_map.specs.Zones.{Sets, set_at, owns}
 use Rattle.zone_signing.specs.Signatures.{signatures}
 
@@ -37,6 +38,10 @@ bare s = record s { signatures = [] }
 -- what is to be signed: the new denials, and beside them what stays of the zone
 abbrev pub unsigned_at : Option ℕ → Sets → Sets → SetsBy
 unsigned_at denials zone new_denials n t = option_or (set_at new_denials n t) (if stays denials t then set_at zone n t else None)
+
+-- the same where the denials of a type stay, with another serial
+abbrev pub kept_at : ℕ → ℕ → Sets → SetsBy
+kept_at denials serial zone n t = option_or (standing_at zone denials serial n t) (if stays (Some denials) t then set_at zone n t else None)
 
 module _ {S : Type 0} (signature_of : S → SignedPart → ℕ → ℕ → Option RRSIG) (now : ℕ) where
   -- a set with the signatures of those signers that sign, in their order, in the place of the ones that it has

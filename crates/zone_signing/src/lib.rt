@@ -4,5 +4,6 @@
 //! Contracts see a signer as a function of what it signs and of the moment. A call that is refused changes nothing.
 #![tactic(auto)]
 
+pub mod keeping;
 pub mod securing;
 pub mod signatures;

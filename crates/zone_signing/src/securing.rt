@@ -60,7 +60,7 @@ pub fn secure<S: Signer>(
 
 /// Steps the serial of the zone whose SOA stands under `apex`, and signs all sets. All signatures are made before the first
 /// one is put in, so that a refusal leaves the zone as it was.
-fn sign_all<S: Signer>(
+pub(crate) fn sign_all<S: Signer>(
     zone: &mut RecordMap,
     apex: &RrKey,
     signers: &[S],

@@ -55,11 +55,13 @@ fn names_tell_what_they_are_without_memory(rt: HostRuntime) -> Result<(), Fail> 
     let alloc = rt.alloc();
     let name = Name::parse(alloc, LONG)?;
     let lower = LowerName::parse(alloc, LONG)?;
+    let in_lower_case = Name::from(lower.clone()?);
     let scarce = Scarcity::of_all(alloc);
     let is_scarce = scarce.is_ok();
     let holds = tells(&name, &name) && lower_tells(&lower, &lower);
+    let is_exact = lower.is_exactly(&in_lower_case) && !lower.is_exactly(&name);
     drop(scarce);
-    assert!(rt; is_scarce && holds);
+    assert!(rt; is_scarce && holds && is_exact);
     Ok(())
 }
 
@@ -89,10 +91,12 @@ fn signatures_move(set: &mut RecordSet, mut others: Rrsigs) -> bool {
     is_moved && set.rrsigs().len() == 2
 }
 
-/// Whether the serial of an SOA's set is stepped.
-fn is_stepped(mut set: RecordSet) -> bool {
+/// Whether the serial of an SOA's set is stepped, and then replaced.
+fn is_numbered(mut set: RecordSet) -> bool {
     set.step_serial();
-    set.serial() == 2
+    let is_stepped = set.serial() == 2;
+    set.set_serial(9);
+    is_stepped && set.serial() == 9
 }
 
 /// Two signatures.
@@ -109,7 +113,7 @@ fn signatures(alloc: Global) -> Result<Rrsigs, ProtoError> {
 fn sets_take_none(alloc: Global, mut set: RecordSet, soa: RecordSet, others: Rrsigs) -> bool {
     let scarce = Scarcity::of_all(alloc);
     let is_scarce = scarce.is_ok();
-    let holds = set_tells(&set) && signatures_move(&mut set, others) && is_stepped(soa);
+    let holds = set_tells(&set) && signatures_move(&mut set, others) && is_numbered(soa);
     drop(scarce);
     is_scarce && holds
 }

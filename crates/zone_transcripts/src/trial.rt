@@ -177,18 +177,22 @@ fn compare(
     if let Some(difference) = first_difference(wanted, &came) {
         return Ok(Some(format!(in alloc; "{difference}")?));
     }
-    if output.writes > most_writes(feed.reads, output.got.len()) {
+    let lacks_end = !transcript.input.as_slice().ends_with(b"\n");
+    if output.writes > most_writes(feed.reads, output.got.len(), lacks_end) {
         return Ok(Some(format!(in alloc; "{} writes for {} reads", output.writes, feed.reads)?));
     }
     Ok(None)
 }
 
 /// How many writes a run may make that makes so many reads and writes so many octets: one before each read but the first,
-/// and one for each `WAITING_LIMIT` octets.
-fn most_writes(reads: usize, octets: usize) -> usize {
-    reads
-        .saturating_sub(1)
-        .saturating_add(octets / WAITING_LIMIT)
+/// one for each `WAITING_LIMIT` octets, and one for a last line that lacks its end.
+fn most_writes(reads: usize, octets: usize, lacks_end: bool) -> usize {
+    let before_reads = if lacks_end {
+        reads
+    } else {
+        reads.saturating_sub(1)
+    };
+    before_reads.saturating_add(octets / WAITING_LIMIT)
 }
 
 /// The first octets.

@@ -1,13 +1,13 @@
 // The owners of the sets of denial in the record map.
-ghost use Rattle.std.specs.Prelude.{◌≡◌};
+ghost use Rattle.std.specs.Prelude.{◌≡◌, Some, IfSome};
 ghost use Rattle.std.specs.List.{list_any};
 ghost use Rattle.zone_proto.specs.Names.{is_at_or_above};
-ghost use Rattle.zone_map.specs.DenialOwners.{denial_owners, denial_owners_upto, denial_owners_before};
-ghost use Rattle.zone_map.specs.Zones.{IsZone};
+ghost use Rattle.zone_map.specs.DenialOwners.{denial_owners, denial_owners_upto, denial_owners_before, owners_upto, IsLastOf};
+ghost use Rattle.zone_map.specs.Zones.{set_at, IsZone};
 
 use crate::denial_owners::{DenialOwners, LastOwners};
 use crate::record_map::RecordMap;
-use zone_proto::{LowerName, RecordType};
+use zone_proto::{LowerName, RecordSet, RecordType, RrKey};
 
 impl RecordMap {
     /// The owners of the sets of a type, in canonical order, if that is NSEC or NSEC3; none for other types. Takes no memory.
@@ -52,6 +52,21 @@ impl RecordMap {
             None => LastOwners::new(None),
         }
     }
+
+    /// The owner and the set of the last key that isn't after this one, if it is of the same type: then no owner of the type
+    /// stands between it and the key's name. None tells nothing of owners further back. Takes no memory.
+    pub fn last_of_type_upto(&self, key: &RrKey) -> Option<(&LowerName, &RecordSet)>
+        ensures last { IfSome result (λ last. IsLastOf last.0.now (owners_upto self.now key.now.record_type.0 key.now.name)) }
+        ensures set { IfSome result (λ last. set_at self.now last.0.now key.now.record_type.0 ≡ Some last.1.now) }
+        ensures zone { IsZone self.now }
+    {
+        let (last, set) = self.sets.range(..=key).next_back()?;
+        if last.record_type != key.record_type {
+            return None;
+        }
+        Some((&last.name, set))
+    }
+
     /// Whether a name, or a name below it, owns a set of a type, if that is NSEC or NSEC3; no for other types. One owner is looked
     /// at, the first of the type that isn't before the name: the names below a name stand together. Takes no memory.
     pub fn owns_denial_at_or_below(&self, record_type: RecordType, name: &LowerName) -> bool

@@ -1,13 +1,14 @@
 // The record sets of a zone once it is secured.
-ghost use Rattle.std.specs.Prelude.{◌≡◌, ◌⊎◌, ℕ, None, Some, IfOk, IfErr, OnOk, OnErr, IsOkUnless, option_map, option_copied};
+ghost use Rattle.std.specs.Prelude.{◌≡◌, ◌⊎◌, ◌==◌, ℕ, cond, None, Some, IfOk, IfErr, OnOk, OnErr, IsOkUnless, option_map, option_copied};
 ghost use Rattle.zone_proto.specs.Names.{Name};
-ghost use Rattle.zone_proto.specs.Types.{SOA, CNAME};
+ghost use Rattle.zone_proto.specs.Types.{SOA, CNAME, NSEC};
 ghost use Rattle.zone_denial.specs.NsecSets.{nsec_set_at};
 ghost use Rattle.zone_denial.specs.Nsec3Sets.{nsec3_sets_at, nsec3_fault};
 ghost use Rattle.zone_denial.specs.Nsec3Zones.{hash_with};
 ghost use Rattle.zone_map.specs.Zones.{set_at, owns, IsZone};
-ghost use Rattle.zone_signing.specs.Secured.{unsigned_at, IsSecured};
+ghost use Rattle.zone_signing.specs.Secured.{IsSecured};
 ghost use Rattle.zone_search.specs.StartOfAuthority.{minimum, serial};
+ghost use Rattle.zone_search.specs.Denials.{denied_at, AreKeptByType};
 ghost use Rattle.zone_search.specs.Securing.{denied_by, with_denials, with_nsec3_sets, denial_fault, to_be_signed, nsec3_kind};
 
 use crate::inner_in_memory::InnerInMemory;
@@ -16,7 +17,18 @@ use zone_denial::{nsec_sets, nsec3_sets};
 use zone_handler::SecureError;
 use zone_map::RecordMap;
 use zone_proto::{NSEC3PARAM, Nsec3Hash, NxProofKind, ProtoError, RecordType, RrKey, Signer};
-use zone_signing::securing;
+use zone_signing::{keeping, securing};
+
+/// The denials of a zone that is secured.
+#[derive(Drop)]
+enum Denials {
+    /// Those that the zone has, if any.
+    AsTheyAre,
+    /// These sets, in the place of those of the type.
+    New(RecordType, RecordMap),
+    /// Those of the type that stand in the zone, with this serial.
+    Kept(RecordType, u32),
+}
 
 /// What `zone_in_memory` makes a zone of: no user of a zone needs it.
 #[doc(hidden)]
@@ -45,39 +57,33 @@ impl<S: Signer> InnerInMemory<S> {
             ⊎ (denial_fault (H.digest_of hash.now) apex.now.name self.old.records (denied_by (option_copied kind.entry) self.old.signers) ≡ Some e)) }
         ensures same { OnErr result (self.new ≡ self.old) }
     {
-        let (old_denials, new_denials) = self.denials(apex, kind, hash)?;
+        let denials = self.denials(apex, kind, hash)?;
         let signers = self.signers.as_slice();
-        match securing::secure(
-            &mut self.records,
-            old_denials,
-            new_denials,
-            apex,
-            signers,
-            now,
-        ) {
+        match secure_denied(&mut self.records, denials, apex, signers, now) {
             Ok(()) => Ok(()),
             Err(_) => Err(SecureError::Memory),
         }
     }
 
-    /// The type of the denials that leave the zone, if some do, and the sets that come in.
+    /// The denials that the zone gets, or those that stand in it where it gets no other.
     fn denials<H: Nsec3Hash>(
         &self,
         apex: &RrKey,
         kind: Option<&NxProofKind>,
         hash: &H,
-    ) -> Result<(Option<RecordType>, RecordMap), SecureError>
+    ) -> Result<Denials, SecureError>
         requires { apex.now.record_type.0 ≡ SOA }
-        ensures ok { IfOk result (λ made. (n : Name) (t : ℕ) → unsigned_at (option_map (λ d. d.0) made.0) self.now.records made.1 n t
+        ensures ok { IfOk result (λ denials. (n : Name) (t : ℕ) → denied_at denials self.now.records n t
             ≡ to_be_signed (H.digest_of hash.now) apex.now.name self.now.records (option_copied kind.entry) self.now.signers n t) }
+        ensures kept { IfOk result AreKeptByType }
         ensures fits { OnOk result (denial_fault (H.digest_of hash.now) apex.now.name self.now.records (denied_by (option_copied kind.entry) self.now.signers) ≡ None) }
         ensures err { IfErr result (λ e. (e ≡ SecureError.Memory)
             ⊎ (denial_fault (H.digest_of hash.now) apex.now.name self.now.records (denied_by (option_copied kind.entry) self.now.signers) ≡ Some e)) }
     {
         match self.denied_by(kind) {
-            None => Ok((None, RecordMap::new(apex.name.alloc()))),
-            Some(NxProofKind::Nsec) => match self.nsec_sets(apex) {
-                Ok(sets) => Ok((Some(RecordType::NSEC), sets)),
+            None => Ok(Denials::AsTheyAre),
+            Some(NxProofKind::Nsec) => match self.nsec_denials(apex) {
+                Ok(denials) => Ok(denials),
                 Err(_) => Err(SecureError::Memory),
             },
             Some(
@@ -98,7 +104,7 @@ impl<S: Signer> InnerInMemory<S> {
                     salt,
                 };
                 let sets = self.nsec3_sets(apex, &parameters, hash)?;
-                Ok((Some(RecordType::NSEC3), sets))
+                Ok(Denials::New(RecordType::NSEC3, sets))
             }
         }
     }
@@ -110,15 +116,19 @@ impl<S: Signer> InnerInMemory<S> {
         if self.signers.is_empty() { None } else { kind }
     }
 
-    /// The NSEC sets of the zone whose SOA stands under `apex`.
-    fn nsec_sets(&self, apex: &RrKey) -> Result<RecordMap, ProtoError>
+    /// The NSEC sets of the zone whose SOA stands under `apex`, or those that stand in it where they are the same.
+    fn nsec_denials(&self, apex: &RrKey) -> Result<Denials, ProtoError>
         requires { apex.now.record_type.0 ≡ SOA }
-        ensures ok { IfOk result (λ map. (n : Name) (t : ℕ) → set_at map n t
-            ≡ nsec_set_at apex.now.name self.now.records (minimum self.now.records apex.now.name) (serial self.now.records apex.now.name) n t) }
+        ensures ok { IfOk result (λ denials. (n : Name) (t : ℕ) → denied_at denials self.now.records n t
+            ≡ cond (t == NSEC) (nsec_set_at apex.now.name self.now.records (minimum self.now.records apex.now.name) (serial self.now.records apex.now.name) n t) (set_at self.now.records n t)) }
+        ensures kept { IfOk result AreKeptByType }
         ensures err { IsOkUnless result ProtoError.Memory }
     {
         let (minimum, serial) = self.minimum_and_serial(apex);
-        nsec_sets::nsec_sets(&self.records, &apex.name, minimum, serial)
+        match nsec_sets::nsec_sets(&self.records, &apex.name, minimum, serial)? {
+            Some(sets) => Ok(Denials::New(RecordType::NSEC, sets)),
+            None => Ok(Denials::Kept(RecordType::NSEC, serial)),
+        }
     }
 
     /// The NSEC3 sets of the zone whose SOA stands under `apex`, and its NSEC3PARAM set, beside which no CNAME may stand.
@@ -160,6 +170,36 @@ impl<S: Signer> InnerInMemory<S> {
         match self.get(apex).and_then(first_soa) {
             Some(soa) => (soa.minimum, soa.serial),
             None => (0, 0),
+        }
+    }
+}
+
+/// Secures the record sets of a zone whose SOA stands under `apex`, with these denials, at the moment `now`. Refused by
+/// `Memory` alone, which leaves the zone as it was.
+fn secure_denied<S: Signer>(
+    records: &mut RecordMap,
+    denials: Denials,
+    apex: &RrKey,
+    signers: &[S],
+    now: u64,
+) -> Result<(), ProtoError>
+    requires apex { apex.now.record_type.0 ≡ SOA }
+    requires kept { AreKeptByType denials }
+    ensures ok { OnOk result (IsSecured S.signature_of now apex.now.name signers.now (denied_at denials records.old) records.new) }
+    ensures zone { OnOk result (IsZone records.new) }
+    ensures err { IsOkUnless result ProtoError.Memory }
+    ensures same { OnErr result (records.new ≡ records.old) }
+{
+    match denials {
+        Denials::AsTheyAre => {
+            let none = RecordMap::new(apex.name.alloc());
+            securing::secure(records, None, none, apex, signers, now)
+        }
+        Denials::New(record_type, sets) => {
+            securing::secure(records, Some(record_type), sets, apex, signers, now)
+        }
+        Denials::Kept(record_type, serial) => {
+            keeping::secure_kept(records, record_type, serial, apex, signers, now)
         }
     }
 }

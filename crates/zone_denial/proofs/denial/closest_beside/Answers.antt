@@ -20,7 +20,7 @@ pub returns-then-not-zone_of-clause-found : goal.returns-then-not-zone_of-clause
 returns-then-not-zone_of-clause-found c =
     let m = c.args.records.now in
     let out = λ (w : IsAtOrAbove c.args.origin.now c.args.name). true≢false (sym (c.zone_of.ensures.1 w) ∙ c.if-not-zone_of.true) in
-    IfOk-weaker c.closest_nsec.result _ _ (λ set is. is ∙ ap (option_and_then (closest_nsec m)) (sym (beside_outside c.args.origin.now m c.args.name out))) c.closest_nsec.ensures.found
+    IfOk-weaker c.closest_nsec_knowing.result _ _ (λ set is. is ∙ ap (option_and_then (closest_nsec m)) (sym (beside_outside c.args.origin.now m c.args.name out))) c.closest_nsec_knowing.ensures.found
 
 pub enclosed_star-requires : goal.enclosed_star-requires
 enclosed_star-requires c = below_other c.args.origin.now c.args.name (sym c.eq.ensures ∙ c.if-eq.false) (c.zone_of.ensures.0 c.if-not-zone_of.false)
@@ -29,6 +29,6 @@ pub returns-clause-found : goal.returns-clause-found
 returns-clause-found c =
     let m = c.args.records.now in
     let below = below_other c.args.origin.now c.args.name (sym c.eq.ensures ∙ c.if-eq.false) (c.zone_of.ensures.0 c.if-not-zone_of.false) in
-    IfOk-weaker c.closest_nsec-2.result _ _
+    IfOk-weaker c.closest_nsec_knowing-2.result _ _
     (λ set is. is ∙ ap (closest_nsec m) c.in_ok-star.ensures.ok ∙ ap (option_and_then (closest_nsec m)) (sym (beside_below c.args.origin.now m c.args.name below)))
-    c.closest_nsec-2.ensures.found
+    c.closest_nsec_knowing-2.ensures.found

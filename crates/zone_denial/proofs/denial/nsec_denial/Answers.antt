@@ -12,6 +12,6 @@ returns-clause-sets c =
     let named : c.new-key.result.name ≡ c.args.name.now = ap (λ k. k.name) c.new-key.ensures.value ∙ c.in_ok-clone.ensures.ok in
     ap (λ o. option_to_list o ++ option_to_list (option_copied c.in_ok-closest.closest)) c.unless_same.ensures
     ∙ closest_denial m c.closest_nsec.ensures.zone c.args.origin.now c.args.name.now (option_copied c.in_ok-beside.beside) (option_copied c.in_ok-closest.closest)
-    (sym (ap (λ k. set_at m k.name k.record_type.0) c.new-key.ensures.value ∙ ap (λ n. set_at m n NSEC) c.in_ok-clone.ensures.ok) ∙ sym c.get.ensures.found ∙ ap option_copied c.in_default.is)
+    (sym (ap (λ n. set_at m n NSEC) named) ∙ sym c.own_nsec.ensures ∙ ap option_copied c.in_default.is)
     (c.in_ok-beside.ensures.found ∙ ap (λ n. option_and_then (closest_nsec m) (proved_beside c.args.origin.now m n)) named)
     c.in_ok-closest.ensures.found

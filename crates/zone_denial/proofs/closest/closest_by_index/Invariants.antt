@@ -1,6 +1,6 @@
 use Rattle.std.proofs.Common.{length}
 use Rattle.zone_denial.proofs.ClosestSets.{AreRead}
-use Rattle.zone_denial.proofs.closest.closest_nsec_counted.Given as goal
+use Rattle.zone_denial.proofs.closest.closest_by_index.Given as goal
 
 -- the owners that aren't left were read and counted, and the next name of none of them is past the name
 abbrev pub invariant-loop-owner : goal.invariant-loop-owner

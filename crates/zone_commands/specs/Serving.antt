@@ -1,0 +1,17 @@
+-- How lines are read and answers are written
+use Rattle.std.specs.Prelude.{◌≡◌, ◌++◌, ℕ, List, [], Option, Some, None}
+use Rattle.std.specs.Io.KnownBytes.{Appends, IsAtEnd}
+use Rattle.zone_commands.specs.declared.lines.Line.{Line as LineKind}
+use Rattle.zone_commands.specs.InHand.{HasNoFeed, InHand, IsUntaken, TakesLine}
+use Rattle.zone_commands.specs.Told.{told}
+
+-- of the octets that waited the first ones were written to what a writer holds, and the others wait still
+pub record Moves (waited : List ℕ) (old new : Option (List ℕ)) (waiting : List ℕ) : Type 0 where
+  pub written : List ℕ
+  pub parts : waited ≡ written ++ waiting
+  pub appended : Appends old new written
+
+-- of octets that were read and not taken the first line was taken; or they have no line feed, and nothing more comes
+abbrev pub TakesNext : Option LineKind → List ℕ → InHand → Option (List ℕ) → Type 0
+TakesNext (Some line) octets hand remaining = (left : List ℕ) × IsUntaken hand left × TakesLine octets (told line hand.line) left
+TakesNext None octets hand remaining = IsUntaken hand octets × HasNoFeed octets × (hand.ahead ≡ []) × IsAtEnd remaining
