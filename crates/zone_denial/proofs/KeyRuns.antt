@@ -23,7 +23,7 @@ use Rattle.zone_denial.proofs.Linking.{Linking, Linking-more, types_of_keys}
 -- ---- the elements in front that pass a test
 
 module _ {A : Type 0} (p : A → Bool) where
-  in_front : (x : A) (xs : List A) → In x (take (prefix_len p xs) xs) → p x ≡ true
+  pub in_front : (x : A) (xs : List A) → In x (take (prefix_len p xs) xs) → p x ≡ true
   in_front x [] i = absurd i
   in_front x (y ∷ xs) i = by (p y) refl (λ j. in_front x xs j) i
     where

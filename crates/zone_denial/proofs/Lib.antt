@@ -57,3 +57,4 @@ pub mod Nsec3Runs
 pub mod Naming
 pub mod NamingSteps
 pub mod StandingSets
+pub mod TypesPassed

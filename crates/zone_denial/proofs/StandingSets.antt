@@ -1,5 +1,5 @@
 -- The NSEC sets that stand in a zone, passed one after the other, and found by name and type
-use Rattle.std.proofs.Common.{◌≡◌, ℕ, ◌==◌, Bool, true, false, cond, List, [], ◌∷◌, ◌++◌, map, refl, sym, ap, ◌∙◌, subst, append_assoc, append-nil, eqb-true, eq-eqb, Decides}
+use Rattle.std.proofs.Common.{◌≡◌, ℕ, ◌==◌, Bool, true, false, cond, List, [], ◌∷◌, ◌++◌, map, refl, sym, ap, ◌∙◌, subst, append_assoc, append-nil, eqb-true}
 use Rattle.std.specs.Prelude.{Some, None, filter, option_map}
 use Rattle.std.specs.Cmp.{eq_by_cmp_equiv}
 use Rattle.std.specs.List.{IsDistinct}
@@ -10,7 +10,6 @@ use Rattle.std.proofs.lemmas.Map.Made.{update_all_none, IsDistinct-keys_filter}
 use Rattle.zone_proto.specs.declared.rdata.RData.TheVariants as V
 use Rattle.zone_proto.specs.declared.rdata.denial.NSEC.{NSEC as NsecData}
 use Rattle.zone_proto.specs.declared.record.Record.{Record}
-use Rattle.zone_proto.specs.declared.record_type.RecordType.{RecordType}
 use Rattle.zone_proto.specs.declared.rr_key.RrKey.{RrKey}
 use Rattle.zone_proto.specs.Keys.{key, key_cmp, key_eq}
 use Rattle.zone_proto.specs.Names.{Name, lower}
@@ -116,13 +115,9 @@ last_at-standing m zone type' serial n t =
 
 -- ---- an NSEC record by its parts
 
-pub types_same : (a b : RecordType) → Decides (a.0 == b.0) (a ≡ b)
-types_same a b = (λ e. ap (λ n. record { 0 = n }) (eqb-true a.0 b.0 e), λ e. eq-eqb a.0 b.0 (ap (λ (t : RecordType). t.0) e))
-
-pub nsec_record_is : (only : Record) (data' : NsecData) (name next : Name) (ttl : ℕ) (types : List RecordType) (ts : List ℕ) → only.rdata ≡ V.NSEC data'
-    → only.name ≡ name → only.dns_class ≡ record { 0 = IN } → only.ttl ≡ ttl → data'.next_domain_name ≡ next → data'.types ≡ types → numbers types ≡ ts
-    → only ≡ record { name = name; dns_class = record { 0 = IN }; ttl = ttl; rdata = V.NSEC (nsec_data next ts) }
-nsec_record_is only data' name next ttl types ts is named class lasts follows listed numbered =
-    let same = listed ∙ of_numbers types ∙ ap (map (λ n. record { 0 = n })) numbered in
+pub nsec_record_is : (only : Record) (data' : NsecData) (name next : Name) (ttl : ℕ) (ts : List ℕ) → only.rdata ≡ V.NSEC data' → only.name ≡ name → only.dns_class ≡ record { 0 = IN } → only.ttl ≡ ttl
+    → data'.next_domain_name ≡ next → numbers data'.types ≡ ts → only ≡ record { name = name; dns_class = record { 0 = IN }; ttl = ttl; rdata = V.NSEC (nsec_data next ts) }
+nsec_record_is only data' name next ttl ts is named class lasts follows numbered =
+    let same = of_numbers data'.types ∙ ap (map (λ n. record { 0 = n })) numbered in
     let own : only.rdata ≡ V.NSEC (nsec_data next ts) = is ∙ (λ i. V.NSEC (record { next_domain_name = follows i; types = same i })) in
     λ i. record { name = named i; dns_class = class i; ttl = lasts i; rdata = own i }

@@ -11,6 +11,7 @@ pub mod denial;
 mod hashed_names;
 mod key_runs;
 pub mod laws;
+mod listed_types;
 pub mod nsec3_denial;
 mod nsec3_keys;
 mod nsec3_names;

@@ -36,7 +36,7 @@ pub fn nsec_sets(
     ensures err { IsOkUnless result ProtoError.Memory }
 {
     let keys = authoritative_keys(records, origin, RecordType::NSEC)?;
-    if nsec_sets_stand(records, keys.as_slice(), origin, ttl)? {
+    if nsec_sets_stand(records, keys.as_slice(), origin, ttl) {
         return Ok(None);
     }
     let entries = nsec_entries(keys.as_slice(), origin, ttl, serial)?;

@@ -1,5 +1,5 @@
 //! Whether the NSEC sets that stand in a zone are those that it would get.
-ghost use Rattle.std.specs.Prelude.{◌≡◌, ℕ, ◌∷◌, [], map, IfOk, IfSome, IsOkUnless, IsTrue};
+ghost use Rattle.std.specs.Prelude.{◌≡◌, ℕ, ◌∷◌, [], map, IfSome, IsTrue};
 ghost use Rattle.std.specs.List.Sorted.{IsStrictlySortedBy};
 ghost use Rattle.std.specs.Ordering.{nat_cmp};
 ghost use Rattle.zone_proto.specs.declared.rdata.RData.TheVariants as variant;
@@ -12,22 +12,21 @@ ghost use Rattle.zone_denial.specs.StandingSets.{standing_sets};
 ghost use Rattle.zone_denial.specs.TypeLists.{joined};
 
 use crate::key_runs::count_of_name;
+use crate::listed_types::lists_types;
 use crate::nsec_sets::first_name;
-use crate::type_list::type_list;
 use zone_map::RecordMap;
-use zone_proto::{DNSClass, LowerName, ProtoError, RData, Record, RecordSet, RecordType, RrKey};
+use zone_proto::{DNSClass, LowerName, RData, Record, RecordSet, RecordType, RrKey};
 
 /// Whether the NSEC sets that stand in the zone are those that these keys give, serials and signatures aside: one for each
-/// name in order, and no other. It stops at the first difference. Refused by `Memory` alone.
+/// name in order, and no other. It stops at the first difference. Takes no memory.
 pub(crate) fn nsec_sets_stand(
     records: &RecordMap,
     keys: &[&RrKey],
     origin: &LowerName,
     ttl: u32,
-) -> Result<bool, ProtoError>
+) -> bool
     requires { IsStrictlySortedBy key_cmp (map (λ k. k.now) keys.now) }
-    ensures ok { IfOk result (λ stand. IsTrue stand → (serial : ℕ) → AreLinked origin.now (map (λ k. k.now) keys.now) ttl serial (standing_sets nsec_type serial records.now)) }
-    ensures err { IsOkUnless result ProtoError.Memory }
+    ensures { IsTrue result → (serial : ℕ) → AreLinked origin.now (map (λ k. k.now) keys.now) ttl serial (standing_sets nsec_type serial records.now) }
 {
     let mut start = 0;
     for (key, set) in records.iter() {
@@ -35,19 +34,19 @@ pub(crate) fn nsec_sets_stand(
             continue;
         }
         if start == keys.len() {
-            return Ok(false);
+            return false;
         }
         let first = keys[start];
         // Its clauses say that the name is in lower case.
         let _ = first.name.labels();
         let end = start + count_of_name(&keys[start..], &first.name);
         let next = first_name(&keys[end..], origin);
-        if !is_nsec_set(set, &first.name, next, &keys[start..end], ttl)? {
-            return Ok(false);
+        if !is_nsec_set(set, &first.name, next, &keys[start..end], ttl) {
+            return false;
         }
         start = end;
     }
-    Ok(start == keys.len())
+    start == keys.len()
 }
 
 /// Whether a set is the NSEC set of a name with this next one and the types of these keys, serial and signatures aside.
@@ -57,18 +56,17 @@ fn is_nsec_set(
     next: &LowerName,
     keys: &[&RrKey],
     ttl: u32,
-) -> Result<bool, ProtoError>
+) -> bool
     requires { set.now.record_type ≡ nsec_type }
-    ensures ok { IfOk result (λ same. IsTrue same → (serial : ℕ) → renumbered serial set.now
-        ≡ new_set ttl serial name.now (nsec_data next.now (joined nat_cmp nsec_type (joined nat_cmp RRSIG (map (λ k. k.now.record_type.0) keys.now))))) }
-    ensures err { IsOkUnless result ProtoError.Memory }
+    ensures { IsTrue result → (serial : ℕ) → renumbered serial set.now
+        ≡ new_set ttl serial name.now (nsec_data next.now (joined nat_cmp nsec_type (joined nat_cmp RRSIG (map (λ k. k.now.record_type.0) keys.now)))) }
 {
     if set.ttl() != ttl || set.dns_class() != DNSClass::IN || !name.is_exactly(set.name()) {
-        return Ok(false);
+        return false;
     }
     match only_record(set) {
         Some(only) => is_nsec_record(only, name, next, keys, ttl),
-        None => Ok(false),
+        None => false,
     }
 }
 
@@ -91,20 +89,18 @@ fn is_nsec_record(
     next: &LowerName,
     keys: &[&RrKey],
     ttl: u32,
-) -> Result<bool, ProtoError>
-    ensures ok { IfOk result (λ same. IsTrue same → only.now
-        ≡ record { name = name.now; dns_class = record { 0 = IN }; ttl = ttl; rdata = variant.NSEC (nsec_data next.now (joined nat_cmp nsec_type (joined nat_cmp RRSIG (map (λ k. k.now.record_type.0) keys.now)))) }) }
-    ensures err { IsOkUnless result ProtoError.Memory }
+) -> bool
+    ensures { IsTrue result → only.now
+        ≡ record { name = name.now; dns_class = record { 0 = IN }; ttl = ttl; rdata = variant.NSEC (nsec_data next.now (joined nat_cmp nsec_type (joined nat_cmp RRSIG (map (λ k. k.now.record_type.0) keys.now)))) } }
 {
     if only.ttl != ttl || only.dns_class != DNSClass::IN || !name.is_exactly(&only.name) {
-        return Ok(false);
+        return false;
     }
     let RData::NSEC(data) = &only.rdata else {
-        return Ok(false);
+        return false;
     };
     if !next.is_exactly(&data.next_domain_name) {
-        return Ok(false);
+        return false;
     }
-    let types = type_list(name.alloc(), keys, RecordType::NSEC)?;
-    Ok(*data.types.as_slice() == *types)
+    lists_types(data.types.as_slice(), keys)
 }

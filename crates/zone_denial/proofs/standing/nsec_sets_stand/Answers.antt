@@ -1,4 +1,4 @@
-use Rattle.std.proofs.Common.{◌≡◌, ℕ, ◌+◌, ◌<◌, ◌==◌, true, false, List, [], ◌∷◌, map, length, take, drop, sym, ap, ◌∙◌, subst, arith, rules, eqb-true}
+use Rattle.std.proofs.Common.{◌≡◌, ℕ, ◌+◌, ◌<◌, ◌==◌, true, List, map, length, take, drop, sym, ap, ◌∙◌, subst, arith, eqb-true}
 use Rattle.std.specs.Borrow.{Bor}
 use Rattle.std.specs.List.{prefix_len}
 use Rattle.std.specs.Ordering.{nat_cmp, eq_by_cmp}
@@ -6,18 +6,17 @@ use Rattle.std.proofs.Math.ListN.{drop_of_length-le}
 use Rattle.std.proofs.lemmas.List.Elements.{All-head, All-tail}
 use Rattle.zone_proto.specs.declared.rr_key.RrKey.{RrKey}
 use Rattle.zone_proto.specs.Keys.{key, key_cmp}
-use Rattle.zone_proto.specs.Names.{Name, name_cmp}
+use Rattle.zone_proto.specs.Names.{name_cmp}
 use Rattle.zone_proto.specs.Sets.{RRset}
 use Rattle.zone_proto.specs.Types.{RRSIG, NSEC}
 use Rattle.zone_map.proofs.Neighbours.{not_false, not_true}
-use Rattle.zone_map.specs.Standing.{renumbered}
-use Rattle.zone_map.specs.Zones.{Sets, IsStoredAt, AreStored}
+use Rattle.zone_map.specs.Zones.{IsStoredAt, AreStored}
 use Rattle.zone_denial.specs.NsecLinks.{first_name}
 use Rattle.zone_denial.specs.NsecSets.{nsec_data, new_set}
 use Rattle.zone_denial.specs.TypeLists.{joined}
 use Rattle.zone_denial.proofs.Ascending.{Ascends-from_sorted}
 use Rattle.zone_denial.proofs.KeyRuns.{lent_keys, to_end, of_count, Linking-step}
-use Rattle.zone_denial.proofs.StandingSets.{renewed, under_own_key, StandSoFar-start, StandSoFar-other, StandSoFar-more, StandSoFar-end}
+use Rattle.zone_denial.proofs.StandingSets.{under_own_key, StandSoFar-start, StandSoFar-other, StandSoFar-more, StandSoFar-end}
 use Rattle.zone_denial.proofs.standing.nsec_sets_stand.Goals as goal
 
 pub loop-key-init : goal.loop-key-init
@@ -62,10 +61,10 @@ loop-key-preserved c =
     let all = subst AreStored c.in-Some.ensures.steps c.loop-key.invariant.stored in
     let stored : IsStoredAt e.0.name e.0.record_type.0 e.1 = All-head (λ d. IsStoredAt d.0.name d.0.record_type.0 d.1) _ _ all in
     let denies : (e.0.record_type.0 == NSEC) ≡ true = not_false _ (sym c.ne.ensures ∙ c.if-ne.false) in
-    let passed : c.in_ok-is_nsec_set.field-0 ≡ true = search rules in
+    let passed : c.is_nsec_set.result ≡ true = c.if-not-is_nsec_set.false in
     let data' = nsec_data (first_name c.args.origin.now (lent_keys others)) (joined nat_cmp NSEC (joined nat_cmp RRSIG (map (λ (b : Bor RrKey). b.now.record_type.0) (take count (drop start keys))))) in
     let made : ℕ → RrKey × RRset = λ serial. (key name NSEC, new_set c.args.ttl serial name data') in
-    let same = λ (serial : ℕ). c.in_ok-is_nsec_set.ensures.ok passed serial ∙ (λ i. new_set c.args.ttl serial name (nsec_data (next i) (types i))) in
+    let same = λ (serial : ℕ). c.is_nsec_set.ensures passed serial ∙ (λ i. new_set c.args.ttl serial name (nsec_data (next i) (types i))) in
     record {
       stored = All-tail (λ d. IsStoredAt d.0.name d.0.record_type.0 d.1) _ _ all;
       bound = omega (arith, c.count_of_name.ensures.bound);
@@ -75,7 +74,7 @@ loop-key-preserved c =
           (λ serial done so_far. Linking-step keys start count c.index-keys-start.result lt c.index-keys-start.is counted c.args.origin.now ks c.args.ttl serial done so_far);
     }
 
-pub returns-clause-ok : goal.returns-clause-ok
-returns-clause-ok c = λ whole.
+pub returns : goal.returns
+returns c = λ whole.
     let none = ap lent_keys (drop_of_length-le c.args.keys.now (omega (arith, eqb-true c.loop-key.start (length c.args.keys.now) whole))) in
     StandSoFar-end c.args.origin.now (lent_keys c.args.keys.now) c.args.ttl c.args.records.now c.loop-key.key-iterator (lent_keys (drop c.loop-key.start c.args.keys.now)) c.in-None.ensures.steps.0 none c.loop-key.invariant.so_far
