@@ -1,0 +1,37 @@
+#!/usr/bin/env python3
+"""Checks that the first path that is computed by the definitions is the one that the README shows.
+
+The texts `input` and `output` of crates/zone_program/proofs/FirstPath.antt have to be those of examples/first-path.txt and of
+its answers. Prints what differs, and ends with status 1 where something does.
+"""
+import os
+import re
+import sys
+
+TOP = os.path.dirname(os.path.dirname(os.path.realpath(__file__)))
+PROOF = "crates/zone_program/proofs/FirstPath.antt"
+EXAMPLES = {"input": "examples/first-path.txt", "output": "examples/answers/first-path.txt"}
+
+
+def read(path):
+    with open(f"{TOP}/{path}", encoding="utf-8") as it:
+        return it.read()
+
+
+def computed(proof, name):
+    """The text that a definition puts together out of its lines."""
+    body = re.search(rf"^{name} =\n((?: +.*\n)+)", proof, re.MULTILINE)
+    lines = re.findall(r'codes "([^"]*)"', body.group(1)) if body else []
+    return "".join(lines).replace("\\n", "\n")
+
+
+def main():
+    proof = read(PROOF)
+    wrong = [name for name, example in EXAMPLES.items() if computed(proof, name) != read(example)]
+    for name in wrong:
+        print(f"first_path: {name} of {PROOF} isn't {EXAMPLES[name]}")
+    return 1 if wrong else 0
+
+
+if __name__ == "__main__":
+    sys.exit(main())
