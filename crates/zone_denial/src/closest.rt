@@ -57,8 +57,8 @@ pub(crate) fn are_many(records: &RecordMap) -> bool {
     records.denial_owners(RecordType::NSEC).size_hint().0 >= records.len() / 8
 }
 
-/// The same, and counts the owners of NSEC sets that are read for it: from `name` back those down to the closest one, or all
-/// of them where there is none; a refusal has counted no more of them.
+/// The set that [`closest_nsec`] gives, found by the owners of NSEC sets alone, which are read from `name` back and counted:
+/// those down to the closest one, or all of them where there is none. Refused by `Memory` alone, which has counted no more.
 pub fn closest_nsec_counted<'m>(
     records: &'m RecordMap,
     name: &LowerName,
@@ -73,7 +73,7 @@ pub fn closest_nsec_counted<'m>(
     closest_by_index(records, name, None, reads)
 }
 
-/// The same, where the NSEC set of some owner is at hand.
+/// The same, where the NSEC set of some owner is at hand, which isn't looked up then.
 fn closest_by_index<'m>(
     records: &'m RecordMap,
     name: &LowerName,

@@ -24,7 +24,7 @@ use zone_proto::{
 /// The set of a name has one record, with the next of these names in canonical order, after the last one the origin, and with
 /// the types that the name owns, NSEC and RRSIG among them (RFC 4034 section 4). Its TTL is `ttl`, in seconds, and its serial
 /// `serial`. No set is made, and the answer is none, where those that stand in the zone are already these, serials and
-/// signatures aside; else they count for nothing. Refused by `Memory` alone.
+/// signatures aside, and no name owns a set of type RRSIG; else they count for nothing. Refused by `Memory` alone.
 pub fn nsec_sets(
     records: &RecordMap,
     origin: &LowerName,

@@ -9,7 +9,7 @@ use crate::denial_index::DenialIndex;
 use crate::record_map::RecordMap;
 use std::alloc::{AllocError, Global};
 use std::collections::BTreeMap;
-use std::collections::btree_map::{IntoIter, Iter};
+use std::collections::btree_map::Iter;
 use zone_proto::{ProtoError, RecordSet, RrKey};
 
 impl RecordMap {
@@ -34,17 +34,6 @@ impl RecordMap {
         ensures stored { AreStored self.now }
     {
         self.sets.iter()
-    }
-
-    /// The sets by their keys, in the order of the keys, handed out. Takes no memory.
-    pub fn into_entries(self) -> IntoIter<RrKey, RecordSet, Global>
-        ensures rest { result ≡ self }
-        ensures zone { IsZone self }
-        ensures stored { AreStored self }
-    {
-        // Its clauses say that each set is found by its key.
-        let _ = self.sets.iter();
-        self.sets.into_iter()
     }
 
     /// Whether there are no sets. Takes no memory.
