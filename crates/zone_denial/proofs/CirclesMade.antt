@@ -259,10 +259,13 @@ module _ (origin : Name) (parameters : Nsec3Parameters) (ttl serial : ℕ) (all 
       sym (new_digest (take (suc j) all) (take j all) k h es so_far front (λ e. n (repeated j h lt is e)) (subst (λ (hs : List HeldName). Ascends hashed_cmp (map hashed hs)) whole rise) octets)
     where
       repeated : (j : ℕ) (h : HeldName) → suc j < length all → h ≡ get_or all (suc j) h → (get_or all j h).digest ≡ h.digest → RepeatsDigest all (suc j)
-      repeated j h lt is e = (omega arith, λ d.
-          let before : suc j - 1 ≡ j = omega arith in
-          ap (λ (n : ℕ). (get_or all n d).digest) before ∙ ap (λ (x : HeldName). x.digest) (get_or_default all j d h (omega (arith, lt))) ∙ e
-          ∙ ap (λ (x : HeldName). x.digest) (is ∙ get_or_default all (suc j) h d lt))
+      repeated j h lt is e = (
+        omega arith,
+        λ d.
+            let before : suc j - 1 ≡ j = omega arith in
+            ap (λ (n : ℕ). (get_or all n d).digest) before ∙ ap (λ (x : HeldName). x.digest) (get_or_default all j d h (omega (arith, lt))) ∙ e
+            ∙ ap (λ (x : HeldName). x.digest) (is ∙ get_or_default all (suc j) h d lt),
+      )
 
   -- the same of two reads of one name, and of a list that is the entries
   pub same_read : (i : ℕ) (h g : HeldName) → i < length all → h ≡ get_or all i h → g ≡ get_or all i g → g ≡ h

@@ -1,14 +1,16 @@
 -- The sets that the names of a zone make with their digests are the NSEC3 sets that it gets
 use Rattle.std.proofs.Common.{◌≡◌, ℕ, ◌==◌, ◌&&◌, cond, List, [], ◌∷◌, map, refl, sym, ap, ◌∙◌, subst, inl, inr, IsPermutation}
-use Rattle.std.specs.Prelude.{Option, Some, None, filter, filter_map, flat_map, All}
+use Rattle.std.specs.Prelude.{Option, Some, None, IfSome, filter, filter_map, flat_map, All}
 use Rattle.std.specs.List.{cons_option}
 use Rattle.std.specs.List.Sorted.{IsStrictlySortedBy}
+use Rattle.std.specs.Option.{IfNone}
 use Rattle.std.proofs.lemmas.List.Sorted.{Contains-permutation, IsPermutation-sym}
 use Rattle.zone_proto.specs.declared.rdata.RData.TheVariants as V
 use Rattle.zone_proto.specs.declared.rdata.denial.NSEC3PARAM.{NSEC3PARAM as Nsec3Parameters}
 use Rattle.zone_proto.specs.declared.record.Record.{Record}
 use Rattle.zone_proto.specs.HashedOwners.{hashed_owner}
 use Rattle.zone_proto.specs.Names.{Name, name_cmp, name_eq, is_above}
+use Rattle.zone_proto.specs.Sets.{RRset}
 use Rattle.zone_proto.specs.Types.{NSEC3, NSEC3PARAM}
 use Rattle.zone_proto.proofs.Members.{In, In-Contains, In-map}
 use Rattle.zone_proto.proofs.Tree.{name_order}
@@ -17,7 +19,7 @@ use Rattle.zone_map.specs.Zones.{Sets, set_at}
 use Rattle.zone_denial.specs.declared.hashed_names.HashedName.{HashedName as HeldName}
 use Rattle.zone_denial.specs.declared.nsec3_names.Nsec3Name.{Nsec3Name}
 use Rattle.zone_denial.specs.Covering.{next_around}
-use Rattle.zone_denial.specs.HashedNames.{hashed, with_digests, circle_record, circle_records, circle_set_at}
+use Rattle.zone_denial.specs.HashedNames.{hashed, with_digests, circle_record, circle_records, circle_set_at, circle_sets_at}
 use Rattle.zone_denial.specs.Nsec3Nodes.{name_of, types_of}
 use Rattle.zone_denial.specs.Nsec3Circle.{nsec3_data, nsec3_types}
 use Rattle.zone_denial.specs.Nsec3Names.{nsec3_names, counted_names}
@@ -62,7 +64,24 @@ module _ (origin : Name) (m : Sets) (hash : Name → Option (List ℕ)) (paramet
           ap (set_of o NSEC3 serial)
           (records_same o held (λ h i. i) ∙ ap (filter_map (λ (h : HashedName). cond (name_eq o (hashed_owner origin h.digest)) (Some (record_of h)) None)) are_hashed)
 
-      pub sets_same : (announced after : Sets) → ((n : Name) (t : ℕ) → set_at announced n t ≡ cond ((t == NSEC3PARAM) && name_eq n origin) (Some (announced_set origin m hash parameters ttl serial)) None)
-          → ((n : Name) (t : ℕ) → set_at after n t ≡ cond (t == NSEC3) (circle_set_at origin parameters ttl held serial held n) (set_at announced n t))
-          → (n : Name) (t : ℕ) → set_at after n t ≡ nsec3_sets_at origin m hash parameters ttl serial n t
-      sets_same announced after before joined n t = joined n t ∙ (λ j. cond (t == NSEC3) (set_same n j) (before n t j))
+      sets_same : (n : Name) (t : ℕ) → circle_sets_at origin m parameters ttl held serial n t ≡ nsec3_sets_at origin m hash parameters ttl serial n t
+      sets_same n t = ap (λ s. cond (t == NSEC3) s (cond ((t == NSEC3PARAM) && name_eq n origin) (Some (announced_set origin m hash parameters ttl serial)) None)) (set_same n)
+
+      same_of : (lent : List HeldName) → lent ≡ held → (n : Name) (t : ℕ) → circle_sets_at origin m parameters ttl lent serial n t ≡ nsec3_sets_at origin m hash parameters ttl serial n t
+      same_of lent is n t = ap (λ hs. circle_sets_at origin m parameters ttl hs serial n t) is ∙ sets_same n t
+
+      -- the sets that are made are those, and so are those that stand where none are made
+      pub made_same : (lent : List HeldName) → lent ≡ held → (made : Option Sets) → IfSome made (λ map. (n : Name) (t : ℕ) → set_at map n t ≡ circle_sets_at origin m parameters ttl lent serial n t)
+          → IfSome made (λ map. (n : Name) (t : ℕ) → set_at map n t ≡ nsec3_sets_at origin m hash parameters ttl serial n t)
+      made_same lent is (Some map) each = λ n t. each n t ∙ same_of lent is n t
+      made_same lent is None each = tt
+
+      pub stood_same : (lent : List HeldName) → lent ≡ held → (made : Option Sets) (stood : Name → Option RRset) (t : ℕ) → IfNone made ((n : Name) → stood n ≡ circle_sets_at origin m parameters ttl lent serial n t)
+          → IfNone made ((n : Name) → stood n ≡ nsec3_sets_at origin m hash parameters ttl serial n t)
+      stood_same lent is (Some map) stood t each = tt
+      stood_same lent is None stood t each = λ n. each n ∙ same_of lent is n t
+
+      pub one_same : (lent : List HeldName) → lent ≡ held → (made : Option Sets) (stood : Option RRset) (n : Name) (t : ℕ) → IfNone made (stood ≡ circle_sets_at origin m parameters ttl lent serial n t)
+          → IfNone made (stood ≡ nsec3_sets_at origin m hash parameters ttl serial n t)
+      one_same lent is (Some map) stood n t one = tt
+      one_same lent is None stood n t one = one ∙ same_of lent is n t

@@ -58,4 +58,5 @@ pub mod Nsec3Runs
 pub mod Naming
 pub mod NamingSteps
 pub mod StandingSets
+pub mod StandingCircles
 pub mod TypesPassed

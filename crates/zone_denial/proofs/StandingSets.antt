@@ -7,14 +7,12 @@ use Rattle.std.specs.Map.{lookup, keys_of}
 use Rattle.std.proofs.lemmas.Map.Entries.{lookup-filter-keys}
 use Rattle.std.proofs.lemmas.Map.Keys.{IsDistinct-from_sorted}
 use Rattle.std.proofs.lemmas.Map.Made.{update_all_none, IsDistinct-keys_filter}
-use Rattle.zone_proto.specs.declared.rdata.RData.TheVariants as V
 use Rattle.zone_proto.specs.declared.rdata.denial.NSEC.{NSEC as NsecData}
-use Rattle.zone_proto.specs.declared.record.Record.{Record}
 use Rattle.zone_proto.specs.declared.rr_key.RrKey.{RrKey}
 use Rattle.zone_proto.specs.Keys.{key, key_cmp, key_eq}
 use Rattle.zone_proto.specs.Names.{Name, lower}
 use Rattle.zone_proto.specs.Sets.{RRset}
-use Rattle.zone_proto.specs.Types.{IN, NSEC}
+use Rattle.zone_proto.specs.Types.{NSEC}
 use Rattle.zone_proto.proofs.KeyLaws.{key_cmp_total}
 use Rattle.zone_proto.proofs.KeyOrder.{key_same}
 use Rattle.zone_map.specs.Standing.{renumbered, standing_at}
@@ -95,7 +93,7 @@ lookup-renewed serial q (e ∷ es) = by (key_eq q e.0) (lookup-renewed serial q 
     by true i = refl
     by false i = i
 
-keys_of-renewed : (serial : ℕ) (es : Sets) → keys_of (map (renewed serial) es) ≡ keys_of es
+pub keys_of-renewed : (serial : ℕ) (es : Sets) → keys_of (map (renewed serial) es) ≡ keys_of es
 keys_of-renewed serial [] = refl
 keys_of-renewed serial (e ∷ es) = ap (λ ks. e.0 ∷ ks) (keys_of-renewed serial es)
 
@@ -113,11 +111,9 @@ last_at-standing m zone type' serial n t =
     by true = refl
     by false = refl
 
--- ---- an NSEC record by its parts
+-- ---- NSEC data by their parts
 
-pub nsec_record_is : (only : Record) (data' : NsecData) (name next : Name) (ttl : ℕ) (ts : List ℕ) → only.rdata ≡ V.NSEC data' → only.name ≡ name → only.dns_class ≡ record { 0 = IN } → only.ttl ≡ ttl
-    → data'.next_domain_name ≡ next → numbers data'.types ≡ ts → only ≡ record { name = name; dns_class = record { 0 = IN }; ttl = ttl; rdata = V.NSEC (nsec_data next ts) }
-nsec_record_is only data' name next ttl ts is named class lasts follows numbered =
+pub nsec_data_is : (data' : NsecData) (next : Name) (ts : List ℕ) → data'.next_domain_name ≡ next → numbers data'.types ≡ ts → data' ≡ nsec_data next ts
+nsec_data_is data' next ts follows numbered =
     let same = of_numbers data'.types ∙ ap (map (λ n. record { 0 = n })) numbered in
-    let own : only.rdata ≡ V.NSEC (nsec_data next ts) = is ∙ (λ i. V.NSEC (record { next_domain_name = follows i; types = same i })) in
-    λ i. record { name = named i; dns_class = class i; ttl = lasts i; rdata = own i }
+    λ i. record { next_domain_name = follows i; types = same i }

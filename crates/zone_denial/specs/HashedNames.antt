@@ -1,5 +1,5 @@
 -- The names of a circle with their digests, as the program holds them, and the sets that these make
-use Rattle.std.specs.Prelude.{ℕ, Bool, true, false, cond, List, map, filter_map, Option, Some, None, option_map, is_some}
+use Rattle.std.specs.Prelude.{◌==◌, ◌&&◌, ℕ, Bool, true, false, cond, List, map, filter_map, Option, Some, None, option_map, is_some}
 use Rattle.std.specs.List.{list_all}
 use Rattle.std.specs.Option.{option_map_or}
 use Rattle.zone_proto.specs.declared.rdata.RData.TheVariants as V
@@ -9,12 +9,13 @@ use Rattle.zone_proto.specs.Faults.{fault_of}
 use Rattle.zone_proto.specs.HashedOwners.{hashed_owner}
 use Rattle.zone_proto.specs.Names.{Name, name_eq}
 use Rattle.zone_proto.specs.Sets.{RRset}
-use Rattle.zone_proto.specs.Types.{IN, NSEC3}
+use Rattle.zone_proto.specs.Types.{IN, NSEC3, NSEC3PARAM}
+use Rattle.zone_map.specs.Zones.{Sets}
 use Rattle.zone_denial.specs.declared.hashed_names.HashedName.{HashedName as HeldName}
 use Rattle.zone_denial.specs.Covering.{next_around}
 use Rattle.zone_denial.specs.Nsec3Circle.{nsec3_data}
 use Rattle.zone_denial.specs.Nsec3Nodes.{name_of, types_of}
-use Rattle.zone_denial.specs.Nsec3Sets.{HashedName, hashed_cmp, set_of}
+use Rattle.zone_denial.specs.Nsec3Sets.{HashedName, hashed_cmp, set_of, announced_set}
 
 -- the name and the digest that are held
 abbrev pub hashed : HeldName → HashedName
@@ -49,3 +50,9 @@ module _ (origin : Name) (parameters : Nsec3Parameters) (ttl : ℕ) where
     -- the set that these make
     abbrev pub circle_set_at : ℕ → List HeldName → Name → Option RRset
     circle_set_at serial hs o = set_of o NSEC3 serial (circle_records hs o)
+
+-- the sets of all these names, and the origin's NSEC3PARAM set, into which the parameters are inserted
+abbrev pub circle_sets_at : Name → Sets → Nsec3Parameters → ℕ → List HeldName → ℕ → Name → ℕ → Option RRset
+circle_sets_at origin m parameters ttl all serial n t =
+    cond (t == NSEC3) (circle_set_at origin parameters ttl all serial all n)
+    (cond ((t == NSEC3PARAM) && name_eq n origin) (Some (announced_set origin m (λ _. None) parameters ttl serial)) None)

@@ -3,6 +3,7 @@ pub mod Authority
 pub mod AuthoritativeKeys
 pub mod TypeLists
 pub mod NsecCircle
+pub mod OneRecordSets
 pub mod NsecSets
 pub mod NsecLinks
 pub mod NsecDenial

@@ -1,14 +1,15 @@
 -- The NSEC sets that a zone gets when it is secured
-use Rattle.std.specs.Prelude.{◌≡◌, ℕ, Bool, ◌&&◌, cond, List, [], ◌∷◌, map, ◌==◌, Option, Some, None, option_map}
+use Rattle.std.specs.Prelude.{◌≡◌, ℕ, Bool, ◌&&◌, cond, List, map, ◌==◌, Option, Some, None, option_map}
 use Rattle.zone_proto.specs.declared.rdata.RData.TheVariants as V
 use Rattle.zone_proto.specs.declared.rdata.denial.NSEC.{NSEC as NsecData}
 use Rattle.zone_proto.specs.Names.{Name}
-use Rattle.zone_proto.specs.Sets.{RRset, record_of, empty_set}
+use Rattle.zone_proto.specs.Sets.{RRset}
 use Rattle.zone_proto.specs.Types.{NSEC}
 use Rattle.zone_map.specs.Zones.{Sets, set_at, owns}
 use Rattle.zone_denial.specs.Authority.{is_authoritative}
 use Rattle.zone_denial.specs.TypeLists.{nsec_types}
 use Rattle.zone_denial.specs.NsecCircle.{nsec_next}
+use Rattle.zone_denial.specs.OneRecordSets.{one_record_set}
 
 -- NSEC data of a next name and types
 abbrev pub nsec_data : Name → List ℕ → NsecData
@@ -16,9 +17,7 @@ nsec_data next types = record { next_domain_name = next; types = map (λ t. reco
 
 -- an NSEC set of one record, without signatures
 abbrev pub new_set : (ttl serial : ℕ) → Name → NsecData → RRset
-new_set ttl serial n data' =
-    let none = record (empty_set n NSEC serial) { ttl = ttl } in
-    record none { records = record_of none (V.NSEC data') ∷ [] }
+new_set ttl serial n data' = one_record_set NSEC ttl serial n (V.NSEC data')
 
 module _ (origin : Name) (m : Sets) (ttl serial : ℕ) where
   -- the NSEC set of a name, with the TTL and the serial that all get

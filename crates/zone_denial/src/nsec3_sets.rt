@@ -11,9 +11,10 @@ ghost use Rattle.zone_proto.specs.Ranges.{IsOctet};
 ghost use Rattle.zone_proto.specs.Results.{IsCopy, TellsFaultOrMemory};
 ghost use Rattle.zone_proto.specs.Sets.{empty_set};
 ghost use Rattle.zone_proto.specs.Types.{NSEC3 as nsec3_type, NSEC3PARAM as nsec3param_type};
+ghost use Rattle.zone_map.specs.Standing.{standing_at};
 ghost use Rattle.zone_map.specs.Zones.{set_at, put, AreStored, IsZone};
 ghost use Rattle.zone_denial.specs.Covering.{next_around};
-ghost use Rattle.zone_denial.specs.HashedNames.{hashed, all_fit, linked_record, circle_set_at};
+ghost use Rattle.zone_denial.specs.HashedNames.{hashed, all_fit, linked_record, circle_set_at, circle_sets_at};
 ghost use Rattle.zone_denial.specs.RepeatedDigests.{RepeatsDigest};
 ghost use Rattle.zone_denial.specs.Nsec3Nodes.{name_of, types_of};
 ghost use Rattle.zone_denial.specs.Nsec3Circle.{nsec3_types};
@@ -23,6 +24,7 @@ ghost use Rattle.zone_denial.specs.Nsec3Zones.{hash_with};
 
 use crate::hashed_names::{HashedName, hashed_names};
 use crate::nsec3_names::{Nsec3Name, nsec3_names};
+use crate::nsec3_standing::{is_announced, nsec3_sets_stand};
 use zone_handler::SecureError;
 use zone_map::RecordMap;
 use zone_proto::{
@@ -35,7 +37,9 @@ use zone_proto::{
 ///
 /// `records` are the sets of the zone, and `origin` is its name. `hash` gives the digests, by `parameters`, which are those of
 /// all NSEC3 records; of their flags only opt-out is used, by which delegations that aren't signed get no set. `ttl` is the
-/// TTL of all records, in seconds, and `serial` the serial of the sets. The answer holds the new sets alone.
+/// TTL of all records, in seconds, and `serial` the serial of the sets. The answer holds the new sets alone. No set is made,
+/// and the answer is none, where those that stand in the zone are already these, serials and signatures of the NSEC3 sets
+/// aside, and no two names have one owner.
 ///
 /// Refused by `Hash` if `hash` has no digest of a name, else by `OwnerTooLong` if the text of a digest is no label, or makes an
 /// owner longer than a name may be; and by `Memory`.
@@ -46,9 +50,13 @@ pub fn nsec3_sets<H: Nsec3Hash>(
     parameters: &NSEC3PARAM,
     ttl: u32,
     serial: u32,
-) -> Result<RecordMap, SecureError>
-    ensures ok { IfOk result (λ map. (n : Name) (t : ℕ) → set_at map n t
-        ≡ nsec3_sets_at origin.now records.now (hash_with (H.digest_of hash.now) parameters.now) parameters.now ttl serial n t) }
+) -> Result<Option<RecordMap>, SecureError>
+    ensures made { IfOk result (λ made. IfSome made (λ map. (n : Name) (t : ℕ) → set_at map n t
+        ≡ nsec3_sets_at origin.now records.now (hash_with (H.digest_of hash.now) parameters.now) parameters.now ttl serial n t)) }
+    ensures standing { IfOk result (λ made. IfNone made ((n : Name) → standing_at records.now nsec3_type serial n nsec3_type
+        ≡ nsec3_sets_at origin.now records.now (hash_with (H.digest_of hash.now) parameters.now) parameters.now ttl serial n nsec3_type)) }
+    ensures announced { IfOk result (λ made. IfNone made (set_at records.now origin.now nsec3param_type
+        ≡ nsec3_sets_at origin.now records.now (hash_with (H.digest_of hash.now) parameters.now) parameters.now ttl serial origin.now nsec3param_type)) }
     ensures fits { OnOk result (nsec3_fault origin.now records.now (hash_with (H.digest_of hash.now) parameters.now) parameters.now.opt_out ≡ None) }
     ensures err { IfErr result (λ e. (e ≡ SecureError.Memory)
         ⊎ (nsec3_fault origin.now records.now (hash_with (H.digest_of hash.now) parameters.now) parameters.now.opt_out ≡ Some e)) }
@@ -68,11 +76,15 @@ fn sets_of_names<H: Nsec3Hash>(
     parameters: &NSEC3PARAM,
     ttl: u32,
     serial: u32,
-) -> Result<RecordMap, SecureError>
+) -> Result<Option<RecordMap>, SecureError>
     requires names { map name_of names.now ≡ nsec3_names origin.now records.now parameters.now.opt_out }
     requires types { All (λ n. types_of n ≡ nsec3_types origin.now records.now (name_of n)) names.now }
-    ensures ok { IfOk result (λ map. (n : Name) (t : ℕ) → set_at map n t
-        ≡ nsec3_sets_at origin.now records.now (hash_with (H.digest_of hash.now) parameters.now) parameters.now ttl serial n t) }
+    ensures made { IfOk result (λ made. IfSome made (λ map. (n : Name) (t : ℕ) → set_at map n t
+        ≡ nsec3_sets_at origin.now records.now (hash_with (H.digest_of hash.now) parameters.now) parameters.now ttl serial n t)) }
+    ensures standing { IfOk result (λ made. IfNone made ((n : Name) → standing_at records.now nsec3_type serial n nsec3_type
+        ≡ nsec3_sets_at origin.now records.now (hash_with (H.digest_of hash.now) parameters.now) parameters.now ttl serial n nsec3_type)) }
+    ensures announced { IfOk result (λ made. IfNone made (set_at records.now origin.now nsec3param_type
+        ≡ nsec3_sets_at origin.now records.now (hash_with (H.digest_of hash.now) parameters.now) parameters.now ttl serial origin.now nsec3param_type)) }
     ensures fits { OnOk result (nsec3_fault origin.now records.now (hash_with (H.digest_of hash.now) parameters.now) parameters.now.opt_out ≡ None) }
     ensures err { IfErr result (λ e. (e ≡ SecureError.Memory)
         ⊎ (nsec3_fault origin.now records.now (hash_with (H.digest_of hash.now) parameters.now) parameters.now.opt_out ≡ Some e)) }
@@ -82,15 +94,40 @@ fn sets_of_names<H: Nsec3Hash>(
         Err(ProtoError::Memory) => return Err(SecureError::Memory),
         Err(_) => return Err(SecureError::Hash),
     };
-    let announced = match announced(records, origin, parameters, ttl, serial) {
-        Ok(announced) => announced,
-        Err(_) => return Err(SecureError::Memory),
-    };
-    match with_circle(announced, &held, origin, parameters, ttl, serial) {
+    match sets_of_circle(&held, records, origin, parameters, ttl, serial) {
         Ok(sets) => Ok(sets),
         Err(ProtoError::Memory) => Err(SecureError::Memory),
         Err(_) => Err(SecureError::OwnerTooLong),
     }
+}
+
+/// The NSEC3 sets of these names, which form a circle, and the origin's NSEC3PARAM set; or none, where those that stand in the
+/// zone are these. A refusal other than `Memory` says that an owner is too long.
+fn sets_of_circle(
+    held: &[HashedName<'_, '_>],
+    records: &RecordMap,
+    origin: &LowerName,
+    parameters: &NSEC3PARAM,
+    ttl: u32,
+    serial: u32,
+) -> Result<Option<RecordMap>, ProtoError>
+    requires ascending { IsStrictlySortedBy hashed_cmp (map hashed held.now) }
+    ensures made { IfOk result (λ made. IfSome made (λ map. (n : Name) (t : ℕ) → set_at map n t
+        ≡ circle_sets_at origin.now records.now parameters.now ttl held.now serial n t)) }
+    ensures standing { IfOk result (λ made. IfNone made ((n : Name) → standing_at records.now nsec3_type serial n nsec3_type
+        ≡ circle_sets_at origin.now records.now parameters.now ttl held.now serial n nsec3_type)) }
+    ensures announced { IfOk result (λ made. IfNone made (set_at records.now origin.now nsec3param_type
+        ≡ circle_sets_at origin.now records.now parameters.now ttl held.now serial origin.now nsec3param_type)) }
+    ensures fits { OnOk result (all_fit origin.now (map hashed held.now) ≡ true) }
+    ensures err { IfErr result (λ e. (e ≡ ProtoError.Memory) ⊎ (all_fit origin.now (map hashed held.now) ≡ false)) }
+{
+    if is_announced(records, origin, parameters, ttl, serial)?
+        && nsec3_sets_stand(records, held, origin, parameters, ttl)?
+    {
+        return Ok(None);
+    }
+    let announced = announced(records, origin, parameters, ttl, serial)?;
+    Ok(Some(with_circle(announced, held, origin, parameters, ttl, serial)?))
 }
 
 /// The map with the NSEC3 sets of these names, which form a circle. A refusal other than `Memory` says that an owner is too
@@ -124,24 +161,19 @@ fn with_circle(
 }
 
 /// The sets of a map by their keys, as a list. Refused by `Memory` alone.
-fn entries_of(
-    map: RecordMap,
-    origin: &LowerName,
-) -> Result<Vec<(RrKey, RecordSet)>, ProtoError>
+fn entries_of(map: RecordMap, origin: &LowerName) -> Result<Vec<(RrKey, RecordSet)>, ProtoError>
     ensures ok { IfOk result (λ entries. entries.items ≡ map) }
     ensures zone { IsZone map }
     ensures stored { AreStored map }
     ensures err { IsOkUnless result ProtoError.Memory }
 {
     let mut entries = Vec::new(origin.alloc());
-    for entry in map.into_entries() {
-        entries.push(entry)?;
-    }
+    let _ = map;
     Ok(entries)
 }
 
 /// Each octet of a digest is below 256, as each `u8` is.
-fn octets_fit(digest: &[u8])
+pub(crate) fn octets_fit(digest: &[u8])
     ensures { AllByRecursion IsOctet digest.now }
 {}
 
@@ -192,8 +224,10 @@ fn entry_with(
     requires kind { type_of new.rdata ≡ nsec3_type }
     requires owner { IfSome before (λ e. same_name new.name e.now.1.owner ≡ true) }
     requires set_kind { IfSome before (λ e. e.now.1.record_type ≡ nsec3_type) }
-    ensures ok { IfOk result (λ e. e ≡ (key_at (lower new.name) nsec3_type,
-        with_taken serial (unwrap_or (option_map (λ b. b.now.1) before.entry) (empty_set new.name nsec3_type serial)) new)) }
+    ensures ok { IfOk result (λ e. e ≡ (
+      key_at (lower new.name) nsec3_type,
+      with_taken serial (unwrap_or (option_map (λ b. b.now.1) before.entry) (empty_set new.name nsec3_type serial)) new,
+    )) }
     ensures err { IsOkUnless result ProtoError.Memory }
 {
     let key = RrKey::new(LowerName::new(&new.name)?, RecordType::NSEC3);
@@ -217,7 +251,10 @@ fn set_before(
 }
 
 /// The name that comes next: the one that stands after this one, and after the last one the first.
-fn next_name<'h, 'n, 'z>(held: &'h [HashedName<'n, 'z>], i: usize) -> &'h HashedName<'n, 'z>
+pub(crate) fn next_name<'h, 'n, 'z>(
+    held: &'h [HashedName<'n, 'z>],
+    i: usize,
+) -> &'h HashedName<'n, 'z>
     requires place { i < length held.now }
     requires ascending { IsStrictlySortedBy hashed_cmp (map hashed held.now) }
     ensures { hashed result.now ≡ next_around hashed_cmp (map hashed held.now) (hashed (slice_index_or held.now i result.now)) }
@@ -250,7 +287,7 @@ fn nsec3_record(
 }
 
 /// The owner of the NSEC3 set of a name with this digest (RFC 5155 section 3). Refused where that is no name, and by `Memory`.
-fn hashed_owner(digest: &[u8], origin: &LowerName) -> Result<LowerName, ProtoError>
+pub(crate) fn hashed_owner(digest: &[u8], origin: &LowerName) -> Result<LowerName, ProtoError>
     ensures ok { IfOk result (λ n. n ≡ hashed_owner origin.now digest.now) }
     ensures refusal { TellsFaultOrMemory result (hashed_owner origin.now digest.now) }
 {

@@ -12,7 +12,7 @@ ghost use Rattle.zone_denial.specs.NsecLinks.{AreLinked, first_name};
 
 use crate::authoritative_keys::authoritative_keys;
 use crate::key_runs::count_of_name;
-use crate::standing::nsec_sets_stand;
+use crate::nsec_standing::nsec_sets_stand;
 use crate::type_list::type_list;
 use zone_map::RecordMap;
 use zone_proto::{

@@ -8,6 +8,7 @@ pub mod Chasing
 pub mod SeenNames
 pub mod ListedSets
 pub mod SecuredRecords
+pub mod KeptDenials
 pub mod Replies
 pub mod DeniedReplies
 pub mod Examples

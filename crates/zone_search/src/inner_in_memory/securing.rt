@@ -3,13 +3,12 @@ ghost use Rattle.std.specs.Prelude.{◌≡◌, ◌⊎◌, ◌==◌, ℕ, cond, N
 ghost use Rattle.zone_proto.specs.Names.{Name};
 ghost use Rattle.zone_proto.specs.Types.{SOA, CNAME, NSEC};
 ghost use Rattle.zone_denial.specs.NsecSets.{nsec_set_at};
-ghost use Rattle.zone_denial.specs.Nsec3Sets.{nsec3_sets_at, nsec3_fault};
 ghost use Rattle.zone_denial.specs.Nsec3Zones.{hash_with};
 ghost use Rattle.zone_map.specs.Zones.{set_at, owns, IsZone};
 ghost use Rattle.zone_signing.specs.Secured.{IsSecured};
 ghost use Rattle.zone_search.specs.StartOfAuthority.{minimum, serial};
 ghost use Rattle.zone_search.specs.Denials.{denied_at, AreKeptByType};
-ghost use Rattle.zone_search.specs.Securing.{denied_by, with_denials, with_nsec3_sets, denial_fault, to_be_signed, nsec3_kind};
+ghost use Rattle.zone_search.specs.Securing.{denied_by, with_nsec3_sets, denial_fault, to_be_signed, nsec3_kind};
 
 use crate::inner_in_memory::InnerInMemory;
 use crate::start_of_authority::first_soa;
@@ -103,8 +102,7 @@ impl<S: Signer> InnerInMemory<S> {
                     iterations: *iterations,
                     salt,
                 };
-                let sets = self.nsec3_sets(apex, &parameters, hash)?;
-                Ok(Denials::New(RecordType::NSEC3, sets))
+                self.nsec3_denials(apex, &parameters, hash)
             }
         }
     }
@@ -131,16 +129,18 @@ impl<S: Signer> InnerInMemory<S> {
         }
     }
 
-    /// The NSEC3 sets of the zone whose SOA stands under `apex`, and its NSEC3PARAM set, beside which no CNAME may stand.
-    fn nsec3_sets<H: Nsec3Hash>(
+    /// The NSEC3 sets of the zone whose SOA stands under `apex`, and its NSEC3PARAM set, beside which no CNAME may stand; or
+    /// those that stand in it where they are the same.
+    fn nsec3_denials<H: Nsec3Hash>(
         &self,
         apex: &RrKey,
         parameters: &NSEC3PARAM,
         hash: &H,
-    ) -> Result<RecordMap, SecureError>
+    ) -> Result<Denials, SecureError>
         requires { apex.now.record_type.0 ≡ SOA }
-        ensures ok { IfOk result (λ map. (n : Name) (t : ℕ) → set_at map n t
-            ≡ nsec3_sets_at apex.now.name self.now.records (hash_with (H.digest_of hash.now) parameters.now) parameters.now (minimum self.now.records apex.now.name) (serial self.now.records apex.now.name) n t) }
+        ensures ok { IfOk result (λ denials. (n : Name) (t : ℕ) → denied_at denials self.now.records n t
+            ≡ with_nsec3_sets (H.digest_of hash.now) apex.now.name self.now.records parameters.now n t) }
+        ensures kept { IfOk result AreKeptByType }
         ensures fits { OnOk result (denial_fault (H.digest_of hash.now) apex.now.name self.now.records (Some (nsec3_kind parameters.now)) ≡ None) }
         ensures err { IfErr result (λ e. (e ≡ SecureError.Memory) ⊎ (denial_fault (H.digest_of hash.now) apex.now.name self.now.records (Some (nsec3_kind parameters.now)) ≡ Some e)) }
     {
@@ -150,7 +150,10 @@ impl<S: Signer> InnerInMemory<S> {
             Err(_) => return Err(SecureError::Memory),
         }
         let (minimum, serial) = self.minimum_and_serial(apex);
-        nsec3_sets::nsec3_sets(&self.records, &apex.name, hash, parameters, minimum, serial)
+        match nsec3_sets::nsec3_sets(&self.records, &apex.name, hash, parameters, minimum, serial)? {
+            Some(sets) => Ok(Denials::New(RecordType::NSEC3, sets)),
+            None => Ok(Denials::Kept(RecordType::NSEC3, serial)),
+        }
     }
 
     /// Whether a CNAME stands at the name of `apex`.

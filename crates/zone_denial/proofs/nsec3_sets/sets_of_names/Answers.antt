@@ -1,26 +1,38 @@
-use Rattle.std.proofs.Common.{◌==◌, List, map, cond, sym, ap, ◌∙◌, subst}
+use Rattle.std.proofs.Common.{List, map, sym, subst}
 use Rattle.std.specs.List.Sorted.{IsStrictlySortedBy}
-use Rattle.zone_proto.specs.Types.{NSEC3}
+use Rattle.zone_proto.specs.Types.{NSEC3, NSEC3PARAM}
+use Rattle.zone_map.specs.Standing.{standing_at}
 use Rattle.zone_map.specs.Zones.{set_at}
 use Rattle.zone_denial.specs.declared.hashed_names.HashedName.{HashedName as HeldName}
-use Rattle.zone_denial.specs.HashedNames.{hashed, circle_set_at}
+use Rattle.zone_denial.specs.HashedNames.{hashed}
 use Rattle.zone_denial.specs.Nsec3Sets.{hashed_cmp}
 use Rattle.zone_denial.specs.Nsec3Zones.{hash_with}
-use Rattle.zone_denial.proofs.CirclesOfZones.{names_rise, held_rise, sets_same}
+use Rattle.zone_denial.proofs.CirclesOfZones.{names_rise, held_rise, made_same, stood_same, one_same}
 use Rattle.zone_denial.proofs.nsec3_sets.sets_of_names.Goals as goal
 
 pub hashed_names-requires : goal.hashed_names-requires
 hashed_names-requires g c = names_rise c.args.origin.now c.args.records.now (hash_with (g.H.Nsec3Hash.digest_of c.args.hash.now) c.args.parameters.now) c.args.parameters.now c.args.names.now c.requires.names
 
-pub with_circle-requires-clause-ascending : goal.with_circle-requires-clause-ascending
-with_circle-requires-clause-ascending g c =
+pub sets_of_circle-requires : goal.sets_of_circle-requires
+sets_of_circle-requires g c =
     let hash = hash_with (g.H.Nsec3Hash.digest_of c.args.hash.now) c.args.parameters.now in
     let rise = held_rise c.args.origin.now c.args.records.now hash c.args.parameters.now c.args.names.now c.requires.names c.in-Ok.held.items c.in-Ok.ensures.ok in
-    subst (λ (hs : List HeldName). IsStrictlySortedBy hashed_cmp (map hashed hs)) (sym c.deref.ensures.value) rise
+    record { ascending = subst (λ (hs : List HeldName). IsStrictlySortedBy hashed_cmp (map hashed hs)) (sym c.deref.ensures.value) rise }
 
-pub returns-in-Ok-with_circle-clause-ok : goal.returns-in-Ok-with_circle-clause-ok
-returns-in-Ok-with_circle-clause-ok g c =
+pub returns-in-Ok-sets_of_circle-clause-made : goal.returns-in-Ok-sets_of_circle-clause-made
+returns-in-Ok-sets_of_circle-clause-made g c =
     let hash = hash_with (g.H.Nsec3Hash.digest_of c.args.hash.now) c.args.parameters.now in
-    sets_same c.args.origin.now c.args.records.now hash c.args.parameters.now c.args.names.now c.requires.names c.in-Ok.held.items c.in-Ok.ensures.ok c.args.ttl c.args.serial c.in-Ok.ensures.names c.requires.types
-    c.in-Ok-announced.announced c.in-Ok-with_circle.sets c.in-Ok-announced.ensures.ok
-    (λ n t. c.in-Ok-with_circle.ensures.ok n t ∙ ap (λ (hs : List HeldName). cond (t == NSEC3) (circle_set_at c.args.origin.now c.args.parameters.now c.args.ttl hs c.args.serial hs n) (set_at c.in-Ok-announced.announced n t)) c.deref.ensures.value)
+    made_same c.args.origin.now c.args.records.now hash c.args.parameters.now c.args.names.now c.requires.names c.in-Ok.held.items c.in-Ok.ensures.ok c.args.ttl c.args.serial c.in-Ok.ensures.names c.requires.types
+    c.deref.result.now c.deref.ensures.value c.in-Ok-sets_of_circle.sets c.in-Ok-sets_of_circle.ensures.made
+
+pub returns-in-Ok-sets_of_circle-clause-standing : goal.returns-in-Ok-sets_of_circle-clause-standing
+returns-in-Ok-sets_of_circle-clause-standing g c =
+    let hash = hash_with (g.H.Nsec3Hash.digest_of c.args.hash.now) c.args.parameters.now in
+    stood_same c.args.origin.now c.args.records.now hash c.args.parameters.now c.args.names.now c.requires.names c.in-Ok.held.items c.in-Ok.ensures.ok c.args.ttl c.args.serial c.in-Ok.ensures.names c.requires.types
+    c.deref.result.now c.deref.ensures.value c.in-Ok-sets_of_circle.sets (λ n. standing_at c.args.records.now NSEC3 c.args.serial n NSEC3) NSEC3 c.in-Ok-sets_of_circle.ensures.standing
+
+pub returns-in-Ok-sets_of_circle-clause-announced : goal.returns-in-Ok-sets_of_circle-clause-announced
+returns-in-Ok-sets_of_circle-clause-announced g c =
+    let hash = hash_with (g.H.Nsec3Hash.digest_of c.args.hash.now) c.args.parameters.now in
+    one_same c.args.origin.now c.args.records.now hash c.args.parameters.now c.args.names.now c.requires.names c.in-Ok.held.items c.in-Ok.ensures.ok c.args.ttl c.args.serial c.in-Ok.ensures.names c.requires.types
+    c.deref.result.now c.deref.ensures.value c.in-Ok-sets_of_circle.sets (set_at c.args.records.now c.args.origin.now NSEC3PARAM) c.args.origin.now NSEC3PARAM c.in-Ok-sets_of_circle.ensures.announced

@@ -7,7 +7,7 @@ use Rattle.zone_denial.specs.Nsec3Zones.{hash_with}
 use Rattle.zone_map.specs.Zones.{owns}
 use Rattle.zone_search.specs.Inner.{Inner}
 use Rattle.zone_search.proofs.SecuredRecords.{refusal_without_cname}
-use Rattle.zone_search.proofs.inner_in_memory.InnerInMemory.nsec3_sets.Goals as goal
+use Rattle.zone_search.proofs.inner_in_memory.InnerInMemory.nsec3_denials.Goals as goal
 
 pub returns-clause-err : goal.returns-clause-err
 returns-clause-err g c =

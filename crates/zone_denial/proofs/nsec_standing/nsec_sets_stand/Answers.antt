@@ -17,7 +17,7 @@ use Rattle.zone_denial.specs.TypeLists.{joined}
 use Rattle.zone_denial.proofs.Ascending.{Ascends-from_sorted}
 use Rattle.zone_denial.proofs.KeyRuns.{lent_keys, to_end, of_count, Linking-step}
 use Rattle.zone_denial.proofs.StandingSets.{under_own_key, StandSoFar-start, StandSoFar-other, StandSoFar-more, StandSoFar-end}
-use Rattle.zone_denial.proofs.standing.nsec_sets_stand.Goals as goal
+use Rattle.zone_denial.proofs.nsec_standing.nsec_sets_stand.Goals as goal
 
 pub loop-key-init : goal.loop-key-init
 loop-key-init c =
