@@ -1,60 +1,288 @@
--- The NSEC3 sets of a circle, made by inserting its records one after the other
-use Rattle.std.proofs.Common.{◌≡◌, ℕ, suc, ◌<◌, ◌==◌, ◌&&◌, ◌||◌, not, Bool, true, false, cond, List, [], ◌∷◌, ◌++◌, map, length, take, get_or, refl, sym, ap, ◌∙◌, subst, inl, inr, eqb-true}
-use Rattle.std.specs.Prelude.{Some, None, unwrap_or}
-use Rattle.std.specs.Bool.{beq}
-use Rattle.std.specs.List.{list_any, cons_option}
-use Rattle.std.specs.Option.{option_map_or}
+-- The NSEC3 sets of a circle, made as a list of entries, one for each of its names
+use Rattle.std.proofs.Common.{◌≡◌, ℕ, zero, suc, ◌+◌, ◌-◌, ◌<◌, ◌==◌, ◌&&◌, Bool, true, false, cond, List, [], ◌∷◌, ◌++◌, map, length, take, drop, get_or, refl, sym, ap, ◌∙◌, subst, ◌⊎◌, inl, inr, eqb-true, eq-eqb, true≢false, Ordering, Less, Equal, Greater, arith}
+use Rattle.std.specs.Prelude.{Option, Some, None, IfSome, option_map, unwrap_or, slice_get}
+use Rattle.std.specs.Borrow.{Bor}
+use Rattle.std.specs.Cmp.{eq_by_cmp_equiv}
+use Rattle.std.specs.List.{All, AllByRecursion, cons_option}
+use Rattle.std.specs.List.Sorted.{IsStrictlySortedBy}
+use Rattle.std.specs.Map.{keys_of, update_all}
+use Rattle.std.specs.Option.{option_map_or, IfNone}
+use Rattle.std.specs.Ordering.{ordering_then}
 use Rattle.std.proofs.Math.Seq.{take-suc}
-use Rattle.std.proofs.lemmas.List.{map-append, append-nil}
-use Rattle.std.proofs.lemmas.List.Elements.{filter_map-append}
+use Rattle.std.proofs.lemmas.List.{map-append, append-nil, length-append, take-append-drop, get_or_default}
+use Rattle.std.proofs.lemmas.List.Elements.{filter_map-append, Contains-get_or}
 use Rattle.std.proofs.lemmas.List.Folds.{list_all-append}
+use Rattle.std.proofs.lemmas.Map.{update_all_push}
+use Rattle.std.proofs.lemmas.Map.Keys.{IsDistinct-from_sorted}
+use Rattle.std.proofs.lemmas.Map.Made.{IfSome-update_all, update_all_none}
 use Rattle.zone_proto.specs.declared.error.ProtoError.{ProtoError}
 use Rattle.zone_proto.specs.declared.rdata.denial.NSEC3PARAM.{NSEC3PARAM as Nsec3Parameters}
 use Rattle.zone_proto.specs.declared.record.Record.{Record}
+use Rattle.zone_proto.specs.declared.rr_key.RrKey.{RrKey}
 use Rattle.zone_proto.specs.Faults.{fault_of}
 use Rattle.zone_proto.specs.HashedOwners.{hashed_owner}
-use Rattle.zone_proto.specs.Names.{Name, lower, name_eq}
-use Rattle.zone_proto.specs.Types.{IN, CNAME, NSEC3}
+use Rattle.zone_proto.specs.Keys.{key, key_cmp, key_eq}
+use Rattle.zone_proto.specs.Names.{Name, lower, name_cmp, name_eq, octets_cmp, same_name}
+use Rattle.zone_proto.specs.Ranges.{IsOctet}
+use Rattle.zone_proto.specs.Sets.{RRset, empty_set, inserted}
+use Rattle.zone_proto.specs.Types.{NSEC3}
 use Rattle.zone_proto.proofs.Base32Facts.{lower_text}
-use Rattle.zone_proto.proofs.Members.{In}
+use Rattle.zone_proto.proofs.KeyLaws.{key_cmp_total}
+use Rattle.zone_proto.proofs.KeyOrder.{key_same, key_itself}
+use Rattle.zone_proto.proofs.Members.{In, In-Contains, Contains-In, In-map, In-append_left, In-from_append, and_left, and_right}
 use Rattle.zone_proto.proofs.NameTree.{name_eq-Decides}
-use Rattle.zone_map.specs.Upserts.{clash, upserted}
-use Rattle.zone_map.specs.Zones.{Sets, set_at, types_at}
+use Rattle.zone_proto.proofs.Orders.{irrefl}
+use Rattle.zone_proto.proofs.SetLaws.{IsSet-alone}
+use Rattle.zone_map.specs.Zones.{Sets, set_at, last_at, IsStoredAt, AreStored, IsZone}
+use Rattle.zone_map.proofs.Upserting.{same_from_lower, inserted_stored}
 use Rattle.zone_denial.specs.declared.hashed_names.HashedName.{HashedName as HeldName}
 use Rattle.zone_denial.specs.HashedNames.{hashed, all_fit, circle_record, circle_records, circle_set_at}
-use Rattle.zone_denial.specs.Nsec3Sets.{HashedName, set_of}
-use Rattle.zone_denial.proofs.TakenRecords.{set_taking, set_at-upserted, set_of-more}
-
--- ---- NSEC3 stands beside every type
+use Rattle.zone_denial.specs.RepeatedDigests.{RepeatsDigest}
+use Rattle.zone_denial.specs.Nsec3Sets.{HashedName, hashed_cmp, set_of}
+use Rattle.zone_denial.proofs.Ascending.{Ascends, Ascends-front, Ascends-apart, Ascends-from_sorted}
+use Rattle.zone_denial.proofs.Nsec3Owners.{octets_order}
+use Rattle.zone_denial.proofs.TakenRecords.{set_taking, set_of-more}
+use Rattle.zone_denial.proofs.TextsApart.{owners_apart}
 
 last_false : (b : Bool) → b && false ≡ false
 last_false true = refl
 last_false false = refl
 
-beside_all : (ts : List ℕ) → list_any (clash NSEC3) ts ≡ false
-beside_all [] = refl
-beside_all (t ∷ ts) = λ i. last_false (not (beq (NSEC3 == CNAME) (t == CNAME))) i || beside_all ts i
-
-hashed_lower : (origin : Name) (digest : List ℕ) → lower origin ≡ origin → lower (hashed_owner origin digest) ≡ hashed_owner origin digest
+pub hashed_lower : (origin : Name) (digest : List ℕ) → lower origin ≡ origin → lower (hashed_owner origin digest) ≡ hashed_owner origin digest
 hashed_lower origin digest low = λ i. lower_text digest i ∷ low i
+
+-- ---- lists with a last item
+
+none_last : {A : Type 0} (xs : List A) (x : A) → [] ≡ xs ++ x ∷ [] → ⊥
+none_last [] x e = absurd cc
+none_last (y ∷ xs) x e = absurd cc
+
+tails : {A : Type 0} (x y : A) (xs ys : List A) → x ∷ xs ≡ y ∷ ys → xs ≡ ys
+tails x y xs ys e = cc
+
+last_same : {A : Type 0} (xs ys : List A) (x y : A) → xs ++ x ∷ [] ≡ ys ++ y ∷ [] → x ≡ y
+last_same [] [] x y e = cc
+last_same [] (z ∷ ys) x y e = absurd (none_last ys y (tails x z [] (ys ++ y ∷ []) e))
+last_same (w ∷ xs) [] x y e = absurd (none_last xs x (sym (tails w y (xs ++ x ∷ []) [] e)))
+last_same (w ∷ xs) (z ∷ ys) x y e = last_same xs ys x y (tails w z (xs ++ x ∷ []) (ys ++ y ∷ []) e)
+
+last_get : {A : Type 0} (xs : List A) (x : A) → slice_get (xs ++ x ∷ []) (length (xs ++ x ∷ []) - 1) ≡ Some x
+last_get xs x =
+    let long : length (xs ++ x ∷ []) ≡ length xs + 1 = length-append xs (x ∷ []) in
+    let place : length (xs ++ x ∷ []) - 1 ≡ length xs = omega (arith, long) in
+    ap (slice_get (xs ++ x ∷ [])) place ∙ at xs
+  where
+    at : (ys : List _) → slice_get (ys ++ x ∷ []) (length ys) ≡ Some x
+    at [] = refl
+    at (y ∷ ys) = at ys
+
+all_from_in : {A : Type 0} (P : A → Type 0) (xs : List A) → ((x : A) → In x xs → P x) → All P xs
+all_from_in P xs h = λ k d lt. h (get_or xs k d) (Contains-In (get_or xs k d) xs (Contains-get_or xs k d lt))
+
+-- ---- entries with one more
+
+key_test : (n : Name) (t : ℕ) (o : Name) (u : ℕ) → key_eq (key o u) (key n t) ≡ (t == u) && name_eq n o
+key_test n t o u = by (key_eq (key o u) (key n t)) refl
+  where
+    other : (c : Bool) → (t == u) && name_eq n o ≡ c → key_eq (key o u) (key n t) ≡ false → false ≡ c
+    other false h e = refl
+    other true h e =
+        let name : n ≡ o = (name_eq-Decides n o).0 (and_right (t == u) (name_eq n o) h) in
+        let type' : t ≡ u = eqb-true t u (and_left (t == u) (name_eq n o) h) in
+        let tested : key_eq (key o u) (key n t) ≡ true = (λ i. key_eq (key o u) (key (name i) (type' i))) ∙ key_itself (key o u) in
+        absurd (true≢false (sym tested ∙ e))
+
+    by : (b : Bool) → key_eq (key o u) (key n t) ≡ b → b ≡ (t == u) && name_eq n o
+    by true e =
+        let same = key_same (key o u) (key n t) e in
+        let name : n ≡ o = sym (ap (λ (k : RrKey). k.name) same) in
+        let type' : t ≡ u = sym (ap (λ (k : RrKey). k.record_type.0) same) in
+        sym (λ i. eq-eqb t u type' i && (name_eq-Decides n o).1 name i)
+    by false e = other ((t == u) && name_eq n o) refl e
+
+last_at-more : (es : Sets) (o : Name) (u : ℕ) (s : RRset) (n : Name) (t : ℕ) → last_at (es ++ (key o u, s) ∷ []) n t ≡ cond ((t == u) && name_eq n o) (Some s) (last_at es n t)
+last_at-more es o u s n t =
+    sym (update_all_push key_eq (λ _. None) (λ q. update_all key_eq (λ _. None) es q) es (key o u, s) (key n t) refl)
+    ∙ ap (λ b. cond b (Some s) (last_at es n t)) (key_test n t o u)
+
+last_at-zone : (m : Sets) → IsZone m → (n : Name) (t : ℕ) → last_at m n t ≡ set_at m n t
+last_at-zone m zone n t = update_all_none (eq_by_cmp_equiv key_cmp_total) key_eq (λ x y. refl) m (key n t) (IsDistinct-from_sorted key_cmp (keys_of m) zone.ordered)
+
+-- what is found under a name and a type may stand there
+last_stored : (es : Sets) → AreStored es → (n : Name) (t : ℕ) (s : RRset) → last_at es n t ≡ Some s → IsStoredAt n t s
+last_stored es stored n t s e =
+    let P = λ (w : RRset). IsStoredAt n t w in
+    let found = IfSome-update_all key_eq P (key n t) (λ _. None) es tt
+    (λ k d lt same. subst (λ (x : RrKey). IsStoredAt x.name x.record_type.0 (get_or es k d).1) (key_same (get_or es k d).0 (key n t) same) (stored k d lt)) in
+    subst (λ (o : Option RRset). IfSome o P) e found
+
+-- ---- the set of an entry before, if there is one, is of the owner
+
+abbrev pub set_of_entry : Option (Bor (RrKey × RRset)) → Option RRset
+set_of_entry b = option_map (λ (e : Bor (RrKey × RRset)). e.now.1) b
+
+module _ (es : Sets) (stored : AreStored es) (o : Name) where
+  pub before_owner : (b : Option (Bor (RrKey × RRset))) (n : Name) → set_of_entry b ≡ last_at es o NSEC3 → n ≡ o → lower o ≡ o → IfSome b (λ e. same_name n e.now.1.owner ≡ true)
+  before_owner (Some e) n is named low = same_from_lower n e.now.1.owner (ap lower named ∙ low ∙ sym (last_stored es stored o NSEC3 e.now.1 (sym is)).owner)
+  before_owner None n is named low = tt
+
+  pub before_kind : (b : Option (Bor (RrKey × RRset))) → set_of_entry b ≡ last_at es o NSEC3 → IfSome b (λ e. e.now.1.record_type ≡ NSEC3)
+  before_kind (Some e) is = (last_stored es stored o NSEC3 e.now.1 (sym is)).record_type
+  before_kind None is = tt
+
+pub taking_owner : (b : Option (Bor (RrKey × RRset))) (n : Name) (serial : ℕ) → IfSome b (λ e. same_name n e.now.1.owner ≡ true)
+    → same_name n (unwrap_or (set_of_entry b) (empty_set n NSEC3 serial)).owner ≡ true
+taking_owner (Some e) n serial h = h
+taking_owner None n serial h = same_from_lower n n refl
+
+pub taking_kind : (b : Option (Bor (RrKey × RRset))) (n : Name) (serial : ℕ) → IfSome b (λ e. e.now.1.record_type ≡ NSEC3)
+    → (unwrap_or (set_of_entry b) (empty_set n NSEC3 serial)).record_type ≡ NSEC3
+taking_kind (Some e) n serial h = h
+taking_kind None n serial h = refl
 
 -- ---- the sets made so far
 
 module _ (origin : Name) (parameters : Nsec3Parameters) (ttl serial : ℕ) (all : List HeldName) (announced : Sets) where
-  pub record CircleSoFar (front : List HeldName) (m : Sets) : Type 0 where
-    pub sets : (n : Name) (t : ℕ) → set_at m n t ≡ cond (t == NSEC3) (circle_set_at origin parameters ttl all serial front n) (set_at announced n t)
-    pub fit : all_fit origin (map hashed front) ≡ true
+  abbrev pub owner_of : HeldName → Name
+  owner_of h = hashed_owner origin h.digest
 
-  pub CircleSoFar-none : ((n : Name) → set_at announced n NSEC3 ≡ None) → CircleSoFar [] announced
-  CircleSoFar-none absent = record { sets = λ n t. by n t (t == NSEC3) refl; fit = refl }
+  pub record CircleSoFar (front : List HeldName) (es : Sets) : Type 0 where
+    pub sets : (n : Name) (t : ℕ) → last_at es n t ≡ cond (t == NSEC3) (circle_set_at origin parameters ttl all serial front n) (set_at announced n t)
+    pub stored : AreStored es
+    pub fit : all_fit origin (map hashed front) ≡ true
+    pub octets : (h : HeldName) → In h front → AllByRecursion IsOctet h.digest
+    pub last : (before : List HeldName) (k : HeldName) → front ≡ before ++ k ∷ [] → (s : RRset) × (others : Sets) × (es ≡ others ++ (key (owner_of k) NSEC3, s) ∷ [])
+
+  pub CircleSoFar-none : IsZone announced → AreStored announced → ((n : Name) → set_at announced n NSEC3 ≡ None) → CircleSoFar [] announced
+  CircleSoFar-none zone stored absent =
+      record {
+        sets = λ n t. last_at-zone announced zone n t ∙ by n t (t == NSEC3) refl;
+        stored = stored;
+        fit = refl;
+        octets = λ h i. absurd i;
+        last = λ before k e. absurd (none_last before k e);
+      }
     where
       by : (n : Name) (t : ℕ) (b : Bool) → (t == NSEC3) ≡ b → set_at announced n t ≡ cond b None (set_at announced n t)
       by n t true e = ap (set_at announced n) (eqb-true t NSEC3 e) ∙ absent n
       by n t false e = refl
 
-  module _ (front : List HeldName) (h : HeldName) (m : Sets) (so_far : CircleSoFar front m) (low : lower origin ≡ origin) where
+  -- the set of the last entry is that of the owner, where the last name has the same digest
+  taken_over : (front before : List HeldName) (k h : HeldName) (es : Sets) (e : RrKey × RRset) → CircleSoFar front es → front ≡ before ++ k ∷ [] → k.digest ≡ h.digest
+      → slice_get es (length es - 1) ≡ Some e → Some e.1 ≡ last_at es (owner_of h) NSEC3
+  taken_over front before k h es e so_far is same ends =
+      let l = so_far.last before k is in
+      let o = owner_of h in
+      let own : key (owner_of k) NSEC3 ≡ key o NSEC3 = ap (λ (d : List ℕ). key (hashed_owner origin d) NSEC3) same in
+      let whole : Some (key (owner_of k) NSEC3, l.0) ≡ Some e = sym (ap (λ (x : Sets). slice_get x (length x - 1)) l.2 ∙ last_get l.1 (key (owner_of k) NSEC3, l.0)) ∙ ends in
+      let found : last_at es o NSEC3 ≡ Some l.0 =
+      ap (λ (x : Sets). last_at x o NSEC3) l.2
+      ∙ (λ i. last_at (l.1 ++ (own i, l.0) ∷ []) o NSEC3)
+      ∙ last_at-more l.1 o NSEC3 l.0 o NSEC3
+      ∙ ap (λ b. cond b (Some l.0) (last_at l.1 o NSEC3)) ((name_eq-Decides o o).1 refl) in
+      ap (option_map (λ (x : RrKey × RRset). x.1)) (sym whole) ∙ sym found
+
+  -- ---- where the digest is new, there is no set under the owner
+
+  no_records : (o : Name) (hs : List HeldName) → ((x : HeldName) → In x hs → name_eq o (owner_of x) ≡ false) → circle_records origin parameters ttl all hs o ≡ []
+  no_records o [] f = refl
+  no_records o (x ∷ hs) f = λ i. cons_option (cond (f x (inl refl) i) (Some (circle_record origin parameters ttl all x)) None) (no_records o hs (λ y j. f y (inr j)) i)
+
+  upto : (a b : HashedName) → hashed_cmp a b ≡ Less → (octets_cmp a.digest b.digest ≡ Less) ⊎ (a.digest ≡ b.digest)
+  upto a b h = by (octets_cmp a.digest b.digest) refl h
+    where
+      by : (o : Ordering) → octets_cmp a.digest b.digest ≡ o → ordering_then o (name_cmp a.name b.name) ≡ Less → (octets_cmp a.digest b.digest ≡ Less) ⊎ (a.digest ≡ b.digest)
+      by Less e l = inl e
+      by Equal e l = inr (octets_order.exact a.digest b.digest e)
+      by Greater e l = absurd cc
+
+  module _ (front before : List HeldName) (k h : HeldName) (es : Sets) (so_far : CircleSoFar front es) (is : front ≡ before ++ k ∷ []) (other : k.digest ≡ h.digest → ⊥)
+      (rise : Ascends hashed_cmp (map hashed (front ++ h ∷ []))) (octets : AllByRecursion IsOctet h.digest) where
+    ascends : Ascends hashed_cmp (map hashed front ++ hashed h ∷ [])
+    ascends = subst (Ascends hashed_cmp) (map-append hashed front (h ∷ [])) rise
+
+    last_in : In k front
+    last_in = subst (λ (hs : List HeldName). In k hs) (sym is) (at before)
+      where
+        at : (hs : List HeldName) → In k (hs ++ k ∷ [])
+        at [] = inl refl
+        at (x ∷ hs) = inr (at hs)
+
+    last_before : octets_cmp k.digest h.digest ≡ Less
+    last_before = by (upto (hashed k) (hashed h) (Ascends-apart hashed_cmp (map hashed front) (hashed h ∷ []) ascends (hashed k) (hashed h) (In-map hashed k front last_in) (inl refl)))
+      where
+        by : (octets_cmp k.digest h.digest ≡ Less) ⊎ (k.digest ≡ h.digest) → octets_cmp k.digest h.digest ≡ Less
+        by (inl l) = l
+        by (inr e) = absurd (other e)
+
+    front_ascends : Ascends hashed_cmp (map hashed before ++ hashed k ∷ [])
+    front_ascends = subst (Ascends hashed_cmp) (ap (map hashed) is ∙ map-append hashed before (k ∷ [])) (Ascends-front hashed_cmp (map hashed front) (hashed h ∷ []) ascends)
+
+    all_before : (x : HeldName) → In x before ⊎ In x (k ∷ []) → octets_cmp x.digest h.digest ≡ Less
+    all_before x (inl i) = by (upto (hashed x) (hashed k) (Ascends-apart hashed_cmp (map hashed before) (hashed k ∷ []) front_ascends (hashed x) (hashed k) (In-map hashed x before i) (inl refl)))
+      where
+        by : (octets_cmp x.digest k.digest ≡ Less) ⊎ (x.digest ≡ k.digest) → octets_cmp x.digest h.digest ≡ Less
+        by (inl l) = octets_order.total.trans x.digest k.digest h.digest l last_before
+        by (inr e) = ap (λ (d : List ℕ). octets_cmp d h.digest) e ∙ last_before
+    all_before x (inr (inl e)) = ap (λ (y : HeldName). octets_cmp y.digest h.digest) (sym e) ∙ last_before
+    all_before x (inr (inr i)) = absurd i
+
+    apart : (x : HeldName) → In x front → (b : Bool) → name_eq (owner_of h) (owner_of x) ≡ b → b ≡ false
+    apart x i false e = refl
+    apart x i true e =
+        let own : owner_of h ≡ owner_of x = (name_eq-Decides (owner_of h) (owner_of x)).0 e in
+        let same : h.digest ≡ x.digest = owners_apart origin h.digest x.digest octets (so_far.octets x i) own in
+        let less = all_before x (In-from_append x before (k ∷ []) (subst (λ (hs : List HeldName). In x hs) is i)) in
+        absurd (irrefl octets_order h.digest (ap (λ (d : List ℕ). octets_cmp d h.digest) same ∙ less))
+
+    pub new_digest : last_at es (owner_of h) NSEC3 ≡ None
+    new_digest = so_far.sets (owner_of h) NSEC3 ∙ ap (set_of (owner_of h) NSEC3 serial) (no_records (owner_of h) front (λ x i. apart x i (name_eq (owner_of h) (owner_of x)) refl))
+
+  -- ---- the set of the entry before is that of the owner, and there is none where it isn't taken over
+
+  pub found_before : (i : ℕ) (h : HeldName) (es : Sets) (b : Option (Bor (RrKey × RRset))) → CircleSoFar (take i all) es → i < length all → h ≡ get_or all i h → Ascends hashed_cmp (map hashed all)
+      → AllByRecursion IsOctet h.digest → IfSome b (λ e. slice_get es (length es - 1) ≡ Some e.now) → IfSome b (λ e. RepeatsDigest all i) → IfNone b ((es ≡ []) ⊎ ¬ RepeatsDigest all i)
+      → set_of_entry b ≡ last_at es (owner_of h) NSEC3
+  found_before zero h es (Some e) so_far lt is a octets ends same none = absurd (omega (arith, same.0))
+  found_before (suc j) h es (Some e) so_far lt is a octets ends same none =
+      let before : suc j - 1 ≡ j = omega arith in
+      let k = get_or all j h in
+      taken_over (take (suc j) all) (take j all) k h es e.now so_far (take-suc all j h (omega (arith, lt))) (ap (λ (n : ℕ). (get_or all n h).digest) (sym before) ∙ same.1 h ∙ ap (λ (x : HeldName). x.digest) (sym is)) ends
+  found_before i h es None so_far lt is a octets ends same (inl e) = sym (ap (λ (x : Sets). last_at x (owner_of h) NSEC3) e)
+  found_before zero h es None so_far lt is a octets ends same (inr n) = sym (so_far.sets (owner_of h) NSEC3)
+  found_before (suc j) h es None so_far lt is a octets ends same (inr n) =
+      let k = get_or all j h in
+      let front : take (suc j) all ≡ take j all ++ k ∷ [] = take-suc all j h (omega (arith, lt)) in
+      let whole : take (suc (suc j)) all ≡ take (suc j) all ++ h ∷ [] = take-suc all (suc j) h lt ∙ ap (λ (x : HeldName). take (suc j) all ++ x ∷ []) (sym is) in
+      let parted = ap (map hashed) (sym (take-append-drop (suc (suc j)) all)) ∙ map-append hashed (take (suc (suc j)) all) (drop (suc (suc j)) all) in
+      let rise = Ascends-front hashed_cmp (map hashed (take (suc (suc j)) all)) (map hashed (drop (suc (suc j)) all)) (subst (Ascends hashed_cmp) parted a) in
+      sym (new_digest (take (suc j) all) (take j all) k h es so_far front (λ e. n (repeated j h lt is e)) (subst (λ (hs : List HeldName). Ascends hashed_cmp (map hashed hs)) whole rise) octets)
+    where
+      repeated : (j : ℕ) (h : HeldName) → suc j < length all → h ≡ get_or all (suc j) h → (get_or all j h).digest ≡ h.digest → RepeatsDigest all (suc j)
+      repeated j h lt is e = (omega arith, λ d.
+          let before : suc j - 1 ≡ j = omega arith in
+          ap (λ (n : ℕ). (get_or all n d).digest) before ∙ ap (λ (x : HeldName). x.digest) (get_or_default all j d h (omega (arith, lt))) ∙ e
+          ∙ ap (λ (x : HeldName). x.digest) (is ∙ get_or_default all (suc j) h d lt))
+
+  -- the same of two reads of one name, and of a list that is the entries
+  pub same_read : (i : ℕ) (h g : HeldName) → i < length all → h ≡ get_or all i h → g ≡ get_or all i g → g ≡ h
+  same_read i h g lt is own = own ∙ get_or_default all i g h lt ∙ sym is
+
+  pub read_fits : (i : ℕ) (h g : HeldName) (octets : List ℕ) → i < length all → h ≡ get_or all i h → g ≡ get_or all i g → octets ≡ g.digest → AllByRecursion IsOctet octets → AllByRecursion IsOctet h.digest
+  read_fits i h g octets lt is own e fits = subst (AllByRecursion IsOctet) (e ∙ ap (λ (x : HeldName). x.digest) (same_read i h g lt is own)) fits
+
+  pub found_among : (i : ℕ) (h : HeldName) (es entries : Sets) (b : Option (Bor (RrKey × RRset))) → entries ≡ es → CircleSoFar (take i all) es → i < length all → h ≡ get_or all i h
+      → IsStrictlySortedBy hashed_cmp (map hashed all) → AllByRecursion IsOctet h.digest → IfSome b (λ e. slice_get entries (length entries - 1) ≡ Some e.now) → IfSome b (λ e. RepeatsDigest all i)
+      → IfNone b ((entries ≡ []) ⊎ ¬ RepeatsDigest all i) → set_of_entry b ≡ last_at es (owner_of h) NSEC3
+  found_among i h es entries b whole so_far lt is sorted fits ends same none =
+      found_before i h es b so_far lt is (Ascends-from_sorted hashed_cmp (map hashed all) sorted) fits (subst (λ (x : Sets). IfSome b (λ e. slice_get x (length x - 1) ≡ Some e.now)) whole ends) same
+      (subst (λ (x : Sets). IfNone b ((x ≡ []) ⊎ ¬ RepeatsDigest all i)) whole none)
+
+  -- ---- one more
+
+  module _ (front : List HeldName) (h : HeldName) (es : Sets) (so_far : CircleSoFar front es) (low : lower origin ≡ origin) where
     abbrev owner : Name
-    owner = hashed_owner origin h.digest
+    owner = owner_of h
 
     abbrev record_of : Record
     record_of = circle_record origin parameters ttl all h
@@ -62,30 +290,54 @@ module _ (origin : Name) (parameters : Nsec3Parameters) (ttl serial : ℕ) (all 
     abbrev records_of : Name → List Record
     records_of n = circle_records origin parameters ttl all front n
 
-    one_more : (n : Name) → circle_records origin parameters ttl all (front ++ h ∷ []) n ≡ records_of n ++ cons_option (cond (name_eq n owner) (Some record_of) None) []
-    one_more n = filter_map-append (λ k. cond (name_eq n (hashed_owner origin k.digest)) (Some (circle_record origin parameters ttl all k)) None) front (h ∷ [])
+    abbrev set_more : RRset
+    set_more = set_taking serial owner NSEC3 (last_at es owner NSEC3) record_of
 
-    stored : (n : Name) (b : Bool) → name_eq n owner ≡ b → cond b (Some (set_taking serial owner NSEC3 (set_at m owner NSEC3) record_of)) (set_of n NSEC3 serial (records_of n))
+    abbrev entry : RrKey × RRset
+    entry = (key owner NSEC3, set_more)
+
+    one_more : (n : Name) → circle_records origin parameters ttl all (front ++ h ∷ []) n ≡ records_of n ++ cons_option (cond (name_eq n owner) (Some record_of) None) []
+    one_more n = filter_map-append (λ k. cond (name_eq n (owner_of k)) (Some (circle_record origin parameters ttl all k)) None) front (h ∷ [])
+
+    of_name : (n : Name) (b : Bool) → name_eq n owner ≡ b → cond b (Some set_more) (set_of n NSEC3 serial (records_of n))
         ≡ set_of n NSEC3 serial (records_of n ++ cons_option (cond b (Some record_of) None) [])
-    stored n true e =
+    of_name n true e =
         let own : n ≡ owner = (name_eq-Decides n owner).0 e in
         ap (λ s. Some (set_taking serial owner NSEC3 s record_of)) (so_far.sets owner NSEC3)
         ∙ sym (set_of-more owner NSEC3 serial (records_of owner) record_of)
         ∙ ap (λ o. set_of o NSEC3 serial (records_of o ++ record_of ∷ [])) (sym own)
-    stored n false e = ap (set_of n NSEC3 serial) (sym (append-nil (records_of n)))
+    of_name n false e = ap (set_of n NSEC3 serial) (sym (append-nil (records_of n)))
 
-    sets_more : (n : Name) (t : ℕ) → set_at (unwrap_or (upserted m IN record_of serial) m) n t
-        ≡ cond (t == NSEC3) (circle_set_at origin parameters ttl all serial (front ++ h ∷ []) n) (set_at announced n t)
+    sets_more : (n : Name) (t : ℕ) → last_at (es ++ entry ∷ []) n t ≡ cond (t == NSEC3) (circle_set_at origin parameters ttl all serial (front ++ h ∷ []) n) (set_at announced n t)
     sets_more n t =
-        set_at-upserted m IN record_of serial owner NSEC3 refl refl (hashed_lower origin h.digest low) refl (beside_all (types_at m owner)) refl n t
-        ∙ ap (cond ((t == NSEC3) && name_eq n owner) (Some (set_taking serial owner NSEC3 (set_at m owner NSEC3) record_of))) (so_far.sets n t)
+        last_at-more es owner NSEC3 set_more n t
+        ∙ ap (cond ((t == NSEC3) && name_eq n owner) (Some set_more)) (so_far.sets n t)
         ∙ by (t == NSEC3)
         ∙ ap (λ rs. cond (t == NSEC3) (set_of n NSEC3 serial rs) (set_at announced n t)) (sym (one_more n))
       where
-        by : (b : Bool) → cond (b && name_eq n owner) (Some (set_taking serial owner NSEC3 (set_at m owner NSEC3) record_of)) (cond b (set_of n NSEC3 serial (records_of n)) (set_at announced n t))
+        by : (b : Bool) → cond (b && name_eq n owner) (Some set_more) (cond b (set_of n NSEC3 serial (records_of n)) (set_at announced n t))
             ≡ cond b (set_of n NSEC3 serial (records_of n ++ cons_option (cond (name_eq n owner) (Some record_of) None) [])) (set_at announced n t)
-        by true = stored n (name_eq n owner) refl
+        by true = of_name n (name_eq n owner) refl
         by false = refl
+
+    owner_low : lower owner ≡ owner
+    owner_low = hashed_lower origin h.digest low
+
+    more_stored : (o : Option RRset) → last_at es owner NSEC3 ≡ o → IsStoredAt owner NSEC3 (set_taking serial owner NSEC3 o record_of)
+    more_stored None e = record { owner = owner_low; record_type = refl; filled = λ f. cc; set = IsSet-alone owner NSEC3 record_of (same_from_lower owner owner refl) refl }
+    more_stored (Some s) e = taken (inserted s record_of serial) refl
+      where
+        st : IsStoredAt owner NSEC3 s
+        st = last_stored es so_far.stored owner NSEC3 s e
+
+        taken : (w : Option RRset) → inserted s record_of serial ≡ w → IsStoredAt owner NSEC3 (unwrap_or w s)
+        taken None q = st
+        taken (Some w) q = subst (λ n. IsStoredAt n NSEC3 w) owner_low (inserted_stored s record_of serial w (st.owner ∙ sym owner_low) st.record_type st.set q)
+
+    each_stored : (e : RrKey × RRset) → In e es ⊎ In e (entry ∷ []) → IsStoredAt e.0.name e.0.record_type.0 e.1
+    each_stored e (inl i) = let c = In-Contains e es i in subst (λ (x : RrKey × RRset). IsStoredAt x.0.name x.0.record_type.0 x.1) c.2 (so_far.stored c.0 e c.1)
+    each_stored e (inr (inl s)) = subst (λ (x : RrKey × RRset). IsStoredAt x.0.name x.0.record_type.0 x.1) s (more_stored (last_at es owner NSEC3) refl)
+    each_stored e (inr (inr i)) = absurd i
 
     fit_more : fault_of owner ≡ None → all_fit origin (map hashed (front ++ h ∷ [])) ≡ true
     fit_more none =
@@ -93,14 +345,28 @@ module _ (origin : Name) (parameters : Nsec3Parameters) (ttl serial : ℕ) (all 
         ∙ list_all-append (λ (k : HashedName). option_map_or (λ _. false) (fault_of (hashed_owner origin k.digest)) true) (map hashed front) (hashed h ∷ [])
         ∙ (λ i. so_far.fit i && (option_map_or (λ _. false) (none i) true && true))
 
-  pub CircleSoFar-more : (i : ℕ) (h : HeldName) (r : Record) (m : Sets) → i < length all → h ≡ get_or all i h → r ≡ circle_record origin parameters ttl all h → lower origin ≡ origin
-      → fault_of (hashed_owner origin h.digest) ≡ None → CircleSoFar (take i all) m → CircleSoFar (take (suc i) all) (unwrap_or (upserted m IN r serial) m)
-  CircleSoFar-more i h r m lt is made low none so_far =
-      subst (λ front. CircleSoFar front (unwrap_or (upserted m IN r serial) m)) (sym (take-suc all i h lt ∙ ap (λ k. take i all ++ k ∷ []) (sym is)))
-      (subst (λ (x : Record). CircleSoFar (take i all ++ h ∷ []) (unwrap_or (upserted m IN x serial) m)) (sym made) (record {
-        sets = sets_more (take i all) h m so_far low;
-        fit = fit_more (take i all) h m so_far low none;
-      }))
+    octets_more : AllByRecursion IsOctet h.digest → (k : HeldName) → In k front ⊎ In k (h ∷ []) → AllByRecursion IsOctet k.digest
+    octets_more fits k (inl i) = so_far.octets k i
+    octets_more fits k (inr (inl e)) = subst (λ (x : HeldName). AllByRecursion IsOctet x.digest) e fits
+    octets_more fits k (inr (inr i)) = absurd i
+
+    pub CircleSoFar-one : fault_of owner ≡ None → AllByRecursion IsOctet h.digest → CircleSoFar (front ++ h ∷ []) (es ++ entry ∷ [])
+    CircleSoFar-one none fits =
+        record {
+          sets = sets_more;
+          stored = all_from_in (λ (e : RrKey × RRset). IsStoredAt e.0.name e.0.record_type.0 e.1) (es ++ entry ∷ []) (λ e i. each_stored e (In-from_append e es (entry ∷ []) i));
+          fit = fit_more none;
+          octets = λ k i. octets_more fits k (In-from_append k front (h ∷ []) i);
+          last = λ before k e. let same : h ≡ k = last_same front before h k e in (set_more, es, λ i. es ++ (key (owner_of (same i)) NSEC3, set_more) ∷ []);
+        }
+
+  pub CircleSoFar-more : (i : ℕ) (h : HeldName) (r : Record) (s : RRset) (es : Sets) → i < length all → h ≡ get_or all i h → r ≡ circle_record origin parameters ttl all h → lower origin ≡ origin
+      → fault_of (hashed_owner origin h.digest) ≡ None → AllByRecursion IsOctet h.digest → s ≡ set_taking serial (owner_of h) NSEC3 (last_at es (owner_of h) NSEC3) r
+      → CircleSoFar (take i all) es → CircleSoFar (take (suc i) all) (es ++ (key (owner_of h) NSEC3, s) ∷ [])
+  CircleSoFar-more i h r s es lt is made low none fits taken so_far =
+      let set : set_taking serial (owner_of h) NSEC3 (last_at es (owner_of h) NSEC3) (circle_record origin parameters ttl all h) ≡ s = ap (set_taking serial (owner_of h) NSEC3 (last_at es (owner_of h) NSEC3)) (sym made) ∙ sym taken in
+      subst (λ front. CircleSoFar front (es ++ (key (owner_of h) NSEC3, s) ∷ [])) (sym (take-suc all i h lt ∙ ap (λ k. take i all ++ k ∷ []) (sym is)))
+      (subst (λ (w : RRset). CircleSoFar (take i all ++ h ∷ []) (es ++ (key (owner_of h) NSEC3, w) ∷ [])) set (CircleSoFar-one (take i all) h es so_far low none fits))
 
 -- a name whose hashed owner is none
 pub none_fits : (origin : Name) (hs : List HeldName) (h : HeldName) (e : ProtoError) → In h hs → fault_of (hashed_owner origin h.digest) ≡ Some e → all_fit origin (map hashed hs) ≡ false

@@ -49,6 +49,7 @@ pub mod Nsec3Secured
 pub mod HashedNames
 pub mod NextAround
 pub mod TakenRecords
+pub mod TextsApart
 pub mod CirclesMade
 pub mod AnnouncedSets
 pub mod CirclesOfZones

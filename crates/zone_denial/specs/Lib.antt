@@ -16,6 +16,7 @@ pub mod Nsec3Denial
 pub mod Nsec3Sets
 pub mod HashedNames
 pub mod HashedOrder
+pub mod RepeatedDigests
 pub mod Nsec3Zones
 pub mod Nsec3Laws
 pub mod StarLaws

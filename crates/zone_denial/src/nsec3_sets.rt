@@ -1,18 +1,24 @@
 //! The NSEC3 sets that a zone gets when it is secured.
-ghost use Rattle.std.specs.Prelude.{◌≡◌, ◌⊎◌, ◌<◌, ◌==◌, ◌&&◌, ℕ, length, map, cond, [], slice_index_or, Some, None, true, false, IfOk, IfErr, OnOk, IsOkUnless, All};
+ghost use Rattle.std.specs.Prelude.{◌≡◌, ◌↔◌, ◌⊎◌, ◌<◌, ◌-◌, ◌==◌, ◌&&◌, ℕ, length, map, cond, [], slice_index_or, slice_get, Some, None, option_map, unwrap_or, true, false, IsTrue, IsFalse, IfSome, IfOk, IfErr, OnOk, IsOkUnless, All};
+ghost use Rattle.std.specs.List.{AllByRecursion};
 ghost use Rattle.std.specs.List.Sorted.{IsStrictlySortedBy};
-ghost use Rattle.std.specs.Option.{option_map_or};
+ghost use Rattle.std.specs.Option.{option_map_or, IfNone};
 ghost use Rattle.zone_proto.specs.HashedOwners.{hashed_owner};
-ghost use Rattle.zone_proto.specs.Names.{Name, name_eq};
-ghost use Rattle.zone_proto.specs.Results.{TellsFaultOrMemory};
+ghost use Rattle.zone_proto.specs.Data.{type_of};
+ghost use Rattle.zone_proto.specs.Keys.{key as key_at};
+ghost use Rattle.zone_proto.specs.Names.{Name, lower, name_eq, same_name};
+ghost use Rattle.zone_proto.specs.Ranges.{IsOctet};
+ghost use Rattle.zone_proto.specs.Results.{IsCopy, TellsFaultOrMemory};
+ghost use Rattle.zone_proto.specs.Sets.{empty_set};
 ghost use Rattle.zone_proto.specs.Types.{NSEC3 as nsec3_type, NSEC3PARAM as nsec3param_type};
-ghost use Rattle.zone_map.specs.Zones.{set_at, put};
+ghost use Rattle.zone_map.specs.Zones.{set_at, put, AreStored, IsZone};
 ghost use Rattle.zone_denial.specs.Covering.{next_around};
 ghost use Rattle.zone_denial.specs.HashedNames.{hashed, all_fit, linked_record, circle_set_at};
+ghost use Rattle.zone_denial.specs.RepeatedDigests.{RepeatsDigest};
 ghost use Rattle.zone_denial.specs.Nsec3Nodes.{name_of, types_of};
 ghost use Rattle.zone_denial.specs.Nsec3Circle.{nsec3_types};
 ghost use Rattle.zone_denial.specs.Nsec3Names.{nsec3_names};
-ghost use Rattle.zone_denial.specs.Nsec3Sets.{hashed_cmp, announced_set, nsec3_sets_at, nsec3_fault};
+ghost use Rattle.zone_denial.specs.Nsec3Sets.{hashed_cmp, with_taken, announced_set, nsec3_sets_at, nsec3_fault};
 ghost use Rattle.zone_denial.specs.Nsec3Zones.{hash_with};
 
 use crate::hashed_names::{HashedName, hashed_names};
@@ -20,8 +26,8 @@ use crate::nsec3_names::{Nsec3Name, nsec3_names};
 use zone_handler::SecureError;
 use zone_map::RecordMap;
 use zone_proto::{
-    DNSClass, LowerName, NSEC3, NSEC3PARAM, Name, Nsec3Hash, ProtoError, RData, Record, RecordType,
-    RrKey, base32_dnssec,
+    DNSClass, LowerName, NSEC3, NSEC3PARAM, Name, Nsec3Hash, ProtoError, RData, Record, RecordSet,
+    RecordType, RrKey, base32_dnssec,
 };
 
 /// The sets that a zone gets when it is denied by NSEC3: the NSEC3 sets of its names, which form a circle in the order of their
@@ -106,12 +112,108 @@ fn with_circle(
 {
     // Its clauses say that the origin is in lower case.
     let _ = origin.labels();
-    let mut map = announced;
+    let mut entries = entries_of(announced, origin)?;
     for i in 0..held.len() {
+        octets_fit(held[i].digest.as_slice());
         let record = nsec3_record(&held[i], next_name(held, i), origin, parameters, ttl)?;
-        map.upsert(record, serial, DNSClass::IN)?;
+        let before = entry_before(entries.as_slice(), held, i);
+        let entry = entry_with(before, record, serial)?;
+        entries.push(entry)?;
     }
-    Ok(map)
+    RecordMap::from_entries(origin.alloc(), entries)
+}
+
+/// The sets of a map by their keys, as a list. Refused by `Memory` alone.
+fn entries_of(
+    map: RecordMap,
+    origin: &LowerName,
+) -> Result<Vec<(RrKey, RecordSet)>, ProtoError>
+    ensures ok { IfOk result (λ entries. entries.items ≡ map) }
+    ensures zone { IsZone map }
+    ensures stored { AreStored map }
+    ensures err { IsOkUnless result ProtoError.Memory }
+{
+    let mut entries = Vec::new(origin.alloc());
+    for entry in map.into_entries() {
+        entries.push(entry)?;
+    }
+    Ok(entries)
+}
+
+/// Each octet of a digest is below 256, as each `u8` is.
+fn octets_fit(digest: &[u8])
+    ensures { AllByRecursion IsOctet digest.now }
+{}
+
+/// The last entry, if the name of this place has the digest of the one before it, so that they have one owner.
+fn entry_before<'e>(
+    entries: &'e [(RrKey, RecordSet)],
+    held: &[HashedName<'_, '_>],
+    i: usize,
+) -> Option<&'e (RrKey, RecordSet)>
+    requires { i < length held.now }
+    ensures last { IfSome result (λ e. slice_get entries.now (length entries.now - 1) ≡ Some e.now) }
+    ensures same { IfSome result (λ e. RepeatsDigest held.now i) }
+    ensures none { IfNone result ((entries.now ≡ []) ⊎ ¬ RepeatsDigest held.now i) }
+{
+    if repeats_digest(held, i) {
+        entries.last()
+    } else {
+        None
+    }
+}
+
+/// Whether the name of this place has the digest of the one before it.
+fn repeats_digest(held: &[HashedName<'_, '_>], i: usize) -> bool
+    requires { i < length held.now }
+    ensures same { IsTrue result → RepeatsDigest held.now i }
+    ensures other { IsFalse result → ¬ RepeatsDigest held.now i }
+{
+    if i == 0 {
+        return false;
+    }
+    same_digest(&held[i - 1], &held[i])
+}
+
+/// Whether two names have one digest.
+fn same_digest(one: &HashedName<'_, '_>, other: &HashedName<'_, '_>) -> bool
+    ensures { IsTrue result ↔ (one.now.digest ≡ other.now.digest) }
+{
+    one.digest == other.digest
+}
+
+/// The entry of an NSEC3 record: its set, in which it stands behind the records of the entry before, if it takes those over.
+/// Refused by `Memory` alone.
+fn entry_with(
+    before: Option<&(RrKey, RecordSet)>,
+    new: Record,
+    serial: u32,
+) -> Result<(RrKey, RecordSet), ProtoError>
+    requires kind { type_of new.rdata ≡ nsec3_type }
+    requires owner { IfSome before (λ e. same_name new.name e.now.1.owner ≡ true) }
+    requires set_kind { IfSome before (λ e. e.now.1.record_type ≡ nsec3_type) }
+    ensures ok { IfOk result (λ e. e ≡ (key_at (lower new.name) nsec3_type,
+        with_taken serial (unwrap_or (option_map (λ b. b.now.1) before.entry) (empty_set new.name nsec3_type serial)) new)) }
+    ensures err { IsOkUnless result ProtoError.Memory }
+{
+    let key = RrKey::new(LowerName::new(&new.name)?, RecordType::NSEC3);
+    let mut set = set_before(before, &new.name, serial)?;
+    set.insert(new, serial)?;
+    Ok((key, set))
+}
+
+/// A copy of the set of an entry; without one a set of this owner that has no records. Refused by `Memory` alone.
+fn set_before(
+    before: Option<&(RrKey, RecordSet)>,
+    owner: &Name,
+    serial: u32,
+) -> Result<RecordSet, ProtoError>
+    ensures { IsCopy result (unwrap_or (option_map (λ b. b.now.1) before.entry) (empty_set owner.now nsec3_type serial)) }
+{
+    match before {
+        Some((_, set)) => set.clone(),
+        None => Ok(RecordSet::new(owner.clone()?, RecordType::NSEC3, serial)),
+    }
 }
 
 /// The name that comes next: the one that stands after this one, and after the last one the first.
