@@ -9,6 +9,7 @@ use Rattle.zone_proto.specs.declared.rdata.denial.NSEC3PARAM.{NSEC3PARAM as Nsec
 use Rattle.zone_proto.specs.declared.record.Record.{Record}
 use Rattle.zone_proto.specs.HashedOwners.{hashed_owner}
 use Rattle.zone_proto.specs.Names.{Name, name_cmp, name_eq, is_above}
+use Rattle.zone_proto.specs.Sets.{RRset}
 use Rattle.zone_proto.specs.Types.{NSEC3, NSEC3PARAM}
 use Rattle.zone_proto.proofs.Members.{In, In-Contains, In-map}
 use Rattle.zone_proto.proofs.Tree.{name_order}
@@ -62,7 +63,7 @@ module _ (origin : Name) (m : Sets) (hash : Name → Option (List ℕ)) (paramet
           ap (set_of o NSEC3 serial)
           (records_same o held (λ h i. i) ∙ ap (filter_map (λ (h : HashedName). cond (name_eq o (hashed_owner origin h.digest)) (Some (record_of h)) None)) are_hashed)
 
-      pub sets_same : (announced after : Sets) → ((n : Name) (t : ℕ) → set_at announced n t ≡ cond ((t == NSEC3PARAM) && name_eq n origin) (Some (announced_set origin m hash parameters ttl serial)) None)
-          → ((n : Name) (t : ℕ) → set_at after n t ≡ cond (t == NSEC3) (circle_set_at origin parameters ttl held serial held n) (set_at announced n t))
+      pub sets_same : (announced : RRset) (after : Sets) → announced ≡ announced_set origin m hash parameters ttl serial
+          → ((n : Name) (t : ℕ) → set_at after n t ≡ cond (t == NSEC3) (circle_set_at origin parameters ttl held serial held n) (cond ((t == NSEC3PARAM) && name_eq n origin) (Some announced) None))
           → (n : Name) (t : ℕ) → set_at after n t ≡ nsec3_sets_at origin m hash parameters ttl serial n t
-      sets_same announced after before joined n t = joined n t ∙ (λ j. cond (t == NSEC3) (set_same n j) (before n t j))
+      sets_same announced after told joined n t = joined n t ∙ (λ j. cond (t == NSEC3) (set_same n j) (cond ((t == NSEC3PARAM) && name_eq n origin) (Some (told j)) None))
