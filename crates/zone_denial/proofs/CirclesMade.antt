@@ -1,4 +1,4 @@
--- The NSEC3 sets of a circle, made as a list of entries, one for each of its names
+-- The NSEC3 sets of a circle, made as a list of entries, one for each of its names, behind the entry of the NSEC3PARAM set
 use Rattle.std.proofs.Common.{◌≡◌, ℕ, zero, suc, ◌+◌, ◌-◌, ◌<◌, ◌==◌, ◌&&◌, Bool, true, false, cond, List, [], ◌∷◌, ◌++◌, map, length, take, drop, get_or, refl, sym, ap, ◌∙◌, subst, ◌⊎◌, inl, inr, eqb-true, eq-eqb, true≢false, Ordering, Less, Equal, Greater, arith}
 use Rattle.std.specs.Prelude.{Option, Some, None, IfSome, option_copied, option_map, slice_get}
 use Rattle.std.specs.Borrow.{Bor}
@@ -27,7 +27,7 @@ use Rattle.zone_proto.specs.Sets.{RRset}
 use Rattle.zone_proto.specs.Types.{NSEC3, NSEC3PARAM}
 use Rattle.zone_proto.proofs.Base32Facts.{lower_text}
 use Rattle.zone_proto.proofs.KeyOrder.{key_same, key_itself}
-use Rattle.zone_proto.proofs.Members.{In, In-Contains, Contains-In, In-map, In-append_left, In-from_append, and_left, and_right}
+use Rattle.zone_proto.proofs.Members.{In, In-Contains, Contains-In, In-map, In-from_append, and_left, and_right}
 use Rattle.zone_proto.proofs.NameTree.{name_eq-Decides}
 use Rattle.zone_proto.proofs.Orders.{irrefl}
 use Rattle.zone_map.specs.Zones.{Sets, last_at, IsStoredAt, AreStored}
@@ -114,10 +114,8 @@ last_stored es stored n t s e =
     (λ k d lt same. subst (λ (x : RrKey). IsStoredAt x.name x.record_type.0 (get_or es k d).1) (key_same (get_or es k d).0 (key n t) same) (stored k d lt)) in
     subst (λ (o : Option RRset). IfSome o P) e found
 
--- ---- the set that a record is inserted into, if there is one
-
--- the set that was found under its owner may stand there
-pub found_stored : (es : Sets) → AreStored es → (o : Name) (t : ℕ) (b : Option (Bor RRset)) → option_copied b ≡ last_at es o t → IfSome b (λ s. IsStoredAt o t s.now)
+-- a set that is the one found may stand there
+found_stored : (es : Sets) → AreStored es → (o : Name) (t : ℕ) (b : Option (Bor RRset)) → option_copied b ≡ last_at es o t → IfSome b (λ s. IsStoredAt o t s.now)
 found_stored es stored o t (Some s) is = last_stored es stored o t s.now (sym is)
 found_stored es stored o t None is = tt
 
@@ -248,13 +246,16 @@ module _ (origin : Name) (parameters : Nsec3Parameters) (ttl serial : ℕ) (all 
       sym (new_digest (take (suc j) all) (take j all) k h es so_far front (λ e. n (repeated j h lt is e)) (subst (λ (hs : List HeldName). Ascends hashed_cmp (map hashed hs)) whole rise) octets)
     where
       repeated : (j : ℕ) (h : HeldName) → suc j < length all → h ≡ get_or all (suc j) h → (get_or all j h).digest ≡ h.digest → RepeatsDigest all (suc j)
-      repeated j h lt is e = (omega arith, λ d.
-          let before : suc j - 1 ≡ j = omega arith in
-          ap (λ (n : ℕ). (get_or all n d).digest) before ∙ ap (λ (x : HeldName). x.digest) (get_or_default all j d h (omega (arith, lt))) ∙ e
-          ∙ ap (λ (x : HeldName). x.digest) (is ∙ get_or_default all (suc j) h d lt))
+      repeated j h lt is e = (
+        omega arith,
+        λ d.
+            let before : suc j - 1 ≡ j = omega arith in
+            ap (λ (n : ℕ). (get_or all n d).digest) before ∙ ap (λ (x : HeldName). x.digest) (get_or_default all j d h (omega (arith, lt))) ∙ e
+            ∙ ap (λ (x : HeldName). x.digest) (is ∙ get_or_default all (suc j) h d lt),
+      )
 
   -- the same of two reads of one name, and of a list that is the entries
-  pub same_read : (i : ℕ) (h g : HeldName) → i < length all → h ≡ get_or all i h → g ≡ get_or all i g → g ≡ h
+  same_read : (i : ℕ) (h g : HeldName) → i < length all → h ≡ get_or all i h → g ≡ get_or all i g → g ≡ h
   same_read i h g lt is own = own ∙ get_or_default all i g h lt ∙ sym is
 
   pub read_fits : (i : ℕ) (h g : HeldName) (octets : List ℕ) → i < length all → h ≡ get_or all i h → g ≡ get_or all i g → octets ≡ g.digest → AllByRecursion IsOctet octets → AllByRecursion IsOctet h.digest
@@ -282,7 +283,7 @@ module _ (origin : Name) (parameters : Nsec3Parameters) (ttl serial : ℕ) (all 
     abbrev set_more : RRset
     set_more = set_taking serial owner NSEC3 (last_at es owner NSEC3) record_of
 
-    abbrev pub entry : RrKey × RRset
+    abbrev entry : RrKey × RRset
     entry = (key owner NSEC3, set_more)
 
     one_more : (n : Name) → circle_records origin parameters ttl all (front ++ h ∷ []) n ≡ records_of n ++ cons_option (cond (name_eq n owner) (Some record_of) None) []

@@ -108,7 +108,7 @@ fn with_circle(
     requires stored { IsStoredAt announced.0.name announced.0.record_type.0 announced.1 }
     ensures ok { IfOk result (λ after. (n : Name) (t : ℕ) → set_at after n t
         ≡ cond (t == nsec3_type) (circle_set_at origin.now parameters.now ttl held.now serial held.now n)
-            (cond ((t == nsec3param_type) && name_eq n origin.now) (Some announced.1) None)) }
+        (cond ((t == nsec3param_type) && name_eq n origin.now) (Some announced.1) None)) }
     ensures fits { OnOk result (all_fit origin.now (map hashed held.now) ≡ true) }
     ensures err { IfErr result (λ e. (e ≡ ProtoError.Memory) ⊎ (all_fit origin.now (map hashed held.now) ≡ false)) }
 {
@@ -117,6 +117,7 @@ fn with_circle(
     let mut entries = Vec::with_capacity(origin.alloc(), held.len().saturating_add(1))?;
     entries.push(announced)?;
     for i in 0..held.len() {
+        // Its clause says that the octets are in range, so that another digest has another owner.
         octets_fit(held[i].digest.as_slice());
         let record = nsec3_record(&held[i], next_name(held, i), origin, parameters, ttl)?;
         let before = set_before(entries.as_slice(), held, i);
@@ -178,8 +179,10 @@ fn entry_with(
     serial: u32,
 ) -> Result<(RrKey, RecordSet), ProtoError>
     requires { IfSome before (λ s. IsStoredAt (lower new.name) (type_of new.rdata) s.now) }
-    ensures ok { IfOk result (λ e. e ≡ (key_at (lower new.name) (type_of new.rdata),
-        with_taken serial (unwrap_or (option_copied before.entry) (empty_set new.name (type_of new.rdata) serial)) new)) }
+    ensures ok { IfOk result (λ e. e ≡ (
+      key_at (lower new.name) (type_of new.rdata),
+      with_taken serial (unwrap_or (option_copied before.entry) (empty_set new.name (type_of new.rdata) serial)) new,
+    )) }
     ensures stored { IfOk result (λ e. IsStoredAt e.0.name e.0.record_type.0 e.1) }
     ensures err { IsOkUnless result ProtoError.Memory }
 {

@@ -36,6 +36,6 @@ returns-clause-ok c =
     let found = c.get.ensures.found ∙ ap (λ (k : RrKey). set_at c.args.records.now k.name k.record_type.0) own in
     IfOk-weaker c.entry_with.result _ _
     (λ e is. is
-      ∙ (λ i. (key (lower (made i).name) (type_of (made i).rdata), set_taking c.args.serial (made i).name (type_of (made i).rdata) (found i) (made i)))
-      ∙ (λ i. (key (c.labels.ensures.valid.lower i) NSEC3PARAM, announced_set origin c.args.records.now (λ _. None) c.args.parameters.now c.args.ttl c.args.serial)))
+    ∙ (λ i. (key (lower (made i).name) (type_of (made i).rdata), set_taking c.args.serial (made i).name (type_of (made i).rdata) (found i) (made i)))
+    ∙ (λ i. (key (c.labels.ensures.valid.lower i) NSEC3PARAM, announced_set origin c.args.records.now (λ _. None) c.args.parameters.now c.args.ttl c.args.serial)))
     c.entry_with.ensures.ok

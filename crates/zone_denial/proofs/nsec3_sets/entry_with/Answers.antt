@@ -1,4 +1,4 @@
-use Rattle.std.proofs.Common.{◌≡◌, ℕ, sym, ap, ◌∙◌, subst}
+use Rattle.std.proofs.Common.{ℕ, sym, ap, ◌∙◌, subst}
 use Rattle.std.specs.Prelude.{option_copied, unwrap_or}
 use Rattle.zone_proto.specs.declared.rr_key.RrKey.{RrKey}
 use Rattle.zone_proto.specs.Data.{type_of}
@@ -7,7 +7,7 @@ use Rattle.zone_proto.specs.Names.{lower, same_name}
 use Rattle.zone_proto.specs.Sets.{RRset, empty_set}
 use Rattle.zone_map.specs.Zones.{IsStoredAt}
 use Rattle.zone_denial.specs.Nsec3Sets.{with_taken}
-use Rattle.zone_denial.proofs.TakenRecords.{taking, taking_owner, taking_kind, taken_stored, of_copied}
+use Rattle.zone_denial.proofs.TakenRecords.{taking_owner, taking_kind, taken_stored, of_copied}
 use Rattle.zone_denial.proofs.nsec3_sets.entry_with.Goals as goal
 
 pub insert-requires-clause-owner : goal.insert-requires-clause-owner

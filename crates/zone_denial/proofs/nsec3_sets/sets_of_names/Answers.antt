@@ -27,4 +27,4 @@ returns-in-Ok-with_circle-clause-ok g c =
     sets_same c.args.origin.now c.args.records.now hash c.args.parameters.now c.args.names.now c.requires.names c.in-Ok.held.items c.in-Ok.ensures.ok c.args.ttl c.args.serial c.in-Ok.ensures.names c.requires.types
     c.in-Ok-announced.announced.1 c.in-Ok-with_circle.sets (ap (λ (e : RrKey × RRset). e.1) c.in-Ok-announced.ensures.ok)
     (λ n t. c.in-Ok-with_circle.ensures.ok n t
-      ∙ ap (λ (hs : List HeldName). cond (t == NSEC3) (circle_set_at c.args.origin.now c.args.parameters.now c.args.ttl hs c.args.serial hs n) (cond ((t == NSEC3PARAM) && name_eq n c.args.origin.now) (Some c.in-Ok-announced.announced.1) None)) c.deref.ensures.value)
+    ∙ ap (λ (hs : List HeldName). cond (t == NSEC3) (circle_set_at c.args.origin.now c.args.parameters.now c.args.ttl hs c.args.serial hs n) (cond ((t == NSEC3PARAM) && name_eq n c.args.origin.now) (Some c.in-Ok-announced.announced.1) None)) c.deref.ensures.value)

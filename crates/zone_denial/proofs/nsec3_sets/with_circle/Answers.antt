@@ -1,8 +1,8 @@
-use Rattle.std.proofs.Common.{◌≡◌, ◌⊎◌, ℕ, suc, ◌++◌, ◌∷◌, [], List, map, take, get_or, cond, ◌==◌, false, sym, ap, ◌∙◌, subst, inl, inr, rules}
+use Rattle.std.proofs.Common.{◌≡◌, ◌⊎◌, ℕ, suc, ◌++◌, ◌∷◌, [], List, map, take, cond, ◌==◌, false, sym, ap, ◌∙◌, subst, inl, inr, rules}
 use Rattle.std.specs.Prelude.{Some, option_copied}
 use Rattle.std.specs.List.{Contains}
 use Rattle.std.proofs.Math.Numerals.{add-one}
-use Rattle.std.proofs.lemmas.List.{get_or_default, take_all}
+use Rattle.std.proofs.lemmas.List.{take_all}
 use Rattle.std.proofs.lemmas.Result.{IfOk-weaker}
 use Rattle.std.proofs.lemmas.List.Elements.{Contains-get_or}
 use Rattle.zone_proto.specs.declared.error.ProtoError.{ProtoError}
@@ -11,14 +11,11 @@ use Rattle.zone_proto.specs.Faults.{fault_of}
 use Rattle.zone_proto.specs.HashedOwners.{hashed_owner}
 use Rattle.zone_proto.specs.Names.{Name}
 use Rattle.zone_proto.specs.Types.{NSEC3}
-use Rattle.zone_proto.specs.Keys.{key}
 use Rattle.zone_proto.proofs.Members.{In, Contains-In}
 use Rattle.zone_map.specs.Zones.{Sets}
 use Rattle.zone_denial.specs.declared.hashed_names.HashedName.{HashedName as HeldName}
-use Rattle.zone_denial.specs.Covering.{next_around}
-use Rattle.zone_denial.specs.HashedNames.{hashed, all_fit, linked_record, circle_set_at}
-use Rattle.zone_denial.specs.Nsec3Sets.{HashedName, hashed_cmp}
-use Rattle.zone_denial.proofs.CirclesMade.{CircleSoFar, CircleSoFar-none, CircleSoFar-more, beside as set_beside, read_fits, found_among, linked_on, may_take, none_fits}
+use Rattle.zone_denial.specs.HashedNames.{hashed, all_fit, circle_set_at}
+use Rattle.zone_denial.proofs.CirclesMade.{CircleSoFar, CircleSoFar-none, CircleSoFar-more, beside, read_fits, found_among, linked_on, may_take, none_fits}
 use Rattle.zone_denial.proofs.nsec3_sets.with_circle.Goals as goal
 
 by_cause : (origin : Name) (hs : List HeldName) (h : HeldName) (e : ProtoError) → In h hs → (e ≡ Memory) ⊎ (fault_of (hashed_owner origin h.digest) ≡ Some e) → (e ≡ Memory) ⊎ (all_fit origin (map hashed hs) ≡ false)
@@ -46,17 +43,17 @@ entry_with-requires c =
     let ttl = c.args.ttl in
     let serial = c.args.serial in
     let hs = c.args.held.now in
-    let beside = c.args.announced.1 in
+    let announced = c.args.announced.1 in
     let i = c.loop-i.i in
     let h = c.index-held-i-in-loop-i.result in
     let is = c.index-held-i-in-loop-i.is in
     let es = c.loop-i.entries.items in
     let low = c.labels.ensures.valid.lower in
-    let fits = read_fits origin parameters ttl serial hs beside i h c.index-held-i.result c.as_slice.result.now c.loop-i-test.true is c.index-held-i.is (c.as_slice.ensures ∙ ap (λ (x : HeldName). x.digest) (sym c.index-held-i.is)) c.octets_fit.ensures in
-    let found = found_among origin parameters ttl serial hs beside i h es c.as_slice-in-loop-i.result.now c.set_before-before.result c.as_slice-in-loop-i.ensures.value c.loop-i.invariant c.loop-i-test.true is c.requires.ascending fits c.set_before-before.ensures.last c.set_before-before.ensures.same c.set_before-before.ensures.none in
+    let fits = read_fits origin parameters ttl serial hs announced i h c.index-held-i.result c.as_slice.result.now c.loop-i-test.true is c.index-held-i.is (c.as_slice.ensures ∙ ap (λ (x : HeldName). x.digest) (sym c.index-held-i.is)) c.octets_fit.ensures in
+    let found = found_among origin parameters ttl serial hs announced i h es c.as_slice-in-loop-i.result.now c.set_before-before.result c.as_slice-in-loop-i.ensures.value c.loop-i.invariant c.loop-i-test.true is c.requires.ascending fits c.set_before-before.ensures.last c.set_before-before.ensures.same c.set_before-before.ensures.none in
     let r = c.in_ok-record.record in
-    let made = linked_on origin parameters ttl serial hs beside i h c.next_name.result.now r c.loop-i-test.true is c.next_name.ensures c.in_ok-record.ensures.ok in
-    may_take origin parameters ttl serial hs beside h es c.set_before-before.result r low made c.loop-i.invariant.stored found
+    let made = linked_on origin parameters ttl serial hs announced i h c.next_name.result.now r c.loop-i-test.true is c.next_name.ensures c.in_ok-record.ensures.ok in
+    may_take origin parameters ttl serial hs announced h es c.set_before-before.result r low made c.loop-i.invariant.stored found
 
 pub loop-i-preserved : goal.loop-i-preserved
 loop-i-preserved c =
@@ -65,20 +62,20 @@ loop-i-preserved c =
     let ttl = c.args.ttl in
     let serial = c.args.serial in
     let hs = c.args.held.now in
-    let beside = c.args.announced.1 in
+    let announced = c.args.announced.1 in
     let i = c.loop-i.i in
     let h = c.index-held-i-in-loop-i.result in
     let is = c.index-held-i-in-loop-i.is in
     let es = c.loop-i.entries.items in
     let low = c.labels.ensures.valid.lower in
-    let fits = read_fits origin parameters ttl serial hs beside i h c.index-held-i.result c.as_slice.result.now c.loop-i-test.true is c.index-held-i.is (c.as_slice.ensures ∙ ap (λ (x : HeldName). x.digest) (sym c.index-held-i.is)) c.octets_fit.ensures in
-    let found = found_among origin parameters ttl serial hs beside i h es c.as_slice-in-loop-i.result.now c.set_before-before.result c.as_slice-in-loop-i.ensures.value c.loop-i.invariant c.loop-i-test.true is c.requires.ascending fits c.set_before-before.ensures.last c.set_before-before.ensures.same c.set_before-before.ensures.none in
+    let fits = read_fits origin parameters ttl serial hs announced i h c.index-held-i.result c.as_slice.result.now c.loop-i-test.true is c.index-held-i.is (c.as_slice.ensures ∙ ap (λ (x : HeldName). x.digest) (sym c.index-held-i.is)) c.octets_fit.ensures in
+    let found = found_among origin parameters ttl serial hs announced i h es c.as_slice-in-loop-i.result.now c.set_before-before.result c.as_slice-in-loop-i.ensures.value c.loop-i.invariant c.loop-i-test.true is c.requires.ascending fits c.set_before-before.ensures.last c.set_before-before.ensures.same c.set_before-before.ensures.none in
     let r = c.in_ok-record.record in
-    let made = linked_on origin parameters ttl serial hs beside i h c.next_name.result.now r c.loop-i-test.true is c.next_name.ensures c.in_ok-record.ensures.ok in
+    let made = linked_on origin parameters ttl serial hs announced i h c.next_name.result.now r c.loop-i-test.true is c.next_name.ensures c.in_ok-record.ensures.ok in
     let e = c.in_ok-entry.entry in
-    let more = CircleSoFar-more origin parameters ttl serial hs beside i h es e r (option_copied c.set_before-before.result) low made found c.in_ok-entry.ensures.ok c.in_ok-entry.ensures.stored c.loop-i-test.true is c.in_ok-record.ensures.refusal fits c.loop-i.invariant in
-    subst (λ (k : ℕ). CircleSoFar origin parameters ttl serial hs beside (take k hs) c.push-in-loop-i.new.self.items) (sym (add-one i))
-    (subst (CircleSoFar origin parameters ttl serial hs beside (take (suc i) hs)) (sym c.in_ok-push-2.ensures.items) more)
+    let more = CircleSoFar-more origin parameters ttl serial hs announced i h es e r (option_copied c.set_before-before.result) low made found c.in_ok-entry.ensures.ok c.in_ok-entry.ensures.stored c.loop-i-test.true is c.in_ok-record.ensures.refusal fits c.loop-i.invariant in
+    subst (λ (k : ℕ). CircleSoFar origin parameters ttl serial hs announced (take k hs) c.push-in-loop-i.new.self.items) (sym (add-one i))
+    (subst (CircleSoFar origin parameters ttl serial hs announced (take (suc i) hs)) (sym c.in_ok-push-2.ensures.items) more)
 
 pub returns-clause-ok : goal.returns-clause-ok
 returns-clause-ok c =
@@ -86,5 +83,5 @@ returns-clause-ok c =
     let whole = take_all c.loop-i.i hs c.loop-i-test.false in
     IfOk-weaker c.from_entries.result _ _
     (λ after is. λ n t. is n t ∙ c.loop-i.invariant.sets n t
-      ∙ ap (λ (front : List HeldName). cond (t == NSEC3) (circle_set_at c.args.origin.now c.args.parameters.now c.args.ttl hs c.args.serial front n) (set_beside c.args.origin.now c.args.parameters.now c.args.ttl c.args.serial hs c.args.announced.1 n t)) whole)
+    ∙ ap (λ (front : List HeldName). cond (t == NSEC3) (circle_set_at c.args.origin.now c.args.parameters.now c.args.ttl hs c.args.serial front n) (beside c.args.origin.now c.args.parameters.now c.args.ttl c.args.serial hs c.args.announced.1 n t)) whole)
     c.from_entries.ensures.ok
