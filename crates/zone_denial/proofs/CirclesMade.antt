@@ -1,11 +1,10 @@
--- The NSEC3 sets of a circle, made as a list of entries, one for each of its names
+-- The NSEC3 sets of a circle, made as a list of entries, one for each of its names, behind the entry of the NSEC3PARAM set
 use Rattle.std.proofs.Common.{◌≡◌, ℕ, zero, suc, ◌+◌, ◌-◌, ◌<◌, ◌==◌, ◌&&◌, Bool, true, false, cond, List, [], ◌∷◌, ◌++◌, map, length, take, drop, get_or, refl, sym, ap, ◌∙◌, subst, ◌⊎◌, inl, inr, eqb-true, eq-eqb, true≢false, Ordering, Less, Equal, Greater, arith}
-use Rattle.std.specs.Prelude.{Option, Some, None, IfSome, option_map, unwrap_or, slice_get}
+use Rattle.std.specs.Prelude.{Option, Some, None, IfSome, option_copied, option_map, slice_get}
 use Rattle.std.specs.Borrow.{Bor}
-use Rattle.std.specs.Cmp.{eq_by_cmp_equiv}
 use Rattle.std.specs.List.{All, AllByRecursion, cons_option}
 use Rattle.std.specs.List.Sorted.{IsStrictlySortedBy}
-use Rattle.std.specs.Map.{keys_of, update_all}
+use Rattle.std.specs.Map.{update_all}
 use Rattle.std.specs.Option.{option_map_or, IfNone}
 use Rattle.std.specs.Ordering.{ordering_then}
 use Rattle.std.proofs.Math.Seq.{take-suc}
@@ -13,30 +12,28 @@ use Rattle.std.proofs.lemmas.List.{map-append, append-nil, length-append, take-a
 use Rattle.std.proofs.lemmas.List.Elements.{filter_map-append, Contains-get_or}
 use Rattle.std.proofs.lemmas.List.Folds.{list_all-append}
 use Rattle.std.proofs.lemmas.Map.{update_all_push}
-use Rattle.std.proofs.lemmas.Map.Keys.{IsDistinct-from_sorted}
-use Rattle.std.proofs.lemmas.Map.Made.{IfSome-update_all, update_all_none}
+use Rattle.std.proofs.lemmas.Map.Made.{IfSome-update_all}
 use Rattle.zone_proto.specs.declared.error.ProtoError.{ProtoError}
 use Rattle.zone_proto.specs.declared.rdata.denial.NSEC3PARAM.{NSEC3PARAM as Nsec3Parameters}
 use Rattle.zone_proto.specs.declared.record.Record.{Record}
 use Rattle.zone_proto.specs.declared.rr_key.RrKey.{RrKey}
+use Rattle.zone_proto.specs.Data.{type_of}
 use Rattle.zone_proto.specs.Faults.{fault_of}
 use Rattle.zone_proto.specs.HashedOwners.{hashed_owner}
-use Rattle.zone_proto.specs.Keys.{key, key_cmp, key_eq}
-use Rattle.zone_proto.specs.Names.{Name, lower, name_cmp, name_eq, octets_cmp, same_name}
+use Rattle.zone_proto.specs.Keys.{key, key_eq}
+use Rattle.zone_proto.specs.Names.{Name, lower, name_cmp, name_eq, octets_cmp}
 use Rattle.zone_proto.specs.Ranges.{IsOctet}
-use Rattle.zone_proto.specs.Sets.{RRset, empty_set, inserted}
-use Rattle.zone_proto.specs.Types.{NSEC3}
+use Rattle.zone_proto.specs.Sets.{RRset}
+use Rattle.zone_proto.specs.Types.{NSEC3, NSEC3PARAM}
 use Rattle.zone_proto.proofs.Base32Facts.{lower_text}
-use Rattle.zone_proto.proofs.KeyLaws.{key_cmp_total}
 use Rattle.zone_proto.proofs.KeyOrder.{key_same, key_itself}
-use Rattle.zone_proto.proofs.Members.{In, In-Contains, Contains-In, In-map, In-append_left, In-from_append, and_left, and_right}
+use Rattle.zone_proto.proofs.Members.{In, In-Contains, Contains-In, In-map, In-from_append, and_left, and_right}
 use Rattle.zone_proto.proofs.NameTree.{name_eq-Decides}
 use Rattle.zone_proto.proofs.Orders.{irrefl}
-use Rattle.zone_proto.proofs.SetLaws.{IsSet-alone}
-use Rattle.zone_map.specs.Zones.{Sets, set_at, last_at, IsStoredAt, AreStored, IsZone}
-use Rattle.zone_map.proofs.Upserting.{same_from_lower, inserted_stored}
+use Rattle.zone_map.specs.Zones.{Sets, last_at, IsStoredAt, AreStored}
 use Rattle.zone_denial.specs.declared.hashed_names.HashedName.{HashedName as HeldName}
-use Rattle.zone_denial.specs.HashedNames.{hashed, all_fit, circle_record, circle_records, circle_set_at}
+use Rattle.zone_denial.specs.Covering.{next_around}
+use Rattle.zone_denial.specs.HashedNames.{hashed, all_fit, linked_record, circle_record, circle_records, circle_set_at}
 use Rattle.zone_denial.specs.RepeatedDigests.{RepeatsDigest}
 use Rattle.zone_denial.specs.Nsec3Sets.{HashedName, hashed_cmp, set_of}
 use Rattle.zone_denial.proofs.Ascending.{Ascends, Ascends-front, Ascends-apart, Ascends-from_sorted}
@@ -76,6 +73,10 @@ last_get xs x =
     at [] = refl
     at (y ∷ ys) = at ys
 
+-- the set of the last entry
+abbrev last_set : Sets → Option RRset
+last_set es = option_map (λ (e : RrKey × RRset). e.1) (slice_get es (length es - 1))
+
 all_from_in : {A : Type 0} (P : A → Type 0) (xs : List A) → ((x : A) → In x xs → P x) → All P xs
 all_from_in P xs h = λ k d lt. h (get_or xs k d) (Contains-In (get_or xs k d) xs (Contains-get_or xs k d lt))
 
@@ -105,9 +106,6 @@ last_at-more es o u s n t =
     sym (update_all_push key_eq (λ _. None) (λ q. update_all key_eq (λ _. None) es q) es (key o u, s) (key n t) refl)
     ∙ ap (λ b. cond b (Some s) (last_at es n t)) (key_test n t o u)
 
-last_at-zone : (m : Sets) → IsZone m → (n : Name) (t : ℕ) → last_at m n t ≡ set_at m n t
-last_at-zone m zone n t = update_all_none (eq_by_cmp_equiv key_cmp_total) key_eq (λ x y. refl) m (key n t) (IsDistinct-from_sorted key_cmp (keys_of m) zone.ordered)
-
 -- what is found under a name and a type may stand there
 last_stored : (es : Sets) → AreStored es → (n : Name) (t : ℕ) (s : RRset) → last_at es n t ≡ Some s → IsStoredAt n t s
 last_stored es stored n t s e =
@@ -116,71 +114,78 @@ last_stored es stored n t s e =
     (λ k d lt same. subst (λ (x : RrKey). IsStoredAt x.name x.record_type.0 (get_or es k d).1) (key_same (get_or es k d).0 (key n t) same) (stored k d lt)) in
     subst (λ (o : Option RRset). IfSome o P) e found
 
--- ---- the set of an entry before, if there is one, is of the owner
-
-abbrev pub set_of_entry : Option (Bor (RrKey × RRset)) → Option RRset
-set_of_entry b = option_map (λ (e : Bor (RrKey × RRset)). e.now.1) b
-
-module _ (es : Sets) (stored : AreStored es) (o : Name) where
-  pub before_owner : (b : Option (Bor (RrKey × RRset))) (n : Name) → set_of_entry b ≡ last_at es o NSEC3 → n ≡ o → lower o ≡ o → IfSome b (λ e. same_name n e.now.1.owner ≡ true)
-  before_owner (Some e) n is named low = same_from_lower n e.now.1.owner (ap lower named ∙ low ∙ sym (last_stored es stored o NSEC3 e.now.1 (sym is)).owner)
-  before_owner None n is named low = tt
-
-  pub before_kind : (b : Option (Bor (RrKey × RRset))) → set_of_entry b ≡ last_at es o NSEC3 → IfSome b (λ e. e.now.1.record_type ≡ NSEC3)
-  before_kind (Some e) is = (last_stored es stored o NSEC3 e.now.1 (sym is)).record_type
-  before_kind None is = tt
-
-pub taking_owner : (b : Option (Bor (RrKey × RRset))) (n : Name) (serial : ℕ) → IfSome b (λ e. same_name n e.now.1.owner ≡ true)
-    → same_name n (unwrap_or (set_of_entry b) (empty_set n NSEC3 serial)).owner ≡ true
-taking_owner (Some e) n serial h = h
-taking_owner None n serial h = same_from_lower n n refl
-
-pub taking_kind : (b : Option (Bor (RrKey × RRset))) (n : Name) (serial : ℕ) → IfSome b (λ e. e.now.1.record_type ≡ NSEC3)
-    → (unwrap_or (set_of_entry b) (empty_set n NSEC3 serial)).record_type ≡ NSEC3
-taking_kind (Some e) n serial h = h
-taking_kind None n serial h = refl
+-- a set that is the one found may stand there
+found_stored : (es : Sets) → AreStored es → (o : Name) (t : ℕ) (b : Option (Bor RRset)) → option_copied b ≡ last_at es o t → IfSome b (λ s. IsStoredAt o t s.now)
+found_stored es stored o t (Some s) is = last_stored es stored o t s.now (sym is)
+found_stored es stored o t None is = tt
 
 -- ---- the sets made so far
 
-module _ (origin : Name) (parameters : Nsec3Parameters) (ttl serial : ℕ) (all : List HeldName) (announced : Sets) where
+abbrev nothing : Option RRset
+nothing = None
+
+module _ (origin : Name) (parameters : Nsec3Parameters) (ttl serial : ℕ) (all : List HeldName) (announced : Option RRset) where
   abbrev pub owner_of : HeldName → Name
   owner_of h = hashed_owner origin h.digest
 
+  -- the set beside those of the circle, if there is one
+  abbrev pub beside : Name → ℕ → Option RRset
+  beside n t = cond ((t == NSEC3PARAM) && name_eq n origin) announced None
+
   pub record CircleSoFar (front : List HeldName) (es : Sets) : Type 0 where
-    pub sets : (n : Name) (t : ℕ) → last_at es n t ≡ cond (t == NSEC3) (circle_set_at origin parameters ttl all serial front n) (set_at announced n t)
+    pub sets : (n : Name) (t : ℕ) → last_at es n t ≡ cond (t == NSEC3) (circle_set_at origin parameters ttl all serial front n) (beside n t)
     pub stored : AreStored es
     pub fit : all_fit origin (map hashed front) ≡ true
     pub octets : (h : HeldName) → In h front → AllByRecursion IsOctet h.digest
     pub last : (before : List HeldName) (k : HeldName) → front ≡ before ++ k ∷ [] → (s : RRset) × (others : Sets) × (es ≡ others ++ (key (owner_of k) NSEC3, s) ∷ [])
 
-  pub CircleSoFar-none : IsZone announced → AreStored announced → ((n : Name) → set_at announced n NSEC3 ≡ None) → CircleSoFar [] announced
-  CircleSoFar-none zone stored absent =
+  pub CircleSoFar-none : (s : RRset) → announced ≡ Some s → (e : RrKey × RRset) → e ≡ (key origin NSEC3PARAM, s) → IsStoredAt e.0.name e.0.record_type.0 e.1 → CircleSoFar [] (e ∷ [])
+  CircleSoFar-none s told e is there =
       record {
-        sets = λ n t. last_at-zone announced zone n t ∙ by n t (t == NSEC3) refl;
-        stored = stored;
+        sets = λ n t. ap (λ (x : RrKey × RRset). last_at (x ∷ []) n t) is ∙ last_at-more [] origin NSEC3PARAM s n t ∙ ap (λ o. cond ((t == NSEC3PARAM) && name_eq n origin) o None) (sym told) ∙ by n t (t == NSEC3) refl;
+        stored = all_from_in (λ (x : RrKey × RRset). IsStoredAt x.0.name x.0.record_type.0 x.1) (e ∷ []) alone;
         fit = refl;
         octets = λ h i. absurd i;
-        last = λ before k e. absurd (none_last before k e);
+        last = λ before k q. absurd (none_last before k q);
       }
     where
-      by : (n : Name) (t : ℕ) (b : Bool) → (t == NSEC3) ≡ b → set_at announced n t ≡ cond b None (set_at announced n t)
-      by n t true e = ap (set_at announced n) (eqb-true t NSEC3 e) ∙ absent n
-      by n t false e = refl
+      by : (n : Name) (t : ℕ) (b : Bool) → (t == NSEC3) ≡ b → beside n t ≡ cond b None (beside n t)
+      by n t true q = ap (beside n) (eqb-true t NSEC3 q)
+      by n t false q = refl
+
+      alone : (x : RrKey × RRset) → In x (e ∷ []) → IsStoredAt x.0.name x.0.record_type.0 x.1
+      alone x (inl q) = subst (λ (y : RrKey × RRset). IsStoredAt y.0.name y.0.record_type.0 y.1) q there
+      alone x (inr i) = absurd i
+
+  pub CircleSoFar-empty : announced ≡ None → CircleSoFar [] []
+  CircleSoFar-empty none =
+      record {
+        sets = λ n t. by (t == NSEC3) ((t == NSEC3PARAM) && name_eq n origin) ∙ ap (λ (o : Option RRset). cond (t == NSEC3) None (cond ((t == NSEC3PARAM) && name_eq n origin) o None)) (sym none);
+        stored = λ k d lt. absurd (omega (arith, lt));
+        fit = refl;
+        octets = λ h i. absurd i;
+        last = λ before k q. absurd (none_last before k q);
+      }
+    where
+      by : (b c : Bool) → nothing ≡ cond b nothing (cond c nothing nothing)
+      by true c = refl
+      by false true = refl
+      by false false = refl
 
   -- the set of the last entry is that of the owner, where the last name has the same digest
-  taken_over : (front before : List HeldName) (k h : HeldName) (es : Sets) (e : RrKey × RRset) → CircleSoFar front es → front ≡ before ++ k ∷ [] → k.digest ≡ h.digest
-      → slice_get es (length es - 1) ≡ Some e → Some e.1 ≡ last_at es (owner_of h) NSEC3
-  taken_over front before k h es e so_far is same ends =
+  taken_over : (front before : List HeldName) (k h : HeldName) (es : Sets) (s : RRset) → CircleSoFar front es → front ≡ before ++ k ∷ [] → k.digest ≡ h.digest
+      → last_set es ≡ Some s → Some s ≡ last_at es (owner_of h) NSEC3
+  taken_over front before k h es s so_far is same ends =
       let l = so_far.last before k is in
       let o = owner_of h in
       let own : key (owner_of k) NSEC3 ≡ key o NSEC3 = ap (λ (d : List ℕ). key (hashed_owner origin d) NSEC3) same in
-      let whole : Some (key (owner_of k) NSEC3, l.0) ≡ Some e = sym (ap (λ (x : Sets). slice_get x (length x - 1)) l.2 ∙ last_get l.1 (key (owner_of k) NSEC3, l.0)) ∙ ends in
+      let whole : last_set es ≡ Some l.0 = ap last_set l.2 ∙ ap (option_map (λ (x : RrKey × RRset). x.1)) (last_get l.1 (key (owner_of k) NSEC3, l.0)) in
       let found : last_at es o NSEC3 ≡ Some l.0 =
       ap (λ (x : Sets). last_at x o NSEC3) l.2
       ∙ (λ i. last_at (l.1 ++ (own i, l.0) ∷ []) o NSEC3)
       ∙ last_at-more l.1 o NSEC3 l.0 o NSEC3
       ∙ ap (λ b. cond b (Some l.0) (last_at l.1 o NSEC3)) ((name_eq-Decides o o).1 refl) in
-      ap (option_map (λ (x : RrKey × RRset). x.1)) (sym whole) ∙ sym found
+      sym ends ∙ whole ∙ sym found
 
   -- ---- where the digest is new, there is no set under the owner
 
@@ -240,14 +245,14 @@ module _ (origin : Name) (parameters : Nsec3Parameters) (ttl serial : ℕ) (all 
 
   -- ---- the set of the entry before is that of the owner, and there is none where it isn't taken over
 
-  pub found_before : (i : ℕ) (h : HeldName) (es : Sets) (b : Option (Bor (RrKey × RRset))) → CircleSoFar (take i all) es → i < length all → h ≡ get_or all i h → Ascends hashed_cmp (map hashed all)
-      → AllByRecursion IsOctet h.digest → IfSome b (λ e. slice_get es (length es - 1) ≡ Some e.now) → IfSome b (λ e. RepeatsDigest all i) → IfNone b ((es ≡ []) ⊎ ¬ RepeatsDigest all i)
-      → set_of_entry b ≡ last_at es (owner_of h) NSEC3
-  found_before zero h es (Some e) so_far lt is a octets ends same none = absurd (omega (arith, same.0))
-  found_before (suc j) h es (Some e) so_far lt is a octets ends same none =
+  pub found_before : (i : ℕ) (h : HeldName) (es : Sets) (b : Option (Bor RRset)) → CircleSoFar (take i all) es → i < length all → h ≡ get_or all i h → Ascends hashed_cmp (map hashed all)
+      → AllByRecursion IsOctet h.digest → IfSome b (λ s. last_set es ≡ Some s.now) → IfSome b (λ s. RepeatsDigest all i) → IfNone b ((es ≡ []) ⊎ ¬ RepeatsDigest all i)
+      → option_copied b ≡ last_at es (owner_of h) NSEC3
+  found_before zero h es (Some s) so_far lt is a octets ends same none = absurd (omega (arith, same.0))
+  found_before (suc j) h es (Some s) so_far lt is a octets ends same none =
       let before : suc j - 1 ≡ j = omega arith in
       let k = get_or all j h in
-      taken_over (take (suc j) all) (take j all) k h es e.now so_far (take-suc all j h (omega (arith, lt))) (ap (λ (n : ℕ). (get_or all n h).digest) (sym before) ∙ same.1 h ∙ ap (λ (x : HeldName). x.digest) (sym is)) ends
+      taken_over (take (suc j) all) (take j all) k h es s.now so_far (take-suc all j h (omega (arith, lt))) (ap (λ (n : ℕ). (get_or all n h).digest) (sym before) ∙ same.1 h ∙ ap (λ (x : HeldName). x.digest) (sym is)) ends
   found_before i h es None so_far lt is a octets ends same (inl e) = sym (ap (λ (x : Sets). last_at x (owner_of h) NSEC3) e)
   found_before zero h es None so_far lt is a octets ends same (inr n) = sym (so_far.sets (owner_of h) NSEC3)
   found_before (suc j) h es None so_far lt is a octets ends same (inr n) =
@@ -268,22 +273,22 @@ module _ (origin : Name) (parameters : Nsec3Parameters) (ttl serial : ℕ) (all 
       )
 
   -- the same of two reads of one name, and of a list that is the entries
-  pub same_read : (i : ℕ) (h g : HeldName) → i < length all → h ≡ get_or all i h → g ≡ get_or all i g → g ≡ h
+  same_read : (i : ℕ) (h g : HeldName) → i < length all → h ≡ get_or all i h → g ≡ get_or all i g → g ≡ h
   same_read i h g lt is own = own ∙ get_or_default all i g h lt ∙ sym is
 
   pub read_fits : (i : ℕ) (h g : HeldName) (octets : List ℕ) → i < length all → h ≡ get_or all i h → g ≡ get_or all i g → octets ≡ g.digest → AllByRecursion IsOctet octets → AllByRecursion IsOctet h.digest
   read_fits i h g octets lt is own e fits = subst (AllByRecursion IsOctet) (e ∙ ap (λ (x : HeldName). x.digest) (same_read i h g lt is own)) fits
 
-  pub found_among : (i : ℕ) (h : HeldName) (es entries : Sets) (b : Option (Bor (RrKey × RRset))) → entries ≡ es → CircleSoFar (take i all) es → i < length all → h ≡ get_or all i h
-      → IsStrictlySortedBy hashed_cmp (map hashed all) → AllByRecursion IsOctet h.digest → IfSome b (λ e. slice_get entries (length entries - 1) ≡ Some e.now) → IfSome b (λ e. RepeatsDigest all i)
-      → IfNone b ((entries ≡ []) ⊎ ¬ RepeatsDigest all i) → set_of_entry b ≡ last_at es (owner_of h) NSEC3
+  pub found_among : (i : ℕ) (h : HeldName) (es entries : Sets) (b : Option (Bor RRset)) → entries ≡ es → CircleSoFar (take i all) es → i < length all → h ≡ get_or all i h
+      → IsStrictlySortedBy hashed_cmp (map hashed all) → AllByRecursion IsOctet h.digest → IfSome b (λ s. last_set entries ≡ Some s.now) → IfSome b (λ s. RepeatsDigest all i)
+      → IfNone b ((entries ≡ []) ⊎ ¬ RepeatsDigest all i) → option_copied b ≡ last_at es (owner_of h) NSEC3
   found_among i h es entries b whole so_far lt is sorted fits ends same none =
-      found_before i h es b so_far lt is (Ascends-from_sorted hashed_cmp (map hashed all) sorted) fits (subst (λ (x : Sets). IfSome b (λ e. slice_get x (length x - 1) ≡ Some e.now)) whole ends) same
+      found_before i h es b so_far lt is (Ascends-from_sorted hashed_cmp (map hashed all) sorted) fits (subst (λ (x : Sets). IfSome b (λ s. last_set x ≡ Some s.now)) whole ends) same
       (subst (λ (x : Sets). IfNone b ((x ≡ []) ⊎ ¬ RepeatsDigest all i)) whole none)
 
   -- ---- one more
 
-  module _ (front : List HeldName) (h : HeldName) (es : Sets) (so_far : CircleSoFar front es) (low : lower origin ≡ origin) where
+  module _ (front : List HeldName) (h : HeldName) (es : Sets) (so_far : CircleSoFar front es) where
     abbrev owner : Name
     owner = owner_of h
 
@@ -311,36 +316,22 @@ module _ (origin : Name) (parameters : Nsec3Parameters) (ttl serial : ℕ) (all 
         ∙ ap (λ o. set_of o NSEC3 serial (records_of o ++ record_of ∷ [])) (sym own)
     of_name n false e = ap (set_of n NSEC3 serial) (sym (append-nil (records_of n)))
 
-    sets_more : (n : Name) (t : ℕ) → last_at (es ++ entry ∷ []) n t ≡ cond (t == NSEC3) (circle_set_at origin parameters ttl all serial (front ++ h ∷ []) n) (set_at announced n t)
+    sets_more : (n : Name) (t : ℕ) → last_at (es ++ entry ∷ []) n t ≡ cond (t == NSEC3) (circle_set_at origin parameters ttl all serial (front ++ h ∷ []) n) (beside n t)
     sets_more n t =
         last_at-more es owner NSEC3 set_more n t
         ∙ ap (cond ((t == NSEC3) && name_eq n owner) (Some set_more)) (so_far.sets n t)
         ∙ by (t == NSEC3)
-        ∙ ap (λ rs. cond (t == NSEC3) (set_of n NSEC3 serial rs) (set_at announced n t)) (sym (one_more n))
+        ∙ ap (λ rs. cond (t == NSEC3) (set_of n NSEC3 serial rs) (beside n t)) (sym (one_more n))
       where
-        by : (b : Bool) → cond (b && name_eq n owner) (Some set_more) (cond b (set_of n NSEC3 serial (records_of n)) (set_at announced n t))
-            ≡ cond b (set_of n NSEC3 serial (records_of n ++ cons_option (cond (name_eq n owner) (Some record_of) None) [])) (set_at announced n t)
+        by : (b : Bool) → cond (b && name_eq n owner) (Some set_more) (cond b (set_of n NSEC3 serial (records_of n)) (beside n t))
+            ≡ cond b (set_of n NSEC3 serial (records_of n ++ cons_option (cond (name_eq n owner) (Some record_of) None) [])) (beside n t)
         by true = of_name n (name_eq n owner) refl
         by false = refl
 
-    owner_low : lower owner ≡ owner
-    owner_low = hashed_lower origin h.digest low
-
-    more_stored : (o : Option RRset) → last_at es owner NSEC3 ≡ o → IsStoredAt owner NSEC3 (set_taking serial owner NSEC3 o record_of)
-    more_stored None e = record { owner = owner_low; record_type = refl; filled = λ f. cc; set = IsSet-alone owner NSEC3 record_of (same_from_lower owner owner refl) refl }
-    more_stored (Some s) e = taken (inserted s record_of serial) refl
-      where
-        st : IsStoredAt owner NSEC3 s
-        st = last_stored es so_far.stored owner NSEC3 s e
-
-        taken : (w : Option RRset) → inserted s record_of serial ≡ w → IsStoredAt owner NSEC3 (unwrap_or w s)
-        taken None q = st
-        taken (Some w) q = subst (λ n. IsStoredAt n NSEC3 w) owner_low (inserted_stored s record_of serial w (st.owner ∙ sym owner_low) st.record_type st.set q)
-
-    each_stored : (e : RrKey × RRset) → In e es ⊎ In e (entry ∷ []) → IsStoredAt e.0.name e.0.record_type.0 e.1
-    each_stored e (inl i) = let c = In-Contains e es i in subst (λ (x : RrKey × RRset). IsStoredAt x.0.name x.0.record_type.0 x.1) c.2 (so_far.stored c.0 e c.1)
-    each_stored e (inr (inl s)) = subst (λ (x : RrKey × RRset). IsStoredAt x.0.name x.0.record_type.0 x.1) s (more_stored (last_at es owner NSEC3) refl)
-    each_stored e (inr (inr i)) = absurd i
+    each_stored : IsStoredAt owner NSEC3 set_more → (e : RrKey × RRset) → In e es ⊎ In e (entry ∷ []) → IsStoredAt e.0.name e.0.record_type.0 e.1
+    each_stored there e (inl i) = let c = In-Contains e es i in subst (λ (x : RrKey × RRset). IsStoredAt x.0.name x.0.record_type.0 x.1) c.2 (so_far.stored c.0 e c.1)
+    each_stored there e (inr (inl s)) = subst (λ (x : RrKey × RRset). IsStoredAt x.0.name x.0.record_type.0 x.1) s there
+    each_stored there e (inr (inr i)) = absurd i
 
     fit_more : fault_of owner ≡ None → all_fit origin (map hashed (front ++ h ∷ [])) ≡ true
     fit_more none =
@@ -353,23 +344,48 @@ module _ (origin : Name) (parameters : Nsec3Parameters) (ttl serial : ℕ) (all 
     octets_more fits k (inr (inl e)) = subst (λ (x : HeldName). AllByRecursion IsOctet x.digest) e fits
     octets_more fits k (inr (inr i)) = absurd i
 
-    pub CircleSoFar-one : fault_of owner ≡ None → AllByRecursion IsOctet h.digest → CircleSoFar (front ++ h ∷ []) (es ++ entry ∷ [])
-    CircleSoFar-one none fits =
+    CircleSoFar-one : fault_of owner ≡ None → AllByRecursion IsOctet h.digest → IsStoredAt owner NSEC3 set_more → CircleSoFar (front ++ h ∷ []) (es ++ entry ∷ [])
+    CircleSoFar-one none fits there =
         record {
           sets = sets_more;
-          stored = all_from_in (λ (e : RrKey × RRset). IsStoredAt e.0.name e.0.record_type.0 e.1) (es ++ entry ∷ []) (λ e i. each_stored e (In-from_append e es (entry ∷ []) i));
+          stored = all_from_in (λ (e : RrKey × RRset). IsStoredAt e.0.name e.0.record_type.0 e.1) (es ++ entry ∷ []) (λ e i. each_stored there e (In-from_append e es (entry ∷ []) i));
           fit = fit_more none;
           octets = λ k i. octets_more fits k (In-from_append k front (h ∷ []) i);
           last = λ before k e. let same : h ≡ k = last_same front before h k e in (set_more, es, λ i. es ++ (key (owner_of (same i)) NSEC3, set_more) ∷ []);
         }
 
-  pub CircleSoFar-more : (i : ℕ) (h : HeldName) (r : Record) (s : RRset) (es : Sets) → i < length all → h ≡ get_or all i h → r ≡ circle_record origin parameters ttl all h → lower origin ≡ origin
-      → fault_of (hashed_owner origin h.digest) ≡ None → AllByRecursion IsOctet h.digest → s ≡ set_taking serial (owner_of h) NSEC3 (last_at es (owner_of h) NSEC3) r
-      → CircleSoFar (take i all) es → CircleSoFar (take (suc i) all) (es ++ (key (owner_of h) NSEC3, s) ∷ [])
-  CircleSoFar-more i h r s es lt is made low none fits taken so_far =
-      let set : set_taking serial (owner_of h) NSEC3 (last_at es (owner_of h) NSEC3) (circle_record origin parameters ttl all h) ≡ s = ap (set_taking serial (owner_of h) NSEC3 (last_at es (owner_of h) NSEC3)) (sym made) ∙ sym taken in
-      subst (λ front. CircleSoFar front (es ++ (key (owner_of h) NSEC3, s) ∷ [])) (sym (take-suc all i h lt ∙ ap (λ k. take i all ++ k ∷ []) (sym is)))
-      (subst (λ (w : RRset). CircleSoFar (take i all ++ h ∷ []) (es ++ (key (owner_of h) NSEC3, w) ∷ [])) set (CircleSoFar-one (take i all) h es so_far low none fits))
+  -- the record with the digest of the name that comes next
+  pub linked_on : (i : ℕ) (h next : HeldName) (r : Record) → i < length all → h ≡ get_or all i h → hashed next ≡ next_around hashed_cmp (map hashed all) (hashed (get_or all i next))
+      → r ≡ linked_record origin parameters ttl h next.digest → r ≡ circle_record origin parameters ttl all h
+  linked_on i h next r lt is follows made =
+      let own : get_or all i next ≡ h = get_or_default all i next h lt ∙ sym is in
+      made ∙ ap (λ (k : HashedName). linked_record origin parameters ttl h k.digest) (follows ∙ ap (λ (k : HeldName). next_around hashed_cmp (map hashed all) (hashed k)) own)
+
+  -- the entry that is made of the record of a name, where the set of its owner is the one found
+  entry_is : (h : HeldName) (es : Sets) (e : RrKey × RRset) (r : Record) (found : Option RRset) → lower origin ≡ origin → r ≡ circle_record origin parameters ttl all h → found ≡ last_at es (owner_of h) NSEC3
+      → e ≡ (key (lower r.name) (type_of r.rdata), set_taking serial r.name (type_of r.rdata) found r)
+      → e ≡ (key (owner_of h) NSEC3, set_taking serial (owner_of h) NSEC3 (last_at es (owner_of h) NSEC3) (circle_record origin parameters ttl all h))
+  entry_is h es e r found low made same is =
+      is
+      ∙ (λ i. (key (lower (made i).name) (type_of (made i).rdata), set_taking serial (made i).name (type_of (made i).rdata) (same i) (made i)))
+      ∙ (λ i. (key (hashed_lower origin h.digest low i) NSEC3, set_taking serial (owner_of h) NSEC3 (last_at es (owner_of h) NSEC3) (circle_record origin parameters ttl all h)))
+
+  pub CircleSoFar-more : (i : ℕ) (h : HeldName) (es : Sets) (e : RrKey × RRset) (r : Record) (found : Option RRset) → lower origin ≡ origin → r ≡ circle_record origin parameters ttl all h
+      → found ≡ last_at es (owner_of h) NSEC3 → e ≡ (key (lower r.name) (type_of r.rdata), set_taking serial r.name (type_of r.rdata) found r) → IsStoredAt e.0.name e.0.record_type.0 e.1
+      → i < length all → h ≡ get_or all i h → fault_of (hashed_owner origin h.digest) ≡ None → AllByRecursion IsOctet h.digest → CircleSoFar (take i all) es → CircleSoFar (take (suc i) all) (es ++ e ∷ [])
+  CircleSoFar-more i h es e r found low made same taken there lt is none fits so_far =
+      let own = entry_is h es e r found low made same taken in
+      let stored = subst (λ (x : RrKey × RRset). IsStoredAt x.0.name x.0.record_type.0 x.1) own there in
+      subst (λ front. CircleSoFar front (es ++ e ∷ [])) (sym (take-suc all i h lt ∙ ap (λ k. take i all ++ k ∷ []) (sym is)))
+      (subst (λ (x : RrKey × RRset). CircleSoFar (take i all ++ h ∷ []) (es ++ x ∷ [])) (sym own) (CircleSoFar-one (take i all) h es so_far none fits stored))
+
+  -- the set that was found under its owner may take the record
+  pub may_take : (h : HeldName) (es : Sets) (b : Option (Bor RRset)) (r : Record) → lower origin ≡ origin → r ≡ circle_record origin parameters ttl all h → AreStored es
+      → option_copied b ≡ last_at es (owner_of h) NSEC3 → IfSome b (λ s. IsStoredAt (lower r.name) (type_of r.rdata) s.now)
+  may_take h es b r low made stored same =
+      let named : owner_of h ≡ lower r.name = sym (ap (λ (x : Record). lower x.name) made ∙ hashed_lower origin h.digest low) in
+      let typed : NSEC3 ≡ type_of r.rdata = sym (ap (λ (x : Record). type_of x.rdata) made) in
+      subst (λ (k : Name × ℕ). IfSome b (λ s. IsStoredAt k.0 k.1 s.now)) (λ i. (named i, typed i)) (found_stored es stored (owner_of h) NSEC3 b same)
 
 -- a name whose hashed owner is none
 pub none_fits : (origin : Name) (hs : List HeldName) (h : HeldName) (e : ProtoError) → In h hs → fault_of (hashed_owner origin h.digest) ≡ Some e → all_fit origin (map hashed hs) ≡ false

@@ -51,7 +51,6 @@ pub mod NextAround
 pub mod TakenRecords
 pub mod TextsApart
 pub mod CirclesMade
-pub mod AnnouncedSets
 pub mod CirclesOfZones
 pub mod NewAncestors
 pub mod Nsec3Runs

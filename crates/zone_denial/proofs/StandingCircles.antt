@@ -23,7 +23,6 @@ use Rattle.zone_proto.specs.Types.{NSEC3}
 use Rattle.zone_proto.proofs.Members.{In, In-map}
 use Rattle.zone_map.specs.Standing.{renumbered, standing_at}
 use Rattle.zone_map.specs.Zones.{Sets, last_at, IsStoredAt, IsZone}
-use Rattle.zone_map.proofs.Stored.{IsZone-none}
 use Rattle.zone_denial.specs.declared.hashed_names.HashedName.{HashedName as HeldName}
 use Rattle.zone_denial.specs.Covering.{next_around}
 use Rattle.zone_denial.specs.HashedNames.{hashed, all_fit, circle_record, circle_set_at}
@@ -33,7 +32,7 @@ use Rattle.zone_denial.specs.Nsec3Sets.{hashed_cmp}
 use Rattle.zone_denial.specs.OneRecordSets.{one_record_set}
 use Rattle.zone_denial.specs.StandingSets.{standing_sets}
 use Rattle.zone_denial.proofs.Ascending.{Ascends, Ascends-apart, Ascends-filter, Ascends-from_sorted}
-use Rattle.zone_denial.proofs.CirclesMade.{CircleSoFar, CircleSoFar-none, CircleSoFar-more, hashed_lower}
+use Rattle.zone_denial.proofs.CirclesMade.{CircleSoFar, CircleSoFar-empty, CircleSoFar-more, hashed_lower}
 use Rattle.zone_denial.proofs.StandingSets.{renewed, keys_of-renewed, standing_first, standing_other, last_at-standing}
 use Rattle.zone_denial.proofs.TakenRecords.{set_taking}
 use Rattle.zone_denial.proofs.TypesJoined.{of_numbers}
@@ -72,10 +71,10 @@ none_before m zone type' serial done rest e are =
 module _ (origin : Name) (parameters : Nsec3Parameters) (ttl : ℕ) (held : List HeldName) (all : Sets) where
   -- those passed are the sets of the first names, and with those that are left they are all
   abbrev pub CircleStands : Sets → ℕ → Type 0
-  CircleStands left passed = (serial : ℕ) → (done : Sets) × (done ++ standing_sets NSEC3 serial left ≡ standing_sets NSEC3 serial all) × CircleSoFar origin parameters ttl serial held [] (take passed held) done
+  CircleStands left passed = (serial : ℕ) → (done : Sets) × (done ++ standing_sets NSEC3 serial left ≡ standing_sets NSEC3 serial all) × CircleSoFar origin parameters ttl serial held None (take passed held) done
 
   pub CircleStands-start : (left : Sets) → left ≡ all → CircleStands left 0
-  CircleStands-start left is = λ serial. ([], ap (standing_sets NSEC3 serial) is, CircleSoFar-none origin parameters ttl serial held [] IsZone-none (λ k d lt. absurd (omega (arith, lt))) (λ n. refl))
+  CircleStands-start left is = λ serial. ([], ap (standing_sets NSEC3 serial) is, CircleSoFar-empty origin parameters ttl serial held None refl)
 
   pub CircleStands-other : (e : RrKey × RRset) (left rest : Sets) (passed : ℕ) → left ≡ e ∷ rest → (e.0.record_type.0 == NSEC3) ≡ false → CircleStands left passed → CircleStands rest passed
   CircleStands-other e left rest passed is test so_far = λ serial.
@@ -101,21 +100,19 @@ module _ (origin : Name) (parameters : Nsec3Parameters) (ttl : ℕ) (held : List
         let first = standing_first NSEC3 serial e left rest is denies in
         let are : s.0 ++ renewed serial e ∷ standing_sets NSEC3 serial rest ≡ standing_sets NSEC3 serial all = ap (λ es. s.0 ++ es) (sym first) ∙ s.1 in
         let absent : last_at s.0 owner NSEC3 ≡ None = ap (λ (k : RrKey). last_at s.0 k.name k.record_type.0) (sym own_key) ∙ none_before all zone NSEC3 serial s.0 (standing_sets NSEC3 serial rest) (renewed serial e) are in
-        let made = same serial ∙ ap (λ o. set_taking serial owner NSEC3 o (circle_record origin parameters ttl held h)) (sym absent) in
-        let more = CircleSoFar-more origin parameters ttl serial held [] i h (circle_record origin parameters ttl held h) (renumbered serial e.1) s.0 lt own refl low none octets made s.2 in (
-          s.0 ++ renewed serial e ∷ [],
-          append_assoc s.0 (renewed serial e ∷ []) (standing_sets NSEC3 serial rest) ∙ are,
-          subst (λ (k : RrKey). CircleSoFar origin parameters ttl serial held [] (take (suc i) held) (s.0 ++ (k, renumbered serial e.1) ∷ [])) (sym own_key) more,
-        )
+        let entry : renewed serial e ≡ (key (lower owner) NSEC3, set_taking serial owner NSEC3 None (circle_record origin parameters ttl held h)) = (λ j. ((own_key ∙ ap (λ n. key n NSEC3) (sym (hashed_lower origin h.digest low))) j, same serial j)) in
+        let there : IsStoredAt e.0.name e.0.record_type.0 (renumbered serial e.1) = record { owner = stored.owner; record_type = stored.record_type; filled = stored.filled; set = stored.set } in
+        let more = CircleSoFar-more origin parameters ttl serial held None i h s.0 (renewed serial e) (circle_record origin parameters ttl held h) None low refl (sym absent) entry there lt own none octets s.2 in
+        (s.0 ++ renewed serial e ∷ [], append_assoc s.0 (renewed serial e ∷ []) (standing_sets NSEC3 serial rest) ∙ are, more)
 
   -- ---- all passed
 
-  whole : (left : Sets) (i : ℕ) → left ≡ [] → i ≡ length held → CircleStands left i → (serial : ℕ) → CircleSoFar origin parameters ttl serial held [] held (standing_sets NSEC3 serial all)
+  whole : (left : Sets) (i : ℕ) → left ≡ [] → i ≡ length held → CircleStands left i → (serial : ℕ) → CircleSoFar origin parameters ttl serial held None held (standing_sets NSEC3 serial all)
   whole left i none length' so_far serial =
       let s = so_far serial in
       let sets : s.0 ≡ standing_sets NSEC3 serial all = sym (append-nil s.0) ∙ ap (λ (es : Sets). s.0 ++ standing_sets NSEC3 serial es) (sym none) ∙ s.1 in
       let names : take i held ≡ held = take_all i held (omega (arith, length')) in
-      subst (λ (es : Sets). CircleSoFar origin parameters ttl serial held [] held es) sets (subst (λ hs. CircleSoFar origin parameters ttl serial held [] hs s.0) names s.2)
+      subst (λ (es : Sets). CircleSoFar origin parameters ttl serial held None held es) sets (subst (λ hs. CircleSoFar origin parameters ttl serial held None hs s.0) names s.2)
 
   pub CircleStands-fit : (left : Sets) (i : ℕ) → left ≡ [] → i ≡ length held → CircleStands left i → all_fit origin (map hashed held) ≡ true
   CircleStands-fit left i none length' so_far = (whole left i none length' so_far 0).fit

@@ -1,18 +1,18 @@
 //! The NSEC3 sets that a zone gets when it is secured.
-ghost use Rattle.std.specs.Prelude.{◌≡◌, ◌↔◌, ◌⊎◌, ◌<◌, ◌-◌, ◌==◌, ◌&&◌, ℕ, length, map, cond, [], slice_index_or, slice_get, Some, None, option_map, unwrap_or, true, false, IsTrue, IsFalse, IfSome, IfOk, IfErr, OnOk, IsOkUnless, All};
+ghost use Rattle.std.specs.Prelude.{◌≡◌, ◌↔◌, ◌⊎◌, ◌<◌, ◌-◌, ◌==◌, ◌&&◌, ℕ, length, map, cond, [], slice_index_or, slice_get, Some, None, option_copied, option_map, unwrap_or, true, false, IsTrue, IsFalse, IfSome, IfOk, IfErr, OnOk, IsOkUnless, All};
 ghost use Rattle.std.specs.List.{AllByRecursion};
 ghost use Rattle.std.specs.List.Sorted.{IsStrictlySortedBy};
-ghost use Rattle.std.specs.Option.{option_map_or, IfNone};
+ghost use Rattle.std.specs.Option.{IfNone};
 ghost use Rattle.zone_proto.specs.HashedOwners.{hashed_owner};
 ghost use Rattle.zone_proto.specs.Data.{type_of};
 ghost use Rattle.zone_proto.specs.Keys.{key as key_at};
-ghost use Rattle.zone_proto.specs.Names.{Name, lower, name_eq, same_name};
+ghost use Rattle.zone_proto.specs.Names.{Name, lower, name_eq};
 ghost use Rattle.zone_proto.specs.Ranges.{IsOctet};
 ghost use Rattle.zone_proto.specs.Results.{IsCopy, TellsFaultOrMemory};
 ghost use Rattle.zone_proto.specs.Sets.{empty_set};
 ghost use Rattle.zone_proto.specs.Types.{NSEC3 as nsec3_type, NSEC3PARAM as nsec3param_type};
 ghost use Rattle.zone_map.specs.Standing.{standing_at};
-ghost use Rattle.zone_map.specs.Zones.{set_at, put, AreStored, IsZone};
+ghost use Rattle.zone_map.specs.Zones.{set_at, IsStoredAt};
 ghost use Rattle.zone_denial.specs.Covering.{next_around};
 ghost use Rattle.zone_denial.specs.HashedNames.{hashed, all_fit, linked_record, circle_set_at, circle_sets_at};
 ghost use Rattle.zone_denial.specs.RepeatedDigests.{RepeatsDigest};
@@ -28,7 +28,7 @@ use crate::nsec3_standing::{is_announced, nsec3_sets_stand};
 use zone_handler::SecureError;
 use zone_map::RecordMap;
 use zone_proto::{
-    DNSClass, LowerName, NSEC3, NSEC3PARAM, Name, Nsec3Hash, ProtoError, RData, Record, RecordSet,
+    LowerName, NSEC3, NSEC3PARAM, Name, Nsec3Hash, ProtoError, RData, Record, RecordSet,
     RecordType, RrKey, base32_dnssec,
 };
 
@@ -127,13 +127,14 @@ fn sets_of_circle(
         return Ok(None);
     }
     let announced = announced(records, origin, parameters, ttl, serial)?;
-    Ok(Some(with_circle(announced, held, origin, parameters, ttl, serial)?))
+    let sets = with_circle(announced, held, origin, parameters, ttl, serial)?;
+    Ok(Some(sets))
 }
 
-/// The map with the NSEC3 sets of these names, which form a circle. A refusal other than `Memory` says that an owner is too
-/// long.
+/// The map of the origin's NSEC3PARAM set and the NSEC3 sets of these names, which form a circle. A refusal other than `Memory`
+/// says that an owner is too long.
 fn with_circle(
-    announced: RecordMap,
+    announced: (RrKey, RecordSet),
     held: &[HashedName<'_, '_>],
     origin: &LowerName,
     parameters: &NSEC3PARAM,
@@ -141,35 +142,27 @@ fn with_circle(
     serial: u32,
 ) -> Result<RecordMap, ProtoError>
     requires ascending { IsStrictlySortedBy hashed_cmp (map hashed held.now) }
-    requires absent { (n : Name) → set_at announced n nsec3_type ≡ None }
+    requires key { announced.0 ≡ key_at origin.now nsec3param_type }
+    requires stored { IsStoredAt announced.0.name announced.0.record_type.0 announced.1 }
     ensures ok { IfOk result (λ after. (n : Name) (t : ℕ) → set_at after n t
-        ≡ cond (t == nsec3_type) (circle_set_at origin.now parameters.now ttl held.now serial held.now n) (set_at announced n t)) }
+        ≡ cond (t == nsec3_type) (circle_set_at origin.now parameters.now ttl held.now serial held.now n)
+        (cond ((t == nsec3param_type) && name_eq n origin.now) (Some announced.1) None)) }
     ensures fits { OnOk result (all_fit origin.now (map hashed held.now) ≡ true) }
     ensures err { IfErr result (λ e. (e ≡ ProtoError.Memory) ⊎ (all_fit origin.now (map hashed held.now) ≡ false)) }
 {
     // Its clauses say that the origin is in lower case.
     let _ = origin.labels();
-    let mut entries = entries_of(announced, origin)?;
+    let mut entries = Vec::with_capacity(origin.alloc(), held.len().saturating_add(1))?;
+    entries.push(announced)?;
     for i in 0..held.len() {
+        // Its clause says that the octets are in range, so that another digest has another owner.
         octets_fit(held[i].digest.as_slice());
         let record = nsec3_record(&held[i], next_name(held, i), origin, parameters, ttl)?;
-        let before = entry_before(entries.as_slice(), held, i);
+        let before = set_before(entries.as_slice(), held, i);
         let entry = entry_with(before, record, serial)?;
         entries.push(entry)?;
     }
     RecordMap::from_entries(origin.alloc(), entries)
-}
-
-/// The sets of a map by their keys, as a list. Refused by `Memory` alone.
-fn entries_of(map: RecordMap, origin: &LowerName) -> Result<Vec<(RrKey, RecordSet)>, ProtoError>
-    ensures ok { IfOk result (λ entries. entries.items ≡ map) }
-    ensures zone { IsZone map }
-    ensures stored { AreStored map }
-    ensures err { IsOkUnless result ProtoError.Memory }
-{
-    let mut entries = Vec::new(origin.alloc());
-    let _ = map;
-    Ok(entries)
 }
 
 /// Each octet of a digest is below 256, as each `u8` is.
@@ -177,21 +170,23 @@ pub(crate) fn octets_fit(digest: &[u8])
     ensures { AllByRecursion IsOctet digest.now }
 {}
 
-/// The last entry, if the name of this place has the digest of the one before it, so that they have one owner.
-fn entry_before<'e>(
+/// The set of the last entry, if the name of this place has the digest of the one before it, so that they have one owner.
+fn set_before<'e>(
     entries: &'e [(RrKey, RecordSet)],
     held: &[HashedName<'_, '_>],
     i: usize,
-) -> Option<&'e (RrKey, RecordSet)>
+) -> Option<&'e RecordSet>
     requires { i < length held.now }
-    ensures last { IfSome result (λ e. slice_get entries.now (length entries.now - 1) ≡ Some e.now) }
-    ensures same { IfSome result (λ e. RepeatsDigest held.now i) }
+    ensures last { IfSome result (λ s. option_map (λ e. e.1) (slice_get entries.now (length entries.now - 1)) ≡ Some s.now) }
+    ensures same { IfSome result (λ s. RepeatsDigest held.now i) }
     ensures none { IfNone result ((entries.now ≡ []) ⊎ ¬ RepeatsDigest held.now i) }
 {
-    if repeats_digest(held, i) {
-        entries.last()
-    } else {
-        None
+    if !repeats_digest(held, i) {
+        return None;
+    }
+    match entries.last() {
+        Some((_, set)) => Some(set),
+        None => None,
     }
 }
 
@@ -214,39 +209,40 @@ fn same_digest(one: &HashedName<'_, '_>, other: &HashedName<'_, '_>) -> bool
     one.digest == other.digest
 }
 
-/// The entry of an NSEC3 record: its set, in which it stands behind the records of the entry before, if it takes those over.
-/// Refused by `Memory` alone.
+/// The entry of a record: a copy of the set before, or else a new set of the record's owner and type, into which the record is
+/// inserted. Refused by `Memory` alone.
 fn entry_with(
-    before: Option<&(RrKey, RecordSet)>,
+    before: Option<&RecordSet>,
     new: Record,
     serial: u32,
 ) -> Result<(RrKey, RecordSet), ProtoError>
-    requires kind { type_of new.rdata ≡ nsec3_type }
-    requires owner { IfSome before (λ e. same_name new.name e.now.1.owner ≡ true) }
-    requires set_kind { IfSome before (λ e. e.now.1.record_type ≡ nsec3_type) }
+    requires { IfSome before (λ s. IsStoredAt (lower new.name) (type_of new.rdata) s.now) }
     ensures ok { IfOk result (λ e. e ≡ (
-      key_at (lower new.name) nsec3_type,
-      with_taken serial (unwrap_or (option_map (λ b. b.now.1) before.entry) (empty_set new.name nsec3_type serial)) new,
+      key_at (lower new.name) (type_of new.rdata),
+      with_taken serial (unwrap_or (option_copied before.entry) (empty_set new.name (type_of new.rdata) serial)) new,
     )) }
+    ensures stored { IfOk result (λ e. IsStoredAt e.0.name e.0.record_type.0 e.1) }
     ensures err { IsOkUnless result ProtoError.Memory }
 {
-    let key = RrKey::new(LowerName::new(&new.name)?, RecordType::NSEC3);
-    let mut set = set_before(before, &new.name, serial)?;
+    let record_type = new.record_type();
+    let key = RrKey::new(LowerName::new(&new.name)?, record_type);
+    let mut set = copy_or_empty(before, &new.name, record_type, serial)?;
     set.insert(new, serial)?;
     Ok((key, set))
 }
 
-/// A copy of the set of an entry; without one a set of this owner that has no records. Refused by `Memory` alone.
-fn set_before(
-    before: Option<&(RrKey, RecordSet)>,
+/// A copy of a set; without one a set of this owner and type that has no records. Refused by `Memory` alone.
+fn copy_or_empty(
+    set: Option<&RecordSet>,
     owner: &Name,
+    record_type: RecordType,
     serial: u32,
 ) -> Result<RecordSet, ProtoError>
-    ensures { IsCopy result (unwrap_or (option_map (λ b. b.now.1) before.entry) (empty_set owner.now nsec3_type serial)) }
+    ensures { IsCopy result (unwrap_or (option_copied set.entry) (empty_set owner.now record_type.0 serial)) }
 {
-    match before {
-        Some((_, set)) => set.clone(),
-        None => Ok(RecordSet::new(owner.clone()?, RecordType::NSEC3, serial)),
+    match set {
+        Some(set) => set.clone(),
+        None => Ok(RecordSet::new(owner.clone()?, record_type, serial)),
     }
 }
 
@@ -295,41 +291,23 @@ pub(crate) fn hashed_owner(digest: &[u8], origin: &LowerName) -> Result<LowerNam
     origin.prepend_label(label.as_bytes())
 }
 
-/// The origin's NSEC3PARAM set alone, with these parameters inserted. Refused by `Memory` alone.
+/// The entry of the origin's NSEC3PARAM set, with these parameters inserted. Refused by `Memory` alone.
 fn announced(
     records: &RecordMap,
     origin: &LowerName,
     parameters: &NSEC3PARAM,
     ttl: u32,
     serial: u32,
-) -> Result<RecordMap, ProtoError>
-    ensures ok { IfOk result (λ map. (n : Name) (t : ℕ) → set_at map n t
-        ≡ cond ((t == nsec3param_type) && name_eq n origin.now) (Some (announced_set origin.now records.now (λ _. None) parameters.now ttl serial)) None) }
+) -> Result<(RrKey, RecordSet), ProtoError>
+    ensures ok { IfOk result (λ e. e
+        ≡ (key_at origin.now nsec3param_type, announced_set origin.now records.now (λ _. None) parameters.now ttl serial)) }
+    ensures stored { IfOk result (λ e. IsStoredAt e.0.name e.0.record_type.0 e.1) }
     ensures err { IsOkUnless result ProtoError.Memory }
 {
     // Its clauses say that the origin is in lower case.
     let _ = origin.labels();
-    let mut map = announced_before(records, origin)?;
+    let key = RrKey::new(origin.clone()?, RecordType::NSEC3PARAM);
     let data = RData::NSEC3PARAM(parameters.clone()?);
     let record = Record::from_rdata(Name::from(origin.clone()?), ttl, data);
-    map.upsert(record, serial, DNSClass::IN)?;
-    Ok(map)
-}
-
-/// A copy of the origin's NSEC3PARAM set alone, if there is one. Refused by `Memory` alone.
-fn announced_before(records: &RecordMap, origin: &LowerName) -> Result<RecordMap, ProtoError>
-    ensures ok { IfOk result (λ map. map
-        ≡ option_map_or (λ s. put [] origin.now nsec3param_type s) (set_at records.now origin.now nsec3param_type) []) }
-    ensures err { IsOkUnless result ProtoError.Memory }
-{
-    let mut map = RecordMap::new(origin.alloc());
-    let key = RrKey::new(origin.clone()?, RecordType::NSEC3PARAM);
-    let copy = match records.get(&key) {
-        Some(set) => set.clone()?,
-        None => return Ok(map),
-    };
-    match map.put(key, copy) {
-        Ok(_) => Ok(map),
-        Err(_) => Err(ProtoError::Memory),
-    }
+    entry_with(records.get(&key), record, serial)
 }

@@ -1,12 +1,41 @@
-use Rattle.std.proofs.Common.{◌∙◌}
+use Rattle.std.proofs.Common.{◌≡◌, ℕ, sym, ap, ◌∙◌, subst}
+use Rattle.std.specs.Prelude.{None, IfSome}
+use Rattle.std.proofs.lemmas.Result.{IfOk-weaker}
 use Rattle.zone_proto.specs.declared.rdata.RData.TheVariants as V
-use Rattle.zone_proto.specs.Types.{IN}
-use Rattle.zone_denial.proofs.AnnouncedSets.{announced_at}
+use Rattle.zone_proto.specs.declared.rdata.denial.NSEC3PARAM.{NSEC3PARAM as Nsec3Parameters}
+use Rattle.zone_proto.specs.declared.record.Record.{Record}
+use Rattle.zone_proto.specs.declared.rr_key.RrKey.{RrKey}
+use Rattle.zone_proto.specs.Data.{type_of}
+use Rattle.zone_proto.specs.Keys.{key}
+use Rattle.zone_proto.specs.Names.{Name, lower}
+use Rattle.zone_proto.specs.Types.{IN, NSEC3PARAM}
+use Rattle.zone_map.specs.Zones.{Sets, IsStoredAt, set_at}
+use Rattle.zone_denial.specs.Nsec3Sets.{made_record, announced_set}
+use Rattle.zone_denial.proofs.TakenRecords.{set_taking}
 use Rattle.zone_denial.proofs.nsec3_sets.announced.Goals as goal
+
+made_of : (m : Sets) (origin : Name) (parameters : Nsec3Parameters) (ttl serial : ℕ) (r : Record) (n : Name) (p : Nsec3Parameters)
+    → r ≡ record { name = n; dns_class = record { 0 = IN }; ttl = ttl; rdata = V.NSEC3PARAM p } → n ≡ origin → p ≡ parameters
+    → r ≡ made_record origin m (λ _. None) parameters ttl serial origin (V.NSEC3PARAM parameters)
+made_of m origin parameters ttl serial r n p is named told = is ∙ (λ i. record { name = named i; dns_class = record { 0 = IN }; ttl = ttl; rdata = V.NSEC3PARAM (told i) })
+
+pub entry_with-requires : goal.entry_with-requires
+entry_with-requires c =
+    let origin = c.args.origin.now in
+    let made = made_of c.args.records.now origin c.args.parameters.now c.args.ttl c.args.serial c.from_rdata-record.result c.from.result c.in_ok-clone-2.field-0 c.from_rdata-record.ensures (c.from.ensures ∙ c.in_ok-clone-3.ensures.ok) c.in_ok-clone-2.ensures.ok in
+    let own = c.new-key.ensures.value ∙ ap (λ (n : Name). key n NSEC3PARAM) c.in_ok-clone.ensures.ok in
+    let named = ap (λ (k : RrKey). k.name) own ∙ sym (ap (λ (x : Record). lower x.name) made ∙ c.labels.ensures.valid.lower) in
+    let typed = ap (λ (k : RrKey). k.record_type.0) own ∙ sym (ap (λ (x : Record). type_of x.rdata) made) in
+    subst (λ (k : Name × ℕ). IfSome c.get.result (λ s. IsStoredAt k.0 k.1 s.now)) (λ i. (named i, typed i)) c.get.ensures.stored
 
 pub returns-clause-ok : goal.returns-clause-ok
 returns-clause-ok c =
-    let owner = c.from.ensures ∙ c.in_ok-clone-2.ensures.ok in
-    let made = c.from_rdata-record.ensures ∙ (λ i. record { name = owner i; dns_class = record { 0 = IN }; ttl = c.args.ttl; rdata = V.NSEC3PARAM (c.in_ok-clone.ensures.ok i) }) in
-    announced_at c.args.origin.now c.args.records.now c.args.parameters.now c.args.ttl c.args.serial c.labels.ensures.valid.lower c.in_ok-map.map c.upsert.new.self
-    c.from_rdata-record.result c.in_ok-map.ensures.ok made c.in_ok-upsert.ensures.insertion.after
+    let origin = c.args.origin.now in
+    let made = made_of c.args.records.now origin c.args.parameters.now c.args.ttl c.args.serial c.from_rdata-record.result c.from.result c.in_ok-clone-2.field-0 c.from_rdata-record.ensures (c.from.ensures ∙ c.in_ok-clone-3.ensures.ok) c.in_ok-clone-2.ensures.ok in
+    let own = c.new-key.ensures.value ∙ ap (λ (n : Name). key n NSEC3PARAM) c.in_ok-clone.ensures.ok in
+    let found = c.get.ensures.found ∙ ap (λ (k : RrKey). set_at c.args.records.now k.name k.record_type.0) own in
+    IfOk-weaker c.entry_with.result _ _
+    (λ e is. is
+    ∙ (λ i. (key (lower (made i).name) (type_of (made i).rdata), set_taking c.args.serial (made i).name (type_of (made i).rdata) (found i) (made i)))
+    ∙ (λ i. (key (c.labels.ensures.valid.lower i) NSEC3PARAM, announced_set origin c.args.records.now (λ _. None) c.args.parameters.now c.args.ttl c.args.serial)))
+    c.entry_with.ensures.ok
