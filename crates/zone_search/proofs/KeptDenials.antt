@@ -1,7 +1,7 @@
 -- The denials of a zone that are kept are those that it gets
 use Rattle.std.proofs.Common.{◌≡◌, ℕ, ◌==◌, ◌&&◌, Bool, true, false, cond, List, refl, sym, ap, ◌∙◌, subst, eqb-true}
 use Rattle.std.specs.Prelude.{Option, Some, None, if◌then◌else◌, not, option_map}
-use Rattle.std.specs.Option.{option_or}
+use Rattle.std.specs.Option.{option_or, IfNone}
 use Rattle.zone_proto.specs.declared.rdata.denial.NSEC3PARAM.{NSEC3PARAM as Nsec3Parameters}
 use Rattle.zone_proto.specs.Names.{Name, name_eq}
 use Rattle.zone_proto.specs.Sets.{RRset}
@@ -35,7 +35,7 @@ module _ (digest_of : ℕ → List ℕ → Name → ℕ → Option (List ℕ)) (
         let type' : t ≡ NSEC3PARAM = eqb-true t NSEC3PARAM (and_left (t == NSEC3PARAM) (name_eq n origin) e) in
         (λ j. set_at m (name j) (type' j)) ∙ announced_there
 
-    pub nsec3_kept : (n : Name) (t : ℕ) → kept_at NSEC3 (serial m origin) m n t ≡ with_nsec3_sets digest_of origin m p n t
+    nsec3_kept : (n : Name) (t : ℕ) → kept_at NSEC3 (serial m origin) m n t ≡ with_nsec3_sets digest_of origin m p n t
     nsec3_kept n t = by (t == NSEC3) refl
       where
         is : Bool
@@ -47,3 +47,18 @@ module _ (digest_of : ℕ → List ℕ → Name → ℕ → Option (List ℕ)) (
             (λ j. option_or (cond (e j) (option_map (renumbered (serial m origin)) (set_at m n t)) None) (if not (e j) then set_at m n t else None))
             ∙ other n t is refl
             ∙ sym (λ j. option_or (cond (e j) (nsec3_set_at origin m (hash_with digest_of p) p (minimum m origin) (serial m origin) n) (cond is (Some announced) None)) (cond (e j) None (set_at m n t)))
+
+  -- the same of sets that are told of a zone and with numbers which are these
+  abbrev Stand : Sets → ℕ × ℕ → Type 0
+  Stand zone numbers = (n : Name) → standing_at zone NSEC3 numbers.1 n NSEC3 ≡ nsec3_sets_at origin zone (hash_with digest_of p) p numbers.0 numbers.1 n NSEC3
+
+  abbrev Announces : Sets → ℕ × ℕ → Type 0
+  Announces zone numbers = set_at zone origin NSEC3PARAM ≡ nsec3_sets_at origin zone (hash_with digest_of p) p numbers.0 numbers.1 origin NSEC3PARAM
+
+  pub denials_kept : {A : Type 0} (made : Option A) (zone : Sets) (numbers : ℕ × ℕ) → made ≡ None → zone ≡ m → numbers ≡ (minimum m origin, serial m origin) → IfNone made (Stand zone numbers)
+      → IfNone made (Announces zone numbers) → (n : Name) (t : ℕ) → kept_at NSEC3 numbers.1 m n t ≡ with_nsec3_sets digest_of origin m p n t
+  denials_kept (Some a) zone numbers none same are stand announces n t = absurd cc
+  denials_kept None zone numbers none same are stand announces n t =
+      let standing = subst (Stand m) are (subst (λ z. Stand z numbers) same stand) in
+      let parameters = subst (Announces m) are (subst (λ z. Announces z numbers) same announces) in
+      ap (λ (w : ℕ × ℕ). kept_at NSEC3 w.1 m n t) are ∙ nsec3_kept standing parameters n t

@@ -150,7 +150,14 @@ impl<S: Signer> InnerInMemory<S> {
             Err(_) => return Err(SecureError::Memory),
         }
         let (minimum, serial) = self.minimum_and_serial(apex);
-        match nsec3_sets::nsec3_sets(&self.records, &apex.name, hash, parameters, minimum, serial)? {
+        match nsec3_sets::nsec3_sets(
+            &self.records,
+            &apex.name,
+            hash,
+            parameters,
+            minimum,
+            serial,
+        )? {
             Some(sets) => Ok(Denials::New(RecordType::NSEC3, sets)),
             None => Ok(Denials::Kept(RecordType::NSEC3, serial)),
         }
