@@ -7,6 +7,7 @@ pub mod Renumbering
 pub mod Upserting
 pub mod Ahead
 pub mod Putting
+pub mod Parting
 pub mod CnamesAlone
 pub mod LastKeys
 pub mod Lists

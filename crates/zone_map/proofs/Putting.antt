@@ -1,7 +1,7 @@
 -- Sets that are put into a zone together are found there, and once they are undone the zone is as it was
 use Rattle.std.proofs.Common.{◌≡◌, ℕ, Bool, true, false, cond, List, [], ◌∷◌, ◌++◌, refl, sym, ap, ◌∙◌, subst, Ordering, Less, Equal, Greater}
 use Rattle.std.specs.Prelude.{Option, Some, None, is_some, not, ◌&&◌, ◌||◌, filter}
-use Rattle.std.specs.BTreeMap.{BTreeMap, InsertsAll, MovesPrefix, IsFromIterResult}
+use Rattle.std.specs.BTreeMap.{BTreeMap, InsertsAll, MovesPrefix}
 use Rattle.std.specs.Cmp.{eq_by_cmp_equiv}
 use Rattle.std.specs.List.{AllByRecursion, list_any}
 use Rattle.std.specs.List.Sorted.{IsStrictlySortedBy}
@@ -9,6 +9,7 @@ use Rattle.std.specs.Map.{lookup, keys_of, set_value, update, update_all}
 use Rattle.std.specs.Option.{option_or}
 use Rattle.std.specs.Ordering.{is_eq, ordering_reverse}
 use Rattle.std.proofs.lemmas.List.Folds.{list_any-append}
+use Rattle.std.proofs.lemmas.List.Kept.{IsStrictlySortedBy-filter}
 use Rattle.std.proofs.lemmas.Map.{keys-set_value, lookup-remove_entry}
 use Rattle.std.proofs.lemmas.Map.Entries.{lookup-filter-keys}
 use Rattle.std.proofs.lemmas.Map.Keys.{sorted_head, sorted_tail, IsDistinct-from_sorted}
@@ -31,7 +32,7 @@ use Rattle.zone_map.proofs.Lists.{owners_ascend, contains_owner, contained_owner
 use Rattle.zone_map.proofs.Ahead.{none_above}
 use Rattle.zone_map.proofs.Stored.{all_above, sorted_without}
 
-abbrev nothing : RrKey → Option RRset
+abbrev pub nothing : RrKey → Option RRset
 nothing k = None
 
 -- ---- sets that are exchanged
@@ -166,7 +167,7 @@ not_false : (b : Bool) → not b ≡ true → b ≡ false
 not_false true h = absurd cc
 not_false false h = refl
 
-keys_of-filter : (r : RrKey → Bool) (es : Sets) → keys_of (filter (λ (e : RrKey × RRset). r e.0) es) ≡ filter r (keys_of es)
+pub keys_of-filter : (r : RrKey → Bool) (es : Sets) → keys_of (filter (λ (e : RrKey × RRset). r e.0) es) ≡ filter r (keys_of es)
 keys_of-filter r [] = refl
 keys_of-filter r (e ∷ es) = by (r e.0) (keys_of-filter r es)
   where
@@ -174,6 +175,10 @@ keys_of-filter r (e ∷ es) = by (r e.0) (keys_of-filter r es)
         → keys_of (cond b (e ∷ filter (λ (e : RrKey × RRset). r e.0) es) (filter (λ (e : RrKey × RRset). r e.0) es)) ≡ cond b (e.0 ∷ filter r (keys_of es)) (filter r (keys_of es))
     by true i = ap (λ ks. e.0 ∷ ks) i
     by false i = i
+
+-- sets of which some are left stay in order
+pub sorted_filter : (r : RrKey → Bool) (es : Sets) → IsStrictlySortedBy key_cmp (keys_of es) → IsStrictlySortedBy key_cmp (keys_of (filter (λ (e : RrKey × RRset). r e.0) es))
+sorted_filter r es sorted = subst (IsStrictlySortedBy key_cmp) (sym (keys_of-filter r es)) (IsStrictlySortedBy-filter key_cmp r (keys_of es) sorted)
 
 first_true : (b c : Bool) → (b && c) ≡ true → b ≡ true
 first_true true c h = refl
@@ -183,7 +188,7 @@ first_false : (b c : Bool) → (b || c) ≡ false → b ≡ false
 first_false true c h = absurd cc
 first_false false c h = refl
 
-pub keys_of-append : (xs ys : Sets) → keys_of (xs ++ ys) ≡ keys_of xs ++ keys_of ys
+keys_of-append : (xs ys : Sets) → keys_of (xs ++ ys) ≡ keys_of xs ++ keys_of ys
 keys_of-append [] ys = refl
 keys_of-append (x ∷ xs) ys = ap (λ ks. x.0 ∷ ks) (keys_of-append xs ys)
 
@@ -221,8 +226,8 @@ found_without_all m (k ∷ ks) q s =
     by false false o = refl
 
 -- sets of which those under whose keys others stand are exchanged for them, and the others are added
-module _ (had more common fresh : Sets) (sorted : IsStrictlySortedBy key_cmp (keys_of more)) (is_common : common ≡ filter (λ (e : RrKey × RRset). list_any (key_eq e.0) (keys_of had)) more)
-    (is_fresh : fresh ≡ filter (λ (e : RrKey × RRset). not (list_any (key_eq e.0) (keys_of had))) more) (made : BTreeMap RrKey RRset) (from : IsFromIterResult key_cmp fresh made) where
+module _ (had more common : Sets) (sorted : IsStrictlySortedBy key_cmp (keys_of more)) (is_common : common ≡ filter (λ (e : RrKey × RRset). list_any (key_eq e.0) (keys_of had)) more)
+    (made : BTreeMap RrKey RRset) (is_fresh : made.entries ≡ filter (λ (e : RrKey × RRset). not (list_any (key_eq e.0) (keys_of had))) more) where
   abbrev stands : RrKey → Bool
   stands q = list_any (key_eq q) (keys_of had)
 
@@ -233,7 +238,10 @@ module _ (had more common fresh : Sets) (sorted : IsStrictlySortedBy key_cmp (ke
       ∙ lookup-filter-keys (key_eq q) r (r q) (λ k same. ap r (sym (key_same q k same))) more
 
   found_made : (q : RrKey) → lookup (key_eq q) made.entries ≡ cond (not (stands q)) (lookup (key_eq q) more) None
-  found_made q = from.0 q ∙ ap (λ (xs : Sets). update_all key_eq nothing xs q) is_fresh ∙ filtered (λ k. not (stands k)) q
+  found_made q = ap (lookup (key_eq q)) is_fresh ∙ lookup-filter-keys (key_eq q) (λ k. not (stands k)) (not (stands q)) (λ k same. ap (λ x. not (stands x)) (sym (key_same q k same))) more
+
+  ordered_made : IsStrictlySortedBy key_cmp (keys_of made.entries)
+  ordered_made = subst (λ (es : Sets). IsStrictlySortedBy key_cmp (keys_of es)) (sym is_fresh) (sorted_filter (λ k. not (stands k)) more sorted)
 
   -- each is found
   pub found_put : (sets after : BTreeMap RrKey RRset) → sets.entries ≡ with_exchanged had common → InsertsAll key_cmp sets made.entries after
@@ -242,7 +250,7 @@ module _ (had more common fresh : Sets) (sorted : IsStrictlySortedBy key_cmp (ke
       inserts.0 q
       ∙ update_all_or made.entries (λ k. lookup (key_eq k) sets.entries) nothing (lookup (key_eq q) sets.entries) q refl
       ∙ ap (λ o. option_or o (lookup (key_eq q) sets.entries))
-      (update_all_none (eq_by_cmp_equiv key_cmp_total) key_eq (λ x y. refl) made.entries q (IsDistinct-from_sorted key_cmp (keys_of made.entries) from.1) ∙ found_made q)
+      (update_all_none (eq_by_cmp_equiv key_cmp_total) key_eq (λ x y. refl) made.entries q (IsDistinct-from_sorted key_cmp (keys_of made.entries) ordered_made) ∙ found_made q)
       ∙ ap (λ (n : Sets). option_or (cond (not (stands q)) (lookup (key_eq q) more) None) (lookup (key_eq q) n)) exchanged
       ∙ by (stands q) refl
     where
@@ -258,7 +266,7 @@ module _ (had more common fresh : Sets) (sorted : IsStrictlySortedBy key_cmp (ke
 
   -- and taking out those that were added leaves the others, if all came in or only some
   pub taken_out : (sets after rest : BTreeMap RrKey RRset) (added : List RrKey) → sets.entries ≡ with_exchanged had common → IsStrictlySortedBy key_cmp (keys_of sets.entries)
-      → MovesPrefix key_cmp sets made after rest → added ≡ keys_of fresh → without_all after.entries added ≡ sets.entries
+      → MovesPrefix key_cmp sets made after rest → added ≡ keys_of made.entries → without_all after.entries added ≡ sets.entries
   taken_out sets after rest added exchanged ordered (xs, parts, inserts) keys =
       same_entries (without_all after.entries added) sets.entries (sorted_without_all after.entries added inserts.1) ordered same
     where
@@ -289,7 +297,7 @@ module _ (had more common fresh : Sets) (sorted : IsStrictlySortedBy key_cmp (ke
 
   -- so once those are exchanged again that were, the sets are as they were
   pub put_undone : (sets after : BTreeMap RrKey RRset) (added : List RrKey) (before : Sets) → sets.entries ≡ with_exchanged had common → IsStrictlySortedBy key_cmp (keys_of sets.entries)
-      → (rest : BTreeMap RrKey RRset) × MovesPrefix key_cmp sets made after rest → added ≡ keys_of fresh → with_before sets.entries before ≡ had
+      → (rest : BTreeMap RrKey RRset) × MovesPrefix key_cmp sets made after rest → added ≡ keys_of made.entries → with_before sets.entries before ≡ had
       → with_before (without_all after.entries added) before ≡ had
   put_undone sets after added before exchanged ordered (rest, moved) keys undone = ap (λ (n : Sets). with_before n before) (taken_out sets after rest added exchanged ordered moved keys) ∙ undone
 

@@ -1,5 +1,5 @@
 // Sets that are put into the record map together, and taken out again.
-ghost use Rattle.std.specs.Prelude.{◌≡◌, ℕ, ◌+◌, ◌≤◌, not, filter, IfOk, OnOk, OnErr, IsOkUnless, unwrap_or, vec_len, vec_capacity};
+ghost use Rattle.std.specs.Prelude.{◌≡◌, ℕ, ◌+◌, ◌≤◌, Bool, not, List, ◌∷◌, filter, MatchOption, IfOk, OnOk, OnErr, IsOkUnless, unwrap_or, vec_len, vec_capacity};
 ghost use Rattle.std.specs.BTreeMap.{BTreeMap as Tree, InsertsAll, MovesPrefix};
 ghost use Rattle.std.specs.List.{list_any};
 ghost use Rattle.std.specs.List.Sorted.{IsStrictlySortedBy};
@@ -48,7 +48,7 @@ struct Parted {
     /// Those under whose keys sets stand there.
     common: Vec<(RrKey, RecordSet)>,
     /// The others.
-    fresh: Vec<(RrKey, RecordSet)>,
+    fresh: BTreeMap<RrKey, RecordSet>,
     /// The keys of the others.
     added: Vec<RrKey>,
 }
@@ -73,7 +73,6 @@ impl RecordMap {
             fresh,
             added,
         } = parted;
-        let fresh = collect_entries(alloc, fresh)?;
         let mut exchanged = Vec::with_capacity(alloc, common.len())?;
         exchange(&mut self.sets, common, &mut exchanged);
         match add(alloc, &mut self.sets, &mut self.denials, fresh, denials) {
@@ -106,34 +105,85 @@ impl RecordMap {
     }
 }
 
-/// Parts the sets of a map by whether others stand under their keys: one pass over both maps.
+/// Parts the sets of a map by whether others stand under their keys. Where none do, the map stays as it is.
 fn part(
     alloc: Global,
     sets: &BTreeMap<RrKey, RecordSet>,
     more: BTreeMap<RrKey, RecordSet>,
 ) -> Result<Parted, ProtoError>
     ensures common { IfOk result (λ parted. parted.common.items ≡ filter (λ e. list_any (key_eq e.0) (keys_of sets.now.entries)) more.entries) }
-    ensures fresh { IfOk result (λ parted. parted.fresh.items ≡ filter (λ e. not (list_any (key_eq e.0) (keys_of sets.now.entries))) more.entries) }
-    ensures added { IfOk result (λ parted. parted.added.items ≡ keys_of parted.fresh.items) }
+    ensures fresh { IfOk result (λ parted. parted.fresh.entries ≡ filter (λ e. not (list_any (key_eq e.0) (keys_of sets.now.entries))) more.entries) }
+    ensures added { IfOk result (λ parted. parted.added.items ≡ keys_of parted.fresh.entries) }
     ensures err { IsOkUnless result ProtoError.Memory }
 {
-    let mut common = Vec::new(alloc);
-    let mut fresh = Vec::new(alloc);
-    let mut added = Vec::new(alloc);
-    let mut ahead = KeysAhead::new(sets);
-    for (key, set) in more {
-        if ahead.has(&key) {
-            common.push((key, set))?;
-        } else {
-            added.push(key.clone()?)?;
-            fresh.push((key, set))?;
-        }
+    let added = absent_keys(alloc, sets, &more)?;
+    if added.len() == more.len() {
+        return Ok(Parted {
+            common: Vec::new(alloc),
+            fresh: more,
+            added,
+        });
     }
+    let (common, fresh) = separate(alloc, more, added.as_slice())?;
+    let fresh = collect_entries(alloc, fresh)?;
     Ok(Parted {
         common,
         fresh,
         added,
     })
+}
+
+/// The keys of a map under which no sets stand in another one: one pass over both maps.
+fn absent_keys(
+    alloc: Global,
+    sets: &BTreeMap<RrKey, RecordSet>,
+    more: &BTreeMap<RrKey, RecordSet>,
+) -> Result<Vec<RrKey>, ProtoError>
+    ensures ok { IfOk result (λ keys. keys.items ≡ filter (λ k. not (list_any (key_eq k) (keys_of sets.now.entries))) (keys_of more.now.entries)) }
+    ensures err { IsOkUnless result ProtoError.Memory }
+{
+    let mut absent = Vec::new(alloc);
+    let mut ahead = KeysAhead::new(sets);
+    for key in more.keys() {
+        if !ahead.has(key) {
+            absent.push(key.clone()?)?;
+        }
+    }
+    Ok(absent)
+}
+
+/// The sets of a map under whose keys others stand, and those under whose keys none do, which are `added`.
+fn separate(
+    alloc: Global,
+    more: BTreeMap<RrKey, RecordSet>,
+    added: &[RrKey],
+) -> Result<(Vec<(RrKey, RecordSet)>, Vec<(RrKey, RecordSet)>), ProtoError>
+    requires { (stands : Key → Bool) × (added.now ≡ filter (λ k. not (stands k)) (keys_of more.entries)) }
+    ensures common { IfOk result (λ parts. (stands : Key → Bool) → added.now ≡ filter (λ k. not (stands k)) (keys_of more.entries) → parts.0.items ≡ filter (λ e. stands e.0) more.entries) }
+    ensures fresh { IfOk result (λ parts. (stands : Key → Bool) → added.now ≡ filter (λ k. not (stands k)) (keys_of more.entries) → parts.1.items ≡ filter (λ e. not (stands e.0)) more.entries) }
+    ensures err { IsOkUnless result ProtoError.Memory }
+{
+    let mut common = Vec::with_capacity(alloc, more.len() - added.len())?;
+    let mut fresh = Vec::with_capacity(alloc, added.len())?;
+    let mut left = added;
+    for (key, set) in more {
+        match behind(left, &key) {
+            Some(others) => {
+                fresh.push((key, set))?;
+                left = others;
+            }
+            None => common.push((key, set))?,
+        }
+    }
+    Ok((common, fresh))
+}
+
+/// The keys behind a key, if it is the first of these.
+fn behind<'k>(keys: &'k [RrKey], key: &RrKey) -> Option<&'k [RrKey]>
+    ensures { MatchOption result ((others : List Key) → ¬ (keys.now ≡ key.now ∷ others)) (λ others. keys.now ≡ key.now ∷ others.now) }
+{
+    let (first, others) = keys.split_first()?;
+    key.same_as(first).then_some(others)
 }
 
 /// Puts sets in the place of those that stand under their keys, which go behind those of `exchanged`, where there is room.

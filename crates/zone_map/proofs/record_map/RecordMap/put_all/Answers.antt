@@ -14,7 +14,7 @@ invariant_of-self c =
     let more = c.sets.inside.sets.entries in
     let parted = c.in_ok-parted in
     let put : ArePut had more c.add.new.sets.entries =
-    are_put had more parted.parted.common.items parted.parted.fresh.items c.sets.invariant.zone.ordered parted.ensures.common parted.ensures.fresh c.in_ok-fresh.fresh c.in_ok-fresh.ensures
+    are_put had more parted.parted.common.items c.sets.invariant.zone.ordered parted.ensures.common parted.parted.fresh parted.ensures.fresh
     c.exchange.new.sets c.add.new.sets c.exchange.ensures.put c.in-Ok.ensures.added in
     record {
       zone = IsZone-put_all had more c.add.new.sets.entries c.self.invariant.zone c.sets.invariant.zone put;
@@ -27,7 +27,7 @@ returns-in-Ok-clause-ok c =
     let more = c.sets.inside.sets.entries in
     let parted = c.in_ok-parted in
     let put : ArePut had more c.add.new.sets.entries =
-    are_put had more parted.parted.common.items parted.parted.fresh.items c.sets.invariant.zone.ordered parted.ensures.common parted.ensures.fresh c.in_ok-fresh.fresh c.in_ok-fresh.ensures
+    are_put had more parted.parted.common.items c.sets.invariant.zone.ordered parted.ensures.common parted.parted.fresh parted.ensures.fresh
     c.exchange.new.sets c.add.new.sets c.exchange.ensures.put c.in-Ok.ensures.added in
     λ n t. put.found (key n t)
     ∙ ap (λ (m : Sets). option_or (set_at m n t) (set_at had n t)) c.sets.view_is
@@ -39,13 +39,13 @@ returns-in-Ok-clause-before c =
     let more = c.sets.inside.sets.entries in
     let parted = c.in_ok-parted in
     let put : ArePut had more c.add.new.sets.entries =
-    are_put had more parted.parted.common.items parted.parted.fresh.items c.sets.invariant.zone.ordered parted.ensures.common parted.ensures.fresh c.in_ok-fresh.fresh c.in_ok-fresh.ensures
+    are_put had more parted.parted.common.items c.sets.invariant.zone.ordered parted.ensures.common parted.parted.fresh parted.ensures.fresh
     c.exchange.new.sets c.add.new.sets c.exchange.ensures.put c.in-Ok.ensures.added in
     let index = c.in-Ok.ensures.index had more (ap keys_of c.exchange.ensures.put ∙ keys_exchanged had parted.parted.common.items) c.self.invariant.index c.sets.invariant.index put in
     record {
       zone = subst IsZone c.self.view_is c.self.invariant.zone;
       sets =
-          put_undone had more parted.parted.common.items parted.parted.fresh.items c.sets.invariant.zone.ordered parted.ensures.common parted.ensures.fresh c.in_ok-fresh.fresh c.in_ok-fresh.ensures
+          put_undone had more parted.parted.common.items c.sets.invariant.zone.ordered parted.ensures.common parted.parted.fresh parted.ensures.fresh
           c.exchange.new.sets c.add.new.sets parted.parted.added.items c.exchange.new.exchanged.items c.exchange.ensures.put c.exchange.ensures.ordered c.in-Ok.ensures.moved parted.ensures.added
           (c.exchange.ensures.before ∙ ap (with_before had) c.in_ok-exchanged.ensures.items)
           ∙ c.self.view_is;
@@ -58,7 +58,7 @@ invariant_of-self-in-Err c =
     let parted = c.in_ok-parted in
     let undone : c.put_back.new.sets.entries ≡ had =
     c.put_back.ensures
-    ∙ put_undone had c.sets.inside.sets.entries parted.parted.common.items parted.parted.fresh.items c.sets.invariant.zone.ordered parted.ensures.common parted.ensures.fresh c.in_ok-fresh.fresh c.in_ok-fresh.ensures
+    ∙ put_undone had c.sets.inside.sets.entries parted.parted.common.items c.sets.invariant.zone.ordered parted.ensures.common parted.parted.fresh parted.ensures.fresh
     c.exchange.new.sets c.add.new.sets parted.parted.added.items c.exchange.new.exchanged.items c.exchange.ensures.put c.exchange.ensures.ordered c.in-Err.ensures.moved parted.ensures.added
     (c.exchange.ensures.before ∙ ap (with_before had) c.in_ok-exchanged.ensures.items) in
     record {
@@ -71,7 +71,7 @@ returns-in-Err-clause-same c =
     let had = c.self.inside.sets.entries in
     let parted = c.in_ok-parted in
     c.put_back.ensures
-    ∙ put_undone had c.sets.inside.sets.entries parted.parted.common.items parted.parted.fresh.items c.sets.invariant.zone.ordered parted.ensures.common parted.ensures.fresh c.in_ok-fresh.fresh c.in_ok-fresh.ensures
+    ∙ put_undone had c.sets.inside.sets.entries parted.parted.common.items c.sets.invariant.zone.ordered parted.ensures.common parted.parted.fresh parted.ensures.fresh
     c.exchange.new.sets c.add.new.sets parted.parted.added.items c.exchange.new.exchanged.items c.exchange.ensures.put c.exchange.ensures.ordered c.in-Err.ensures.moved parted.ensures.added
     (c.exchange.ensures.before ∙ ap (with_before had) c.in_ok-exchanged.ensures.items)
     ∙ c.self.view_is
