@@ -6,8 +6,8 @@ use Rattle.std.specs.Map.{keys_of}
 use Rattle.zone_proto.specs.Keys.{key_cmp, key_eq}
 use Rattle.zone_map.proofs.record_map.puts.absent_keys.Given as goal
 
--- the keys that are left ascend, and the pass over the other map still has each of them that is there; the absent ones so far and
--- those that are left are all
+-- the keys that are left ascend, and the pass over the other map still has each of them that is there; the absent ones so far
+-- and those that are left are all
 abbrev pub invariant-loop-key : goal.invariant-loop-key
 invariant-loop-key l =
     record {
