@@ -7,8 +7,9 @@ use Rattle.std.specs.Cmp.{both_ways}
 use Rattle.std.specs.List.{list_any, cons_option}
 use Rattle.std.specs.List.Sorted.{IsStrictlySortedBy}
 use Rattle.std.specs.Map.{keys_of}
-use Rattle.std.specs.Ordering.{nat_cmp}
+use Rattle.std.specs.Ordering.{nat_cmp, eq_by_cmp, is_eq}
 use Rattle.std.proofs.lemmas.Bool.Decides.{nat_tests}
+use Rattle.std.proofs.lemmas.Cmp.{tied_itself}
 use Rattle.zone_proto.specs.declared.rr_key.RrKey.{RrKey}
 use Rattle.zone_proto.specs.Keys.{key, key_cmp}
 use Rattle.zone_proto.specs.Names.{Name, name_cmp, is_above, is_at_or_above, IsAbove}
@@ -23,7 +24,7 @@ use Rattle.zone_map.specs.Zones.{Sets, owners, owns}
 use Rattle.zone_map.proofs.Lists.{then_upto}
 use Rattle.zone_map.proofs.Owned.{entry_owned, has_entry}
 use Rattle.zone_denial.specs.Authority.{owns_besides, is_authoritative}
-use Rattle.zone_denial.specs.AuthoritativeKeys.{is_circle_key, authoritative_keys}
+use Rattle.zone_denial.specs.AuthoritativeKeys.{is_circle_key, authoritative_keys, cut_kept}
 use Rattle.zone_denial.proofs.AuthoritativeNames.{besides_from}
 use Rattle.zone_denial.proofs.Ascending.{Ascends, Ascends-from_sorted}
 use Rattle.zone_denial.proofs.ReadBack.{filter_same}
@@ -34,7 +35,7 @@ below cut n = option_map_or (λ a. is_above a n) cut false
 
 -- the cut once a key was passed, and whether the key counts
 abbrev pub next_cut : Name → Option Name → RrKey → Option Name
-next_cut origin cut k = cond (below cut k.name) cut (cond ((k.record_type.0 == NS) && is_above origin k.name) (Some k.name) cut)
+next_cut origin cut k = cond (below cut k.name) cut (cond ((k.record_type.0 == NS) && is_above origin k.name) (Some k.name) (cut_kept cut k.name))
 
 abbrev pub counts : Name → ℕ → Option Name → RrKey → Bool
 counts origin denial cut k = not (below cut k.name) && (not (k.record_type.0 == denial) && is_at_or_above origin k.name)
@@ -98,6 +99,18 @@ below_later a b n h k apart below =
     by (inl e) = ap (λ x. is_above x n) (sym e) ∙ below
     by (inr v) = absurd (true≢false (sym ((above_test a b).1 v) ∙ apart))
 
+-- nothing is below a cut that follows a name which comes after the cut and isn't below it
+none_below_later : (a b n : Name) → is_upto name_cmp a b ≡ true → is_upto name_cmp b n ≡ true → is_above a b ≡ false → eq_by_cmp name_cmp a b ≡ false → is_above a n ≡ false
+none_below_later a b n h k apart differ = at (is_above a n) refl
+  where
+    never : (a ≡ b) ⊎ IsAbove a b → ⊥
+    never (inl e) = true≢false (sym (ap is_eq (tied_itself name_order.total a)) ∙ ap (eq_by_cmp name_cmp a) e ∙ differ)
+    never (inr v) = true≢false (sym ((above_test a b).1 v) ∙ apart)
+
+    at : (c : Bool) → is_above a n ≡ c → c ≡ false
+    at true below = let w = (above_test a n).0 below in absurd (never (above_cases a b (together a b n h k (w.0 ∷ w.1, w.2))))
+    at false below = refl
+
 -- a cut stands at or before a name
 abbrev Upto : Option Name → Name → Type 0
 Upto None n = Unit {0}
@@ -121,7 +134,11 @@ module _ (origin : Name) where
       by false = refl
   carried (Some a) k n before after = by (is_above a k.name) refl ((k.record_type.0 == NS) && is_above origin k.name)
     where
-      by : (c : Bool) → is_above a k.name ≡ c → (b : Bool) → is_above a n || (b && is_above k.name n) ≡ below (cond c (Some a) (cond b (Some k.name) (Some a))) n
+      left : is_above a k.name ≡ false → (d : Bool) → eq_by_cmp name_cmp a k.name ≡ d → is_above a n || false ≡ below (cond d (Some a) None) n
+      left e true q = or_false (is_above a n)
+      left e false q = or_false (is_above a n) ∙ none_below_later a k.name n before after e q
+
+      by : (c : Bool) → is_above a k.name ≡ c → (b : Bool) → is_above a n || (b && is_above k.name n) ≡ below (cond c (Some a) (cond b (Some k.name) (cut_kept (Some a) k.name))) n
       by true e true = both_ways (is_above a n || is_above k.name n) (is_above a n) (λ h. split h) (λ h. ap (λ x. x || is_above k.name n) h)
         where
           split : is_above a n || is_above k.name n ≡ true → is_above a n ≡ true
@@ -139,15 +156,23 @@ module _ (origin : Name) where
 
           later : is_above k.name n ≡ true → is_above a n || is_above k.name n ≡ true
           later h = or_right (is_above a n) (is_above k.name n) h
-      by false e false = or_false (is_above a n)
+      by false e false = left e (eq_by_cmp name_cmp a k.name) refl
 
   upto_next : (cut : Option Name) (k : RrKey) (n : Name) → Upto cut n → is_upto name_cmp k.name n ≡ true → Upto (next_cut origin cut k) n
   upto_next cut k n h after = by (below cut k.name) ((k.record_type.0 == NS) && is_above origin k.name)
     where
-      by : (c b : Bool) → Upto (cond c cut (cond b (Some k.name) cut)) n
+      left : (o : Option Name) → Upto o n → Upto (cut_kept o k.name) n
+      left None u = tt
+      left (Some a) u = at (eq_by_cmp name_cmp a k.name)
+        where
+          at : (d : Bool) → Upto (cond d (Some a) None) n
+          at true = u
+          at false = tt
+
+      by : (c b : Bool) → Upto (cond c cut (cond b (Some k.name) (cut_kept cut k.name))) n
       by true b = h
       by false true = after
-      by false false = h
+      by false false = left cut h
 
   -- whether a key counts, given the cut and the keys that follow it
   abbrev chosen : ℕ → Option Name → List RrKey → RrKey → Bool
@@ -239,17 +264,15 @@ module _ (origin : Name) (denial : ℕ) (cut : Option Name) (made all : List RrK
   passed_over h =
       let later = kept origin denial cut (keys_of after) in
       let test = not (e.0.record_type.0 == denial) && is_at_or_above origin e.0.name in
-      let new = cond ((e.0.record_type.0 == NS) && is_above origin e.0.name) (Some e.0.name) cut in
+      let new = cond ((e.0.record_type.0 == NS) && is_above origin e.0.name) (Some e.0.name) (cut_kept cut e.0.name) in
       let step : kept origin denial cut (keys_of (e ∷ after)) ≡ later =
       λ i. cond (not (h i) && test) (e.0 ∷ kept origin denial (cond (h i) cut new) (keys_of after)) (kept origin denial (cond (h i) cut new) (keys_of after)) in
       ap (λ ks. made ++ ks) (sym step) ∙ ap (λ (es : Sets). made ++ kept origin denial cut (keys_of es)) (sym is) ∙ so_far
 
   -- any other may be a cut, and may count
-  module _ (apart : below cut e.0.name ≡ false) (b : Bool) (is_cut : b ≡ (e.0.record_type.0 == NS) && is_above origin e.0.name) (new : Option Name) (new_is : new ≡ cond b (Some e.0.name) cut) where
+  module _ (apart : below cut e.0.name ≡ false) (new : Option Name) (new_is : new ≡ cond ((e.0.record_type.0 == NS) && is_above origin e.0.name) (Some e.0.name) (cut_kept cut e.0.name)) where
     renewed : next_cut origin cut e.0 ≡ new
-    renewed =
-        ap (λ c. cond c cut (cond ((e.0.record_type.0 == NS) && is_above origin e.0.name) (Some e.0.name) cut)) apart
-        ∙ sym (new_is ∙ ap (λ c. cond c (Some e.0.name) cut) is_cut)
+    renewed = ap (λ c. cond c cut (cond ((e.0.record_type.0 == NS) && is_above origin e.0.name) (Some e.0.name) (cut_kept cut e.0.name))) apart ∙ sym new_is
 
     step : kept origin denial cut (keys_of rest) ≡ cond (not (e.0.record_type.0 == denial) && is_at_or_above origin e.0.name) (e.0 ∷ kept origin denial new (keys_of after)) (kept origin denial new (keys_of after))
     unfolding kept

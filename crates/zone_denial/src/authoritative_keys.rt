@@ -1,10 +1,10 @@
 //! The keys of the sets that the names of a circle own, found in one pass over the zone.
-ghost use Rattle.std.specs.Prelude.{◌≡◌, ◌==◌, ◌&&◌, not, false, map, IfOk, OnOk, IsOkUnless};
+ghost use Rattle.std.specs.Prelude.{◌≡◌, ◌==◌, ◌&&◌, not, cond, false, map, option_map, Some, IfOk, OnOk, IsOkUnless};
 ghost use Rattle.std.specs.Option.{option_map_or};
 ghost use Rattle.zone_proto.specs.Names.{is_above, is_at_or_above};
 ghost use Rattle.zone_proto.specs.Types.{NS};
 ghost use Rattle.zone_map.specs.Zones.{IsZone};
-ghost use Rattle.zone_denial.specs.AuthoritativeKeys.{authoritative_keys};
+ghost use Rattle.zone_denial.specs.AuthoritativeKeys.{authoritative_keys, cut_kept};
 
 use zone_map::RecordMap;
 use zone_proto::{LowerName, ProtoError, RecordType, RrKey};
@@ -21,20 +21,37 @@ pub(crate) fn authoritative_keys<'a>(
     ensures err { IsOkUnless result ProtoError.Memory }
 {
     let mut keys = Vec::with_capacity(origin.alloc(), records.len())?;
-    // The names below a zone cut stand together after it, so the last cut that has none above it tells of all that follow.
+    // The names below a zone cut stand together after it, so the last cut that has none above it tells of all that follow, until
+    // another name comes.
     let mut cut = None;
     for (key, _) in records.iter() {
         if is_below(cut, &key.name) {
             continue;
         }
-        if is_cut(origin, key) {
-            cut = Some(&key.name);
-        }
+        cut = next_cut(origin, cut, key);
         if is_listed(origin, denial, key) {
             keys.push(key)?;
         }
     }
     Ok(keys)
+}
+
+/// The zone cut that names after this key may stand below, where the key itself stands below none.
+fn next_cut<'a>(
+    origin: &LowerName,
+    cut: Option<&'a LowerName>,
+    key: &'a RrKey,
+) -> Option<&'a LowerName>
+    ensures { option_map (λ a. a.now) result
+        ≡ cond ((key.now.record_type.0 == NS) && is_above origin.now key.now.name) (Some key.now.name) (cut_kept (option_map (λ a. a.now) cut.entry) key.now.name) }
+{
+    if is_cut(origin, key) {
+        return Some(&key.name);
+    }
+    match cut {
+        Some(cut) if *cut == key.name => Some(cut),
+        _ => None,
+    }
 }
 
 /// Whether a key makes its name a zone cut: that of an NS set strictly below the origin (RFC 1034 section 4.2).

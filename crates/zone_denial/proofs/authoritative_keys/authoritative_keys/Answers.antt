@@ -7,7 +7,6 @@ use Rattle.zone_proto.specs.Names.{Name}
 use Rattle.zone_proto.specs.declared.rr_key.RrKey.{RrKey}
 use Rattle.zone_denial.proofs.CircleKeys.{kept, passed_over, counted, uncounted, kept_all, kept_is_authoritative, below_lent}
 use Rattle.zone_denial.proofs.authoritative_keys.authoritative_keys.Goals as goal
-use Rattle.zone_denial.proofs.authoritative_keys.authoritative_keys.Goals.{then-is_cut, else-is_cut}
 
 pub loop-key-preserved-then-is_below : goal.loop-key-preserved-then-is_below
 loop-key-preserved-then-is_below c =
@@ -18,28 +17,20 @@ loop-key-preserved-then-is_below c =
 pub loop-key-preserved-in-Continue-branch-2 : goal.loop-key-preserved-in-Continue-branch-2
 loop-key-preserved-in-Continue-branch-2 c =
     let old = option_map (λ a. a.now) c.loop-key.cut in
-    let new = option_map (λ a. a.now) c.if-is_cut.cut in
-    let new_is : new ≡ cond c.is_cut.result (Some c.in-Some.key.now.name) old = elim c.if-is_cut.branch [
-      | then-is_cut w ↦ ap (option_map (λ (a : Bor Name). a.now)) w.cut-is ∙ sym (ap (λ b. cond b (Some c.in-Some.key.now.name) old) w.if-is_cut.true)
-      | else-is_cut w ↦ ap (option_map (λ (a : Bor Name). a.now)) w.cut-is ∙ sym (ap (λ b. cond b (Some c.in-Some.key.now.name) old) w.if-is_cut.false)
-    ] in
+    let new = option_map (λ a. a.now) c.next_cut-cut.result in
     ap (λ (ks : List (Bor RrKey)). map (λ k. k.now) ks ++ kept c.args.origin.now c.args.denial.0 new (keys_of c.next.new.self)) c.in_ok-push.ensures.items
     ∙ ap (λ ks. ks ++ kept c.args.origin.now c.args.denial.0 new (keys_of c.next.new.self)) (map-append (λ (k : Bor RrKey). k.now) c.loop-key.keys.items (c.in-Some.key ∷ []))
     ∙ counted c.args.origin.now c.args.denial.0 old (map (λ k. k.now) c.loop-key.keys.items) (kept c.args.origin.now c.args.denial.0 None (keys_of c.args.records.now)) c.loop-key.key-iterator c.next.new.self
     (c.in-Some.key.now, c.in-Some.field-0-1.now) c.in-Some.ensures.steps c.loop-key.invariant (sym (c.is_below.ensures ∙ below_lent c.loop-key.cut c.in-Some.key.now.name) ∙ c.if-is_below.false)
-    c.is_cut.result c.is_cut.ensures new new_is (sym c.is_listed.ensures ∙ c.if-is_listed.true)
+    new c.next_cut-cut.ensures (sym c.is_listed.ensures ∙ c.if-is_listed.true)
 
 pub loop-key-preserved : goal.loop-key-preserved
 loop-key-preserved c =
     let old = option_map (λ a. a.now) c.loop-key.cut in
-    let new = option_map (λ a. a.now) c.if-is_cut.cut in
-    let new_is : new ≡ cond c.is_cut.result (Some c.in-Some.key.now.name) old = elim c.if-is_cut.branch [
-      | then-is_cut w ↦ ap (option_map (λ (a : Bor Name). a.now)) w.cut-is ∙ sym (ap (λ b. cond b (Some c.in-Some.key.now.name) old) w.if-is_cut.true)
-      | else-is_cut w ↦ ap (option_map (λ (a : Bor Name). a.now)) w.cut-is ∙ sym (ap (λ b. cond b (Some c.in-Some.key.now.name) old) w.if-is_cut.false)
-    ] in
+    let new = option_map (λ a. a.now) c.next_cut-cut.result in
     uncounted c.args.origin.now c.args.denial.0 old (map (λ k. k.now) c.loop-key.keys.items) (kept c.args.origin.now c.args.denial.0 None (keys_of c.args.records.now)) c.loop-key.key-iterator c.next.new.self
     (c.in-Some.key.now, c.in-Some.field-0-1.now) c.in-Some.ensures.steps c.loop-key.invariant (sym (c.is_below.ensures ∙ below_lent c.loop-key.cut c.in-Some.key.now.name) ∙ c.if-is_below.false)
-    c.is_cut.result c.is_cut.ensures new new_is (sym c.is_listed.ensures ∙ c.if-is_listed.false)
+    new c.next_cut-cut.ensures (sym c.is_listed.ensures ∙ c.if-is_listed.false)
 
 pub returns-clause-ok : goal.returns-clause-ok
 returns-clause-ok c =
