@@ -37,12 +37,12 @@ impl<'a> Nsec3Name<'a> {
     }
 
     /// A name that owns something, or the origin.
-    fn lent(name: &'a LowerName, types: Vec<RecordType>) -> Nsec3Name<'a>
-        ensures { node_of result ≡ (name.now, map (λ t. t.0) types.items) }
+    fn lent(name: &'a LowerName, types: Seq<RecordType>) -> Nsec3Name<'a>
+        ensures { node_of result ≡ (name.now, map (λ t. t.0) types) }
     {
         Nsec3Name {
             name: NodeName::Lent(name),
-            types: Seq::from_vec(types),
+            types,
         }
     }
 
@@ -74,8 +74,9 @@ pub(crate) fn nsec3_names<'a>(
     let keys = authoritative_keys(records, origin, RecordType::NSEC3)?;
     let keys = keys.as_slice();
     let mut names = Vec::new(alloc);
+    let mut room = Vec::new(alloc);
     let mut start = count_of_name(keys, origin);
-    let types = type_list(alloc, &keys[..start], RecordType::NSEC3PARAM)?;
+    let types = type_list(&mut room, &keys[..start], RecordType::NSEC3PARAM)?;
     names.push(Nsec3Name::lent(origin, types))?;
     let mut last = origin;
     while start < keys.len() {
@@ -87,7 +88,7 @@ pub(crate) fn nsec3_names<'a>(
             continue;
         }
         push_new_ancestors(&mut names, last, &first.name)?;
-        names.push(Nsec3Name::lent(&first.name, signed_types(alloc, own)?))?;
+        names.push(Nsec3Name::lent(&first.name, signed_types(&mut room, own)?))?;
         last = &first.name;
     }
     Ok(names)

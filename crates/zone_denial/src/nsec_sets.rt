@@ -56,11 +56,12 @@ fn nsec_entries(
 {
     let alloc = origin.alloc();
     let mut entries = Vec::new(alloc);
+    let mut room = Vec::new(alloc);
     let mut start = 0;
     while start < keys.len() {
         let first = keys[start];
         let end = start + count_of_name(&keys[start..], &first.name);
-        let types = type_list(alloc, &keys[start..end], RecordType::NSEC)?;
+        let types = type_list(&mut room, &keys[start..end], RecordType::NSEC)?;
         let next = first_name(&keys[end..], origin);
         entries.push(nsec_entry(&first.name, next, types, ttl, serial)?)?;
         start = end;
@@ -82,17 +83,17 @@ pub(crate) fn first_name<'a>(keys: &[&'a RrKey], origin: &'a LowerName) -> &'a L
 fn nsec_entry(
     name: &LowerName,
     next: &LowerName,
-    types: Vec<RecordType>,
+    types: Seq<RecordType>,
     ttl: u32,
     serial: u32,
 ) -> Result<(RrKey, RecordSet), ProtoError>
     ensures ok { IfOk result (λ e. e
-        ≡ (key_at name.now nsec_type, new_set ttl serial name.now (nsec_data next.now (map (λ t. t.0) «types».items)))) }
+        ≡ (key_at name.now nsec_type, new_set ttl serial name.now (nsec_data next.now (map (λ t. t.0) «types»)))) }
     ensures err { IsOkUnless result ProtoError.Memory }
 {
     let data = NSEC {
         next_domain_name: Name::from(next.clone()?),
-        types: Seq::from_vec(types),
+        types,
     };
     let record = Record::from_rdata(Name::from(name.clone()?), ttl, RData::NSEC(data));
     let mut set = RecordSet::new(Name::from(name.clone()?), RecordType::NSEC, serial);

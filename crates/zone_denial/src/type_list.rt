@@ -5,36 +5,47 @@ ghost use Rattle.std.specs.Ordering.{nat_cmp};
 ghost use Rattle.zone_proto.specs.Types.{RRSIG};
 ghost use Rattle.zone_denial.specs.TypeLists.{joined};
 
-use std::alloc::Global;
-use zone_proto::{ProtoError, RecordType, RrKey};
+use zone_proto::{ProtoError, RecordType, RrKey, Seq};
 
-/// The types of keys that ascend, RRSIG and one more, each once (RFC 4034 section 4.1.2). Refused by `Memory` alone.
+/// The types of keys that ascend, RRSIG and one more, each once (RFC 4034 section 4.1.2). They are put together in `room`, of
+/// which nothing is left: so lists that are made one after the other take no memory each. Refused by `Memory` alone.
 pub(crate) fn type_list(
-    alloc: Global,
+    room: &mut Vec<RecordType>,
     keys: &[&RrKey],
     more: RecordType,
-) -> Result<Vec<RecordType>, ProtoError>
-    ensures ok { IfOk result (λ types. map (λ t. t.0) types.items
+) -> Result<Seq<RecordType>, ProtoError>
+    ensures ok { IfOk result (λ types. map (λ t. t.0) types
         ≡ joined nat_cmp more.0 (joined nat_cmp RRSIG (map (λ k. k.now.record_type.0) keys.now))) }
     ensures err { IsOkUnless result ProtoError.Memory }
 {
-    let mut types = signed_types(alloc, keys)?;
-    join(&mut types, more)?;
-    Ok(types)
+    fill_signed(room, keys)?;
+    join(room, more)?;
+    Seq::from_slice(*room.allocator(), room.as_slice())
 }
 
-/// The types of keys that ascend, and RRSIG, each once. Refused by `Memory` alone.
-pub(crate) fn signed_types(alloc: Global, keys: &[&RrKey]) -> Result<Vec<RecordType>, ProtoError>
-    ensures ok { IfOk result (λ types. map (λ t. t.0) types.items
+/// The types of keys that ascend, and RRSIG, each once, put together in the same way. Refused by `Memory` alone.
+pub(crate) fn signed_types(
+    room: &mut Vec<RecordType>,
+    keys: &[&RrKey],
+) -> Result<Seq<RecordType>, ProtoError>
+    ensures ok { IfOk result (λ types. map (λ t. t.0) types
         ≡ joined nat_cmp RRSIG (map (λ k. k.now.record_type.0) keys.now)) }
     ensures err { IsOkUnless result ProtoError.Memory }
 {
-    let mut types = Vec::with_capacity(alloc, keys.len().saturating_add(2))?;
+    fill_signed(room, keys)?;
+    Seq::from_slice(*room.allocator(), room.as_slice())
+}
+
+/// Puts the types of keys that ascend, and RRSIG, each once, in the place of what a list has. Refused by `Memory` alone.
+fn fill_signed(types: &mut Vec<RecordType>, keys: &[&RrKey]) -> Result<(), ProtoError>
+    ensures ok { OnOk result (map (λ t. t.0) types.new.items ≡ joined nat_cmp RRSIG (map (λ k. k.now.record_type.0) keys.now)) }
+    ensures err { IsOkUnless result ProtoError.Memory }
+{
+    types.clear();
     for key in keys {
         types.push(key.record_type)?;
     }
-    join(&mut types, RecordType::RRSIG)?;
-    Ok(types)
+    join(types, RecordType::RRSIG)
 }
 
 /// Puts a type into an ascending list, unless it is there.

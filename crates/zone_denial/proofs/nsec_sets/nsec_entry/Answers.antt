@@ -22,9 +22,9 @@ returns-clause-ok c =
     let owner = c.from-2.ensures ∙ c.in_ok-clone-2.ensures.ok in
     let other = c.from-3.ensures ∙ c.in_ok-clone-3.ensures.ok in
     let next = c.from.ensures ∙ c.in_ok-clone.ensures.ok in
-    let listed = c.from_vec.ensures ∙ of_numbers c.args.types.items in
+    let listed = of_numbers c.args.types in
     let empty : c.new-set.result ≡ empty_set c.args.name.now NSEC c.args.serial = c.new-set.ensures ∙ (λ i. empty_set (other i) NSEC c.args.serial) in
-    let one : c.from_rdata-record.result ≡ record { name = c.args.name.now; dns_class = record { 0 = IN }; ttl = c.args.ttl; rdata = V.NSEC (nsec_data c.args.next.now (numbers c.args.types.items)) } =
+    let one : c.from_rdata-record.result ≡ record { name = c.args.name.now; dns_class = record { 0 = IN }; ttl = c.args.ttl; rdata = V.NSEC (nsec_data c.args.next.now (numbers c.args.types)) } =
     c.from_rdata-record.ensures
     ∙ (λ i. record { name = owner i; dns_class = record { 0 = IN }; ttl = c.args.ttl; rdata = V.NSEC (record { next_domain_name = next i; types = listed i }) }) in
     let own_key = c.new.ensures.value ∙ ap (λ n. key n NSEC) c.in_ok-clone-4.ensures.ok in

@@ -1,5 +1,5 @@
 use Rattle.std.proofs.Common.{◌≡◌, map, take}
-use Rattle.zone_denial.proofs.type_list.signed_types.Given as goal
+use Rattle.zone_denial.proofs.type_list.fill_signed.Given as goal
 
 -- the list has the types of the keys passed
 abbrev pub invariant-loop-key : goal.invariant-loop-key
