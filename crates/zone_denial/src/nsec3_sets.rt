@@ -3,6 +3,7 @@ ghost use Rattle.std.specs.Prelude.{◌≡◌, ◌↔◌, ◌⊎◌, ◌<◌, �
 ghost use Rattle.std.specs.List.{AllByRecursion};
 ghost use Rattle.std.specs.List.Sorted.{IsStrictlySortedBy};
 ghost use Rattle.std.specs.Option.{IfNone};
+ghost use Rattle.zone_proto.specs.declared.rdata.RData.TheVariants as variant;
 ghost use Rattle.zone_proto.specs.HashedOwners.{hashed_owner};
 ghost use Rattle.zone_proto.specs.Data.{type_of};
 ghost use Rattle.zone_proto.specs.Keys.{key as key_at};
@@ -10,7 +11,7 @@ ghost use Rattle.zone_proto.specs.Names.{Name, lower, name_eq};
 ghost use Rattle.zone_proto.specs.Ranges.{IsOctet};
 ghost use Rattle.zone_proto.specs.Results.{IsCopy, TellsFaultOrMemory};
 ghost use Rattle.zone_proto.specs.Sets.{empty_set};
-ghost use Rattle.zone_proto.specs.Types.{NSEC3 as nsec3_type, NSEC3PARAM as nsec3param_type};
+ghost use Rattle.zone_proto.specs.Types.{IN, NSEC3 as nsec3_type, NSEC3PARAM as nsec3param_type};
 ghost use Rattle.zone_map.specs.Standing.{standing_at};
 ghost use Rattle.zone_map.specs.Zones.{set_at, IsStoredAt};
 ghost use Rattle.zone_denial.specs.Covering.{next_around};
@@ -307,7 +308,21 @@ fn announced(
     // Its clauses say that the origin is in lower case.
     let _ = origin.labels();
     let key = RrKey::new(origin.clone()?, RecordType::NSEC3PARAM);
-    let data = RData::NSEC3PARAM(parameters.clone()?);
-    let record = Record::from_rdata(Name::from(origin.clone()?), ttl, data);
+    let record = announcement(origin, parameters, ttl)?;
     entry_with(records.get(&key), record, serial)
+}
+
+/// The record that announces the parameters, which stands at the origin (RFC 5155 section 4). Refused by `Memory` alone.
+pub(crate) fn announcement(
+    origin: &LowerName,
+    parameters: &NSEC3PARAM,
+    ttl: u32,
+) -> Result<Record, ProtoError>
+    ensures ok { IfOk result (λ r. r
+        ≡ record { name = origin.now; dns_class = record { 0 = IN }; ttl = ttl; rdata = variant.NSEC3PARAM parameters.now }) }
+    ensures err { IsOkUnless result ProtoError.Memory }
+{
+    let data = RData::NSEC3PARAM(parameters.clone()?);
+    let name = Name::from(origin.clone()?);
+    Ok(Record::from_rdata(name, ttl, data))
 }

@@ -15,7 +15,7 @@ ghost use Rattle.zone_denial.specs.Nsec3Sets.{hashed_cmp, announced_set};
 ghost use Rattle.zone_denial.specs.OneRecordSets.{one_record_set};
 
 use crate::hashed_names::HashedName;
-use crate::nsec3_sets::{hashed_owner, next_name, octets_fit};
+use crate::nsec3_sets::{announcement, hashed_owner, next_name, octets_fit};
 use crate::only_data::only_data;
 use zone_map::RecordMap;
 use zone_proto::{
@@ -161,8 +161,8 @@ pub(crate) fn is_announced(
     let Some(set) = records.get(&key) else {
         return Ok(false);
     };
-    let data = RData::NSEC3PARAM(parameters.clone()?);
-    let record = Record::from_rdata(Name::from(origin.clone()?), ttl, data);
+    let record = announcement(origin, parameters, ttl)?;
     let mut copy = set.clone()?;
-    Ok(!copy.insert(record, serial)?)
+    let is_taken = copy.insert(record, serial)?;
+    Ok(!is_taken)
 }

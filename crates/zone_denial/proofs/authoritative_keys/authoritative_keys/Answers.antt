@@ -1,9 +1,8 @@
-use Rattle.std.proofs.Common.{◌≡◌, [], ◌∷◌, ◌++◌, List, cond, map, sym, ap, ◌∙◌}
-use Rattle.std.specs.Prelude.{Some, None, option_map}
+use Rattle.std.proofs.Common.{[], ◌∷◌, ◌++◌, List, map, sym, ap, ◌∙◌}
+use Rattle.std.specs.Prelude.{None, option_map}
 use Rattle.std.specs.Borrow.{Bor}
 use Rattle.std.specs.Map.{keys_of}
 use Rattle.std.proofs.lemmas.List.{map-append}
-use Rattle.zone_proto.specs.Names.{Name}
 use Rattle.zone_proto.specs.declared.rr_key.RrKey.{RrKey}
 use Rattle.zone_denial.proofs.CircleKeys.{kept, passed_over, counted, uncounted, kept_all, kept_is_authoritative, below_lent}
 use Rattle.zone_denial.proofs.authoritative_keys.authoritative_keys.Goals as goal

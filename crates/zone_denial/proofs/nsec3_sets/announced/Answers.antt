@@ -1,28 +1,21 @@
-use Rattle.std.proofs.Common.{◌≡◌, ℕ, sym, ap, ◌∙◌, subst}
+use Rattle.std.proofs.Common.{ℕ, sym, ap, ◌∙◌, subst}
 use Rattle.std.specs.Prelude.{None, IfSome}
 use Rattle.std.proofs.lemmas.Result.{IfOk-weaker}
-use Rattle.zone_proto.specs.declared.rdata.RData.TheVariants as V
-use Rattle.zone_proto.specs.declared.rdata.denial.NSEC3PARAM.{NSEC3PARAM as Nsec3Parameters}
 use Rattle.zone_proto.specs.declared.record.Record.{Record}
 use Rattle.zone_proto.specs.declared.rr_key.RrKey.{RrKey}
 use Rattle.zone_proto.specs.Data.{type_of}
 use Rattle.zone_proto.specs.Keys.{key}
 use Rattle.zone_proto.specs.Names.{Name, lower}
-use Rattle.zone_proto.specs.Types.{IN, NSEC3PARAM}
-use Rattle.zone_map.specs.Zones.{Sets, IsStoredAt, set_at}
-use Rattle.zone_denial.specs.Nsec3Sets.{made_record, announced_set}
+use Rattle.zone_proto.specs.Types.{NSEC3PARAM}
+use Rattle.zone_map.specs.Zones.{IsStoredAt, set_at}
+use Rattle.zone_denial.specs.Nsec3Sets.{announced_set}
 use Rattle.zone_denial.proofs.TakenRecords.{set_taking}
 use Rattle.zone_denial.proofs.nsec3_sets.announced.Goals as goal
-
-made_of : (m : Sets) (origin : Name) (parameters : Nsec3Parameters) (ttl serial : ℕ) (r : Record) (n : Name) (p : Nsec3Parameters)
-    → r ≡ record { name = n; dns_class = record { 0 = IN }; ttl = ttl; rdata = V.NSEC3PARAM p } → n ≡ origin → p ≡ parameters
-    → r ≡ made_record origin m (λ _. None) parameters ttl serial origin (V.NSEC3PARAM parameters)
-made_of m origin parameters ttl serial r n p is named told = is ∙ (λ i. record { name = named i; dns_class = record { 0 = IN }; ttl = ttl; rdata = V.NSEC3PARAM (told i) })
 
 pub entry_with-requires : goal.entry_with-requires
 entry_with-requires c =
     let origin = c.args.origin.now in
-    let made = made_of c.args.records.now origin c.args.parameters.now c.args.ttl c.args.serial c.from_rdata-record.result c.from.result c.in_ok-clone-2.field-0 c.from_rdata-record.ensures (c.from.ensures ∙ c.in_ok-clone-3.ensures.ok) c.in_ok-clone-2.ensures.ok in
+    let made = c.in_ok-record.ensures.ok in
     let own = c.new-key.ensures.value ∙ ap (λ (n : Name). key n NSEC3PARAM) c.in_ok-clone.ensures.ok in
     let named = ap (λ (k : RrKey). k.name) own ∙ sym (ap (λ (x : Record). lower x.name) made ∙ c.labels.ensures.valid.lower) in
     let typed = ap (λ (k : RrKey). k.record_type.0) own ∙ sym (ap (λ (x : Record). type_of x.rdata) made) in
@@ -31,7 +24,7 @@ entry_with-requires c =
 pub returns-clause-ok : goal.returns-clause-ok
 returns-clause-ok c =
     let origin = c.args.origin.now in
-    let made = made_of c.args.records.now origin c.args.parameters.now c.args.ttl c.args.serial c.from_rdata-record.result c.from.result c.in_ok-clone-2.field-0 c.from_rdata-record.ensures (c.from.ensures ∙ c.in_ok-clone-3.ensures.ok) c.in_ok-clone-2.ensures.ok in
+    let made = c.in_ok-record.ensures.ok in
     let own = c.new-key.ensures.value ∙ ap (λ (n : Name). key n NSEC3PARAM) c.in_ok-clone.ensures.ok in
     let found = c.get.ensures.found ∙ ap (λ (k : RrKey). set_at c.args.records.now k.name k.record_type.0) own in
     IfOk-weaker c.entry_with.result _ _

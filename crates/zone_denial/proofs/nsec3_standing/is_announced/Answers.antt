@@ -7,6 +7,6 @@ use Rattle.zone_denial.proofs.nsec3_standing.is_announced.Goals as goal
 
 pub insert-requires-clause-owner : goal.insert-requires-clause-owner
 insert-requires-clause-owner c =
-    let owner : c.from_rdata-record.result.name ≡ c.args.origin.now = ap (λ (r : Record). r.name) c.from_rdata-record.ensures ∙ c.from.ensures ∙ c.in_ok-clone-3.ensures.ok in
+    let owner : c.in_ok-record.record.name ≡ c.args.origin.now = ap (λ (r : Record). r.name) c.in_ok-record.ensures.ok in
     let stood : lower c.in_ok-copy.copy.owner ≡ c.args.origin.now = ap (λ (s : RRset). lower s.owner) c.in_ok-copy.ensures.ok ∙ c.in-Some.ensures.stored.owner ∙ search rules in
-    same_from_lower c.from_rdata-record.result.name c.in_ok-copy.copy.owner (ap lower owner ∙ c.labels.ensures.valid.lower ∙ sym stood)
+    same_from_lower c.in_ok-record.record.name c.in_ok-copy.copy.owner (ap lower owner ∙ c.labels.ensures.valid.lower ∙ sym stood)
