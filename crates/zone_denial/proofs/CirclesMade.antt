@@ -27,14 +27,14 @@ use Rattle.zone_proto.specs.Sets.{RRset}
 use Rattle.zone_proto.specs.Types.{NSEC3, NSEC3PARAM}
 use Rattle.zone_proto.proofs.Base32Facts.{lower_text}
 use Rattle.zone_proto.proofs.KeyOrder.{key_same, key_itself}
-use Rattle.zone_proto.proofs.Members.{In, In-Contains, Contains-In, In-map, In-from_append, and_left, and_right}
+use Rattle.zone_proto.proofs.Members.{In, In-Contains, Contains-In, In-map, In-append_left, In-append_right, In-from_append, and_left, and_right}
 use Rattle.zone_proto.proofs.NameTree.{name_eq-Decides}
 use Rattle.zone_proto.proofs.Orders.{irrefl}
 use Rattle.zone_map.specs.Zones.{Sets, last_at, IsStoredAt, AreStored}
 use Rattle.zone_denial.specs.declared.hashed_names.HashedName.{HashedName as HeldName}
 use Rattle.zone_denial.specs.Covering.{next_around}
 use Rattle.zone_denial.specs.HashedNames.{hashed, all_fit, linked_record, circle_record, circle_records, circle_set_at}
-use Rattle.zone_denial.specs.RepeatedDigests.{RepeatsDigest}
+use Rattle.zone_denial.specs.RepeatedDigests.{RepeatsDigest, IsPutBehind}
 use Rattle.zone_denial.specs.Nsec3Sets.{HashedName, hashed_cmp, set_of}
 use Rattle.zone_denial.proofs.Ascending.{Ascends, Ascends-front, Ascends-apart, Ascends-from_sorted}
 use Rattle.zone_denial.proofs.Nsec3Owners.{octets_order}
@@ -76,6 +76,14 @@ last_get xs x =
 -- the set of the last entry
 abbrev last_set : Sets → Option RRset
 last_set es = option_map (λ (e : RrKey × RRset). e.1) (slice_get es (length es - 1))
+
+pub ends_is : {A : Type 0} (x : A) (xs : List A) → slice_get xs (length xs - 1) ≡ Some x → (ys : List A) × (xs ≡ ys ++ x ∷ [])
+ends_is x [] e = absurd cc
+ends_is x (y ∷ []) e = ([], cc)
+ends_is x (y ∷ z ∷ xs) e =
+    let place : length (y ∷ z ∷ xs) - 1 ≡ suc (length (z ∷ xs) - 1) = omega arith in
+    let r = ends_is x (z ∷ xs) (ap (slice_get (y ∷ z ∷ xs)) (sym place) ∙ e) in
+    (y ∷ r.0, ap (λ ys. y ∷ ys) r.1)
 
 all_from_in : {A : Type 0} (P : A → Type 0) (xs : List A) → ((x : A) → In x xs → P x) → All P xs
 all_from_in P xs h = λ k d lt. h (get_or xs k d) (Contains-In (get_or xs k d) xs (Contains-get_or xs k d lt))
@@ -378,6 +386,47 @@ module _ (origin : Name) (parameters : Nsec3Parameters) (ttl serial : ℕ) (all 
       let stored = subst (λ (x : RrKey × RRset). IsStoredAt x.0.name x.0.record_type.0 x.1) own there in
       subst (λ front. CircleSoFar front (es ++ e ∷ [])) (sym (take-suc all i h lt ∙ ap (λ k. take i all ++ k ∷ []) (sym is)))
       (subst (λ (x : RrKey × RRset). CircleSoFar (take i all ++ h ∷ []) (es ++ x ∷ [])) (sym own) (CircleSoFar-one (take i all) h es so_far none fits stored))
+
+  -- the same where the entry comes in the place of the last one, which has its key
+  module _ (front : List HeldName) (others : Sets) (s : RRset) (e : RrKey × RRset) (so_far : CircleSoFar front ((others ++ (e.0, s) ∷ []) ++ e ∷ [])) where
+    found_once : (n : Name) (t : ℕ) → last_at ((others ++ (e.0, s) ∷ []) ++ e ∷ []) n t ≡ last_at (others ++ e ∷ []) n t
+    found_once n t =
+        last_at-more (others ++ (e.0, s) ∷ []) e.0.name e.0.record_type.0 e.1 n t
+        ∙ ap (cond here (Some e.1)) (last_at-more others e.0.name e.0.record_type.0 s n t)
+        ∙ by here
+        ∙ sym (last_at-more others e.0.name e.0.record_type.0 e.1 n t)
+      where
+        here : Bool
+        here = (t == e.0.record_type.0) && name_eq n e.0.name
+
+        by : (b : Bool) → cond b (Some e.1) (cond b (Some s) (last_at others n t)) ≡ cond b (Some e.1) (last_at others n t)
+        by true = refl
+        by false = refl
+
+    there : (x : RrKey × RRset) → In x others ⊎ In x (e ∷ []) → In x ((others ++ (e.0, s) ∷ []) ++ e ∷ [])
+    there x (inl i) = In-append_left x (others ++ (e.0, s) ∷ []) (e ∷ []) (In-append_left x others ((e.0, s) ∷ []) i)
+    there x (inr i) = In-append_right x (others ++ (e.0, s) ∷ []) (e ∷ []) i
+
+    kept_stored : (x : RrKey × RRset) → In x (others ++ e ∷ []) → IsStoredAt x.0.name x.0.record_type.0 x.1
+    kept_stored x i =
+        let c = In-Contains x ((others ++ (e.0, s) ∷ []) ++ e ∷ []) (there x (In-from_append x others (e ∷ []) i)) in
+        subst (λ (y : RrKey × RRset). IsStoredAt y.0.name y.0.record_type.0 y.1) c.2 (so_far.stored c.0 x c.1)
+
+    in_place : CircleSoFar front (others ++ e ∷ [])
+    in_place =
+        record {
+          sets = λ n t. sym (found_once n t) ∙ so_far.sets n t;
+          stored = all_from_in (λ (x : RrKey × RRset). IsStoredAt x.0.name x.0.record_type.0 x.1) (others ++ e ∷ []) kept_stored;
+          fit = so_far.fit;
+          octets = so_far.octets;
+          last = λ before k q.
+              let l = so_far.last before k q in
+              (l.0, others, ap (λ (x : RrKey × RRset). others ++ x ∷ []) (last_same (others ++ (e.0, s) ∷ []) l.1 e (key (owner_of k) NSEC3, l.0) l.2));
+        }
+
+  pub CircleSoFar-behind : (front : List HeldName) (es after : Sets) (e : RrKey × RRset) → CircleSoFar front (es ++ e ∷ []) → IsPutBehind es e after → CircleSoFar front after
+  CircleSoFar-behind front es after e so_far (inl is) = subst (CircleSoFar front) (sym is) so_far
+  CircleSoFar-behind front es after e so_far (inr (others, s, was, is)) = subst (CircleSoFar front) (sym is) (in_place front others s e (subst (λ (x : Sets). CircleSoFar front (x ++ e ∷ [])) was so_far))
 
   -- the set that was found under its owner may take the record
   pub may_take : (h : HeldName) (es : Sets) (b : Option (Bor RRset)) (r : Record) → lower origin ≡ origin → r ≡ circle_record origin parameters ttl all h → AreStored es

@@ -16,7 +16,7 @@ ghost use Rattle.zone_map.specs.Standing.{standing_at};
 ghost use Rattle.zone_map.specs.Zones.{set_at, IsStoredAt};
 ghost use Rattle.zone_denial.specs.Covering.{next_around};
 ghost use Rattle.zone_denial.specs.HashedNames.{hashed, all_fit, linked_record, circle_set_at, circle_sets_at};
-ghost use Rattle.zone_denial.specs.RepeatedDigests.{RepeatsDigest};
+ghost use Rattle.zone_denial.specs.RepeatedDigests.{RepeatsDigest, EndsWith, IsPutBehind};
 ghost use Rattle.zone_denial.specs.Nsec3Nodes.{name_of, types_of};
 ghost use Rattle.zone_denial.specs.Nsec3Circle.{nsec3_types};
 ghost use Rattle.zone_denial.specs.Nsec3Names.{nsec3_names};
@@ -161,9 +161,35 @@ fn with_circle(
         let record = nsec3_record(&held[i], next_name(held, i), origin, parameters, ttl)?;
         let before = set_before(entries.as_slice(), held, i);
         let entry = entry_with(before, record, serial)?;
-        entries.push(entry)?;
+        put_behind(&mut entries, entry)?;
     }
     RecordMap::from_entries(origin.alloc(), entries)
+}
+
+/// Puts an entry behind others, in the place of the last one where that has its key. Refused by `Memory` alone.
+fn put_behind(
+    entries: &mut Vec<(RrKey, RecordSet)>,
+    entry: (RrKey, RecordSet),
+) -> Result<(), ProtoError>
+    ensures ok { OnOk result (IsPutBehind entries.old.items entry entries.new.items) }
+    ensures err { IsOkUnless result ProtoError.Memory }
+{
+    // Where many names have one digest, the sets that were taken over would take the more memory the more there are.
+    if ends_with(entries.as_slice(), &entry.0) {
+        let _ = entries.pop();
+    }
+    entries.push(entry)?;
+    Ok(())
+}
+
+/// Whether the last entry has this key.
+fn ends_with(entries: &[(RrKey, RecordSet)], key: &RrKey) -> bool
+    ensures { IsTrue result → EndsWith entries.now key.now }
+{
+    match entries.last() {
+        Some((last, _)) => last.same_as(key),
+        None => false,
+    }
 }
 
 /// Each octet of a digest is below 256, as each `u8` is.

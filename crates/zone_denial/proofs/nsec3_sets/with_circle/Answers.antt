@@ -15,7 +15,7 @@ use Rattle.zone_proto.proofs.Members.{In, Contains-In}
 use Rattle.zone_map.specs.Zones.{Sets}
 use Rattle.zone_denial.specs.declared.hashed_names.HashedName.{HashedName as HeldName}
 use Rattle.zone_denial.specs.HashedNames.{hashed, all_fit, circle_set_at}
-use Rattle.zone_denial.proofs.CirclesMade.{CircleSoFar, CircleSoFar-none, CircleSoFar-more, beside, read_fits, found_among, linked_on, may_take, none_fits}
+use Rattle.zone_denial.proofs.CirclesMade.{CircleSoFar, CircleSoFar-none, CircleSoFar-more, CircleSoFar-behind, beside, read_fits, found_among, linked_on, may_take, none_fits}
 use Rattle.zone_denial.proofs.nsec3_sets.with_circle.Goals as goal
 
 by_cause : (origin : Name) (hs : List HeldName) (h : HeldName) (e : ProtoError) → In h hs → (e ≡ Memory) ⊎ (fault_of (hashed_owner origin h.digest) ≡ Some e) → (e ≡ Memory) ⊎ (all_fit origin (map hashed hs) ≡ false)
@@ -74,8 +74,8 @@ loop-i-preserved c =
     let made = linked_on origin parameters ttl serial hs announced i h c.next_name.result.now r c.loop-i-test.true is c.next_name.ensures c.in_ok-record.ensures.ok in
     let e = c.in_ok-entry.entry in
     let more = CircleSoFar-more origin parameters ttl serial hs announced i h es e r (option_copied c.set_before-before.result) low made found c.in_ok-entry.ensures.ok c.in_ok-entry.ensures.stored c.loop-i-test.true is c.in_ok-record.ensures.refusal fits c.loop-i.invariant in
-    subst (λ (k : ℕ). CircleSoFar origin parameters ttl serial hs announced (take k hs) c.push-in-loop-i.new.self.items) (sym (add-one i))
-    (subst (CircleSoFar origin parameters ttl serial hs announced (take (suc i) hs)) (sym c.in_ok-push-2.ensures.items) more)
+    subst (λ (k : ℕ). CircleSoFar origin parameters ttl serial hs announced (take k hs) c.put_behind.new.entries.items) (sym (add-one i))
+    (CircleSoFar-behind origin parameters ttl serial hs announced (take (suc i) hs) es c.put_behind.new.entries.items e more c.in_ok-put_behind.ensures.ok)
 
 pub returns-clause-ok : goal.returns-clause-ok
 returns-clause-ok c =
