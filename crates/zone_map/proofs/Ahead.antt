@@ -54,7 +54,3 @@ pub still_ahead : (k : RrKey) (ks before after : List RrKey) (stands : RrKey →
     → ((q : RrKey) → key_cmp k q ≡ Less → list_any (key_eq q) after ≡ list_any (key_eq q) before) → AllByRecursion (λ q. list_any (key_eq q) after ≡ stands q) ks
 still_ahead k [] before after stands above seen later = tt
 still_ahead k (q ∷ ks) before after stands above seen later = (later q above.0 ∙ seen.0, still_ahead k ks before after stands above.1 seen.1 later)
-
-pub all_ahead : (ks before : List RrKey) (stands : RrKey → Bool) → ((q : RrKey) → list_any (key_eq q) before ≡ stands q) → AllByRecursion (λ q. list_any (key_eq q) before ≡ stands q) ks
-all_ahead [] before stands h = tt
-all_ahead (q ∷ ks) before stands h = (h q, all_ahead ks before stands h)

@@ -1,6 +1,6 @@
 -- The last owner of a type that isn't after a name stands in the last key that isn't after the name and the type, where that is of the type
-use Rattle.std.proofs.Common.{◌≡◌, ◌==◌, eqb-true, eq-eqb, ℕ, Bool, not, true, false, cond, List, [], ◌∷◌, ◌++◌, refl, sym, ap, ◌∙◌, Ordering, Less, Equal, Greater}
-use Rattle.std.specs.Prelude.{Option, Some, None, filter, filter_map}
+use Rattle.std.proofs.Common.{◌≡◌, ◌==◌, eqb-true, eq-eqb, Bool, not, true, false, cond, [], ◌∷◌, ◌++◌, refl, sym, ap, ◌∙◌, Ordering, Less, Equal, Greater}
+use Rattle.std.specs.Prelude.{Some, None, filter, filter_map}
 use Rattle.std.specs.BTreeMap.Range.{range_contains}
 use Rattle.std.specs.Cmp.{nat_cmp_total}
 use Rattle.std.specs.Ordering.{is_lt, nat_cmp, ordering_then}
@@ -8,8 +8,8 @@ use Rattle.std.specs.declared.ops.Bound.TheVariants.{Included, Unbounded}
 use Rattle.std.proofs.lemmas.Cmp.{tied_itself}
 use Rattle.std.proofs.lemmas.List.Elements.{filter_map-append}
 use Rattle.zone_proto.specs.declared.rr_key.RrKey.{RrKey}
-use Rattle.zone_proto.specs.Keys.{key, key_cmp}
-use Rattle.zone_proto.specs.Names.{Name, name_cmp}
+use Rattle.zone_proto.specs.Keys.{key_cmp}
+use Rattle.zone_proto.specs.Names.{name_cmp}
 use Rattle.zone_proto.specs.Order.{is_upto}
 use Rattle.zone_proto.specs.Sets.{RRset}
 use Rattle.zone_map.specs.DenialOwners.{owners_upto, IsLastOf}

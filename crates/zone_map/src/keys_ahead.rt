@@ -14,9 +14,9 @@ use std::collections::btree_map::Keys;
 use std::marker::Model;
 use zone_proto::{RecordSet, RrKey};
 
-/// The keys of a map that are left in a pass over them beside other keys, which ascend as they do.
+/// The keys of a map that are left in a pass over them beside other keys, which ascend as they do. Takes no memory.
 #[derive(Drop)]
-pub(crate) struct KeysAhead<'m> {
+pub struct KeysAhead<'m> {
     /// None behind the last one.
     first: Option<&'m RrKey>,
     others: Keys<'m, RrKey, RecordSet>,
@@ -46,8 +46,8 @@ impl<'m> KeysAhead<'m> {
         KeysAhead { first, others }
     }
 
-    /// Whether a key is one of them. Those before it are passed.
-    pub(crate) fn has(&mut self, key: &RrKey) -> bool
+    /// Whether `key` is one of those that are left. Those before it are passed, and those behind it stay. Takes no memory.
+    pub fn has(&mut self, key: &RrKey) -> bool
         ensures answer { result ≡ list_any (key_eq key.now) self.old }
         ensures later { (q : Key) → key_cmp key.now q ≡ Less → list_any (key_eq q) self.new ≡ list_any (key_eq q) self.old }
     {

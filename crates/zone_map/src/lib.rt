@@ -16,5 +16,6 @@ pub mod search;
 pub mod wildcard;
 
 pub use denial_owners::{DenialOwners, LastOwners};
+pub use keys_ahead::KeysAhead;
 pub use reads::Reads;
 pub use record_map::{RecordMap, Replaced};

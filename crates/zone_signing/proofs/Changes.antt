@@ -12,7 +12,7 @@ use Rattle.zone_proto.specs.Names.{Name}
 use Rattle.zone_proto.specs.Sets.{RRset}
 use Rattle.zone_proto.proofs.KeyOrder.{key_same}
 use Rattle.zone_map.specs.Puts.{without_all}
-use Rattle.zone_map.specs.Zones.{Sets, set_at, without, IsZone}
+use Rattle.zone_map.specs.Zones.{Sets, set_at, owns, without, IsZone}
 use Rattle.zone_map.proofs.Stored.{IsZone-without}
 use Rattle.zone_signing.specs.Secured.{stays, goes, gone, unsigned_at}
 
@@ -30,6 +30,14 @@ lookup-changed h q (e ∷ es) = by (key_eq q e.0) refl (lookup-changed h q es)
     by false k i = i
 
 -- ---- sets that are taken out
+
+-- what is of a type that stays doesn't go
+pub goes-stays : (denials : Option ℕ) (fresh : Sets) (k : RrKey) → stays denials k.record_type.0 ≡ true → goes denials fresh k ≡ false
+goes-stays denials fresh k stay = ap (λ b. not b && not (owns fresh k.name k.record_type.0)) stay
+
+-- anything else goes, unless the new denials have its key
+pub goes-else : (denials : Option ℕ) (fresh : Sets) (k : RrKey) (b : Bool) → stays denials k.record_type.0 ≡ false → list_any (key_eq k) (keys_of fresh) ≡ b → goes denials fresh k ≡ not b
+goes-else denials fresh k b leave has = ap (λ x. not x && not (owns fresh k.name k.record_type.0)) leave ∙ ap not (is_some-lookup (key_eq k) fresh ∙ has)
 
 pub IsZone-without_all : (m : Sets) (ks : List RrKey) → IsZone m → IsZone (without_all m ks)
 IsZone-without_all m [] zone = zone

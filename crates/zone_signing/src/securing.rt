@@ -1,15 +1,13 @@
 //! The record sets of a zone as they are once it is secured.
-ghost use Rattle.std.specs.Prelude.{◌≡◌, ◌≤◌, ℕ, List, [], ◌++◌, true, IfOk, OnOk, OnErr, IsOkUnless, option_map, map};
-ghost use Rattle.std.specs.List.{list_any};
-ghost use Rattle.std.specs.Map.{keys_of};
+ghost use Rattle.std.specs.Prelude.{◌≡◌, ℕ, List, ◌++◌, IfOk, OnOk, OnErr, IsOkUnless, option_map, map};
 ghost use Rattle.zone_proto.specs.declared.record.Record.{Record as Signature};
-ghost use Rattle.zone_proto.specs.Keys.{key as key_at, key_eq};
+ghost use Rattle.zone_proto.specs.Keys.{key as key_at};
 ghost use Rattle.zone_proto.specs.Names.{Name};
 ghost use Rattle.zone_proto.specs.Types.{SOA};
 ghost use Rattle.zone_map.specs.Puts.{without_all};
 ghost use Rattle.zone_map.specs.Renewals.{IsHanded, AreHanded};
 ghost use Rattle.zone_map.specs.Zones.{set_at, IsStoredAt, IsZone};
-ghost use Rattle.zone_signing.specs.Secured.{stays, goes, gone, unsigned_at, secured_set, IsSecured};
+ghost use Rattle.zone_signing.specs.Secured.{stays, gone, unsigned_at, secured_set, IsSecured};
 
 use crate::signatures::add_signatures;
 use std::alloc::Global;
@@ -143,7 +141,7 @@ fn sign_next<S: Signer>(
     add_signatures(made, set, signers, now)
 }
 
-/// The keys of the sets that go: of the type `denials`, where no new set comes in their place.
+/// The keys of the sets that go: of the type `denials`, where no new set comes in their place. One pass over both maps.
 fn gone_keys(
     alloc: Global,
     zone: &RecordMap,
@@ -153,64 +151,14 @@ fn gone_keys(
     ensures ok { IfOk result (λ keys. keys.items ≡ gone (option_map (λ d. d.0) denials) new_denials.now zone.now) }
     ensures err { IsOkUnless result ProtoError.Memory }
 {
-    let new_keys = keys_of(alloc, new_denials)?;
     let mut keys = Vec::new(alloc);
-    let mut passed = 0;
+    let mut ahead = new_denials.keys_ahead();
     for (key, _) in zone.iter() {
-        if goes(denials, new_denials, new_keys.as_slice(), &mut passed, key) {
+        if !stays(denials, key.record_type) && !ahead.has(key) {
             keys.push(key.clone()?)?;
         }
     }
     Ok(keys)
-}
-
-/// The keys of a map in their order.
-fn keys_of(alloc: Global, sets: &RecordMap) -> Result<Vec<&RrKey>, ProtoError>
-    ensures ok { IfOk result (λ keys. map (λ k. k.now) keys.items ≡ keys_of sets.now) }
-    ensures err { IsOkUnless result ProtoError.Memory }
-{
-    let mut keys = Vec::with_capacity(alloc, sets.len())?;
-    for (key, _) in sets.iter() {
-        keys.push(key)?;
-    }
-    Ok(keys)
-}
-
-/// Whether the set under a key goes. Where one is asked after the other in order, the new keys that stand before have been
-/// passed, and a new set under the key is mostly the next one: then none is looked up.
-fn goes(
-    denials: Option<RecordType>,
-    new_denials: &RecordMap,
-    new_keys: &[&RrKey],
-    passed: &mut usize,
-    key: &RrKey,
-) -> bool
-    requires { map (λ k. k.now) new_keys.now ≡ keys_of new_denials.now }
-    ensures { result ≡ goes (option_map (λ d. d.0) denials) new_denials.now key.now }
-{
-    if stays(denials, key.record_type) {
-        return false;
-    }
-    *passed = first_not_before(new_keys, *passed, key);
-    !stands_at(new_keys, *passed, key) && new_denials.get(key).is_none()
-}
-
-/// The place of the first of these keys, from `start` on, that doesn't stand before another key; else where they end.
-fn first_not_before(keys: &[&RrKey], start: usize, key: &RrKey) -> usize
-    ensures { start ≤ result }
-{
-    let mut place = start;
-    while place < keys.len() && *keys[place] < *key {
-        place += 1;
-    }
-    place
-}
-
-/// Whether a key is the one at this place among others.
-fn stands_at(keys: &[&RrKey], place: usize, key: &RrKey) -> bool
-    ensures { result ≡ true → list_any (key_eq key.now) (map (λ k. k.now) keys.now) ≡ true }
-{
-    place < keys.len() && key.same_as(keys[place])
 }
 
 /// Takes the sets under these keys out.

@@ -1,11 +1,13 @@
 // The record map as the list of its sets by their keys.
 ghost use Rattle.std.specs.Prelude.{◌≡◌, ◌↔◌, ℕ, [], length, IsTrue, IfOk, IsOkUnless};
 ghost use Rattle.std.specs.BTreeMap.{IsFromIterResult};
+ghost use Rattle.std.specs.Map.{keys_of};
 ghost use Rattle.zone_proto.specs.Keys.{key_cmp};
 ghost use Rattle.zone_proto.specs.Names.{Name};
 ghost use Rattle.zone_map.specs.Zones.{set_at, last_at, AreStored, IsZone};
 
 use crate::denial_index::DenialIndex;
+use crate::keys_ahead::KeysAhead;
 use crate::record_map::RecordMap;
 use std::alloc::{AllocError, Global};
 use std::collections::BTreeMap;
@@ -34,6 +36,13 @@ impl RecordMap {
         ensures stored { AreStored self.now }
     {
         self.sets.iter()
+    }
+
+    /// The keys, for a pass beside other keys that ascend too, which tells which of those are among them. Takes no memory.
+    pub fn keys_ahead(&self) -> KeysAhead<'_>
+        ensures { result ≡ keys_of self.now }
+    {
+        KeysAhead::new(&self.sets)
     }
 
     /// Whether there are no sets. Takes no memory.

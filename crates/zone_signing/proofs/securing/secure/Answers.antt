@@ -5,7 +5,7 @@ use Rattle.std.specs.Option.{option_or}
 use Rattle.zone_proto.specs.Keys.{key, key_eq}
 use Rattle.zone_map.specs.Zones.{Sets, set_at, IsZone}
 use Rattle.zone_map.proofs.Putting.{found_without_all}
-use Rattle.zone_signing.specs.Secured.{gone, unsigned_at, secured_set}
+use Rattle.zone_signing.specs.Secured.{unsigned_at, secured_set}
 use Rattle.zone_signing.proofs.Changes.{IsZone-without_all, unsigned_left}
 use Rattle.zone_signing.proofs.securing.secure.Goals as goal
 
