@@ -22,6 +22,7 @@ use Rattle.zone_proto.specs.Types.{NSEC3}
 use Rattle.zone_proto.proofs.Members.{In, In-map}
 use Rattle.zone_map.specs.Standing.{renumbered, standing_at}
 use Rattle.zone_map.specs.Zones.{Sets, last_at, IsStoredAt, IsZone}
+use Rattle.zone_map.proofs.Putting.{keys_of-filter}
 use Rattle.zone_denial.specs.declared.hashed_names.HashedName.{HashedName as HeldName}
 use Rattle.zone_denial.specs.Covering.{next_around}
 use Rattle.zone_denial.specs.HashedNames.{hashed, all_fit, circle_record, circle_set_at}
@@ -42,15 +43,6 @@ none_passed : (es : Sets) (f : RrKey → Option RRset) (q : RrKey) → f q ≡ N
 none_passed [] f q none differ = none
 none_passed (e ∷ es) f q none differ =
     none_passed es (update key_eq f e.0 (Some e.1)) q (ap (λ b. cond b (Some e.1) (f q)) (differ e (inl refl)) ∙ none) (λ d i. differ d (inr i))
-
-keys_of-filter : (r : RrKey → Bool) (es : Sets) → keys_of (filter (λ (e : RrKey × RRset). r e.0) es) ≡ filter r (keys_of es)
-keys_of-filter r [] = refl
-keys_of-filter r (e ∷ es) = by (r e.0) (keys_of-filter r es)
-  where
-    by : (b : Bool) → keys_of (filter (λ (d : RrKey × RRset). r d.0) es) ≡ filter r (keys_of es)
-        → keys_of (cond b (e ∷ filter (λ (d : RrKey × RRset). r d.0) es) (filter (λ (d : RrKey × RRset). r d.0) es)) ≡ cond b (e.0 ∷ filter r (keys_of es)) (filter r (keys_of es))
-    by true i = ap (λ ks. e.0 ∷ ks) i
-    by false i = i
 
 standing_ascend : (m : Sets) → IsZone m → (type' serial : ℕ) → Ascends key_cmp (keys_of (standing_sets type' serial m))
 standing_ascend m zone type' serial =
