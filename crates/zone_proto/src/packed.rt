@@ -3,8 +3,11 @@
 // The canonical order of names (RFC 4034 section 6.1) compares labels from the rightmost on, each as a string of octets,
 // and an end is the least. As every label here is ended by the least octet, that is the order of the octets as one
 // string, and an ancestor is a front of its descendants. A label with an octet 0 has no place in this form.
-ghost use Rattle.std.specs.Prelude.{◌≡◌, ◌↔◌, [], ◌∷◌, ◌+◌, ◌<◌, ◌≤◌, length, take, drop, set, IsTrue, IfOk, IfSome, MatchOption};
+ghost use Rattle.std.specs.Prelude.{◌≡◌, ◌↔◌, [], ◌∷◌, ◌+◌, ◌<◌, ◌≤◌, length, map, take, drop, set, IsTrue, IfOk, IfSome, MatchOption};
+ghost use Rattle.std.specs.Char.{to_ascii_lowercase};
+ghost use Rattle.std.specs.Cmp.Lexicographic.{slice_cmp};
 ghost use Rattle.std.specs.List.{AllByRecursion};
+ghost use Rattle.std.specs.Ordering.{nat_cmp, is_eq};
 ghost use Rattle.zone_proto.specs.Names.{lower, name_cmp, caseless_cmp, wildcard_of, IsAtOrAbove, IsName};
 ghost use Rattle.zone_proto.specs.Packing.{packing, name_of, IsPacking, IsPackable, IsInner};
 ghost use Rattle.zone_proto.specs.Vectors.{octets_of};
@@ -150,7 +153,7 @@ impl Packed {
         if own > other.octets.len() {
             return false;
         }
-        compare_label(&self.octets, &other.octets[..own]).is_eq()
+        are_same_caseless(&self.octets, &other.octets[..own])
     }
 
     /// The octets.
@@ -174,6 +177,14 @@ impl Packed {
             octets: SmallVec::from_slice(self.alloc(), &self.octets)?,
         })
     }
+}
+
+/// Whether octets are the same, the case of letters ignored.
+fn are_same_caseless(a: &[u8], b: &[u8]) -> bool
+    ensures { result ≡ is_eq (slice_cmp nat_cmp (map to_ascii_lowercase a.now) (map to_ascii_lowercase b.now)) }
+{
+    // Of names in lower case the first comparison tells, which takes eight octets at a time.
+    compare_octets(a, b).is_eq() || compare_label(a, b).is_eq()
 }
 
 /// How many octets the labels have with their ends.

@@ -1,4 +1,4 @@
-use Rattle.std.proofs.Common.{◌∙◌, ap, map, take, arith}
+use Rattle.std.proofs.Common.{◌∙◌, map, take, arith}
 use Rattle.std.specs.Cmp.Lexicographic.{slice_cmp}
 use Rattle.std.specs.Char.{to_ascii_lowercase}
 use Rattle.std.specs.Ordering.{nat_cmp, is_eq}
@@ -16,7 +16,6 @@ returns-then-own-len c =
 pub returns : goal.returns
 returns c =
     rw (← c.self.view_is, ← c.other.view_is)
-    (front_test c.self.inside.octets.items c.other.inside.octets.items _ _ c.is_eq.result c.self.invariant c.other.invariant
-    (c.is_eq.ensures
-    ∙ ap is_eq (c.compare_label.ensures
-    ∙ λ i. slice_cmp nat_cmp (map to_ascii_lowercase (c.deref.ensures i)) (map to_ascii_lowercase (take (c.len-own.ensures.value i) (c.deref-2.ensures i))))))
+    (front_test c.self.inside.octets.items c.other.inside.octets.items _ _ c.are_same_caseless.result c.self.invariant c.other.invariant
+    (c.are_same_caseless.ensures
+    ∙ λ i. is_eq (slice_cmp nat_cmp (map to_ascii_lowercase (c.deref.ensures i)) (map to_ascii_lowercase (take (c.len-own.ensures.value i) (c.deref-2.ensures i))))))
