@@ -8,6 +8,7 @@ pub mod Upserting
 pub mod Ahead
 pub mod Putting
 pub mod Parting
+pub mod FirstDenials
 pub mod CnamesAlone
 pub mod LastKeys
 pub mod Lists

@@ -80,6 +80,17 @@ module _ (stands : RrKey → Bool) (more left next : Sets) (keys : List RrKey) (
 
 -- ---- the map of the fresh sets
 
+-- where none of the sets stands, all are fresh
+pub fresh_where_none : (stands : RrKey → Bool) (es : Sets) → filter (λ (e : RrKey × RRset). stands e.0) es ≡ [] → filter (λ (e : RrKey × RRset). not (stands e.0)) es ≡ es
+fresh_where_none stands [] none = refl
+fresh_where_none stands (e ∷ es) none = by (stands e.0) none (fresh_where_none stands es)
+  where
+    by : (b : Bool) → cond b (e ∷ filter (λ (e : RrKey × RRset). stands e.0) es) (filter (λ (e : RrKey × RRset). stands e.0) es) ≡ []
+        → (filter (λ (e : RrKey × RRset). stands e.0) es ≡ [] → filter (λ (e : RrKey × RRset). not (stands e.0)) es ≡ es)
+        → cond (not b) (e ∷ filter (λ (e : RrKey × RRset). not (stands e.0)) es) (filter (λ (e : RrKey × RRset). not (stands e.0)) es) ≡ e ∷ es
+    by true none i = absurd cc
+    by false none i = ap (λ (xs : Sets). e ∷ xs) (i none)
+
 -- where as many keys as there are sets are fresh, none stands, and all sets are fresh
 module _ (stands : RrKey → Bool) (es : Sets) (all : length (filter (λ k. not (stands k)) (keys_of es)) ≡ length es) where
   pub none_stands : filter (λ (e : RrKey × RRset). stands e.0) es ≡ []
@@ -90,17 +101,7 @@ module _ (stands : RrKey → Bool) (es : Sets) (all : length (filter (λ k. not 
       nil_from_length (filter (λ (e : RrKey × RRset). stands e.0) es) (omega arith)
 
   pub all_fresh : filter (λ (e : RrKey × RRset). not (stands e.0)) es ≡ es
-  all_fresh = same es none_stands
-    where
-      same : (es : Sets) → filter (λ (e : RrKey × RRset). stands e.0) es ≡ [] → filter (λ (e : RrKey × RRset). not (stands e.0)) es ≡ es
-      same [] none = refl
-      same (e ∷ es) none = by (stands e.0) none (same es)
-        where
-          by : (b : Bool) → cond b (e ∷ filter (λ (e : RrKey × RRset). stands e.0) es) (filter (λ (e : RrKey × RRset). stands e.0) es) ≡ []
-              → (filter (λ (e : RrKey × RRset). stands e.0) es ≡ [] → filter (λ (e : RrKey × RRset). not (stands e.0)) es ≡ es)
-              → cond (not b) (e ∷ filter (λ (e : RrKey × RRset). not (stands e.0)) es) (filter (λ (e : RrKey × RRset). not (stands e.0)) es) ≡ e ∷ es
-          by true none i = absurd cc
-          by false none i = ap (λ (xs : Sets). e ∷ xs) (i none)
+  all_fresh = fresh_where_none stands es none_stands
 
 -- the map that is made of sets of which some were left has these
 pub map_of_filter : (r : RrKey → Bool) (es left : Sets) (made : BTreeMap RrKey RRset) → IsStrictlySortedBy key_cmp (keys_of es) → left ≡ filter (λ (e : RrKey × RRset). r e.0) es

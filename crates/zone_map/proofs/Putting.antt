@@ -13,22 +13,17 @@ use Rattle.std.proofs.lemmas.List.Kept.{IsStrictlySortedBy-filter}
 use Rattle.std.proofs.lemmas.Map.{keys-set_value, lookup-remove_entry}
 use Rattle.std.proofs.lemmas.Map.Entries.{lookup-filter-keys}
 use Rattle.std.proofs.lemmas.Map.Keys.{sorted_head, sorted_tail, IsDistinct-from_sorted}
-use Rattle.std.proofs.lemmas.Map.Lookups.{btree_set_from_contains}
 use Rattle.std.proofs.lemmas.Map.Made.{update_all_none, is_some-lookup, IsDistinct-keys_filter}
 use Rattle.std.proofs.lemmas.Map.Steps.{set_value_same}
-use Rattle.std.proofs.lemmas.Map.Views.{any-filter_same, btree_set_contains_iff}
+use Rattle.std.proofs.lemmas.Map.Views.{any-filter_same}
 use Rattle.zone_proto.specs.declared.rr_key.RrKey.{RrKey}
 use Rattle.zone_proto.specs.Keys.{key, key_cmp, key_eq}
-use Rattle.zone_proto.specs.Names.{Name, name_cmp}
+use Rattle.zone_proto.specs.Names.{Name}
 use Rattle.zone_proto.specs.Sets.{RRset}
 use Rattle.zone_proto.proofs.KeyLaws.{key_cmp_total}
-use Rattle.zone_proto.specs.Types.{NSEC, NSEC3}
 use Rattle.zone_proto.proofs.KeyOrder.{key_same, key_itself}
-use Rattle.zone_proto.proofs.Tree.{name_order}
-use Rattle.zone_map.specs.DenialOwners.{Owners, owners_of}
 use Rattle.zone_map.specs.Puts.{with_exchanged, with_before, without_all, ArePut}
-use Rattle.zone_map.specs.Zones.{Sets, set_at, owns, owners, without, IsStoredAt, IsZone}
-use Rattle.zone_map.proofs.Lists.{owners_ascend, contains_owner, contained_owner}
+use Rattle.zone_map.specs.Zones.{Sets, set_at, without, IsStoredAt, IsZone}
 use Rattle.zone_map.proofs.Ahead.{none_above}
 use Rattle.zone_map.proofs.Stored.{all_above, sorted_without}
 
@@ -106,7 +101,7 @@ found_exchanged (e ∷ es) m f o q there h =
 
 -- ---- sets in order
 
-none_of : (o : Option RRset) → is_some o ≡ false → o ≡ None
+pub none_of : (o : Option RRset) → is_some o ≡ false → o ≡ None
 none_of None h = refl
 none_of (Some s) h = absurd cc
 
@@ -184,16 +179,16 @@ first_true : (b c : Bool) → (b && c) ≡ true → b ≡ true
 first_true true c h = refl
 first_true false c h = absurd cc
 
-first_false : (b c : Bool) → (b || c) ≡ false → b ≡ false
+pub first_false : (b c : Bool) → (b || c) ≡ false → b ≡ false
 first_false true c h = absurd cc
 first_false false c h = refl
 
-keys_of-append : (xs ys : Sets) → keys_of (xs ++ ys) ≡ keys_of xs ++ keys_of ys
+pub keys_of-append : (xs ys : Sets) → keys_of (xs ++ ys) ≡ keys_of xs ++ keys_of ys
 keys_of-append [] ys = refl
 keys_of-append (x ∷ xs) ys = ap (λ ks. x.0 ∷ ks) (keys_of-append xs ys)
 
 -- sets that are put under other keys leave what is found under a key
-update_all_apart : (es : Sets) (f : RrKey → Option RRset) (q : RrKey) → list_any (key_eq q) (keys_of es) ≡ false → update_all key_eq f es q ≡ f q
+pub update_all_apart : (es : Sets) (f : RrKey → Option RRset) (q : RrKey) → list_any (key_eq q) (keys_of es) ≡ false → update_all key_eq f es q ≡ f q
 update_all_apart [] f q h = refl
 update_all_apart (e ∷ es) f q h =
     update_all_apart es (update key_eq f e.0 (Some e.1)) q (second_false (key_eq q e.0) (list_any (key_eq q) (keys_of es)) h)
@@ -310,29 +305,3 @@ IsZone-put_all had more after zone others put =
     by : (n : Name) (t : ℕ) (s : RRset) (o : Option RRset) → set_at more n t ≡ o → option_or o (set_at had n t) ≡ Some s → IsStoredAt n t s
     by n t s None g h = zone.stored n t s h
     by n t s (Some v) g h = others.stored n t s (g ∙ h)
-
--- where no set of a type stood, the owners of the type are those of the sets that were put
-owners_put : (had more after : Sets) (t : ℕ) → ArePut had more after → owners had t ≡ [] → owners after t ≡ owners more t
-owners_put had more after t put none =
-    btree_set_from_contains name_order.total (record { keys = owners after t }) (record { keys = owners more t }) (owners_ascend after t put.ordered) (owners_ascend more t put.was_ordered)
-    (λ n. listed after n ∙ ap is_some (put.found (key n t)) ∙ by n (set_at more n t) (listed had n) ∙ sym (listed more n)) (λ a b. name_order.exact a b)
-  where
-    listed : (m : Sets) (n : Name) → list_any (λ a. is_eq (name_cmp n a)) (owners m t) ≡ owns m n t
-    listed m n =
-        let told = btree_set_contains_iff name_order.total (λ a b. name_order.exact a b) (record { keys = owners m t }) n in
-        both (list_any (λ a. is_eq (name_cmp n a)) (owners m t)) (owns m n t) (λ h. contained_owner m n t (told.0 h)) (λ h. told.1 (contains_owner m n t h))
-      where
-        both : (b c : Bool) → (b ≡ true → c ≡ true) → (c ≡ true → b ≡ true) → b ≡ c
-        both true c f g = sym (f refl)
-        both false true f g = g refl
-        both false false f g = refl
-
-    by : (n : Name) (o : Option RRset) → list_any (λ a. is_eq (name_cmp n a)) (owners had t) ≡ owns had n t → is_some (option_or o (set_at had n t)) ≡ is_some o
-    by n None h = sym h ∙ ap (list_any (λ a. is_eq (name_cmp n a))) none
-    by n (Some s) h = refl
-
-pub index_put : (had more after : Sets) (denials others : Owners) → ArePut had more after → denials.nsec ≡ [] → denials.nsec3 ≡ [] → denials ≡ owners_of had → others ≡ owners_of more → others ≡ owners_of after
-index_put had more after denials others put nsec nsec3 is are =
-    let one = owners_put had more after NSEC put (sym (ap (λ (l : Owners). l.nsec) is) ∙ nsec) in
-    let other = owners_put had more after NSEC3 put (sym (ap (λ (l : Owners). l.nsec3) is) ∙ nsec3) in
-    are ∙ (λ i. record { nsec = sym one i; nsec3 = sym other i })

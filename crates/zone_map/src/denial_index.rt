@@ -2,10 +2,12 @@
 ghost use Rattle.std.specs.Prelude.{◌≡◌, [], true, cond, IfOk, OnOk, OnErr, IsOkUnless, None, Some, option_map};
 ghost use Rattle.std.specs.BTreeMap.{insert_entry};
 ghost use Rattle.std.specs.BTreeSet.{insert_key, IsFromIterResult};
-ghost use Rattle.std.specs.Map.{remove_entry};
+ghost use Rattle.std.specs.List.Sorted.{IsStrictlySortedBy};
+ghost use Rattle.std.specs.Map.{remove_entry, keys_of};
 ghost use Rattle.zone_proto.specs.Keys.{key_cmp, key_eq};
 ghost use Rattle.zone_proto.specs.Names.{name_cmp};
 ghost use Rattle.zone_proto.specs.Sets.{RRset};
+ghost use Rattle.zone_proto.specs.Types.{NSEC, NSEC3};
 ghost use Rattle.zone_map.specs.DenialOwners.{owners_of};
 ghost use Rattle.zone_map.specs.Upserts.{is_denial_type};
 ghost use Rattle.zone_map.specs.Zones.{Sets, owners, IsZone};
@@ -50,9 +52,10 @@ impl DenialIndex {
         ensures ok { IfOk result (λ index. index ≡ owners_of sets.now.entries) }
         ensures err { IsOkUnless result ProtoError.Memory }
     {
+        let (nsec, nsec3) = listed_owners(alloc, sets)?;
         Ok(DenialIndex {
-            nsec: owners_of_type(alloc, sets, RecordType::NSEC)?,
-            nsec3: owners_of_type(alloc, sets, RecordType::NSEC3)?,
+            nsec: collect_names(alloc, nsec)?,
+            nsec3: collect_names(alloc, nsec3)?,
         })
     }
 
@@ -110,22 +113,28 @@ impl DenialIndex {
     }
 }
 
-/// The owners of the sets of a type in a map.
-fn owners_of_type(
+/// The owners of the NSEC sets in a map and those of the NSEC3 sets, in one pass.
+fn listed_owners(
     alloc: Global,
     sets: &BTreeMap<RrKey, RecordSet>,
-    record_type: RecordType,
-) -> Result<BTreeSet<LowerName>, ProtoError>
-    ensures ok { IfOk result (λ names. names.keys ≡ owners sets.now.entries record_type.0) }
+) -> Result<(Vec<LowerName>, Vec<LowerName>), ProtoError>
+    ensures nsec { IfOk result (λ listed. listed.0.items ≡ owners sets.now.entries NSEC) }
+    ensures nsec3 { IfOk result (λ listed. listed.1.items ≡ owners sets.now.entries NSEC3) }
+    ensures ordered { IsStrictlySortedBy key_cmp (keys_of sets.now.entries) }
     ensures err { IsOkUnless result ProtoError.Memory }
 {
-    let mut names = Vec::new(alloc);
+    // Its clauses say that the keys ascend.
+    let _ = sets.len();
+    let mut nsec = Vec::new(alloc);
+    let mut nsec3 = Vec::new(alloc);
     for (key, _) in sets.iter() {
-        if key.record_type == record_type {
-            names.push(key.name.clone()?)?;
+        if key.record_type == RecordType::NSEC {
+            nsec.push(key.name.clone()?)?;
+        } else if key.record_type == RecordType::NSEC3 {
+            nsec3.push(key.name.clone()?)?;
         }
     }
-    Ok(collect_names(alloc, names)?)
+    Ok((nsec, nsec3))
 }
 
 /// These names, each once, in canonical order.

@@ -10,6 +10,7 @@ mod at_name;
 mod denial_index;
 mod denial_owners;
 mod keys_ahead;
+mod new_sets;
 mod reads;
 mod record_map;
 pub mod search;
@@ -17,5 +18,6 @@ pub mod wildcard;
 
 pub use denial_owners::{DenialOwners, LastOwners};
 pub use keys_ahead::KeysAhead;
+pub use new_sets::NewSets;
 pub use reads::Reads;
 pub use record_map::{RecordMap, Replaced};

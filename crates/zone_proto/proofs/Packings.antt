@@ -195,8 +195,8 @@ pub equal_lowered : (s t : List ℕ) (r : Bool) → r ≡ true → r ≡ is_eq (
 equal_lowered s t r y e =
     let same : s ≡ t = exact_bytes _ _ (equal_from _ (sym e ∙ y)) in
     y ∙ sym (
-      ap (λ z. is_eq (slice_cmp nat_cmp (map to_ascii_lowercase s) (map to_ascii_lowercase z))) (sym same)
-      ∙ ap is_eq (tied_itself nat_list_cmp_total (map to_ascii_lowercase s)))
+    ap (λ z. is_eq (slice_cmp nat_cmp (map to_ascii_lowercase s) (map to_ascii_lowercase z))) (sym same)
+    ∙ ap is_eq (tied_itself nat_list_cmp_total (map to_ascii_lowercase s)))
 
 pub front_test : (s t : List ℕ) (a n : Name) (r : Bool) → IsPacking s a → IsPacking t n
     → r ≡ is_eq (slice_cmp nat_cmp (map to_ascii_lowercase s) (map to_ascii_lowercase (take (length s) t)))

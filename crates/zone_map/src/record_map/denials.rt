@@ -1,15 +1,26 @@
 // The owners of the sets of denial in the record map.
-ghost use Rattle.std.specs.Prelude.{◌≡◌, Some, IfSome};
+ghost use Rattle.std.specs.Prelude.{◌≡◌, [], Some, IsTrue, IfSome};
 ghost use Rattle.std.specs.List.{list_any};
 ghost use Rattle.zone_proto.specs.Names.{is_at_or_above};
 ghost use Rattle.zone_map.specs.DenialOwners.{denial_owners, denial_owners_upto, denial_owners_before, owners_upto, IsLastOf};
-ghost use Rattle.zone_map.specs.Zones.{set_at, IsZone};
+ghost use Rattle.zone_map.specs.Zones.{set_at, owners, IsZone};
 
 use crate::denial_owners::{DenialOwners, LastOwners};
 use crate::record_map::RecordMap;
 use zone_proto::{LowerName, RecordSet, RecordType, RrKey};
 
 impl RecordMap {
+    /// Whether there is no set of a type, if that is NSEC or NSEC3; of other types it isn't told, and the answer is no. Takes no
+    /// memory.
+    pub fn is_without(&self, record_type: RecordType) -> bool
+        ensures { IsTrue result → owners self.now record_type.0 ≡ [] }
+    {
+        match self.denials.owners(record_type) {
+            Some(owners) => owners.is_empty(),
+            None => false,
+        }
+    }
+
     /// The owners of the sets of a type, in canonical order, if that is NSEC or NSEC3; none for other types. Takes no memory.
     pub fn denial_owners(&self, record_type: RecordType) -> DenialOwners<'_>
         ensures { result ≡ denial_owners self.now record_type.0 }

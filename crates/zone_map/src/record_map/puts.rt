@@ -1,22 +1,22 @@
 // Sets that are put into the record map together, and taken out again.
-ghost use Rattle.std.specs.Prelude.{◌≡◌, ℕ, ◌+◌, ◌≤◌, Bool, not, List, ◌∷◌, filter, MatchOption, IfOk, OnOk, OnErr, IsOkUnless, unwrap_or, vec_len, vec_capacity};
+ghost use Rattle.std.specs.Prelude.{◌≡◌, ℕ, ◌+◌, ◌≤◌, Bool, not, List, [], ◌∷◌, filter, Some, MatchOption, IsTrue, IfSome, IfOk, OnOk, OnErr, IsOkUnless, option_map, unwrap_or, vec_len, vec_capacity};
 ghost use Rattle.std.specs.BTreeMap.{BTreeMap as Tree, InsertsAll, MovesPrefix};
 ghost use Rattle.std.specs.List.{list_any};
 ghost use Rattle.std.specs.List.Sorted.{IsStrictlySortedBy};
 ghost use Rattle.std.specs.Map.{keys_of};
-ghost use Rattle.std.specs.Option.{option_or};
+ghost use Rattle.std.specs.Option.{option_or, IfNone};
 ghost use Rattle.zone_proto.specs.declared.rr_key.RrKey.{RrKey as Key};
 ghost use Rattle.zone_proto.specs.Keys.{key_cmp, key_eq};
 ghost use Rattle.zone_proto.specs.Sets.{RRset};
 ghost use Rattle.zone_proto.specs.Names.{Name};
 ghost use Rattle.zone_map.specs.DenialOwners.{owners_of};
-ghost use Rattle.zone_map.specs.Puts.{with_exchanged, with_before, without_all, ArePut, Restores};
+ghost use Rattle.zone_map.specs.Puts.{with_exchanged, with_before, without_all, without_denials, without_added, Restores};
 ghost use Rattle.zone_map.specs.Zones.{Sets, set_at, IsZone};
 
 use crate::denial_index::DenialIndex;
 use crate::keys_ahead::KeysAhead;
-use crate::record_map::RecordMap;
-use crate::record_map::entries::collect_entries;
+use crate::new_sets::{NewSets, collect_entries};
+use crate::record_map::{RecordMap, is_denial_type};
 use std::alloc::Global;
 use std::collections::BTreeMap;
 use std::marker::Model;
@@ -28,8 +28,8 @@ use zone_proto::{ProtoError, RecordSet, RrKey};
 pub struct Replaced {
     /// The sets in whose place others came, each under its key.
     exchanged: Vec<(RrKey, RecordSet)>,
-    /// The keys under which none stood.
-    added: Vec<RrKey>,
+    /// The keys under which none stood. None where sets of denial alone came, and none stood.
+    added: Option<Vec<RrKey>>,
     /// The index as it was, where another one came.
     denials: Option<DenialIndex>,
 }
@@ -39,7 +39,9 @@ impl Model for Replaced {
 
     ghost Value = { Before };
 
-    ghost view = { λ r. record { exchanged = r.exchanged.items; added = r.added.items; owners = r.denials } };
+    ghost use Rattle.std.specs.Prelude.{option_map};
+
+    ghost view = { λ r. record { exchanged = r.exchanged.items; added = option_map (λ keys. keys.items) r.added; owners = r.denials } };
 }
 
 /// Sets that are to be put into a map, in the order of their keys.
@@ -49,25 +51,21 @@ struct Parted {
     common: Vec<(RrKey, RecordSet)>,
     /// The others.
     fresh: BTreeMap<RrKey, RecordSet>,
-    /// The keys of the others.
-    added: Vec<RrKey>,
+    /// The keys of the others. None where these are sets of denial alone, and none stands there.
+    added: Option<Vec<RrKey>>,
 }
 
 impl RecordMap {
-    /// Puts the sets of another map in, in the place of those that stand under their keys. What stood there is handed out.
-    /// Refused for want of memory alone, which leaves the map as it was.
-    pub fn put_all(&mut self, alloc: Global, sets: RecordMap) -> Result<Replaced, ProtoError>
+    /// Puts new sets in, in the place of those that stand under their keys. What stood there is handed out. Refused for want of
+    /// memory alone, which leaves the map as it was.
+    pub fn put_all(&mut self, alloc: Global, sets: NewSets) -> Result<Replaced, ProtoError>
         ensures ok { OnOk result ((n : Name) (t : ℕ) → set_at self.new n t ≡ option_or (set_at sets n t) (set_at self.old n t)) }
         ensures before { IfOk result (λ replaced. Restores replaced self.new self.old) }
         ensures zone { OnOk result (IsZone sets) }
         ensures err { IsOkUnless result ProtoError.Memory }
         ensures same { OnErr result (self.new ≡ self.old) }
     {
-        let RecordMap {
-            sets: more,
-            denials,
-        } = sets;
-        let parted = part(alloc, &self.sets, more)?;
+        let parted = self.part(alloc, sets.into_map())?;
         let Parted {
             common,
             fresh,
@@ -75,7 +73,7 @@ impl RecordMap {
         } = parted;
         let mut exchanged = Vec::with_capacity(alloc, common.len())?;
         exchange(&mut self.sets, common, &mut exchanged);
-        match add(alloc, &mut self.sets, &mut self.denials, fresh, denials) {
+        match add(alloc, &mut self.sets, &mut self.denials, fresh) {
             Ok(denials) => Ok(Replaced {
                 exchanged,
                 added,
@@ -105,15 +103,36 @@ impl RecordMap {
     }
 }
 
-/// Parts the sets of a map by whether others stand under their keys. Where none do, the map stays as it is.
-fn part(
+impl RecordMap {
+    /// Parts sets by whether others stand under their keys.
+    fn part(&self, alloc: Global, more: BTreeMap<RrKey, RecordSet>) -> Result<Parted, ProtoError>
+        ensures common { IfOk result (λ parted. parted.common.items ≡ filter (λ e. list_any (key_eq e.0) (keys_of self.now)) more.entries) }
+        ensures fresh { IfOk result (λ parted. parted.fresh.entries ≡ filter (λ e. not (list_any (key_eq e.0) (keys_of self.now))) more.entries) }
+        ensures added { IfOk result (λ parted. IfSome parted.added (λ keys. keys.items ≡ keys_of parted.fresh.entries)) }
+        ensures denials { IfOk result (λ parted. IfNone parted.added ((parted.common.items ≡ []) × (without_denials self.now ≡ self.now) × (without_denials parted.fresh.entries ≡ []))) }
+        ensures err { IsOkUnless result ProtoError.Memory }
+    {
+        // Their keys are those of all sets of denial that the map has then, so that they needn't be copied.
+        if self.denials.is_empty() && are_denials(&more) {
+            return Ok(Parted {
+                common: Vec::new(alloc),
+                fresh: more,
+                added: None,
+            });
+        }
+        part_by_keys(alloc, &self.sets, more)
+    }
+}
+
+/// Parts sets by whether others stand under their keys, which are copied. Where none do, the map stays as it is.
+fn part_by_keys(
     alloc: Global,
     sets: &BTreeMap<RrKey, RecordSet>,
     more: BTreeMap<RrKey, RecordSet>,
 ) -> Result<Parted, ProtoError>
     ensures common { IfOk result (λ parted. parted.common.items ≡ filter (λ e. list_any (key_eq e.0) (keys_of sets.now.entries)) more.entries) }
     ensures fresh { IfOk result (λ parted. parted.fresh.entries ≡ filter (λ e. not (list_any (key_eq e.0) (keys_of sets.now.entries))) more.entries) }
-    ensures added { IfOk result (λ parted. parted.added.items ≡ keys_of parted.fresh.entries) }
+    ensures added { IfOk result (λ parted. option_map (λ keys. keys.items) parted.added ≡ Some (keys_of parted.fresh.entries)) }
     ensures err { IsOkUnless result ProtoError.Memory }
 {
     let added = absent_keys(alloc, sets, &more)?;
@@ -121,7 +140,7 @@ fn part(
         return Ok(Parted {
             common: Vec::new(alloc),
             fresh: more,
-            added,
+            added: Some(added),
         });
     }
     let (common, fresh) = separate(alloc, more, added.as_slice())?;
@@ -129,8 +148,20 @@ fn part(
     Ok(Parted {
         common,
         fresh,
-        added,
+        added: Some(added),
     })
+}
+
+/// Whether all sets are of a type of denial.
+fn are_denials(sets: &BTreeMap<RrKey, RecordSet>) -> bool
+    ensures { IsTrue result → without_denials sets.now.entries ≡ [] }
+{
+    for (key, _) in sets.iter() {
+        if !is_denial_type(key.record_type) {
+            return false;
+        }
+    }
+    true
 }
 
 /// The keys of a map under which no sets stand in another one: one pass over both maps.
@@ -206,18 +237,17 @@ fn exchange(
     }
 }
 
-/// Adds sets under whose keys none stand, and their owners to the index. The answer is the index as it was, if another one came
-/// in its place.
+/// Adds sets under whose keys none stand, and makes the index anew. The answer is the index as it was, if another one came in
+/// its place.
 fn add(
     alloc: Global,
     sets: &mut BTreeMap<RrKey, RecordSet>,
     denials: &mut DenialIndex,
     mut fresh: BTreeMap<RrKey, RecordSet>,
-    fresh_denials: DenialIndex,
 ) -> Result<Option<DenialIndex>, ProtoError>
     ensures added { OnOk result (InsertsAll key_cmp sets.old fresh.entries sets.new) }
     ensures moved { (rest : Tree Key RRset) × MovesPrefix key_cmp sets.old fresh sets.new rest }
-    ensures index { OnOk result ((had more : Sets) → keys_of sets.old.entries ≡ keys_of had → denials.old ≡ owners_of had → fresh_denials ≡ owners_of more → ArePut had more sets.new.entries → denials.new ≡ owners_of sets.new.entries) }
+    ensures index { OnOk result ((had : Sets) → keys_of sets.old.entries ≡ keys_of had → denials.old ≡ owners_of had → denials.new ≡ owners_of sets.new.entries) }
     ensures was { IfOk result (λ was. unwrap_or was denials.new ≡ denials.old) }
     ensures same { OnErr result (denials.new ≡ denials.old) }
     ensures err { IsOkUnless result ProtoError.Memory }
@@ -228,27 +258,42 @@ fn add(
         return Ok(None);
     }
     sets.append(&mut fresh)?;
-    if denials.is_empty() {
-        return Ok(Some(replace(denials, fresh_denials)));
-    }
+    // Of the merged map: while two maps are merged they take most memory, and no index stands beside them.
     let index = DenialIndex::of_map(alloc, sets)?;
     Ok(Some(replace(denials, index)))
 }
 
-/// Takes out the sets under the keys that were added, and puts back those that were exchanged, the last one first.
+/// Takes out the sets that were added, and puts back those that were exchanged, the last one first.
 fn put_back(
     sets: &mut BTreeMap<RrKey, RecordSet>,
-    added: Vec<RrKey>,
+    added: Option<Vec<RrKey>>,
     mut exchanged: Vec<(RrKey, RecordSet)>,
 )
-    ensures { sets.new.entries ≡ with_before (without_all sets.old.entries added.items) exchanged.items }
+    ensures { sets.new.entries ≡ with_before (without_added sets.old.entries (option_map (λ keys. keys.items) added)) exchanged.items }
 {
-    for key in added {
-        let _ = sets.remove(&key);
+    match added {
+        Some(keys) => remove_all(sets, keys),
+        None => remove_denials(sets),
     }
     while let Some((key, stood)) = exchanged.pop() {
         if let Some(set) = sets.get_mut(&key) {
             *set = stood;
         }
     }
+}
+
+/// Takes out the sets under these keys.
+fn remove_all(sets: &mut BTreeMap<RrKey, RecordSet>, keys: Vec<RrKey>)
+    ensures { sets.new.entries ≡ without_all sets.old.entries keys.items }
+{
+    for key in keys {
+        let _ = sets.remove(&key);
+    }
+}
+
+/// Takes out all sets of denial.
+fn remove_denials(sets: &mut BTreeMap<RrKey, RecordSet>)
+    ensures { sets.new.entries ≡ without_denials sets.old.entries }
+{
+    sets.retain(|key, _| !is_denial_type(key.record_type));
 }

@@ -1,10 +1,9 @@
-use Rattle.std.proofs.Common.{◌≡◌, [], refl, sym, ap, ◌∙◌}
+use Rattle.std.proofs.Common.{◌≡◌, [], refl, sym, ap}
 use Rattle.std.specs.Map.{lookup, update_all}
 use Rattle.std.proofs.lemmas.List.{nil_from_length}
 use Rattle.zone_proto.specs.Keys.{key_eq}
 use Rattle.zone_map.specs.Zones.{Sets}
 use Rattle.zone_map.proofs.OwnersKept.{index_of_keys}
-use Rattle.zone_map.proofs.Putting.{index_put}
 use Rattle.zone_map.proofs.record_map.puts.add.Goals as goal
 
 pub returns-then-is_empty-clause-added : goal.returns-then-is_empty-clause-added
@@ -16,10 +15,4 @@ pub returns-then-is_empty-clause-moved : goal.returns-then-is_empty-clause-moved
 returns-then-is_empty-clause-moved c = (c.args.fresh, ([], refl, ((λ q. refl), c.len.ensures.ordered)))
 
 pub returns-then-is_empty-clause-index : goal.returns-then-is_empty-clause-index
-returns-then-is_empty-clause-index c = λ had more keys is are put. index_of_keys had c.args.sets.now.entries c.args.denials.now keys is
-
-pub returns-then-is_empty-2-clause-index : goal.returns-then-is_empty-2-clause-index
-returns-then-is_empty-2-clause-index c =
-    λ had more keys is are put.
-    c.replace.ensures.after
-    ∙ index_put had more _ c.args.denials.now c.args.fresh_denials put (c.is_empty-2.ensures.nsec c.if-is_empty-2.true) (c.is_empty-2.ensures.nsec3 c.if-is_empty-2.true) is are
+returns-then-is_empty-clause-index c = λ had keys is. index_of_keys had c.args.sets.now.entries c.args.denials.now keys is

@@ -2,7 +2,7 @@ use Rattle.std.proofs.Common.{◌∙◌}
 use Rattle.std.specs.BTreeMap.{IsFromIterResult}
 use Rattle.std.proofs.lemmas.Iterator.Adapters.{fact_from_collect, YieldsList-from_vec}
 use Rattle.zone_proto.specs.Keys.{key_cmp}
-use Rattle.zone_map.proofs.record_map.entries.collect_entries.Goals as goal
+use Rattle.zone_map.proofs.new_sets.collect_entries.Goals as goal
 
 pub returns : goal.returns
 returns c =

@@ -1,12 +1,12 @@
 use Rattle.std.proofs.Common.{◌≡◌, length, ap, sym, ◌∙◌, arith, rules}
-use Rattle.std.specs.Prelude.{not, filter}
+use Rattle.std.specs.Prelude.{not, filter, Some}
 use Rattle.std.specs.List.{list_any}
 use Rattle.std.specs.Map.{keys_of}
 use Rattle.zone_proto.specs.declared.rr_key.RrKey.{RrKey}
 use Rattle.zone_proto.specs.Keys.{key_eq}
 use Rattle.zone_map.proofs.Parting.{none_stands, all_fresh, map_of_filter}
 use Rattle.zone_map.proofs.Putting.{keys_of-filter}
-use Rattle.zone_map.proofs.record_map.puts.part.Goals as goal
+use Rattle.zone_map.proofs.record_map.puts.part_by_keys.Goals as goal
 
 pub returns-then-len : goal.returns-then-len
 returns-then-len c =
@@ -17,7 +17,7 @@ returns-then-len c =
     record {
       common = c.new.ensures.items ∙ sym (none_stands stands more all);
       fresh = sym (all_fresh stands more all);
-      added = c.in_ok-added.ensures.ok ∙ sym (keys_of-filter (λ k. not (stands k)) more) ∙ ap keys_of (all_fresh stands more all);
+      added = ap Some (c.in_ok-added.ensures.ok ∙ sym (keys_of-filter (λ k. not (stands k)) more) ∙ ap keys_of (all_fresh stands more all));
       err = search rules;
     }
 
@@ -34,6 +34,6 @@ returns c =
     record {
       common = parts.ensures.common stands are_added;
       fresh = made;
-      added = c.in_ok-added.ensures.ok ∙ sym (keys_of-filter (λ k. not (stands k)) more) ∙ ap keys_of (sym made);
+      added = ap Some (c.in_ok-added.ensures.ok ∙ sym (keys_of-filter (λ k. not (stands k)) more) ∙ ap keys_of (sym made));
       err = search rules;
     }
