@@ -27,7 +27,7 @@ use crate::hashed_names::{HashedName, hashed_names};
 use crate::nsec3_names::{Nsec3Name, nsec3_names};
 use crate::nsec3_standing::{is_announced, nsec3_sets_stand};
 use zone_handler::SecureError;
-use zone_map::RecordMap;
+use zone_map::{NewSets, RecordMap};
 use zone_proto::{
     LowerName, NSEC3, NSEC3PARAM, Name, Nsec3Hash, ProtoError, RData, Record, RecordSet,
     RecordType, RrKey, base32_dnssec,
@@ -51,7 +51,7 @@ pub fn nsec3_sets<H: Nsec3Hash>(
     parameters: &NSEC3PARAM,
     ttl: u32,
     serial: u32,
-) -> Result<Option<RecordMap>, SecureError>
+) -> Result<Option<NewSets>, SecureError>
     ensures made { IfOk result (λ made. IfSome made (λ map. (n : Name) (t : ℕ) → set_at map n t
         ≡ nsec3_sets_at origin.now records.now (hash_with (H.digest_of hash.now) parameters.now) parameters.now ttl serial n t)) }
     ensures standing { IfOk result (λ made. IfNone made ((n : Name) → standing_at records.now nsec3_type serial n nsec3_type
@@ -77,7 +77,7 @@ fn sets_of_names<H: Nsec3Hash>(
     parameters: &NSEC3PARAM,
     ttl: u32,
     serial: u32,
-) -> Result<Option<RecordMap>, SecureError>
+) -> Result<Option<NewSets>, SecureError>
     requires names { map name_of names.now ≡ nsec3_names origin.now records.now parameters.now.opt_out }
     requires types { All (λ n. types_of n ≡ nsec3_types origin.now records.now (name_of n)) names.now }
     ensures made { IfOk result (λ made. IfSome made (λ map. (n : Name) (t : ℕ) → set_at map n t
@@ -111,7 +111,7 @@ fn sets_of_circle(
     parameters: &NSEC3PARAM,
     ttl: u32,
     serial: u32,
-) -> Result<Option<RecordMap>, ProtoError>
+) -> Result<Option<NewSets>, ProtoError>
     requires ascending { IsStrictlySortedBy hashed_cmp (map hashed held.now) }
     ensures made { IfOk result (λ made. IfSome made (λ map. (n : Name) (t : ℕ) → set_at map n t
         ≡ circle_sets_at origin.now records.now parameters.now ttl held.now serial n t)) }
@@ -141,7 +141,7 @@ fn with_circle(
     parameters: &NSEC3PARAM,
     ttl: u32,
     serial: u32,
-) -> Result<RecordMap, ProtoError>
+) -> Result<NewSets, ProtoError>
     requires ascending { IsStrictlySortedBy hashed_cmp (map hashed held.now) }
     requires key { announced.0 ≡ key_at origin.now nsec3param_type }
     requires stored { IsStoredAt announced.0.name announced.0.record_type.0 announced.1 }
@@ -163,7 +163,7 @@ fn with_circle(
         let entry = entry_with(before, record, serial)?;
         put_behind(&mut entries, entry)?;
     }
-    RecordMap::from_entries(origin.alloc(), entries)
+    NewSets::from_entries(origin.alloc(), entries)
 }
 
 /// Puts an entry behind others, in the place of the last one where that has its key. Refused by `Memory` alone.

@@ -14,7 +14,7 @@ use crate::authoritative_keys::authoritative_keys;
 use crate::key_runs::count_of_name;
 use crate::nsec_standing::nsec_sets_stand;
 use crate::type_list::type_list;
-use zone_map::RecordMap;
+use zone_map::{NewSets, RecordMap};
 use zone_proto::{
     LowerName, NSEC, Name, ProtoError, RData, Record, RecordSet, RecordType, RrKey, Seq,
 };
@@ -30,7 +30,7 @@ pub fn nsec_sets(
     origin: &LowerName,
     ttl: u32,
     serial: u32,
-) -> Result<Option<RecordMap>, ProtoError>
+) -> Result<Option<NewSets>, ProtoError>
     ensures made { IfOk result (λ made. IfSome made (λ map. (n : Name) (t : ℕ) → set_at map n t ≡ nsec_set_at origin.now records.now ttl serial n t)) }
     ensures standing { IfOk result (λ made. IfNone made ((n : Name) (t : ℕ) → standing_at records.now nsec_type serial n t ≡ nsec_set_at origin.now records.now ttl serial n t)) }
     ensures err { IsOkUnless result ProtoError.Memory }
@@ -40,7 +40,7 @@ pub fn nsec_sets(
         return Ok(None);
     }
     let entries = nsec_entries(keys.as_slice(), origin, ttl, serial)?;
-    Ok(Some(RecordMap::from_entries(origin.alloc(), entries)?))
+    Ok(Some(NewSets::from_entries(origin.alloc(), entries)?))
 }
 
 /// The NSEC sets that these keys give, by their own keys: one for each name, with the types of its keys.

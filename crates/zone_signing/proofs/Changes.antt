@@ -1,7 +1,8 @@
 -- Sets by their keys, of which some go, new ones come and each is changed
 use Rattle.std.proofs.Common.{◌≡◌, ℕ, Bool, true, false, List, [], ◌∷◌, cond, refl, sym, ap, ◌∙◌}
-use Rattle.std.specs.Prelude.{Option, Some, None, ◌&&◌, not, map, is_some, option_map, if◌then◌else◌}
-use Rattle.std.specs.List.{list_any}
+use Rattle.std.specs.Prelude.{Option, Some, None, IfSome, ◌==◌, ◌&&◌, not, map, is_some, option_map, if◌then◌else◌}
+use Rattle.std.specs.Cmp.{nat_eq_equiv}
+use Rattle.std.specs.List.{list_any, cons_option}
 use Rattle.std.specs.Option.{option_or}
 use Rattle.std.specs.Map.{lookup, keys_of}
 use Rattle.std.proofs.lemmas.Map.Made.{is_some-lookup}
@@ -12,7 +13,7 @@ use Rattle.zone_proto.specs.Names.{Name}
 use Rattle.zone_proto.specs.Sets.{RRset}
 use Rattle.zone_proto.proofs.KeyOrder.{key_same}
 use Rattle.zone_map.specs.Puts.{without_all}
-use Rattle.zone_map.specs.Zones.{Sets, set_at, owns, without, IsZone}
+use Rattle.zone_map.specs.Zones.{Sets, set_at, owns, owners, without, IsZone}
 use Rattle.zone_map.proofs.Stored.{IsZone-without}
 use Rattle.zone_signing.specs.Secured.{stays, goes, gone, unsigned_at}
 
@@ -38,6 +39,20 @@ goes-stays denials fresh k stay = ap (λ b. not b && not (owns fresh k.name k.re
 -- anything else goes, unless the new denials have its key
 pub goes-else : (denials : Option ℕ) (fresh : Sets) (k : RrKey) (b : Bool) → stays denials k.record_type.0 ≡ false → list_any (key_eq k) (keys_of fresh) ≡ b → goes denials fresh k ≡ not b
 goes-else denials fresh k b leave has = ap (λ x. not x && not (owns fresh k.name k.record_type.0)) leave ∙ ap not (is_some-lookup (key_eq k) fresh ∙ has)
+
+-- where no set of the type stands, none goes
+pub none_gone : (denials : Option ℕ) (fresh zone : Sets) → IfSome denials (λ t. owners zone t ≡ []) → gone denials fresh zone ≡ []
+none_gone None fresh [] h = refl
+none_gone None fresh (e ∷ zone) h = none_gone None fresh zone h
+none_gone (Some t) fresh [] h = refl
+none_gone (Some t) fresh (e ∷ zone) h = by (t == e.0.record_type.0) refl h (none_gone (Some t) fresh zone)
+  where
+    by : (b : Bool) → (t == e.0.record_type.0) ≡ b → cons_option (cond b (Some e.0.name) None) (owners zone t) ≡ [] → (owners zone t ≡ [] → gone (Some t) fresh zone ≡ [])
+        → gone (Some t) fresh (e ∷ zone) ≡ []
+    by true g h i = absurd cc
+    by false g h i =
+        ap (λ b. cond (not (not b) && not (owns fresh e.0.name e.0.record_type.0)) (e.0 ∷ gone (Some t) fresh zone) (gone (Some t) fresh zone)) (nat_eq_equiv.symm e.0.record_type.0 t ∙ g)
+        ∙ i h
 
 pub IsZone-without_all : (m : Sets) (ks : List RrKey) → IsZone m → IsZone (without_all m ks)
 IsZone-without_all m [] zone = zone

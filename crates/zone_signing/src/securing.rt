@@ -1,17 +1,17 @@
 //! The record sets of a zone as they are once it is secured.
-ghost use Rattle.std.specs.Prelude.{◌≡◌, ℕ, List, ◌++◌, IfOk, OnOk, OnErr, IsOkUnless, option_map, map};
+ghost use Rattle.std.specs.Prelude.{◌≡◌, ℕ, List, [], ◌++◌, IsTrue, IfSome, IfOk, OnOk, OnErr, IsOkUnless, option_map, map};
 ghost use Rattle.zone_proto.specs.declared.record.Record.{Record as Signature};
 ghost use Rattle.zone_proto.specs.Keys.{key as key_at};
 ghost use Rattle.zone_proto.specs.Names.{Name};
 ghost use Rattle.zone_proto.specs.Types.{SOA};
 ghost use Rattle.zone_map.specs.Puts.{without_all};
 ghost use Rattle.zone_map.specs.Renewals.{IsHanded, AreHanded};
-ghost use Rattle.zone_map.specs.Zones.{set_at, IsStoredAt, IsZone};
+ghost use Rattle.zone_map.specs.Zones.{set_at, owners, IsStoredAt, IsZone};
 ghost use Rattle.zone_signing.specs.Secured.{stays, gone, unsigned_at, secured_set, IsSecured};
 
 use crate::signatures::add_signatures;
 use std::alloc::Global;
-use zone_map::RecordMap;
+use zone_map::{NewSets, RecordMap};
 use zone_proto::{ProtoError, RecordSet, RecordType, RrKey, Rrsigs, Signer};
 
 /// How many signatures are exchanged at most; what goes beyond takes lists for each set. They are 27 megabytes in one piece:
@@ -27,7 +27,7 @@ const MOST_EXCHANGED: usize = 131_072;
 pub fn secure<S: Signer>(
     zone: &mut RecordMap,
     denials: Option<RecordType>,
-    new_denials: RecordMap,
+    new_denials: NewSets,
     apex: &RrKey,
     signers: &[S],
     now: u64,
@@ -141,12 +141,28 @@ fn sign_next<S: Signer>(
     add_signatures(made, set, signers, now)
 }
 
-/// The keys of the sets that go: of the type `denials`, where no new set comes in their place. One pass over both maps.
+/// The keys of the sets that go: of the type `denials`, where no new set comes in their place.
 fn gone_keys(
     alloc: Global,
     zone: &RecordMap,
     denials: Option<RecordType>,
-    new_denials: &RecordMap,
+    new_denials: &NewSets,
+) -> Result<Vec<RrKey>, ProtoError>
+    ensures ok { IfOk result (λ keys. keys.items ≡ gone (option_map (λ d. d.0) denials) new_denials.now zone.now) }
+    ensures err { IsOkUnless result ProtoError.Memory }
+{
+    if has_none(zone, denials) {
+        return Ok(Vec::new(alloc));
+    }
+    list_gone(alloc, zone, denials, new_denials)
+}
+
+/// Lists these keys in one pass over both maps.
+fn list_gone(
+    alloc: Global,
+    zone: &RecordMap,
+    denials: Option<RecordType>,
+    new_denials: &NewSets,
 ) -> Result<Vec<RrKey>, ProtoError>
     ensures ok { IfOk result (λ keys. keys.items ≡ gone (option_map (λ d. d.0) denials) new_denials.now zone.now) }
     ensures err { IsOkUnless result ProtoError.Memory }
@@ -159,6 +175,16 @@ fn gone_keys(
         }
     }
     Ok(keys)
+}
+
+/// Whether no set of the old denials stands in the zone.
+fn has_none(zone: &RecordMap, denials: Option<RecordType>) -> bool
+    ensures { IsTrue result → IfSome (option_map (λ d. d.0) denials) (λ t. owners zone.now t ≡ []) }
+{
+    match denials {
+        Some(denials) => zone.is_without(denials),
+        None => false,
+    }
 }
 
 /// Takes the sets under these keys out.

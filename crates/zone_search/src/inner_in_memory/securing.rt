@@ -14,7 +14,7 @@ use crate::inner_in_memory::InnerInMemory;
 use crate::start_of_authority::first_soa;
 use zone_denial::{nsec_sets, nsec3_sets};
 use zone_handler::SecureError;
-use zone_map::RecordMap;
+use zone_map::{NewSets, RecordMap};
 use zone_proto::{NSEC3PARAM, Nsec3Hash, NxProofKind, ProtoError, RecordType, RrKey, Signer};
 use zone_signing::{keeping, securing};
 
@@ -24,7 +24,7 @@ enum Denials {
     /// Those that the zone has, if any.
     AsTheyAre,
     /// These sets, in the place of those of the type.
-    New(RecordType, RecordMap),
+    New(RecordType, NewSets),
     /// Those of the type that stand in the zone, with this serial.
     Kept(RecordType, u32),
 }
@@ -202,7 +202,7 @@ fn secure_denied<S: Signer>(
 {
     match denials {
         Denials::AsTheyAre => {
-            let none = RecordMap::new(apex.name.alloc());
+            let none = NewSets::new(apex.name.alloc());
             securing::secure(records, None, none, apex, signers, now)
         }
         Denials::New(record_type, sets) => {

@@ -5,7 +5,7 @@ use Rattle.std.specs.List.Sorted.{IsStrictlySortedBy}
 use Rattle.std.specs.Map.{keys_of}
 use Rattle.zone_proto.specs.Keys.{key_cmp, key_eq}
 use Rattle.zone_signing.specs.Secured.{gone}
-use Rattle.zone_signing.proofs.securing.gone_keys.Given as goal
+use Rattle.zone_signing.proofs.securing.list_gone.Given as goal
 
 -- the keys that are left ascend, and the pass over the new denials still has each of them that is there; the keys that go so far
 -- and those among the entries that are left are all
