@@ -92,6 +92,16 @@ module _ (n : Name) (keys : List (Bor RrKey)) (count : ℕ) (counted : count ≡
 
 -- ---- from a place of the list on, the keys of the name that stands there
 
+pub counted_from : (keys : List (Bor RrKey)) (start count : ℕ) (first : Bor RrKey) → start < length keys → first ≡ get_or keys start first
+    → ((f : Bor RrKey) (others : List (Bor RrKey)) → take (length keys - start) (drop start keys) ≡ f ∷ others → count ≡ 1 + prefix_len (λ (b : Bor RrKey). eq_by_cmp name_cmp b.now.name f.now.name) others)
+    → count ≡ prefix_len (λ (b : Bor RrKey). eq_by_cmp name_cmp b.now.name first.now.name) (drop start keys)
+counted_from keys start count first lt is told =
+    let of_name = λ (b : Bor RrKey). eq_by_cmp name_cmp b.now.name first.now.name in
+    let left : drop start keys ≡ first ∷ drop (suc start) keys = drop-cons keys start first lt ∙ ap (λ b. b ∷ drop (suc start) keys) (sym is) in
+    told first (drop (suc start) keys) (to_end start keys ∙ left)
+    ∙ one-add (prefix_len of_name (drop (suc start) keys))
+    ∙ sym (ap (prefix_len of_name) left ∙ first_passes of_name first (drop (suc start) keys) (ap is_eq (name_itself first.now.name)))
+
 module _ (keys : List (Bor RrKey)) (start count : ℕ) (first : Bor RrKey) (lt : start < length keys) (is : first ≡ get_or keys start first)
     (counted : count ≡ prefix_len (λ (b : Bor RrKey). eq_by_cmp name_cmp b.now.name first.now.name) (drop start keys)) where
   abbrev of_name : Bor RrKey → Bool

@@ -7,7 +7,7 @@ ghost use Rattle.zone_denial.specs.Nsec3Names.{nsec3_names};
 ghost use Rattle.zone_denial.specs.Nsec3Nodes.{name_of, types_of, node_of, new_ancestors};
 
 use crate::authoritative_keys::authoritative_keys;
-use crate::key_runs::count_of_name;
+use crate::key_runs::{count_of_first, count_of_name};
 use crate::type_list::{signed_types, type_list};
 use zone_map::RecordMap;
 use zone_proto::{LowerName, ProtoError, RecordType, RrKey, Seq};
@@ -81,7 +81,7 @@ pub(crate) fn nsec3_names<'a>(
     let mut last = origin;
     while start < keys.len() {
         let first = keys[start];
-        let end = start + count_of_name(&keys[start..], &first.name);
+        let end = start + count_of_first(&keys[start..]);
         let own = &keys[start..end];
         start = end;
         if opt_out && are_of_ns(own) {

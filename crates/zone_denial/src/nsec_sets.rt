@@ -11,7 +11,7 @@ ghost use Rattle.zone_denial.specs.NsecSets.{nsec_set_at, nsec_data, new_set};
 ghost use Rattle.zone_denial.specs.NsecLinks.{AreLinked, first_name};
 
 use crate::authoritative_keys::authoritative_keys;
-use crate::key_runs::count_of_name;
+use crate::key_runs::count_of_first;
 use crate::nsec_standing::nsec_sets_stand;
 use crate::type_list::type_list;
 use zone_map::{NewSets, RecordMap};
@@ -60,7 +60,7 @@ fn nsec_entries(
     let mut start = 0;
     while start < keys.len() {
         let first = keys[start];
-        let end = start + count_of_name(&keys[start..], &first.name);
+        let end = start + count_of_first(&keys[start..]);
         let types = type_list(&mut room, &keys[start..end], RecordType::NSEC)?;
         let next = first_name(&keys[end..], origin);
         entries.push(nsec_entry(&first.name, next, types, ttl, serial)?)?;

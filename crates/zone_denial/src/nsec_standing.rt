@@ -10,7 +10,7 @@ ghost use Rattle.zone_denial.specs.NsecSets.{nsec_data, new_set};
 ghost use Rattle.zone_denial.specs.StandingSets.{standing_sets};
 ghost use Rattle.zone_denial.specs.TypeLists.{joined};
 
-use crate::key_runs::count_of_name;
+use crate::key_runs::count_of_first;
 use crate::listed_types::lists_types;
 use crate::nsec_sets::first_name;
 use crate::only_data::only_data;
@@ -28,6 +28,10 @@ pub(crate) fn nsec_sets_stand(
     requires { IsStrictlySortedBy key_cmp (map (λ k. k.now) keys.now) }
     ensures { IsTrue result → (serial : ℕ) → AreLinked origin.now (map (λ k. k.now) keys.now) ttl serial (standing_sets nsec_type serial records.now) }
 {
+    // So that no pass over the zone is made where none can be found.
+    if records.is_without(RecordType::NSEC) {
+        return false;
+    }
     let mut start = 0;
     for (key, set) in records.iter() {
         if key.record_type != RecordType::NSEC {
@@ -39,7 +43,7 @@ pub(crate) fn nsec_sets_stand(
         let first = keys[start];
         // Its clauses say that the name is in lower case.
         let _ = first.name.labels();
-        let end = start + count_of_name(&keys[start..], &first.name);
+        let end = start + count_of_first(&keys[start..]);
         let next = first_name(&keys[end..], origin);
         if !is_nsec_set(set, &first.name, next, &keys[start..end], ttl) {
             return false;

@@ -1,13 +1,10 @@
 use Rattle.std.proofs.Common.{◌≡◌, ◌+◌, ◌++◌, ◌&&◌, false, [], ◌∷◌, map, take, drop, refl, sym, ap, ◌∙◌, subst, arith, nat_cmp}
-use Rattle.std.specs.List.{prefix_len}
-use Rattle.std.specs.Ordering.{eq_by_cmp}
 use Rattle.std.proofs.Math.ListN.{drop_of_length-le}
 use Rattle.std.proofs.lemmas.List.{map-append}
-use Rattle.zone_proto.specs.Names.{name_cmp}
 use Rattle.zone_proto.specs.Types.{RRSIG}
 use Rattle.zone_denial.specs.Nsec3Nodes.{node_of}
 use Rattle.zone_denial.specs.TypeLists.{joined}
-use Rattle.zone_denial.proofs.KeyRuns.{lent_keys, to_end, of_count, goes_on}
+use Rattle.zone_denial.proofs.KeyRuns.{lent_keys, of_count, goes_on, counted_from}
 use Rattle.zone_denial.proofs.Naming.{Naming, Naming-end, names_listed, types_listed}
 use Rattle.zone_denial.proofs.NamingSteps.{are_of_ns, lent_types, origin_listed, passed_over, name_listed}
 use Rattle.zone_denial.proofs.nsec3_names.nsec3_names.Goals as goal
@@ -27,23 +24,23 @@ pub loop-start-smaller-then-are_of_ns : goal.loop-start-smaller-then-are_of_ns
 loop-start-smaller-then-are_of_ns c =
     let keys = c.as_slice-keys.result.now in
     let start = c.loop-start.start in
-    let counted = c.count_of_name.ensures.value ∙ ap (prefix_len (λ b. eq_by_cmp name_cmp b.now.name c.index-keys-start.result.now.name)) (to_end start keys) in
-    omega (arith, goes_on keys start c.count_of_name.result c.index-keys-start.result c.loop-start-test.true c.index-keys-start.is counted)
+    let counted = counted_from keys start c.count_of_first.result c.index-keys-start.result c.loop-start-test.true c.index-keys-start.is c.count_of_first.ensures.value in
+    omega (arith, goes_on keys start c.count_of_first.result c.index-keys-start.result c.loop-start-test.true c.index-keys-start.is counted)
 
 pub loop-start-smaller : goal.loop-start-smaller
 loop-start-smaller c =
     let keys = c.as_slice-keys.result.now in
     let start = c.loop-start.start in
-    let counted = c.count_of_name.ensures.value ∙ ap (prefix_len (λ b. eq_by_cmp name_cmp b.now.name c.index-keys-start.result.now.name)) (to_end start keys) in
-    omega (arith, goes_on keys start c.count_of_name.result c.index-keys-start.result c.loop-start-test.true c.index-keys-start.is counted)
+    let counted = counted_from keys start c.count_of_first.result c.index-keys-start.result c.loop-start-test.true c.index-keys-start.is c.count_of_first.ensures.value in
+    omega (arith, goes_on keys start c.count_of_first.result c.index-keys-start.result c.loop-start-test.true c.index-keys-start.is counted)
 
 pub loop-start-preserved-then-are_of_ns : goal.loop-start-preserved-then-are_of_ns
 loop-start-preserved-then-are_of_ns c =
     let keys = c.as_slice-keys.result.now in
     let are = ap lent_keys c.as_slice-keys.ensures.value ∙ c.in_ok-keys.ensures.ok in
     let start = c.loop-start.start in
-    let count = c.count_of_name.result in
-    let counted = c.count_of_name.ensures.value ∙ ap (prefix_len (λ b. eq_by_cmp name_cmp b.now.name c.index-keys-start.result.now.name)) (to_end start keys) in
+    let count = c.count_of_first.result in
+    let counted = counted_from keys start c.count_of_first.result c.index-keys-start.result c.loop-start-test.true c.index-keys-start.is c.count_of_first.ensures.value in
     passed_over c.args.origin.now c.args.records.now c.args.opt_out keys c.in_ok-keys.ensures.zone.ordered are start count c.index-keys-start.result c.loop-start-test.true c.index-keys-start.is counted
     (map node_of c.loop-start.names.items) c.loop-start.last.now c.loop-start.invariant
     c.are_of_ns.result (c.are_of_ns.ensures ∙ ap are_of_ns (of_count start count keys)) (λ i. c.if-opt_out.true i && c.if-are_of_ns.true i)
@@ -53,9 +50,9 @@ loop-start-preserved c =
     let keys = c.as_slice-keys.result.now in
     let are = ap lent_keys c.as_slice-keys.ensures.value ∙ c.in_ok-keys.ensures.ok in
     let start = c.loop-start.start in
-    let count = c.count_of_name.result in
+    let count = c.count_of_first.result in
     let first = c.index-keys-start.result in
-    let counted = c.count_of_name.ensures.value ∙ ap (prefix_len (λ b. eq_by_cmp name_cmp b.now.name c.index-keys-start.result.now.name)) (to_end start keys) in
+    let counted = counted_from keys start c.count_of_first.result c.index-keys-start.result c.loop-start-test.true c.index-keys-start.is c.count_of_first.ensures.value in
     let own = take count (drop start keys) in
     let old = map node_of c.loop-start.names.items in
     let counts : c.args.opt_out && are_of_ns own ≡ false = elim c.else-opt_out.branch [

@@ -1,11 +1,9 @@
 use Rattle.std.proofs.Common.{◌+◌, ◌++◌, List, [], ◌∷◌, map, drop, sym, ap, ◌∙◌, subst, arith}
 use Rattle.std.specs.Borrow.{Bor}
-use Rattle.std.specs.List.{prefix_len}
-use Rattle.std.specs.Ordering.{nat_cmp, eq_by_cmp}
+use Rattle.std.specs.Ordering.{nat_cmp}
 use Rattle.std.proofs.Math.ListN.{drop_of_length-le}
 use Rattle.zone_proto.specs.declared.rr_key.RrKey.{RrKey}
 use Rattle.zone_proto.specs.Keys.{key, key_cmp}
-use Rattle.zone_proto.specs.Names.{name_cmp}
 use Rattle.zone_proto.specs.Sets.{RRset}
 use Rattle.zone_proto.specs.Types.{RRSIG, NSEC}
 use Rattle.zone_map.specs.Zones.{Sets}
@@ -14,7 +12,7 @@ use Rattle.zone_denial.specs.NsecSets.{nsec_data, new_set}
 use Rattle.zone_denial.specs.TypeLists.{joined}
 use Rattle.zone_denial.proofs.Ascending.{Ascends-from_sorted}
 use Rattle.zone_denial.proofs.Linking.{Linking, Linking-start, Linking-end}
-use Rattle.zone_denial.proofs.KeyRuns.{lent_keys, to_end, of_count, goes_on, Linking-step}
+use Rattle.zone_denial.proofs.KeyRuns.{lent_keys, to_end, of_count, goes_on, Linking-step, counted_from}
 use Rattle.zone_denial.proofs.nsec_sets.nsec_entries.Goals as goal
 
 pub loop-start-init : goal.loop-start-init
@@ -27,19 +25,17 @@ pub loop-start-smaller : goal.loop-start-smaller
 loop-start-smaller c =
     let keys = c.args.keys.now in
     let start = c.loop-start.start in
-    let of_name = λ (b : Bor RrKey). eq_by_cmp name_cmp b.now.name c.index-keys-start.result.now.name in
-    let counted = c.count_of_name.ensures.value ∙ ap (prefix_len of_name) (to_end start keys) in
-    omega (arith, goes_on keys start c.count_of_name.result c.index-keys-start.result c.loop-start-test.true c.index-keys-start.is counted)
+    let counted = counted_from keys start c.count_of_first.result c.index-keys-start.result c.loop-start-test.true c.index-keys-start.is c.count_of_first.ensures.value in
+    omega (arith, goes_on keys start c.count_of_first.result c.index-keys-start.result c.loop-start-test.true c.index-keys-start.is counted)
 
 pub loop-start-preserved : goal.loop-start-preserved
 loop-start-preserved c =
     let keys = c.args.keys.now in
     let ks = lent_keys keys in
     let start = c.loop-start.start in
-    let count = c.count_of_name.result in
+    let count = c.count_of_first.result in
     let name = c.index-keys-start.result.now.name in
-    let of_name = λ (b : Bor RrKey). eq_by_cmp name_cmp b.now.name name in
-    let counted = c.count_of_name.ensures.value ∙ ap (prefix_len of_name) (to_end start keys) in
+    let counted = counted_from keys start c.count_of_first.result c.index-keys-start.result c.loop-start-test.true c.index-keys-start.is c.count_of_first.ensures.value in
     let others = drop (start + count) keys in
     let next = c.first_name-next.ensures ∙ ap (λ bs. first_name c.args.origin.now (lent_keys bs)) (to_end (start + count) keys) in
     let types = c.in_ok-types.ensures.ok ∙ ap (λ (bs : List (Bor RrKey)). joined nat_cmp NSEC (joined nat_cmp RRSIG (map (λ b. b.now.record_type.0) bs))) (of_count start count keys) in

@@ -1,12 +1,10 @@
 use Rattle.std.proofs.Common.{◌≡◌, ℕ, ◌+◌, ◌<◌, ◌==◌, true, List, map, length, take, drop, sym, ap, ◌∙◌, subst, arith, eqb-true}
 use Rattle.std.specs.Borrow.{Bor}
-use Rattle.std.specs.List.{prefix_len}
-use Rattle.std.specs.Ordering.{nat_cmp, eq_by_cmp}
+use Rattle.std.specs.Ordering.{nat_cmp}
 use Rattle.std.proofs.Math.ListN.{drop_of_length-le}
 use Rattle.std.proofs.lemmas.List.Elements.{All-head, All-tail}
 use Rattle.zone_proto.specs.declared.rr_key.RrKey.{RrKey}
 use Rattle.zone_proto.specs.Keys.{key, key_cmp}
-use Rattle.zone_proto.specs.Names.{name_cmp}
 use Rattle.zone_proto.specs.Sets.{RRset}
 use Rattle.zone_proto.specs.Types.{RRSIG, NSEC}
 use Rattle.zone_map.proofs.Neighbours.{not_false, not_true}
@@ -15,7 +13,7 @@ use Rattle.zone_denial.specs.NsecLinks.{first_name}
 use Rattle.zone_denial.specs.NsecSets.{nsec_data, new_set}
 use Rattle.zone_denial.specs.TypeLists.{joined}
 use Rattle.zone_denial.proofs.Ascending.{Ascends-from_sorted}
-use Rattle.zone_denial.proofs.KeyRuns.{lent_keys, to_end, of_count, Linking-step}
+use Rattle.zone_denial.proofs.KeyRuns.{lent_keys, to_end, of_count, Linking-step, counted_from}
 use Rattle.zone_denial.proofs.StandingSets.{under_own_key, StandSoFar-start, StandSoFar-other, StandSoFar-more, StandSoFar-end}
 use Rattle.zone_denial.proofs.nsec_standing.nsec_sets_stand.Goals as goal
 
@@ -49,11 +47,10 @@ loop-key-preserved c =
     let keys = c.args.keys.now in
     let ks = lent_keys keys in
     let start = c.loop-key.start in
-    let count = c.count_of_name.result in
+    let count = c.count_of_first.result in
     let lt : start < length keys = omega (arith, c.loop-key.invariant.bound) in
     let name = c.index-keys-start.result.now.name in
-    let of_name = λ (b : Bor RrKey). eq_by_cmp name_cmp b.now.name name in
-    let counted = c.count_of_name.ensures.value ∙ ap (prefix_len of_name) (to_end start keys) in
+    let counted = counted_from keys start c.count_of_first.result c.index-keys-start.result lt c.index-keys-start.is c.count_of_first.ensures.value in
     let others = drop (start + count) keys in
     let next = c.first_name-next.ensures ∙ ap (λ bs. first_name c.args.origin.now (lent_keys bs)) (to_end (start + count) keys) in
     let types = ap (λ (bs : List (Bor RrKey)). joined nat_cmp NSEC (joined nat_cmp RRSIG (map (λ b. b.now.record_type.0) bs))) (of_count start count keys) in
@@ -67,7 +64,7 @@ loop-key-preserved c =
     let same = λ (serial : ℕ). c.is_nsec_set.ensures passed serial ∙ (λ i. new_set c.args.ttl serial name (nsec_data (next i) (types i))) in
     record {
       stored = All-tail (λ d. IsStoredAt d.0.name d.0.record_type.0 d.1) _ _ all;
-      bound = omega (arith, c.count_of_name.ensures.bound);
+      bound = omega (arith, c.count_of_first.ensures.bound);
       so_far =
           StandSoFar-more c.args.origin.now ks c.args.ttl c.args.records.now e c.loop-key.key-iterator c.next.new.self c.in-Some.ensures.steps (lent_keys (drop start keys)) c.loop-key.invariant.so_far (lent_keys others) made denies
           (λ serial. under_own_key e name c.args.ttl serial data' stored denies c.labels.ensures.valid.lower (same serial))
