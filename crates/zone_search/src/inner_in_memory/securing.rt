@@ -1,9 +1,8 @@
 // The record sets of a zone once it is secured.
-ghost use Rattle.std.specs.Prelude.{◌≡◌, ◌⊎◌, ◌==◌, ℕ, cond, None, Some, IfOk, IfErr, OnOk, OnErr, IsOkUnless, option_map, option_copied};
+ghost use Rattle.std.specs.Prelude.{◌≡◌, ◌⊎◌, ◌==◌, ℕ, cond, None, Some, IfOk, IfErr, OnOk, OnErr, IsOkUnless, option_copied};
 ghost use Rattle.zone_proto.specs.Names.{Name};
 ghost use Rattle.zone_proto.specs.Types.{SOA, CNAME, NSEC};
 ghost use Rattle.zone_denial.specs.NsecSets.{nsec_set_at};
-ghost use Rattle.zone_denial.specs.Nsec3Zones.{hash_with};
 ghost use Rattle.zone_map.specs.Zones.{set_at, owns, IsZone};
 ghost use Rattle.zone_signing.specs.Secured.{IsSecured};
 ghost use Rattle.zone_search.specs.StartOfAuthority.{minimum, serial};
