@@ -1,6 +1,6 @@
 #!/usr/bin/env python3
-"""Checks the lists of public calls that take memory and of those that take none, docs/calls-with-memory.txt and
-docs/calls-without-memory.txt.
+"""Checks the lists of public calls that take memory and of those that take none, calls-with-memory.txt and
+calls-without-memory.txt of crates/zone_calls.
 
 A line there is `CALL: ROW`, `CALL: test NAME` or `CALL: transcript NAME`, as the heads of the lists say. Each public call has to
 stand in one of the lists, and once, and what a line names has to be there: a row of crates/zone_calls/data that refuses memory
@@ -21,7 +21,8 @@ HANDED_ON = ["zone_map", "zone_search", "zone_in_memory", "zone_program"]
 # The calls that a type has by these traits are listed too; those of the library's own traits stand under the trait.
 TRAITS = ["Clone", "Default", "From", "IntoIterator", "Iterator", "Ord", "PartialEq", "PartialOrd"]
 
-# The lists, and how a row of each refuses memory to its call.
+# Where the lists are, beside the rows that they name; each, and how a row of it refuses memory to its call.
+FOLDER = "crates/zone_calls"
 LISTS = [("calls-with-memory.txt", r"after [1-9]\d* refusals: "), ("calls-without-memory.txt", "without memory: ")]
 
 
@@ -73,7 +74,7 @@ def public_calls():
 
 def listed(name):
     """The lines of a list: each call, and where its growths are refused."""
-    lines = [it for it in read(f"docs/{name}").split("\n") if it and not it.startswith("#")]
+    lines = [it for it in read(f"{FOLDER}/{name}").split("\n") if it and not it.startswith("#")]
     return [tuple(it.split(": ", 1)) for it in lines]
 
 
@@ -87,7 +88,7 @@ def named():
 
 
 def main():
-    rows, others = "\n".join(texts("crates/zone_calls/data/*")), named()
+    rows, others = "\n".join(texts(f"{FOLDER}/data/*")), named()
     seen, wrong = set(), []
     for name, form in LISTS:
         for call, where in listed(name):
@@ -95,9 +96,9 @@ def main():
                 wrong.append(f"{call} is listed twice")
             seen.add(call)
             if where not in others and not re.search(f"^{form}{re.escape(where)} ", rows, re.M):
-                wrong.append(f"docs/{name}: {call}: nothing refuses memory to '{where}'")
+                wrong.append(f"{FOLDER}/{name}: {call}: nothing refuses memory to '{where}'")
     public = public_calls()
-    wrong += [f"{it} is a public call, and in no list of docs/" for it in sorted(public - seen)]
+    wrong += [f"{it} is a public call, and in no list of {FOLDER}" for it in sorted(public - seen)]
     wrong += [f"{it} is listed, and is no public call" for it in sorted(seen - public)]
     for it in wrong:
         print(f"memory_calls: {it}")
