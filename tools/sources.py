@@ -1,0 +1,111 @@
+"""What stands in the sources of the crates, for the checks of the documents: the functions with their clauses, the types and
+traits, the definitions, and the files. Sources are in the layout of `rt fmt`, so that a line tells what it begins."""
+
+import os
+import re
+
+TOP = os.path.dirname(os.path.dirname(os.path.realpath(__file__)))
+
+
+def read(path):
+    with open(f"{TOP}/{path}", encoding="utf-8") as it:
+        return it.read()
+
+
+def files_below(folder, *ends):
+    """The paths of the files below a folder of the repository whose names end so; what rt makes in out/ is left out."""
+    found = []
+    for where, folders, names in os.walk(f"{TOP}/{folder}"):
+        folders[:] = sorted(it for it in folders if it not in ("out", ".git", "__pycache__"))
+        found += [os.path.relpath(f"{where}/{it}", TOP) for it in sorted(names) if it.endswith(ends)]
+    return found
+
+
+def crates():
+    """The crates of crates.txt in its order, each with what it stands on."""
+    lines = [it.split(":") for it in read("crates.txt").split("\n") if it and not it.startswith("#")]
+    return {name: below.split() for name, below in lines}
+
+
+def standing_below(name, listed):
+    """A crate and the crates of the repository that it stands on, in the order of crates.txt."""
+    needed = {name}
+    for it in reversed(listed):
+        if it in needed:
+            needed.update(listed[it])
+    return [it for it in listed if it in needed]
+
+
+class Names:
+    """The names that the sources of some crates have."""
+
+    def __init__(self):
+        # The clauses of each function, by its name alone and behind those of its type, trait and module; and the fields of each
+        # record of the definitions.
+        self.clauses = {}
+        # Types, traits, modules, cases of enums, derived traits, definitions, and proof files.
+        self.others = set()
+
+    def add_clauses(self, names, clauses):
+        for name in names:
+            self.clauses.setdefault(name, set()).update(clauses)
+
+    def has(self, name):
+        return name in self.clauses or name in self.others
+
+
+def owners_of(line):
+    """The trait and the type that the functions below such a line belong to, those of the two that it has."""
+    head = re.match(r"(?:pub )?(?:impl|trait)\b(?:<[^{]*?>)? (?:([\w:]+)(?:<.*>)? for )?&?(?:'\w+ )?(\w+)", line)
+    return [it.split("::")[-1] for it in head.groups() if it] if head else []
+
+
+def add_items(names, text, module):
+    """Adds what one source has."""
+    owners, function = [], []
+    for line in text.split("\n"):
+        if head := owners_of(line):
+            owners = head
+            names.others.update(head)
+        elif line.startswith("}"):
+            owners = []
+        if it := re.match(r"(?:    )?(?:pub(?:\([\w:]+\))? )?(?:const )?fn (\w+)", line):
+            function = [it[1]] + [f"{owner}::{it[1]}" for owner in owners + [module]]
+            names.add_clauses(function, [])
+        elif it := re.match(r" +ensures (\w+ )?\{", line):
+            names.add_clauses(function, [it[1].strip()] if it[1] else [])
+        elif it := re.match(r"(?:pub )?(?:enum|struct|trait|mod|type|const) (\w+)", line):
+            owners = [it[1]] if " enum " in f" {line}" else owners
+            names.others.add(it[1])
+        elif it := re.match(r"    ([A-Z]\w*)(?:[,({ ]|$)", line):
+            names.others.update([it[1]] + [f"{owner}::{it[1]}" for owner in owners])
+        elif it := re.match(r"#\[derive\((.*)\)\]", line):
+            names.others.update(re.findall(r"\w+", it[1]))
+
+
+def add_definitions(names, text):
+    """Adds what one file of definitions has: the public names of it, and the fields of its records as their clauses."""
+    record = None
+    for line in text.split("\n"):
+        if it := re.match(r"( *)(?:abbrev )?pub (record |data )?([\w']+)", line):
+            if it[2] == "record ":
+                record = it[3]
+                names.add_clauses([record], [])
+            elif record and it[1]:
+                names.add_clauses([record], [it[3]])
+            names.others.add(it[3])
+        elif line and not line.startswith(" "):
+            record = None
+
+
+def names_of(crate):
+    """The names of one crate."""
+    names = Names()
+    for path in files_below(f"crates/{crate}/src", ".rt"):
+        add_items(names, read(path), os.path.basename(path)[: -len(".rt")])
+    for path in files_below(f"crates/{crate}/specs", ".antt"):
+        add_definitions(names, read(path))
+        names.others.add(os.path.basename(path)[: -len(".antt")])
+    for path in files_below(f"crates/{crate}/proofs", ".antt"):
+        names.others.add(os.path.basename(path)[: -len(".antt")])
+    return names
