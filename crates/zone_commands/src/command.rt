@@ -23,7 +23,7 @@ pub enum Command {
     Drop(RrKey),
     /// `kind none`, `kind nsec`, `kind nsec3 SALT ITERATIONS`, or the last with `optout` after it: makes the zone anew, without
     /// records and signers, and says how it denies what it doesn't hold once it is secured: not at all, by NSEC records, or by
-    /// NSEC3 records, where opt-out leaves out unsigned delegations.
+    /// NSEC3 records, where opt-out leaves out names that own NS alone.
     Renew(Option<NxProofKind>),
     /// `key N`: adds the demonstration signer of this number.
     Key(u16),

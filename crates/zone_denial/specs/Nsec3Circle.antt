@@ -73,7 +73,7 @@ module _ (origin : Name) (m : Sets) (hash : Name → Option (List ℕ)) (paramet
     pub single : length s.records ≡ 1
     pub says : first_nsec3 s.records ≡ Some (nsec3_data parameters (next_digest (digests hash (nsec3_names origin m parameters.opt_out)) d) (nsec3_types origin m n))
 
-  -- the NSEC3 sets of a zone are a circle: one for each of the names and no other, under its hashed owner, each as the circle has it; and the origin tells the parameters (RFC 5155 section 7.1)
+  -- the NSEC3 sets of a zone are a circle: one for each of the names and no other, under its hashed owner, each as the circle has it; and the origin owns NSEC3PARAM, of any parameters (RFC 5155 section 7.1)
   pub record IsNsec3Circle : Type 0 where
     pub one_for_each : (n : Name) (d : List ℕ) → Contains (nsec3_names origin m parameters.opt_out) n → hash n ≡ Some d
         → (s : RRset) × (set_at m (hashed_owner origin d) NSEC3 ≡ Some s) × IsOnNsec3Circle n d s

@@ -8,11 +8,11 @@ use Rattle.zone_map.specs.Zones.{Sets, types_at}
 use Rattle.zone_denial.specs.Authority.{authoritative_names}
 use Rattle.zone_denial.specs.TypeLists.{in_order}
 
--- n owns no set but NS, NSEC3 aside: of the authoritative names, the delegations that have no DS (RFC 5155 section 6)
+-- n owns no set but NS, NSEC3 aside: of the authoritative names, the delegations that have neither DS nor a set of another type (RFC 5155 section 6)
 abbrev pub is_unsigned_delegation : Sets → Name → Bool
 is_unsigned_delegation m n = list_all (λ t. (t == NS) || (t == NSEC3)) (types_at m n)
 
--- the authoritative names, with opt-out without the unsigned delegations; the origin is no delegation of its own zone
+-- the authoritative names, with opt-out without those that own NS alone; the origin is no delegation of its own zone
 abbrev pub counted_names : Name → Sets → Bool → List Name
 counted_names origin m opt_out = filter (λ n. not (opt_out && (not (name_eq n origin) && is_unsigned_delegation m n))) (authoritative_names origin m NSEC3)
 

@@ -29,8 +29,8 @@ pub fn type_lists_are_exact()
 {}
 
 /// The names that get an NSEC3 set ascend, each stands there once, and they are exactly the origin and, strictly below it, the
-/// names that the zone is authoritative for and the empty names above these; with opt-out unsigned delegations don't count
-/// (RFC 5155 section 7.1).
+/// names that the zone is authoritative for and the empty names above these; with opt-out those that own NS alone, NSEC3
+/// aside, don't count (RFC 5155 sections 6 and 7.1).
 pub fn nsec3_names_are_exact()
     ensures ascending { (origin : Name) (m : Sets) (opt_out : Bool) → IsStrictlySortedBy name_cmp (nsec3_names origin m opt_out) }
     ensures names { (origin : Name) (m : Sets) (opt_out : Bool) (n : Name) → Contains (nsec3_names origin m opt_out) n ↔ IsNsec3Name origin m opt_out n }
@@ -126,9 +126,9 @@ pub fn circle_reads_one()
 
 /// A zone that gets its NSEC3 sets, in the place of those that it had, has a circle of them, so that NSEC3 denies it: one set
 /// for each name that gets one and no other, under the name's hashed owner, with the next digest and the types of the name; and
-/// the origin tells the parameters (RFC 5155 section 7.1). That is so where the origin isn't the root, and the hash gives the
-/// names on the circle digests of one length that differ and make owners that are names. The zone's other sets may change, in
-/// data, serials and signatures, as long as each name owns the same types.
+/// the origin owns NSEC3PARAM, of whichever parameters (RFC 5155 section 7.1). That is so where the origin isn't the root, and
+/// the hash gives the names on the circle digests of one length that differ and make owners that are names. The zone's other
+/// sets may change, in data, serials and signatures, as long as each name owns the same types.
 pub fn secured_is_nsec3_circle()
     ensures { SecuredIsNsec3Circle }
 {}
@@ -150,8 +150,8 @@ pub fn nsec3_denial_proves_star()
 {}
 
 /// What a name owns besides NSEC3 is in the list of types of its NSEC3 set, where the name is one of the circle's. A name of
-/// the zone that isn't stands below a zone cut, so that what it owns is glue, or of a child's zone; or opt-out leaves it out,
-/// an unsigned delegation, and what it owns is NS (RFC 5155 sections 6 and 7.1).
+/// the zone that owns a type besides NSEC3 and isn't one of the circle's stands below a zone cut, so that what it owns is glue,
+/// or of a child's zone; or opt-out leaves it out, and then it owns NS alone, NSEC3 aside (RFC 5155 sections 6 and 7.1).
 #[tactic(auto, using(crate::proofs::Nsec3Lists::lists_all_owned))]
 pub fn nsec3_circle_lists_all_owned()
     ensures { Nsec3CircleListsAllOwned }

@@ -60,7 +60,7 @@ impl<'a> Nsec3Name<'a> {
 
 /// The names that get an NSEC3 set in the zone of this origin, in order, each with the types that its set lists (RFC 5155
 /// section 7.1): the origin, the names that the zone is authoritative for, and the empty names between. With `opt_out` a
-/// delegation that isn't signed gets none. NSEC3 sets that stand in the zone count for nothing. Refused by `Memory` alone.
+/// name that owns NS alone gets none. NSEC3 sets that stand in the zone count for nothing. Refused by `Memory` alone.
 pub(crate) fn nsec3_names<'a>(
     records: &'a RecordMap,
     origin: &'a LowerName,

@@ -37,7 +37,7 @@ use zone_proto::{
 /// digests (RFC 5155 section 7.1), and the origin's NSEC3PARAM set, into which the parameters are inserted (RFC 5155 section 4).
 ///
 /// `records` are the sets of the zone, and `origin` is its name. `hash` gives the digests, by `parameters`, which are those of
-/// all NSEC3 records; of their flags only opt-out is used, by which delegations that aren't signed get no set. `ttl` is the
+/// all NSEC3 records; of their flags only opt-out is used, by which names that own NS alone get no set. `ttl` is the
 /// TTL of all records, in seconds, and `serial` the serial of the sets. The answer holds the new sets alone. No set is made,
 /// and the answer is none, where those that stand in the zone are already these, serials and signatures of the NSEC3 sets
 /// aside, and no two names have one owner.

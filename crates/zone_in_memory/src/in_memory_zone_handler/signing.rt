@@ -51,7 +51,7 @@ impl<S: Signer, H: Nsec3Hash> InMemoryZoneHandler<S, H> {
     ///
     /// Of a zone that NSEC3 denies, and that has a signer, the NSEC3 sets are made anew in the same way (RFC 5155 section 7.1):
     /// one for each of the names that the zone is authoritative for, of the empty names above them, and of the origin; with
-    /// opt-out none for a delegation that has no DS. It stands at the hashed owner of the name, and its record has the zone's
+    /// opt-out none for a name that owns NS alone. It stands at the hashed owner of the name, and its record has the zone's
     /// parameters, the digest of the next name in the order of digests, or of the first after the last, and the types that the
     /// name owns, with RRSIG where there is one. Where names have one digest, their records are inserted into one set in the
     /// order of the names. Then an NSEC3PARAM record with the parameters is inserted at the origin, unless it is there. So
