@@ -2,9 +2,10 @@
 """Checks the lists of public calls that take memory and of those that take none, calls-with-memory.txt and
 calls-without-memory.txt of crates/zone_calls.
 
-A line there is `CALL: ROW`, `CALL: test NAME` or `CALL: transcript NAME`, as the heads of the lists say. Each public call has to
+A line there is `CALL: ROW`, `CALL: by ROW` or `CALL: transcript NAME`, as the heads of the lists say. Each public call has to
 stand in one of the lists, and once, and what a line names has to be there: a row of crates/zone_calls/data that refuses memory
-to the call, a test of crates/zone_tests, or a transcript of crates/zone_transcripts that refuses memory to its lines.
+to the call, or a transcript of crates/zone_transcripts that refuses memory to its lines. The file that makes the calls of a row
+has to name the call, if the line doesn't say that another call makes it.
 Prints what is wrong, and ends with status 1 where something is.
 """
 import glob
@@ -16,10 +17,19 @@ TOP = os.path.dirname(os.path.dirname(os.path.realpath(__file__)))
 
 # The crates whose items all are the library's, and those of which zone_store hands items on.
 OWN = ["zone_proto", "zone_text", "zone_validation", "zone_handler"]
-HANDED_ON = ["zone_map", "zone_search", "zone_in_memory", "zone_program"]
+HANDED_ON = ["zone_map", "zone_inner", "zone_in_memory", "zone_program"]
 
 # The calls that a type has by these traits are listed too; those of the library's own traits stand under the trait.
 TRAITS = ["Clone", "Default", "From", "IntoIterator", "Iterator", "Ord", "PartialEq", "PartialOrd"]
+
+# How a source writes calls of the standard library's traits.
+WRITTEN = {"eq": r"==", "next": r"\.next\(|\bfor \w+ in\b"}
+
+# What the files that make calls write their answers by.
+WRITERS = ["iterators", "texts", "write"]
+
+# The crates whose files make the calls of rows.
+MAKERS = ["value_calls", "zone_calls"]
 
 # Where the lists are, beside the rows that they name; each, and how a row of it refuses memory to its call.
 FOLDER = "crates/zone_calls"
@@ -78,25 +88,47 @@ def listed(name):
     return [tuple(it.split(": ", 1)) for it in lines]
 
 
-def named():
-    """The tests of files in which memory is refused, and the transcripts that refuse memory to their lines, as the lists name them."""
-    scarce = [it for it in texts("crates/zone_tests/src/*.rt") if "use scarce::Scarcity;" in it]
-    tests = re.findall(r"#\[test\]\nfn (\w+)", "\n".join(scarce))
+def transcripts():
+    """The transcripts that refuse memory to their lines, as the lists name them."""
     form = r"^## (\w+)\n(?:[#$].*\n)*! memory is refused to each line$"
-    transcripts = re.findall(form, "\n".join(texts("crates/zone_transcripts/data/*")), re.M)
-    return {f"test {it}" for it in tests} | {f"transcript {it}" for it in transcripts}
+    return {f"transcript {it}" for it in re.findall(form, "\n".join(texts("crates/zone_transcripts/data/*")), re.M)}
+
+
+def source(name):
+    """What the file of this name has, of the crates that make the calls of rows."""
+    return "\n".join(it for crate in MAKERS for it in texts(f"crates/{crate}/src/{name}.rt"))
+
+
+def forms():
+    """The verbs of rows, in the order in which they are looked for, and the files that make their calls."""
+    lines = re.search(r'const FORMS: &str = "(.*?)"', read("crates/call_arguments/src/forms.rt"), re.S)[1].split("\n")
+    subjects = [it.split(":") for it in lines if it]
+    return [(verb.strip(), {"parked": "handlers"}.get(subject, subject)) for subject, verb, _ in subjects]
+
+
+def makes(row, call):
+    """Whether the file that makes the call of a row names a call of the library."""
+    subject = next((it for verb, it in forms() if f"{row} ".startswith(f"{verb} ")), None)
+    if not subject:
+        return False
+    name = re.split("::", call)[-1]
+    sources = "\n".join(source(it) for it in [subject, *WRITERS])
+    return re.search(WRITTEN.get(name, rf"(?<!fn )\b{name}\b(::<.*?>)?\("), sources) is not None
 
 
 def main():
-    rows, others = "\n".join(texts(f"{FOLDER}/data/*")), named()
+    rows, others = "\n".join(texts(f"{FOLDER}/data/*")), transcripts()
     seen, wrong = set(), []
     for name, form in LISTS:
         for call, where in listed(name):
             if call in seen:
                 wrong.append(f"{call} is listed twice")
             seen.add(call)
-            if where not in others and not re.search(f"^{form}{re.escape(where)} ", rows, re.M):
-                wrong.append(f"{FOLDER}/{name}: {call}: nothing refuses memory to '{where}'")
+            row = where.removeprefix("by ")
+            if where not in others and not re.search(f"^{form}{re.escape(row)} ", rows, re.M):
+                wrong.append(f"{FOLDER}/{name}: {call}: nothing refuses memory to '{row}'")
+            elif where == row and where not in others and not makes(row, call):
+                wrong.append(f"{FOLDER}/{name}: {call}: what makes '{row}' doesn't name it")
     public = public_calls()
     wrong += [f"{it} is a public call, and in no list of {FOLDER}" for it in sorted(public - seen)]
     wrong += [f"{it} is listed, and is no public call" for it in sorted(seen - public)]

@@ -37,21 +37,32 @@ def standing_below(name, listed):
 
 
 class Names:
-    """The names that the sources of some crates have."""
+    """The names that the sources of a crate have, or of several."""
 
     def __init__(self):
         # The clauses of each function, by its name alone and behind those of its type, trait and module; and the fields of each
         # record of the definitions.
         self.clauses = {}
-        # Types, traits, modules, cases of enums, derived traits, definitions, and proof files.
-        self.others = set()
+        # Types, traits, modules, cases of enums, derived traits.
+        self.items = set()
+        # Public names of definitions.
+        self.definitions = set()
+        # The files of definitions and lemmas, without their ends.
+        self.files = set()
 
     def add_clauses(self, names, clauses):
         for name in names:
             self.clauses.setdefault(name, set()).update(clauses)
 
+    def add(self, others):
+        for name, clauses in others.clauses.items():
+            self.add_clauses([name], clauses)
+        self.items |= others.items
+        self.definitions |= others.definitions
+        self.files |= others.files
+
     def has(self, name):
-        return name in self.clauses or name in self.others
+        return name in self.clauses or name in self.items or name in self.definitions
 
 
 def owners_of(line):
@@ -66,7 +77,7 @@ def add_items(names, text, module):
     for line in text.split("\n"):
         if head := owners_of(line):
             owners = head
-            names.others.update(head)
+            names.items.update(head)
         elif line.startswith("}"):
             owners = []
         if it := re.match(r"(?:    )?(?:pub(?:\([\w:]+\))? )?(?:const )?fn (\w+)", line):
@@ -74,38 +85,40 @@ def add_items(names, text, module):
             names.add_clauses(function, [])
         elif it := re.match(r" +ensures (\w+ )?\{", line):
             names.add_clauses(function, [it[1].strip()] if it[1] else [])
-        elif it := re.match(r"(?:pub )?(?:enum|struct|trait|mod|type|const) (\w+)", line):
-            owners = [it[1]] if " enum " in f" {line}" else owners
-            names.others.add(it[1])
+        elif it := re.match(r"(?:pub )?(enum|struct|trait|mod|type|const) (\w+)", line):
+            owners = [it[2]] if it[1] == "enum" else owners
+            names.items.add(it[2])
         elif it := re.match(r"    ([A-Z]\w*)(?:[,({ ]|$)", line):
-            names.others.update([it[1]] + [f"{owner}::{it[1]}" for owner in owners])
+            names.items.update([it[1]] + [f"{owner}::{it[1]}" for owner in owners])
         elif it := re.match(r"#\[derive\((.*)\)\]", line):
-            names.others.update(re.findall(r"\w+", it[1]))
+            names.items.update(re.findall(r"\w+", it[1]))
 
 
 def add_definitions(names, text):
-    """Adds what one file of definitions has: the public names of it, and the fields of its records as their clauses."""
+    """Adds what one file of definitions has: its public names, and the fields of its records as their clauses."""
     record = None
     for line in text.split("\n"):
-        if it := re.match(r"( *)(?:abbrev )?pub (record |data )?([\w']+)", line):
+        if it := re.match(r"( *)(?:abbrev |unfoldable )?pub (record |data )?([\w']+)", line):
             if it[2] == "record ":
                 record = it[3]
                 names.add_clauses([record], [])
             elif record and it[1]:
                 names.add_clauses([record], [it[3]])
-            names.others.add(it[3])
+            names.definitions.add(it[3])
         elif line and not line.startswith(" "):
             record = None
+
+
+def stem(path):
+    return os.path.splitext(os.path.basename(path))[0]
 
 
 def names_of(crate):
     """The names of one crate."""
     names = Names()
     for path in files_below(f"crates/{crate}/src", ".rt"):
-        add_items(names, read(path), os.path.basename(path)[: -len(".rt")])
+        add_items(names, read(path), stem(path))
     for path in files_below(f"crates/{crate}/specs", ".antt"):
         add_definitions(names, read(path))
-        names.others.add(os.path.basename(path)[: -len(".antt")])
-    for path in files_below(f"crates/{crate}/proofs", ".antt"):
-        names.others.add(os.path.basename(path)[: -len(".antt")])
+    names.files.update(stem(it) for part in ("specs", "proofs") for it in files_below(f"crates/{crate}/{part}", ".antt"))
     return names

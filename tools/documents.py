@@ -1,0 +1,356 @@
+#!/usr/bin/env python3
+"""Checks that the documents are true, as far as their text can be laid beside the sources. Prints what isn't, each with its file
+and line, and ends with status 1 where something is.
+
+- The README's first path is the example's, and its answers are those of examples/answers; it has at most 220 lines.
+- Blocks of Rattle are lines of a source: those of the README and of DENIALS of crates/library_example.
+- The README's list of crates is what crates.txt has below library_example, and its toolchain is what `rt version` prints.
+- Each contract, clause, word of the definitions, lemma, crate and file that a table names is there, and each name that is marked
+  as code stands somewhere in the sources.
+- ARCHITECTURE has each crate, with what it stands on, and each file of its sources; DEFINITIONS each file of definitions, and
+  PROOFS each file of lemmas.
+- Links lead to files and headings that are there. Prose has at most 120 characters a line."""
+
+import functools
+import os
+import re
+import subprocess
+import sys
+
+sys.dont_write_bytecode = True
+
+import markdown
+import sources
+
+README, ARCHITECTURE, DEFINITIONS, PROOFS = "README.md", "docs/ARCHITECTURE.md", "docs/DEFINITIONS.md", "docs/PROOFS.md"
+DIFFERENCES = "docs/DIFFERENCES.md"
+LONGEST_README, LONGEST_PROSE = 220, 120
+EXAMPLE = "crates/library_example/src"
+
+# Names that are marked as code and stand in no source: of hickory-server and of the toolchain's library.
+ELSEWHERE = {"in_memory", "RecursiveError"}
+
+
+def documents():
+    return sources.files_below(".", ".md")
+
+
+@functools.cache
+def crates():
+    return sources.crates()
+
+
+@functools.cache
+def names_of(crate):
+    return sources.names_of(crate)
+
+
+@functools.cache
+def all_names():
+    """The names of all crates together."""
+    names = sources.Names()
+    for crate in crates():
+        names.add(names_of(crate))
+    return names
+
+
+@functools.cache
+def all_words():
+    """The words of all that isn't a document."""
+    paths = [it for it in sources.files_below(".", "") if not it.endswith((".md", ".svg"))]
+    paths = [it for it in paths if os.path.getsize(f"{sources.TOP}/{it}") < 10**6 and it != "tools/documents.py"]
+    return {word for path in paths for word in re.findall(r"[\w'-]*\w'?", f"{path} {sources.read(path)}".replace("/", " "))}
+
+
+@functools.cache
+def all_files():
+    return {it for it in sources.files_below(".", "")}
+
+
+# ---- blocks and lines
+
+
+def check_first_path(path):
+    """A block that shows a run of the program shows what examples/answers has; and the README has the first path."""
+    texts = [text for _, _, text in markdown.blocks(path)]
+    if path == README and sources.read("examples/first-path.txt") not in texts:
+        yield 1, "no block is examples/first-path.txt"
+    for number, _, text in markdown.blocks(path):
+        run = re.match(r"\$ \./zonectl \S+ < examples/(\S+)\n(.+)", text, re.S)
+        if run and run[2] != sources.read(f"examples/answers/{run[1]}"):
+            yield number, f"this isn't what examples/answers/{run[1]} has"
+
+
+def check_rust(path):
+    """A block of Rattle stands, line for line, in a source."""
+    folder = EXAMPLE if path in (README, "docs/DENIALS.md") else "crates"
+    texts = [sources.read(it) for it in sources.files_below(folder, ".rt")]
+    for number, language, block in markdown.blocks(path):
+        if language == "rust" and not any(f"\n{block}" in f"\n{text}" for text in texts):
+            yield number, f"these lines don't stand in {folder}"
+
+
+def check_lengths(path):
+    found = markdown.lines(path)
+    if path == README and len(found) > LONGEST_README:
+        yield len(found), f"{len(found)} lines, and not {LONGEST_README} at most"
+    for line in found:
+        if line.kind in ("prose", "heading") and len(line.text) > LONGEST_PROSE:
+            yield line.number, f"{len(line.text)} characters, and not {LONGEST_PROSE} at most"
+
+
+def check_links(path):
+    for number, target in markdown.links(path):
+        if re.match(r"https?:", target):
+            continue
+        name, _, anchor = target.partition("#")
+        file = os.path.normpath(os.path.join(os.path.dirname(path), name)) if name else path
+        if not os.path.exists(f"{sources.TOP}/{file}"):
+            yield number, f"no file {file} is there"
+        elif anchor and anchor not in markdown.anchors(file):
+            yield number, f"{file} has no heading #{anchor}"
+
+
+# ---- the README's crates and toolchain
+
+
+def check_readme(path):
+    if path != README:
+        return
+    text = " ".join(sources.read(README).split())
+    listed = re.search(r"lines of \[crates\.txt\]\(crates\.txt\):(.*?)\. ", text)
+    needed = sources.standing_below("library_example", crates())[:-1]
+    if not listed or markdown.spans(listed[1]) != needed:
+        yield 1, f"the crates below library_example are {', '.join(needed)}"
+    version = subprocess.run(["rt", "version"], capture_output=True, text=True).stdout.strip()
+    if f"`rt version` prints as `{version}`" not in text:
+        yield 1, f"rt version prints {version}"
+
+
+# ---- what tables name
+
+
+def names_for(crate):
+    return names_of(crate) if crate in crates() else all_names()
+
+
+def without_crate(name):
+    crate, _, rest = name.partition("::")
+    return rest if crate in crates() else name
+
+
+def wrong_contracts(cell, crate):
+    """Items part by semicolons. Each is functions, types or records of definitions, perhaps with clauses that each of those has
+    which have clauses, and perhaps of another crate."""
+    for item in cell.split(";"):
+        other = re.search(r" of `(zone_\w+)`$", item.strip())
+        names = names_for(other[1] if other else crate)
+        owners, _, clauses = re.sub(r" of `zone_\w+`$", "", item.strip()).partition("clause")
+        for owner in map(without_crate, markdown.spans(owners)):
+            if not names.has(owner):
+                yield f"no contract {owner}"
+            for clause in markdown.spans(clauses):
+                if clause not in names.clauses.get(owner, [clause]):
+                    yield f"{owner} has no clause {clause}"
+
+
+def wrong_parts(cell, crate):
+    """A part of a record of definitions, and what it says."""
+    return wrong_definitions(cell.partition(":")[0], crate)
+
+
+def wrong_definitions(cell, crate):
+    for span in markdown.spans(cell):
+        name = span.split()[0]
+        if name not in all_names().definitions and name not in all_names().clauses and name not in all_names().files:
+            yield f"no definition {name}"
+
+
+def wrong_files(cell, crate):
+    """Files of definitions, lemmas and sources, by the ends of their paths."""
+    for span in markdown.spans(cell):
+        if re.fullmatch(r"[\w/]+\.(rt|antt)", span) and not any(f"/{it}".endswith(f"/{span}") for it in all_files()):
+            yield f"no file {span}"
+        elif re.fullmatch(r"[A-Z]\w+", span) and span not in all_names().files and not all_names().has(span):
+            yield f"no file of definitions or lemmas {span}"
+
+
+def wrong_sources(cell, crate):
+    """Files of a crate's src, or of its proofs and definitions where they have no end."""
+    for span in markdown.spans(cell):
+        inside = f"crates/{crate}/src/{span}"
+        if span not in names_for(crate).files and not os.path.exists(f"{sources.TOP}/{inside}"):
+            yield f"no file {span} of {crate}"
+
+
+def wrong_crates(cell, crate):
+    for span in markdown.spans(cell):
+        if span not in crates():
+            yield f"no crate {span}"
+
+
+def wrong_laws(cell, crate):
+    for span in markdown.spans(cell):
+        if f"laws::{span}" not in all_names().clauses:
+            yield f"no law {span}"
+
+
+# What the cells below a word of a table's head are; parts in DEFINITIONS alone.
+COLUMNS = {
+    "Contract": wrong_contracts,
+    "Call": wrong_contracts,
+    "Words": wrong_definitions,
+    "Word": wrong_definitions,
+    "Relation": wrong_definitions,
+    "Part": wrong_parts,
+    "Lemmas": wrong_files,
+    "Begin with": wrong_files,
+    "Then": wrong_files,
+    "File": wrong_sources,
+    "File of `src/`": wrong_sources,
+    "Crate": wrong_crates,
+    "Law": wrong_laws,
+}
+
+
+def crate_of(table, row):
+    """The crate that a row speaks of: that of its own cell, or of the heading above."""
+    own = markdown.spans(row[table.head.index("Crate")]) if "Crate" in table.head else []
+    above = [it.split("/")[0] for head in table.below for it in markdown.spans(head)]
+    return (own or above or [""])[0]
+
+
+def check_tables(path):
+    for table in markdown.tables(path):
+        for number, row in table.rows:
+            for head, cell in zip(table.head, row):
+                if head in COLUMNS and (head != "Part" or path == DEFINITIONS):
+                    yield from ((number, it) for it in COLUMNS[head](cell, crate_of(table, row)))
+
+
+# ---- what documents have to name
+
+
+def named_below(path, crate, ends=("",)):
+    """The words that are marked as code below the heading of a crate."""
+    heads = {f"`{crate}{end}`" for end in ends}
+    return {span for line in markdown.lines(path) if heads & set(line.below) for span in markdown.spans(line.text)}
+
+
+def check_architecture(path):
+    """The table of crates is crates.txt, and each source of a crate that has a table is named there."""
+    if path != ARCHITECTURE:
+        return
+    table = next(it for it in markdown.tables(path) if "Stands on" in it.head)
+    stated = {markdown.spans(row[0])[0]: markdown.spans(row[-1]) for _, row in table.rows}
+    for crate, below in crates().items():
+        if crate not in stated:
+            yield 1, f"{crate} isn't in the table of crates"
+        elif sorted(stated[crate]) != sorted(below):
+            yield 1, f"{crate} stands on {', '.join(below)}"
+        named = named_below(path, crate)
+        for source in sources.files_below(f"crates/{crate}/src", ".rt"):
+            name = source.removeprefix(f"crates/{crate}/src/")
+            if named and name not in named and name.split("/")[0] + "/" not in named and name not in ("lib.rt", "main.rt"):
+                yield 1, f"{name} isn't in the table of {crate}"
+
+
+def check_definitions(path):
+    """Each file of definitions is named: with its crate, or behind one that is, or as one `of` a crate."""
+    if path != DEFINITIONS:
+        return
+    named, crate = set(), ""
+    for line in markdown.lines(path):
+        for part, file, other in re.findall(r"`(?:crates/(\w+)/specs/)?(\w+)\.antt`(?: of `(\w+)`)?", line.text):
+            crate = part or crate
+            named.add(f"crates/{other or crate}/specs/{file}.antt")
+    there = {it for crate in crates() for it in sources.files_below(f"crates/{crate}/specs", ".antt") if not it.endswith("/Lib.antt")}
+    yield from ((1, f"{it} isn't named") for it in sorted(there - named))
+
+
+def lemma_files(crate):
+    """The files of lemmas of a crate: those of proofs/ and of its folders of subjects, which begin with a capital."""
+    top = f"{sources.TOP}/crates/{crate}/proofs"
+    folders = [top] + [f"{top}/{it}" for it in os.listdir(top) if it[0].isupper() and os.path.isdir(f"{top}/{it}")]
+    files = {name for it in folders for name in os.listdir(it) if name.endswith(".antt")}
+    return sorted(files - {"Lib.antt"} - {f"{os.path.basename(it)}.antt" for it in folders[1:]})
+
+
+def check_proofs(path):
+    """Each file of lemmas is in the table of its crate."""
+    if path != PROOFS:
+        return
+    for crate in crates():
+        named = named_below(path, crate, ("/proofs",))
+        for name in lemma_files(crate) if named else []:
+            if sources.stem(name) not in named:
+                yield 1, f"{name} isn't in the table of {crate}/proofs"
+
+
+# ---- names in prose
+
+
+def is_path(word):
+    return re.search(r"\w/\w|\.(rt|antt|py|edit|txt|svg)$", word) is not None
+
+
+def is_name(word):
+    """Whether a word can only be a name of code: with an underscore, of several parts, or with a capital inside."""
+    return re.search(r"\w_\w|::|[a-z][A-Z]", word) is not None
+
+
+def has_path(word):
+    """Whether a file or a folder has a path that ends so. What stands for any name, as FUNCTION, is passed over, and what the
+    toolchain makes."""
+    end = f"/{word.strip('/')}/"
+    return re.search(r"\*|[A-Z]{4}|\bout/|/declared", word) is not None or any(end in f"/{it}/" for it in all_files())
+
+
+def missing(span):
+    """The names in what is marked as code that stand in no source. A span that ends with a dot is a name of the DNS."""
+    if span.endswith("."):
+        return
+    for word in re.findall(r"[\w*./-]*[\w*]", span):
+        if is_path(word):
+            if not has_path(word):
+                yield word
+        else:
+            parts = [it for it in word.split(".") if is_name(it)]
+            yield from (it for it in parts if it not in all_words() and it not in ELSEWHERE)
+
+
+def check_names(path):
+    """Each name that is marked as code stands somewhere in the sources; what hickory-server has stands in its own column."""
+    for line in markdown.lines(path):
+        if line.kind == "code":
+            continue
+        text = line.text
+        if path == DIFFERENCES and line.kind == "table":
+            text = "|".join(markdown.cells(text)[1:])
+        for span in markdown.spans(text):
+            yield from ((line.number, f"no {it} is in the sources") for it in missing(span))
+
+
+CHECKS = [
+    check_first_path,
+    check_rust,
+    check_lengths,
+    check_links,
+    check_readme,
+    check_tables,
+    check_architecture,
+    check_definitions,
+    check_proofs,
+    check_names,
+]
+
+
+def main():
+    wrong = [f"{path}:{number}: {it}" for path in documents() for check in CHECKS for number, it in check(path)]
+    for it in sorted(set(wrong)):
+        print(f"documents: {it}")
+    return 1 if wrong else 0
+
+
+if __name__ == "__main__":
+    sys.exit(main())
