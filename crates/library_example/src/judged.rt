@@ -1,9 +1,9 @@
-// A signed zone denies a name, and its denial is judged as a validator does.
+//! A signed zone denies a name, and its denial is judged as a validator does.
 ghost use Rattle.std.specs.Prelude.{◌≡◌, map, IfOk};
 ghost use Rattle.zone_proto.specs.Types.{A};
 ghost use Rattle.zone_handler.specs.AuthLookup.{records_of};
 ghost use Rattle.zone_validation.specs.Judgement.{nsec_proof};
-ghost use Rattle.zone_validation.specs.NsecRecords.{nsec_records};
+ghost use Rattle.zone_validation.specs.NsecRecords.{lent_nsec};
 
 use std::alloc::{AllocError, Global};
 use zone_handler::{AuthLookup, AxfrPolicy, LookupError, LookupOptions, ZoneHandler, ZoneType};
@@ -91,7 +91,7 @@ fn lent(alloc: Global, answer: &AuthLookup) -> Result<Vec<&Record>, AllocError>
 
 /// What the records prove of a name and the type A, to a validator that has checked their signatures.
 fn proof_of_a(apex: &LowerName, records: &[&Record], name: &LowerName) -> Option<Proof>
-    ensures { result ≡ nsec_proof apex.now (nsec_records (map (λ r. r.now) records.now)) name.now A }
+    ensures { result ≡ nsec_proof apex.now (lent_nsec records.now) name.now A }
 {
     nsec::proof(apex, records, name, RecordType::A)
 }

@@ -1,4 +1,4 @@
-// What an unsigned zone hands in as its signer and its hash: both do nothing.
+//! What an unsigned zone hands in as its signer and its hash: both do nothing.
 ghost use Rattle.std.specs.Prelude.{None};
 
 use zone_proto::{DNSClass, DNSKEY, LowerName, Nsec3Hash, ProtoError, RRSIG, RecordSet, Signer};

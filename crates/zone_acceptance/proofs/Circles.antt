@@ -1,10 +1,10 @@
 -- On a circle of values what comes next is one of them, and a value of the circle is never covered by another and the next one
-use Rattle.std.proofs.Common.{◌≡◌, Bool, true, ◌&&◌, ◌||◌, List, refl, sym, ap, ◌∙◌, ◌⊎◌, inl, inr, Ordering, Less, is_lt}
+use Rattle.std.proofs.Common.{◌≡◌, true, ◌&&◌, ◌||◌, List, refl, ap, ◌⊎◌, inl, inr, Ordering, Less, is_lt}
 use Rattle.std.specs.Prelude.{Option, Some, None, filter, unwrap_or}
 use Rattle.std.specs.Option.{option_or}
 use Rattle.zone_proto.specs.Order.{is_before, is_upto, least}
 use Rattle.zone_proto.proofs.Members.{In, In-filter, In-from_filter, and_left, and_right}
-use Rattle.zone_proto.proofs.Orders.{IsOrder, irrefl, before_from_upto, less_test, greatest_is, greatest_none}
+use Rattle.zone_proto.proofs.Ordering.Orders.{IsOrder, irrefl, before_from_upto, less_test, greatest_is, greatest_none}
 use Rattle.zone_denial.specs.Covering.{next_around, covers}
 use Rattle.zone_denial.proofs.InOrder.{flipped}
 use Rattle.zone_acceptance.proofs.Gaps.{either}

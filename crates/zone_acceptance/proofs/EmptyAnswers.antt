@@ -1,34 +1,32 @@
--- What proves an answer without data that is no error, and all that a denial proves
-use Rattle.std.proofs.Common.{◌≡◌, ◌≢◌, ℕ, Bool, true, false, cond, not, ◌&&◌, ◌||◌, List, [], ◌∷◌, ◌++◌, refl, sym, ap, ◌∙◌, subst, true≢false, ◌⊎◌, inl, inr, arith}
-use Rattle.std.specs.Prelude.{Option, Some, None, find, option_map, option_and_then, ◌==◌}
-use Rattle.std.specs.Option.{option_map_or}
+-- What proves an answer without data that is no error
+use Rattle.std.proofs.Common.{◌≡◌, ◌≢◌, ℕ, Bool, true, false, cond, not, ◌&&◌, ◌||◌, [], ◌∷◌, refl, sym, ap, ◌∙◌, subst, true≢false, ◌⊎◌, inl, inr, arith}
+use Rattle.std.specs.Prelude.{Option, Some, None, option_map, option_and_then}
 use Rattle.std.specs.List.{Contains, list_any}
-use Rattle.zone_proto.specs.Names.{Name, name_cmp, name_eq, star_label, is_at_or_above, IsAtOrAbove, IsAbove}
+use Rattle.zone_proto.specs.Names.{Name, is_above, is_at_or_above, IsAbove, star_under}
 use Rattle.zone_proto.specs.Sets.{RRset}
-use Rattle.zone_proto.specs.Types.{NS, SOA, DS, RRSIG, NSEC, ANY}
+use Rattle.zone_proto.specs.Types.{NS, SOA, DS, NSEC, ANY}
 use Rattle.zone_proto.proofs.Members.{In, In-Contains, any_from_In, or_left, or_right}
-use Rattle.zone_proto.proofs.NameTree.{above_is_less, is_at_or_above_sound}
-use Rattle.zone_proto.proofs.Orders.{irrefl, asym}
-use Rattle.zone_proto.proofs.Tree.{name_order, name_eq_itself, above_cases}
+use Rattle.zone_proto.proofs.Names.NameTree.{above_test, is_at_or_above_sound}
+use Rattle.zone_proto.proofs.Names.Tree.{name_eq_itself, above_cases}
 use Rattle.zone_map.specs.AnyTypes.{any_type, searched_type}
-use Rattle.zone_map.specs.Search.{direct}
-use Rattle.zone_map.specs.Wildcards.{found, renamed, wildcard, star_under, asked_star, asked_star_exists}
-use Rattle.zone_map.specs.Zones.{Sets, set_at, owns, names_of, owns_at_or_below}
-use Rattle.zone_map.proofs.Owned.{set_of, name_in}
+use Rattle.zone_map.specs.Direct.{direct}
+use Rattle.zone_map.specs.Wildcards.{found, renamed, wildcard, asked_star, asked_star_exists}
+use Rattle.zone_map.specs.Zones.{Sets, owns, owns_at_or_below}
+use Rattle.zone_map.proofs.Owned.{set_of}
 use Rattle.zone_denial.specs.NsecDenial.{nsec_encloser, nsec_denial}
 use Rattle.zone_denial.specs.NsecLaws.{IsNsecZone}
-use Rattle.zone_denial.proofs.DenialLists.{own_denial}
-use Rattle.zone_denial.proofs.NsecBelow.{next_below_empty}
-use Rattle.zone_denial.proofs.NsecLists.{off_circle}
-use Rattle.zone_denial.proofs.NsecStar.{proves_star}
-use Rattle.zone_search.specs.Replies.{name_exists, nx_domain, refused, absent, denial}
-use Rattle.zone_validation.specs.NsecProofs.{lists, denies_type, shows_empty, shows_unsigned_delegation, proves_no_data, proves_empty_non_terminal, proves_wildcard_no_data, proves_empty_answer}
+use Rattle.zone_denial.proofs.Chain.DenialLists.{own_denial}
+use Rattle.zone_denial.proofs.Chain.NsecBelow.{next_below_empty}
+use Rattle.zone_denial.proofs.Chain.NsecLists.{off_circle}
+use Rattle.zone_denial.proofs.Chain.NsecStar.{proves_star}
+use Rattle.zone_inner.specs.Replies.{name_exists, nx_domain, refused, absent, negative_answer}
+use Rattle.zone_validation.specs.NsecProofs.{denies_type, shows_empty, shows_unsigned_delegation}
 use Rattle.zone_validation.specs.NsecRecords.{NsecRecord}
-use Rattle.zone_acceptance.specs.Acceptance.{NoDataAccepted, EmptyAccepted, WildcardNoDataAccepted, UnsignedDelegationAccepted, DenialAccepted}
-use Rattle.zone_acceptance.specs.Judged.{denial_records, IsJudged, IsJudgedType}
-use Rattle.zone_acceptance.proofs.NameErrors.{over, denied_with, star_spanned, name_error_accepted, name_error_sound, wildcard_answer_accepted}
+use Rattle.zone_acceptance.specs.Acceptance.{NoDataAccepted, EmptyAccepted, WildcardNoDataAccepted, UnsignedDelegationAccepted}
+use Rattle.zone_acceptance.specs.Judged.{denial_records}
+use Rattle.zone_acceptance.proofs.NameErrors.{over, denied_with, star_spanned}
 use Rattle.zone_acceptance.proofs.OwnTypes.{neither, differs, type_denied}
-use Rattle.zone_acceptance.proofs.Readings.{record_at, shown, owned_listed, unlisted, denial_of_zone}
+use Rattle.zone_acceptance.proofs.Readings.{record_at, shown, owned_listed, unlisted}
 use Rattle.zone_acceptance.proofs.ShownEnclosers.{judged_star}
 use Rattle.zone_acceptance.proofs.Speaking.{IsSpanned, spanned, cover_from_last, below_origin, owner_on_circle, empty_off, empty}
 use Rattle.zone_acceptance.proofs.Stars.{star_there}
@@ -48,19 +46,23 @@ searched_itself m x t any = ap (λ b. cond b (any_type m x) t) (differs t ANY an
 pub no_data_accepted : NoDataAccepted
 no_data_accepted origin m signed x t j deniable on nothing =
     any_from_In (λ r. denies_type origin r x t) (record_at origin m j.zone x) (denial_records origin m x) (own_shown origin m j.zone x on)
-    (type_denied origin m j.zone x t (ap (direct m x) (sym (searched_itself m x t deniable.one_type)) ∙ (neither (direct m x (searched_type m x t)) (wildcard m signed x (searched_type m x t)) nothing).0) on
+    (type_denied origin m j.zone j.unreferred x j.inside t (ap (direct m x) (sym (searched_itself m x t deniable.one_type)) ∙ (neither (direct m x (searched_type m x t)) (wildcard m signed x (searched_type m x t)) nothing).0) on
     deniable.no_signature deniable.one_type (λ d. (deniable.no_apex d).0))
 
 pub unsigned_delegation_accepted : UnsignedDelegationAccepted
 unsigned_delegation_accepted origin m x j ns ds soa =
-    any_from_In (λ r. shows_unsigned_delegation r x) r (denial_records origin m x) (own_shown origin m j.zone x on)
-    (λ i. name_eq_itself x i && owned_listed origin m j.zone x NS ns i && not (unlisted origin m j.zone x DS (λ e. omega (arith, e)) (λ e. omega (arith, e)) ds i) && not (unlisted origin m j.zone x SOA (λ e. omega (arith, e)) (λ e. omega (arith, e)) soa i))
+    any_from_In (λ r. shows_unsigned_delegation origin r x) r (denial_records origin m x) (own_shown origin m j.zone x on)
+    (λ i. below (above_cases origin x (is_at_or_above_sound origin x j.inside)) i && name_eq_itself x i && owned_listed origin m j.zone x NS ns i && not (unlisted origin m j.zone x DS (λ e. omega (arith, e)) (λ e. omega (arith, e)) ds i) && not (unlisted origin m j.zone x SOA (λ e. omega (arith, e)) (λ e. omega (arith, e)) soa i))
   where
     r : NsecRecord
     r = record_at origin m j.zone x
 
     on : owns m x NSEC ≡ true
     on = owner_on_circle origin m x j NS ns
+
+    below : (origin ≡ x) ⊎ IsAbove origin x → is_above origin x ≡ true
+    below (inl e) = absurd (true≢false (sym (j.unreferred x ([], e) ns) ∙ soa))
+    below (inr u) = (above_test origin x).1 u
 
 -- ---- by the record before an empty non-terminal
 
@@ -76,7 +78,7 @@ empty_accepted origin m x j off some =
 -- ---- by that of the star
 
 -- where neither a name nor one below it owns a set, and yet the name is there, a star that is asked exists
-pub exists_means : (origin : Name) (m : Sets) (x : Name) → owns_at_or_below m x ≡ false → denial origin m x ≡ name_exists → asked_star_exists m x ≡ true
+pub exists_means : (origin : Name) (m : Sets) (x : Name) → owns_at_or_below m x ≡ false → negative_answer origin m x ≡ name_exists → asked_star_exists m x ≡ true
 exists_means origin m x none e = by (owns_at_or_below m x) (asked_star_exists m x) none e
   where
     inside : (c : Bool) → cond c nx_domain refused ≡ name_exists → false ≡ true
@@ -122,33 +124,9 @@ wildcard_no_data_accepted origin m signed x t j deniable none nothing e =
     by true on =
         let s = set_of m star NSEC on in
         passes (record_at origin m h star) (shown origin m h x star s.0 ((proves_star origin m h x j.inside (off_circle m x none)).on s.0 s.1) s.1)
-        (or_left (denies_type origin (record_at origin m h star) star t) (shows_empty origin (record_at origin m h star) star) (type_denied origin m h star t at_star on deniable.no_signature deniable.one_type (λ d. (deniable.no_apex d).1)))
+        (or_left (denies_type origin (record_at origin m h star) star t) (shows_empty origin (record_at origin m h star) star) (type_denied origin m h j.unreferred star (judged_star origin m x j up).inside t at_star on deniable.no_signature deniable.one_type (λ d. (deniable.no_apex d).1)))
     by false off =
         let s = star_spanned origin m x j none off in
         passes (record_at origin m h s.owner) s.among
         (or_right (denies_type origin (record_at origin m h s.owner) star t) (shows_empty origin (record_at origin m h s.owner) star)
         (empty origin m star (judged_star origin m x j up) s.owner s.between there.1))
-
--- ---- all of it
-
-pub denial_accepted : DenialAccepted
-denial_accepted origin m x j = record {
-  error = λ plain. (name_error_accepted origin m x j plain, name_error_sound origin m (denial_records origin m x) x j (denial_of_zone origin m x));
-  empty = λ signed t deniable nothing e. empty_answer signed t deniable nothing e (owns m x NSEC) refl (owns_at_or_below m x) refl;
-  wildcard = λ e. wildcard_answer_accepted origin m x e j;
-  delegation = unsigned_delegation_accepted origin m x j;
-}
-  where
-    rs : List NsecRecord
-    rs = denial_records origin m x
-
-    empty_answer : (signed : Bool) (t : ℕ) → IsJudgedType origin m x t → found m signed x (searched_type m x t) ≡ None → denial origin m x ≡ name_exists
-        → (a : Bool) → owns m x NSEC ≡ a → (b : Bool) → owns_at_or_below m x ≡ b → proves_empty_answer origin rs x t ≡ true
-    empty_answer signed t deniable nothing e true on b u =
-        or_left (proves_no_data origin rs x t || proves_empty_non_terminal origin rs x) (proves_wildcard_no_data origin rs x t)
-        (or_left (proves_no_data origin rs x t) (proves_empty_non_terminal origin rs x) (no_data_accepted origin m signed x t j deniable on nothing))
-    empty_answer signed t deniable nothing e false off true u =
-        or_left (proves_no_data origin rs x t || proves_empty_non_terminal origin rs x) (proves_wildcard_no_data origin rs x t)
-        (or_right (proves_no_data origin rs x t) (proves_empty_non_terminal origin rs x) (empty_accepted origin m x j off u))
-    empty_answer signed t deniable nothing e false off false u =
-        or_right (proves_no_data origin rs x t || proves_empty_non_terminal origin rs x) (proves_wildcard_no_data origin rs x t) (wildcard_no_data_accepted origin m signed x t j deniable u nothing e)

@@ -1,18 +1,18 @@
 -- Where a name stands between an owner of NSEC and its next name, on a circle of NSEC sets, no owner does
-use Rattle.std.proofs.Common.{◌≡◌, Bool, true, false, ◌&&◌, ◌||◌, refl, sym, ap, ◌∙◌, true≢false, ◌⊎◌, inl, inr, Less}
-use Rattle.zone_proto.specs.Names.{Name, name_cmp, is_at_or_above, IsAtOrAbove, IsAbove}
+use Rattle.std.proofs.Common.{◌≡◌, Bool, true, false, ◌&&◌, ◌||◌, refl, sym, ap, ◌∙◌, ◌⊎◌, inl, inr, Less}
+use Rattle.zone_proto.specs.Names.{Name, name_cmp, IsAtOrAbove, IsAbove}
 use Rattle.zone_proto.specs.Order.{is_before, is_upto}
 use Rattle.zone_proto.specs.Types.{NSEC}
 use Rattle.zone_proto.proofs.Members.{and_left, and_right}
-use Rattle.zone_proto.proofs.NameTree.{above_is_less, is_at_or_above_complete}
-use Rattle.zone_proto.proofs.Orders.{less_test, Side, side, before, same, after, irrefl, asym, upto_cases, upto_before, upto_same, upto_from_not_before, before_from_upto}
-use Rattle.zone_proto.proofs.Tree.{name_order, together}
+use Rattle.zone_proto.proofs.Names.NameTree.{above_is_less, is_at_or_above_complete}
+use Rattle.zone_proto.proofs.Ordering.Orders.{less_test, Side, side, before, same, after, irrefl, asym, upto_cases, upto_before, upto_same, upto_from_not_before, before_from_upto}
+use Rattle.zone_proto.proofs.Names.Tree.{name_order, together}
 use Rattle.zone_map.specs.Zones.{Sets, owns}
 use Rattle.zone_denial.specs.Covering.{covers}
 use Rattle.zone_denial.specs.NsecCircle.{nsec_next}
 use Rattle.zone_denial.specs.NsecLaws.{IsNsecZone}
-use Rattle.zone_denial.proofs.NsecBelow.{above_at}
-use Rattle.zone_denial.proofs.NsecCircle.{above_upto, origin_upto, NextIs, least_after, wraps, next_is}
+use Rattle.zone_denial.proofs.Chain.NsecBelow.{above_at}
+use Rattle.zone_denial.proofs.Chain.NsecCircle.{above_upto, origin_upto, NextIs, least_after, wraps, next_is}
 
 pub either : (a b : Bool) → a || b ≡ true → (a ≡ true) ⊎ (b ≡ true)
 either true b h = inl refl
@@ -74,7 +74,7 @@ module _ (origin : Name) (m : Sets) (h : IsNsecZone origin m) where
     n = nsec_next origin m o
 
     -- another owner isn't after o, or isn't before the next name, which is then after x
-    gap : (w : Name) → owns m w NSEC ≡ true → (is_upto name_cmp w o ≡ true) ⊎ ((name_cmp x n ≡ Less) × (is_upto name_cmp n w ≡ true))
+    pub gap : (w : Name) → owns m w NSEC ≡ true → (is_upto name_cmp w o ≡ true) ⊎ ((name_cmp x n ≡ Less) × (is_upto name_cmp n w ≡ true))
     gap w k = by (side name_order o w) (next_is origin m h.circle o)
       where
         by : Side name_cmp o w → NextIs origin m o n → (is_upto name_cmp w o ≡ true) ⊎ ((name_cmp x n ≡ Less) × (is_upto name_cmp n w ≡ true))

@@ -1,18 +1,18 @@
 -- The smallest zones that show what the premises of the laws are for, computed from the definitions. Each has besides an SOA at its origin no more than is shown
-use Rattle.std.proofs.Common.{◌≡◌, ℕ, true, false, List, [], ◌∷◌, refl}
+use Rattle.std.proofs.Common.{◌≡◌, true, false, [], ◌∷◌, refl}
 use Rattle.std.specs.Prelude.{codes, Some, None, pos, is_some}
 use Rattle.zone_proto.specs.declared.rr_key.RrKey.{RrKey}
 use Rattle.zone_proto.specs.declared.rdata.RData.TheVariants as V
-use Rattle.zone_proto.specs.Names.{Name}
+use Rattle.zone_proto.specs.Names.{Name, star_under}
 use Rattle.zone_proto.specs.Sets.{RRset}
 use Rattle.zone_proto.specs.Types.{A, NS, SOA, TXT, DS, RRSIG, NSEC3, ANY, ANAME}
 use Rattle.zone_map.specs.AnyTypes.{searched_type}
-use Rattle.zone_map.specs.Wildcards.{found, star_under, asked_star}
+use Rattle.zone_map.specs.Wildcards.{found, asked_star}
 use Rattle.zone_map.specs.Zones.{Sets, put}
 use Rattle.zone_denial.specs.Nsec3Circle.{nsec3_data}
-use Rattle.zone_denial.proofs.NsecExamples.{origin, at_origin, entry, address, start, linked}
-use Rattle.zone_denial.proofs.Nsec3Examples.{parameters, b}
-use Rattle.zone_search.specs.Replies.{name_exists, nx_domain, denial}
+use Rattle.zone_denial.proofs.Examples.NsecExamples.{origin, at_origin, entry, address, start, linked}
+use Rattle.zone_denial.proofs.Examples.Nsec3Examples.{parameters, b}
+use Rattle.zone_inner.specs.Replies.{name_exists, nx_domain, negative_answer}
 use Rattle.zone_validation.specs.NsecProofs.{DNAME, proves_name_error, proves_no_data, proves_empty_answer, proves_wildcard_answer}
 use Rattle.zone_acceptance.specs.Judged.{denial_records}
 
@@ -33,7 +33,7 @@ start_at n = entry n SOA (V.SOA (record { mname = n; rname = n; serial = 7; refr
 abbrev bare : Sets
 bare = linked (start ∷ [])
 
-bare_denied : denial origin bare b ≡ nx_domain
+bare_denied : negative_answer origin bare b ≡ nx_domain
 bare_denied = refl
 
 bare_proved : proves_name_error origin (denial_records origin bare b) b ≡ true
@@ -41,7 +41,7 @@ bare_proved = refl
 
 -- ---- a zone without NSEC sets: no record tells of the name
 
-unsigned_denied : denial origin (start ∷ []) b ≡ nx_domain
+unsigned_denied : negative_answer origin (start ∷ []) b ≡ nx_domain
 unsigned_denied = refl
 
 unsigned_refused : proves_name_error origin (denial_records origin (start ∷ []) b) b ≡ false
@@ -55,7 +55,7 @@ late = put bare b A (address b).1
 late_found : found late true b TXT ≡ None
 late_found = refl
 
-late_exists : denial origin late b ≡ name_exists
+late_exists : negative_answer origin late b ≡ name_exists
 late_exists = refl
 
 late_error : proves_name_error origin (denial_records origin late b) b ≡ true
@@ -72,7 +72,7 @@ stray = linked (start ∷ address outside ∷ [])
 stray_found : found stray true outside TXT ≡ None
 stray_found = refl
 
-stray_exists : denial origin stray outside ≡ name_exists
+stray_exists : negative_answer origin stray outside ≡ name_exists
 stray_exists = refl
 
 stray_refused : proves_empty_answer origin (denial_records origin stray outside) outside TXT ≡ false
@@ -83,7 +83,7 @@ stray_refused = refl
 abbrev starred : Sets
 starred = linked (start ∷ address star ∷ [])
 
-starred_denied : denial origin starred (star_under b) ≡ nx_domain
+starred_denied : negative_answer origin starred (star_under b) ≡ nx_domain
 starred_denied = refl
 
 starred_refused : proves_name_error origin (denial_records origin starred (star_under b)) (star_under b) ≡ false
@@ -94,7 +94,7 @@ starred_refused = refl
 abbrev renamed : Sets
 renamed = linked (start ∷ entry b DNAME (V.Other (record { record_type = record { 0 = DNAME }; octets = 1 ∷ []; other = refl })) ∷ [])
 
-renamed_denied : denial origin renamed below_b ≡ nx_domain
+renamed_denied : negative_answer origin renamed below_b ≡ nx_domain
 renamed_denied = refl
 
 renamed_refused : proves_name_error origin (denial_records origin renamed below_b) below_b ≡ false
@@ -116,7 +116,7 @@ texts = linked (start ∷ text star ∷ [])
 any_denied : found texts true b (searched_type texts b ANY) ≡ None
 any_denied = refl
 
-any_exists : denial origin texts b ≡ name_exists
+any_exists : negative_answer origin texts b ≡ name_exists
 any_exists = refl
 
 any_refused : proves_empty_answer origin (denial_records origin texts b) b ANY ≡ false
@@ -138,7 +138,7 @@ inner = linked (start ∷ entry b NS (V.NS origin) ∷ start_at b ∷ address be
 inner_denied : found inner true below_b TXT ≡ None
 inner_denied = refl
 
-inner_exists : denial origin inner below_b ≡ name_exists
+inner_exists : negative_answer origin inner below_b ≡ name_exists
 inner_exists = refl
 
 inner_refused : proves_empty_answer origin (denial_records origin inner below_b) below_b TXT ≡ false
@@ -155,7 +155,7 @@ deeper = linked (start ∷ entry b NS (V.NS origin) ∷ entry below_b NS (V.NS o
 deeper_found : found deeper true (codes "y" ∷ below_b) A ≡ None
 deeper_found = refl
 
-deeper_denied : denial origin deeper (codes "y" ∷ below_b) ≡ nx_domain
+deeper_denied : negative_answer origin deeper (codes "y" ∷ below_b) ≡ nx_domain
 deeper_denied = refl
 
 deeper_refused : proves_name_error origin (denial_records origin deeper (codes "y" ∷ below_b)) (codes "y" ∷ below_b) ≡ false
@@ -169,7 +169,7 @@ foreign n = entry n NSEC3 (V.NSEC3 (nsec3_data parameters [] []))
 abbrev foreign_star : Sets
 foreign_star = linked (start ∷ foreign (star_under b) ∷ [])
 
-foreign_denied : denial origin foreign_star below_b ≡ nx_domain
+foreign_denied : negative_answer origin foreign_star below_b ≡ nx_domain
 foreign_denied = refl
 
 foreign_refused : proves_name_error origin (denial_records origin foreign_star below_b) below_b ≡ false

@@ -1,28 +1,27 @@
 -- A name error is answered exactly where a validator accepts one
 use Rattle.std.proofs.Common.{◌≡◌, Bool, true, false, cond, not, ◌&&◌, ◌||◌, List, refl, sym, ap, ◌∙◌, true≢false, ◌⊎◌, inl, inr, Less}
-use Rattle.std.specs.Prelude.{Some}
 use Rattle.std.specs.List.{list_any}
 use Rattle.std.specs.Option.{option_map_or}
-use Rattle.zone_proto.specs.Names.{Name, name_cmp, name_eq, is_above, is_at_or_above, IsAbove}
+use Rattle.zone_proto.specs.Names.{Name, name_cmp, name_eq, is_above, is_at_or_above, IsAbove, star_under}
 use Rattle.zone_proto.specs.Order.{is_before}
 use Rattle.zone_proto.specs.Types.{NSEC}
 use Rattle.zone_proto.proofs.Members.{In, In-from_any, any_from_In, and_left, and_right, not_true}
-use Rattle.zone_proto.proofs.NameTree.{name_eq-Decides, above_test}
-use Rattle.zone_proto.proofs.Orders.{less_test}
-use Rattle.zone_map.specs.Wildcards.{star_under, asked_star_exists}
+use Rattle.zone_proto.proofs.Names.NameTree.{name_eq-Decides}
+use Rattle.zone_proto.proofs.Ordering.Orders.{less_test}
+use Rattle.zone_map.specs.Wildcards.{asked_star_exists}
 use Rattle.zone_map.specs.SearchLaws.{StarIsOfClosestEncloser}
 use Rattle.zone_map.specs.Zones.{Sets, owns, owns_at_or_below}
 use Rattle.zone_map.proofs.Wildcards.{star_is_of_closest_encloser}
 use Rattle.zone_denial.specs.NsecCircle.{nsec_next}
 use Rattle.zone_denial.specs.NsecDenial.{nsec_encloser, nsec_denial}
 use Rattle.zone_denial.specs.NsecLaws.{IsNsecZone}
-use Rattle.zone_denial.proofs.NsecBelow.{no_next_below}
-use Rattle.zone_denial.proofs.NsecLists.{off_circle}
-use Rattle.zone_denial.proofs.NsecStar.{proves_star}
-use Rattle.zone_search.specs.Replies.{name_exists, nx_domain, refused, absent, denial}
+use Rattle.zone_denial.proofs.Chain.NsecBelow.{no_next_below}
+use Rattle.zone_denial.proofs.Chain.NsecLists.{off_circle}
+use Rattle.zone_denial.proofs.Chain.NsecStar.{proves_star}
+use Rattle.zone_inner.specs.Replies.{name_exists, nx_domain, refused, absent, negative_answer}
 use Rattle.zone_validation.specs.NsecProofs.{may_tell_of, covers, denies_name, shown_encloser, denied_and_star, proves_name_error}
 use Rattle.zone_validation.specs.NsecRecords.{NsecRecord}
-use Rattle.zone_acceptance.specs.Acceptance.{NameErrorAccepted, StarredErrorAccepted, WildcardAnswerAccepted, NameErrorSound}
+use Rattle.zone_acceptance.specs.Acceptance.{NameErrorAccepted, StarredErrorAccepted, WildcardAnswerAccepted}
 use Rattle.zone_acceptance.specs.Judged.{denial_records, AreOfZone, IsJudged}
 use Rattle.zone_acceptance.proofs.Gaps.{IsBetween}
 use Rattle.zone_acceptance.proofs.Readings.{record_at, of_owner}
@@ -69,7 +68,7 @@ module _ (origin : Name) (m : Sets) (x : Name) (j : IsJudged origin m x) (none :
       t = star_spanned (off_circle m star starless)
 
 -- a name error says that nothing is there, and that no star that is asked exists
-pub error_means : (origin : Name) (m : Sets) (x : Name) → denial origin m x ≡ nx_domain → (owns_at_or_below m x ≡ false) × (asked_star_exists m x ≡ false)
+pub error_means : (origin : Name) (m : Sets) (x : Name) → negative_answer origin m x ≡ nx_domain → (owns_at_or_below m x ≡ false) × (asked_star_exists m x ≡ false)
 error_means origin m x e = by (owns_at_or_below m x) (asked_star_exists m x) e
   where
     by : (a b : Bool) → cond (a || b) name_exists (absent origin x) ≡ nx_domain → (a ≡ false) × (b ≡ false)
@@ -87,6 +86,24 @@ name_error_accepted origin m x j plain e =
 
 -- ---- what is proved is denied
 
+-- what the record of an owner covers stands between it and its next name
+pub covers_between : (origin : Name) (m : Sets) (h : IsNsecZone origin m) (y o : Name) → owns m o NSEC ≡ true → covers origin (record_at origin m h o) y ≡ true → IsBetween origin m y o
+covers_between origin m h y o k c = record {
+  on_circle = k;
+  after_owner =
+      less_test (name_cmp o y)
+      (and_right (is_at_or_above origin o && is_above origin y) (is_before name_cmp o y)
+      (and_left (is_at_or_above origin o && is_above origin y && is_before name_cmp o y) (is_before name_cmp y n || name_eq n origin) c));
+  before_next = by (is_before name_cmp y n) refl (and_right (is_at_or_above origin o && is_above origin y && is_before name_cmp o y) (is_before name_cmp y n || name_eq n origin) c);
+}
+  where
+    n : Name
+    n = nsec_next origin m o
+
+    by : (b : Bool) → is_before name_cmp y n ≡ b → b || name_eq n origin ≡ true → (name_cmp y n ≡ Less) ⊎ (n ≡ origin)
+    by true e q = inl (less_test (name_cmp y n) e)
+    by false e q = inr ((name_eq-Decides n origin).0 q)
+
 module _ (origin : Name) (m : Sets) (y : Name) (j : IsJudged origin m y) (o : Name) (k : owns m o NSEC ≡ true) (d : denies_name origin (record_at origin m j.zone o) y ≡ true) where
   abbrev n : Name
   n = nsec_next origin m o
@@ -95,18 +112,10 @@ module _ (origin : Name) (m : Sets) (y : Name) (j : IsJudged origin m y) (o : Na
   r = record_at origin m j.zone o
 
   covered : covers origin r y ≡ true
-  covered = and_right (may_tell_of origin r y) (covers origin r y) (and_left (may_tell_of origin r y && covers origin r y) (not (is_above y n)) d)
+  covered = and_right (may_tell_of r y) (covers origin r y) (and_left (may_tell_of r y && covers origin r y) (not (is_above y n)) d)
 
   pub between_denied : IsBetween origin m y o
-  between_denied = record {
-    on_circle = k;
-    after_owner = less_test (name_cmp o y) (and_right (is_above origin y) (is_before name_cmp o y) (and_left (is_above origin y && is_before name_cmp o y) (is_before name_cmp y n || name_eq n origin) covered));
-    before_next = by (is_before name_cmp y n) refl (and_right (is_above origin y && is_before name_cmp o y) (is_before name_cmp y n || name_eq n origin) covered);
-  }
-    where
-      by : (b : Bool) → is_before name_cmp y n ≡ b → b || name_eq n origin ≡ true → (name_cmp y n ≡ Less) ⊎ (n ≡ origin)
-      by true e q = inl (less_test (name_cmp y n) e)
-      by false e q = inr ((name_eq-Decides n origin).0 q)
+  between_denied = covers_between origin m j.zone y o k covered
 
   -- nothing is there
   pub nothing_there : owns_at_or_below m y ≡ false
@@ -117,11 +126,11 @@ module _ (origin : Name) (m : Sets) (y : Name) (j : IsJudged origin m y) (o : Na
       by true e =
           absurd
           (true≢false
-          (sym (and_right (may_tell_of origin r y && covers origin r y) (is_above y n) (empty origin m y j o between_denied e))
-          ∙ not_true (is_above y n) (and_right (may_tell_of origin r y && covers origin r y) (not (is_above y n)) d)))
+          (sym (and_right (may_tell_of r y && covers origin r y) (is_above y n) (empty origin m y j o between_denied e))
+          ∙ not_true (is_above y n) (and_right (may_tell_of r y && covers origin r y) (not (is_above y n)) d)))
 
-pub name_error_sound : NameErrorSound
-name_error_sound origin m rs x j zone p = by (In-from_any (λ r. denies_name origin r x && option_map_or source (shown_encloser r x) false) rs p)
+pub error_denied : (origin : Name) (m : Sets) (rs : List NsecRecord) (x : Name) → IsJudged origin m x → AreOfZone m rs → proves_name_error origin rs x ≡ true → negative_answer origin m x ≡ nx_domain
+error_denied origin m rs x j zone p = by (In-from_any (λ r. denies_name origin r x && option_map_or source (shown_encloser r x) false) rs p)
   where
     h : IsNsecZone origin m
     h = j.zone
@@ -132,13 +141,13 @@ name_error_sound origin m rs x j zone p = by (In-from_any (λ r. denies_name ori
     source : Name → Bool
     source e = list_any (λ r. denies_name origin r (star_under e)) rs
 
-    answered : owns_at_or_below m x ≡ false → asked_star_exists m x ≡ false → denial origin m x ≡ nx_domain
+    answered : owns_at_or_below m x ≡ false → asked_star_exists m x ≡ false → negative_answer origin m x ≡ nx_domain
     answered a b = λ i. cond (a i || b i) name_exists (cond (j.inside i) nx_domain refused)
 
-    by : (r : NsecRecord) × In r rs × (denies_name origin r x && option_map_or source (shown_encloser r x) false ≡ true) → denial origin m x ≡ nx_domain
+    by : (r : NsecRecord) × In r rs × (denies_name origin r x && option_map_or source (shown_encloser r x) false ≡ true) → negative_answer origin m x ≡ nx_domain
     by (r, i, e) = of (of_owner origin m h rs zone r i)
       where
-        of : (o : Name) × (owns m o NSEC ≡ true) × (r ≡ record_at origin m h o) → denial origin m x ≡ nx_domain
+        of : (o : Name) × (owns m o NSEC ≡ true) × (r ≡ record_at origin m h o) → negative_answer origin m x ≡ nx_domain
         of (o, k, q) = answered none (no_star origin m x j up starless)
           where
             d : denies_name origin (record_at origin m h o) x ≡ true

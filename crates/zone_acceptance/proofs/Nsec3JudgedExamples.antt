@@ -1,21 +1,21 @@
 -- The smallest zones that show what the premises of the laws of NSEC3 are for, computed from the definitions with a hash by a table. Each has besides an SOA and NSEC3PARAM at its origin no more than is shown
-use Rattle.std.proofs.Common.{◌≡◌, ℕ, Bool, true, false, List, [], ◌∷◌, refl}
-use Rattle.std.specs.Prelude.{Option, Some, None, Result, Ok, Err, codes, unwrap_or}
+use Rattle.std.proofs.Common.{◌≡◌, ℕ, true, false, List, [], ◌∷◌, refl}
+use Rattle.std.specs.Prelude.{Option, None, Result, Ok, Err, codes, unwrap_or}
 use Rattle.zone_proto.specs.declared.error.ProtoError.{ProtoError}
 use Rattle.zone_proto.specs.declared.rdata.RData.TheVariants as V
 use Rattle.zone_proto.specs.declared.rdata.denial.NSEC3PARAM.{NSEC3PARAM as Nsec3Parameters}
 use Rattle.zone_proto.specs.HashedOwners.{hashed_owner}
-use Rattle.zone_proto.specs.Names.{Name}
+use Rattle.zone_proto.specs.Names.{Name, star_under}
 use Rattle.zone_proto.specs.Sets.{RRset}
-use Rattle.zone_proto.specs.Types.{A, NS, DS, NSEC, NSEC3, NSEC3PARAM, IN}
-use Rattle.zone_map.specs.Wildcards.{found, star_under}
+use Rattle.zone_proto.specs.Types.{A, NS, NSEC, NSEC3, NSEC3PARAM}
+use Rattle.zone_map.specs.Wildcards.{found}
 use Rattle.zone_map.specs.Zones.{Sets, put}
 use Rattle.zone_denial.specs.Nsec3Circle.{nsec3_data, nsec3_types, digests, next_digest}
 use Rattle.zone_denial.specs.Nsec3Denial.{nsec3_denial}
 use Rattle.zone_denial.specs.Nsec3Names.{nsec3_names}
-use Rattle.zone_denial.proofs.NsecExamples.{origin, entry, address, start}
-use Rattle.zone_denial.proofs.Nsec3Examples.{parameters, digest_in, hashed_by, a, b}
-use Rattle.zone_search.specs.Replies.{name_exists, nx_domain, denial}
+use Rattle.zone_denial.proofs.Examples.NsecExamples.{origin, entry, address, start}
+use Rattle.zone_denial.proofs.Examples.Nsec3Examples.{parameters, digest_in, hashed_by, a, b}
+use Rattle.zone_inner.specs.Replies.{name_exists, nx_domain, negative_answer}
 use Rattle.zone_validation.specs.Nsec3Proofs.{proves_name_error, proves_empty_answer}
 use Rattle.zone_validation.specs.Nsec3Records.{Nsec3Record}
 use Rattle.zone_acceptance.specs.Nsec3Judged.{read_nsec3_sets}
@@ -58,7 +58,7 @@ told m x = read_nsec3_sets (sets_of (nsec3_denial m (hashed_by table) false x))
 abbrev hosts : Sets
 hosts = linked (start ∷ address a ∷ [])
 
-hosts_denied : denial origin hosts b ≡ nx_domain
+hosts_denied : negative_answer origin hosts b ≡ nx_domain
 hosts_denied = refl
 
 hosts_proved : proves_name_error origin hash (told hosts b) b ≡ true
@@ -69,7 +69,7 @@ hosts_proved = refl
 abbrev hashed_a : Name
 hashed_a = hashed_owner origin (128 ∷ [])
 
-hashed_exists : denial origin hosts hashed_a ≡ name_exists
+hashed_exists : negative_answer origin hosts hashed_a ≡ name_exists
 hashed_exists = refl
 
 hashed_found : found hosts true hashed_a A ≡ None
@@ -81,16 +81,17 @@ hashed_refused = refl
 hashed_error : proves_name_error origin hash (told hosts hashed_a) hashed_a ≡ true
 hashed_error = refl
 
--- ---- with opt-out, b is an empty name above a delegation without DS: a lookup says that it is there, and the circle has no such name
+-- ---- with opt-out, b is an empty name above a delegation without DS: a lookup says that it is there, and the circle has no such name. The record that covers b has the flag, which proves
+-- as much as can be: that what is there is left out (RFC 5155 section 8.6)
 
 abbrev opted_out : Sets
 opted_out = linked_by (record parameters { opt_out = true }) (start ∷ entry below_b NS (V.NS origin) ∷ [])
 
-opted_out_exists : denial origin opted_out b ≡ name_exists
+opted_out_exists : negative_answer origin opted_out b ≡ name_exists
 opted_out_exists = refl
 
-opted_out_refused : proves_empty_answer origin hash (told opted_out b) b A ≡ false
-opted_out_refused = refl
+opted_out_accepted : proves_empty_answer origin hash (told opted_out b) b A ≡ true
+opted_out_accepted = refl
 
 opted_out_error : proves_name_error origin hash (told opted_out b) b ≡ true
 opted_out_error = refl
@@ -100,7 +101,7 @@ opted_out_error = refl
 abbrev foreign_star : Sets
 foreign_star = linked (start ∷ entry (star_under origin) NSEC (V.NSEC (record { next_domain_name = origin; types = [] })) ∷ [])
 
-foreign_denied : denial origin foreign_star b ≡ nx_domain
+foreign_denied : negative_answer origin foreign_star b ≡ nx_domain
 foreign_denied = refl
 
 foreign_refused : proves_name_error origin hash (told foreign_star b) b ≡ false
@@ -111,7 +112,7 @@ foreign_refused = refl
 abbrev delegated : Sets
 delegated = linked (entry origin NS (V.NS origin) ∷ [])
 
-delegated_denied : denial origin delegated b ≡ nx_domain
+delegated_denied : negative_answer origin delegated b ≡ nx_domain
 delegated_denied = refl
 
 delegated_refused : proves_name_error origin hash (told delegated b) b ≡ false

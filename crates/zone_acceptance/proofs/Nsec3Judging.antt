@@ -1,19 +1,18 @@
 -- Which judged names of a zone that NSEC3 denies are there, and what proves the closest encloser of one that isn't
-use Rattle.std.proofs.Common.{◌≡◌, ℕ, Bool, true, false, not, ◌&&◌, ◌||◌, List, [], ◌∷◌, ◌++◌, drop, refl, sym, ap, ◌∙◌, subst, true≢false, ◌⊎◌, inl, inr, arith, eqb-true, eq-eqb, IsFalse}
+use Rattle.std.proofs.Common.{◌≡◌, ℕ, Bool, true, false, not, ◌&&◌, ◌||◌, List, [], ◌∷◌, drop, refl, sym, ap, ◌∙◌, subst, true≢false, ◌⊎◌, inl, inr, arith, eqb-true, eq-eqb, IsFalse}
 use Rattle.std.specs.Prelude.{Option, Some, None, find, ◌==◌, ◌≢◌}
 use Rattle.std.specs.Cmp.{both_ways}
 use Rattle.std.specs.List.{list_any, Contains}
 use Rattle.std.specs.Option.{option_map_or}
 use Rattle.zone_proto.specs.declared.rdata.denial.NSEC3PARAM.{NSEC3PARAM as Nsec3Parameters}
 use Rattle.zone_proto.specs.HashedOwners.{hashed_owner}
-use Rattle.zone_proto.specs.Names.{Name, star_label, name_eq, is_above, is_at_or_above, IsAtOrAbove, IsAbove}
+use Rattle.zone_proto.specs.Names.{Name, star_label, is_above, is_at_or_above, IsAtOrAbove, IsAbove, proper_ancestors, star_under, is_wildcard}
 use Rattle.zone_proto.specs.Types.{NS, SOA, RRSIG, NSEC, NSEC3, NSEC3PARAM}
 use Rattle.zone_proto.proofs.Members.{In, In-Contains, Contains-In, In-from_any, any_from_In, none_passes, and_left, and_right}
-use Rattle.zone_proto.proofs.NameTree.{above_test, is_at_or_above_sound, is_at_or_above_complete}
-use Rattle.zone_proto.proofs.Tree.{above_cases}
+use Rattle.zone_proto.proofs.Names.NameTree.{above_test, is_at_or_above_sound, is_at_or_above_complete}
+use Rattle.zone_proto.proofs.Names.Tree.{above_cases}
 use Rattle.zone_map.specs.SearchLaws.{StarIsOfClosestEncloser}
-use Rattle.zone_map.specs.Upserts.{is_denial_type}
-use Rattle.zone_map.specs.Wildcards.{exists, proper_ancestors, star_under, is_starred, asked_star, asked_star_exists}
+use Rattle.zone_map.specs.Wildcards.{exists, asked_star, asked_star_exists}
 use Rattle.zone_map.specs.Zones.{Sets, owns, owners, names_of, owns_at_or_below}
 use Rattle.zone_map.proofs.Owned.{name_owned, owner_in}
 use Rattle.zone_map.proofs.Wildcards.{star_is_of_closest_encloser}
@@ -22,14 +21,13 @@ use Rattle.zone_denial.specs.Nsec3Circle.{nsec3_types, IsNsec3Type}
 use Rattle.zone_denial.specs.Nsec3Denial.{closest_encloser}
 use Rattle.zone_denial.specs.Nsec3Names.{nsec3_names}
 use Rattle.zone_denial.specs.Nsec3Zones.{IsNsec3Zone, IsHashed, TellsApart}
-use Rattle.zone_denial.proofs.ExistingAncestors.{exists_from, unowned_absent}
-use Rattle.zone_denial.proofs.LongestAncestors.{above_above, above_shorter, IsLongestAbove, longest_is, longest_above, others_above}
-use Rattle.zone_denial.proofs.Nsec3AskedStar.{exists_on_circle, proved_star_is_asked}
-use Rattle.zone_denial.proofs.Nsec3Covers.{IsCover}
-use Rattle.zone_denial.proofs.Nsec3Enclosers.{is_named, named_in, in_named, origin_in, IsEnclosed}
-use Rattle.zone_denial.proofs.Nsec3TypeLaws.{types_are_exact}
-use Rattle.zone_denial.proofs.NsecAskedStar.{other_type}
-use Rattle.zone_denial.proofs.NsecBelow.{above_at, above_through}
+use Rattle.zone_denial.proofs.Names.ExistingAncestors.{exists_from, unowned_absent}
+use Rattle.zone_denial.proofs.Names.LongestAncestors.{above_above, above_shorter, IsLongestAbove, longest_is, longest_above, others_above}
+use Rattle.zone_denial.proofs.Hashed.Nsec3AskedStar.{exists_on_circle, proved_star_is_asked}
+use Rattle.zone_denial.proofs.Hashed.Nsec3Enclosers.{is_named, in_named, origin_in, IsEnclosed}
+use Rattle.zone_denial.proofs.Hashed.Nsec3TypeLaws.{types_are_exact}
+use Rattle.zone_denial.proofs.Chain.NsecAskedStar.{other_type}
+use Rattle.zone_denial.proofs.Chain.NsecBelow.{above_at, above_through}
 use Rattle.zone_validation.specs.Encloser.{next_closer}
 use Rattle.zone_validation.specs.NsecProofs.{DNAME}
 use Rattle.zone_validation.specs.Nsec3Proofs.{lists, is_of_encloser, matches, covers, is_matched, shown_encloser, encloser_and}
@@ -165,7 +163,7 @@ module _ {origin : Name} {m : Sets} {hash : Name → Option (List ℕ)} {paramet
           by None e p = absurd (true≢false (sym p))
           by (Some w) e p = let q = (asked_only w e).0 in (e ∙ ap Some q, sym (exists_is (star_under a) star_in star_uncut) ∙ ap (exists m) (sym q) ∙ p)
 
-      pub star_gone : IsFalse (is_starred x) → owns_at_or_below m x ≡ false → asked_star_exists m x ≡ false → on_circle (star_under a) ≡ false
+      pub star_gone : IsFalse (is_wildcard x) → owns_at_or_below m x ≡ false → asked_star_exists m x ≡ false → on_circle (star_under a) ≡ false
       star_gone plain none gone =
           sym (exists_is (star_under a) star_in star_uncut)
           ∙ sym (ap (λ p. option_map_or (exists m) p false) (proved_star_is_asked origin m hash parameters j.zone j.all_in j.one_kind x ((above_test origin x).1 over) j.uncut plain (unowned_absent m x none) a is))
@@ -180,7 +178,7 @@ module _ {origin : Name} {m : Sets} {hash : Name → Option (List ℕ)} {paramet
       r = record_of j.zone j.apart a
 
       apex : owns m a NS ≡ true → (origin ≡ a) ⊎ IsAbove origin a → owns m a SOA ≡ true
-      apex k (inl e) = ap (λ n. owns m n SOA) (sym e) ∙ j.apex (ap (λ n. owns m n NS) e ∙ k)
+      apex k (inl e) = j.unreferred a ([], e) k
       apex k (inr w) = absurd (none_passes (λ c. is_above origin c && is_above c x) a (owners m NS) j.uncut (owner_in m a NS k) (λ i. (above_test origin a).1 w i && (above_test a x).1 v i))
 
       delegates : (b : Bool) → lists r NS ≡ b → not b || lists r SOA ≡ true

@@ -1,21 +1,20 @@
 -- Which records of a circle of NSEC3 sets match and cover a name that is hashed
-use Rattle.std.proofs.Common.{◌≡◌, ℕ, Bool, true, false, ◌&&◌, ◌||◌, List, refl, sym, ap, ◌∙◌, subst, true≢false, is_lt, is_le}
+use Rattle.std.proofs.Common.{◌≡◌, ℕ, Bool, true, false, ◌&&◌, ◌||◌, List, refl, sym, ap, ◌∙◌, subst, is_lt, is_le}
 use Rattle.std.specs.Prelude.{Option, Some, option_map}
 use Rattle.std.specs.Cmp.{both_ways}
-use Rattle.std.specs.List.{list_any}
 use Rattle.std.specs.Option.{option_map_or}
 use Rattle.zone_proto.specs.declared.rdata.denial.NSEC3PARAM.{NSEC3PARAM as Nsec3Parameters}
 use Rattle.zone_proto.specs.HashedOwners.{hashed_owner}
 use Rattle.zone_proto.specs.Names.{Name, name_eq, name_cmp, octets_cmp}
 use Rattle.zone_proto.proofs.Members.{In, In-from_any, any_from_In}
-use Rattle.zone_proto.proofs.NameTree.{name_eq-Decides}
-use Rattle.zone_proto.proofs.Tree.{name_eq_itself}
+use Rattle.zone_proto.proofs.Names.NameTree.{name_eq-Decides}
+use Rattle.zone_proto.proofs.Names.Tree.{name_eq_itself}
 use Rattle.zone_map.specs.Zones.{Sets}
 use Rattle.zone_denial.specs.Covering.{covers as goes_around}
 use Rattle.zone_denial.specs.Nsec3Circle.{digests, next_digest}
 use Rattle.zone_denial.specs.Nsec3Names.{nsec3_names}
 use Rattle.zone_denial.specs.Nsec3Zones.{IsNsec3Zone, IsHashed, TellsApart}
-use Rattle.zone_denial.proofs.Nsec3Owners.{octets_order, owner, named_hashed, owners_as_digests, same_by_owner, digest_in, name_of_digest}
+use Rattle.zone_denial.proofs.Hashed.Nsec3Owners.{octets_order, owner, named_hashed, owners_as_digests, same_by_owner, digest_in, name_of_digest}
 use Rattle.zone_validation.specs.Nsec3Proofs.{owner_of, matches, covers, goes_over, is_matched, is_covered}
 use Rattle.zone_validation.specs.Nsec3Records.{Nsec3Record}
 use Rattle.zone_acceptance.proofs.Circles.{next_among, never_covered}
@@ -43,7 +42,7 @@ module _ {origin : Name} {m : Sets} {hash : Name → Option (List ℕ)} {paramet
   pub covers_is : (n c : Name) → In n names → Hashed c
       → covers origin hash (record_of zone apart n) c ≡ goes_around octets_cmp (apart.digest n) (next_digest (digests hash names) (apart.digest n)) (apart.digest c)
   covers_is n c i h =
-      ap (λ o. option_map_or (goes_over origin hash (owner zone apart n) (hashed_owner origin next)) o false) (owner_is c h)
+      ap (λ o. option_map_or (goes_over (owner zone apart n) (hashed_owner origin next)) o false) (owner_is c h)
       ∙ (λ i. (is_lt (first i) && is_lt (second i)) || (is_le (third i) && (is_lt (first i) || is_lt (second i))))
     where
       next : List ℕ

@@ -1,26 +1,33 @@
 -- What a validator reads in the NSEC3 sets of a circle: of each name the owner, the next digest and the types
-use Rattle.std.proofs.Common.{◌≡◌, ℕ, Bool, List, [], ◌∷◌, map, length, refl, sym, ap, ◌∙◌, subst, inl, inr, arith}
-use Rattle.std.specs.Prelude.{Option, Some, None, filter_map, flat_map, option_map, is_some, slice_index_or}
+use Rattle.std.proofs.Common.{◌≡◌, ℕ, List, [], ◌∷◌, map, length, refl, sym, ap, ◌∙◌, subst, inl, inr, arith}
+use Rattle.std.specs.Prelude.{Option, Some, flat_map, option_map, is_some, slice_index_or, ◌*◌}
+use Rattle.std.specs.Char.{digit_char}
 use Rattle.std.specs.List.{All, Contains, cons_option}
 use Rattle.std.proofs.lemmas.List.Elements.{All-head}
+use Rattle.std.proofs.lemmas.List.FromFn.{length-map-range_with_len}
 use Rattle.zone_proto.specs.declared.rdata.denial.NSEC3.{NSEC3 as Nsec3Data}
 use Rattle.zone_proto.specs.declared.rdata.denial.NSEC3PARAM.{NSEC3PARAM as Nsec3Parameters}
 use Rattle.zone_proto.specs.declared.record.Record.{Record}
+use Rattle.zone_proto.specs.Base32.{base32_count, base32_text, five_bits}
 use Rattle.zone_proto.specs.Names.{Name, name_cmp, lower}
 use Rattle.zone_proto.specs.Sets.{RRset}
 use Rattle.zone_proto.specs.Types.{NSEC3}
-use Rattle.zone_proto.proofs.KeyOrder.{equal_of}
+use Rattle.zone_proto.proofs.Ordering.KeyOrder.{equal_of}
 use Rattle.zone_proto.proofs.Members.{In, In-Contains, Contains-In, In-filter_map, In-from_filter_map, In-flat_map, In-from_flat_map}
-use Rattle.zone_proto.proofs.Tree.{name_order}
-use Rattle.zone_map.specs.Zones.{Sets, set_at, owns}
+use Rattle.zone_proto.proofs.Names.Tree.{name_order}
+use Rattle.zone_map.specs.Zones.{Sets, set_at}
 use Rattle.zone_map.proofs.Owned.{owner_in}
-use Rattle.zone_denial.specs.Nsec3Circle.{nsec3_of, first_nsec3, nsec3_data as data_of, nsec3_types, next_digest, digests}
+use Rattle.zone_denial.specs.Nsec3Circle.{first_nsec3, nsec3_data as data_of, nsec3_types, next_digest, digests}
 use Rattle.zone_denial.specs.Nsec3Names.{nsec3_names}
 use Rattle.zone_denial.specs.Nsec3Zones.{IsNsec3Zone, IsHashed, TellsApart}
-use Rattle.zone_denial.proofs.Nsec3Owners.{owner, set_of_named, name_of_owner}
-use Rattle.zone_denial.proofs.NsecSecured.{numbers_back}
+use Rattle.zone_denial.proofs.Hashed.Nsec3Owners.{owner, set_of_named, name_of_owner}
+use Rattle.zone_denial.proofs.Chain.NsecSecured.{numbers_back}
 use Rattle.zone_validation.specs.Nsec3Records.{Nsec3Record, nsec3_data, nsec3_record, read_nsec3, nsec3_records}
 use Rattle.zone_acceptance.specs.Nsec3Judged.{read_nsec3_sets, AreNsec3OfZone}
+
+-- the text of a digest has as many octets as its length says
+pub text_length : (d : List ℕ) → length (base32_text d) ≡ base32_count (length d)
+text_length d = length-map-range_with_len (λ i. digit_char (five_bits d (i * 5))) 0 (base32_count (length d))
 
 -- ---- one set
 

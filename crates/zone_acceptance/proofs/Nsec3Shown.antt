@@ -7,20 +7,19 @@ use Rattle.std.specs.Option.{option_or, option_map_or}
 use Rattle.zone_proto.specs.declared.error.ProtoError.{ProtoError}
 use Rattle.zone_proto.specs.declared.rdata.denial.NSEC3PARAM.{NSEC3PARAM as Nsec3Parameters}
 use Rattle.zone_proto.specs.HashedOwners.{hashed_owner, owner_or_refusal}
-use Rattle.zone_proto.specs.Names.{Name, name_cmp}
+use Rattle.zone_proto.specs.Names.{Name, name_cmp, star_under}
 use Rattle.zone_proto.specs.Sets.{RRset}
 use Rattle.zone_proto.specs.Types.{NSEC3}
 use Rattle.zone_proto.proofs.Members.{In, In-Contains, Contains-In, In-filter_map, In-from_filter_map}
-use Rattle.zone_map.specs.Wildcards.{star_under}
 use Rattle.zone_map.specs.Zones.{Sets, set_at, owns}
 use Rattle.zone_denial.specs.Nsec3Denial.{match_of, cover_of, cover_owner, encloser_of, enclosed, star_part, nsec3_denying_owners, nsec3_denial, result_and_then}
 use Rattle.zone_denial.specs.Nsec3Names.{nsec3_names}
 use Rattle.zone_denial.specs.Nsec3Zones.{IsNsec3Zone, IsHashed, TellsApart}
 use Rattle.zone_denial.specs.TypeLists.{in_order}
-use Rattle.zone_denial.proofs.Nsec3Covers.{IsCover, has_cover}
-use Rattle.zone_denial.proofs.Nsec3Enclosers.{is_named, named_in, IsEnclosed}
-use Rattle.zone_denial.proofs.Nsec3Encloses.{encloser_is, cover_is, star_hashed, star_owners, star_answered, answer_on, IsEnclosing, answer_off}
-use Rattle.zone_denial.proofs.Nsec3Owners.{owner, is_owner, named_owns, owns_as_named}
+use Rattle.zone_denial.proofs.Hashed.Nsec3Covers.{IsCover, has_cover}
+use Rattle.zone_denial.proofs.Hashed.Nsec3Enclosers.{is_named, named_in, IsEnclosed}
+use Rattle.zone_denial.proofs.Hashed.Nsec3Encloses.{encloser_is, cover_is, star_hashed, star_owners, star_answered, answer_on, IsEnclosing, answer_off}
+use Rattle.zone_denial.proofs.Hashed.Nsec3Owners.{owner, is_owner, named_owns, owns_as_named}
 use Rattle.zone_validation.specs.Nsec3Records.{Nsec3Record, nsec3_records}
 use Rattle.zone_acceptance.specs.Nsec3Judged.{read_nsec3_sets, AreNsec3OfZone}
 use Rattle.zone_acceptance.proofs.Nsec3Readings.{record_of, shown, from_read}

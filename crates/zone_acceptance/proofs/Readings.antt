@@ -1,23 +1,22 @@
 -- What a validator reads in the NSEC sets of a circle: of each owner its next name and its types
 use Rattle.std.proofs.Common.{◌≡◌, ◌≢◌, ℕ, Bool, true, false, List, [], ◌∷◌, map, length, refl, sym, ap, ◌∙◌, subst, ◌⊎◌, inl, inr, arith, true≢false, eqb-true, eq-eqb}
-use Rattle.std.specs.Prelude.{Option, Some, None, filter_map, flat_map, option_map, is_some, slice_index_or, ◌==◌}
-use Rattle.std.specs.List.{All, Contains, cons_option, list_any}
+use Rattle.std.specs.Prelude.{Option, Some, None, flat_map, option_map, is_some, slice_index_or, ◌==◌}
+use Rattle.std.specs.List.{All, Contains, cons_option}
 use Rattle.std.proofs.lemmas.List.Elements.{All-head}
 use Rattle.zone_proto.specs.declared.rdata.denial.NSEC.{NSEC as NsecData}
 use Rattle.zone_proto.specs.declared.record.Record.{Record}
-use Rattle.zone_proto.specs.Names.{Name, name_cmp, lower, same_name}
+use Rattle.zone_proto.specs.Names.{Name, name_cmp, lower}
 use Rattle.zone_proto.specs.Sets.{RRset}
 use Rattle.zone_proto.specs.Types.{NSEC, RRSIG}
-use Rattle.zone_proto.proofs.KeyOrder.{equal_of}
+use Rattle.zone_proto.proofs.Ordering.KeyOrder.{equal_of}
 use Rattle.zone_proto.proofs.Members.{In, In-Contains, Contains-In, In-from_any, any_from_In, In-filter_map, In-from_filter_map, In-flat_map, In-from_flat_map}
-use Rattle.zone_proto.proofs.Tree.{name_order}
+use Rattle.zone_proto.proofs.Names.Tree.{name_order}
 use Rattle.zone_map.specs.Zones.{Sets, set_at, owns}
-use Rattle.zone_map.proofs.Owned.{set_of}
-use Rattle.zone_denial.specs.NsecCircle.{nsec_of, first_nsec, nsec_next}
+use Rattle.zone_denial.specs.NsecCircle.{first_nsec, nsec_next}
 use Rattle.zone_denial.specs.NsecDenial.{denying_owners, nsec_denial}
 use Rattle.zone_denial.specs.NsecLaws.{IsNsecZone}
 use Rattle.zone_denial.specs.TypeLists.{nsec_types}
-use Rattle.zone_denial.proofs.NsecLists.{list_has, from_list}
+use Rattle.zone_denial.proofs.Chain.NsecLists.{list_has, from_list}
 use Rattle.zone_validation.specs.NsecProofs.{lists}
 use Rattle.zone_validation.specs.NsecRecords.{NsecRecord, nsec_data, nsec_record, read_nsec, nsec_records}
 use Rattle.zone_acceptance.specs.Judged.{read, denial_records, AreOfZone}

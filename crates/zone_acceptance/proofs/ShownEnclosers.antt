@@ -1,24 +1,21 @@
 -- The closest encloser that a record shows of a name that it denies is the one that the denial has
 use Rattle.std.proofs.Common.{◌≡◌, Bool, true, false, ◌&&◌, ◌||◌, [], ◌∷◌, drop, refl, sym, ap, ◌∙◌, subst, ◌⊎◌, inl, inr}
 use Rattle.std.specs.Prelude.{Some, unwrap_or}
-use Rattle.std.specs.Cmp.{both_ways}
-use Rattle.std.specs.List.{list_any}
-use Rattle.zone_proto.specs.Names.{Name, star_label, is_above, is_at_or_above, IsAtOrAbove, IsAbove}
+use Rattle.zone_proto.specs.Names.{Name, star_label, is_above, is_at_or_above, IsAtOrAbove, IsAbove, star_under}
 use Rattle.zone_proto.specs.Types.{NS, NSEC}
 use Rattle.zone_proto.proofs.Members.{In-from_any, any_from_In, none_passes, and_left, and_right, or_left, or_right}
-use Rattle.zone_proto.proofs.NameTree.{above_test, above_is_less, is_at_or_above_sound, is_at_or_above_complete}
-use Rattle.zone_proto.proofs.Orders.{asym}
-use Rattle.zone_proto.proofs.Tree.{name_order, above_cases}
-use Rattle.zone_map.specs.Wildcards.{star_under}
+use Rattle.zone_proto.proofs.Names.NameTree.{above_test, above_is_less, is_at_or_above_sound, is_at_or_above_complete}
+use Rattle.zone_proto.proofs.Ordering.Orders.{asym}
+use Rattle.zone_proto.proofs.Names.Tree.{name_order, above_cases}
 use Rattle.zone_map.specs.Zones.{Sets, owns, owners}
 use Rattle.zone_map.proofs.Owned.{owner_in, owner_owned}
 use Rattle.zone_denial.specs.Authority.{is_below_cut}
 use Rattle.zone_denial.specs.NsecCircle.{nsec_next}
 use Rattle.zone_denial.specs.NsecDenial.{owns_nsec_at_or_below, nsec_encloser}
 use Rattle.zone_denial.specs.NsecLaws.{IsNsecZone}
-use Rattle.zone_denial.proofs.LongestAncestors.{above_above, IsLongestAbove, longest_above, others_above}
-use Rattle.zone_denial.proofs.NsecBelow.{above_at, above_through}
-use Rattle.zone_denial.proofs.NsecCircle.{origin_on_circle, next_owned}
+use Rattle.zone_denial.proofs.Names.LongestAncestors.{above_above, IsLongestAbove, longest_above, others_above}
+use Rattle.zone_denial.proofs.Chain.NsecBelow.{above_through}
+use Rattle.zone_denial.proofs.Chain.NsecCircle.{origin_on_circle, next_owned}
 use Rattle.zone_validation.specs.NsecProofs.{shown_encloser}
 use Rattle.zone_acceptance.specs.Judged.{IsJudged}
 use Rattle.zone_acceptance.proofs.Gaps.{IsBetween, owner_near}
@@ -68,6 +65,7 @@ module _ (origin : Name) (m : Sets) (x : Name) (j : IsJudged origin m x) (over :
   judged_star = record {
     zone = j.zone;
     one_kind = j.one_kind;
+    unreferred = j.unreferred;
     inside = is_at_or_above_complete origin (star_under e) (above_through origin e (star_under e) encloser_in (star_label ∷ [], refl));
     uncut = uncut (is_below_cut origin m (star_under e)) refl;
     no_dname = λ a u. j.no_dname a (above_x a u);

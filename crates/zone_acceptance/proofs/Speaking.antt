@@ -1,30 +1,29 @@
 -- What the record of an owner says of a judged name that stands between the owner and its next name
-use Rattle.std.proofs.Common.{◌≡◌, ℕ, Bool, true, false, not, ◌&&◌, ◌||◌, List, [], ◌∷◌, ◌++◌, refl, sym, ap, ◌∙◌, subst, arith, true≢false, ◌⊎◌, inl, inr, Less, is_lt}
-use Rattle.std.specs.Prelude.{Option, Some, None, is_some}
-use Rattle.std.specs.List.{Contains, list_any}
+use Rattle.std.proofs.Common.{◌≡◌, ℕ, Bool, true, false, not, ◌&&◌, ◌||◌, List, [], ◌∷◌, refl, sym, ap, ◌∙◌, subst, arith, true≢false, ◌⊎◌, inl, inr, Less, is_lt}
+use Rattle.std.specs.Prelude.{Some, is_some}
 use Rattle.zone_proto.specs.Names.{Name, name_cmp, name_eq, lower, is_above, is_at_or_above, IsAtOrAbove, IsAbove}
 use Rattle.zone_proto.specs.Order.{is_before}
 use Rattle.zone_proto.specs.Sets.{RRset}
 use Rattle.zone_proto.specs.Types.{NS, SOA, RRSIG, NSEC}
-use Rattle.zone_proto.proofs.Members.{In, In-Contains, Contains-In, In-append_right, In-from_filter_map, none_passes, and_left, and_right, or_left, or_right}
-use Rattle.zone_proto.proofs.NameTree.{name_eq-Decides, above_test, above_is_less, is_at_or_above_sound, is_at_or_above_complete}
-use Rattle.zone_proto.proofs.Orders.{irrefl}
-use Rattle.zone_proto.proofs.Tree.{name_order, above_cases}
+use Rattle.zone_proto.proofs.Members.{In, In-Contains, Contains-In, In-append_right, In-from_filter_map, none_passes, and_left, and_right, or_left, or_right, not_true}
+use Rattle.zone_proto.proofs.Names.NameTree.{name_eq-Decides, above_test, is_at_or_above_sound, is_at_or_above_complete}
+use Rattle.zone_proto.proofs.Ordering.Orders.{irrefl}
+use Rattle.zone_proto.proofs.Names.Tree.{name_order, above_cases}
 use Rattle.zone_map.specs.Zones.{Sets, set_at, owns, owners, types_at, owns_at_or_below}
-use Rattle.zone_map.proofs.Owned.{owner_in, name_in, type_owned}
-use Rattle.zone_denial.specs.Authority.{is_below_cut}
+use Rattle.zone_map.proofs.Owned.{owner_in, type_owned}
+use Rattle.zone_denial.specs.Authority.{is_below_cut, owns_besides}
 use Rattle.zone_denial.specs.Covering.{covers}
-use Rattle.zone_denial.specs.NsecCircle.{next_of, nsec_next}
+use Rattle.zone_denial.specs.NsecCircle.{nsec_next}
 use Rattle.zone_denial.specs.NsecDenial.{denying_owners, nsec_denial}
 use Rattle.zone_denial.specs.NsecLaws.{IsNsecZone, LastCovers, HasCover}
-use Rattle.zone_denial.proofs.NsecBelow.{above_at, next_below_empty}
-use Rattle.zone_denial.proofs.NsecCircle.{origin_on_circle, next_owned}
-use Rattle.zone_denial.proofs.NsecLists.{lists_all_owned, owner_elsewhere}
+use Rattle.zone_denial.proofs.Chain.NsecBelow.{above_at, next_below_empty}
+use Rattle.zone_denial.proofs.Chain.NsecCircle.{origin_on_circle, next_owned}
+use Rattle.zone_denial.proofs.Chain.NsecLists.{lists_all_owned, owner_elsewhere}
 use Rattle.zone_validation.specs.NsecProofs.{DNAME, lists, is_ancestor_delegation, may_tell_of, covers as tells_past, denies_name, shows_empty}
 use Rattle.zone_validation.specs.NsecRecords.{NsecRecord}
 use Rattle.zone_acceptance.specs.Judged.{denial_records, IsJudged}
 use Rattle.zone_acceptance.proofs.Gaps.{IsBetween, between_from_covers, owner_below, off_circle}
-use Rattle.zone_acceptance.proofs.Readings.{record_at, shown, listed_owned, unlisted}
+use Rattle.zone_acceptance.proofs.Readings.{record_at, shown, listed_owned, owned_listed, unlisted}
 
 -- a record of a denial whose owner and next name a name stands between
 pub record IsSpanned (origin : Name) (m : Sets) (h : IsNsecZone origin m) (x y : Name) : Type 0 where
@@ -101,9 +100,13 @@ module _ (origin : Name) (m : Sets) (y : Name) (j : IsJudged origin m y) where
       let s = spanned origin m h y y (below_origin off) c.0 in
       (nsec_next origin m s.0.owner, next_owned origin m h s.0.owner, (above_test y (nsec_next origin m s.0.owner)).0 (ap (is_above y) (s.1 ∙ c.1) ∙ r.2))
 
-  -- what is between has a record that tells of it: it isn't that of a cut or of a DNAME above
-  tells : (o : Name) → may_tell_of origin (record_at origin m h o) y ≡ true
-  tells o = by (is_above o y) refl
+  -- an owner on the circle is a name of the zone
+  pub owner_inside : (o : Name) → owns m o NSEC ≡ true → is_at_or_above origin o ≡ true
+  owner_inside o k = and_left (is_at_or_above origin o) (owns_besides m NSEC o && not (is_below_cut origin m o)) (sym (h.circle.one_for_each o) ∙ k)
+
+  -- its record is of no ancestor delegation: an NS set above y is that of the origin, beside SOA
+  pub no_delegation_above : (o : Name) → owns m o NSEC ≡ true → is_above o y ≡ true → is_ancestor_delegation (record_at origin m h o) ≡ true → ⊥
+  no_delegation_above o k u e = by (above_cases origin o (is_at_or_above_sound origin o (owner_inside o k)))
     where
       r : NsecRecord
       r = record_at origin m h o
@@ -113,18 +116,26 @@ module _ (origin : Name) (m : Sets) (y : Name) (j : IsJudged origin m y) where
       owned (inr (inl e)) = absurd (omega (arith, e))
       owned (inr (inr e)) = absurd (omega (arith, e))
 
-      cut : is_above o y ≡ true → is_ancestor_delegation origin r ≡ true → ⊥
-      cut u e =
-          let d = and_left (lists r NS && not (lists r SOA)) (is_above origin o) e in
-          let k = owned (listed_owned origin m h o NS (and_left (lists r NS) (not (lists r SOA)) d)) in
-          none_passes (λ a. is_above origin a && is_above a y) o (owners m NS) j.uncut (owner_in m o NS k) (λ i. and_right (lists r NS && not (lists r SOA)) (is_above origin o) e i && u i)
+      ns : owns m o NS ≡ true
+      ns = owned (listed_owned origin m h o NS (and_left (lists r NS) (not (lists r SOA)) e))
 
-      by : (b : Bool) → is_above o y ≡ b → not (b && (is_ancestor_delegation origin r || lists r DNAME)) ≡ true
+      by : (origin ≡ o) ⊎ IsAbove origin o → ⊥
+      by (inl q) = true≢false (sym (owned_listed origin m h o SOA (j.unreferred o ([], q) ns)) ∙ not_true (lists r SOA) (and_right (lists r NS) (not (lists r SOA)) e))
+      by (inr w) = none_passes (λ a. is_above origin a && is_above a y) o (owners m NS) j.uncut (owner_in m o NS ns) (λ i. (above_test origin o).1 w i && u i)
+
+  -- what is between has a record that tells of it: it isn't that of a cut or of a DNAME above
+  tells : (o : Name) → owns m o NSEC ≡ true → may_tell_of (record_at origin m h o) y ≡ true
+  tells o k = by (is_above o y) refl
+    where
+      r : NsecRecord
+      r = record_at origin m h o
+
+      by : (b : Bool) → is_above o y ≡ b → not (b && (is_ancestor_delegation r || lists r DNAME)) ≡ true
       by false e = refl
-      by true e = both (is_ancestor_delegation origin r) refl
+      by true e = both (is_ancestor_delegation r) refl
         where
-          both : (b : Bool) → is_ancestor_delegation origin r ≡ b → not (b || lists r DNAME) ≡ true
-          both true q = absurd (cut e q)
+          both : (b : Bool) → is_ancestor_delegation r ≡ b → not (b || lists r DNAME) ≡ true
+          both true q = absurd (no_delegation_above o k e q)
           both false q = ap not (unlisted origin m h o DNAME (λ e. omega (arith, e)) (λ e. omega (arith, e)) (j.no_dname o ((above_test o y).0 e)))
 
   module _ (o : Name) (b : IsBetween origin m y o) where
@@ -132,7 +143,7 @@ module _ (origin : Name) (m : Sets) (y : Name) (j : IsJudged origin m y) where
     n = nsec_next origin m o
 
     covers_it : tells_past origin (record_at origin m h o) y ≡ true
-    covers_it = three (is_above origin y) (is_before name_cmp o y) (is_before name_cmp y n || name_eq n origin) ((above_test origin y).1 (below_origin (off_circle origin m h y o b))) (ap is_lt b.after_owner) (by b.before_next)
+    covers_it = λ i. owner_inside o b.on_circle i && (above_test origin y).1 (below_origin (off_circle origin m h y o b)) i && ap is_lt b.after_owner i && by b.before_next i
       where
         by : (name_cmp y n ≡ Less) ⊎ (n ≡ origin) → is_before name_cmp y n || name_eq n origin ≡ true
         by (inl e) = or_left (is_before name_cmp y n) (name_eq n origin) (ap is_lt e)
@@ -140,7 +151,7 @@ module _ (origin : Name) (m : Sets) (y : Name) (j : IsJudged origin m y) where
 
     -- where nothing is owned at or below it, it is denied
     pub denied : owns_at_or_below m y ≡ false → denies_name origin (record_at origin m h o) y ≡ true
-    denied none = three (may_tell_of origin (record_at origin m h o) y) (tells_past origin (record_at origin m h o) y) (not (is_above y n)) (tells o) covers_it (ap not (by (is_above y n) refl))
+    denied none = three (may_tell_of (record_at origin m h o) y) (tells_past origin (record_at origin m h o) y) (not (is_above y n)) (tells o b.on_circle) covers_it (ap not (by (is_above y n) refl))
       where
         by : (b : Bool) → is_above y n ≡ b → b ≡ false
         by true e = absurd (true≢false (sym (is_at_or_above_complete y n (above_at y n ((above_test y n).0 e))) ∙ owner_elsewhere m y n NSEC none (next_owned origin m h o)))
@@ -148,7 +159,7 @@ module _ (origin : Name) (m : Sets) (y : Name) (j : IsJudged origin m y) where
 
     -- and else it is an empty non-terminal
     pub empty : owns_at_or_below m y ≡ true → shows_empty origin (record_at origin m h o) y ≡ true
-    empty some = three (may_tell_of origin (record_at origin m h o) y) (tells_past origin (record_at origin m h o) y) (is_above y n) (tells o) covers_it (by (above_cases y n r.1))
+    empty some = three (may_tell_of (record_at origin m h o) y) (tells_past origin (record_at origin m h o) y) (is_above y n) (tells o b.on_circle) covers_it (by (above_cases y n r.1))
       where
         r : (name_cmp y n ≡ Less) × IsAtOrAbove y n
         r =

@@ -3,12 +3,11 @@ use Rattle.std.proofs.Common.{◌≡◌, ℕ, Bool, true, false, not, ◌&&◌, 
 use Rattle.std.specs.Prelude.{Option, Some, None, ◌==◌}
 use Rattle.std.specs.Cmp.{both_ways}
 use Rattle.std.specs.Option.{option_map_or}
-use Rattle.zone_proto.specs.Names.{Name, is_above, is_at_or_above, IsAtOrAbove, IsAbove}
+use Rattle.zone_proto.specs.Names.{Name, is_at_or_above, IsAtOrAbove, IsAbove, star_under, is_wildcard}
 use Rattle.zone_proto.specs.Types.{NSEC, NSEC3}
 use Rattle.zone_proto.proofs.Members.{In-from_any, and_left, and_right, not_true}
-use Rattle.zone_proto.proofs.NameTree.{above_test, is_at_or_above_sound}
-use Rattle.zone_map.specs.Upserts.{is_denial_type}
-use Rattle.zone_map.specs.Wildcards.{exists, star_under, is_starred, asked_star, asked_star_exists}
+use Rattle.zone_proto.proofs.Names.NameTree.{above_test, is_at_or_above_sound}
+use Rattle.zone_map.specs.Wildcards.{exists, asked_star, asked_star_exists}
 use Rattle.zone_map.specs.SearchLaws.{StarIsOfClosestEncloser}
 use Rattle.zone_map.specs.Zones.{Sets, owns, names_of, owns_at_or_below}
 use Rattle.zone_map.proofs.Owned.{name_owned}
@@ -17,9 +16,9 @@ use Rattle.zone_denial.specs.Authority.{is_below_cut, owns_besides}
 use Rattle.zone_denial.specs.NsecDenial.{nsec_encloser}
 use Rattle.zone_denial.specs.NsecLaws.{IsNsecZone}
 use Rattle.zone_denial.specs.StarLaws.{OwnsNone}
-use Rattle.zone_denial.proofs.AuthoritativeNames.{from_besides}
-use Rattle.zone_denial.proofs.ExistingAncestors.{exists_from, unowned_absent}
-use Rattle.zone_denial.proofs.NsecAskedStar.{other_type, proved_star_is_asked}
+use Rattle.zone_denial.proofs.Names.AuthoritativeNames.{from_besides}
+use Rattle.zone_denial.proofs.Names.ExistingAncestors.{exists_from, unowned_absent}
+use Rattle.zone_denial.proofs.Chain.NsecAskedStar.{other_type, proved_star_is_asked}
 use Rattle.zone_acceptance.specs.Judged.{IsJudged}
 
 -- without NSEC3 sets a name exists where it or a name below it owns a set
@@ -83,7 +82,7 @@ module _ (origin : Name) (m : Sets) (x : Name) (j : IsJudged origin m x) (over :
       by (Some w) e p = let q = (asked_only w e).0 in (e ∙ ap Some q, sym (exists_is origin m j.zone j.one_kind star) ∙ ap (exists m) (sym q) ∙ p)
 
   -- of a plain name it is the one that is asked
-  pub star_gone : IsFalse (is_starred x) → owns_at_or_below m x ≡ false → asked_star_exists m x ≡ false → owns_at_or_below m (star_under (nsec_encloser origin m x)) ≡ false
+  pub star_gone : IsFalse (is_wildcard x) → owns_at_or_below m x ≡ false → asked_star_exists m x ≡ false → owns_at_or_below m (star_under (nsec_encloser origin m x)) ≡ false
   star_gone plain none gone =
       sym (exists_is origin m j.zone j.one_kind (star_under (nsec_encloser origin m x)))
       ∙ sym (ap (λ p. option_map_or (exists m) p false) (proved_star_is_asked origin m j.zone j.one_kind x ((above_test origin x).1 over) j.uncut plain (unowned_absent m x none)))

@@ -2,10 +2,9 @@
 use Rattle.std.specs.Prelude.{◌≡◌, ◌≢◌, ℕ, Bool, List, flat_map, Option, Some, IsTrue, IsFalse}
 use Rattle.std.specs.List.{Contains}
 use Rattle.zone_proto.specs.declared.rdata.denial.NSEC3PARAM.{NSEC3PARAM as Nsec3Parameters}
-use Rattle.zone_proto.specs.Names.{Name, is_at_or_above, IsAbove}
+use Rattle.zone_proto.specs.Names.{Name, is_at_or_above, IsAbove, star_under}
 use Rattle.zone_proto.specs.Sets.{RRset}
-use Rattle.zone_proto.specs.Types.{NS, SOA, DS, RRSIG, NSEC, NSEC3, ANY}
-use Rattle.zone_map.specs.Wildcards.{star_under}
+use Rattle.zone_proto.specs.Types.{DS, RRSIG, NSEC, NSEC3, ANY}
 use Rattle.zone_map.specs.Zones.{Sets, set_at, owns}
 use Rattle.zone_denial.specs.Authority.{is_below_cut}
 use Rattle.zone_denial.specs.Nsec3Denial.{closest_encloser}
@@ -13,6 +12,7 @@ use Rattle.zone_denial.specs.Nsec3Zones.{IsNsec3Zone, IsHashed, TellsApart}
 use Rattle.zone_denial.specs.StarLaws.{OwnsNone}
 use Rattle.zone_validation.specs.NsecProofs.{DNAME}
 use Rattle.zone_validation.specs.Nsec3Records.{Nsec3Record, nsec3_records}
+use Rattle.zone_acceptance.specs.Judged.{Unreferred, is_parents_ds}
 
 -- ---- the records
 
@@ -26,7 +26,7 @@ AreNsec3OfZone m rs = (r : Nsec3Record) → Contains rs r → (o : Name) × (s :
 
 -- ---- the names and the types
 
--- a name of a zone that NSEC3 denies, without opt-out and with no sets of NSEC: neither a zone cut nor a DNAME stands above it, it owns no NSEC3 set, the origin is no delegation, and the hash tells the names apart that a denial hashes
+-- a name of a zone that NSEC3 denies, without opt-out and with no sets of NSEC: neither a zone cut nor a DNAME stands above it, it owns no NSEC3 set, nothing at the origin or above it refers, and the hash tells the names apart that a denial hashes
 pub record IsNsec3Judged (origin : Name) (m : Sets) (hash : Name → Option (List ℕ)) (parameters : Nsec3Parameters) (x : Name) : Type 0 where
   pub zone : IsNsec3Zone origin m hash parameters
   pub all_in : IsFalse parameters.opt_out
@@ -35,12 +35,12 @@ pub record IsNsec3Judged (origin : Name) (m : Sets) (hash : Name → Option (Lis
   pub inside : IsTrue (is_at_or_above origin x)
   pub uncut : IsFalse (is_below_cut origin m x)
   pub no_dname : (a : Name) → IsAbove a x → IsFalse (owns m a DNAME)
-  pub apex : IsTrue (owns m origin NS) → IsTrue (owns m origin SOA)
+  pub unreferred : Unreferred origin m
   pub no_hashed_owner : IsFalse (owns m x NSEC3)
 
--- a type whose absence at x can be shown: neither RRSIG nor ANY; and DS where neither x nor the star under its closest encloser is the apex of a zone (RFC 4035 section 3.1.4.1)
+-- a type whose absence at x can be shown: neither RRSIG nor ANY; and DS where neither x nor the star under its closest encloser is one of which the parent denies it
 pub record IsNsec3JudgedType (origin : Name) (m : Sets) (opt_out : Bool) (x : Name) (t : ℕ) : Type 0 where
   pub no_signature : t ≢ RRSIG
   pub one_type : t ≢ ANY
-  pub no_apex : t ≡ DS → IsFalse (owns m x SOA)
-  pub no_star_apex : t ≡ DS → (e : Name) → closest_encloser origin m opt_out x ≡ Some e → IsFalse (owns m (star_under e) SOA)
+  pub no_apex : t ≡ DS → IsFalse (is_parents_ds origin m x)
+  pub no_star_apex : t ≡ DS → (e : Name) → closest_encloser origin m opt_out x ≡ Some e → IsFalse (is_parents_ds origin m (star_under e))

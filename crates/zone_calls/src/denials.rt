@@ -1,82 +1,118 @@
-//! Calls on how the zone denies what it doesn't hold.
+//! Makes the calls on what the zone denies by, and on the indexes that these are found by.
 
-use crate::answer::Answer;
-use crate::bench::{Zone, of_flow};
-use crate::call::DenialCall;
-use crate::read::{read_options, read_question};
-use crate::read_names::read_lower;
-use std::alloc::Global;
-use zone_handler::{Nsec3QueryInfo, ZoneHandler};
-use zone_proto::{LowerName, NxProofKind, RecordType, Seq};
-use zone_text::{TextError, Words};
+use crate::state::State;
+use call_arguments::{Arguments, RowHash};
+use std::alloc::AllocError;
+use std::mem;
+use value_calls::{Written, Zone, write_set, write_set_if_any};
+use zone_handler::{LookupError, Nsec3QueryInfo, ZoneHandler};
+use zone_proto::{LowerName, RecordType};
+use zone_store::{DenialOwners, Reads};
 
-/// Reads the words after the verb of such a call.
-pub fn read_denial_call(
-    alloc: Global,
+/// Makes a call on what the zone denies by.
+pub fn make_denial_call(
+    out: &mut String,
+    state: &mut State,
     verb: &str,
-    words: &mut Words<'_>,
-) -> Result<DenialCall, TextError> {
+    arguments: &mut Arguments,
+) -> Written {
     match verb {
-        "kind" => Ok(DenialCall::Kind),
-        "closest" => Ok(DenialCall::Closest(read_lower(alloc, words)?)),
-        "deny" => {
-            let name = read_lower(alloc, words)?;
-            Ok(DenialCall::Deny(name, read_options(words)?))
+        "closest" => write_closest(out, &state.zone, &arguments.take_lower()),
+        "counted" => write_counted(out, &state.zone, &arguments.take_lower()),
+        "exists" => write_exists(out, &state.zone, &arguments.take_lower()),
+        "owners" => write_owners(out, &state.zone, arguments.take_type()),
+        "denying" => write!(out, "{}", count_owners(&state.zone, arguments.take_type())),
+        "hash" => {
+            let alloc = arguments.alloc;
+            let other = RowHash::new(alloc);
+            state.hash = mem::replace(&mut arguments.head.hash, other);
+            write!(out, "done")
         }
-        verb => Ok(DenialCall::Hashed(read_question(alloc, words)?, verb == "expanded")),
+        verb => write_proof(out, state, verb, arguments),
     }
 }
 
-/// Reads the kind of a zone: none, unless a word for one follows.
-pub fn read_kind(alloc: Global, words: &mut Words<'_>) -> Result<Option<NxProofKind>, TextError> {
-    match words.take() {
-        None => Ok(None),
-        Some(b"nsec") => Ok(Some(NxProofKind::Nsec)),
-        Some(b"nsec3") => Ok(Some(nsec3_kind(alloc, false))),
-        Some(b"optout") => Ok(Some(nsec3_kind(alloc, true))),
-        Some(_) => Err(TextError::BadText),
+/// Writes the closest NSEC set.
+fn write_closest(out: &mut String, zone: &Zone, name: &LowerName) -> Written {
+    write_set_if_any(out, zone.inner().closest_nsec(name))
+}
+
+/// Writes how many owners are read for the closest NSEC set, and the set.
+fn write_counted(out: &mut String, zone: &Zone, name: &LowerName) -> Written {
+    let mut reads = Reads::new();
+    match zone.inner().closest_nsec_counted(name, &mut reads) {
+        Ok(Some(set)) => {
+            write!(out, "{} read | ", reads.count())?;
+            write_set(out, set)
+        }
+        Ok(None) => write!(out, "{} read, None", reads.count()),
+        Err(error) => write!(out, "error: {error}"),
     }
 }
 
-/// The kind that denies by NSEC3 without salt and iterations.
-fn nsec3_kind(alloc: Global, opt_out: bool) -> NxProofKind {
-    NxProofKind::Nsec3 {
+/// Writes whether a name is there, and how many keys are read for that.
+fn write_exists(out: &mut String, zone: &Zone, name: &LowerName) -> Written {
+    let mut reads = Reads::default();
+    match zone.inner().owns_at_or_below(name, &mut reads) {
+        Ok(owns) => write!(out, "{owns}, {} read", reads.count()),
+        Err(error) => write!(out, "error: {error}"),
+    }
+}
+
+/// Writes how many names own sets of a type of denial, and the names, which are lent by a copy of the iterator.
+pub fn write_owners(out: &mut String, zone: &Zone, record_type: RecordType) -> Written {
+    let owners = zone.inner().denial_owners(record_type);
+    write!(out, "{} owners", count_owners(zone, record_type))?;
+    if owners.size_hint().0 > count_owners(zone, record_type) {
+        write!(out, " of more")?;
+    }
+    let copy: Result<DenialOwners<'_>, AllocError> = owners.clone();
+    match copy {
+        Ok(copy) => {
+            for owner in copy {
+                write!(out, " | {owner}")?;
+            }
+            Ok(())
+        }
+        Err(_) => write!(out, "error: out of memory"),
+    }
+}
+
+/// How many names own sets of a type of denial.
+fn count_owners(zone: &Zone, record_type: RecordType) -> usize {
+    let mut count = 0usize;
+    for _ in zone.inner().denial_owners(record_type) {
+        count = count.saturating_add(1);
+    }
+    count
+}
+
+/// Writes how many names are hashed for the NSEC3 sets that deny a name, and the owners of the sets; or of those that a
+/// wildcard's answer needs. The hash is the one beside the zone, without salt and iterations.
+fn write_proof(out: &mut String, state: &State, verb: &str, arguments: &mut Arguments) -> Written {
+    let name = arguments.take_lower();
+    let info = Nsec3QueryInfo {
+        qname: &name,
+        qtype: arguments.take_type(),
+        has_wildcard_match: verb == "expanded proof",
         algorithm: 1,
-        salt: Seq::new(alloc),
+        salt: b"",
         iterations: 0,
-        opt_out,
-    }
-}
-
-/// Makes such a call.
-pub fn make_denial_call(zone: &Zone, call: DenialCall) -> Answer {
-    match call {
-        DenialCall::Kind => match zone.nx_proof_kind() {
-            None => Answer::Nothing,
-            Some(NxProofKind::Nsec) => Answer::Type(RecordType::NSEC),
-            Some(NxProofKind::Nsec3 { .. }) => Answer::Type(RecordType::NSEC3),
-        },
-        DenialCall::Closest(name) => closest(zone, &name),
-        DenialCall::Deny(name, options) => of_flow(zone.nsec_records(&name, options)),
-        DenialCall::Hashed(question, has_wildcard_match) => {
-            let info = Nsec3QueryInfo {
-                qname: &question.name,
-                qtype: question.record_type,
-                has_wildcard_match,
-                algorithm: 1,
-                salt: b"",
-                iterations: 0,
-            };
-            of_flow(zone.nsec3_records(info, question.options))
+    };
+    let proof = state
+        .zone
+        .inner()
+        .proof(info, state.zone.origin(), &state.hash);
+    let hashed = state.hash.calls.take_made();
+    match proof {
+        Ok(sets) => {
+            write!(out, "{hashed} hashed")?;
+            for set in sets.as_slice() {
+                write!(out, " | {}", set.name())?;
+            }
+            Ok(())
         }
-    }
-}
-
-/// A copy of the closest NSEC set.
-fn closest(zone: &Zone, name: &LowerName) -> Answer {
-    match zone.inner().closest_nsec(name) {
-        Ok(Some(set)) => Answer::of_copy(set.clone()),
-        Ok(None) => Answer::Nothing,
-        Err(error) => Answer::from(error),
+        Err(LookupError::Memory) => write!(out, "error: out of memory"),
+        Err(error) => write!(out, "error: {error}, {hashed} hashed"),
     }
 }

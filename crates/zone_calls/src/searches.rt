@@ -1,41 +1,125 @@
-//! Makes the calls that search the zone for more than a name and a type.
+//! Makes the calls that search the zone.
 
-use crate::answer::Answer;
-use crate::bench::{Zone, of_flow};
-use crate::call::{Question, SearchCall};
-use crate::texts::{ChainText, NoneText};
+use crate::state::State;
+use call_arguments::{Arguments, RowSigner};
 use std::alloc::Global;
-use zone_handler::{LookupOptions, Request, ZoneHandler};
-use zone_proto::LowerName;
-use zone_store::Searches;
+use value_calls::{Written, both, write_chain, write_made_set, write_set};
+use zone_handler::LookupOptions;
+use zone_proto::{LowerName, RecordSet, RecordType};
+use zone_store::{Found, InnerInMemory, Reads, Searches};
 
-/// Makes such a call.
-pub fn make_search_call(alloc: Global, zone: &Zone, call: SearchCall) -> Answer {
-    match call {
-        SearchCall::Additionals(next, question) => additionals(alloc, zone, next, &question),
-        SearchCall::Request(request) => search(zone, &request),
+/// Makes a call that searches the zone.
+pub fn make_search_call(
+    out: &mut String,
+    state: &mut State,
+    verb: &str,
+    arguments: &mut Arguments,
+) -> Written {
+    let name = arguments.take_lower();
+    match verb {
+        "counts" => write_counts(out, arguments.alloc),
+        "any" => match state.zone.inner().replace_any(&name) {
+            Ok(chosen) => write!(out, "{chosen} {}", chosen.0),
+            Err(error) => write!(out, "error: {error}"),
+        },
+        "search" => search(out, state, &name, arguments),
+        "chase" => chase(out, state, &name, arguments),
+        "made" => write_made(out, arguments.set.take()),
+        _ => add(out, state, &name, arguments),
     }
 }
 
-/// The additional sets for a question, from a next name on, and how many names were searched.
-fn additionals(alloc: Global, zone: &Zone, next: LowerName, question: &Question) -> Answer {
+/// Writes how counts and a map by itself begin.
+fn write_counts(out: &mut String, alloc: Global) -> Written {
+    let map: InnerInMemory<RowSigner> = InnerInMemory::new(alloc);
+    write!(
+        out,
+        "{} read, {} by default, ",
+        Reads::new().count(),
+        Reads::default().count()
+    )?;
+    let searches = (Searches::new().count(), Searches::default().count());
+    write!(out, "{} searched, {} by default, ", searches.0, searches.1)?;
+    write!(
+        out,
+        "{} sets, {} signers",
+        map.as_map().len(),
+        map.signers().len()
+    )
+}
+
+/// Searches for a set, which has to be counted, and copies what is found.
+fn search(
+    out: &mut String,
+    state: &mut State,
+    name: &LowerName,
+    arguments: &mut Arguments,
+) -> Written {
+    let before = state.searches.count();
+    let (record_type, options) = (arguments.take_type(), arguments.options());
+    let inner = state.zone.inner();
+    match inner.inner_lookup(name, record_type, options, &mut state.searches) {
+        Ok(Some(found)) => write_made_set(out, found.into_set())?,
+        Ok(None) => write!(out, "nothing")?,
+        Err(error) => write!(out, "error: {error}")?,
+    }
+    if state.searches.count() != before.saturating_add(1) {
+        write!(out, ", a search that isn't counted")?;
+    }
+    Ok(())
+}
+
+/// Follows the aliases from the set that is found.
+fn chase(out: &mut String, state: &State, name: &LowerName, arguments: &mut Arguments) -> Written {
     let mut searches = Searches::new();
-    let (name, record_type, options) = (&question.name, question.record_type, question.options);
-    let inner = zone.inner();
-    match inner.additional_search(name, record_type, next, record_type, options, &mut searches) {
-        Ok(Some(sets)) => {
-            let text = ChainText(sets.as_slice(), searches.count());
-            Answer::of_written(text.to_string(alloc))
-        }
-        Ok(None) => Answer::of_text(alloc, NoneText(searches.count())),
-        Err(error) => Answer::from(error),
+    let (record_type, options) = (arguments.take_type(), arguments.options());
+    match state
+        .zone
+        .inner()
+        .inner_lookup(name, record_type, options, &mut searches)
+    {
+        Ok(Some(first)) => chase_from(out, state, name, record_type, options, first),
+        Ok(None) => write!(out, "nothing"),
+        Err(error) => write!(out, "error: {error}"),
     }
 }
 
-/// What the zone answers to a request, which has no signature.
-fn search(zone: &Zone, request: &Request) -> Answer {
-    match zone.search(request, LookupOptions::default(), 0) {
-        (flow, None) => of_flow(flow),
-        (_, Some(_)) => Answer::Signed,
+fn chase_from<'z>(
+    out: &mut String,
+    state: &'z State,
+    name: &LowerName,
+    record_type: RecordType,
+    options: LookupOptions,
+    first: Found<'z>,
+) -> Written {
+    let mut searches = Searches::new();
+    let inner = state.zone.inner();
+    match inner.chase_cnames(name, first, record_type, options, &mut searches) {
+        Ok(chain) => write_chain(out, searches.count(), chain.as_slice()),
+        Err(error) => write!(out, "error: {error}"),
+    }
+}
+
+/// The additional sets for a question, from a next name on.
+fn add(out: &mut String, state: &State, name: &LowerName, arguments: &mut Arguments) -> Written {
+    let mut searches = Searches::new();
+    let (next, record_type) = (arguments.take_lower(), arguments.take_type());
+    let (inner, options) = (state.zone.inner(), arguments.options());
+    match inner.additional_search(name, record_type, next, record_type, options, &mut searches) {
+        Ok(Some(sets)) => write_chain(out, searches.count(), sets.as_slice()),
+        Ok(None) => write!(out, "{} searched, None", searches.count()),
+        Err(error) => write!(out, "error: {error}"),
+    }
+}
+
+/// Writes the current set as one that a search made, which is lent, and then handed out.
+fn write_made(out: &mut String, set: Option<RecordSet>) -> Written {
+    match set {
+        Some(set) => {
+            let found = Found::Made(set);
+            let lent = both(write_set(out, found.set()), write!(out, " | "));
+            both(lent, write_made_set(out, found.into_set()))
+        }
+        None => write!(out, "no current set"),
     }
 }

@@ -17,10 +17,10 @@ drop = refl
 query : said_by (codes "lookup a. AAAA dnssec") ≡ Some (Some (command.Lookup ((codes "a") ∷ []) (record { 0 = 28 }) (record { dnssec_ok = true })))
 query = refl
 
-hashed : said_by (codes "kind nsec3 aabb 12 optout") ≡ Some (Some (command.Renew (Some (kind.Nsec3 1 (170 ∷ 187 ∷ []) 12 true))))
+hashed : said_by (codes "kind nsec3 aabb 12 optout") ≡ Some (Some (command.Kind (Some (kind.Nsec3 1 (170 ∷ 187 ∷ []) 12 true))))
 hashed = refl
 
-unsalted : said_by (codes "kind nsec3 - 0") ≡ Some (Some (command.Renew (Some (kind.Nsec3 1 [] 0 false))))
+unsalted : said_by (codes "kind nsec3 - 0") ≡ Some (Some (command.Kind (Some (kind.Nsec3 1 [] 0 false))))
 unsalted = refl
 
 -- bad lines: another case, a word too many, and one too few

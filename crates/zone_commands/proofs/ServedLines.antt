@@ -4,7 +4,6 @@ use Rattle.std.proofs.KnownBytes.{Appends-nil, Appends-trans, Consumes-nil, Cons
 use Rattle.std.specs.Bool.{OnFalse}
 use Rattle.std.specs.Io.KnownBytes.{Appends, Consumes, IsAtEnd}
 use Rattle.zone_commands.specs.declared.command.Command.{Command}
-use Rattle.zone_commands.specs.declared.lines.Line.{Line as LineKind}
 use Rattle.zone_commands.specs.InHand.{HasNoFeed, InHand, IsBegun, IsUntaken, TakesLine}
 use Rattle.zone_commands.specs.Lines.{lines_of}
 use Rattle.zone_commands.specs.Serving.{Moves, TakesNext}
@@ -251,10 +250,6 @@ more_behind hand new octets read a b c u used_up kept first second = (
 )
 
 -- ---- what answers to calls say
-
--- the next line, whatever was not taken before
-abbrev pub HasNext : InHand → InHand → Option (List ℕ) → Option (List ℕ) → Option LineKind → Type 0
-HasNext hand new a b next = (octets : List ℕ) → IsUntaken hand octets → ((read : List ℕ) × Consumes a b read × TakesNext next (octets ++ read) new b)
 
 pub on_false : (P : Type 0) (b : Bool) → b ≡ false → OnFalse b P → P
 on_false P true e h = absurd (true≢false e)

@@ -5,15 +5,11 @@ use Rattle.zone_proto.specs.declared.nx_proof_kind.NxProofKind.TheVariants as ki
 use Rattle.zone_proto.specs.Names.{lower}
 use Rattle.zone_handler.specs.declared.lookup_options.LookupOptions.{LookupOptions}
 use Rattle.zone_text.specs.Hex.{hex_word}
-use Rattle.zone_text.specs.Numbers.{number_within}
-use Rattle.zone_text.specs.Reading.{WordList, Reading, next_word, next_flag, next_key, next_name, next_record, next_type, next_u16, read_as, then_read}
+use Rattle.zone_text.specs.Reading.{WordList, Reading, next_word, next_flag, next_key, next_name, next_type, next_u16, next_u64, read_as, then_read}
+use Rattle.zone_text.specs.Records.{next_record}
 use Rattle.zone_text.specs.Words.{words}
 use Rattle.zone_commands.specs.declared.command.Command.{Command}
 use Rattle.zone_commands.specs.declared.command.Command.TheVariants as command
-
--- a moment: a number of 64 bits
-abbrev pub next_moment : WordList → Reading ℕ
-next_moment = next_word (number_within 10 18446744073709551615)
 
 -- whether signatures are wanted: they are after the word `dnssec`, and aren't at the end of the line
 abbrev pub next_options : WordList → Reading LookupOptions
@@ -54,9 +50,9 @@ abbrev pub forms : List Form
 forms =
     record { verb = codes "add"; arguments = λ ws. read_as command.Add (next_record ws) }
     ∷ record { verb = codes "drop"; arguments = λ ws. read_as command.Drop (next_key ws) }
-    ∷ record { verb = codes "kind"; arguments = λ ws. read_as command.Renew (next_kind ws) }
+    ∷ record { verb = codes "kind"; arguments = λ ws. read_as command.Kind (next_kind ws) }
     ∷ record { verb = codes "key"; arguments = λ ws. read_as command.Key (next_u16 ws) }
-    ∷ record { verb = codes "secure"; arguments = λ ws. read_as command.Secure (next_moment ws) }
+    ∷ record { verb = codes "secure"; arguments = λ ws. read_as command.Secure (next_u64 ws) }
     ∷ record { verb = codes "lookup"; arguments = λ ws. next_query ws }
     ∷ record { verb = codes "deny"; arguments = λ ws. read_as command.Deny (next_key ws) }
     ∷ record { verb = codes "circle"; arguments = λ ws. Some (command.Circle, ws) }

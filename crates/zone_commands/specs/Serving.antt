@@ -1,6 +1,6 @@
 -- How lines are read and answers are written
 use Rattle.std.specs.Prelude.{◌≡◌, ◌++◌, ℕ, List, [], Option, Some, None}
-use Rattle.std.specs.Io.KnownBytes.{Appends, IsAtEnd}
+use Rattle.std.specs.Io.KnownBytes.{Appends, Consumes, IsAtEnd}
 use Rattle.zone_commands.specs.declared.lines.Line.{Line as LineKind}
 use Rattle.zone_commands.specs.InHand.{HasNoFeed, InHand, IsUntaken, TakesLine}
 use Rattle.zone_commands.specs.Told.{told}
@@ -15,3 +15,8 @@ pub record Moves (waited : List ℕ) (old new : Option (List ℕ)) (waiting : Li
 abbrev pub TakesNext : Option LineKind → List ℕ → InHand → Option (List ℕ) → Type 0
 TakesNext (Some line) octets hand remaining = (left : List ℕ) × IsUntaken hand left × TakesLine octets (told line hand.line) left
 TakesNext None octets hand remaining = IsUntaken hand octets × HasNoFeed octets × (hand.ahead ≡ []) × IsAtEnd remaining
+
+-- the next line, of whatever was not taken before and what was read behind it; of what a reader had left before and after
+abbrev pub HasNext : InHand → InHand → Option (List ℕ) → Option (List ℕ) → Option LineKind → Type 0
+HasNext old new left_before left_after next = (octets : List ℕ) → IsUntaken old octets
+    → ((read : List ℕ) × Consumes left_before left_after read × TakesNext next (octets ++ read) new left_after)

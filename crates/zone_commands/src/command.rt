@@ -1,15 +1,15 @@
+//! Which command a line is.
 ghost use Rattle.std.specs.Prelude.{◌≡◌, ◌∷◌, Some, None, IfOk, IfErr};
+ghost use Rattle.zone_text.specs.Errors.{OnBadText};
 ghost use Rattle.zone_text.specs.Hex.{hex_word};
-ghost use Rattle.zone_text.specs.Reading.{next_u16, next_word};
-ghost use Rattle.zone_commands.specs.Commands.{begins_comment, command_of_words, forms, kind_by_word, next_hashed_kind, next_kind, next_moment, next_options, next_query, read_by, said_by};
+ghost use Rattle.zone_text.specs.Reading.{next_word};
+ghost use Rattle.zone_commands.specs.Commands.{begins_comment, command_of_words, forms, kind_by_word, next_hashed_kind, next_kind, next_options, next_query, read_by, said_by};
 
 use std::alloc::Global;
 use std::str;
 use zone_handler::LookupOptions;
 use zone_proto::{LowerName, NxProofKind, Record, RecordType, RrKey, Seq};
-use zone_text::{
-    TextError, Words, read_hex, read_key, read_name, read_record, read_type, read_u16, read_u64,
-};
+use zone_text::{TextError, Words, read_hex, read_key, read_name, read_record, read_type};
 
 /// The number of SHA-1 among the hash algorithms of NSEC3 records (RFC 5155 section 11).
 pub const SHA_1: u8 = 1;
@@ -24,7 +24,7 @@ pub enum Command {
     /// `kind none`, `kind nsec`, `kind nsec3 SALT ITERATIONS`, or the last with `optout` after it: makes the zone anew, without
     /// records and signers, and says how it denies what it doesn't hold once it is secured: not at all, by NSEC records, or by
     /// NSEC3 records, where opt-out leaves out names that own NS alone.
-    Renew(Option<NxProofKind>),
+    Kind(Option<NxProofKind>),
     /// `key N`: adds the demonstration signer of this number.
     Key(u16),
     /// `secure NOW`: secures the zone at this moment, in seconds since 1970.
@@ -47,7 +47,7 @@ pub enum Command {
 /// neither, `Memory` where none is found.
 pub fn read_command(alloc: Global, line: &[u8]) -> Result<Option<Command>, TextError>
     ensures ok { IfOk result (λ said. said_by line.now ≡ Some said) }
-    ensures refusal { IfErr result (λ e. e ≡ TextError.BadText → said_by line.now ≡ None) }
+    ensures refusal { OnBadText result (said_by line.now ≡ None) }
 {
     let mut words = Words::new(line);
     match words.take() {
@@ -73,30 +73,29 @@ fn begins_comment(first: &[u8]) -> bool
 #[tactic(auto, using(crate::proofs::CommandFacts::commanded))]
 fn read_words(alloc: Global, first: &[u8], words: &mut Words<'_>) -> Result<Command, TextError>
     ensures ok { IfOk result (λ command. command_of_words (first.now ∷ words.old) ≡ Some command) }
-    ensures refusal { IfErr result (λ e. e ≡ TextError.BadText → command_of_words (first.now ∷ words.old) ≡ None) }
+    ensures refusal { OnBadText result (command_of_words (first.now ∷ words.old) ≡ None) }
 {
     let Ok(verb) = str::from_utf8(first) else {
         return Err(TextError::BadText);
     };
     let command = read_arguments(alloc, verb, words)?;
-    match words.end() {
-        Ok(()) => Ok(command),
-        Err(error) => Err(error),
-    }
+    words.end()?;
+    Ok(command)
 }
 
 /// Reads the words behind the first word of a command.
 #[tactic(auto, using(zone_text::proofs::ReadingFacts::reading))]
 fn read_arguments(alloc: Global, verb: &str, words: &mut Words<'_>) -> Result<Command, TextError>
-    ensures ok { IfOk result (λ command. read_by forms verb.now words.old ≡ Some (command, words.new)) }
-    ensures refusal { IfErr result (λ e. e ≡ TextError.BadText → read_by forms verb.now words.old ≡ None) }
+    ensures ok { IfOk result
+        (λ command. read_by forms verb.now words.old ≡ Some (command, words.new)) }
+    ensures refusal { OnBadText result (read_by forms verb.now words.old ≡ None) }
 {
     match verb {
         "add" => Ok(Command::Add(read_record(alloc, words)?)),
         "drop" => Ok(Command::Drop(read_key(alloc, words)?)),
-        "kind" => Ok(Command::Renew(read_kind(alloc, words)?)),
-        "key" => Ok(Command::Key(read_short(words)?)),
-        "secure" => Ok(Command::Secure(read_moment(words)?)),
+        "kind" => Ok(Command::Kind(read_kind(alloc, words)?)),
+        "key" => Ok(Command::Key(words.take_u16()?)),
+        "secure" => Ok(Command::Secure(words.take_u64()?)),
         "lookup" => read_query(alloc, words),
         "deny" => Ok(Command::Deny(read_key(alloc, words)?)),
         "circle" => Ok(Command::Circle),
@@ -109,7 +108,7 @@ fn read_arguments(alloc: Global, verb: &str, words: &mut Words<'_>) -> Result<Co
 #[tactic(auto, using(zone_text::proofs::ReadingFacts::reading, crate::proofs::CommandFacts::kinds))]
 fn read_kind(alloc: Global, words: &mut Words<'_>) -> Result<Option<NxProofKind>, TextError>
     ensures ok { IfOk result (λ kind. next_kind words.old ≡ Some (kind, words.new)) }
-    ensures refusal { IfErr result (λ e. e ≡ TextError.BadText → next_kind words.old ≡ None) }
+    ensures refusal { OnBadText result (next_kind words.old ≡ None) }
 {
     let word = words.take_needed()?;
     match str::from_utf8(word) {
@@ -125,7 +124,7 @@ fn read_kind_by(
     words: &mut Words<'_>,
 ) -> Result<Option<NxProofKind>, TextError>
     ensures ok { IfOk result (λ kind. kind_by_word word.now words.old ≡ Some (kind, words.new)) }
-    ensures refusal { IfErr result (λ e. e ≡ TextError.BadText → kind_by_word word.now words.old ≡ None) }
+    ensures refusal { OnBadText result (kind_by_word word.now words.old ≡ None) }
 {
     match word {
         "none" => Ok(None),
@@ -140,13 +139,13 @@ fn read_kind_by(
 #[tactic(auto, using(zone_text::proofs::ReadingFacts::reading))]
 fn read_hashed_kind(alloc: Global, words: &mut Words<'_>) -> Result<NxProofKind, TextError>
     ensures ok { IfOk result (λ kind. next_hashed_kind words.old ≡ Some (kind, words.new)) }
-    ensures refusal { IfErr result (λ e. e ≡ TextError.BadText → next_hashed_kind words.old ≡ None) }
+    ensures refusal { OnBadText result (next_hashed_kind words.old ≡ None) }
 {
     let salt = read_salt(alloc, words)?;
     Ok(NxProofKind::Nsec3 {
         algorithm: SHA_1,
         salt,
-        iterations: read_short(words)?,
+        iterations: words.take_u16()?,
         opt_out: words.take_flag(b"optout")?,
     })
 }
@@ -155,7 +154,7 @@ fn read_hashed_kind(alloc: Global, words: &mut Words<'_>) -> Result<NxProofKind,
 #[tactic(auto, using(zone_text::proofs::ReadingFacts::reading))]
 fn read_salt(alloc: Global, words: &mut Words<'_>) -> Result<Seq<u8>, TextError>
     ensures ok { IfOk result (λ salt. next_word hex_word words.old ≡ Some (salt, words.new)) }
-    ensures refusal { IfErr result (λ e. e ≡ TextError.BadText → next_word hex_word words.old ≡ None) }
+    ensures refusal { OnBadText result (next_word hex_word words.old ≡ None) }
 {
     let word = words.take_needed()?;
     match read_hex(alloc, word)? {
@@ -164,31 +163,11 @@ fn read_salt(alloc: Global, words: &mut Words<'_>) -> Result<Seq<u8>, TextError>
     }
 }
 
-/// Reads the next word as a number of 16 bits.
-#[tactic(auto, using(zone_text::proofs::ReadingFacts::reading))]
-fn read_short(words: &mut Words<'_>) -> Result<u16, TextError>
-    ensures ok { IfOk result (λ n. next_u16 words.old ≡ Some (n, words.new)) }
-    ensures refusal { IfErr result (λ e. next_u16 words.old ≡ None) }
-{
-    let word = words.take_needed()?;
-    read_u16(word).ok_or(TextError::BadText)
-}
-
-/// Reads the next word as a moment, in seconds since 1970.
-#[tactic(auto, using(zone_text::proofs::ReadingFacts::reading))]
-fn read_moment(words: &mut Words<'_>) -> Result<u64, TextError>
-    ensures ok { IfOk result (λ n. next_moment words.old ≡ Some (n, words.new)) }
-    ensures refusal { IfErr result (λ e. next_moment words.old ≡ None) }
-{
-    let word = words.take_needed()?;
-    read_u64(word).ok_or(TextError::BadText)
-}
-
 /// Reads a query.
 #[tactic(auto, using(zone_text::proofs::ReadingFacts::reading))]
 fn read_query(alloc: Global, words: &mut Words<'_>) -> Result<Command, TextError>
     ensures ok { IfOk result (λ query. next_query words.old ≡ Some (query, words.new)) }
-    ensures refusal { IfErr result (λ e. e ≡ TextError.BadText → next_query words.old ≡ None) }
+    ensures refusal { OnBadText result (next_query words.old ≡ None) }
 {
     let name = read_name(alloc, words)?;
     let record_type = read_type(words)?;

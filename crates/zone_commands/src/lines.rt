@@ -1,10 +1,11 @@
+//! The lines of an input, as they are read.
 ghost use Rattle.std.specs.Prelude.{◌≡◌, ◌≤◌, ◌<◌, ◌+◌, ◌↔◌, ◌≢◌, ℕ, List, [], ◌∷◌, ◌++◌, Some, None, vec_len, vec_capacity, length, IfOk, IfSome, IfNone, OnOk, OnErr, IsTrue, true, nat_le, position, if◌then◌else◌};
 ghost use Rattle.std.specs.Bool.{OnFalse, OnTrue};
 ghost use Rattle.std.specs.Io.KnownBytes.{Consumes, IsAtEnd, Keeps, ReadConsumes};
 ghost use Rattle.std.specs.Io.{ReadsAtMost};
 ghost use Rattle.std.specs.List.{list_all};
 ghost use Rattle.std.specs.Str.Lines.{strip_carriage_return};
-ghost use Rattle.zone_commands.specs.Lines.{is_plain, lines_of, plain};
+ghost use Rattle.zone_commands.specs.Lines.{is_plain, plain};
 ghost use Rattle.zone_commands.specs.InHand.{IsBegun};
 ghost use Rattle.zone_commands.specs.Told.{told};
 ghost use Rattle.zone_commands.specs.Kept.{begun_of, is_feed, kept_if, IsCut};
@@ -52,13 +53,18 @@ impl Model for Lines {
 
     ghost Value = { InHand };
 
-    ghost view = { λ l. record { line = l.line.items; begun = begun_of l.is_begun l.fits l.line.items; ahead = slice_range l.chunk.items l.at l.filled } };
+    ghost view = { λ l. record {
+      line = l.line.items;
+      begun = begun_of l.is_begun l.fits l.line.items;
+      ahead = slice_range l.chunk.items l.at l.filled;
+    } };
 
-    ghost invariant = { λ l. IsInOrder (vec_len l.chunk) l.at l.filled (vec_len l.line) (vec_capacity l.line) l.is_begun l.fits };
+    ghost invariant = { λ l. IsInOrder (vec_len l.chunk) l.at l.filled
+        (vec_len l.line) (vec_capacity l.line) l.is_begun l.fits };
 }
 
 impl Lines {
-    ghost use Rattle.zone_commands.specs.InHand.{HasNoFeed, IsUntaken, TakesLine};
+    ghost use Rattle.zone_commands.specs.InHand.{GoesOn, IsAllTaken, IsLastLine, IsUntaken, TakesFirst};
 
     /// No line in hand and nothing read ahead. An error if no memory is found.
     pub fn new(alloc: Global) -> Result<Lines, AllocError>
@@ -86,8 +92,9 @@ impl Lines {
     /// Takes the next line out of what was read ahead. None if its line feed isn't there: then all that was read ahead is
     /// taken, and the line goes on with what is read next.
     pub fn take(&mut self) -> Option<Line>
-        ensures taken { IfSome result (λ line. (octets : List ℕ) → IsUntaken self.old octets → ((left : List ℕ) × IsUntaken self.new left × TakesLine octets (told line self.new.line) left)) }
-        ensures none { IfNone result ((octets : List ℕ) → IsUntaken self.old octets → (IsUntaken self.new octets × HasNoFeed octets)) }
+        ensures taken { IfSome result
+            (λ line. TakesFirst self.old self.new (told line self.new.line)) }
+        ensures none { IfNone result (GoesOn self.old self.new) }
         ensures used_up { IfNone result (self.new.ahead ≡ []) }
     {
         let (piece, is_end) = first_piece(&self.chunk[self.at..self.filled]);
@@ -106,8 +113,8 @@ impl Lines {
     /// Takes the last line at the end of the input, if it lacks its line feed. None if nothing stands after the last one.
     pub fn take_last(&mut self) -> Option<Line>
         requires { self.old.ahead ≡ [] }
-        ensures taken { IfSome result (λ line. (octets : List ℕ) → IsUntaken self.old octets → (lines_of octets ≡ told line self.new.line ∷ [])) }
-        ensures none { IfNone result ((octets : List ℕ) → IsUntaken self.old octets → (octets ≡ [])) }
+        ensures taken { IfSome result (λ line. IsLastLine self.old (told line self.new.line)) }
+        ensures none { IfNone result (IsAllTaken self.old) }
         ensures left { IsUntaken self.new [] }
     {
         if !self.is_begun {
@@ -122,10 +129,13 @@ impl Lines {
     pub fn fill<R: Read>(&mut self, input: &mut R) -> io::Result<bool>
         requires { self.old.ahead ≡ [] }
         ensures kept { self.new ≡ record self.old { ahead = self.new.ahead } }
-        ensures read { OnOk result (Consumes (R.remaining input.old) (R.remaining input.new) self.new.ahead) }
+        ensures read { OnOk result
+            (Consumes (R.remaining input.old) (R.remaining input.new) self.new.ahead) }
         ensures more { IfOk result (λ is_more. OnTrue is_more (self.new.ahead ≢ [])) }
-        ensures end { IfOk result (λ is_more. OnFalse is_more ((self.new.ahead ≡ []) × IsAtEnd (R.remaining input.new))) }
-        ensures err { OnErr result ((self.new.ahead ≡ []) × Keeps (R.remaining input.old) (R.remaining input.new)) }
+        ensures end { IfOk result
+            (λ is_more. OnFalse is_more ((self.new.ahead ≡ []) × IsAtEnd (R.remaining input.new))) }
+        ensures err { OnErr result
+            ((self.new.ahead ≡ []) × Keeps (R.remaining input.old) (R.remaining input.new)) }
     {
         self.at = 0;
         self.filled = 0;
@@ -158,9 +168,11 @@ fn first_feed(unread: &[u8]) -> Option<usize>
 fn put(line: &mut Vec<u8>, piece: &[u8], is_begun: bool, fits: bool) -> bool
     requires room { 4097 ≤ vec_capacity line.old }
     requires short { vec_len line.old ≤ 4097 }
-    ensures begun { (begun : List ℕ) → IsBegun (begun_of is_begun fits line.old.items) begun → IsBegun (kept_if result line.new.items) (begun ++ piece.now) }
+    ensures begun { (begun : List ℕ) → IsBegun (begun_of is_begun fits line.old.items) begun
+        → IsBegun (kept_if result line.new.items) (begun ++ piece.now) }
     ensures whole { IsTrue result → is_begun ≡ true → fits ≡ true }
-    ensures len { IsTrue result → vec_len line.new ≡ (if is_begun then vec_len line.old else 0) + length piece.now }
+    ensures len { IsTrue result
+        → vec_len line.new ≡ (if is_begun then vec_len line.old else 0) + length piece.now }
     ensures short { vec_len line.new ≤ 4097 }
     ensures room { 4097 ≤ vec_capacity line.new }
 {
@@ -175,7 +187,8 @@ fn put(line: &mut Vec<u8>, piece: &[u8], is_begun: bool, fits: bool) -> bool
 fn append(line: &mut Vec<u8>, piece: &[u8]) -> bool
     requires room { 4097 ≤ vec_capacity line.old }
     requires short { vec_len line.old ≤ 4097 }
-    ensures items { line.new.items ≡ (if result then line.old.items ++ piece.now else line.old.items) }
+    ensures items { line.new.items
+        ≡ (if result then line.old.items ++ piece.now else line.old.items) }
     ensures fits { IsTrue result ↔ (vec_len line.old + length piece.now ≤ 4097) }
     ensures short { vec_len line.new ≤ 4097 }
     ensures room { vec_capacity line.old ≤ vec_capacity line.new }

@@ -1,9 +1,10 @@
+//! Lines answered one after the other, by whatever carries out commands.
 ghost use Rattle.std.specs.Prelude.{◌≡◌, ◌++◌, ℕ, List, [], Some, false, IfOk, OnOk, string_bytes};
 ghost use Rattle.zone_commands.specs.declared.command.Command.{Command as CommandData};
 ghost use Rattle.std.specs.Io.KnownBytes.{Appends, Consumes, IsAtEnd};
 ghost use Rattle.zone_commands.specs.InHand.{IsUntaken};
 ghost use Rattle.zone_commands.specs.Lines.{lines_of};
-ghost use Rattle.zone_commands.specs.Serving.{Moves, TakesNext};
+ghost use Rattle.zone_commands.specs.Serving.{HasNext, Moves};
 ghost use Rattle.zone_commands.specs.Told.{told};
 ghost use Rattle.zone_commands.specs.Transcripts.{bad_line, AnswersLine, IsTranscript};
 
@@ -28,7 +29,9 @@ pub trait Session {
     /// Carries out a command, and adds its answer to the text. An error says that memory was refused for the text, of which a
     /// part may have been added then.
     fn carry_out(&mut self, command: Command, answer: &mut String) -> Result<(), AllocError>
-        ensures { OnOk result ((text : List ℕ) × carries self.old command text self.new × (string_bytes answer.new ≡ string_bytes answer.old ++ text)) };
+        ensures { OnOk result ((text : List ℕ)
+            × carries self.old command text self.new
+            × (string_bytes answer.new ≡ string_bytes answer.old ++ text)) };
 }
 
 /// Why lines aren't served to their end.
@@ -48,7 +51,8 @@ pub enum Stop {
 /// Answers to lines that were read together are written together: those that wait are written in one piece before `input` is
 /// read again and at its end, and as soon as they have 4,096 octets or more.
 ///
-/// An error says why not all lines were answered. After a read that failed, the answers to all lines before it are written;
+/// # Errors
+/// The error says why not all lines were answered. After a read that failed, the answers to all lines before it are written;
 /// after a write that failed nothing more is. Where it is the text of an answer that finds no memory, the answers before it are
 /// written and nothing of it.
 pub fn serve<S: Session, R: Read, W: Write>(
@@ -115,9 +119,10 @@ fn next_line<R: Read, W: Write>(
     answers: &mut String,
     output: &mut W,
 ) -> Result<Option<Line>, Stop>
-    ensures lines { IfOk result (λ next. (octets : List ℕ) → IsUntaken lines.old octets
-        → ((read : List ℕ) × Consumes (R.remaining input.old) (R.remaining input.new) read × TakesNext next (octets ++ read) lines.new (R.remaining input.new))) }
-    ensures answers { OnOk result (Moves (string_bytes answers.old) (W.contents output.old) (W.contents output.new) (string_bytes answers.new)) }
+    ensures lines { IfOk result (λ next.
+        HasNext lines.old lines.new (R.remaining input.old) (R.remaining input.new) next) }
+    ensures answers { OnOk result (Moves (string_bytes answers.old)
+        (W.contents output.old) (W.contents output.new) (string_bytes answers.new)) }
 {
     for _ in 0..u64::MAX {
         if let Some(line) = lines.take() {
@@ -143,9 +148,12 @@ fn serve_last<S: Session, W: Write>(
     output: &mut W,
 ) -> Result<bool, Stop>
     requires { lines.old.ahead ≡ [] }
-    ensures { IfOk result (λ good. (octets : List ℕ) → IsUntaken lines.old octets
-        → ((text : List ℕ) × IsTranscript S.carries session.old number (lines_of octets) text good session.new
-        × Appends (W.contents output.old) (W.contents output.new) (string_bytes answers.old ++ text))) }
+    ensures { IfOk result
+        (λ good. (octets : List ℕ) → IsUntaken lines.old octets
+        → ((text : List ℕ)
+        × IsTranscript S.carries session.old number (lines_of octets) text good session.new
+        × Appends (W.contents output.old) (W.contents output.new)
+        (string_bytes answers.old ++ text))) }
 {
     match lines.take_last() {
         Some(line) => {
@@ -170,8 +178,10 @@ fn serve_line<S: Session, W: Write>(
     answers: &mut String,
     output: &mut W,
 ) -> Result<bool, Stop>
-    ensures { IfOk result (λ good. (text : List ℕ) × AnswersLine S.carries session.old number (told line octets.now) text good session.new
-        × Moves (string_bytes answers.old ++ text) (W.contents output.old) (W.contents output.new) (string_bytes answers.new)) }
+    ensures { IfOk result (λ good. (text : List ℕ)
+        × AnswersLine S.carries session.old number (told line octets.now) text good session.new
+        × Moves (string_bytes answers.old ++ text)
+        (W.contents output.old) (W.contents output.new) (string_bytes answers.new)) }
 {
     let waiting = answers.len();
     let Ok(good) = answer_line(alloc, session, line, octets, number, answers) else {
@@ -187,7 +197,8 @@ fn serve_line<S: Session, W: Write>(
 
 /// Writes the answers that wait, if any do.
 fn write_out<W: Write>(answers: &mut String, output: &mut W) -> Result<(), Stop>
-    ensures { OnOk result ((string_bytes answers.new ≡ []) × Appends (W.contents output.old) (W.contents output.new) (string_bytes answers.old)) }
+    ensures { OnOk result ((string_bytes answers.new ≡ [])
+        × Appends (W.contents output.old) (W.contents output.new) (string_bytes answers.old)) }
 {
     if answers.is_empty() {
         return Ok(());
@@ -211,7 +222,8 @@ fn answer_line<S: Session>(
     number: u64,
     answer: &mut String,
 ) -> Result<bool, AllocError>
-    ensures { IfOk result (λ good. (text : List ℕ) × AnswersLine S.carries session.old number (told line octets.now) text good session.new
+    ensures { IfOk result (λ good. (text : List ℕ)
+        × AnswersLine S.carries session.old number (told line octets.now) text good session.new
         × (string_bytes answer.new ≡ string_bytes answer.old ++ text)) }
 {
     match line {
@@ -228,7 +240,8 @@ fn answer_words<S: Session>(
     number: u64,
     answer: &mut String,
 ) -> Result<bool, AllocError>
-    ensures { IfOk result (λ good. (text : List ℕ) × AnswersLine S.carries session.old number (Some line.now) text good session.new
+    ensures { IfOk result (λ good. (text : List ℕ)
+        × AnswersLine S.carries session.old number (Some line.now) text good session.new
         × (string_bytes answer.new ≡ string_bytes answer.old ++ text)) }
 {
     match read_command(alloc, line) {
@@ -247,7 +260,8 @@ fn answer_words<S: Session>(
 
 /// Tells that a line is bad.
 fn answer_bad_line(number: u64, answer: &mut String) -> Result<bool, AllocError>
-    ensures { IfOk result (λ good. (good ≡ false) × (string_bytes answer.new ≡ string_bytes answer.old ++ bad_line number)) }
+    ensures { IfOk result (λ good. (good ≡ false)
+        × (string_bytes answer.new ≡ string_bytes answer.old ++ bad_line number)) }
 {
     writeln!(answer, "bad line {number}")?;
     Ok(false)

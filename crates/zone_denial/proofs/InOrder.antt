@@ -5,7 +5,7 @@ use Rattle.std.specs.List.{AllByRecursion, Contains}
 use Rattle.std.specs.List.Sorted.{IsStrictlySortedBy}
 use Rattle.std.proofs.lemmas.Cmp.{back_total}
 use Rattle.zone_proto.proofs.Members.{In, In-Contains, Contains-In}
-use Rattle.zone_proto.proofs.Orders.{IsOrder, Side, before, same, after, side, irrefl, asym}
+use Rattle.zone_proto.proofs.Ordering.Orders.{IsOrder, Side, before, same, after, side, irrefl, asym}
 use Rattle.zone_denial.specs.TypeLists.{joined, in_order}
 use Rattle.zone_denial.proofs.Ascending.{in_all}
 

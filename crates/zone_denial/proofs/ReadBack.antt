@@ -6,7 +6,7 @@ use Rattle.std.proofs.lemmas.List.{length-append}
 use Rattle.std.proofs.lemmas.List.Elements.{filter-append}
 use Rattle.zone_proto.specs.Order.{is_upto, greatest}
 use Rattle.zone_proto.proofs.Members.{In, In-filter, In-from_filter, In-from_append, In-append_right}
-use Rattle.zone_proto.proofs.Orders.{IsOrder, IsTop, greatest_from, greatest_is, irrefl, asym, upto_before, upto_cases, upto_same}
+use Rattle.zone_proto.proofs.Ordering.Orders.{IsOrder, IsTop, greatest_from, greatest_is, irrefl, asym, upto_before, upto_cases, upto_same}
 use Rattle.zone_denial.proofs.Ascending.{Ascends, Ascends-end, Ascends-apart, Ascends-filter}
 
 -- tests that agree on the elements of a list keep the same

@@ -3,7 +3,8 @@ use Rattle.std.specs.Prelude.{ℕ, Bool, ◌&&◌, not, cond, List, filter, ◌=
 use Rattle.std.specs.Map.{keys_of}
 use Rattle.std.specs.Ordering.{eq_by_cmp}
 use Rattle.zone_proto.specs.declared.rr_key.RrKey.{RrKey}
-use Rattle.zone_proto.specs.Names.{Name, name_cmp}
+use Rattle.zone_proto.specs.Names.{Name, name_cmp, is_above}
+use Rattle.zone_proto.specs.Types.{NS}
 use Rattle.zone_map.specs.Zones.{Sets}
 use Rattle.zone_denial.specs.Authority.{is_authoritative}
 
@@ -19,3 +20,7 @@ authoritative_keys origin m t = filter (is_circle_key origin m t) (keys_of m)
 abbrev pub cut_kept : Option Name → Name → Option Name
 cut_kept None n = None
 cut_kept (Some a) n = cond (eq_by_cmp name_cmp a n) (Some a) None
+
+-- the same after key k, that of a name below none of these: the name itself, if it is a zone cut
+abbrev pub cut_after : Name → Option Name → RrKey → Option Name
+cut_after origin cut k = cond ((k.record_type.0 == NS) && is_above origin k.name) (Some k.name) (cut_kept cut k.name)

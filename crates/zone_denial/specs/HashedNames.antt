@@ -51,8 +51,13 @@ module _ (origin : Name) (parameters : Nsec3Parameters) (ttl : ℕ) where
     abbrev pub circle_set_at : ℕ → List HeldName → Name → Option RRset
     circle_set_at serial hs o = set_of o NSEC3 serial (circle_records hs o)
 
+-- the sets of all these names, and a set of the origin that announces them
+abbrev pub circle_with : Name → RRset → Nsec3Parameters → ℕ → List HeldName → ℕ → Name → ℕ → Option RRset
+circle_with origin announced parameters ttl all serial n t =
+    cond (t == NSEC3) (circle_set_at origin parameters ttl all serial all n)
+    (cond ((t == NSEC3PARAM) && name_eq n origin) (Some announced) None)
+
 -- the sets of all these names, and the origin's NSEC3PARAM set, into which the parameters are inserted
 abbrev pub circle_sets_at : Name → Sets → Nsec3Parameters → ℕ → List HeldName → ℕ → Name → ℕ → Option RRset
 circle_sets_at origin m parameters ttl all serial n t =
-    cond (t == NSEC3) (circle_set_at origin parameters ttl all serial all n)
-    (cond ((t == NSEC3PARAM) && name_eq n origin) (Some (announced_set origin m (λ _. None) parameters ttl serial)) None)
+    circle_with origin (announced_set origin m (λ _. None) parameters ttl serial) parameters ttl all serial n t

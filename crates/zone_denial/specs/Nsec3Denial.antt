@@ -2,11 +2,10 @@
 use Rattle.std.specs.Prelude.{suc, Bool, ◌&&◌, not, cond, List, [], ◌∷◌, ◌++◌, length, ◌==◌, Option, Some, None, filter, filter_map, find, option_to_list, Result, Ok, Err}
 use Rattle.std.specs.List.{list_any}
 use Rattle.std.specs.Option.{option_map_or, option_or}
-use Rattle.zone_proto.specs.Names.{Name, name_cmp, name_eq, is_root, suffixes}
+use Rattle.zone_proto.specs.Names.{Name, name_cmp, name_eq, is_root, suffixes, proper_ancestors, star_under}
 use Rattle.zone_proto.specs.Order.{is_before, greatest}
 use Rattle.zone_proto.specs.Sets.{RRset}
 use Rattle.zone_proto.specs.Types.{NSEC3}
-use Rattle.zone_map.specs.Wildcards.{proper_ancestors, star_under}
 use Rattle.zone_map.specs.Zones.{Sets, set_at, owns, owners}
 use Rattle.zone_denial.specs.Nsec3Names.{nsec3_names}
 use Rattle.zone_denial.specs.TypeLists.{in_order}

@@ -1,20 +1,21 @@
 -- What the circle of NSEC3 sets promises to who reads a negative answer
 use Rattle.std.specs.Prelude.{◌≡◌, ◌≢◌, ℕ, Bool, false, ◌⊎◌, List, [], ◌∷◌, map, Option, Some, None, option_map, Ok, IsTrue}
-use Rattle.std.specs.List.{Contains}
+use Rattle.std.specs.List.{AllByRecursion, Contains}
 use Rattle.zone_proto.specs.declared.rdata.denial.NSEC3.{NSEC3 as Nsec3Data}
 use Rattle.zone_proto.specs.declared.rdata.denial.NSEC3PARAM.{NSEC3PARAM as Nsec3Parameters}
 use Rattle.zone_proto.specs.HashedOwners.{hashed_owner, owner_or_refusal}
-use Rattle.zone_proto.specs.Names.{Name, octets_cmp, is_at_or_above}
+use Rattle.zone_proto.specs.Names.{Name, octets_cmp, is_at_or_above, star_under}
+use Rattle.zone_proto.specs.Ranges.{IsOctet}
 use Rattle.zone_proto.specs.Sets.{RRset}
 use Rattle.zone_proto.specs.Types.{NS, RRSIG, NSEC3}
 use Rattle.zone_map.specs.AnyTypes.{searched_type}
-use Rattle.zone_map.specs.Wildcards.{found, star_under}
+use Rattle.zone_map.specs.Wildcards.{found}
 use Rattle.zone_map.specs.Zones.{Sets, IsZone, set_at, owns, owns_at_or_below}
 use Rattle.zone_denial.specs.Authority.{is_below_cut}
 use Rattle.zone_denial.specs.Covering.{covers}
 use Rattle.zone_denial.specs.Nsec3Circle.{first_nsec3}
 use Rattle.zone_denial.specs.Nsec3Denial.{closest_encloser, next_closer, nsec3_denial}
-use Rattle.zone_denial.specs.Nsec3Sets.{HasNsec3Sets, nsec3_fault}
+use Rattle.zone_denial.specs.Nsec3Sets.{HasNsec3Sets}
 use Rattle.zone_denial.specs.Nsec3Zones.{IsNsec3Zone, IsCircleName, IsHashed, TellsApart}
 
 -- the next digest that a set's first record says
@@ -28,7 +29,7 @@ types3_of s = option_map (λ (a : Nsec3Data). map (λ t. t.0) a.types) (first_ns
 -- a zone that is secured by NSEC3 sets has a circle of them, so that NSEC3 denies it, where the hash tells the names of the circle apart
 abbrev pub SecuredIsNsec3Circle : Type 0
 SecuredIsNsec3Circle = (origin : Name) (m after : Sets) (hash : Name → Option (List ℕ)) (parameters : Nsec3Parameters) (ttl serial : ℕ)
-    → origin ≢ [] → IsZone after → HasNsec3Sets origin m hash parameters ttl serial after → nsec3_fault origin m hash parameters.opt_out ≡ None
+    → origin ≢ [] → IsZone after → HasNsec3Sets origin m hash parameters ttl serial after
     → TellsApart (IsCircleName origin m parameters.opt_out) hash → IsNsec3Zone origin after hash parameters
 
 module _ (origin : Name) (m : Sets) (hash : Name → Option (List ℕ)) where
@@ -39,6 +40,7 @@ module _ (origin : Name) (m : Sets) (hash : Name → Option (List ℕ)) where
   -- a set covers a name: the digest of the one lies between that of the set's owner and the next one that it says (RFC 5155 section 1.3)
   pub record CoversName (s : RRset) (n : Name) : Type 0 where
     pub owner : List ℕ
+    pub octets : AllByRecursion IsOctet owner
     pub next : List ℕ
     pub digest : List ℕ
     pub stands : set_at m (hashed_owner origin owner) NSEC3 ≡ Some s

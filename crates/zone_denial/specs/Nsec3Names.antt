@@ -1,9 +1,8 @@
 -- The names that get an NSEC3 set
 use Rattle.std.specs.Prelude.{◌≡◌, ◌⊎◌, Bool, ◌&&◌, ◌||◌, not, List, ◌∷◌, filter, flat_map, ◌==◌}
 use Rattle.std.specs.List.{list_all, Contains}
-use Rattle.zone_proto.specs.Names.{Name, name_cmp, name_eq, is_above, IsAbove, IsAtOrAbove}
+use Rattle.zone_proto.specs.Names.{Name, name_cmp, name_eq, is_above, IsAbove, IsAtOrAbove, proper_ancestors}
 use Rattle.zone_proto.specs.Types.{NS, NSEC3}
-use Rattle.zone_map.specs.Wildcards.{proper_ancestors}
 use Rattle.zone_map.specs.Zones.{Sets, types_at}
 use Rattle.zone_denial.specs.Authority.{authoritative_names}
 use Rattle.zone_denial.specs.TypeLists.{in_order}

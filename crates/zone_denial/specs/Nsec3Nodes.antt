@@ -1,7 +1,6 @@
 -- The names that get an NSEC3 set, as the program lists them
 use Rattle.std.specs.Prelude.{ℕ, not, List, map, reverse, filter}
-use Rattle.zone_proto.specs.Names.{Name, is_at_or_above}
-use Rattle.zone_map.specs.Wildcards.{proper_ancestors}
+use Rattle.zone_proto.specs.Names.{Name, is_at_or_above, proper_ancestors}
 use Rattle.zone_denial.specs.declared.nsec3_names.Nsec3Name.{Nsec3Name}
 use Rattle.zone_denial.specs.declared.nsec3_names.NodeName.{NodeName}
 use Rattle.zone_denial.specs.declared.nsec3_names.NodeName.TheVariants.{Lent, Own}

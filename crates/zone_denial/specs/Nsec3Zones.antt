@@ -1,13 +1,10 @@
 -- Zones that NSEC3 denies, and what a denial in them asks of the hash
-use Rattle.std.specs.Prelude.{◌≡◌, ◌≢◌, ℕ, ◌⊎◌, Bool, List, [], length, Option, Some, None, IsTrue}
+use Rattle.std.specs.Prelude.{◌≡◌, ◌≢◌, ℕ, ◌⊎◌, Bool, List, [], length, Option, Some}
 use Rattle.std.specs.List.{AllByRecursion, Contains}
 use Rattle.zone_proto.specs.declared.rdata.denial.NSEC3PARAM.{NSEC3PARAM as Nsec3Parameters}
-use Rattle.zone_proto.specs.Faults.{fault_of}
-use Rattle.zone_proto.specs.Names.{Name, IsAtOrAbove}
+use Rattle.zone_proto.specs.Names.{Name, IsAtOrAbove, star_under}
 use Rattle.zone_proto.specs.Ranges.{IsOctet}
-use Rattle.zone_proto.specs.Types.{NSEC3}
-use Rattle.zone_map.specs.Wildcards.{star_under}
-use Rattle.zone_map.specs.Zones.{Sets, IsZone, owns}
+use Rattle.zone_map.specs.Zones.{Sets, IsZone}
 use Rattle.zone_denial.specs.Nsec3Circle.{IsNsec3Circle}
 use Rattle.zone_denial.specs.Nsec3Denial.{closest_encloser}
 use Rattle.zone_denial.specs.Nsec3Names.{nsec3_names}
@@ -16,11 +13,10 @@ use Rattle.zone_denial.specs.Nsec3Names.{nsec3_names}
 abbrev pub hash_with : (ℕ → List ℕ → Name → ℕ → Option (List ℕ)) → Nsec3Parameters → Name → Option (List ℕ)
 hash_with digest_of parameters n = digest_of parameters.algorithm parameters.salt n parameters.iterations
 
--- a zone that NSEC3 denies: its NSEC3 sets are a circle, their owners are names, and its origin isn't the root
+-- a zone that NSEC3 denies: its NSEC3 sets are a circle, and its origin isn't the root
 pub record IsNsec3Zone (origin : Name) (m : Sets) (hash : Name → Option (List ℕ)) (parameters : Nsec3Parameters) : Type 0 where
   pub zone : IsZone m
   pub circle : IsNsec3Circle origin m hash parameters
-  pub owners : (o : Name) → IsTrue (owns m o NSEC3) → fault_of o ≡ None
   pub below_root : origin ≢ []
 
 -- a hash tells names apart: it answers for each of them, by digests that differ and are of one length

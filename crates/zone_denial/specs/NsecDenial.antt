@@ -2,11 +2,10 @@
 use Rattle.std.specs.Prelude.{◌≡◌, IfSome, Bool, false, ◌&&◌, ◌||◌, cond, List, [], ◌∷◌, Option, Some, None, filter, filter_map, find, unwrap_or, option_and_then, option_to_list}
 use Rattle.std.specs.List.{list_any}
 use Rattle.std.specs.Option.{option_map_or}
-use Rattle.zone_proto.specs.Names.{Name, lower, name_eq, name_cmp, is_above, is_at_or_above}
+use Rattle.zone_proto.specs.Names.{Name, lower, name_eq, name_cmp, is_above, is_at_or_above, proper_ancestors, star_under}
 use Rattle.zone_proto.specs.Order.{is_upto, is_before, greatest}
 use Rattle.zone_proto.specs.Sets.{RRset}
 use Rattle.zone_proto.specs.Types.{NSEC}
-use Rattle.zone_map.specs.Wildcards.{proper_ancestors, star_under}
 use Rattle.zone_map.specs.Zones.{Sets, set_at, owns, owners}
 use Rattle.zone_denial.specs.NsecCircle.{next_of}
 
@@ -17,6 +16,10 @@ goes_past o x n = is_before name_cmp x n || is_upto name_cmp n o
 -- so does the one that the NSEC set of o says
 abbrev pub says_past : Sets → Name → Name → Bool
 says_past m x o = option_map_or (goes_past o x) (option_and_then next_of (set_at m o NSEC)) false
+
+-- the NSEC set of o, if it does
+abbrev pub set_past : Sets → Name → Name → Option RRset
+set_past m x o = cond (says_past m x o) (set_at m o NSEC) None
 
 -- an owner of NSEC reaches x: it isn't after x, and its next name goes past x
 abbrev pub reaches : Sets → Name → Name → Bool

@@ -1,11 +1,11 @@
 -- What the circle of NSEC sets promises to who reads a negative answer
 use Rattle.std.specs.Prelude.{◌≡◌, ℕ, Bool, false, ◌⊎◌, List, [], ◌∷◌, ◌++◌, Some, None, IsTrue, IsFalse}
 use Rattle.std.specs.List.{Contains}
-use Rattle.zone_proto.specs.Names.{Name, name_cmp, lower, is_above, is_at_or_above}
+use Rattle.zone_proto.specs.Names.{Name, name_cmp, lower, is_above, is_at_or_above, star_under}
 use Rattle.zone_proto.specs.Sets.{RRset}
 use Rattle.zone_proto.specs.Types.{NSEC, RRSIG}
 use Rattle.zone_map.specs.AnyTypes.{searched_type}
-use Rattle.zone_map.specs.Wildcards.{found, star_under}
+use Rattle.zone_map.specs.Wildcards.{found}
 use Rattle.zone_map.specs.Zones.{Sets, IsZone, set_at, owns, types_at, owns_at_or_below}
 use Rattle.zone_denial.specs.Authority.{is_below_cut, owns_besides}
 use Rattle.zone_denial.specs.Covering.{covers}

@@ -3,10 +3,10 @@ use Rattle.std.specs.Prelude.{◌≡◌, ℕ, Bool, false, List, Option, Some, O
 use Rattle.std.specs.List.{Contains}
 use Rattle.zone_proto.specs.declared.rdata.denial.NSEC3PARAM.{NSEC3PARAM as Nsec3Parameters}
 use Rattle.zone_proto.specs.HashedOwners.{owner_or_refusal}
-use Rattle.zone_proto.specs.Names.{Name, is_above, is_at_or_above}
+use Rattle.zone_proto.specs.Names.{Name, is_above, is_at_or_above, star_under, is_wildcard}
 use Rattle.zone_proto.specs.Sets.{RRset}
 use Rattle.zone_proto.specs.Types.{NSEC, NSEC3}
-use Rattle.zone_map.specs.Wildcards.{exists, star_under, is_starred, asked_star, asked_star_exists, closest_encloser as longest_existing}
+use Rattle.zone_map.specs.Wildcards.{exists, asked_star, asked_star_exists, closest_encloser as longest_existing}
 use Rattle.zone_map.specs.Zones.{Sets, owns, owns_at_or_below}
 use Rattle.zone_denial.specs.Authority.{is_below_cut}
 use Rattle.zone_denial.specs.NsecDenial.{nsec_encloser, nsec_denial}
@@ -29,7 +29,7 @@ EnclosersAgree = (origin : Name) (m : Sets) → IsNsecZone origin m → OwnsNone
 -- so the star that a denial proves something of is the one that is asked
 abbrev pub ProvedStarIsAsked : Type 0
 ProvedStarIsAsked = (origin : Name) (m : Sets) → IsNsecZone origin m → OwnsNone m NSEC3 → (x : Name) → IsTrue (is_above origin x) → IsFalse (is_below_cut origin m x)
-    → IsFalse (is_starred x) → IsFalse (exists m x) → asked_star m x ≡ Some (star_under (nsec_encloser origin m x))
+    → IsFalse (is_wildcard x) → IsFalse (exists m x) → asked_star m x ≡ Some (star_under (nsec_encloser origin m x))
 
 -- the denial of x says that there is no star under its closest encloser: that star isn't on the circle, and a set of the denial covers it
 pub record StarIsDenied (origin : Name) (m : Sets) (x : Name) : Type 0 where
@@ -38,7 +38,7 @@ pub record StarIsDenied (origin : Name) (m : Sets) (x : Name) : Type 0 where
 
 -- it says so of each name of the zone that isn't starred, where neither it nor a name below it owns a set, and the star that is asked for it doesn't exist (RFC 4035 section 3.1.3.2)
 abbrev pub AbsentStarIsDenied : Type 0
-AbsentStarIsDenied = (origin : Name) (m : Sets) → IsNsecZone origin m → OwnsNone m NSEC3 → (x : Name) → IsTrue (is_at_or_above origin x) → IsFalse (is_starred x)
+AbsentStarIsDenied = (origin : Name) (m : Sets) → IsNsecZone origin m → OwnsNone m NSEC3 → (x : Name) → IsTrue (is_at_or_above origin x) → IsFalse (is_wildcard x)
     → IsFalse (owns_at_or_below m x) → IsFalse (asked_star_exists m x) → StarIsDenied origin m x
 
 -- ---- NSEC3, without opt-out
@@ -49,7 +49,7 @@ Nsec3EnclosersAgree = (origin : Name) (m : Sets) (hash : Name → Option (List �
 
 abbrev pub Nsec3ProvedStarIsAsked : Type 0
 Nsec3ProvedStarIsAsked = (origin : Name) (m : Sets) (hash : Name → Option (List ℕ)) (parameters : Nsec3Parameters) → IsNsec3Zone origin m hash parameters → IsFalse parameters.opt_out → OwnsNone m NSEC
-    → (x : Name) → IsTrue (is_above origin x) → IsFalse (is_below_cut origin m x) → IsFalse (is_starred x) → IsFalse (exists m x)
+    → (x : Name) → IsTrue (is_above origin x) → IsFalse (is_below_cut origin m x) → IsFalse (is_wildcard x) → IsFalse (exists m x)
     → (a : Name) → closest_encloser origin m parameters.opt_out x ≡ Some a → asked_star m x ≡ Some (star_under a)
 
 -- the denial of x by NSEC3, to which no wildcard answered, says that there is no star under its closest encloser: that star isn't on the circle, and a set of the denial covers it
@@ -66,5 +66,5 @@ pub record Nsec3StarIsDenied (origin : Name) (m : Sets) (hash : Name → Option 
 -- it says so of the same names (RFC 5155 section 7.2.2)
 abbrev pub Nsec3AbsentStarIsDenied : Type 0
 Nsec3AbsentStarIsDenied = (origin : Name) (m : Sets) (hash : Name → Option (List ℕ)) (parameters : Nsec3Parameters) → IsNsec3Zone origin m hash parameters → IsFalse parameters.opt_out → OwnsNone m NSEC
-    → (x : Name) → IsTrue (is_at_or_above origin x) → TellsApart (IsHashed origin m parameters.opt_out x) hash → IsFalse (is_starred x)
+    → (x : Name) → IsTrue (is_at_or_above origin x) → TellsApart (IsHashed origin m parameters.opt_out x) hash → IsFalse (is_wildcard x)
     → IsFalse (owns_at_or_below m x) → IsFalse (asked_star_exists m x) → Nsec3StarIsDenied origin m hash parameters.opt_out x

@@ -1,10 +1,10 @@
 //! The keys of the sets that the names of a circle own, found in one pass over the zone.
-ghost use Rattle.std.specs.Prelude.{◌≡◌, ◌==◌, ◌&&◌, not, cond, false, map, option_map, Some, IfOk, OnOk, IsOkUnless};
+ghost use Rattle.std.specs.Prelude.{◌≡◌, ◌==◌, ◌&&◌, not, false, map, option_map, IfOk, OnOk, IsOkUnless};
 ghost use Rattle.std.specs.Option.{option_map_or};
 ghost use Rattle.zone_proto.specs.Names.{is_above, is_at_or_above};
 ghost use Rattle.zone_proto.specs.Types.{NS};
 ghost use Rattle.zone_map.specs.Zones.{IsZone};
-ghost use Rattle.zone_denial.specs.AuthoritativeKeys.{authoritative_keys, cut_kept};
+ghost use Rattle.zone_denial.specs.AuthoritativeKeys.{authoritative_keys, cut_after};
 
 use zone_map::RecordMap;
 use zone_proto::{LowerName, ProtoError, RecordType, RrKey};
@@ -16,7 +16,8 @@ pub(crate) fn authoritative_keys<'a>(
     origin: &LowerName,
     denial: RecordType,
 ) -> Result<Vec<&'a RrKey>, ProtoError>
-    ensures ok { IfOk result (λ keys. map (λ k. k.now) keys.items ≡ authoritative_keys origin.now records.now denial.0) }
+    ensures ok { IfOk result
+        (λ keys. map (λ k. k.now) keys.items ≡ authoritative_keys origin.now records.now denial.0) }
     ensures zone { OnOk result (IsZone records.now) }
     ensures err { IsOkUnless result ProtoError.Memory }
 {
@@ -43,7 +44,7 @@ fn next_cut<'a>(
     key: &'a RrKey,
 ) -> Option<&'a LowerName>
     ensures { option_map (λ a. a.now) result
-        ≡ cond ((key.now.record_type.0 == NS) && is_above origin.now key.now.name) (Some key.now.name) (cut_kept (option_map (λ a. a.now) cut.entry) key.now.name) }
+        ≡ cut_after origin.now (option_map (λ a. a.now) cut.entry) key.now }
 {
     if is_cut(origin, key) {
         return Some(&key.name);
@@ -63,7 +64,8 @@ fn is_cut(origin: &LowerName, key: &RrKey) -> bool
 
 /// Whether the denial of its name lists the type of a key, where no zone cut stands above the name.
 fn is_listed(origin: &LowerName, denial: RecordType, key: &RrKey) -> bool
-    ensures { result ≡ not (key.now.record_type.0 == denial.0) && is_at_or_above origin.now key.now.name }
+    ensures { result
+        ≡ not (key.now.record_type.0 == denial.0) && is_at_or_above origin.now key.now.name }
 {
     key.record_type != denial && origin.zone_of(&key.name)
 }

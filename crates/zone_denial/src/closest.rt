@@ -1,12 +1,12 @@
 //! The NSEC set that is closest to a name.
-ghost use Rattle.std.specs.Prelude.{◌≡◌, false, cond, length, None, IfOk, OnOk, OnErr, IsOkUnless, option_copied, option_map, option_and_then};
+ghost use Rattle.std.specs.Prelude.{◌≡◌, false, length, None, IfOk, OnOk, OnErr, IsOkUnless, option_copied, option_map, option_and_then};
 ghost use Rattle.std.specs.Option.{option_map_or};
 ghost use Rattle.zone_proto.specs.Names.{lower};
 ghost use Rattle.zone_proto.specs.Types.{NSEC};
 ghost use Rattle.zone_map.specs.Counts.{counted_more};
 ghost use Rattle.zone_map.specs.Zones.{set_at, IsZone};
 ghost use Rattle.zone_denial.specs.NsecCircle.{next_of};
-ghost use Rattle.zone_denial.specs.NsecDenial.{goes_past, says_past, closest_nsec, IsOwnersNsec};
+ghost use Rattle.zone_denial.specs.NsecDenial.{goes_past, says_past, closest_nsec, IsOwnersNsec, set_past};
 ghost use Rattle.zone_denial.specs.OwnersRead.{owners_read, GrewByAtMost};
 
 use zone_map::{Reads, RecordMap};
@@ -24,17 +24,20 @@ pub fn closest_nsec<'m>(
     ensures zone { IsZone records.now }
     ensures err { IsOkUnless result ProtoError.Memory }
 {
-    closest_nsec_knowing(records, name, None)
+    closest_nsec_knowing(records, name, None, &mut Reads::new())
 }
 
-/// The same, where the NSEC set of some owner is at hand, which isn't looked up then.
+/// The same, where the NSEC set of some owner is at hand, which isn't looked up then. No more owners are read, and counted, than
+/// [`closest_nsec_counted`] reads: none where the key before the name's place has the set.
 pub(crate) fn closest_nsec_knowing<'m>(
     records: &'m RecordMap,
     name: &LowerName,
     known: Option<&'m RecordSet>,
+    reads: &mut Reads,
 ) -> Result<Option<&'m RecordSet>, ProtoError>
     requires { IsOwnersNsec records.now (option_copied known) }
     ensures found { IfOk result (λ set. option_copied set ≡ closest_nsec records.now name.now) }
+    ensures counted { GrewByAtMost (length (owners_read records.now name.now)) reads.old reads.new }
     ensures zone { IsZone records.now }
     ensures err { IsOkUnless result ProtoError.Memory }
 {
@@ -48,7 +51,7 @@ pub(crate) fn closest_nsec_knowing<'m>(
             }
         }
     }
-    closest_by_index(records, name, known, &mut Reads::new())
+    closest_by_index(records, name, known, reads)
 }
 
 /// Whether so many sets are NSEC sets that the closest one to a name mostly stands right before the place that the name's own
@@ -65,8 +68,10 @@ pub fn closest_nsec_counted<'m>(
     reads: &mut Reads,
 ) -> Result<Option<&'m RecordSet>, ProtoError>
     ensures found { IfOk result (λ set. option_copied set ≡ closest_nsec records.now name.now) }
-    ensures counted { OnOk result (reads.new ≡ counted_more (length (owners_read records.now name.now)) reads.old) }
-    ensures refused { OnErr result (GrewByAtMost (length (owners_read records.now name.now)) reads.old reads.new) }
+    ensures counted { OnOk result
+        (reads.new ≡ counted_more (length (owners_read records.now name.now)) reads.old) }
+    ensures refused { OnErr result
+        (GrewByAtMost (length (owners_read records.now name.now)) reads.old reads.new) }
     ensures zone { IsZone records.now }
     ensures err { IsOkUnless result ProtoError.Memory }
 {
@@ -82,8 +87,10 @@ fn closest_by_index<'m>(
 ) -> Result<Option<&'m RecordSet>, ProtoError>
     requires { IsOwnersNsec records.now (option_copied known) }
     ensures found { IfOk result (λ set. option_copied set ≡ closest_nsec records.now name.now) }
-    ensures counted { OnOk result (reads.new ≡ counted_more (length (owners_read records.now name.now)) reads.old) }
-    ensures refused { OnErr result (GrewByAtMost (length (owners_read records.now name.now)) reads.old reads.new) }
+    ensures counted { OnOk result
+        (reads.new ≡ counted_more (length (owners_read records.now name.now)) reads.old) }
+    ensures refused { OnErr result
+        (GrewByAtMost (length (owners_read records.now name.now)) reads.old reads.new) }
     ensures zone { IsZone records.now }
     ensures err { IsOkUnless result ProtoError.Memory }
 {
@@ -104,7 +111,8 @@ fn set_past<'m>(
     known: Option<&'m RecordSet>,
 ) -> Result<Option<&'m RecordSet>, ProtoError>
     requires { IsOwnersNsec records.now (option_copied known) }
-    ensures found { IfOk result (λ set. option_copied set ≡ cond (says_past records.now name.now owner.now) (set_at records.now owner.now NSEC) None) }
+    ensures found { IfOk result
+        (λ set. option_copied set ≡ set_past records.now name.now owner.now) }
     ensures err { IsOkUnless result ProtoError.Memory }
 {
     let Some(set) = nsec_of(records, owner, known)? else {
@@ -136,7 +144,8 @@ fn nsec_of<'m>(
 
 /// Whether the next name of an owner's set goes past `name`.
 fn says_past(set: &RecordSet, owner: &LowerName, name: &LowerName) -> Result<bool, ProtoError>
-    ensures past { IfOk result (λ past. past ≡ option_map_or (goes_past owner.now name.now) (next_of set.now) false) }
+    ensures past { IfOk result
+        (λ past. past ≡ option_map_or (goes_past owner.now name.now) (next_of set.now) false) }
     ensures err { IsOkUnless result ProtoError.Memory }
 {
     match next_name(set) {

@@ -1,15 +1,14 @@
 //! The NSEC sets that answer a query for a denial.
 ghost use Rattle.std.specs.Prelude.{◌≡◌, ◌||◌, IfOk, IsOkUnless, option_copied, option_and_then};
-ghost use Rattle.zone_proto.specs.Names.{name_eq, IsAbove};
+ghost use Rattle.zone_proto.specs.Names.{name_eq, IsAbove, star_under};
 ghost use Rattle.zone_proto.specs.Results.{IsCopy};
 ghost use Rattle.zone_proto.specs.Types.{NSEC};
-ghost use Rattle.zone_map.specs.Wildcards.{star_under};
 ghost use Rattle.zone_map.specs.Zones.{set_at};
 ghost use Rattle.zone_denial.specs.NsecDenial.{closest_nsec, owns_nsec_at_or_below, nsec_encloser, proved_beside, nsec_denial, IsOwnersNsec};
 ghost use Rattle.zone_denial.specs.DenialSets.{denial_sets, own_set, unless_same};
 
 use crate::closest::{are_many, closest_nsec, closest_nsec_knowing};
-use zone_map::RecordMap;
+use zone_map::{Reads, RecordMap};
 use zone_proto::{LowerName, ProtoError, RecordSet, RecordType, RrKey};
 
 /// The NSEC sets that deny what a name doesn't own.
@@ -31,7 +30,8 @@ pub fn nsec_denial<'m>(
     origin: &LowerName,
     name: &LowerName,
 ) -> Result<NsecDenial<'m>, ProtoError>
-    ensures sets { IfOk result (λ denial. denial_sets denial ≡ nsec_denial origin.now records.now name.now) }
+    ensures sets { IfOk result
+        (λ denial. denial_sets denial ≡ nsec_denial origin.now records.now name.now) }
     ensures own { IfOk result (λ denial. own_set denial ≡ set_at records.now name.now NSEC) }
     ensures err { IsOkUnless result ProtoError.Memory }
 {
@@ -64,17 +64,20 @@ fn closest_beside<'m>(
     closest: Option<&'m RecordSet>,
 ) -> Result<Option<&'m RecordSet>, ProtoError>
     requires { IsOwnersNsec records.now (option_copied closest) }
-    ensures found { IfOk result (λ set. option_copied set ≡ option_and_then (closest_nsec records.now) (proved_beside origin.now records.now «name»)) }
+    ensures found { IfOk result
+        (λ set. option_copied set
+        ≡ option_and_then (closest_nsec records.now)
+        (proved_beside origin.now records.now «name»)) }
     ensures err { IsOkUnless result ProtoError.Memory }
 {
     if name == *origin {
         return Ok(None);
     }
     if !origin.zone_of(&name) {
-        return closest_nsec_knowing(records, origin, closest);
+        return closest_nsec_knowing(records, origin, closest, &mut Reads::new());
     }
     let star = enclosed_star(records, origin, name)?;
-    closest_nsec_knowing(records, &star, closest)
+    closest_nsec_knowing(records, &star, closest, &mut Reads::new())
 }
 
 /// The star under the closest encloser of a name below the origin. Refused by `Memory` alone.
@@ -96,7 +99,7 @@ fn enclosed_star(
 }
 
 /// Whether a name in the zone is the origin, or owns NSEC, or has a name below it that does.
-#[tactic(auto, using(crate::proofs::DenialLists::same_by_order))]
+#[tactic(auto, using(crate::proofs::Chain::DenialLists::same_by_order))]
 fn encloses(records: &RecordMap, origin: &LowerName, name: &LowerName) -> bool
     ensures { result ≡ name_eq name.now origin.now || owns_nsec_at_or_below records.now name.now }
 {
@@ -108,7 +111,8 @@ fn unless_same<'m>(
     one: Option<&'m RecordSet>,
     other: Option<&'m RecordSet>,
 ) -> Option<&'m RecordSet>
-    ensures { option_copied result ≡ unless_same (option_copied one.entry) (option_copied other.entry) }
+    ensures { option_copied result
+        ≡ unless_same (option_copied one.entry) (option_copied other.entry) }
 {
     match (one, other) {
         (Some(set), Some(other)) if set.name() == other.name() => None,

@@ -74,12 +74,22 @@ pub(crate) fn hashed_names<'n, 'z, H: Nsec3Hash>(
     parameters: &NSEC3PARAM,
 ) -> Result<Vec<HashedName<'n, 'z>>, ProtoError>
     requires { IsStrictlySortedBy name_cmp (map name_of names.now) }
-    ensures ok { IfOk result (λ held. map hashed held.items
-        ≡ in_order hashed_cmp (with_digests (hash_with (H.digest_of hash.now) parameters.now) (map name_of names.now))) }
-    ensures names { IfOk result (λ held. IsPermutation names.now (map (λ h. h.name.now) held.items)) }
-    ensures all { OnOk result (all_hashed (hash_with (H.digest_of hash.now) parameters.now) (map name_of names.now) ≡ true) }
-    ensures err { IfErr result (λ e. (e ≡ ProtoError.Memory)
-        ⊎ ((e ≡ ProtoError.Hash) × (all_hashed (hash_with (H.digest_of hash.now) parameters.now) (map name_of names.now) ≡ false))) }
+    ensures ok { IfOk result
+        (λ held. map hashed held.items
+        ≡ in_order hashed_cmp
+        (with_digests (hash_with (H.digest_of hash.now) parameters.now)
+        (map name_of names.now))) }
+    ensures names { IfOk result
+        (λ held. IsPermutation names.now (map (λ h. h.name.now) held.items)) }
+    ensures all { OnOk result
+        (all_hashed (hash_with (H.digest_of hash.now) parameters.now) (map name_of names.now)
+        ≡ true) }
+    ensures err { IfErr result
+        (λ e. (e ≡ ProtoError.Memory)
+        ⊎ ((e ≡ ProtoError.Hash)
+        × (all_hashed (hash_with (H.digest_of hash.now) parameters.now)
+        (map name_of names.now)
+        ≡ false))) }
 {
     let mut held = Vec::with_capacity(alloc, names.len())?;
     for name in names {
@@ -95,10 +105,13 @@ fn hash_name<'n, 'z, H: Nsec3Hash>(
     hash: &H,
     parameters: &NSEC3PARAM,
 ) -> Result<HashedName<'n, 'z>, ProtoError>
-    ensures digest { IfOk result (λ h. hash_with (H.digest_of hash.now) parameters.now (name_of name.now) ≡ Some h.digest) }
+    ensures digest { IfOk result
+        (λ h. hash_with (H.digest_of hash.now) parameters.now (name_of name.now) ≡ Some h.digest) }
     ensures name { IfOk result (λ h. h.name.now ≡ name.now) }
-    ensures err { IfErr result (λ e. (e ≡ ProtoError.Memory)
-        ⊎ ((e ≡ ProtoError.Hash) × (hash_with (H.digest_of hash.now) parameters.now (name_of name.now) ≡ None))) }
+    ensures err { IfErr result
+        (λ e. (e ≡ ProtoError.Memory)
+        ⊎ ((e ≡ ProtoError.Hash)
+        × (hash_with (H.digest_of hash.now) parameters.now (name_of name.now) ≡ None))) }
 {
     let digest = hash.hash(
         parameters.algorithm,

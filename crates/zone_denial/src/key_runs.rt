@@ -18,7 +18,8 @@ pub(crate) fn count_of_name(keys: &[&RrKey], name: &LowerName) -> usize
 
 /// How many keys in front are of the name of the first, which isn't compared with itself.
 pub(crate) fn count_of_first(keys: &[&RrKey]) -> usize
-    ensures value { (first : Bor Key) (others : List (Bor Key)) → keys.now ≡ first ∷ others → result ≡ 1 + prefix_len (λ k. eq_by_cmp name_cmp k.now.name first.now.name) others }
+    ensures value { (first : Bor Key) (others : List (Bor Key)) → keys.now ≡ first ∷ others
+        → result ≡ 1 + prefix_len (λ k. eq_by_cmp name_cmp k.now.name first.now.name) others }
     ensures bound { result ≤ length keys.now }
 {
     match keys.split_first() {

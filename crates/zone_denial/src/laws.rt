@@ -25,35 +25,40 @@ ghost use Rattle.zone_denial.specs.StarLaws.{EnclosersAgree, ProvedStarIsAsked, 
 /// RRSIG and NSEC (RFC 4034 section 4.1.2).
 pub fn type_lists_are_exact()
     ensures ascending { (m : Sets) (n : Name) → IsStrictlySortedBy nat_cmp (nsec_types m n) }
-    ensures types { (m : Sets) (n : Name) (t : ℕ) → Contains (nsec_types m n) t ↔ (IsTrue (owns m n t) ⊎ (t ≡ RRSIG) ⊎ (t ≡ NSEC)) }
+    ensures types { (m : Sets) (n : Name) (t : ℕ)
+        → Contains (nsec_types m n) t ↔ (IsTrue (owns m n t) ⊎ (t ≡ RRSIG) ⊎ (t ≡ NSEC)) }
 {}
 
 /// The names that get an NSEC3 set ascend, each stands there once, and they are exactly the origin and, strictly below it, the
 /// names that the zone is authoritative for and the empty names above these; with opt-out those that own NS alone, NSEC3
 /// aside, don't count (RFC 5155 sections 6 and 7.1).
 pub fn nsec3_names_are_exact()
-    ensures ascending { (origin : Name) (m : Sets) (opt_out : Bool) → IsStrictlySortedBy name_cmp (nsec3_names origin m opt_out) }
-    ensures names { (origin : Name) (m : Sets) (opt_out : Bool) (n : Name) → Contains (nsec3_names origin m opt_out) n ↔ IsNsec3Name origin m opt_out n }
+    ensures ascending { (origin : Name) (m : Sets) (opt_out : Bool)
+        → IsStrictlySortedBy name_cmp (nsec3_names origin m opt_out) }
+    ensures names { (origin : Name) (m : Sets) (opt_out : Bool) (n : Name)
+        → Contains (nsec3_names origin m opt_out) n ↔ IsNsec3Name origin m opt_out n }
 {}
 
 /// The types that the NSEC3 set of a name lists ascend, each stands there once, and they are exactly those that the name owns
 /// but NSEC3, RRSIG where there is one of these, and at the origin NSEC3PARAM and RRSIG (RFC 5155 sections 3.1.8 and 7.1).
 pub fn nsec3_type_lists_are_exact()
-    ensures ascending { (origin : Name) (m : Sets) (n : Name) → IsStrictlySortedBy nat_cmp (nsec3_types origin m n) }
-    ensures types { (origin : Name) (m : Sets) (n : Name) (t : ℕ) → Contains (nsec3_types origin m n) t ↔ IsNsec3Type origin m n t }
+    ensures ascending { (origin : Name) (m : Sets) (n : Name)
+        → IsStrictlySortedBy nat_cmp (nsec3_types origin m n) }
+    ensures types { (origin : Name) (m : Sets) (n : Name) (t : ℕ)
+        → Contains (nsec3_types origin m n) t ↔ IsNsec3Type origin m n t }
 {}
 
 /// A zone that gets its NSEC sets, in the place of those that it had, has a circle of them: one for each name that it is
 /// authoritative for and no other, each with the next of these names and the types of its own (RFC 4035 section 2.3). Its
 /// other sets may change, in data, serials and signatures, as long as each name owns the same types.
-#[tactic(auto, using(crate::proofs::NsecSecured::secured_is_circle))]
+#[tactic(auto, using(crate::proofs::Chain::NsecSecured::secured_is_circle))]
 pub fn secured_is_circle()
     ensures { SecuredIsCircle }
 {}
 
 /// The denial of a name of the zone is the name's own NSEC set alone, or its last set covers the name (RFC 4035 sections
 /// 3.1.3.1 and 3.1.3.2).
-#[tactic(auto, using(crate::proofs::NsecClosest::finds_or_covers))]
+#[tactic(auto, using(crate::proofs::Chain::NsecClosest::finds_or_covers))]
 pub fn denial_finds_or_covers()
     ensures { DenialFindsOrCovers }
 {}
@@ -61,14 +66,14 @@ pub fn denial_finds_or_covers()
 /// Where a name of the zone has no NSEC set, its denial has the NSEC set of the star under its closest encloser, where the star
 /// has one, and else a set that covers the star (RFC 4035 section 3.1.3.2). So a reader knows which wildcard might have answered
 /// for the name, and what that one owns or that there is none.
-#[tactic(auto, using(crate::proofs::NsecStar::proves_star))]
+#[tactic(auto, using(crate::proofs::Chain::NsecStar::proves_star))]
 pub fn denial_proves_star()
     ensures { DenialProvesStar }
 {}
 
 /// What a name owns is in the list of types of its NSEC set. A name of the zone that owns a set and has no NSEC set stands
 /// below a zone cut, so that it is glue, or of a child's zone (RFC 4035 section 2.3).
-#[tactic(auto, using(crate::proofs::NsecLists::lists_all_owned))]
+#[tactic(auto, using(crate::proofs::Chain::NsecLists::lists_all_owned))]
 pub fn circle_lists_all_owned()
     ensures { CircleListsAllOwned }
 {}
@@ -83,7 +88,7 @@ pub fn denials_agree()
 /// Where neither a name of the zone nor a name below it owns a set, so that there is no such name, the last set of its denial
 /// covers it, and the next name of that set is neither it nor below it: so the name isn't an empty one either (RFC 4035
 /// section 5.4).
-#[tactic(auto, using(crate::proofs::NsecBelow::no_next_below))]
+#[tactic(auto, using(crate::proofs::Chain::NsecBelow::no_next_below))]
 pub fn no_next_below_absent()
     ensures { NoNextBelowAbsent }
 {}
@@ -91,7 +96,7 @@ pub fn no_next_below_absent()
 /// Where a name of the zone owns no set but a name below it does, and no zone cut stands above it, so that it is an empty name
 /// (RFC 4592 section 2.2.2), the last set of its denial covers it, and the next name of that set stands below it. So a reader
 /// can tell an empty name from none.
-#[tactic(auto, using(crate::proofs::NsecBelow::next_below_empty))]
+#[tactic(auto, using(crate::proofs::Chain::NsecBelow::next_below_empty))]
 pub fn next_below_empty()
     ensures { NextBelowEmpty }
 {}
@@ -113,13 +118,13 @@ pub fn absent_star_is_denied()
 
 /// A search for the closest NSEC set to a name reads no owner after the name: at most as many as there are owners of NSEC sets
 /// at or before it.
-#[tactic(auto, using(crate::proofs::CircleReads::none_after))]
+#[tactic(auto, using(crate::proofs::Chain::CircleReads::none_after))]
 pub fn closest_reads_none_after()
     ensures { ReadsNoneAfter }
 {}
 
 /// Where the NSEC sets are a circle, it reads one owner at most, whatever the name.
-#[tactic(auto, using(crate::proofs::CircleReads::circle_reads_one))]
+#[tactic(auto, using(crate::proofs::Chain::CircleReads::circle_reads_one))]
 pub fn circle_reads_one()
     ensures { CircleReadsOne }
 {}
@@ -127,8 +132,8 @@ pub fn circle_reads_one()
 /// A zone that gets its NSEC3 sets, in the place of those that it had, has a circle of them, so that NSEC3 denies it: one set
 /// for each name that gets one and no other, under the name's hashed owner, with the next digest and the types of the name; and
 /// the origin owns NSEC3PARAM, of whichever parameters (RFC 5155 section 7.1). That is so where the origin isn't the root, and
-/// the hash gives the names on the circle digests of one length that differ and make owners that are names. The zone's other
-/// sets may change, in data, serials and signatures, as long as each name owns the same types.
+/// the hash gives the names on the circle digests of one length that differ. The zone's other sets may change, in data, serials
+/// and signatures, as long as each name owns the same types.
 pub fn secured_is_nsec3_circle()
     ensures { SecuredIsNsec3Circle }
 {}
@@ -136,7 +141,7 @@ pub fn secured_is_nsec3_circle()
 /// The denial by NSEC3 of a name of the zone is the name's own set alone, where the name is on the circle; else it has the set
 /// of the name's closest encloser and one that covers the next closer name (RFC 5155 section 7.2.1). That is so where the hash
 /// gives the names on the circle and those that the denial asks of digests of one length that differ.
-#[tactic(auto, using(crate::proofs::Nsec3Encloses::finds_or_encloses))]
+#[tactic(auto, using(crate::proofs::Hashed::Nsec3Encloses::finds_or_encloses))]
 pub fn nsec3_denial_finds_or_encloses()
     ensures { Nsec3DenialFindsOrEncloses }
 {}
@@ -144,7 +149,7 @@ pub fn nsec3_denial_finds_or_encloses()
 /// Where a name of the zone isn't on the circle, its denial by NSEC3 has the NSEC3 set of the star under its closest encloser,
 /// where the star is on the circle, and else a set that covers the star (RFC 5155 section 7.2.2). So a reader knows which wildcard
 /// might have answered for the name, and what that one owns or that there is none. The hash has to tell the same names apart.
-#[tactic(auto, using(crate::proofs::Nsec3Star::proves_star))]
+#[tactic(auto, using(crate::proofs::Hashed::Nsec3Star::proves_star))]
 pub fn nsec3_denial_proves_star()
     ensures { Nsec3DenialProvesStar }
 {}
@@ -152,7 +157,7 @@ pub fn nsec3_denial_proves_star()
 /// What a name owns besides NSEC3 is in the list of types of its NSEC3 set, where the name is one of the circle's. A name of
 /// the zone that owns a type besides NSEC3 and isn't one of the circle's stands below a zone cut, so that what it owns is glue,
 /// or of a child's zone; or opt-out leaves it out, and then it owns NS alone, NSEC3 aside (RFC 5155 sections 6 and 7.1).
-#[tactic(auto, using(crate::proofs::Nsec3Lists::lists_all_owned))]
+#[tactic(auto, using(crate::proofs::Hashed::Nsec3Lists::lists_all_owned))]
 pub fn nsec3_circle_lists_all_owned()
     ensures { Nsec3CircleListsAllOwned }
 {}

@@ -24,7 +24,8 @@ pub(crate) fn lists_types(types: &[RecordType], keys: &[&RrKey]) -> bool
 
 /// Whether the first key, if there is one, is of a type greater than NSEC.
 fn begins_above(keys: &[&RrKey]) -> bool
-    ensures { IsTrue result → (first : ℕ) (others : List ℕ) → map (λ k. k.now.record_type.0) keys.now ≡ first ∷ others → nsec < first }
+    ensures { IsTrue result → (first : ℕ) (others : List ℕ)
+        → map (λ k. k.now.record_type.0) keys.now ≡ first ∷ others → nsec < first }
 {
     match keys.first() {
         Some(first) => first.record_type > RecordType::NSEC,
@@ -48,8 +49,12 @@ fn after_all<'t>(
     low: &[&RrKey],
     high: &[&RrKey],
 ) -> Option<&'t [RecordType]>
-    ensures { IfSome result (λ left. map (λ t. t.0) types.now
-        ≡ map (λ k. k.now.record_type.0) low.now ++ (rrsig ∷ (nsec ∷ (map (λ k. k.now.record_type.0) high.now ++ map (λ t. t.0) left.now)))) }
+    ensures { IfSome result
+        (λ left. map (λ t. t.0) types.now
+        ≡ map (λ k. k.now.record_type.0) low.now
+        ++ (rrsig
+        ∷ (nsec
+        ∷ (map (λ k. k.now.record_type.0) high.now ++ map (λ t. t.0) left.now)))) }
 {
     let left = after_types(types, low)?;
     let left = after_type(left, RecordType::RRSIG)?;
@@ -59,7 +64,9 @@ fn after_all<'t>(
 
 /// What is left of a list of types behind those of keys, if it begins with these.
 fn after_types<'t>(types: &'t [RecordType], keys: &[&RrKey]) -> Option<&'t [RecordType]>
-    ensures { IfSome result (λ left. map (λ t. t.0) types.now ≡ map (λ k. k.now.record_type.0) keys.now ++ map (λ t. t.0) left.now) }
+    ensures { IfSome result
+        (λ left. map (λ t. t.0) types.now
+        ≡ map (λ k. k.now.record_type.0) keys.now ++ map (λ t. t.0) left.now) }
 {
     let mut left = types;
     for key in keys {
@@ -70,7 +77,8 @@ fn after_types<'t>(types: &'t [RecordType], keys: &[&RrKey]) -> Option<&'t [Reco
 
 /// What is left of a list of types behind the first, if that is this one.
 fn after_type(types: &[RecordType], record_type: RecordType) -> Option<&[RecordType]>
-    ensures { IfSome result (λ left. map (λ t. t.0) types.now ≡ record_type.0 ∷ map (λ t. t.0) left.now) }
+    ensures { IfSome result
+        (λ left. map (λ t. t.0) types.now ≡ record_type.0 ∷ map (λ t. t.0) left.now) }
 {
     let (first, left) = types.split_first()?;
     (*first == record_type).then_some(left)

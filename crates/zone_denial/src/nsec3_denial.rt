@@ -24,22 +24,31 @@ struct Encloser<'m> {
 /// The NSEC3 sets that answer a query for a denial in the zone of `origin`, in the canonical order of their owners, each once
 /// (RFC 5155 section 7.2). Names are hashed by `hash` with the parameters of the query.
 ///
-/// It is the set that matches the queried name alone, unless a wildcard answered. Else, with the closest encloser, the nearest
-/// ancestor, the root aside, that a set matches: where a wildcard answered, the set that covers the next closer name; and
-/// where none did, the set that matches the encloser, the one that covers the next closer name, and the one that matches the
-/// star under the encloser or, where none does, covers it. Without an encloser there is none. The type isn't read.
+/// - No data (sections 7.2.3 and 7.2.4): the set that matches the queried name alone.
+/// - Wildcard answer (section 7.2.6): the set that covers the next closer name.
+/// - Name error and wildcard no data (sections 7.2.2 and 7.2.5): the set that matches the closest encloser, the one that covers
+///   the next closer name, and the one that matches the star under the encloser or, where none does, covers it.
+///
+/// The closest encloser is the nearest ancestor, the root aside, that a set matches; without one there is no set. The type
+/// isn't read.
+///
+/// # Errors
 ///
 /// Names are hashed one after the other, each once, and only where the answer needs it: the queried name, its ancestors from
-/// the longest on up to the encloser, and the star. The next closer name is one of them. Refused as the first of them is that
-/// has no hashed owner, as [`Nsec3QueryInfo::hashed_owner_name`] says, and by `Memory`.
+/// the longest on up to the encloser, and the star. Refused as the first of them is that has no hashed owner, as
+/// [`Nsec3QueryInfo::hashed_owner_name`] says, and by `Memory`.
 pub fn nsec3_denial<'m, H: Nsec3Hash>(
     records: &'m RecordMap,
     origin: &LowerName,
     query: &Nsec3QueryInfo<'_>,
     hash: &H,
 ) -> Result<Vec<&'m RecordSet>, ProtoError>
-    ensures ok { IfOk result (λ sets. query_denial (H.digest_of hash.now) origin.now records.now query.now ≡ Ok (map (λ s. s.now) sets.items)) }
-    ensures err { IfErr result (λ e. (e ≡ ProtoError.Memory) ⊎ (query_denial (H.digest_of hash.now) origin.now records.now query.now ≡ Err e)) }
+    ensures ok { IfOk result
+        (λ sets. query_denial (H.digest_of hash.now) origin.now records.now query.now
+        ≡ Ok (map (λ s. s.now) sets.items)) }
+    ensures err { IfErr result
+        (λ e. (e ≡ ProtoError.Memory)
+        ⊎ (query_denial (H.digest_of hash.now) origin.now records.now query.now ≡ Err e)) }
 {
     let hashing = Hashing {
         origin,
@@ -48,6 +57,7 @@ pub fn nsec3_denial<'m, H: Nsec3Hash>(
     };
     let Matched { owner, set } = matching(records, &hashing, query.qname)?;
     if set.is_some() && !query.has_wildcard_match {
+        // No data.
         return in_owner_order(origin.alloc(), set, None, None);
     }
     match closest_encloser(records, &hashing, query.qname, owner)? {
@@ -63,17 +73,38 @@ fn closest_encloser<'m, H: Nsec3Hash>(
     name: &LowerName,
     owner: LowerName,
 ) -> Result<Option<Encloser<'m>>, ProtoError>
-    requires { hashed_for hashing.now.origin.now (H.digest_of hashing.now.hash.now) hashing.now.query.now name.now ≡ Ok owner }
-    ensures found { IfOk result (λ found. encloser_of records.now (hashed_for hashing.now.origin.now (H.digest_of hashing.now.hash.now) hashing.now.query.now) name.now
+    requires { hashed_for hashing.now.origin.now (H.digest_of hashing.now.hash.now)
+        hashing.now.query.now name.now
+        ≡ Ok owner }
+    ensures found { IfOk result
+        (λ found. encloser_of records.now
+        (hashed_for hashing.now.origin.now (H.digest_of hashing.now.hash.now)
+        hashing.now.query.now)
+        name.now
         ≡ Ok (option_map (λ e. base_name e.next_closer) found)) }
-    ensures closer { IfOk result (λ found. IfSome found (λ e. next_closer_of name.now (base_name e.next_closer) ≡ Some e.next_closer)) }
-    ensures owner { IfOk result (λ found. IfSome found (λ e.
-        hashed_for hashing.now.origin.now (H.digest_of hashing.now.hash.now) hashing.now.query.now e.next_closer ≡ Ok e.closer_owner)) }
-    ensures matched { IfOk result (λ found. IfSome found (λ e. sets_of records.now
-        (match_of records.now (hashed_for hashing.now.origin.now (H.digest_of hashing.now.hash.now) hashing.now.query.now) (base_name e.next_closer))
+    ensures closer { IfOk result
+        (λ found. IfSome found
+        (λ e. next_closer_of name.now (base_name e.next_closer) ≡ Some e.next_closer)) }
+    ensures owner { IfOk result
+        (λ found. IfSome found
+        (λ e. hashed_for hashing.now.origin.now (H.digest_of hashing.now.hash.now)
+        hashing.now.query.now e.next_closer
+        ≡ Ok e.closer_owner)) }
+    ensures matched { IfOk result
+        (λ found. IfSome found
+        (λ e. sets_of records.now
+        (match_of records.now
+        (hashed_for hashing.now.origin.now (H.digest_of hashing.now.hash.now)
+        hashing.now.query.now)
+        (base_name e.next_closer))
         ≡ Ok (e.set.now ∷ []))) }
-    ensures err { IfErr result (λ e. (e ≡ ProtoError.Memory)
-        ⊎ (encloser_of records.now (hashed_for hashing.now.origin.now (H.digest_of hashing.now.hash.now) hashing.now.query.now) name.now ≡ Err e)) }
+    ensures err { IfErr result
+        (λ e. (e ≡ ProtoError.Memory)
+        ⊎ (encloser_of records.now
+        (hashed_for hashing.now.origin.now (H.digest_of hashing.now.hash.now)
+        hashing.now.query.now)
+        name.now
+        ≡ Err e)) }
 {
     let mut closer_owner = owner;
     let mut next_closer = name.clone()?;
@@ -100,19 +131,32 @@ fn enclosed<'m, H: Nsec3Hash>(
     hashing: &Hashing<'_, H>,
     encloser: Encloser<'m>,
 ) -> Result<Vec<&'m RecordSet>, ProtoError>
-    requires closer { next_closer_of hashing.now.query.now.qname.now (base_name encloser.next_closer) ≡ Some encloser.next_closer }
-    requires owner { hashed_for hashing.now.origin.now (H.digest_of hashing.now.hash.now) hashing.now.query.now encloser.next_closer
+    requires closer { next_closer_of hashing.now.query.now.qname.now
+        (base_name encloser.next_closer)
+        ≡ Some encloser.next_closer }
+    requires owner { hashed_for hashing.now.origin.now (H.digest_of hashing.now.hash.now)
+        hashing.now.query.now encloser.next_closer
         ≡ Ok encloser.closer_owner }
     requires matched { sets_of records.now
-        (match_of records.now (hashed_for hashing.now.origin.now (H.digest_of hashing.now.hash.now) hashing.now.query.now) (base_name encloser.next_closer))
+        (match_of records.now
+        (hashed_for hashing.now.origin.now (H.digest_of hashing.now.hash.now)
+        hashing.now.query.now)
+        (base_name encloser.next_closer))
         ≡ Ok (encloser.set.now ∷ []) }
-    ensures ok { IfOk result (λ sets.
-        enclosed_sets records.now (hashed_for hashing.now.origin.now (H.digest_of hashing.now.hash.now) hashing.now.query.now)
-        hashing.now.query.now.has_wildcard_match hashing.now.query.now.qname.now (Some (base_name encloser.entry.next_closer))
+    ensures ok { IfOk result
+        (λ sets. enclosed_sets records.now
+        (hashed_for hashing.now.origin.now (H.digest_of hashing.now.hash.now)
+        hashing.now.query.now)
+        hashing.now.query.now.has_wildcard_match hashing.now.query.now.qname.now
+        (Some (base_name encloser.entry.next_closer))
         ≡ Ok (map (λ s. s.now) sets.items)) }
-    ensures err { IfErr result (λ e. (e ≡ ProtoError.Memory)
-        ⊎ (enclosed_sets records.now (hashed_for hashing.now.origin.now (H.digest_of hashing.now.hash.now) hashing.now.query.now)
-        hashing.now.query.now.has_wildcard_match hashing.now.query.now.qname.now (Some (base_name encloser.entry.next_closer))
+    ensures err { IfErr result
+        (λ e. (e ≡ ProtoError.Memory)
+        ⊎ (enclosed_sets records.now
+        (hashed_for hashing.now.origin.now (H.digest_of hashing.now.hash.now)
+        hashing.now.query.now)
+        hashing.now.query.now.has_wildcard_match hashing.now.query.now.qname.now
+        (Some (base_name encloser.entry.next_closer))
         ≡ Err e)) }
 {
     let Encloser {
@@ -123,8 +167,10 @@ fn enclosed<'m, H: Nsec3Hash>(
     let alloc = next_closer.alloc();
     let closer = covering(records, &closer_owner)?;
     if hashing.query.has_wildcard_match {
+        // Wildcard answer.
         return in_owner_order(alloc, closer, None, None);
     }
+    // Name error or wildcard no data, told apart by whether a set matches the star.
     let star_owner = star_owner(hashing, next_closer, closer_owner)?;
     let star = matching_or_covering(records, &star_owner)?;
     in_owner_order(alloc, Some(set), closer, star)
@@ -137,11 +183,18 @@ fn star_owner<H: Nsec3Hash>(
     next_closer: LowerName,
     closer_owner: LowerName,
 ) -> Result<LowerName, ProtoError>
-    requires { hashed_for hashing.now.origin.now (H.digest_of hashing.now.hash.now) hashing.now.query.now next_closer ≡ Ok closer_owner }
-    ensures ok { IfOk result (λ owner.
-        hashed_for hashing.now.origin.now (H.digest_of hashing.now.hash.now) hashing.now.query.now (wildcard_of next_closer) ≡ Ok owner) }
-    ensures err { IfErr result (λ e. (e ≡ ProtoError.Memory)
-        ⊎ (hashed_for hashing.now.origin.now (H.digest_of hashing.now.hash.now) hashing.now.query.now (wildcard_of next_closer) ≡ Err e)) }
+    requires { hashed_for hashing.now.origin.now (H.digest_of hashing.now.hash.now)
+        hashing.now.query.now next_closer
+        ≡ Ok closer_owner }
+    ensures ok { IfOk result
+        (λ owner. hashed_for hashing.now.origin.now (H.digest_of hashing.now.hash.now)
+        hashing.now.query.now (wildcard_of next_closer)
+        ≡ Ok owner) }
+    ensures err { IfErr result
+        (λ e. (e ≡ ProtoError.Memory)
+        ⊎ (hashed_for hashing.now.origin.now (H.digest_of hashing.now.hash.now)
+        hashing.now.query.now (wildcard_of next_closer)
+        ≡ Err e)) }
 {
     if next_closer.is_wildcard() {
         return Ok(closer_owner);

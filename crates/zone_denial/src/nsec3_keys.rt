@@ -1,4 +1,4 @@
-// The hashed owners of names, and the sets that match and cover a name.
+//! The hashed owners of names, and the sets that match and cover a name.
 ghost use Rattle.std.specs.Prelude.{◌≡◌, ◌⊎◌, length, Ok, Err, IfOk, IfErr, OnOk, IsOkUnless, filter_map, option_copied, option_to_list};
 ghost use Rattle.std.specs.Option.{option_or};
 ghost use Rattle.zone_proto.specs.Types.{NSEC3};
@@ -25,9 +25,15 @@ pub(crate) struct Hashing<'q, H> {
 impl<H: Nsec3Hash> Hashing<'_, H> {
     /// The owner that the NSEC3 set of a name has, or would have.
     pub fn owner(&self, name: &LowerName) -> Result<LowerName, ProtoError>
-        ensures ok { IfOk result (λ owner. hashed_for self.now.origin.now (H.digest_of self.now.hash.now) self.now.query.now name.now ≡ Ok owner) }
-        ensures err { IfErr result (λ e. (e ≡ ProtoError.Memory)
-            ⊎ (hashed_for self.now.origin.now (H.digest_of self.now.hash.now) self.now.query.now name.now ≡ Err e)) }
+        ensures ok { IfOk result
+            (λ owner. hashed_for self.now.origin.now (H.digest_of self.now.hash.now)
+            self.now.query.now name.now
+            ≡ Ok owner) }
+        ensures err { IfErr result
+            (λ e. (e ≡ ProtoError.Memory)
+            ⊎ (hashed_for self.now.origin.now (H.digest_of self.now.hash.now) self.now.query.now
+            name.now
+            ≡ Err e)) }
     {
         self.query.hashed_owner_name(self.hash, name, self.origin)
     }
@@ -48,11 +54,17 @@ pub(crate) fn matching<'m, H: Nsec3Hash>(
     hashing: &Hashing<'_, H>,
     name: &LowerName,
 ) -> Result<Matched<'m>, ProtoError>
-    ensures owner { IfOk result (λ matched.
-        hashed_for hashing.now.origin.now (H.digest_of hashing.now.hash.now) hashing.now.query.now name.now ≡ Ok matched.owner) }
-    ensures set { IfOk result (λ matched. option_copied matched.set ≡ set_at records.now matched.owner NSEC3) }
-    ensures err { IfErr result (λ e. (e ≡ ProtoError.Memory)
-        ⊎ (hashed_for hashing.now.origin.now (H.digest_of hashing.now.hash.now) hashing.now.query.now name.now ≡ Err e)) }
+    ensures owner { IfOk result
+        (λ matched. hashed_for hashing.now.origin.now (H.digest_of hashing.now.hash.now)
+        hashing.now.query.now name.now
+        ≡ Ok matched.owner) }
+    ensures set { IfOk result
+        (λ matched. option_copied matched.set ≡ set_at records.now matched.owner NSEC3) }
+    ensures err { IfErr result
+        (λ e. (e ≡ ProtoError.Memory)
+        ⊎ (hashed_for hashing.now.origin.now (H.digest_of hashing.now.hash.now)
+        hashing.now.query.now name.now
+        ≡ Err e)) }
 {
     let key = RrKey::new(hashing.owner(name)?, RecordType::NSEC3);
     let set = records.get(&key);
@@ -68,8 +80,12 @@ pub(crate) fn matching_or_covering<'m>(
     records: &'m RecordMap,
     hashed: &LowerName,
 ) -> Result<Option<&'m RecordSet>, ProtoError>
-    ensures ok { IfOk result (λ set. option_to_list (option_copied set)
-        ≡ filter_map (λ o. set_at records.now o NSEC3) (option_to_list (option_or (match_owner records.now hashed.now) (cover_owner records.now hashed.now)))) }
+    ensures ok { IfOk result
+        (λ set. option_to_list (option_copied set)
+        ≡ filter_map (λ o. set_at records.now o NSEC3)
+        (option_to_list
+        (option_or (match_owner records.now hashed.now)
+        (cover_owner records.now hashed.now)))) }
     ensures err { IsOkUnless result ProtoError.Memory }
 {
     let mut upto = records.denial_owners_upto(RecordType::NSEC3, hashed);
@@ -85,8 +101,10 @@ pub(crate) fn covering<'m>(
     records: &'m RecordMap,
     hashed: &LowerName,
 ) -> Result<Option<&'m RecordSet>, ProtoError>
-    ensures ok { IfOk result (λ set. option_to_list (option_copied set)
-        ≡ filter_map (λ o. set_at records.now o NSEC3) (option_to_list (cover_owner records.now hashed.now))) }
+    ensures ok { IfOk result
+        (λ set. option_to_list (option_copied set)
+        ≡ filter_map (λ o. set_at records.now o NSEC3)
+        (option_to_list (cover_owner records.now hashed.now))) }
     ensures zone { OnOk result (IsZone records.now) }
     ensures err { IsOkUnless result ProtoError.Memory }
 {
@@ -116,7 +134,8 @@ fn cover_owner<'m>(
     reads: &mut Reads,
 ) -> Option<&'m LowerName>
     ensures found { option_copied result ≡ cover_owner records.now hashed.now }
-    ensures counted { reads.new ≡ counted_more (length (option_to_list (cover_owner records.now hashed.now))) reads.old }
+    ensures counted { reads.new
+        ≡ counted_more (length (option_to_list (cover_owner records.now hashed.now))) reads.old }
     ensures zone { IsZone records.now }
 {
     let mut before = records.denial_owners_before(RecordType::NSEC3, hashed);

@@ -66,8 +66,11 @@ pub(crate) fn nsec3_names<'a>(
     origin: &'a LowerName,
     opt_out: bool,
 ) -> Result<Vec<Nsec3Name<'a>>, ProtoError>
-    ensures names { IfOk result (λ names. map name_of names.items ≡ nsec3_names origin.now records.now opt_out) }
-    ensures types { IfOk result (λ names. All (λ n. types_of n ≡ nsec3_types origin.now records.now (name_of n)) names.items) }
+    ensures names { IfOk result
+        (λ names. map name_of names.items ≡ nsec3_names origin.now records.now opt_out) }
+    ensures types { IfOk result
+        (λ names. All (λ n. types_of n ≡ nsec3_types origin.now records.now (name_of n))
+        names.items) }
     ensures err { IsOkUnless result ProtoError.Memory }
 {
     let alloc = origin.alloc();
@@ -108,7 +111,9 @@ fn push_new_ancestors<'a>(
     last: &LowerName,
     name: &LowerName,
 ) -> Result<(), ProtoError>
-    ensures ok { OnOk result (map node_of names.new.items ≡ map node_of names.old.items ++ map (λ a. (a, [])) (new_ancestors last.now name.now)) }
+    ensures ok { OnOk result
+        (map node_of names.new.items
+        ≡ map node_of names.old.items ++ map (λ a. (a, [])) (new_ancestors last.now name.now)) }
     ensures err { IsOkUnless result ProtoError.Memory }
 {
     let parent = name.base_name()?;

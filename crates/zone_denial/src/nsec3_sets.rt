@@ -1,5 +1,5 @@
 //! The NSEC3 sets that a zone gets when it is secured.
-ghost use Rattle.std.specs.Prelude.{◌≡◌, ◌↔◌, ◌⊎◌, ◌<◌, ◌-◌, ◌==◌, ◌&&◌, ℕ, length, map, cond, [], slice_index_or, slice_get, Some, None, option_copied, option_map, unwrap_or, true, false, IsTrue, IsFalse, IfSome, IfOk, IfErr, OnOk, IsOkUnless, All};
+ghost use Rattle.std.specs.Prelude.{◌≡◌, ◌↔◌, ◌⊎◌, ◌<◌, ◌-◌, ◌==◌, ◌&&◌, ℕ, length, map, [], slice_index_or, slice_get, Some, None, option_copied, option_map, unwrap_or, true, false, IsTrue, IsFalse, IfSome, IfOk, IfErr, OnOk, IsOkUnless, All};
 ghost use Rattle.std.specs.List.{AllByRecursion};
 ghost use Rattle.std.specs.List.Sorted.{IsStrictlySortedBy};
 ghost use Rattle.std.specs.Option.{IfNone};
@@ -7,7 +7,7 @@ ghost use Rattle.zone_proto.specs.declared.rdata.RData.TheVariants as variant;
 ghost use Rattle.zone_proto.specs.HashedOwners.{hashed_owner};
 ghost use Rattle.zone_proto.specs.Data.{type_of};
 ghost use Rattle.zone_proto.specs.Keys.{key as key_at};
-ghost use Rattle.zone_proto.specs.Names.{Name, lower, name_eq};
+ghost use Rattle.zone_proto.specs.Names.{Name, lower};
 ghost use Rattle.zone_proto.specs.Ranges.{IsOctet};
 ghost use Rattle.zone_proto.specs.Results.{IsCopy, TellsFaultOrMemory};
 ghost use Rattle.zone_proto.specs.Sets.{empty_set};
@@ -15,7 +15,7 @@ ghost use Rattle.zone_proto.specs.Types.{IN, NSEC3 as nsec3_type, NSEC3PARAM as 
 ghost use Rattle.zone_map.specs.Standing.{standing_at};
 ghost use Rattle.zone_map.specs.Zones.{set_at, IsStoredAt};
 ghost use Rattle.zone_denial.specs.Covering.{next_around};
-ghost use Rattle.zone_denial.specs.HashedNames.{hashed, all_fit, linked_record, circle_set_at, circle_sets_at};
+ghost use Rattle.zone_denial.specs.HashedNames.{hashed, all_fit, linked_record, circle_sets_at, circle_with};
 ghost use Rattle.zone_denial.specs.RepeatedDigests.{RepeatsDigest, EndsWith, IsPutBehind};
 ghost use Rattle.zone_denial.specs.Nsec3Nodes.{name_of, types_of};
 ghost use Rattle.zone_denial.specs.Nsec3Circle.{nsec3_types};
@@ -42,6 +42,8 @@ use zone_proto::{
 /// and the answer is none, where those that stand in the zone are already these, serials and signatures of the NSEC3 sets
 /// aside, and no two names have one owner.
 ///
+/// # Errors
+///
 /// Refused by `Hash` if `hash` has no digest of a name, else by `OwnerTooLong` if the text of a digest is no label, or makes an
 /// owner longer than a name may be; and by `Memory`.
 pub fn nsec3_sets<H: Nsec3Hash>(
@@ -52,15 +54,35 @@ pub fn nsec3_sets<H: Nsec3Hash>(
     ttl: u32,
     serial: u32,
 ) -> Result<Option<NewSets>, SecureError>
-    ensures made { IfOk result (λ made. IfSome made (λ map. (n : Name) (t : ℕ) → set_at map n t
-        ≡ nsec3_sets_at origin.now records.now (hash_with (H.digest_of hash.now) parameters.now) parameters.now ttl serial n t)) }
-    ensures standing { IfOk result (λ made. IfNone made ((n : Name) → standing_at records.now nsec3_type serial n nsec3_type
-        ≡ nsec3_sets_at origin.now records.now (hash_with (H.digest_of hash.now) parameters.now) parameters.now ttl serial n nsec3_type)) }
-    ensures announced { IfOk result (λ made. IfNone made (set_at records.now origin.now nsec3param_type
-        ≡ nsec3_sets_at origin.now records.now (hash_with (H.digest_of hash.now) parameters.now) parameters.now ttl serial origin.now nsec3param_type)) }
-    ensures fits { OnOk result (nsec3_fault origin.now records.now (hash_with (H.digest_of hash.now) parameters.now) parameters.now.opt_out ≡ None) }
-    ensures err { IfErr result (λ e. (e ≡ SecureError.Memory)
-        ⊎ (nsec3_fault origin.now records.now (hash_with (H.digest_of hash.now) parameters.now) parameters.now.opt_out ≡ Some e)) }
+    ensures made { IfOk result
+        (λ made. IfSome made
+        (λ map. (n : Name) (t : ℕ)
+        → set_at map n t
+        ≡ nsec3_sets_at origin.now records.now
+        (hash_with (H.digest_of hash.now) parameters.now) parameters.now ttl serial
+        n t)) }
+    ensures standing { IfOk result
+        (λ made. IfNone made
+        ((n : Name)
+        → standing_at records.now nsec3_type serial n nsec3_type
+        ≡ nsec3_sets_at origin.now records.now
+        (hash_with (H.digest_of hash.now) parameters.now) parameters.now ttl serial
+        n nsec3_type)) }
+    ensures announced { IfOk result
+        (λ made. IfNone made
+        (set_at records.now origin.now nsec3param_type
+        ≡ nsec3_sets_at origin.now records.now
+        (hash_with (H.digest_of hash.now) parameters.now) parameters.now ttl serial
+        origin.now nsec3param_type)) }
+    ensures fits { OnOk result
+        (nsec3_fault origin.now records.now (hash_with (H.digest_of hash.now) parameters.now)
+        parameters.now.opt_out
+        ≡ None) }
+    ensures err { IfErr result
+        (λ e. (e ≡ SecureError.Memory)
+        ⊎ (nsec3_fault origin.now records.now (hash_with (H.digest_of hash.now) parameters.now)
+        parameters.now.opt_out
+        ≡ Some e)) }
 {
     match nsec3_names(records, origin, parameters.opt_out) {
         Ok(names) => sets_of_names(&names, records, origin, hash, parameters, ttl, serial),
@@ -78,17 +100,39 @@ fn sets_of_names<H: Nsec3Hash>(
     ttl: u32,
     serial: u32,
 ) -> Result<Option<NewSets>, SecureError>
-    requires names { map name_of names.now ≡ nsec3_names origin.now records.now parameters.now.opt_out }
-    requires types { All (λ n. types_of n ≡ nsec3_types origin.now records.now (name_of n)) names.now }
-    ensures made { IfOk result (λ made. IfSome made (λ map. (n : Name) (t : ℕ) → set_at map n t
-        ≡ nsec3_sets_at origin.now records.now (hash_with (H.digest_of hash.now) parameters.now) parameters.now ttl serial n t)) }
-    ensures standing { IfOk result (λ made. IfNone made ((n : Name) → standing_at records.now nsec3_type serial n nsec3_type
-        ≡ nsec3_sets_at origin.now records.now (hash_with (H.digest_of hash.now) parameters.now) parameters.now ttl serial n nsec3_type)) }
-    ensures announced { IfOk result (λ made. IfNone made (set_at records.now origin.now nsec3param_type
-        ≡ nsec3_sets_at origin.now records.now (hash_with (H.digest_of hash.now) parameters.now) parameters.now ttl serial origin.now nsec3param_type)) }
-    ensures fits { OnOk result (nsec3_fault origin.now records.now (hash_with (H.digest_of hash.now) parameters.now) parameters.now.opt_out ≡ None) }
-    ensures err { IfErr result (λ e. (e ≡ SecureError.Memory)
-        ⊎ (nsec3_fault origin.now records.now (hash_with (H.digest_of hash.now) parameters.now) parameters.now.opt_out ≡ Some e)) }
+    requires names { map name_of names.now
+        ≡ nsec3_names origin.now records.now parameters.now.opt_out }
+    requires types { All (λ n. types_of n ≡ nsec3_types origin.now records.now (name_of n))
+        names.now }
+    ensures made { IfOk result
+        (λ made. IfSome made
+        (λ map. (n : Name) (t : ℕ)
+        → set_at map n t
+        ≡ nsec3_sets_at origin.now records.now
+        (hash_with (H.digest_of hash.now) parameters.now) parameters.now ttl serial
+        n t)) }
+    ensures standing { IfOk result
+        (λ made. IfNone made
+        ((n : Name)
+        → standing_at records.now nsec3_type serial n nsec3_type
+        ≡ nsec3_sets_at origin.now records.now
+        (hash_with (H.digest_of hash.now) parameters.now) parameters.now ttl serial
+        n nsec3_type)) }
+    ensures announced { IfOk result
+        (λ made. IfNone made
+        (set_at records.now origin.now nsec3param_type
+        ≡ nsec3_sets_at origin.now records.now
+        (hash_with (H.digest_of hash.now) parameters.now) parameters.now ttl serial
+        origin.now nsec3param_type)) }
+    ensures fits { OnOk result
+        (nsec3_fault origin.now records.now (hash_with (H.digest_of hash.now) parameters.now)
+        parameters.now.opt_out
+        ≡ None) }
+    ensures err { IfErr result
+        (λ e. (e ≡ SecureError.Memory)
+        ⊎ (nsec3_fault origin.now records.now (hash_with (H.digest_of hash.now) parameters.now)
+        parameters.now.opt_out
+        ≡ Some e)) }
 {
     let held = match hashed_names(origin.alloc(), names, hash, parameters) {
         Ok(held) => held,
@@ -115,12 +159,20 @@ fn sets_of_circle(
     requires ascending { IsStrictlySortedBy hashed_cmp (map hashed held.now) }
     ensures made { IfOk result (λ made. IfSome made (λ map. (n : Name) (t : ℕ) → set_at map n t
         ≡ circle_sets_at origin.now records.now parameters.now ttl held.now serial n t)) }
-    ensures standing { IfOk result (λ made. IfNone made ((n : Name) → standing_at records.now nsec3_type serial n nsec3_type
-        ≡ circle_sets_at origin.now records.now parameters.now ttl held.now serial n nsec3_type)) }
-    ensures announced { IfOk result (λ made. IfNone made (set_at records.now origin.now nsec3param_type
-        ≡ circle_sets_at origin.now records.now parameters.now ttl held.now serial origin.now nsec3param_type)) }
+    ensures standing { IfOk result
+        (λ made. IfNone made
+        ((n : Name)
+        → standing_at records.now nsec3_type serial n nsec3_type
+        ≡ circle_sets_at origin.now records.now parameters.now ttl held.now serial n
+        nsec3_type)) }
+    ensures announced { IfOk result
+        (λ made. IfNone made
+        (set_at records.now origin.now nsec3param_type
+        ≡ circle_sets_at origin.now records.now parameters.now ttl held.now serial
+        origin.now nsec3param_type)) }
     ensures fits { OnOk result (all_fit origin.now (map hashed held.now) ≡ true) }
-    ensures err { IfErr result (λ e. (e ≡ ProtoError.Memory) ⊎ (all_fit origin.now (map hashed held.now) ≡ false)) }
+    ensures err { IfErr result
+        (λ e. (e ≡ ProtoError.Memory) ⊎ (all_fit origin.now (map hashed held.now) ≡ false)) }
 {
     if is_announced(records, origin, parameters, ttl, serial)?
         && nsec3_sets_stand(records, held, origin, parameters, ttl)?
@@ -145,11 +197,13 @@ fn with_circle(
     requires ascending { IsStrictlySortedBy hashed_cmp (map hashed held.now) }
     requires key { announced.0 ≡ key_at origin.now nsec3param_type }
     requires stored { IsStoredAt announced.0.name announced.0.record_type.0 announced.1 }
-    ensures ok { IfOk result (λ after. (n : Name) (t : ℕ) → set_at after n t
-        ≡ cond (t == nsec3_type) (circle_set_at origin.now parameters.now ttl held.now serial held.now n)
-        (cond ((t == nsec3param_type) && name_eq n origin.now) (Some announced.1) None)) }
+    ensures ok { IfOk result
+        (λ after. (n : Name) (t : ℕ)
+        → set_at after n t
+        ≡ circle_with origin.now announced.1 parameters.now ttl held.now serial n t) }
     ensures fits { OnOk result (all_fit origin.now (map hashed held.now) ≡ true) }
-    ensures err { IfErr result (λ e. (e ≡ ProtoError.Memory) ⊎ (all_fit origin.now (map hashed held.now) ≡ false)) }
+    ensures err { IfErr result
+        (λ e. (e ≡ ProtoError.Memory) ⊎ (all_fit origin.now (map hashed held.now) ≡ false)) }
 {
     // Its clauses say that the origin is in lower case.
     let _ = origin.labels();
@@ -204,7 +258,8 @@ fn set_before<'e>(
     i: usize,
 ) -> Option<&'e RecordSet>
     requires { i < length held.now }
-    ensures last { IfSome result (λ s. option_map (λ e. e.1) (slice_get entries.now (length entries.now - 1)) ≡ Some s.now) }
+    ensures last { IfSome result
+        (λ s. option_map (λ e. e.1) (slice_get entries.now (length entries.now - 1)) ≡ Some s.now) }
     ensures same { IfSome result (λ s. RepeatsDigest held.now i) }
     ensures none { IfNone result ((entries.now ≡ []) ⊎ ¬ RepeatsDigest held.now i) }
 {
@@ -244,10 +299,15 @@ fn entry_with(
     serial: u32,
 ) -> Result<(RrKey, RecordSet), ProtoError>
     requires { IfSome before (λ s. IsStoredAt (lower new.name) (type_of new.rdata) s.now) }
-    ensures ok { IfOk result (λ e. e ≡ (
-      key_at (lower new.name) (type_of new.rdata),
-      with_taken serial (unwrap_or (option_copied before.entry) (empty_set new.name (type_of new.rdata) serial)) new,
-    )) }
+    ensures ok { IfOk result
+        (λ e. e
+        ≡ (
+          key_at (lower new.name) (type_of new.rdata),
+          with_taken serial
+              (unwrap_or (option_copied before.entry)
+              (empty_set new.name (type_of new.rdata) serial))
+              new,
+        )) }
     ensures stored { IfOk result (λ e. IsStoredAt e.0.name e.0.record_type.0 e.1) }
     ensures err { IsOkUnless result ProtoError.Memory }
 {
@@ -265,7 +325,8 @@ fn copy_or_empty(
     record_type: RecordType,
     serial: u32,
 ) -> Result<RecordSet, ProtoError>
-    ensures { IsCopy result (unwrap_or (option_copied set.entry) (empty_set owner.now record_type.0 serial)) }
+    ensures { IsCopy result
+        (unwrap_or (option_copied set.entry) (empty_set owner.now record_type.0 serial)) }
 {
     match set {
         Some(set) => set.clone(),
@@ -280,7 +341,9 @@ pub(crate) fn next_name<'h, 'n, 'z>(
 ) -> &'h HashedName<'n, 'z>
     requires place { i < length held.now }
     requires ascending { IsStrictlySortedBy hashed_cmp (map hashed held.now) }
-    ensures { hashed result.now ≡ next_around hashed_cmp (map hashed held.now) (hashed (slice_index_or held.now i result.now)) }
+    ensures { hashed result.now
+        ≡ next_around hashed_cmp (map hashed held.now)
+        (hashed (slice_index_or held.now i result.now)) }
 {
     let next = if i + 1 < held.len() { i + 1 } else { 0 };
     &held[next]
@@ -294,7 +357,8 @@ fn nsec3_record(
     parameters: &NSEC3PARAM,
     ttl: u32,
 ) -> Result<Record, ProtoError>
-    ensures ok { IfOk result (λ r. r ≡ linked_record origin.now parameters.now ttl name.now next.now.digest) }
+    ensures ok { IfOk result
+        (λ r. r ≡ linked_record origin.now parameters.now ttl name.now next.now.digest) }
     ensures refusal { TellsFaultOrMemory result (hashed_owner origin.now name.now.digest) }
 {
     let data = NSEC3 {
@@ -326,8 +390,13 @@ fn announced(
     ttl: u32,
     serial: u32,
 ) -> Result<(RrKey, RecordSet), ProtoError>
-    ensures ok { IfOk result (λ e. e
-        ≡ (key_at origin.now nsec3param_type, announced_set origin.now records.now (λ _. None) parameters.now ttl serial)) }
+    ensures ok { IfOk result
+        (λ e. e
+        ≡ (
+          key_at origin.now nsec3param_type,
+          announced_set origin.now records.now (λ _. None)
+              parameters.now ttl serial,
+        )) }
     ensures stored { IfOk result (λ e. IsStoredAt e.0.name e.0.record_type.0 e.1) }
     ensures err { IsOkUnless result ProtoError.Memory }
 {
@@ -344,8 +413,14 @@ pub(crate) fn announcement(
     parameters: &NSEC3PARAM,
     ttl: u32,
 ) -> Result<Record, ProtoError>
-    ensures ok { IfOk result (λ r. r
-        ≡ record { name = origin.now; dns_class = record { 0 = IN }; ttl = ttl; rdata = variant.NSEC3PARAM parameters.now }) }
+    ensures ok { IfOk result
+        (λ r. r
+        ≡ record {
+          name = origin.now;
+          dns_class = record { 0 = IN };
+          ttl = ttl;
+          rdata = variant.NSEC3PARAM parameters.now;
+        }) }
     ensures err { IsOkUnless result ProtoError.Memory }
 {
     let data = RData::NSEC3PARAM(parameters.clone()?);

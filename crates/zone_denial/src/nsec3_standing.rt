@@ -34,9 +34,12 @@ pub(crate) fn nsec3_sets_stand(
     ttl: u32,
 ) -> Result<bool, ProtoError>
     requires ascending { IsStrictlySortedBy hashed_cmp (map hashed held.now) }
-    ensures standing { IfOk result (λ stand. IsTrue stand → (serial : ℕ) (n : Name) → standing_at records.now nsec3_type serial n nsec3_type
+    ensures standing { IfOk result
+        (λ stand. IsTrue stand → (serial : ℕ) (n : Name)
+        → standing_at records.now nsec3_type serial n nsec3_type
         ≡ circle_set_at origin.now parameters.now ttl held.now serial held.now n) }
-    ensures fits { IfOk result (λ stand. IsTrue stand → all_fit origin.now (map hashed held.now) ≡ true) }
+    ensures fits { IfOk result
+        (λ stand. IsTrue stand → all_fit origin.now (map hashed held.now) ≡ true) }
     ensures err { IsOkUnless result ProtoError.Memory }
 {
     // Its clauses say that the origin is in lower case.
@@ -69,9 +72,14 @@ fn is_set_of_name(
     ttl: u32,
 ) -> Result<bool, ProtoError>
     requires { set.now.record_type ≡ nsec3_type }
-    ensures set { IfOk result (λ is. IsTrue is → (serial : ℕ) → renumbered serial set.now
-        ≡ one_record_set nsec3_type ttl serial (hashed_owner origin.now name.now.digest) (variant.NSEC3 (nsec3_data parameters.now next.now.digest (types_of name.now.name.now)))) }
-    ensures fits { IfOk result (λ is. IsTrue is → fault_of (hashed_owner origin.now name.now.digest) ≡ None) }
+    ensures set { IfOk result
+        (λ is. IsTrue is → (serial : ℕ)
+        → renumbered serial set.now
+        ≡ one_record_set nsec3_type ttl serial (hashed_owner origin.now name.now.digest)
+        (variant.NSEC3
+        (nsec3_data parameters.now next.now.digest (types_of name.now.name.now)))) }
+    ensures fits { IfOk result
+        (λ is. IsTrue is → fault_of (hashed_owner origin.now name.now.digest) ≡ None) }
     ensures err { IsOkUnless result ProtoError.Memory }
 {
     match hashed_owner(name.digest.as_slice(), origin) {
@@ -91,8 +99,11 @@ fn is_nsec3_set(
     ttl: u32,
 ) -> bool
     requires { set.now.record_type ≡ nsec3_type }
-    ensures { IsTrue result → (serial : ℕ) → renumbered serial set.now
-        ≡ one_record_set nsec3_type ttl serial owner.now (variant.NSEC3 (nsec3_data parameters.now next.now.digest (types_of name.now.name.now))) }
+    ensures { IsTrue result → (serial : ℕ)
+        → renumbered serial set.now
+        ≡ one_record_set nsec3_type ttl serial owner.now
+        (variant.NSEC3
+        (nsec3_data parameters.now next.now.digest (types_of name.now.name.now))) }
 {
     match only_data(set, owner, ttl) {
         Some(RData::NSEC3(data)) => is_nsec3_data(data, name, next, parameters),
@@ -107,7 +118,8 @@ fn is_nsec3_data(
     next: &HashedName<'_, '_>,
     parameters: &NSEC3PARAM,
 ) -> bool
-    ensures { IsTrue result → «data».now ≡ nsec3_data parameters.now next.now.digest (types_of name.now.name.now) }
+    ensures { IsTrue result
+        → «data».now ≡ nsec3_data parameters.now next.now.digest (types_of name.now.name.now) }
 {
     if !has_parameters(data, parameters) || !has_next(data, next) {
         return false;
@@ -151,8 +163,11 @@ pub(crate) fn is_announced(
     ttl: u32,
     serial: u32,
 ) -> Result<bool, ProtoError>
-    ensures standing { IfOk result (λ is. IsTrue is
-        → set_at records.now origin.now nsec3param_type ≡ Some (announced_set origin.now records.now (λ _. None) parameters.now ttl serial)) }
+    ensures standing { IfOk result
+        (λ is. IsTrue is
+        → set_at records.now origin.now nsec3param_type
+        ≡ Some
+        (announced_set origin.now records.now (λ _. None) parameters.now ttl serial)) }
     ensures err { IsOkUnless result ProtoError.Memory }
 {
     // Its clauses say that the origin is in lower case.

@@ -31,8 +31,15 @@ pub fn nsec_sets(
     ttl: u32,
     serial: u32,
 ) -> Result<Option<NewSets>, ProtoError>
-    ensures made { IfOk result (λ made. IfSome made (λ map. (n : Name) (t : ℕ) → set_at map n t ≡ nsec_set_at origin.now records.now ttl serial n t)) }
-    ensures standing { IfOk result (λ made. IfNone made ((n : Name) (t : ℕ) → standing_at records.now nsec_type serial n t ≡ nsec_set_at origin.now records.now ttl serial n t)) }
+    ensures made { IfOk result
+        (λ made. IfSome made
+        (λ map. (n : Name) (t : ℕ)
+        → set_at map n t ≡ nsec_set_at origin.now records.now ttl serial n t)) }
+    ensures standing { IfOk result
+        (λ made. IfNone made
+        ((n : Name) (t : ℕ)
+        → standing_at records.now nsec_type serial n t
+        ≡ nsec_set_at origin.now records.now ttl serial n t)) }
     ensures err { IsOkUnless result ProtoError.Memory }
 {
     let keys = authoritative_keys(records, origin, RecordType::NSEC)?;
@@ -51,7 +58,8 @@ fn nsec_entries(
     serial: u32,
 ) -> Result<Vec<(RrKey, RecordSet)>, ProtoError>
     requires { IsStrictlySortedBy key_cmp (map (λ k. k.now) keys.now) }
-    ensures ok { IfOk result (λ entries. AreLinked origin.now (map (λ k. k.now) keys.now) ttl serial entries.items) }
+    ensures ok { IfOk result
+        (λ entries. AreLinked origin.now (map (λ k. k.now) keys.now) ttl serial entries.items) }
     ensures err { IsOkUnless result ProtoError.Memory }
 {
     let alloc = origin.alloc();
@@ -87,8 +95,13 @@ fn nsec_entry(
     ttl: u32,
     serial: u32,
 ) -> Result<(RrKey, RecordSet), ProtoError>
-    ensures ok { IfOk result (λ e. e
-        ≡ (key_at name.now nsec_type, new_set ttl serial name.now (nsec_data next.now (map (λ t. t.0) «types»)))) }
+    ensures ok { IfOk result
+        (λ e. e
+        ≡ (
+          key_at name.now nsec_type,
+          new_set ttl serial name.now
+              (nsec_data next.now (map (λ t. t.0) «types»)),
+        )) }
     ensures err { IsOkUnless result ProtoError.Memory }
 {
     let data = NSEC {

@@ -26,7 +26,9 @@ pub(crate) fn nsec_sets_stand(
     ttl: u32,
 ) -> bool
     requires { IsStrictlySortedBy key_cmp (map (λ k. k.now) keys.now) }
-    ensures { IsTrue result → (serial : ℕ) → AreLinked origin.now (map (λ k. k.now) keys.now) ttl serial (standing_sets nsec_type serial records.now) }
+    ensures { IsTrue result → (serial : ℕ)
+        → AreLinked origin.now (map (λ k. k.now) keys.now) ttl serial
+        (standing_sets nsec_type serial records.now) }
 {
     // So that no pass over the zone is made where none can be found.
     if records.is_without(RecordType::NSEC) {
@@ -62,8 +64,12 @@ fn is_nsec_set(
     ttl: u32,
 ) -> bool
     requires { set.now.record_type ≡ nsec_type }
-    ensures { IsTrue result → (serial : ℕ) → renumbered serial set.now
-        ≡ new_set ttl serial name.now (nsec_data next.now (joined nat_cmp nsec_type (joined nat_cmp RRSIG (map (λ k. k.now.record_type.0) keys.now)))) }
+    ensures { IsTrue result → (serial : ℕ)
+        → renumbered serial set.now
+        ≡ new_set ttl serial name.now
+        (nsec_data next.now
+        (joined nat_cmp nsec_type
+        (joined nat_cmp RRSIG (map (λ k. k.now.record_type.0) keys.now)))) }
 {
     match only_data(set, name, ttl) {
         Some(RData::NSEC(data)) => is_nsec_data(data, next, keys),
@@ -73,8 +79,11 @@ fn is_nsec_set(
 
 /// Whether data have this next name and the types of these keys.
 fn is_nsec_data(data: &NSEC, next: &LowerName, keys: &[&RrKey]) -> bool
-    ensures { IsTrue result → «data».now
-        ≡ nsec_data next.now (joined nat_cmp nsec_type (joined nat_cmp RRSIG (map (λ k. k.now.record_type.0) keys.now))) }
+    ensures { IsTrue result
+        → «data».now
+        ≡ nsec_data next.now
+        (joined nat_cmp nsec_type
+        (joined nat_cmp RRSIG (map (λ k. k.now.record_type.0) keys.now))) }
 {
     next.is_exactly(&data.next_domain_name) && lists_types(data.types.as_slice(), keys)
 }

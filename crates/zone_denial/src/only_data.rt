@@ -7,7 +7,10 @@ use zone_proto::{DNSClass, LowerName, RData, Record, RecordSet};
 
 /// The data of a set that has one record, where both are of this owner and TTL and of class IN.
 pub(crate) fn only_data<'s>(set: &'s RecordSet, owner: &LowerName, ttl: u32) -> Option<&'s RData>
-    ensures { IfSome result (λ d. (serial : ℕ) → renumbered serial set.now ≡ one_record_set set.now.record_type ttl serial owner.now d.now) }
+    ensures { IfSome result
+        (λ d. (serial : ℕ)
+        → renumbered serial set.now
+        ≡ one_record_set set.now.record_type ttl serial owner.now d.now) }
 {
     if set.ttl() != ttl || set.dns_class() != DNSClass::IN || !owner.is_exactly(set.name()) {
         return None;

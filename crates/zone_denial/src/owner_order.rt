@@ -1,4 +1,4 @@
-// Sets in the order of their owners.
+//! Sets in the order of their owners.
 ghost use Rattle.std.specs.Prelude.{◌≡◌, ◌≤◌, [], ◌++◌, length, map, IfOk, OnOk, IsOkUnless, option_copied, option_to_list};
 ghost use Rattle.std.specs.List.{prefix_len};
 ghost use Rattle.zone_proto.specs.Order.{is_before};
@@ -15,8 +15,12 @@ pub(crate) fn in_owner_order<'m>(
     second: Option<&'m RecordSet>,
     third: Option<&'m RecordSet>,
 ) -> Result<Vec<&'m RecordSet>, ProtoError>
-    ensures ok { IfOk result (λ sets. map (λ s. s.now) sets.items
-        ≡ in_order owner_cmp (option_to_list (option_copied first.entry) ++ option_to_list (option_copied second.entry) ++ option_to_list (option_copied third.entry))) }
+    ensures ok { IfOk result
+        (λ sets. map (λ s. s.now) sets.items
+        ≡ in_order owner_cmp
+        (option_to_list (option_copied first.entry)
+        ++ option_to_list (option_copied second.entry)
+        ++ option_to_list (option_copied third.entry))) }
     ensures err { IsOkUnless result ProtoError.Memory }
 {
     let mut sets = Vec::new(alloc);
@@ -28,7 +32,9 @@ pub(crate) fn in_owner_order<'m>(
 
 /// Puts a set that may be there into a list in the order of owners.
 fn join_any<'m>(sets: &mut Vec<&'m RecordSet>, set: Option<&'m RecordSet>) -> Result<(), ProtoError>
-    ensures ok { OnOk result (map (λ s. s.now) sets.new.items ≡ joined_any (option_copied set.entry) (map (λ s. s.now) sets.old.items)) }
+    ensures ok { OnOk result
+        (map (λ s. s.now) sets.new.items
+        ≡ joined_any (option_copied set.entry) (map (λ s. s.now) sets.old.items)) }
     ensures err { IsOkUnless result ProtoError.Memory }
 {
     match set {
@@ -39,7 +45,9 @@ fn join_any<'m>(sets: &mut Vec<&'m RecordSet>, set: Option<&'m RecordSet>) -> Re
 
 /// Puts a set into a list in the order of owners, unless its owner has one there.
 fn join<'m>(sets: &mut Vec<&'m RecordSet>, set: &'m RecordSet) -> Result<(), ProtoError>
-    ensures ok { OnOk result (map (λ s. s.now) sets.new.items ≡ joined owner_cmp set.now (map (λ s. s.now) sets.old.items)) }
+    ensures ok { OnOk result
+        (map (λ s. s.now) sets.new.items
+        ≡ joined owner_cmp set.now (map (λ s. s.now) sets.old.items)) }
     ensures err { IsOkUnless result ProtoError.Memory }
 {
     let place = count_before(sets.as_slice(), set);

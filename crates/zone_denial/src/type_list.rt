@@ -38,7 +38,9 @@ pub(crate) fn signed_types(
 
 /// Puts the types of keys that ascend, and RRSIG, each once, in the place of what a list has. Refused by `Memory` alone.
 fn fill_signed(types: &mut Vec<RecordType>, keys: &[&RrKey]) -> Result<(), ProtoError>
-    ensures ok { OnOk result (map (λ t. t.0) types.new.items ≡ joined nat_cmp RRSIG (map (λ k. k.now.record_type.0) keys.now)) }
+    ensures ok { OnOk result
+        (map (λ t. t.0) types.new.items
+        ≡ joined nat_cmp RRSIG (map (λ k. k.now.record_type.0) keys.now)) }
     ensures err { IsOkUnless result ProtoError.Memory }
 {
     types.clear();
@@ -50,7 +52,9 @@ fn fill_signed(types: &mut Vec<RecordType>, keys: &[&RrKey]) -> Result<(), Proto
 
 /// Puts a type into an ascending list, unless it is there.
 fn join(types: &mut Vec<RecordType>, record_type: RecordType) -> Result<(), ProtoError>
-    ensures ok { OnOk result (map (λ t. t.0) types.new.items ≡ joined nat_cmp record_type.0 (map (λ t. t.0) types.old.items)) }
+    ensures ok { OnOk result
+        (map (λ t. t.0) types.new.items
+        ≡ joined nat_cmp record_type.0 (map (λ t. t.0) types.old.items)) }
     ensures err { IsOkUnless result ProtoError.Memory }
 {
     let place = count_below(types.as_slice(), record_type);

@@ -7,7 +7,7 @@ use Rattle.zone_proto.specs.Faults.{fault_of}
 use Rattle.zone_proto.specs.HashedOwners.{hashed_owner, name_or_fault, owner_or_refusal}
 use Rattle.zone_proto.specs.Names.{Name, lower_label}
 use Rattle.zone_proto.specs.Results.{TellsFaultOrMemory}
-use Rattle.zone_proto.proofs.Base32Facts.{lower_text}
+use Rattle.zone_proto.proofs.Ordering.Base32Facts.{lower_text}
 
 -- the name that is made is the owner
 pub made_owner : (zone : Name) (digest : Option (List ℕ)) (d label : List ℕ) (result : Result Name ProtoError)

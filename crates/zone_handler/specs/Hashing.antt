@@ -3,16 +3,12 @@ use Rattle.std.specs.Prelude.{ℕ, List, ◌∷◌, Option, Some, None, Result, 
 use Rattle.zone_proto.specs.declared.error.ProtoError.{ProtoError}
 use Rattle.zone_proto.specs.Faults.{fault_of}
 use Rattle.zone_proto.specs.HashedOwners.{owner_or_refusal}
-use Rattle.zone_proto.specs.Names.{Name, star_label}
+use Rattle.zone_proto.specs.Names.{Name, star_under}
 use Rattle.zone_handler.specs.declared.nsec3_query_info.Nsec3QueryInfo.{Nsec3QueryInfo}
 
 -- of a hash by algorithm, salt, name and iterations, its digest of a name with those that a query has
 abbrev pub digest_for : (ℕ → List ℕ → Name → ℕ → Option (List ℕ)) → Nsec3QueryInfo → Name → Option (List ℕ)
 digest_for digest_of query name = digest_of query.algorithm query.salt.now name query.iterations
-
--- the star under an encloser: `*` before its labels (RFC 4592 section 2.1.1)
-abbrev pub star_of : Name → Name
-star_of encloser = star_label ∷ encloser
 
 -- a result, unless there is a fault
 abbrev pub unless_fault : {A : Type 0} → Option ProtoError → Result A ProtoError → Result A ProtoError
@@ -22,4 +18,4 @@ unless_fault (Some fault) result = Err fault
 -- the hashed owner of the star under an encloser, in the zone of an origin: it is refused where the star is no name, and then as hashed owners are
 abbrev pub star_owner_or_refusal : (ℕ → List ℕ → Name → ℕ → Option (List ℕ)) → Nsec3QueryInfo → Name → Name → Result Name ProtoError
 star_owner_or_refusal digest_of query encloser zone =
-    unless_fault (fault_of (star_of encloser)) (owner_or_refusal zone (digest_for digest_of query (star_of encloser)))
+    unless_fault (fault_of (star_under encloser)) (owner_or_refusal zone (digest_for digest_of query (star_under encloser)))

@@ -1,3 +1,4 @@
+//! What a lookup answers: records, with additional ones, a transfer, or nothing.
 ghost use Rattle.std.specs.Prelude.{◌≡◌, ◌↔◌, [], IsTrue, None};
 ghost use Rattle.std.specs.Option.{option_map};
 ghost use Rattle.zone_handler.specs.Answers.{left_in};

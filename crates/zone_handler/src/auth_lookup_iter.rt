@@ -1,3 +1,4 @@
+//! The records of an answer, one after the other.
 ghost use Rattle.std.specs.Prelude.{◌≡◌, []};
 ghost use Rattle.std.specs.Iterator.{YieldsFirstRef, item_count};
 ghost use Rattle.zone_handler.specs.AuthLookup.{left_of};

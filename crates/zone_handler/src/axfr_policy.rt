@@ -1,3 +1,4 @@
+//! Who may transfer a zone.
 ghost use Rattle.zone_handler.specs.declared.axfr_policy.AxfrPolicy.TheVariants.{Deny};
 ghost use Rattle.std.specs.Prelude.{◌≡◌};
 

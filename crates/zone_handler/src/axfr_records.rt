@@ -1,3 +1,4 @@
+//! The records of a zone that is transferred.
 ghost use Rattle.std.specs.Prelude.{◌≡◌};
 ghost use Rattle.zone_handler.specs.Sets.{without_soa, axfr_records};
 

@@ -1,3 +1,4 @@
+//! The records of a transfer between its two SOA records, one after the other.
 ghost use Rattle.std.specs.Prelude.{◌≡◌};
 ghost use Rattle.std.specs.Iterator.{YieldsFirstRef, item_count};
 ghost use Rattle.zone_handler.specs.Answers.{left_in};

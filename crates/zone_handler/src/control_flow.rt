@@ -1,3 +1,4 @@
+//! An answer, and whether a further handler may be asked.
 ghost use Rattle.std.specs.Prelude.{◌≡◌, Some, IsSome, unwrap_or};
 ghost use Rattle.std.specs.Option.{ForSome};
 ghost use Rattle.zone_handler.specs.ControlFlow.{is_continue, is_break, inner_result, flow_text, ok_value, err_value, KeepsCase, MapsOk, MapsErr};

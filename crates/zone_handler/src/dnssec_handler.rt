@@ -1,3 +1,4 @@
+//! What a zone can be told about its signing.
 ghost use Rattle.std.specs.Prelude.{ℕ, Result};
 ghost use Rattle.zone_handler.specs.declared.key_error.KeyError.{KeyError};
 ghost use Rattle.zone_handler.specs.declared.secure_error.SecureError.{SecureError};

@@ -1,3 +1,4 @@
+//! What each zone answers, wherever its records stand.
 ghost use Rattle.std.specs.Prelude.{◌≡◌, ◌⊎◌, ℕ, Bool, Option, Result, IsTrue};
 ghost use Rattle.std.specs.Option.{option_map, option_copied};
 ghost use Rattle.zone_proto.specs.Names.{Name};
@@ -53,26 +54,37 @@ pub trait ZoneHandler {
 
     // The handler before an update that a request asks for at a moment, the answer, and the handler after it: what may come
     // besides a refusal as not implemented.
-    ghost update_gives: { Self → Request → ℕ → Result Bool ResponseCode × Option TSigResponseContext → Self → Type 0 } = { λ _ _ _ _ _. ⊥ };
+    ghost update_gives: { Self → Request → ℕ
+        → Result Bool ResponseCode × Option TSigResponseContext
+        → Self → Type 0 } = { λ _ _ _ _ _. ⊥ };
 
     // Which steps may answer a lookup of a name and a type number, with the options, at a moment.
-    ghost lookup_gives: { Self → Name → ℕ → LookupOptions → ℕ → LookupControlFlow AuthLookup LookupError → Type 0 };
+    ghost lookup_gives: { Self → Name → ℕ → LookupOptions → ℕ
+        → LookupControlFlow AuthLookup LookupError → Type 0 };
 
     // For a name and a type number, the request's question if there is a request, the options and the step so far: what may
     // be answered besides that step.
-    ghost consult_gives: { Self → Name → ℕ → Option Query → LookupOptions → LookupControlFlow AuthLookup LookupError → LookupControlFlow AuthLookup LookupError × Option TSigResponseContext → Type 0 } = { λ _ _ _ _ _ _ _. ⊥ };
+    ghost consult_gives: { Self → Name → ℕ → Option Query → LookupOptions
+        → LookupControlFlow AuthLookup LookupError
+        → LookupControlFlow AuthLookup LookupError × Option TSigResponseContext
+        → Type 0 } = { λ _ _ _ _ _ _ _. ⊥ };
 
     // What may answer a search for a request, with the options, at a moment.
-    ghost search_gives: { Self → Request → LookupOptions → ℕ → LookupControlFlow AuthLookup LookupError × Option TSigResponseContext → Type 0 };
+    ghost search_gives: { Self → Request → LookupOptions → ℕ
+        → LookupControlFlow AuthLookup LookupError × Option TSigResponseContext → Type 0 };
 
     // Which steps may answer a query for the NSEC records that deny a name, with the options.
-    ghost denial_gives: { Self → Name → LookupOptions → LookupControlFlow AuthLookup LookupError → Type 0 };
+    ghost denial_gives: { Self → Name → LookupOptions
+        → LookupControlFlow AuthLookup LookupError → Type 0 };
 
     // Which steps may answer what asks for the NSEC3 records that deny a query, with the options.
-    ghost hashed_denial_gives: { Self → Nsec3QueryInfo → LookupOptions → LookupControlFlow AuthLookup LookupError → Type 0 };
+    ghost hashed_denial_gives: { Self → Nsec3QueryInfo → LookupOptions
+        → LookupControlFlow AuthLookup LookupError → Type 0 };
 
     // What may answer a request for the whole zone, with the options, at a moment, besides a refusal as not implemented.
-    ghost transfer_gives: { Self → Request → LookupOptions → ℕ → Option (Result ZoneTransfer LookupError × Option TSigResponseContext) → Type 0 } = { λ _ _ _ _ _. ⊥ };
+    ghost transfer_gives: { Self → Request → LookupOptions → ℕ
+        → Option (Result ZoneTransfer LookupError × Option TSigResponseContext)
+        → Type 0 } = { λ _ _ _ _ _. ⊥ };
 
     /// What the server is to this zone.
     fn zone_type(&self) -> ZoneType
@@ -148,7 +160,9 @@ pub trait ZoneHandler {
         last_result: LookupControlFlow<AuthLookup>,
     ) -> (LookupControlFlow<AuthLookup>, Option<TSigResponseContext>)
         ensures { IsHandedOn last_result result
-            ⊎ consult_gives self.now name.now record_type.0 (option_map (λ info. info.now.query.now) request_info.entry) lookup_options last_result result }
+            ⊎ consult_gives self.now name.now record_type.0
+            (option_map (λ info. info.now.query.now) request_info.entry) lookup_options
+            last_result result }
     {
         (last_result, None)
     }
@@ -197,7 +211,8 @@ pub trait ZoneHandler {
             Option<TSigResponseContext>,
         ),
     >
-        ensures { IsNoTransfer result ⊎ transfer_gives self.now request.now lookup_options now result }
+        ensures { IsNoTransfer result
+            ⊎ transfer_gives self.now request.now lookup_options now result }
     {
         Some((Err(LookupError::from(ResponseCode::NotImp)), None))
     }

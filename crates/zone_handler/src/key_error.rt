@@ -1,3 +1,4 @@
+//! Why a signing key was refused.
 /// Why a signer isn't added to a zone.
 #[derive(Clone, Copy, PartialEq, Eq, Debug)]
 pub enum KeyError {

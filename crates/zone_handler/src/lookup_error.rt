@@ -1,3 +1,4 @@
+//! Why a lookup has no records to answer.
 ghost use Rattle.std.specs.Prelude.{◌≡◌, ◌↔◌, IsTrue, IsSome, option_and_then};
 ghost use Rattle.std.specs.Option.{option_map, option_copied};
 ghost use Rattle.zone_handler.specs.Errors.{is_nx_domain, no_records_of};
@@ -71,8 +72,9 @@ impl LookupError {
 
     /// The authority records of the negative response that this is, if it is one and kept them.
     pub fn authorities(&self) -> Option<&[Record]>
-        ensures { option_copied result ≡
-            option_and_then (λ found. option_map (λ list. list.items) found.authorities) (no_records_of self.now) }
+        ensures { option_copied result
+            ≡ option_and_then (λ found. option_map (λ list. list.items) found.authorities)
+            (no_records_of self.now) }
     {
         match self {
             LookupError::NetError(NetError::NoRecordsFound(found)) => {

@@ -1,3 +1,4 @@
+//! What a client asks for beside the records: DNSSEC (RFC 3225).
 ghost use Rattle.std.specs.Prelude.{◌≡◌, true, false};
 ghost use Rattle.std.specs.Option.{option_map_or};
 ghost use Rattle.zone_proto.specs.Sets.{lent};

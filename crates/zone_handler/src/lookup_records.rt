@@ -1,3 +1,4 @@
+//! The record sets of one section of an answer.
 ghost use Rattle.std.specs.Prelude.{◌≡◌, ◌↔◌, [], IsTrue};
 ghost use Rattle.zone_handler.specs.Sets.{set_records, sets_records};
 ghost use Rattle.zone_handler.specs.Answers.{records_in, left_in, sets_in, KeepsMany};

@@ -1,3 +1,4 @@
+//! Why a forwarded lookup has no records.
 ghost use Rattle.std.specs.Prelude.{◌≡◌, ◌↔◌, IsTrue, IsSome};
 ghost use Rattle.zone_handler.specs.Errors.{no_records_of_net, is_nx_domain_net};
 

@@ -1,3 +1,4 @@
+//! What an NSEC3 denial is asked for (RFC 5155 section 7.2).
 ghost use Rattle.std.specs.Prelude.{◌≡◌, ◌⊎◌, Some, None, Ok, Err, IfOk, IfErr};
 ghost use Rattle.zone_proto.specs.HashedOwners.{owner_or_refusal};
 ghost use Rattle.zone_handler.specs.Hashing.{digest_for, star_owner_or_refusal};
@@ -26,9 +27,12 @@ impl Nsec3QueryInfo<'_> {
     ///
     /// Refused as `hash` refuses: by `Hash` only where it has no digest, and by `Memory`.
     pub fn hash_name<H: Nsec3Hash>(&self, hash: &H, name: &LowerName) -> Result<Vec<u8>, ProtoError>
-        ensures ok { IfOk result (λ d. digest_for (H.digest_of hash.now) self.now name.now ≡ Some d.items) }
-        ensures err { IfErr result (λ e. (e ≡ ProtoError.Memory)
-            ⊎ ((e ≡ ProtoError.Hash) × (digest_for (H.digest_of hash.now) self.now name.now ≡ None))) }
+        ensures ok { IfOk result
+            (λ d. digest_for (H.digest_of hash.now) self.now name.now ≡ Some d.items) }
+        ensures err { IfErr result
+            (λ e. (e ≡ ProtoError.Memory)
+            ⊎ ((e ≡ ProtoError.Hash)
+            × (digest_for (H.digest_of hash.now) self.now name.now ≡ None))) }
     {
         hash.hash(self.algorithm, self.salt, name, self.iterations)
     }
@@ -45,10 +49,14 @@ impl Nsec3QueryInfo<'_> {
         name: &LowerName,
         zone: &LowerName,
     ) -> Result<LowerName, ProtoError>
-        ensures ok { IfOk result (λ owner.
-            owner_or_refusal zone.now (digest_for (H.digest_of hash.now) self.now name.now) ≡ Ok owner) }
-        ensures err { IfErr result (λ e. (e ≡ ProtoError.Memory)
-            ⊎ (owner_or_refusal zone.now (digest_for (H.digest_of hash.now) self.now name.now) ≡ Err e)) }
+        ensures ok { IfOk result
+            (λ owner. owner_or_refusal zone.now
+            (digest_for (H.digest_of hash.now) self.now name.now)
+            ≡ Ok owner) }
+        ensures err { IfErr result
+            (λ e. (e ≡ ProtoError.Memory)
+            ⊎ (owner_or_refusal zone.now (digest_for (H.digest_of hash.now) self.now name.now)
+            ≡ Err e)) }
     {
         let digest = self.hash_name(hash, name)?;
         let label = base32_dnssec(zone.alloc(), &digest)?;
@@ -66,10 +74,13 @@ impl Nsec3QueryInfo<'_> {
         encloser: &LowerName,
         zone: &LowerName,
     ) -> Result<LowerName, ProtoError>
-        ensures ok { IfOk result (λ owner.
-            star_owner_or_refusal (H.digest_of hash.now) self.now encloser.now zone.now ≡ Ok owner) }
-        ensures err { IfErr result (λ e. (e ≡ ProtoError.Memory)
-            ⊎ (star_owner_or_refusal (H.digest_of hash.now) self.now encloser.now zone.now ≡ Err e)) }
+        ensures ok { IfOk result
+            (λ owner. star_owner_or_refusal (H.digest_of hash.now) self.now encloser.now zone.now
+            ≡ Ok owner) }
+        ensures err { IfErr result
+            (λ e. (e ≡ ProtoError.Memory)
+            ⊎ (star_owner_or_refusal (H.digest_of hash.now) self.now encloser.now zone.now
+            ≡ Err e)) }
     {
         let star = encloser.prepend_label(b"*")?;
         self.hashed_owner_name(hash, &star, zone)

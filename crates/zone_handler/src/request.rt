@@ -1,3 +1,4 @@
+//! A request as a zone sees it: its questions.
 ghost use Rattle.std.specs.Prelude.{◌≡◌, ◌↔◌, ◌∷◌, [], length, IsOk, IfOk, IfErr};
 
 use crate::lookup_error::LookupError;
@@ -17,7 +18,8 @@ impl Request {
     pub fn request_info(&self) -> Result<RequestInfo<'_>, LookupError>
         ensures one { IsOk result ↔ (length self.now.queries.items ≡ 1) }
         ensures ok { IfOk result (λ info. self.now.queries.items ≡ info.query.now ∷ []) }
-        ensures err { IfErr result (λ error. error ≡ LookupError.BadQueryCount (length self.now.queries.items)) }
+        ensures err { IfErr result
+            (λ error. error ≡ LookupError.BadQueryCount (length self.now.queries.items)) }
     {
         match self.queries.as_slice() {
             [query] => Ok(RequestInfo { query }),

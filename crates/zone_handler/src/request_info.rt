@@ -1,3 +1,4 @@
+//! The one question of a request.
 use zone_proto::Query;
 
 /// What a handler is told of the request that a lookup serves.

@@ -1,3 +1,4 @@
+//! Why a zone could not be secured.
 /// Why a zone isn't secured. Where there are several causes, the first of them here is told; `Memory` may come instead of any
 /// but `TimeOutOfRange`. `CnameAtOrigin`, `Hash` and `OwnerTooLong` are of zones that are denied by NSEC3 (RFC 5155).
 #[derive(Clone, Copy, PartialEq, Eq, Debug)]

@@ -1,3 +1,4 @@
+//! The records of several sets, one set after the other.
 ghost use Rattle.std.specs.Prelude.{◌≡◌, ◌↔◌, [], reverse, IsNone, IfSome};
 ghost use Rattle.std.specs.Iterator.{YieldsFirstRef, item_count};
 ghost use Rattle.zone_handler.specs.Sets.{sets_records};

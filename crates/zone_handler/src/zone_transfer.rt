@@ -1,3 +1,4 @@
+//! A zone as a transfer hands it out (RFC 5936).
 ghost use Rattle.std.specs.Prelude.{◌≡◌};
 ghost use Rattle.zone_handler.specs.Transfers.{transfer_records};
 

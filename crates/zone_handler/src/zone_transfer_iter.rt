@@ -1,3 +1,4 @@
+//! The records of a transfer in the order in which they are sent.
 ghost use Rattle.std.specs.Prelude.{◌≡◌, ◌++◌};
 ghost use Rattle.std.specs.Iterator.{YieldsFirstRef, item_count};
 ghost use Rattle.zone_handler.specs.Answers.{left_in};

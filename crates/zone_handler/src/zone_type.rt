@@ -1,3 +1,4 @@
+//! Where the records of a zone come from.
 use serde::{Deserialize, Serialize};
 
 /// What the server is to the zone (RFC 9499 section 6).

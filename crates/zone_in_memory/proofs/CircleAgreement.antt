@@ -1,9 +1,9 @@
 -- How lookups and denials agree with a circle of NSEC sets
-use Rattle.std.proofs.Common.{◌≡◌, ◌⊎◌, inl, inr, ℕ, Bool, ◌||◌, true, false, List, refl, sym, ap, ◌∙◌, subst, IsTrue, true≢false}
+use Rattle.std.proofs.Common.{◌≡◌, ◌⊎◌, inl, inr, ℕ, Bool, ◌||◌, true, false, List, refl, sym, ◌∙◌, subst, IsTrue, true≢false}
 use Rattle.std.specs.Prelude.{None, Ok, Err, Result, IsFalse}
 use Rattle.std.specs.Prelude.{cond}
 use Rattle.zone_proto.specs.declared.record.Record.{Record}
-use Rattle.zone_proto.specs.Names.{Name, is_at_or_above}
+use Rattle.zone_proto.specs.Names.{Name, is_at_or_above, is_wildcard, star_under}
 use Rattle.zone_proto.specs.Sets.{RRset}
 use Rattle.zone_proto.specs.Types.{NSEC, NSEC3}
 use Rattle.zone_handler.specs.declared.auth_lookup.AuthLookup.{AuthLookup}
@@ -14,31 +14,30 @@ use Rattle.zone_handler.specs.declared.lookup_error.LookupError.{LookupError}
 use Rattle.zone_handler.specs.declared.lookup_error.LookupError.TheVariants as error
 use Rattle.zone_handler.specs.declared.lookup_options.LookupOptions.{LookupOptions}
 use Rattle.zone_handler.specs.declared.lookup_records.LookupRecords.{LookupRecords}
-use Rattle.zone_handler.specs.Answers.{sets_in}
 use Rattle.zone_map.specs.AnyTypes.{searched_type}
-use Rattle.zone_map.specs.Wildcards.{asked_star_exists, found, is_starred, star_under}
+use Rattle.zone_map.specs.Wildcards.{asked_star_exists, found}
 use Rattle.zone_map.specs.Zones.{Sets, owns, owns_at_or_below}
 use Rattle.zone_denial.specs.NsecDenial.{nsec_encloser, nsec_denial}
 use Rattle.zone_denial.specs.NsecLaws.{IsNsecZone, HasOwnOrCover}
 use Rattle.zone_denial.specs.StarLaws.{OwnsNone, StarIsDenied}
-use Rattle.zone_denial.proofs.NsecAskedStar.{absent_star_is_denied}
-use Rattle.zone_denial.proofs.NsecClosest.{finds_or_covers}
-use Rattle.zone_denial.proofs.NsecLists.{lists_all_owned, denials_agree}
-use Rattle.zone_denial.proofs.NsecBelow.{no_next_below, next_below_empty}
-use Rattle.zone_denial.proofs.NsecStar.{proves_star}
-use Rattle.zone_search.specs.Replies.{Denial, name_exists, nx_domain, refused, denial, answered, denied, IsReplyFor}
-use Rattle.zone_search.proofs.DeniedReplies.{reply_denies}
+use Rattle.zone_denial.proofs.Chain.NsecAskedStar.{absent_star_is_denied}
+use Rattle.zone_denial.proofs.Chain.NsecClosest.{finds_or_covers}
+use Rattle.zone_denial.proofs.Chain.NsecLists.{lists_all_owned, denials_agree}
+use Rattle.zone_denial.proofs.Chain.NsecBelow.{no_next_below, next_below_empty}
+use Rattle.zone_denial.proofs.Chain.NsecStar.{proves_star}
+use Rattle.zone_inner.specs.Replies.{NegativeAnswer, name_exists, nx_domain, refused, negative_answer, answered, negative, IsReplyFor}
+use Rattle.zone_inner.proofs.NegativeReplies.{reply_is_negative}
 use Rattle.zone_acceptance.specs.Acceptance.{IsAccepted}
 use Rattle.zone_acceptance.specs.Judged.{read, IsJudged}
-use Rattle.zone_acceptance.proofs.EmptyAnswers.{denial_accepted}
+use Rattle.zone_acceptance.proofs.Accepted.{denial_accepted}
 use Rattle.zone_in_memory.specs.Lookup.{error_of, SaysOrMemory, IsNameError}
 use Rattle.zone_in_memory.specs.NsecAnswers.{IsDenialSection, IsNsecProof, HasNsecProof, HasStarProof, HasAcceptedRecords, AgreesWithCircle}
 
 -- the step that denies
-abbrev denies : Denial → LookupControlFlow AuthLookup LookupError
+abbrev denies : NegativeAnswer → LookupControlFlow AuthLookup LookupError
 denies d = Continue (Err (error_of d))
 
-same_denial : (d e : Denial) → denies d ≡ denies e → d ≡ e
+same_denial : (d e : NegativeAnswer) → denies d ≡ denies e → d ≡ e
 same_denial name_exists name_exists h = refl
 same_denial nx_domain nx_domain h = refl
 same_denial refused refused h = refl
@@ -49,17 +48,17 @@ same_denial nx_domain refused h = cc
 same_denial refused name_exists h = cc
 same_denial refused nx_domain h = cc
 
-memory_apart : (d : Denial) → denies d ≡ Continue (Err error.Memory) → ⊥
+memory_apart : (d : NegativeAnswer) → denies d ≡ Continue (Err error.Memory) → ⊥
 memory_apart name_exists h = cc
 memory_apart nx_domain h = cc
 memory_apart refused h = cc
 
 module _ (sign : RRset → List Record) (origin : Name) (m : Sets) (options : LookupOptions) (n : Name) (t : ℕ) where
   -- a step that denies is that of a reply that does, which says what was found, nothing, and which denial it is
-  pub of_step : (d : Denial) (step : LookupControlFlow AuthLookup LookupError) → SaysOrMemory options (IsReplyFor sign origin m options.dnssec_ok n (searched_type m n t)) step → step ≡ denies d
-      → (found m options.dnssec_ok n (searched_type m n t) ≡ None) × (denial origin m n ≡ d)
+  pub of_step : (d : NegativeAnswer) (step : LookupControlFlow AuthLookup LookupError) → SaysOrMemory options (IsReplyFor sign origin m options.dnssec_ok n (searched_type m n t)) step → step ≡ denies d
+      → (found m options.dnssec_ok n (searched_type m n t) ≡ None) × (negative_answer origin m n ≡ d)
   of_step d step (inr e) is = absurd (memory_apart d (sym is ∙ e))
-  of_step d step (inl (denied e, reply, says)) is = reply_denies sign origin m options.dnssec_ok n (searched_type m n t) d (subst (λ x. IsReplyFor sign origin m options.dnssec_ok n (searched_type m n t) (denied x)) (same_denial e d (sym says ∙ is)) reply)
+  of_step d step (inl (negative e, reply, says)) is = reply_is_negative sign origin m options.dnssec_ok n (searched_type m n t) d (subst (λ x. IsReplyFor sign origin m options.dnssec_ok n (searched_type m n t) (negative x)) (same_denial e d (sym says ∙ is)) reply)
   of_step d step (inl (answered answers more, reply, (a, says, has))) is = absurd (let e = sym says ∙ is in cc)
 
 -- a name error says that neither the name nor a name below it owns a set, that no star that is asked for it exists, and that it is the zone's
@@ -68,7 +67,7 @@ pub record IsNameAbsent (origin : Name) (m : Sets) (n : Name) : Type 0 where
   pub no_star : asked_star_exists m n ≡ false
   pub inside : IsTrue (is_at_or_above origin n)
 
-pub name_absent : (origin : Name) (m : Sets) (n : Name) → denial origin m n ≡ nx_domain → IsNameAbsent origin m n
+pub name_absent : (origin : Name) (m : Sets) (n : Name) → negative_answer origin m n ≡ nx_domain → IsNameAbsent origin m n
 name_absent origin m n e =
     let r = by (owns_at_or_below m n) (asked_star_exists m n) (is_at_or_above origin n) e in
     record { unowned = r.0; no_star = r.1; inside = r.2 }
@@ -102,7 +101,7 @@ module _ (origin : Name) (m : Sets) (circle : IsNsecZone origin m) where
       }
 
   -- where it answers by a name error, the denial says that there is no star
-  pub absent_star_agrees : (sign : RRset → List Record) (options : LookupOptions) (n : Name) (t : ℕ) (step : LookupControlFlow AuthLookup LookupError) → OwnsNone m NSEC3 → IsFalse (is_starred n)
+  pub absent_star_agrees : (sign : RRset → List Record) (options : LookupOptions) (n : Name) (t : ℕ) (step : LookupControlFlow AuthLookup LookupError) → OwnsNone m NSEC3 → IsFalse (is_wildcard n)
       → SaysOrMemory options (IsReplyFor sign origin m options.dnssec_ok n (searched_type m n t)) step → IsNameError step → StarIsDenied origin m n
   absent_star_agrees sign options n t step none plain says e =
       let absent = of_name_error sign origin m options n t step says e in
@@ -120,24 +119,22 @@ module _ (origin : Name) (m : Sets) (circle : IsNsecZone origin m) where
         empty = λ none below uncut. next_below_empty origin m circle n inside none below uncut;
       }
 
-  -- and so do the sets of the answer that is given
+  -- and so do the sets of the answer
   pub answer_proves : (options : LookupOptions) (n : Name) (step : LookupControlFlow AuthLookup LookupError) → IsTrue (is_at_or_above origin n)
       → ((s : LookupRecords) × (step ≡ Continue (Ok (answer.Records s None))) × IsDenialSection origin m options n s) ⊎ (step ≡ Continue (Err error.Memory)) → HasNsecProof origin m n step
-  answer_proves options n step inside (inl (s, is, section)) t e = let same : s ≡ t = cc in subst (IsNsecProof origin m n) (sym section.sets ∙ ap sets_in same) (denial_proves n inside)
-  answer_proves options n step inside (inr is) t e = absurd cc
+  answer_proves options n step inside (inl (s, is, section)) = inl (s, is, subst (IsNsecProof origin m n) (sym section.sets) (denial_proves n inside))
+  answer_proves options n step inside (inr is) = inr is
 
   -- of a name off the circle they prove the star under the closest encloser
   pub star_proves : (options : LookupOptions) (n : Name) (step : LookupControlFlow AuthLookup LookupError) → IsTrue (is_at_or_above origin n) → IsFalse (owns m n NSEC)
       → ((s : LookupRecords) × (step ≡ Continue (Ok (answer.Records s None))) × IsDenialSection origin m options n s) ⊎ (step ≡ Continue (Err error.Memory)) → HasStarProof origin m n step
-  star_proves options n step inside off (inl (s, is, section)) t e =
-      let same : s ≡ t = cc in
-      subst (HasOwnOrCover m (star_under (nsec_encloser origin m n))) (sym section.sets ∙ ap sets_in same) (proves_star origin m circle n inside off)
-  star_proves options n step inside off (inr is) t e = absurd cc
+  star_proves options n step inside off (inl (s, is, section)) =
+      inl (s, is, subst (HasOwnOrCover m (star_under (nsec_encloser origin m n))) (sym section.sets) (proves_star origin m circle n inside off))
+  star_proves options n step inside off (inr is) = inr is
 
--- a validator accepts the records of the answer that is given
+-- a validator accepts the records of the answer
 pub answer_accepted : (origin : Name) (m : Sets) (options : LookupOptions) (n : Name) (step : LookupControlFlow AuthLookup LookupError) → IsJudged origin m n
     → ((s : LookupRecords) × (step ≡ Continue (Ok (answer.Records s None))) × IsDenialSection origin m options n s) ⊎ (step ≡ Continue (Err error.Memory)) → HasAcceptedRecords origin m n step
-answer_accepted origin m options n step judged (inl (s, is, section)) t e =
-    let same : s ≡ t = cc in
-    subst (λ sets. IsAccepted origin m n (read sets)) (sym section.sets ∙ ap sets_in same) (denial_accepted origin m n judged)
-answer_accepted origin m options n step judged (inr is) t e = absurd cc
+answer_accepted origin m options n step judged (inl (s, is, section)) =
+    inl (s, is, subst (λ sets. IsAccepted origin m n (read sets)) (sym section.sets) (denial_accepted origin m n judged))
+answer_accepted origin m options n step judged (inr is) = inr is

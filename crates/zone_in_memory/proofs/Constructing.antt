@@ -4,9 +4,9 @@ use Rattle.std.specs.Cmp.{both_ways}
 use Rattle.std.specs.Ordering.{eq_by_cmp, is_eq}
 use Rattle.std.proofs.lemmas.Cmp.{tied_itself}
 use Rattle.zone_proto.specs.Names.{Name, name_cmp, name_eq}
-use Rattle.zone_proto.proofs.KeyOrder.{equal_of}
-use Rattle.zone_proto.proofs.NameTree.{name_eq-Decides}
-use Rattle.zone_proto.proofs.Tree.{name_order}
+use Rattle.zone_proto.proofs.Ordering.KeyOrder.{equal_of}
+use Rattle.zone_proto.proofs.Names.NameTree.{name_eq-Decides}
+use Rattle.zone_proto.proofs.Names.Tree.{name_order}
 
 -- names that neither stands before the other are the same, and no others
 pub tied_are_same : (a b : Name) → eq_by_cmp name_cmp a b ≡ name_eq a b

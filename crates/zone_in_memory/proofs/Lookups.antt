@@ -1,5 +1,5 @@
 -- How a lookup says what is found, and that what is owned is answered
-use Rattle.std.proofs.Common.{◌≡◌, ℕ, true, List, refl, sym, ap, true≢false, inl, inr, subst}
+use Rattle.std.proofs.Common.{◌≡◌, ℕ, ◌||◌, Bool, true, false, List, refl, sym, ap, ◌∙◌, true≢false, inl, inr, subst}
 use Rattle.std.specs.Prelude.{Option, Some, None, Ok, Err, is_some, MatchOption}
 use Rattle.zone_proto.specs.declared.record.Record.{Record}
 use Rattle.zone_proto.specs.Names.{Name}
@@ -9,13 +9,15 @@ use Rattle.zone_handler.specs.declared.control_flow.LookupControlFlow.{LookupCon
 use Rattle.zone_handler.specs.declared.control_flow.LookupControlFlow.TheVariants.{Continue}
 use Rattle.zone_handler.specs.declared.lookup_error.LookupError.{LookupError}
 use Rattle.zone_handler.specs.declared.lookup_options.LookupOptions.{LookupOptions}
-use Rattle.zone_map.specs.Zones.{Sets, owns}
-use Rattle.zone_map.specs.Wildcards.{found}
+use Rattle.zone_map.specs.Zones.{Sets, owns, owns_at_or_below}
+use Rattle.zone_map.specs.Wildcards.{exists, asked_star_exists, found}
 use Rattle.zone_map.specs.AnyTypes.{searched_type}
-use Rattle.zone_search.specs.Flattening.{last_set, beside}
-use Rattle.zone_search.specs.Replies.{denial, Reply, answered, denied, answer_sets, answer_section, IsAnswer, IsReplyFor, SaysAnswer}
+use Rattle.zone_inner.specs.Flattening.{last_set, beside}
+use Rattle.zone_inner.specs.FoundSets.{exists_or_star}
+use Rattle.zone_inner.specs.Replies.{negative_answer, is_present, Reply, answered, negative, answer_sets, answer_section, IsAnswer, IsReplyFor, SaysAnswer}
 use Rattle.zone_in_memory.specs.Lookup.{error_of, Says, SaysOrMemory, IsAnswered}
 use Rattle.zone_map.proofs.AnyTypes.{found_owned, searched_owned}
+use Rattle.zone_map.proofs.ExistingNames.{owned_where_existing}
 
 module _ (sign : RRset → List Record) (m : Sets) (n : Name) (t : ℕ) (options : LookupOptions) where
   -- a query for what is owned is answered
@@ -27,7 +29,7 @@ module _ (sign : RRset → List Record) (m : Sets) (n : Name) (t : ℕ) (options
       told : (r q : Reply) → r ≡ q → Says options r step → Says options q step
       told r q e s = subst (λ x. Says options x step) e s
 
-      by : (o : Option RRset) → is_some o ≡ true → MatchOption o (r ≡ denied (denial origin m n)) (λ s. IsAnswer sign m options.dnssec_ok n (searched_type m n t) s r) → IsAnswered step
+      by : (o : Option RRset) → is_some o ≡ true → MatchOption o (r ≡ negative (negative_answer origin m n)) (λ s. IsAnswer sign m options.dnssec_ok n (searched_type m n t) s r) → IsAnswered step
       by None k i = absurd (true≢false (sym k))
       by (Some s) k i =
           let a = told r (answered (answer_section sign m options.dnssec_ok n (searched_type m n t) s i.more) (beside (searched_type m n t) (last_set (answer_sets m options.dnssec_ok n (searched_type m n t) s)) i.more)) i.sections says in
@@ -37,10 +39,38 @@ module _ (sign : RRset → List Record) (m : Sets) (n : Name) (t : ℕ) (options
   pub says_found : (origin : Name) (s : RRset) (a : AuthLookup) → found m options.dnssec_ok n t ≡ Some s → SaysAnswer options (IsAnswer sign m options.dnssec_ok n t s) a
       → SaysOrMemory options (IsReplyFor sign origin m options.dnssec_ok n t) (Continue (Ok a))
   says_found origin s a f (answers, more, is, has) =
-      inl (answered answers more, subst (λ o. MatchOption o (answered answers more ≡ denied (denial origin m n)) (λ s. IsAnswer sign m options.dnssec_ok n t s (answered answers more))) (sym f) is, (a, refl, has))
+      inl (answered answers more, subst (λ o. MatchOption o (answered answers more ≡ negative (negative_answer origin m n)) (λ s. IsAnswer sign m options.dnssec_ok n t s (answered answers more))) (sym f) is, (a, refl, has))
 
   -- and none is denied
-  pub says_none : (origin : Name) (e : LookupError) → found m options.dnssec_ok n t ≡ None → e ≡ error_of (denial origin m n)
+  pub says_none : (origin : Name) (e : LookupError) → found m options.dnssec_ok n t ≡ None → e ≡ error_of (negative_answer origin m n)
       → SaysOrMemory options (IsReplyFor sign origin m options.dnssec_ok n t) (Continue (Err e))
   says_none origin e f q =
-      inl (denied (denial origin m n), subst (λ o. MatchOption o (denied (denial origin m n) ≡ denied (denial origin m n)) (λ s. IsAnswer sign m options.dnssec_ok n t s (denied (denial origin m n)))) (sym f) refl, ap (λ x. Continue (Err x)) q)
+      inl (negative (negative_answer origin m n), subst (λ o. MatchOption o (negative (negative_answer origin m n) ≡ negative (negative_answer origin m n)) (λ s. IsAnswer sign m options.dnssec_ok n t s (negative (negative_answer origin m n)))) (sym f) refl, ap (λ x. Continue (Err x)) q)
+
+-- ---- names without the type
+
+either : (b c : Bool) → b || c ≡ false → c ≡ false
+either false false h = refl
+either false true h = cc
+either true c h = cc
+
+-- a name is there where it, or the star that is asked for it, exists
+pub existing_is_present : (m : Sets) (n : Name) → exists_or_star m n ≡ true → is_present m n ≡ true
+existing_is_present m n h = by (exists m n) refl (owns_at_or_below m n) refl
+  where
+    by : (b : Bool) → exists m n ≡ b → (o : Bool) → owns_at_or_below m n ≡ o → is_present m n ≡ true
+    by b e true o = ap (λ x. x || asked_star_exists m n) o
+    by true e false o = absurd (true≢false (sym (owned_where_existing n m e) ∙ o))
+    by false e false o = ap (λ x. x || asked_star_exists m n) o ∙ ap (λ x. x || asked_star_exists m n) (sym e) ∙ h
+
+-- and where neither does, no such star exists
+pub no_star_exists : (m : Sets) (n : Name) → exists_or_star m n ≡ false → asked_star_exists m n ≡ false
+no_star_exists m n h = either (exists m n) (asked_star_exists m n) h
+
+-- without one, a name is there where it, or a name below it, owns a set
+pub present_by_owned : (m : Sets) (n : Name) → asked_star_exists m n ≡ false → is_present m n ≡ owns_at_or_below m n
+present_by_owned m n h = ap (λ x. owns_at_or_below m n || x) h ∙ alone (owns_at_or_below m n)
+  where
+    alone : (b : Bool) → b || false ≡ b
+    alone true = refl
+    alone false = refl

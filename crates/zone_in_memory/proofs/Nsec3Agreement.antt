@@ -1,10 +1,10 @@
 -- How lookups agree with a circle of NSEC3 sets
 use Rattle.std.proofs.Common.{◌≡◌, inl, inr, ℕ, Bool, List, true, false, IsTrue, sym, ap, subst, ◌∙◌, true≢false}
-use Rattle.std.specs.Prelude.{Option, Result, Ok, IsFalse}
+use Rattle.std.specs.Prelude.{Option, Result, Ok, Err, IsFalse}
 use Rattle.zone_proto.specs.declared.rdata.denial.NSEC3PARAM.{NSEC3PARAM as Nsec3Parameters}
 use Rattle.zone_proto.specs.declared.error.ProtoError.{ProtoError}
 use Rattle.zone_proto.specs.declared.record.Record.{Record}
-use Rattle.zone_proto.specs.Names.{Name, is_at_or_above}
+use Rattle.zone_proto.specs.Names.{Name, is_at_or_above, is_wildcard}
 use Rattle.zone_proto.specs.Sets.{RRset}
 use Rattle.zone_proto.specs.Types.{NSEC}
 use Rattle.zone_handler.specs.declared.auth_lookup.AuthLookup.{AuthLookup}
@@ -12,27 +12,26 @@ use Rattle.zone_handler.specs.declared.control_flow.LookupControlFlow.{LookupCon
 use Rattle.zone_handler.specs.declared.control_flow.LookupControlFlow.TheVariants.{Break}
 use Rattle.zone_handler.specs.declared.lookup_error.LookupError.{LookupError}
 use Rattle.zone_handler.specs.declared.lookup_options.LookupOptions.{LookupOptions}
-use Rattle.zone_handler.specs.declared.lookup_records.LookupRecords.{LookupRecords}
 use Rattle.zone_handler.specs.declared.nsec3_query_info.Nsec3QueryInfo.{Nsec3QueryInfo}
 use Rattle.zone_handler.specs.Answers.{sets_in}
 use Rattle.zone_handler.specs.Hashing.{digest_for}
 use Rattle.zone_map.specs.AnyTypes.{searched_type}
-use Rattle.zone_map.specs.Wildcards.{is_starred}
 use Rattle.zone_map.specs.Zones.{Sets}
 use Rattle.zone_denial.specs.Nsec3Denial.{nsec3_denial}
 use Rattle.zone_denial.specs.Nsec3Laws.{FindsOrEncloses, ProvesStar}
 use Rattle.zone_denial.specs.Nsec3Lent.{hashed_for, query_denial}
 use Rattle.zone_denial.specs.Nsec3Zones.{IsCircleName, IsHashed, IsNsec3Zone, TellsApart}
 use Rattle.zone_denial.specs.StarLaws.{OwnsNone, Nsec3StarIsDenied}
-use Rattle.zone_denial.proofs.Nsec3AskedStar.{absent_star_is_denied}
-use Rattle.zone_denial.proofs.Nsec3Encloses.{finds_or_encloses}
-use Rattle.zone_denial.proofs.Nsec3Star.{proves_star}
-use Rattle.zone_denial.proofs.Nsec3Lists.{lists_all_owned, denials_agree}
-use Rattle.zone_search.specs.Replies.{name_exists, nx_domain, IsReplyFor}
-use Rattle.zone_acceptance.specs.Nsec3Acceptance.{IsNsec3Accepted, ProvesAskedStar}
+use Rattle.zone_denial.proofs.Hashed.Nsec3AskedStar.{absent_star_is_denied}
+use Rattle.zone_denial.proofs.Hashed.Nsec3Encloses.{finds_or_encloses}
+use Rattle.zone_denial.proofs.Hashed.Nsec3Star.{proves_star}
+use Rattle.zone_denial.proofs.Hashed.Nsec3Lists.{lists_all_owned, denials_agree}
+use Rattle.zone_inner.specs.Replies.{name_exists, nx_domain, IsReplyFor}
+use Rattle.zone_acceptance.specs.Nsec3Acceptance.{IsNsec3Accepted, IsAskedStarAccepted}
 use Rattle.zone_acceptance.specs.Nsec3Judged.{read_nsec3_sets}
-use Rattle.zone_acceptance.proofs.Nsec3EmptyAnswers.{nsec3_denial_accepted, nsec3_wildcard_answer_accepted}
+use Rattle.zone_acceptance.proofs.Nsec3Accepted.{nsec3_denial_accepted, nsec3_wildcard_answer_accepted}
 use Rattle.zone_in_memory.specs.Lookup.{SaysOrMemory, IsNameError}
+use Rattle.zone_in_memory.specs.AnsweredSets.{AnswersSetsOrMemory}
 use Rattle.zone_in_memory.specs.Handlers.{Zone}
 use Rattle.zone_in_memory.specs.Nsec3Answers.{HasNsec3Proof, HasNsec3StarProof, HasAcceptedNsec3Records, HasAskedStarProof, AgreesWithNsec3Circle}
 use Rattle.zone_in_memory.specs.Nsec3Steps.{IsNsec3Answer}
@@ -52,7 +51,7 @@ module _ (origin : Name) (m : Sets) (hash : Name → Option (List ℕ)) (paramet
 
   -- where it answers by a name error, the denial says that there is no star, without opt-out
   pub nsec3_absent_star_agrees : (sign : RRset → List Record) (options : LookupOptions) (n : Name) (t : ℕ) (step : LookupControlFlow AuthLookup LookupError) → IsFalse parameters.opt_out → OwnsNone m NSEC
-      → TellsApart (IsHashed origin m parameters.opt_out n) hash → IsFalse (is_starred n) → SaysOrMemory options (IsReplyFor sign origin m options.dnssec_ok n (searched_type m n t)) step → IsNameError step
+      → TellsApart (IsHashed origin m parameters.opt_out n) hash → IsFalse (is_wildcard n) → SaysOrMemory options (IsReplyFor sign origin m options.dnssec_ok n (searched_type m n t)) step → IsNameError step
       → Nsec3StarIsDenied origin m hash parameters.opt_out n
   nsec3_absent_star_agrees sign options n t step all_in none apart plain says e =
       let absent = of_name_error sign origin m options n t step says e in
@@ -70,57 +69,55 @@ module _ {S H : Type 0} (digest_of : H → ℕ → List ℕ → Name → ℕ →
   abbrev x : Name
   x = query.qname.now
 
-  given : (a b : List RRset) → ◌≡◌ {A = Result (List RRset) ProtoError} (Ok a) (Ok b) → a ≡ b
-  given a b e = cc
+  -- a denial of the query is its answer's sets, so that none of its names is refused
+  module _ (P : List RRset → Type 0) (wildcard : Bool) (is : query.has_wildcard_match ≡ wildcard)
+      (law : (answer : List RRset) × (nsec3_denial zone.inner.records (hashed_for zone.origin (digest_of zone.hash) query) wildcard x ≡ Ok answer) × P answer)
+    where
+      given : query_denial (digest_of zone.hash) zone.origin zone.inner.records query ≡ Ok law.0
+      given = ap (λ w. nsec3_denial zone.inner.records (hashed_for zone.origin (digest_of zone.hash) query) w x) is ∙ law.1
 
-  -- the sets of the answer that is given are those of a denial of the same query
-  same_sets : (answer sets : List RRset) (s t : LookupRecords) → nsec3_denial zone.inner.records (hashed_for zone.origin (digest_of zone.hash) query) false x ≡ Ok answer → query.has_wildcard_match ≡ false
-      → query_denial (digest_of zone.hash) zone.origin zone.inner.records query ≡ Ok sets → sets_in s ≡ sets → s ≡ t → answer ≡ sets_in t
-  same_sets answer sets s t is plain denial has section =
-      let same : ◌≡◌ {A = Result (List RRset) ProtoError} (Ok answer) (Ok sets) = sym is ∙ ap (λ w. nsec3_denial zone.inner.records (hashed_for zone.origin (digest_of zone.hash) query) w x) (sym plain) ∙ denial in
-      given answer sets same ∙ sym has ∙ ap sets_in section
+      same : (a b : List RRset) → ◌≡◌ {A = Result (List RRset) ProtoError} (Ok a) (Ok b) → a ≡ b
+      same a b e = cc
+
+      refused : (refusal : ProtoError) (sets : List RRset) → ◌≡◌ {A = Result (List RRset) ProtoError} (Err refusal) (Ok sets) → ⊥
+      refused refusal sets e = cc
+
+      pub answers : (step : LookupControlFlow AuthLookup LookupError) → IsNsec3Answer digest_of zone query options step → AnswersSetsOrMemory P step
+      answers step (inl (sets, denial, (s, is, has, kept))) = inl (s, is, subst P (same law.0 sets (sym given ∙ denial) ∙ sym has) law.2)
+      answers step (inr (inl (refusal, denial, is))) = absurd (refused refusal law.0 (sym denial ∙ given))
+      answers step (inr (inr is)) = inr is
 
   pub nsec3_answer_proves : (step : LookupControlFlow AuthLookup LookupError) → IsNsec3Answer digest_of zone query options step
       → (parameters : Nsec3Parameters) → IsNsec3Zone zone.origin zone.inner.records hash parameters → query.has_wildcard_match ≡ false → IsTrue (is_at_or_above zone.origin x)
       → TellsApart (IsHashed zone.origin zone.inner.records parameters.opt_out x) hash → HasNsec3Proof zone.origin zone.inner.records hash parameters.opt_out x step
-  nsec3_answer_proves step (inl (sets, denial, (s, is, has, kept))) parameters circle plain inside apart t e =
-      let law = finds_or_encloses zone.origin zone.inner.records hash parameters circle x inside apart in
-      let section : s ≡ t = cc in
-      subst (FindsOrEncloses zone.origin zone.inner.records hash parameters.opt_out x) (same_sets law.0 sets s t law.1 plain denial has section) law.2
-  nsec3_answer_proves step (inr (inl (refusal, denial, is))) parameters circle plain inside apart t e = absurd cc
-  nsec3_answer_proves step (inr (inr is)) parameters circle plain inside apart t e = absurd cc
+  nsec3_answer_proves step is parameters circle plain inside apart =
+      answers (FindsOrEncloses zone.origin zone.inner.records hash parameters.opt_out x) false plain (finds_or_encloses zone.origin zone.inner.records hash parameters circle x inside apart) step is
 
   pub nsec3_star_proves : (step : LookupControlFlow AuthLookup LookupError) → IsNsec3Answer digest_of zone query options step
       → (parameters : Nsec3Parameters) → IsNsec3Zone zone.origin zone.inner.records hash parameters → query.has_wildcard_match ≡ false → IsTrue (is_at_or_above zone.origin x)
       → TellsApart (IsHashed zone.origin zone.inner.records parameters.opt_out x) hash → (IsCircleName zone.origin zone.inner.records parameters.opt_out x → ⊥)
       → HasNsec3StarProof zone.origin zone.inner.records hash parameters.opt_out x step
-  nsec3_star_proves step (inl (sets, denial, (s, is, has, kept))) parameters circle plain inside apart off t e =
-      let law = proves_star zone.origin zone.inner.records hash parameters circle x inside apart off in
-      let section : s ≡ t = cc in
-      subst (ProvesStar zone.origin zone.inner.records hash parameters.opt_out x) (same_sets law.0 sets s t law.1 plain denial has section) law.2
-  nsec3_star_proves step (inr (inl (refusal, denial, is))) parameters circle plain inside apart off t e = absurd cc
-  nsec3_star_proves step (inr (inr is)) parameters circle plain inside apart off t e = absurd cc
+  nsec3_star_proves step is parameters circle plain inside apart off =
+      answers (ProvesStar zone.origin zone.inner.records hash parameters.opt_out x) false plain (proves_star zone.origin zone.inner.records hash parameters circle x inside apart off) step is
+
+  -- a validator accepts their records
+  pub nsec3_answer_accepted : (step : LookupControlFlow AuthLookup LookupError) → IsNsec3Answer digest_of zone query options step → query.has_wildcard_match ≡ false
+      → HasAcceptedNsec3Records digest_of zone query step
+  nsec3_answer_accepted step is plain parameters judged =
+      let law = finds_or_encloses zone.origin zone.inner.records hash parameters judged.zone x judged.inside judged.apart in
+      answers (λ sets. IsNsec3Accepted zone.origin zone.inner.records hash parameters.opt_out x (read_nsec3_sets sets)) false plain
+      (law.0, law.1, nsec3_denial_accepted zone.origin zone.inner.records hash parameters x judged law.0 law.1) step is
 
   -- the denial of the query is one of the sets that are given
   denied_sets : (sets : List RRset) (wildcard : Bool) → query.has_wildcard_match ≡ wildcard → query_denial (digest_of zone.hash) zone.origin zone.inner.records query ≡ Ok sets
       → nsec3_denial zone.inner.records (hashed_for zone.origin (digest_of zone.hash) query) wildcard x ≡ Ok sets
   denied_sets sets wildcard is denial = ap (λ w. nsec3_denial zone.inner.records (hashed_for zone.origin (digest_of zone.hash) query) w x) (sym is) ∙ denial
 
-  -- a validator accepts their records
-  pub nsec3_answer_accepted : (step : LookupControlFlow AuthLookup LookupError) → IsNsec3Answer digest_of zone query options step → query.has_wildcard_match ≡ false
-      → HasAcceptedNsec3Records digest_of zone query step
-  nsec3_answer_accepted step (inl (sets, denial, (s, is, has, kept))) plain parameters judged t e =
-      let law = nsec3_denial_accepted zone.origin zone.inner.records hash parameters x judged sets (denied_sets sets false plain denial) in
-      let section : s ≡ t = cc in
-      subst (λ sets. IsNsec3Accepted zone.origin zone.inner.records hash parameters.opt_out x (read_nsec3_sets sets)) (sym has ∙ ap sets_in section) law
-  nsec3_answer_accepted step (inr (inl (refusal, denial, is))) plain parameters judged t e = absurd cc
-  nsec3_answer_accepted step (inr (inr is)) plain parameters judged t e = absurd cc
-
   pub nsec3_asked_star_proves : (step : LookupControlFlow AuthLookup LookupError) → IsNsec3Answer digest_of zone query options step → query.has_wildcard_match ≡ true
       → HasAskedStarProof digest_of zone query step
   nsec3_asked_star_proves step (inl (sets, denial, (s, is, has, kept))) wildcard parameters judged t e =
       let law = nsec3_wildcard_answer_accepted zone.origin zone.inner.records hash parameters x judged sets (denied_sets sets true wildcard denial) in
       let section : s ≡ t = cc in
-      subst (λ sets. ProvesAskedStar zone.origin zone.inner.records hash x (read_nsec3_sets sets)) (sym has ∙ ap sets_in section) law
+      subst (λ sets. IsAskedStarAccepted zone.origin zone.inner.records hash parameters.opt_out x (read_nsec3_sets sets)) (sym has ∙ ap sets_in section) law
   nsec3_asked_star_proves step (inr (inl (refusal, denial, is))) wildcard parameters judged t e = absurd cc
   nsec3_asked_star_proves step (inr (inr is)) wildcard parameters judged t e = absurd cc

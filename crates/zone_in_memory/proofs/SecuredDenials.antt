@@ -8,16 +8,16 @@ use Rattle.zone_proto.specs.declared.rdata.denial.NSEC3PARAM.{NSEC3PARAM as Nsec
 use Rattle.zone_proto.specs.Names.{Name, name_eq}
 use Rattle.zone_proto.specs.Sets.{RRset}
 use Rattle.zone_proto.specs.Types.{CNAME, NSEC, NSEC3, NSEC3PARAM}
-use Rattle.zone_proto.proofs.NameTree.{name_eq-Decides}
+use Rattle.zone_proto.proofs.Names.NameTree.{name_eq-Decides}
 use Rattle.zone_handler.specs.declared.secure_error.SecureError.{SecureError}
 use Rattle.zone_handler.specs.declared.secure_error.SecureError.TheVariants as error
 use Rattle.zone_map.specs.Upserts.{is_denial_type}
 use Rattle.zone_map.specs.Zones.{Sets, set_at, owns}
 use Rattle.zone_denial.specs.NsecSets.{nsec_set_at}
-use Rattle.zone_denial.specs.Nsec3Sets.{nsec3_sets_at, nsec3_set_at, announced_set, nsec3_fault}
+use Rattle.zone_denial.specs.Nsec3Sets.{nsec3_set_at, announced_set, nsec3_fault}
 use Rattle.zone_denial.specs.Nsec3Zones.{hash_with}
-use Rattle.zone_search.specs.Securing.{with_denials, with_nsec3_sets, denial_fault}
-use Rattle.zone_search.specs.StartOfAuthority.{minimum, serial}
+use Rattle.zone_inner.specs.Securing.{with_denials, with_nsec3_sets, denial_fault}
+use Rattle.zone_inner.specs.StartOfAuthority.{minimum, serial}
 
 -- the set at the origin that tells the parameters of NSEC3
 abbrev pub is_announced : Name → Name → ℕ → Bool

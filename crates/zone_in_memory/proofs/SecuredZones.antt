@@ -1,6 +1,6 @@
 -- A zone that is secured
 use Rattle.std.proofs.Common.{◌≡◌, ◌≢◌, ℕ, ◌≤◌, ◌<◌, ◌⊎◌, inl, inr, Bool, true, false, List, [], ◌∷◌, refl, sym, ap, ◌∙◌, subst, arith, true≢false, eq-eqb}
-use Rattle.std.specs.Prelude.{◌==◌, cond, Option, Some, None, Result, Ok, Err, IfErr, OnOk, OnErr, is_some, option_map, option_and_then, if◌then◌else◌}
+use Rattle.std.specs.Prelude.{◌==◌, Option, Some, None, Result, Ok, Err, IfErr, OnOk, OnErr, is_some, option_map, option_and_then, if◌then◌else◌}
 use Rattle.zone_proto.specs.declared.nx_proof_kind.NxProofKind.{NxProofKind}
 use Rattle.zone_proto.specs.declared.nx_proof_kind.NxProofKind.TheVariants as kind
 use Rattle.zone_proto.specs.declared.rdata.RData.{RData}
@@ -15,24 +15,24 @@ use Rattle.zone_proto.specs.Sets.{RRset}
 use Rattle.zone_proto.specs.Signing.{SignedPart}
 use Rattle.zone_proto.specs.Stepping.{stepped, stepped_soa, stepped_data, stepped_records}
 use Rattle.zone_proto.specs.Types.{SOA, CNAME, NSEC, NSEC3, NSEC3PARAM}
-use Rattle.zone_proto.proofs.KeyOrder.{key_itself, key_same}
+use Rattle.zone_proto.proofs.Ordering.KeyOrder.{key_itself, key_same}
 use Rattle.zone_handler.specs.declared.secure_error.SecureError.{SecureError}
 use Rattle.zone_handler.specs.declared.secure_error.SecureError.TheVariants as secure_error
 use Rattle.zone_map.specs.Upserts.{is_denial_type, CnamesStandAlone}
 use Rattle.zone_map.specs.Zones.{Sets, set_at, owns, IsZone}
 use Rattle.zone_denial.specs.Authority.{owns_besides}
 use Rattle.zone_denial.specs.NsecLaws.{IsNsecZone}
-use Rattle.zone_denial.specs.Nsec3Sets.{HasNsec3Sets, nsec3_fault}
+use Rattle.zone_denial.specs.Nsec3Sets.{HasNsec3Sets}
 use Rattle.zone_denial.specs.Nsec3Zones.{hash_with, IsCircleName, IsNsec3Zone, TellsApart}
-use Rattle.zone_denial.proofs.AuthoritativeNames.{same_besides}
-use Rattle.zone_denial.proofs.NsecSecured.{secured_is_circle}
-use Rattle.zone_denial.proofs.Nsec3Secured.{secured_is_nsec3_circle}
+use Rattle.zone_denial.proofs.Names.AuthoritativeNames.{same_besides}
+use Rattle.zone_denial.proofs.Chain.NsecSecured.{secured_is_circle}
+use Rattle.zone_denial.proofs.Hashed.Nsec3Secured.{secured_is_nsec3_circle}
 use Rattle.zone_signing.specs.Secured.{signed, secured_set, SetsBy, IsSecured}
 use Rattle.zone_signing.specs.Signatures.{last_moment}
 use Rattle.zone_signing.proofs.SecuredSets.{IsSecured-keeps}
-use Rattle.zone_search.specs.Inner.{Inner}
-use Rattle.zone_search.specs.Securing.{denied_by, nsec3_kind, with_denials, denial_fault}
-use Rattle.zone_search.specs.StartOfAuthority.{soa, soa_of, first_soa, minimum, serial}
+use Rattle.zone_inner.specs.Inner.{Inner}
+use Rattle.zone_inner.specs.Securing.{denied_by, nsec3_kind, with_denials, denial_fault}
+use Rattle.zone_inner.specs.StartOfAuthority.{soa, soa_of, first_soa, minimum, serial}
 use Rattle.zone_in_memory.specs.Handlers.{Zone}
 use Rattle.zone_in_memory.specs.Signing.{IsSecuring}
 use Rattle.zone_in_memory.proofs.SecuredDenials.{keeps_others, keeps_beside, nsec_keeps, nsec3_keeps, nsec3_made, nsec3_announced}
@@ -127,16 +127,9 @@ module _ {S : Type 0} (signature_of : S → SignedPart → ℕ → ℕ → Optio
           announced = owned-signed (Some (nsec3_kind p)) h origin NSEC3PARAM ∙ ap is_some (nsec3_announced digest_of origin before p);
         }
 
-    names_fit : denial_fault digest_of origin before (Some (nsec3_kind p)) ≡ None → nsec3_fault origin before (hash_with digest_of p) p.opt_out ≡ None
-    names_fit = by (owns before origin CNAME) (nsec3_fault origin before (hash_with digest_of p) p.opt_out)
-      where
-        by : (owned : Bool) (fault : Option SecureError) → cond owned (Some secure_error.CnameAtOrigin) fault ≡ None → fault ≡ None
-        by true fault e = absurd cc
-        by false fault e = e
-
-    IsNsec3Zone-secured : IsZone after → origin ≢ [] → denial_fault digest_of origin before (Some (nsec3_kind p)) ≡ None → TellsApart (IsCircleName origin before p.opt_out) (hash_with digest_of p) → IsNsec3Zone origin after (hash_with digest_of p) p
-    IsNsec3Zone-secured fresh below_root fits apart =
-        secured_is_nsec3_circle origin before after (hash_with digest_of p) p (minimum before origin) (serial before origin) below_root fresh HasNsec3Sets-secured (names_fit fits) apart
+    IsNsec3Zone-secured : IsZone after → origin ≢ [] → TellsApart (IsCircleName origin before p.opt_out) (hash_with digest_of p) → IsNsec3Zone origin after (hash_with digest_of p) p
+    IsNsec3Zone-secured fresh below_root apart =
+        secured_is_nsec3_circle origin before after (hash_with digest_of p) p (minimum before origin) (serial before origin) below_root fresh HasNsec3Sets-secured apart
 
 -- what a call does that swaps the secured sets in, or leaves all as it was
 module _ {S H : Type 0} (signature_of : S → SignedPart → ℕ → ℕ → Option RRSIG) (digest_of : H → ℕ → List ℕ → Name → ℕ → Option (List ℕ)) (old : Zone S H) (now : ℕ) (after : Inner S) where
@@ -161,8 +154,7 @@ module _ {S H : Type 0} (signature_of : S → SignedPart → ℕ → ℕ → Opt
         records = IsSecured-keeps signature_of now old.origin old.inner.signers sets after.records h;
         circle = λ due. IsNsecZone-secured signature_of now (digest_of old.hash) old.origin old.inner.signers before after.records (by due.made) lowered zone fresh due.origin;
         hashed_circle = λ p due.
-            IsNsec3Zone-secured signature_of now (digest_of old.hash) old.origin old.inner.signers before after.records p (by due.made) fresh due.below_root
-            (subst (λ k. denial_fault (digest_of old.hash) old.origin before k ≡ None) due.made fits) due.apart;
+            IsNsec3Zone-secured signature_of now (digest_of old.hash) old.origin old.inner.signers before after.records p (by due.made) fresh due.below_root due.apart;
         serial = soa-secured signature_of now (digest_of old.hash) old.origin old.inner.signers before after.records kind_of_denials h;
         rest = ap (λ (ss : List S). record old { inner = record { records = after.records; signers = ss } }) signers;
         cnames = alone-secured signature_of now (digest_of old.hash) old.origin old.inner.signers before after.records kind_of_denials h fits;

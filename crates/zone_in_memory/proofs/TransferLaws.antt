@@ -7,7 +7,6 @@ use Rattle.std.specs.List.{AllByRecursion, Contains, IsDistinct}
 use Rattle.std.specs.List.Sorted.{IsStrictlySortedBy}
 use Rattle.std.specs.Map.{keys_of, values_of, lookup}
 use Rattle.std.proofs.lemmas.Cmp.{tied_itself}
-use Rattle.std.proofs.lemmas.List.{append-nil}
 use Rattle.std.proofs.lemmas.Map.Keys.{sorted_head, sorted_tail, IsDistinct-from_apart}
 use Rattle.zone_proto.specs.declared.rdata.RData.{RData}
 use Rattle.zone_proto.specs.declared.rdata.RData.TheVariants as V
@@ -20,10 +19,10 @@ use Rattle.zone_proto.specs.Order.{least}
 use Rattle.zone_proto.specs.Records.{same_record}
 use Rattle.zone_proto.specs.Sets.{RRset, IsSet, lent, lent_lists, is_single}
 use Rattle.zone_proto.specs.Types.{NS, CNAME, SOA, ANAME}
-use Rattle.zone_proto.proofs.KeyLaws.{key_cmp_total}
-use Rattle.zone_proto.proofs.KeyOrder.{equal_of, key_same, key_itself}
+use Rattle.zone_proto.proofs.Ordering.KeyLaws.{key_cmp_total}
+use Rattle.zone_proto.proofs.Ordering.KeyOrder.{equal_of, key_same, key_itself}
 use Rattle.zone_proto.proofs.Members.{In, In-Contains, Contains-In, In-filter, In-from_filter, In-map, In-from_map, In-flat_map, In-from_flat_map, and_left, and_right, not_true}
-use Rattle.zone_proto.proofs.Tree.{name_order}
+use Rattle.zone_proto.proofs.Names.Tree.{name_order}
 use Rattle.zone_handler.specs.declared.lookup_options.LookupOptions.{LookupOptions}
 use Rattle.zone_handler.specs.declared.lookup_records.LookupRecords.{LookupRecords}
 use Rattle.zone_handler.specs.declared.zone_transfer.ZoneTransfer.{ZoneTransfer}
@@ -31,15 +30,15 @@ use Rattle.zone_handler.specs.Answers.{records_in}
 use Rattle.zone_handler.specs.Sets.{set_records, sets_records, axfr_records}
 use Rattle.zone_handler.specs.Transfers.{transfer_records}
 use Rattle.zone_map.specs.Chains.{chain}
-use Rattle.zone_map.specs.Search.{is_address, is_delegated, is_delegated_for, nearest_delegation, referral, referral_at, exact}
+use Rattle.zone_map.specs.Direct.{is_address, is_delegated, is_delegated_for, nearest_delegation, referral, referral_at, exact}
 use Rattle.zone_map.specs.Wildcards.{found, wildcard}
 use Rattle.zone_map.specs.Zones.{Sets, set_at, owns, IsStoredAt, IsZone}
 use Rattle.zone_map.proofs.Delegations.{found_above}
-use Rattle.zone_search.specs.Flattening.{last_set, stands_for_addresses, alone}
-use Rattle.zone_search.specs.Replies.{one_set, chained, denied, denial, is_followed, answer_section, IsAnswer, KeepsAnswers}
+use Rattle.zone_inner.specs.Flattening.{last_set, stands_for_addresses, alone}
+use Rattle.zone_inner.specs.Replies.{one_set, chained, negative, negative_answer, is_followed, answer_section, IsAnswer, KeepsAnswers}
 use Rattle.zone_in_memory.specs.Transfers.{plain, HasAnswers, IsSoaPart, IsTransfer}
 use Rattle.zone_in_memory.specs.TransferLaws.{HasSoa}
-use Rattle.zone_search.proofs.Replies.{stays_alone}
+use Rattle.zone_inner.proofs.Replies.{stays_alone}
 
 refuted : (b : Bool) → (b ≡ true → ⊥) → b ≡ false
 refuted true h = absurd (h refl)
@@ -247,7 +246,7 @@ module _ (m : Sets) (origin : Name) (s : RRset) (zone : IsZone m) (soa : HasSoa 
   -- a part lists the SOA set
   pub part_records : (sign : LookupOptions → RRset → List Record) (options : LookupOptions) (part : LookupRecords) → IsSoaPart sign origin m options part → records_in part ≡ lent s options.dnssec_ok
   part_records sign options part (r, reply, has) =
-      let a = subst (λ o. MatchOption o (r ≡ denied (denial origin m origin)) (λ s. IsAnswer (sign options) m options.dnssec_ok origin SOA s r)) (found_soa options.dnssec_ok) reply in
+      let a = subst (λ o. MatchOption o (r ≡ negative (negative_answer origin m origin)) (λ s. IsAnswer (sign options) m options.dnssec_ok origin SOA s r)) (found_soa options.dnssec_ok) reply in
       let followed : is_followed SOA s ≡ false = ap (λ t. (t == CNAME) && not (SOA == CNAME)) typed in
       let flattened : stands_for_addresses SOA s ≡ false = ap (λ t. (t == ANAME) && is_address SOA) typed in
       let shown : answer_section (sign options) m options.dnssec_ok origin SOA s a.more ≡ one_set s =

@@ -12,7 +12,7 @@ use Rattle.zone_handler.specs.declared.lookup_options.LookupOptions.{LookupOptio
 use Rattle.zone_handler.specs.declared.lookup_records.LookupRecords.{LookupRecords}
 use Rattle.zone_handler.specs.declared.lookup_records.LookupRecords.TheVariants as section
 use Rattle.zone_handler.specs.AuthLookup.{zone_answers}
-use Rattle.zone_search.specs.Replies.{Reply, denied, answered, KeepsAnswers}
+use Rattle.zone_inner.specs.Replies.{Reply, negative, answered, KeepsAnswers}
 use Rattle.zone_in_memory.specs.Lookup.{SaysOrMemory}
 use Rattle.zone_in_memory.specs.Transfers.{refusal, HasAnswers}
 
@@ -26,7 +26,7 @@ module _ (options : LookupOptions) (IsTheReply : Reply → Type 0) where
   -- the answer section of an answer
   pub part_answered : (a : AuthLookup) → SaysOrMemory options IsTheReply (Continue (Ok a)) → (r : Reply) × IsTheReply r × HasAnswers options r (zone_answers a)
   part_answered a (inr e) = absurd cc
-  part_answered a (inl (denied d, is, says)) = absurd cc
+  part_answered a (inl (negative d, is, says)) = absurd cc
   part_answered a (inl (answered answers more, is, (b, e, (kept, additionals, f, keeps, may)))) =
       let same : a ≡ answer.Records kept additionals = cc in
       (answered answers more, is, subst (KeepsAnswers options answers) (sym (ap zone_answers same)) keeps)
@@ -34,7 +34,7 @@ module _ (options : LookupOptions) (IsTheReply : Reply → Type 0) where
   -- that of a negative answer
   none_denied : (e : LookupError) → e ≢ error.Memory → SaysOrMemory options IsTheReply (Continue (Err e)) → (r : Reply) × IsTheReply r × HasAnswers options r section.Empty
   none_denied e h (inr f) = absurd (h (cc))
-  none_denied e h (inl (denied d, is, says)) = (denied d, is, refl)
+  none_denied e h (inl (negative d, is, says)) = (negative d, is, refl)
   none_denied e h (inl (answered answers more, is, says)) = absurd (let f = says.1 in cc)
 
   pub part_denied : (r : Result LookupRecords LookupError) (e : LookupError) → IfOk r (λ s. (s ≡ section.Empty) × (e ≢ error.Memory)) → SaysOrMemory options IsTheReply (Continue (Err e))

@@ -14,11 +14,11 @@ use Rattle.zone_handler.specs.declared.lookup_error.LookupError.TheVariants as e
 use Rattle.zone_handler.specs.declared.lookup_options.LookupOptions.{LookupOptions}
 use Rattle.zone_handler.specs.Transfers.{IsNoLookup}
 use Rattle.zone_signing.specs.Signatures.{answer_signatures}
-use Rattle.zone_search.specs.Replies.{Denial, name_exists, nx_domain, refused, Reply, denied, answered, IsReply, HasSections}
+use Rattle.zone_inner.specs.Replies.{NegativeAnswer, name_exists, nx_domain, refused, Reply, negative, answered, IsReply, HasSections}
 use Rattle.zone_in_memory.specs.Handlers.{Zone}
 
 -- the negative answers as errors
-abbrev pub error_of : Denial → LookupError
+abbrev pub error_of : NegativeAnswer → LookupError
 error_of name_exists = error.NameExists
 error_of nx_domain = error.ResponseCode code.NXDomain
 error_of refused = error.ResponseCode code.Refused
@@ -29,7 +29,7 @@ IsNameError step = step ≡ Continue (Err (error_of nx_domain))
 
 -- how a step of a chain of handlers says a reply
 abbrev pub Says : LookupOptions → Reply → LookupControlFlow AuthLookup LookupError → Type 0
-Says options (denied d) step = step ≡ Continue (Err (error_of d))
+Says options (negative d) step = step ≡ Continue (Err (error_of d))
 Says options (answered answers more) step = (a : AuthLookup) × (step ≡ Continue (Ok a)) × HasSections options answers more a
 
 -- it says the reply, or that no memory was found

@@ -19,18 +19,19 @@ use Rattle.zone_handler.specs.Hashing.{digest_for}
 use Rattle.zone_map.specs.Zones.{Sets, owns}
 use Rattle.zone_denial.specs.Nsec3Laws.{types3_of, IsSetOf, FindsOrEncloses, ProvesStar, IsNsec3Listed}
 use Rattle.zone_denial.specs.Nsec3Zones.{IsCircleName}
-use Rattle.zone_acceptance.specs.Nsec3Acceptance.{IsNsec3Accepted, ProvesAskedStar}
+use Rattle.zone_acceptance.specs.Nsec3Acceptance.{IsNsec3Accepted, IsAskedStarAccepted}
 use Rattle.zone_acceptance.specs.Nsec3Judged.{read_nsec3_sets, IsNsec3Judged}
+use Rattle.zone_in_memory.specs.AnsweredSets.{AnswersSetsOrMemory}
 use Rattle.zone_in_memory.specs.Handlers.{Zone}
 
 module _ (origin : Name) (m : Sets) (hash : Name → Option (List ℕ)) (opt_out : Bool) (n : Name) where
-  -- the sets of the answer that is given, if one is, are the NSEC3 set of n alone, or prove its closest encloser
+  -- an answer whose sets are the NSEC3 set of n alone, or prove its closest encloser; or no memory
   abbrev pub HasNsec3Proof : LookupControlFlow AuthLookup LookupError → Type 0
-  HasNsec3Proof step = (s : LookupRecords) → step ≡ Continue (Ok (answer.Records s None)) → FindsOrEncloses origin m hash opt_out n (sets_in s)
+  HasNsec3Proof step = AnswersSetsOrMemory (FindsOrEncloses origin m hash opt_out n) step
 
-  -- the same sets have the NSEC3 set of the star under the closest encloser of n, or one that covers the star
+  -- an answer that has the NSEC3 set of the star under the closest encloser of n, or one that covers the star; or no memory
   abbrev pub HasNsec3StarProof : LookupControlFlow AuthLookup LookupError → Type 0
-  HasNsec3StarProof step = (s : LookupRecords) → step ≡ Continue (Ok (answer.Records s None)) → ProvesStar origin m hash opt_out n (sets_in s)
+  HasNsec3StarProof step = AnswersSetsOrMemory (ProvesStar origin m hash opt_out n) step
 
   -- how a lookup of n and t agrees with a circle of NSEC3 sets: a name that is denied isn't on it; a type that is denied of a name on it isn't in the list of that name, RRSIG aside; and what is owned, NSEC3 aside, is listed, or stands below a zone cut, or is an unsigned delegation that opt-out leaves out
   pub record AgreesWithNsec3Circle (t : ℕ) (step : LookupControlFlow AuthLookup LookupError) : Type 0 where
@@ -38,17 +39,17 @@ module _ (origin : Name) (m : Sets) (hash : Name → Option (List ℕ)) (opt_out
     pub type' : step ≡ Continue (Err error.NameExists) → IsCircleName origin m opt_out n → (s : RRset) (types : List ℕ) → IsSetOf origin m hash n s → types3_of s ≡ Some types → Contains types t → t ≡ RRSIG
     pub owned : t ≢ NSEC3 → IsTrue (owns m n t) → IsNsec3Listed origin m hash opt_out n t
 
--- where the name of a query is judged, the records of the answer that is given, if one is
+-- where the name of a query is judged, the records of the answer
 module _ {S H : Type 0} (digest_of : H → ℕ → List ℕ → Name → ℕ → Option (List ℕ)) (zone : Zone S H) (query : Nsec3QueryInfo) (step : LookupControlFlow AuthLookup LookupError) where
   abbrev hash : Name → Option (List ℕ)
   hash = digest_for (digest_of zone.hash) query
 
-  -- what a validator makes of them is what the zone has of the name
+  -- an answer of whose records a validator makes what the zone has of the name, or no memory
   abbrev pub HasAcceptedNsec3Records : Type 0
   HasAcceptedNsec3Records = (parameters : Nsec3Parameters) → IsNsec3Judged zone.origin zone.inner.records hash parameters query.qname.now
-      → (s : LookupRecords) → step ≡ Continue (Ok (answer.Records s None)) → IsNsec3Accepted zone.origin zone.inner.records hash parameters.opt_out query.qname.now (read_nsec3_sets (sets_in s))
+      → AnswersSetsOrMemory (λ sets. IsNsec3Accepted zone.origin zone.inner.records hash parameters.opt_out query.qname.now (read_nsec3_sets sets)) step
 
-  -- they prove that the star that is asked for the name may answer
+  -- the records of the answer that is given, if one is, prove that the star that is asked for the name may answer, and what they prove is so
   abbrev pub HasAskedStarProof : Type 0
   HasAskedStarProof = (parameters : Nsec3Parameters) → IsNsec3Judged zone.origin zone.inner.records hash parameters query.qname.now
-      → (s : LookupRecords) → step ≡ Continue (Ok (answer.Records s None)) → ProvesAskedStar zone.origin zone.inner.records hash query.qname.now (read_nsec3_sets (sets_in s))
+      → (s : LookupRecords) → step ≡ Continue (Ok (answer.Records s None)) → IsAskedStarAccepted zone.origin zone.inner.records hash parameters.opt_out query.qname.now (read_nsec3_sets (sets_in s))

@@ -2,7 +2,7 @@
 use Rattle.std.specs.Prelude.{◌≡◌, ◌⊎◌, ℕ, List, [], Some, None, Ok, Err, MatchOption, IsTrue, IsFalse}
 use Rattle.std.specs.List.{Contains}
 use Rattle.zone_proto.specs.declared.response_code.ResponseCode.TheVariants as code
-use Rattle.zone_proto.specs.Names.{Name, is_above, is_at_or_above}
+use Rattle.zone_proto.specs.Names.{Name, is_above, is_at_or_above, star_under}
 use Rattle.zone_proto.specs.Sets.{RRset}
 use Rattle.zone_proto.specs.Types.{NSEC, RRSIG}
 use Rattle.zone_handler.specs.declared.auth_lookup.AuthLookup.{AuthLookup}
@@ -15,7 +15,6 @@ use Rattle.zone_handler.specs.declared.lookup_options.LookupOptions.{LookupOptio
 use Rattle.zone_handler.specs.declared.lookup_records.LookupRecords.{LookupRecords}
 use Rattle.zone_handler.specs.declared.lookup_records.LookupRecords.TheVariants as section
 use Rattle.zone_handler.specs.Answers.{sets_in, KeepsMany}
-use Rattle.zone_map.specs.Wildcards.{star_under}
 use Rattle.zone_map.specs.Zones.{Sets, set_at, owns, types_at, owns_at_or_below}
 use Rattle.zone_denial.specs.Authority.{is_below_cut}
 use Rattle.zone_denial.specs.NsecCircle.{types_of}
@@ -23,6 +22,7 @@ use Rattle.zone_denial.specs.NsecDenial.{nsec_encloser, nsec_denial}
 use Rattle.zone_denial.specs.NsecLaws.{LastCovers, FindsOrCovers, HasOwnOrCover, IsListed}
 use Rattle.zone_acceptance.specs.Acceptance.{IsAccepted}
 use Rattle.zone_acceptance.specs.Judged.{read}
+use Rattle.zone_in_memory.specs.AnsweredSets.{AnswersSetsOrMemory}
 use Rattle.zone_in_memory.specs.Handlers.{Zone}
 
 -- the section of an answer that denies n: it has the sets that deny n, and keeps the name's own NSEC set by itself, and any others as several
@@ -41,17 +41,17 @@ pub record IsNsecProof (origin : Name) (m : Sets) (n : Name) (sets : List RRset)
   pub absent : IsFalse (owns_at_or_below m n) → (next : Name) × LastCovers sets n next × IsFalse (is_at_or_above n next)
   pub empty : types_at m n ≡ [] → IsTrue (owns_at_or_below m n) → IsFalse (is_below_cut origin m n) → (next : Name) × LastCovers sets n next × IsTrue (is_above n next)
 
--- the sets of the answer that is given, if one is, say this
+-- an answer whose sets say this, or no memory
 abbrev pub HasNsecProof : Name → Sets → Name → LookupControlFlow AuthLookup LookupError → Type 0
-HasNsecProof origin m n step = (s : LookupRecords) → step ≡ Continue (Ok (answer.Records s None)) → IsNsecProof origin m n (sets_in s)
+HasNsecProof origin m n step = AnswersSetsOrMemory (IsNsecProof origin m n) step
 
--- the sets of the answer that is given, if one is, have the NSEC set of the star under the closest encloser of n, where that star has one, and else one that covers the star
+-- an answer that has the NSEC set of the star under the closest encloser of n, where that star has one, and else a set that covers the star; or no memory
 abbrev pub HasStarProof : Name → Sets → Name → LookupControlFlow AuthLookup LookupError → Type 0
-HasStarProof origin m n step = (s : LookupRecords) → step ≡ Continue (Ok (answer.Records s None)) → HasOwnOrCover m (star_under (nsec_encloser origin m n)) (sets_in s)
+HasStarProof origin m n step = AnswersSetsOrMemory (HasOwnOrCover m (star_under (nsec_encloser origin m n))) step
 
--- what a validator makes of the records of these sets is what the zone has of n
+-- an answer of whose records a validator makes what the zone has of n, or no memory
 abbrev pub HasAcceptedRecords : Name → Sets → Name → LookupControlFlow AuthLookup LookupError → Type 0
-HasAcceptedRecords origin m n step = (s : LookupRecords) → step ≡ Continue (Ok (answer.Records s None)) → IsAccepted origin m n (read (sets_in s))
+HasAcceptedRecords origin m n step = AnswersSetsOrMemory (λ sets. IsAccepted origin m n (read sets)) step
 
 -- how a lookup of n and t agrees with a circle of NSEC sets: a name that is denied isn't on it, and no name at or below that one comes next in its denial; a type that is denied isn't in the list of the name, RRSIG aside; and what is owned is listed, or stands below a zone cut
 pub record AgreesWithCircle (origin : Name) (m : Sets) (n : Name) (t : ℕ) (step : LookupControlFlow AuthLookup LookupError) : Type 0 where

@@ -11,7 +11,7 @@ use Rattle.zone_handler.specs.declared.lookup_options.LookupOptions.{LookupOptio
 use Rattle.zone_handler.specs.declared.zone_transfer.ZoneTransfer.{ZoneTransfer}
 use Rattle.zone_handler.specs.Sets.{set_records}
 use Rattle.zone_handler.specs.Transfers.{transfer_records}
-use Rattle.zone_map.specs.Search.{is_delegated}
+use Rattle.zone_map.specs.Direct.{is_delegated}
 use Rattle.zone_map.specs.Zones.{Sets, set_at, owns, IsZone}
 use Rattle.zone_in_memory.specs.Transfers.{plain, IsTransfer}
 

@@ -1,4 +1,4 @@
-// A zone's record sets, made of sets that are handed in by their keys.
+//! A zone's record sets, made of sets that are handed in by their keys.
 ghost use Rattle.std.specs.Prelude.{◌≡◌, ◌⊎◌, [], true, Some, Ok, Err, IfOk, IfErr, IsErr, IsOkUnless, is_some, option_copied};
 ghost use Rattle.std.specs.BTreeMap.{values};
 ghost use Rattle.std.specs.List.{list_all};
@@ -7,14 +7,14 @@ ghost use Rattle.zone_proto.specs.Names.{lower};
 ghost use Rattle.zone_proto.specs.Types.{IN};
 ghost use Rattle.zone_proto.specs.Types as types;
 ghost use Rattle.zone_in_memory.specs.Construction.{is_own_key, inserted_sets, made};
-ghost use Rattle.zone_search.specs.StartOfAuthority.{soa};
+ghost use Rattle.zone_inner.specs.StartOfAuthority.{soa};
 ghost use Rattle.zone_map.specs.Upserts.{all_upserted};
 
 use std::collections::BTreeMap;
+use zone_inner::ZoneError;
+use zone_inner::start_of_authority::first_soa;
 use zone_map::RecordMap;
 use zone_proto::{DNSClass, LowerName, Name, ProtoError, RecordSet, RrKey, SOA};
-use zone_search::ZoneError;
-use zone_search::start_of_authority::first_soa;
 
 /// The map of a zone of `origin`, whose SOA stands under the key `apex`, made of sets by their keys; or the first
 /// refusal.
@@ -25,7 +25,8 @@ pub(crate) fn make(
 ) -> Result<RecordMap, ZoneError>
     requires { apex.now ≡ key_at (lower origin.now) types.SOA }
     ensures ok { IfOk result (λ map. made origin.now sets.now.entries ≡ Ok map) }
-    ensures err { IfErr result (λ error. (error ≡ ZoneError.Memory) ⊎ (made origin.now sets.now.entries ≡ Err error)) }
+    ensures err { IfErr result
+        (λ error. (error ≡ ZoneError.Memory) ⊎ (made origin.now sets.now.entries ≡ Err error)) }
 {
     let Some(soa) = soa_under(sets, apex) else {
         return missing_soa(origin);
@@ -47,7 +48,8 @@ fn soa_under<'s>(sets: &'s BTreeMap<RrKey, RecordSet>, apex: &RrKey) -> Option<&
 
 /// The refusal of a zone without an SOA.
 fn missing_soa(origin: &Name) -> Result<RecordMap, ZoneError>
-    ensures error { IfErr result (λ error. (error ≡ ZoneError.Memory) ⊎ (error ≡ ZoneError.MissingSoa origin.now)) }
+    ensures error { IfErr result
+        (λ error. (error ≡ ZoneError.Memory) ⊎ (error ≡ ZoneError.MissingSoa origin.now)) }
     ensures err { IsErr result }
 {
     match origin.clone() {
@@ -85,8 +87,11 @@ fn insert_sets(
     sets: &BTreeMap<RrKey, RecordSet>,
     serial: u32,
 ) -> Result<RecordMap, ZoneError>
-    ensures ok { IfOk result (λ map. inserted_sets origin.now serial [] (values sets.now) ≡ Ok map) }
-    ensures err { IfErr result (λ error. (error ≡ ZoneError.Memory) ⊎ (inserted_sets origin.now serial [] (values sets.now) ≡ Err error)) }
+    ensures ok { IfOk result
+        (λ map. inserted_sets origin.now serial [] (values sets.now) ≡ Ok map) }
+    ensures err { IfErr result
+        (λ error. (error ≡ ZoneError.Memory)
+        ⊎ (inserted_sets origin.now serial [] (values sets.now) ≡ Err error)) }
 {
     let mut map = RecordMap::new(origin.alloc());
     for set in sets.values() {
@@ -101,8 +106,11 @@ fn insert_sets(
 
 /// The refusal of a set.
 fn refused(origin: &Name, set: &RecordSet) -> Result<RecordMap, ZoneError>
-    ensures error { IfErr result (λ error. (error ≡ ZoneError.Memory)
-        ⊎ (error ≡ ZoneError.Refused set.now.owner (record { 0 = set.now.record_type }) origin.now)) }
+    ensures error { IfErr result
+        (λ error. (error ≡ ZoneError.Memory)
+        ⊎ (error
+        ≡ ZoneError.Refused set.now.owner (record { 0 = set.now.record_type })
+        origin.now)) }
     ensures err { IsErr result }
 {
     match (set.name().clone(), origin.clone()) {
@@ -113,8 +121,10 @@ fn refused(origin: &Name, set: &RecordSet) -> Result<RecordMap, ZoneError>
 
 /// Inserts the records of a set, in order and without its signatures, and answers whether all were taken.
 fn insert_records(map: &mut RecordMap, set: &RecordSet, serial: u32) -> Result<bool, ProtoError>
-    ensures answer { IfOk result (λ all. all ≡ is_some (all_upserted map.old IN set.now.records serial)) }
-    ensures after { IfOk result (λ all. all ≡ true → all_upserted map.old IN set.now.records serial ≡ Some map.new) }
+    ensures answer { IfOk result
+        (λ all. all ≡ is_some (all_upserted map.old IN set.now.records serial)) }
+    ensures after { IfOk result
+        (λ all. all ≡ true → all_upserted map.old IN set.now.records serial ≡ Some map.new) }
     ensures err { IsOkUnless result ProtoError.Memory }
 {
     for record in set.records_without_rrsigs() {

@@ -6,10 +6,10 @@ ghost use Rattle.std.specs.List.Sorted.{IsStrictlySortedBy};
 ghost use Rattle.std.specs.Ordering.{nat_cmp};
 ghost use Rattle.zone_proto.specs.declared.record.Record.{Record};
 ghost use Rattle.zone_proto.specs.Data.{type_of};
-ghost use Rattle.zone_proto.specs.Names.{Name, name_cmp, lower, IsAtOrAbove};
+ghost use Rattle.zone_proto.specs.Names.{Name, IsName, IsLowerName, name_cmp, lower, IsAtOrAbove};
 ghost use Rattle.zone_proto.specs.Order.{is_upto};
 ghost use Rattle.zone_proto.specs.Sets.{RRset};
-ghost use Rattle.zone_map.specs.Search.{is_delegated_for, nearest_delegation};
+ghost use Rattle.zone_map.specs.Direct.{is_delegated_for, nearest_delegation};
 ghost use Rattle.zone_map.specs.SearchLaws.{StarIsOfClosestEncloser, ChainIsLongestFront, ChainHasAtMost8};
 ghost use Rattle.zone_map.specs.Upserts.{upserted};
 ghost use Rattle.zone_map.specs.Zones.{Sets, set_at, owns, names_of, owners, types_at, put, without, IsStoredAt, IsZone};
@@ -17,29 +17,37 @@ ghost use Rattle.zone_in_memory.specs.CircleLaws.{UntakenKeepsCircle, RefusedKey
 ghost use Rattle.zone_in_memory.specs.TransferLaws.{BeginsAndEndsWithSoa, HasEachRecord, HasNoneTwice};
 
 pub use zone_acceptance::laws::{
-    absent_data_are_accepted, denials_are_accepted, name_errors_are_accepted,
-    name_errors_are_sound, nsec3_denials_are_accepted, nsec3_name_errors_are_sound,
-    nsec3_wildcard_answers_are_accepted, unsigned_delegations_are_accepted,
-    wildcard_answers_are_accepted,
+    absent_data_are_accepted, absent_data_are_sound, denials_are_accepted, denials_are_summed_up,
+    name_errors_are_accepted, name_errors_are_sound, nothing_is_proved_elsewhere,
+    nsec3_absences_are_sound, nsec3_absent_data_are_sound, nsec3_denials_are_accepted,
+    nsec3_name_errors_are_sound, nsec3_nothing_is_proved_elsewhere,
+    nsec3_starred_errors_are_accepted, nsec3_unsigned_delegations_are_sound,
+    nsec3_wildcard_answers_are_accepted, nsec3_wildcard_answers_are_sound,
+    unsigned_delegations_are_accepted, unsigned_delegations_are_sound,
+    wildcard_answers_are_accepted, wildcard_answers_are_sound,
+};
+pub use zone_inner::laws::{
+    additionals_are_one_list, negative_is_not_found, run_is_longest_front, runs_end,
 };
 use zone_proto::{Nsec3Hash, Signer};
-pub use zone_search::laws::{
-    additionals_are_one_list, denied_is_not_found, run_is_longest_front, runs_end,
-};
 
 /// A zone may have no sets, and its sets stay those of a zone when a set is put under its own owner and type, when one is
 /// taken out, and when a record is inserted.
 pub fn zones_stay_zones()
     ensures empty { IsZone [] }
-    ensures put { (m : Sets) (n : Name) (t : ℕ) (s : RRset) → IsZone m → IsStoredAt n t s → IsZone (put m n t s) }
+    ensures put { (m : Sets) (n : Name) (t : ℕ) (s : RRset) → IsZone m → IsStoredAt n t s
+        → IsZone (put m n t s) }
     ensures without { (m : Sets) (n : Name) (t : ℕ) → IsZone m → IsZone (without m n t) }
-    ensures insertion { (m after : Sets) (class : ℕ) (r : Record) (serial : ℕ) → IsZone m → upserted m class r serial ≡ Some after → IsZone after }
+    ensures insertion { (m after : Sets) (class : ℕ) (r : Record) (serial : ℕ) → IsZone m
+        → IsName (lower r.name) → upserted m class r serial ≡ Some after → IsZone after }
 {}
 
-/// In a zone an owner is in lower case, and each record of a set is of the type that the set stands under.
+/// In a zone an owner is a name in lower case, and each record of a set is of the type that the set stands under.
 pub fn sets_stand_under_their_own()
-    ensures owners { (m : Sets) (n : Name) (t : ℕ) → IsZone m → IsTrue (owns m n t) → lower n ≡ n }
-    ensures types { (m : Sets) (n : Name) (t : ℕ) (s : RRset) → IsZone m → set_at m n t ≡ Some s → All (λ (r : Record). type_of r.rdata ≡ t) s.records }
+    ensures owners { (m : Sets) (n : Name) (t : ℕ) → IsZone m → IsTrue (owns m n t)
+        → IsLowerName n }
+    ensures types { (m : Sets) (n : Name) (t : ℕ) (s : RRset) → IsZone m → set_at m n t ≡ Some s
+        → All (λ (r : Record). type_of r.rdata ≡ t) s.records }
 {}
 
 /// In a zone the types of a name, the owners of a type and the names ascend. The first two have each but once; a name
@@ -47,23 +55,30 @@ pub fn sets_stand_under_their_own()
 pub fn lists_ascend()
     ensures types { (m : Sets) (n : Name) → IsZone m → IsStrictlySortedBy nat_cmp (types_at m n) }
     ensures owners { (m : Sets) (t : ℕ) → IsZone m → IsStrictlySortedBy name_cmp (owners m t) }
-    ensures names { (m : Sets) → IsZone m → AllPairs (λ (a b : Name). IsTrue (is_upto name_cmp a b)) (names_of m) }
+    ensures names { (m : Sets) → IsZone m
+        → AllPairs (λ (a b : Name). IsTrue (is_upto name_cmp a b)) (names_of m) }
 {}
 
 /// These lists have exactly what is owned.
 pub fn lists_have_what_is_owned()
-    ensures types { (m : Sets) (n : Name) (t : ℕ) → Contains (types_at m n) t ↔ IsTrue (owns m n t) }
+    ensures types { (m : Sets) (n : Name) (t : ℕ)
+        → Contains (types_at m n) t ↔ IsTrue (owns m n t) }
     ensures owners { (m : Sets) (n : Name) (t : ℕ) → Contains (owners m t) n ↔ IsTrue (owns m n t) }
-    ensures names { (m : Sets) (n : Name) → Contains (names_of m) n ↔ ((t : ℕ) × IsTrue (owns m n t)) }
+    ensures names { (m : Sets) (n : Name)
+        → Contains (names_of m) n ↔ ((t : ℕ) × IsTrue (owns m n t)) }
 {}
 
 /// The nearest delegation of a query is the longest name at or above its own that is one (RFC 1034 section 4.3.2): every
 /// longer one isn't, and where there is none, no name at or above is one.
 pub fn nearest_delegation_is_the_longest()
-    ensures above { (m : Sets) (n a : Name) (t : ℕ) → nearest_delegation m n t ≡ Some a → IsAtOrAbove a n }
-    ensures delegated { (m : Sets) (n a : Name) (t : ℕ) → nearest_delegation m n t ≡ Some a → IsTrue (is_delegated_for m n t a) }
-    ensures longest { (m : Sets) (n a b : Name) (t : ℕ) → nearest_delegation m n t ≡ Some a → IsAtOrAbove b n → length a < length b → is_delegated_for m n t b ≡ false }
-    ensures none { (m : Sets) (n b : Name) (t : ℕ) → nearest_delegation m n t ≡ None → IsAtOrAbove b n → is_delegated_for m n t b ≡ false }
+    ensures above { (m : Sets) (n a : Name) (t : ℕ) → nearest_delegation m n t ≡ Some a
+        → IsAtOrAbove a n }
+    ensures delegated { (m : Sets) (n a : Name) (t : ℕ) → nearest_delegation m n t ≡ Some a
+        → IsTrue (is_delegated_for m n t a) }
+    ensures longest { (m : Sets) (n a b : Name) (t : ℕ) → nearest_delegation m n t ≡ Some a
+        → IsAtOrAbove b n → length a < length b → is_delegated_for m n t b ≡ false }
+    ensures none { (m : Sets) (n b : Name) (t : ℕ) → nearest_delegation m n t ≡ None
+        → IsAtOrAbove b n → is_delegated_for m n t b ≡ false }
 {}
 
 /// The star that is asked for a name is the one under its closest encloser, the longest of the name's proper ancestors that

@@ -1,3 +1,4 @@
+//! Why a set was not stored.
 use zone_proto::RecordSet;
 
 /// Why a set isn't stored. The set is handed back.

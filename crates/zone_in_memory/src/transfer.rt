@@ -1,4 +1,4 @@
-// The transfer of a zone.
+//! The transfer of a zone.
 ghost use Rattle.std.specs.Prelude.{◌≡◌, ◌≢◌, ◌++◌, IfOk, OnOk, IsOkUnless};
 ghost use Rattle.std.specs.BTreeMap.{values};
 ghost use Rattle.zone_handler.specs.Sets.{sets_records};
@@ -24,7 +24,11 @@ impl<S: Signer, H: Nsec3Hash> InMemoryZoneHandler<S, H> {
         lookup_options: LookupOptions,
         now: u64,
     ) -> Result<ZoneTransfer, LookupError>
-        ensures { AnswersTransfer (λ options. answer_signatures S.signature_of now options.dnssec_ok self.now.inner.signers) self.now.origin self.now.inner.records self.now.axfr_policy request.now.queries.items lookup_options result }
+        ensures { AnswersTransfer
+            (λ options. answer_signatures S.signature_of now options.dnssec_ok
+            self.now.inner.signers)
+            self.now.origin self.now.inner.records self.now.axfr_policy request.now.queries.items
+            lookup_options result }
     {
         match refusal(self.axfr_policy(), request) {
             Some(error) => Err(error),
@@ -38,7 +42,11 @@ impl<S: Signer, H: Nsec3Hash> InMemoryZoneHandler<S, H> {
         lookup_options: LookupOptions,
         now: u64,
     ) -> Result<ZoneTransfer, LookupError>
-        ensures ok { IfOk result (IsTransfer (λ options. answer_signatures S.signature_of now options.dnssec_ok self.now.inner.signers) self.now.origin self.now.inner.records lookup_options) }
+        ensures ok { IfOk result
+            (IsTransfer
+            (λ options. answer_signatures S.signature_of now options.dnssec_ok
+            self.now.inner.signers)
+            self.now.origin self.now.inner.records lookup_options) }
         ensures err { IsOkUnless result LookupError.Memory }
     {
         let records = copies(self.origin().alloc(), self.records(), lookup_options)?;
@@ -57,7 +65,11 @@ impl<S: Signer, H: Nsec3Hash> InMemoryZoneHandler<S, H> {
         lookup_options: LookupOptions,
         now: u64,
     ) -> Result<LookupRecords, LookupError>
-        ensures ok { IfOk result (IsSoaPart (λ options. answer_signatures S.signature_of now options.dnssec_ok self.now.inner.signers) self.now.origin self.now.inner.records lookup_options) }
+        ensures ok { IfOk result
+            (IsSoaPart
+            (λ options. answer_signatures S.signature_of now options.dnssec_ok
+            self.now.inner.signers)
+            self.now.origin self.now.inner.records lookup_options) }
         ensures err { IsOkUnless result LookupError.Memory }
     {
         match self.answer(self.origin(), RecordType::SOA, lookup_options, now) {
@@ -69,7 +81,8 @@ impl<S: Signer, H: Nsec3Hash> InMemoryZoneHandler<S, H> {
 
 /// The section of a negative answer, which has no records; or want of memory, if it is that.
 fn no_records(error: LookupError) -> Result<LookupRecords, LookupError>
-    ensures ok { IfOk result (λ section. (section ≡ LookupRecords.Empty) × (error ≢ LookupError.Memory)) }
+    ensures ok { IfOk result
+        (λ section. (section ≡ LookupRecords.Empty) × (error ≢ LookupError.Memory)) }
     ensures err { IsOkUnless result LookupError.Memory }
 {
     match error {

@@ -19,11 +19,11 @@ use Rattle.zone_proto.specs.Order.{least}
 use Rattle.zone_proto.specs.Sets.{RRset}
 use Rattle.zone_proto.specs.Types.{A, CNAME, ANY}
 use Rattle.zone_proto.proofs.Members.{In, In-filter, In-from_filter, In-from_any, any_from_In}
-use Rattle.zone_proto.proofs.NameTree.{name_eq-Decides}
-use Rattle.zone_proto.proofs.Orders.{IsOrder, greatest_same, greatest_is, has_greatest}
-use Rattle.zone_proto.proofs.Tree.{name_order}
+use Rattle.zone_proto.proofs.Names.NameTree.{name_eq-Decides}
+use Rattle.zone_proto.proofs.Ordering.Orders.{IsOrder, greatest_same, greatest_is, has_greatest}
+use Rattle.zone_proto.proofs.Names.Tree.{name_order}
 use Rattle.zone_map.specs.Zones.{Sets, set_at, owns, types_at}
-use Rattle.zone_map.specs.Search.{types_for, least_owned, exact, referral, direct, is_address}
+use Rattle.zone_map.specs.Direct.{types_for, least_owned, exact, referral, direct, is_address}
 use Rattle.zone_map.specs.Wildcards.{found, wildcard}
 use Rattle.zone_map.specs.AnyTypes.{preferred_types, is_preferred, any_type, searched_type}
 use Rattle.zone_map.proofs.Neighbours.{from_key, front_types, front_taken, front_ended, front_is_types}
@@ -191,9 +191,6 @@ chosen_whole least m es type_zero sorted same =
     ∙ sym (any_is m least.name in_order)
 
 -- ---- a name that owns the queried type has a found set
-
-is_some_from : {X : Type 0} (o : Option X) (x : X) → o ≡ Some x → is_some o ≡ true
-is_some_from o x e = ap is_some e
 
 exact_owned : (m : Sets) (n : Name) (t : ℕ) → owns m n t ≡ true → is_some (exact m n t) ≡ true
 exact_owned m n t h =

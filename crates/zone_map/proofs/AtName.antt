@@ -12,11 +12,11 @@ use Rattle.zone_proto.specs.declared.rr_key.RrKey.{RrKey}
 use Rattle.zone_proto.specs.Keys.{key, key_cmp, key_eq}
 use Rattle.zone_proto.specs.Names.{Name, name_cmp, name_eq}
 use Rattle.zone_proto.specs.Sets.{RRset}
-use Rattle.zone_proto.proofs.KeyOrder.{key_same, key_itself}
+use Rattle.zone_proto.proofs.Ordering.KeyOrder.{key_same, key_itself}
 use Rattle.zone_proto.proofs.Members.{In-from_any, any_from_In}
-use Rattle.zone_proto.proofs.NameTree.{name_eq-Decides}
+use Rattle.zone_proto.proofs.Names.NameTree.{name_eq-Decides}
 use Rattle.zone_map.specs.Zones.{Sets, set_at, owns, types_at}
-use Rattle.zone_map.specs.Search.{types_for, exact}
+use Rattle.zone_map.specs.Direct.{types_for, exact}
 use Rattle.zone_map.proofs.AnyTypes.{Ascends, types_ascend, least_is_first}
 use Rattle.zone_map.proofs.Neighbours.{front, front_types, from_key, entries_of, front_goes_on, front_stops, front_taken, front_is_whole_name, front_is_types}
 use Rattle.zone_map.proofs.Owned.{type_in, type_owned}

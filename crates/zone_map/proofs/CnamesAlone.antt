@@ -9,7 +9,7 @@ use Rattle.zone_proto.specs.Keys.{key, key_eq}
 use Rattle.zone_proto.specs.Names.{Name, lower}
 use Rattle.zone_proto.specs.Sets.{RRset, inserted}
 use Rattle.zone_proto.specs.Types.{CNAME}
-use Rattle.zone_proto.proofs.KeyOrder.{key_same}
+use Rattle.zone_proto.proofs.Ordering.KeyOrder.{key_same}
 use Rattle.zone_proto.proofs.Members.{none_passes}
 use Rattle.zone_map.specs.Zones.{Sets, owns, types_at, put}
 use Rattle.zone_map.specs.Upserts.{is_denial_type, clash, clashes, upserted, all_upserted, with_record, set_for, CnamesStandAlone}

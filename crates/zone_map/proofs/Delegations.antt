@@ -4,7 +4,7 @@ use Rattle.std.specs.Prelude.{Option, Some, None, find}
 use Rattle.std.proofs.lemmas.List.{length-append}
 use Rattle.zone_proto.specs.Names.{Label, Name, name_eq, suffixes, IsAtOrAbove}
 use Rattle.zone_proto.proofs.Members.{In}
-use Rattle.zone_proto.proofs.NameTree.{name_eq-Decides}
+use Rattle.zone_proto.proofs.Names.NameTree.{name_eq-Decides}
 
 -- ---- tests that agree on a list find the same
 

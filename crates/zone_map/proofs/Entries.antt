@@ -7,7 +7,7 @@ use Rattle.std.proofs.lemmas.Map.Made.{IfSome-update_all}
 use Rattle.zone_proto.specs.declared.rr_key.RrKey.{RrKey}
 use Rattle.zone_proto.specs.Keys.{key, key_cmp, key_eq}
 use Rattle.zone_proto.specs.Sets.{RRset}
-use Rattle.zone_proto.proofs.KeyOrder.{key_same}
+use Rattle.zone_proto.proofs.Ordering.KeyOrder.{key_same}
 use Rattle.zone_map.specs.Zones.{Sets, IsStoredAt, AreStored, IsZone}
 
 -- sets that stand under their own keys make the sets of a zone

@@ -8,16 +8,16 @@ use Rattle.std.specs.Option.{option_or}
 use Rattle.std.proofs.lemmas.Map.Keys.{sorted_head, sorted_tail}
 use Rattle.zone_proto.specs.declared.rr_key.RrKey.{RrKey}
 use Rattle.zone_proto.specs.Keys.{key, key_cmp}
-use Rattle.zone_proto.specs.Names.{Name, name_cmp, name_eq, label_eq, IsAtOrAbove, is_at_or_above, is_root, suffixes, star_label}
+use Rattle.zone_proto.specs.Names.{Name, name_cmp, name_eq, label_eq, IsAtOrAbove, is_at_or_above, is_root, suffixes, star_label, star_under}
 use Rattle.zone_proto.specs.Sets.{RRset}
 use Rattle.zone_proto.specs.Types.{NS, SOA, DS}
 use Rattle.zone_proto.proofs.Members.{any_from_In, In-map}
-use Rattle.zone_proto.proofs.NameTree.{is_at_or_above_sound, is_at_or_above_complete}
+use Rattle.zone_proto.proofs.Names.NameTree.{is_at_or_above_sound, is_at_or_above_complete}
 use Rattle.zone_map.specs.Zones.{Sets, owns, owns_at_or_below}
 use Rattle.zone_map.specs.Upserts.{is_denial_type}
-use Rattle.zone_map.specs.Search.{is_delegated, referral_at, referral, exact, direct}
+use Rattle.zone_map.specs.Direct.{is_delegated, referral_at, referral, exact, direct}
 use Rattle.zone_map.specs.Walks.{referral_above, own_referral}
-use Rattle.zone_map.specs.Wildcards.{exists, star_under, asked_star}
+use Rattle.zone_map.specs.Wildcards.{exists, asked_star}
 use Rattle.zone_map.proofs.Owned.{has_entry}
 use Rattle.zone_map.proofs.Neighbours.{from_key, at_or_after, earlier, before_not_below, none_below}
 use Rattle.zone_map.proofs.Walks.{referral_split}
@@ -31,6 +31,14 @@ absent_where_unowned n (e ∷ m) h = by (is_at_or_above n e.0.name) h (absent_wh
     by : (b : Bool) → b || owns_at_or_below m n ≡ false → (owns_at_or_below m n ≡ false → exists m n ≡ false) → (b && not (is_denial_type e.0.record_type.0)) || exists m n ≡ false
     by true g ih = absurd (true≢false g)
     by false g ih = ih g
+
+-- and a name that exists is there
+pub owned_where_existing : (n : Name) (m : Sets) → exists m n ≡ true → owns_at_or_below m n ≡ true
+owned_where_existing n m h = by (owns_at_or_below m n) refl
+  where
+    by : (b : Bool) → owns_at_or_below m n ≡ b → b ≡ true
+    by true g = refl
+    by false g = absurd (true≢false (sym h ∙ absent_where_unowned n m g))
 
 -- a name that owns a type other than those of denial exists
 pub owner_exists : (m : Sets) (n : Name) (t : ℕ) → owns m n t ≡ true → not (is_denial_type t) ≡ true → exists m n ≡ true

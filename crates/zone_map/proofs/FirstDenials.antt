@@ -16,8 +16,8 @@ use Rattle.zone_proto.specs.Keys.{key_cmp, key_eq}
 use Rattle.zone_proto.specs.Names.{Name, name_cmp}
 use Rattle.zone_proto.specs.Sets.{RRset}
 use Rattle.zone_proto.specs.Types.{NSEC, NSEC3}
-use Rattle.zone_proto.proofs.KeyOrder.{key_same}
-use Rattle.zone_proto.proofs.Tree.{name_order}
+use Rattle.zone_proto.proofs.Ordering.KeyOrder.{key_same}
+use Rattle.zone_proto.proofs.Names.Tree.{name_order}
 use Rattle.zone_map.specs.Puts.{with_exchanged, with_before, without_added, without_denials}
 use Rattle.zone_map.specs.Upserts.{is_denial_type}
 use Rattle.zone_map.specs.Zones.{Sets, owns, owners}

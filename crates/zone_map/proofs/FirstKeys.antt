@@ -1,4 +1,4 @@
--- The first key from a name's least key on tells whether the name, or a name below it, owns a set, and mostly whether it exists
+-- The first key from a name's least key on mostly tells whether the name exists
 use Rattle.std.proofs.Common.{◌≡◌, ◌&&◌, ◌||◌, not, Bool, true, false, cond, [], ◌∷◌, refl, sym, ap, ◌∙◌}
 use Rattle.std.specs.Prelude.{Option, Some, None, find}
 use Rattle.std.specs.List.Sorted.{IsStrictlySortedBy}
@@ -9,12 +9,12 @@ use Rattle.zone_proto.specs.Keys.{key, first_key, key_cmp}
 use Rattle.zone_proto.specs.Names.{Name, is_at_or_above}
 use Rattle.zone_proto.specs.Order.{is_upto}
 use Rattle.zone_proto.specs.Sets.{RRset}
-use Rattle.zone_map.specs.Zones.{Sets, owns_at_or_below}
+use Rattle.zone_map.specs.Zones.{Sets}
 use Rattle.zone_map.specs.Upserts.{is_denial_type}
 use Rattle.zone_map.specs.Walks.{first_key_from}
 use Rattle.zone_map.specs.Wildcards.{exists}
 use Rattle.zone_map.proofs.ExistingNames.{shown_below, exists_is_front}
-use Rattle.zone_map.proofs.Neighbours.{from_key, first_is_below, below_is_first}
+use Rattle.zone_map.proofs.Neighbours.{from_key}
 
 -- the key of the entry in front
 abbrev pub front_key : Sets → Option RrKey
@@ -50,14 +50,6 @@ module _ (s t : Sets) (e : RrKey × RRset) (before after whole : Option RrKey) (
 -- ---- what it tells
 
 module _ (n : Name) where
-  none_below : (es : Sets) → front_key es ≡ None → first_is_below n es ≡ false
-  none_below [] h = refl
-  none_below (e ∷ es) h = cc
-
-  some_below : (es : Sets) (k : RrKey) → front_key es ≡ Some k → first_is_below n es ≡ is_at_or_above n k.name
-  some_below [] k h = cc
-  some_below (e ∷ es) k h = let same : e.0 ≡ k = cc in ap (λ (x : RrKey). is_at_or_above n x.name) same
-
   none_shown : (es : Sets) → front_key es ≡ None → shown_below n es ≡ false
   none_shown [] h = refl
   none_shown (e ∷ es) h = cc
@@ -76,12 +68,6 @@ module _ (n : Name) where
       ∙ ap (λ b. not b || shown_below n es) (ap (λ (x : RrKey). is_denial_type x.record_type.0) same ∙ d)
 
   module _ (m : Sets) (sorted : IsStrictlySortedBy key_cmp (keys_of m)) where
-    pub there_without : None ≡ first_key_from m n → false ≡ owns_at_or_below m n
-    there_without h = sym (below_is_first n m sorted ∙ none_below (from_key (key n 0) m) (first_is_front (first_key n) m ∙ sym h))
-
-    pub there_by_first : (k : RrKey) → Some k ≡ first_key_from m n → is_at_or_above n k.name ≡ owns_at_or_below m n
-    there_by_first k h = sym (below_is_first n m sorted ∙ some_below (from_key (key n 0) m) k (first_is_front (first_key n) m ∙ sym h))
-
     pub exists_without : None ≡ first_key_from m n → false ≡ exists m n
     exists_without h = sym (exists_is_front n m sorted ∙ none_shown (from_key (key n 0) m) (first_is_front (first_key n) m ∙ sym h))
 

@@ -13,13 +13,13 @@ use Rattle.std.proofs.lemmas.Map.Keys.{sorted_head, sorted_tail}
 use Rattle.zone_proto.specs.declared.rr_key.RrKey.{RrKey}
 use Rattle.zone_proto.specs.Data.{type_of}
 use Rattle.zone_proto.specs.Keys.{key_cmp}
-use Rattle.zone_proto.specs.Names.{Name, name_cmp, name_eq, lower}
+use Rattle.zone_proto.specs.Names.{Name, IsName, name_cmp, name_eq, lower}
 use Rattle.zone_proto.specs.Order.{is_upto}
 use Rattle.zone_proto.specs.Sets.{RRset}
 use Rattle.zone_proto.specs.declared.record.Record.{Record}
-use Rattle.zone_proto.proofs.Lower.{lower-lower}
+use Rattle.zone_proto.proofs.Names.Lower.{lower-lower}
 use Rattle.zone_proto.proofs.Members.{In}
-use Rattle.zone_proto.proofs.NameTree.{name_eq-Decides, name_itself}
+use Rattle.zone_proto.proofs.Names.NameTree.{name_eq-Decides, name_itself}
 use Rattle.zone_map.specs.Zones.{Sets, set_at, owns, names_of, owners, types_at, IsZone}
 use Rattle.zone_map.proofs.Owned.{type_in, type_owned, owner_in, owner_owned, name_in, name_owned, set_of}
 
@@ -131,6 +131,9 @@ owner_lowered m n t zone h =
     let found = set_of m n t h in
     let own = (zone.stored n t found.0 found.1).owner in
     ap lower (sym own) ∙ lower-lower found.0.owner ∙ own
+
+pub owner_named : (m : Sets) (n : Name) (t : ℕ) → IsZone m → owns m n t ≡ true → IsName n
+owner_named m n t zone h = let found = set_of m n t h in (zone.stored n t found.0 found.1).named
 
 pub records_typed : (m : Sets) (n : Name) (t : ℕ) (s : RRset) → IsZone m → set_at m n t ≡ Some s → All (λ (r : Record). type_of r.rdata ≡ t) s.records
 records_typed m n t s zone h = let there = zone.stored n t s h in λ k d l. there.set.types k d l ∙ there.record_type

@@ -16,8 +16,8 @@ use Rattle.zone_proto.specs.Keys.{key, first_key, key_cmp}
 use Rattle.zone_proto.specs.Names.{Name, name_cmp, name_eq, IsAbove, IsAtOrAbove, is_at_or_above}
 use Rattle.zone_proto.specs.Order.{is_upto}
 use Rattle.zone_proto.specs.Sets.{RRset}
-use Rattle.zone_proto.proofs.NameTree.{name_eq-Decides, above_is_less, is_at_or_above_sound, is_at_or_above_complete}
-use Rattle.zone_proto.proofs.Tree.{name_order, above_cases, together}
+use Rattle.zone_proto.proofs.Names.NameTree.{name_eq-Decides, above_is_less, is_at_or_above_sound, is_at_or_above_complete}
+use Rattle.zone_proto.proofs.Names.Tree.{name_order, above_cases, together}
 use Rattle.zone_map.specs.Counts.{one_more}
 use Rattle.zone_map.specs.Zones.{Sets, has_key_from, types_at, owns_at_or_below}
 

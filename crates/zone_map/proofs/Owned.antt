@@ -8,9 +8,9 @@ use Rattle.zone_proto.specs.declared.rr_key.RrKey.{RrKey}
 use Rattle.zone_proto.specs.Keys.{key, key_eq}
 use Rattle.zone_proto.specs.Names.{Name, name_eq}
 use Rattle.zone_proto.specs.Sets.{RRset}
-use Rattle.zone_proto.proofs.KeyOrder.{key_same, key_itself}
+use Rattle.zone_proto.proofs.Ordering.KeyOrder.{key_same, key_itself}
 use Rattle.zone_proto.proofs.Members.{In, any_from_In, In-filter_map, In-from_filter_map, In-map, In-from_map}
-use Rattle.zone_proto.proofs.NameTree.{name_eq-Decides}
+use Rattle.zone_proto.proofs.Names.NameTree.{name_eq-Decides}
 use Rattle.zone_map.specs.Zones.{Sets, set_at, owns, names_of, owners, types_at, IsStoredAt, IsZone}
 
 -- an entry of an owned key stands in the map

@@ -9,9 +9,9 @@ use Rattle.std.specs.declared.ops.Bound.TheVariants.{Included, Unbounded}
 use Rattle.std.proofs.lemmas.Map.Keys.{sorted_head, sorted_tail}
 use Rattle.zone_proto.specs.Names.{Name, name_cmp, is_at_or_above, IsAbove, IsAtOrAbove}
 use Rattle.zone_proto.specs.Order.{is_upto}
-use Rattle.zone_proto.proofs.NameTree.{above_is_less, is_at_or_above_sound, is_at_or_above_complete}
-use Rattle.zone_proto.proofs.Orders.{upto_before, upto_same}
-use Rattle.zone_proto.proofs.Tree.{name_order, above_cases, together}
+use Rattle.zone_proto.proofs.Names.NameTree.{above_is_less, is_at_or_above_sound, is_at_or_above_complete}
+use Rattle.zone_proto.proofs.Ordering.Orders.{upto_before, upto_same}
+use Rattle.zone_proto.proofs.Names.Tree.{name_order, above_cases, together}
 use Rattle.zone_map.specs.DenialOwners.{denial_owners}
 use Rattle.zone_map.specs.Upserts.{is_denial_type}
 use Rattle.zone_map.specs.Zones.{Sets, owners, IsZone}

@@ -20,8 +20,8 @@ use Rattle.zone_proto.specs.Names.{Name, name_cmp}
 use Rattle.zone_proto.specs.Order.{is_before, is_upto}
 use Rattle.zone_proto.specs.Sets.{RRset}
 use Rattle.zone_proto.specs.Types.{NSEC, NSEC3}
-use Rattle.zone_proto.proofs.KeyOrder.{key_same}
-use Rattle.zone_proto.proofs.Tree.{name_order}
+use Rattle.zone_proto.proofs.Ordering.KeyOrder.{key_same}
+use Rattle.zone_proto.proofs.Names.Tree.{name_order}
 use Rattle.zone_map.specs.DenialOwners.{Owners, owners_of}
 use Rattle.zone_map.specs.Zones.{Sets, owners}
 use Rattle.zone_map.proofs.Lists.{owners_above, owners_ascend}

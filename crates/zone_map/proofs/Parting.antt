@@ -15,8 +15,8 @@ use Rattle.std.proofs.lemmas.Map.Views.{any-filter_same}
 use Rattle.zone_proto.specs.declared.rr_key.RrKey.{RrKey}
 use Rattle.zone_proto.specs.Keys.{key_cmp, key_eq}
 use Rattle.zone_proto.specs.Sets.{RRset}
-use Rattle.zone_proto.proofs.KeyLaws.{key_cmp_total}
-use Rattle.zone_proto.proofs.KeyOrder.{key_same, key_itself}
+use Rattle.zone_proto.proofs.Ordering.KeyLaws.{key_cmp_total}
+use Rattle.zone_proto.proofs.Ordering.KeyOrder.{key_same, key_itself}
 use Rattle.zone_map.specs.Zones.{Sets}
 use Rattle.zone_map.proofs.Putting.{nothing, keys_of-filter, sorted_filter, same_entries}
 

@@ -20,8 +20,8 @@ use Rattle.zone_proto.specs.declared.rr_key.RrKey.{RrKey}
 use Rattle.zone_proto.specs.Keys.{key, key_cmp, key_eq}
 use Rattle.zone_proto.specs.Names.{Name}
 use Rattle.zone_proto.specs.Sets.{RRset}
-use Rattle.zone_proto.proofs.KeyLaws.{key_cmp_total}
-use Rattle.zone_proto.proofs.KeyOrder.{key_same, key_itself}
+use Rattle.zone_proto.proofs.Ordering.KeyLaws.{key_cmp_total}
+use Rattle.zone_proto.proofs.Ordering.KeyOrder.{key_same, key_itself}
 use Rattle.zone_map.specs.Puts.{with_exchanged, with_before, without_all, ArePut}
 use Rattle.zone_map.specs.Zones.{Sets, set_at, without, IsStoredAt, IsZone}
 use Rattle.zone_map.proofs.Ahead.{none_above}

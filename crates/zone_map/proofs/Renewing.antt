@@ -18,7 +18,7 @@ use Rattle.zone_proto.specs.Keys.{key, key_cmp, key_eq}
 use Rattle.zone_proto.specs.Names.{Name}
 use Rattle.zone_proto.specs.Sets.{RRset}
 use Rattle.zone_proto.specs.Stepping.{stepped, stepped_records}
-use Rattle.zone_proto.proofs.KeyLaws.{key_cmp_total}
+use Rattle.zone_proto.proofs.Ordering.KeyLaws.{key_cmp_total}
 use Rattle.zone_proto.proofs.Stepped.{IsSet-stepped_set}
 use Rattle.zone_map.specs.Renewals.{with_signatures, stepped_under, IsHanded, AreHanded}
 use Rattle.zone_map.specs.Zones.{Sets, set_at, IsStoredAt, IsZone}
@@ -66,7 +66,7 @@ StandAs-itself (e ∷ es) = (refl, λ n t h. h, StandAs-itself es)
 
 -- a set whose serial is stepped stays under its key
 pub IsStoredAt-stepped : (n : Name) (t : ℕ) (s : RRset) → IsStoredAt n t s → IsStoredAt n t (stepped s)
-IsStoredAt-stepped n t s h = record { owner = h.owner; record_type = h.record_type; filled = by s.records h.filled; set = IsSet-stepped_set s.owner s.record_type s.records h.set }
+IsStoredAt-stepped n t s h = record { named = h.named; owner = h.owner; record_type = h.record_type; filled = by s.records h.filled; set = IsSet-stepped_set s.owner s.record_type s.records h.set }
   where
     by : (rs : List Record) → (rs ≡ [] → ⊥) → stepped_records rs ≡ [] → ⊥
     by [] f e = f refl
@@ -85,7 +85,7 @@ StandAs-with_signatures : (es : Sets) (made : List (List Record)) → StandAs es
 StandAs-with_signatures [] made = tt
 StandAs-with_signatures (e ∷ es) [] = StandAs-itself (e ∷ es)
 StandAs-with_signatures (e ∷ es) (x ∷ made) =
-    (refl, λ n t h. record { owner = h.owner; record_type = h.record_type; filled = h.filled; set = h.set }, StandAs-with_signatures es made)
+    (refl, λ n t h. record { named = h.named; owner = h.owner; record_type = h.record_type; filled = h.filled; set = h.set }, StandAs-with_signatures es made)
 
 pub IsZone-with_signatures : (es : Sets) (made : List (List Record)) → IsZone es → IsZone (with_signatures es made)
 IsZone-with_signatures es made = IsZone-standing es (with_signatures es made) (StandAs-with_signatures es made)

@@ -25,7 +25,7 @@ StandAs-with_serial t serial [] = tt
 StandAs-with_serial t serial (e ∷ es) = (refl, λ n u h. by (e.0.record_type.0 == t) n u h, StandAs-with_serial t serial es)
   where
     by : (b : Bool) (n : Name) (u : ℕ) → IsStoredAt n u e.1 → IsStoredAt n u (if b then record e.1 { serial = serial } else e.1)
-    by true n u h = record { owner = h.owner; record_type = h.record_type; filled = h.filled; set = h.set }
+    by true n u h = record { named = h.named; owner = h.owner; record_type = h.record_type; filled = h.filled; set = h.set }
     by false n u h = h
 
 pub IsZone-with_serial : (t serial : ℕ) (es : Sets) → IsZone es → IsZone (with_serial t serial es)

@@ -15,13 +15,13 @@ use Rattle.zone_proto.specs.declared.record.Record.{Record}
 use Rattle.zone_proto.specs.declared.rr_key.RrKey.{RrKey}
 use Rattle.zone_proto.specs.Data.{type_of}
 use Rattle.zone_proto.specs.Keys.{key, key_cmp, key_eq}
-use Rattle.zone_proto.specs.Names.{Name, name_cmp, lower, same_name}
+use Rattle.zone_proto.specs.Names.{Name, IsName, name_cmp, lower, same_name}
 use Rattle.zone_proto.specs.Sets.{RRset, IsSet, inserted, inserted_by, soa_inserted, first_serial, stores, replaced, appended, empty_set}
 use Rattle.zone_proto.specs.declared.rdata.RData.{RData}
 use Rattle.zone_proto.specs.declared.rdata.RData.TheVariants as V
-use Rattle.zone_proto.proofs.KeyLaws.{key_cmp_total}
+use Rattle.zone_proto.proofs.Ordering.KeyLaws.{key_cmp_total}
 use Rattle.zone_proto.proofs.SetLaws.{IsSet-inserted}
-use Rattle.zone_proto.proofs.Tree.{name_order}
+use Rattle.zone_proto.proofs.Names.Tree.{name_order}
 use Rattle.zone_proto.specs.Results.{IsInsertion}
 use Rattle.zone_map.specs.Zones.{Sets, set_at, put, IsStoredAt, IsZone}
 use Rattle.zone_map.specs.Upserts.{set_for, with_record, clashes, upserted}
@@ -85,11 +85,12 @@ module _ (s : RRset) (r : Record) (serial : ℕ) (w : RRset) where
   of_data d e = of_other (stores s.records d) e
 
 -- a set that took a record may stand under the record's name and type
-pub inserted_stored : (s : RRset) (r : Record) (serial : ℕ) (w : RRset) → lower s.owner ≡ lower r.name → s.record_type ≡ type_of r.rdata → IsSet s.owner s.record_type s.records
+pub inserted_stored : (s : RRset) (r : Record) (serial : ℕ) (w : RRset) → IsName (lower r.name) → lower s.owner ≡ lower r.name → s.record_type ≡ type_of r.rdata → IsSet s.owner s.record_type s.records
     → inserted s r serial ≡ Some w → IsStoredAt (lower r.name) (type_of r.rdata) w
-inserted_stored s r serial w o k i e =
+inserted_stored s r serial w named o k i e =
     let parts = of_data s r serial w r.rdata e in
     record {
+      named = named;
       owner = ap lower parts.0 ∙ o;
       record_type = parts.1 ∙ k;
       filled = parts.2;
@@ -120,21 +121,21 @@ takes_there m r serial zone = by (set_at m (lower r.name) (type_of r.rdata)) ref
 
 -- ---- an insertion leaves the sets of a zone
 
-pub IsZone-with_record : (m : Sets) (r : Record) (serial : ℕ) (n : Sets) → IsZone m → with_record m r serial ≡ Some n → IsZone n
-IsZone-with_record m r serial n zone = by (inserted (set_for m r serial) r serial) refl
+pub IsZone-with_record : (m : Sets) (r : Record) (serial : ℕ) (n : Sets) → IsZone m → IsName (lower r.name) → with_record m r serial ≡ Some n → IsZone n
+IsZone-with_record m r serial n zone named = by (inserted (set_for m r serial) r serial) refl
   where
     by : (o : Option RRset) → inserted (set_for m r serial) r serial ≡ o → option_map (put m (lower r.name) (type_of r.rdata)) o ≡ Some n → IsZone n
     by None e h = absurd cc
     by (Some w) e h =
         let there = takes_there m r serial zone in
         let same : put m (lower r.name) (type_of r.rdata) w ≡ n = cc in
-        subst IsZone same (IsZone-put m (key (lower r.name) (type_of r.rdata)) w zone (inserted_stored (set_for m r serial) r serial w there.0 there.1 there.2 e))
+        subst IsZone same (IsZone-put m (key (lower r.name) (type_of r.rdata)) w zone (inserted_stored (set_for m r serial) r serial w named there.0 there.1 there.2 e))
 
-pub IsZone-upserted : (m : Sets) (class : ℕ) (r : Record) (serial : ℕ) (n : Sets) → IsZone m → upserted m class r serial ≡ Some n → IsZone n
-IsZone-upserted m class r serial n zone = by ((r.dns_class.0 == class) && not (clashes m (lower r.name) (type_of r.rdata)))
+pub IsZone-upserted : (m : Sets) (class : ℕ) (r : Record) (serial : ℕ) (n : Sets) → IsZone m → IsName (lower r.name) → upserted m class r serial ≡ Some n → IsZone n
+IsZone-upserted m class r serial n zone named = by ((r.dns_class.0 == class) && not (clashes m (lower r.name) (type_of r.rdata)))
   where
     by : (b : Bool) → cond b (with_record m r serial) None ≡ Some n → IsZone n
-    by true h = IsZone-with_record m r serial n zone h
+    by true h = IsZone-with_record m r serial n zone named h
     by false h = absurd cc
 
 -- an insertion gives these, or the sets as they were
@@ -142,8 +143,8 @@ pub IsZone-or_same : (m : Sets) (o : Option Sets) → IsZone m → ((n : Sets) �
 IsZone-or_same m None zone taken = zone
 IsZone-or_same m (Some n) zone taken = taken n refl
 
-pub IsZone-or_upserted : (m : Sets) (class : ℕ) (r : Record) (serial : ℕ) → IsZone m → IsZone (unwrap_or (upserted m class r serial) m)
-IsZone-or_upserted m class r serial zone = IsZone-or_same m (upserted m class r serial) zone (λ n e. IsZone-upserted m class r serial n zone e)
+pub IsZone-or_upserted : (m : Sets) (class : ℕ) (r : Record) (serial : ℕ) → IsZone m → IsName (lower r.name) → IsZone (unwrap_or (upserted m class r serial) m)
+IsZone-or_upserted m class r serial zone named = IsZone-or_same m (upserted m class r serial) zone (λ n e. IsZone-upserted m class r serial n zone named e)
 
 -- what holds sets, after a call that may be refused and then leaves it as it was
 pub IsZone-after : {A E V : Type 0} (sets : V → Sets) (old new made : V) (res : Result A E) → IsZone (sets old) → IsZone (sets made) → OnOk res (new ≡ made) → OnErr res (new ≡ old) → IsZone (sets new)

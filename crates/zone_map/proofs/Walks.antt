@@ -5,9 +5,9 @@ use Rattle.std.specs.Option.{option_or}
 use Rattle.zone_proto.specs.Names.{Name, name_eq, suffixes}
 use Rattle.zone_proto.specs.Sets.{RRset}
 use Rattle.zone_proto.specs.Types.{NS, SOA, DS}
-use Rattle.zone_proto.proofs.Tree.{name_eq_itself}
+use Rattle.zone_proto.proofs.Names.Tree.{name_eq_itself}
 use Rattle.zone_map.specs.Zones.{Sets, set_at, owns}
-use Rattle.zone_map.specs.Search.{is_delegated, is_delegated_for, referral_at, referral, exact, direct}
+use Rattle.zone_map.specs.Direct.{is_delegated, is_delegated_for, referral_at, referral, exact, direct}
 use Rattle.zone_map.specs.Walks.{referral_above, own_referral}
 use Rattle.zone_map.proofs.Delegations.{find_same, suffix_length, shorter_differs, others_count, and_true}
 

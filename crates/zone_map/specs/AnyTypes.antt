@@ -7,7 +7,7 @@ use Rattle.zone_proto.specs.Names.{Name}
 use Rattle.zone_proto.specs.Order.{least}
 use Rattle.zone_proto.specs.Types.{A, CNAME, MX, AAAA, ANY}
 use Rattle.zone_map.specs.Zones.{Sets, types_at}
-use Rattle.zone_map.specs.Search.{least_owned}
+use Rattle.zone_map.specs.Direct.{least_owned}
 
 -- the types that are commonly asked for, which stand before all others (RFC 8482 section 4.3)
 abbrev pub preferred_types : List ℕ

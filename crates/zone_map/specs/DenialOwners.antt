@@ -1,5 +1,5 @@
 -- The owners of the sets of denial in a zone
-use Rattle.std.specs.Prelude.{◌≡◌, ℕ, cond, List, [], ◌∷◌, ◌++◌, filter}
+use Rattle.std.specs.Prelude.{◌≡◌, ℕ, cond, List, [], ◌∷◌, ◌++◌, filter, Option, Some, None}
 use Rattle.zone_proto.specs.Names.{Name, name_cmp}
 use Rattle.zone_proto.specs.Order.{is_before, is_upto}
 use Rattle.zone_proto.specs.Types.{NSEC, NSEC3}
@@ -17,6 +17,10 @@ IsLastOf o names = (front : List Name) × (names ≡ front ++ o ∷ [])
 -- the owners of the sets of a type, ascending, if it is NSEC or NSEC3; of other types none
 abbrev pub denial_owners : Sets → ℕ → List Name
 denial_owners m t = cond (is_denial_type t) (owners m t) []
+
+-- the same, or that the type is another
+abbrev pub indexed_owners : Sets → ℕ → Option (List Name)
+indexed_owners m t = cond (is_denial_type t) (Some (owners m t)) None
 
 -- those of them that stand at or before a name
 abbrev pub denial_owners_upto : Sets → ℕ → Name → List Name

@@ -1,6 +1,6 @@
 pub mod Zones
 pub mod Upserts
-pub mod Search
+pub mod Direct
 pub mod Wildcards
 pub mod Walks
 pub mod AnyTypes

@@ -1,33 +1,19 @@
 -- What a name has in a zone: a set of its own, or else one of a wildcard (RFC 4592)
-use Rattle.std.specs.Prelude.{ℕ, Bool, false, ◌&&◌, ◌||◌, not, cond, List, [], ◌∷◌, Option, None, find, map, option_map, option_and_then}
+use Rattle.std.specs.Prelude.{ℕ, Bool, false, ◌&&◌, ◌||◌, not, cond, [], Option, None, find, map, option_map, option_and_then}
 use Rattle.std.specs.List.{list_any}
 use Rattle.std.specs.Map.{keys_of}
 use Rattle.std.specs.Option.{option_or, option_map_or}
 use Rattle.zone_proto.specs.declared.record.Record.{Record}
-use Rattle.zone_proto.specs.Names.{Name, label_eq, same_name, is_at_or_above, is_root, star_label, suffixes}
+use Rattle.zone_proto.specs.Names.{Name, same_name, is_at_or_above, is_root, is_wildcard, proper_ancestors, star_under}
 use Rattle.zone_proto.specs.Sets.{RRset, record_under}
 use Rattle.zone_proto.specs.Types.{IN}
 use Rattle.zone_map.specs.Zones.{Sets}
 use Rattle.zone_map.specs.Upserts.{is_denial_type}
-use Rattle.zone_map.specs.Search.{direct}
+use Rattle.zone_map.specs.Direct.{direct}
 
 -- n exists: n, or a name below it, owns a set of a type other than those of denial (RFC 4592 section 2.2.2)
 abbrev pub exists : Sets → Name → Bool
 exists m n = list_any (λ k. is_at_or_above n k.name && not (is_denial_type k.record_type.0)) (keys_of m)
-
--- the name's ancestors without itself, the longest first, the root last
-abbrev pub proper_ancestors : Name → List Name
-proper_ancestors [] = []
-proper_ancestors (l ∷ ls) = suffixes ls
-
--- the star under a name: `*` before its labels (RFC 4592 section 2.1.1)
-abbrev pub star_under : Name → Name
-star_under a = star_label ∷ a
-
--- the first label is `*`
-abbrev pub is_starred : Name → Bool
-is_starred [] = false
-is_starred (l ∷ ls) = label_eq l star_label
 
 -- a signature of a star's set: one that the star owns is owned by the queried name then, and any other stays as it is
 abbrev pub renamed_signature : Name → Name → Record → Record
@@ -51,7 +37,7 @@ closest_encloser m n = find (exists m) (proper_ancestors n)
 
 -- the star that is asked for a name, the source of synthesis (RFC 4592 section 3.3.1): the one under the closest encloser; none for the root, for a name that is itself a wildcard, and for one that exists
 abbrev pub asked_star : Sets → Name → Option Name
-asked_star m n = cond (is_root n || is_starred n || exists m n) None (option_map star_under (closest_encloser m n))
+asked_star m n = cond (is_root n || is_wildcard n || exists m n) None (option_map star_under (closest_encloser m n))
 
 -- a star is asked, and exists
 abbrev pub asked_star_exists : Sets → Name → Bool

@@ -6,7 +6,7 @@ use Rattle.std.specs.Map.{lookup, remove_entry, keys_of, update_all}
 use Rattle.std.specs.BTreeMap.{insert_entry}
 use Rattle.zone_proto.specs.declared.rr_key.RrKey.{RrKey}
 use Rattle.zone_proto.specs.Keys.{key, first_key, key_cmp, key_eq}
-use Rattle.zone_proto.specs.Names.{Name, lower, name_eq, is_at_or_above}
+use Rattle.zone_proto.specs.Names.{Name, IsName, lower, name_eq, is_at_or_above}
 use Rattle.zone_proto.specs.Order.{is_upto}
 use Rattle.zone_proto.specs.Sets.{RRset, IsSet}
 
@@ -54,8 +54,9 @@ without m n t = remove_entry (key_eq (key n t)) m
 abbrev pub last_at : Sets → Name → ℕ → Option RRset
 last_at entries n t = update_all key_eq (λ _. None) entries (key n t)
 
--- a set stands under its own owner name, in lower case, and type; it has a record, and its records are those of one set
+-- a set stands under its own owner name, in lower case, and type; that is a name, and the set has a record, and its records are those of one set
 pub record IsStoredAt (n : Name) (t : ℕ) (s : RRset) : Type 0 where
+  pub named : IsName n
   pub owner : lower s.owner ≡ n
   pub record_type : s.record_type ≡ t
   pub filled : s.records ≢ []

@@ -1,15 +1,14 @@
 //! What stands at one name, seen in one walk of the map: the sets of a name stand together in it, the least type first.
-ghost use Rattle.std.specs.Prelude.{◌≡◌, ℕ, ◌<◌, ◌≤◌, ◌==◌, ◌||◌, false, cond, Some, None, option_copied};
-ghost use Rattle.std.specs.List.{list_any};
+ghost use Rattle.std.specs.Prelude.{◌≡◌, ℕ, ◌<◌, ◌≤◌, ◌==◌, ◌||◌, false, None, option_copied};
 ghost use Rattle.std.specs.Option.{option_or};
 ghost use Rattle.zone_proto.specs.Types.{NS, SOA};
-ghost use Rattle.zone_map.specs.Zones.{set_at, owns, owns_at_or_below};
-ghost use Rattle.zone_map.specs.Search.{exact, types_for};
+ghost use Rattle.zone_map.specs.Zones.{set_at, owns};
+ghost use Rattle.zone_map.specs.Direct.{exact, answers_for, set_if};
 ghost use Rattle.zone_map.specs.Walks.{first_key_from};
 ghost use Rattle.zone_map.specs.Wildcards.{exists};
 
+use crate::direct::is_address;
 use crate::record_map::{RecordMap, is_denial_type};
-use crate::search::is_address;
 use zone_proto::{RecordSet, RecordType, RrKey};
 
 /// What a search for a type needs of what stands at a name.
@@ -23,15 +22,6 @@ pub(crate) struct AtName<'m> {
     pub(crate) owns_soa: bool,
     /// The first key from the name's least key on, of the name or of another.
     pub(crate) first: Option<&'m RrKey>,
-}
-
-/// Whether a name is there.
-#[derive(Clone, Copy, Drop)]
-pub(crate) struct Presence {
-    /// Whether it, or a name below it, owns a set.
-    pub(crate) is_there: bool,
-    /// Whether one of them owns a set of a type other than those of denial, so that the name exists (RFC 4592 section 2.2.2).
-    pub(crate) exists: bool,
 }
 
 /// What stands at the name of its least key, that of type 0, for a query of `record_type`.
@@ -70,8 +60,11 @@ impl<'m> AtName<'m> {
     /// The same with the set of a further type.
     fn with(self, set_type: RecordType, set: &'m RecordSet, record_type: RecordType) -> AtName<'m>
         ensures exact { option_copied result.exact
-            ≡ option_or (option_copied self.entry.exact) (cond (list_any (λ u. set_type.0 == u) (types_for record_type.0)) (Some set.now) None) }
-        ensures ns { option_copied result.ns ≡ option_or (option_copied self.entry.ns) (cond (NS == set_type.0) (Some set.now) None) }
+            ≡ option_or (option_copied self.entry.exact)
+            (set_if (answers_for record_type.0 set_type.0) set.now) }
+        ensures ns { option_copied result.ns
+            ≡ option_or (option_copied self.entry.ns)
+            (set_if (NS == set_type.0) set.now) }
         ensures soa { result.owns_soa ≡ (self.entry.owns_soa || (SOA == set_type.0)) }
         ensures first { option_copied result.first ≡ option_copied self.entry.first }
     {
@@ -89,7 +82,8 @@ impl<'m> AtName<'m> {
     /// The greatest type whose set may still count: one that answers does only while there is none, NS and SOA always.
     fn last_awaited(self, record_type: RecordType) -> RecordType
         ensures known { SOA ≤ result.0 }
-        ensures exact { option_copied self.entry.exact ≡ None → (u : ℕ) → result.0 < u → list_any (λ v. u == v) (types_for record_type.0) ≡ false }
+        ensures exact { option_copied self.entry.exact ≡ None → (u : ℕ) → result.0 < u
+            → answers_for record_type.0 u ≡ false }
     {
         if self.exact.is_some() {
             RecordType::SOA
@@ -100,36 +94,29 @@ impl<'m> AtName<'m> {
         }
     }
 
-    /// Whether the name of its least key, that of type 0, at which this stands, is there. The first key from there on tells, since
-    /// the names below a name stand together after it; only where that key is of a type of denial is a further one read.
-    pub(crate) fn presence(self, records: &RecordMap, least: &RrKey) -> Presence
+    /// Whether the name of its least key, that of type 0, at which this stands, exists: whether it, or a name below it, owns a
+    /// set of a type other than those of denial (RFC 4592 section 2.2.2). The first key from there on tells, since the names
+    /// below a name stand together after it; only where that key is of a type of denial is a further one read.
+    pub(crate) fn exists(self, records: &RecordMap, least: &RrKey) -> bool
         requires type_zero { least.now.record_type.0 ≡ 0 }
         requires first { option_copied self.first ≡ first_key_from records.now least.now.name }
-        ensures there { result.is_there ≡ owns_at_or_below records.now least.now.name }
-        ensures exists { result.exists ≡ exists records.now least.now.name }
+        ensures { result ≡ exists records.now least.now.name }
     {
         // Its clause says that the keys ascend.
         let _ = records.as_map();
-        let absent = Presence {
-            is_there: false,
-            exists: false,
-        };
         let Some(first) = self.first else {
-            return absent;
+            return false;
         };
         if !least.name.zone_of(&first.name) {
-            return absent;
+            return false;
         }
-        Presence {
-            is_there: true,
-            exists: !is_denial_type(first.record_type) || records.exists(least),
-        }
+        !is_denial_type(first.record_type) || records.exists(least)
     }
 }
 
 /// Whether a set of `set_type` answers a query of `record_type`.
 fn answers(set_type: RecordType, record_type: RecordType) -> bool
-    ensures { result ≡ list_any (λ u. set_type.0 == u) (types_for record_type.0) }
+    ensures { result ≡ answers_for record_type.0 set_type.0 }
 {
     set_type == record_type
         || set_type == RecordType::CNAME

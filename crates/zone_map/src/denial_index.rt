@@ -1,5 +1,5 @@
 //! The index of the owners of sets of denial.
-ghost use Rattle.std.specs.Prelude.{◌≡◌, [], true, cond, IfOk, OnOk, OnErr, IsOkUnless, None, Some, option_map};
+ghost use Rattle.std.specs.Prelude.{◌≡◌, [], true, IfOk, OnOk, OnErr, IsOkUnless, option_map};
 ghost use Rattle.std.specs.BTreeMap.{insert_entry};
 ghost use Rattle.std.specs.BTreeSet.{insert_key, IsFromIterResult};
 ghost use Rattle.std.specs.List.Sorted.{IsStrictlySortedBy};
@@ -8,8 +8,7 @@ ghost use Rattle.zone_proto.specs.Keys.{key_cmp, key_eq};
 ghost use Rattle.zone_proto.specs.Names.{name_cmp};
 ghost use Rattle.zone_proto.specs.Sets.{RRset};
 ghost use Rattle.zone_proto.specs.Types.{NSEC, NSEC3};
-ghost use Rattle.zone_map.specs.DenialOwners.{owners_of};
-ghost use Rattle.zone_map.specs.Upserts.{is_denial_type};
+ghost use Rattle.zone_map.specs.DenialOwners.{owners_of, indexed_owners};
 ghost use Rattle.zone_map.specs.Zones.{Sets, owners, IsZone};
 
 use std::alloc::{AllocError, Global};
@@ -61,7 +60,9 @@ impl DenialIndex {
 
     /// Takes in the owner of a key that is put into the map. Refused for want of memory alone, which changes nothing.
     pub(crate) fn insert(&mut self, key: &RrKey) -> Result<(), ProtoError>
-        ensures ok { OnOk result ((m : Sets) (set : RRset) → IsZone m → self.old ≡ owners_of m → self.new ≡ owners_of (insert_entry key_cmp m key.now set)) }
+        ensures ok { OnOk result
+            ((m : Sets) (set : RRset) → IsZone m → self.old ≡ owners_of m
+            → self.new ≡ owners_of (insert_entry key_cmp m key.now set)) }
         ensures err { IsOkUnless result ProtoError.Memory }
         ensures same { OnErr result (self.new ≡ self.old) }
     {
@@ -76,7 +77,8 @@ impl DenialIndex {
 
     /// Takes out the owner of a key that is taken out of the map. Takes no memory.
     pub(crate) fn remove(&mut self, key: &RrKey)
-        ensures { (m : Sets) → self.old ≡ owners_of m → self.new ≡ owners_of (remove_entry (key_eq key.now) m) }
+        ensures { (m : Sets) → self.old ≡ owners_of m
+            → self.new ≡ owners_of (remove_entry (key_eq key.now) m) }
     {
         if key.record_type == RecordType::NSEC {
             self.nsec.remove(&key.name);
@@ -103,7 +105,9 @@ impl DenialIndex {
 
     /// The owners of the sets of a type, if it is one of denial.
     pub(crate) fn owners(&self, record_type: RecordType) -> Option<&BTreeSet<LowerName>>
-        ensures { (m : Sets) → self.now ≡ owners_of m → option_map (λ set. set.now.keys) result ≡ cond (is_denial_type record_type.0) (Some (owners m record_type.0)) None }
+        ensures { (m : Sets) → self.now ≡ owners_of m
+            → option_map (λ set. set.now.keys) result
+            ≡ indexed_owners m record_type.0 }
     {
         match record_type {
             RecordType::NSEC => Some(&self.nsec),

@@ -1,8 +1,8 @@
 //! Iterators over the owners of the sets of denial.
-ghost use Rattle.std.specs.Prelude.{◌≡◌, [], cond, is_some, unwrap_or, ⊤};
+ghost use Rattle.std.specs.Prelude.{◌≡◌, [], is_some, unwrap_or, ⊤};
 ghost use Rattle.std.specs.Iterator.{YieldsFirstRef, item_count};
 ghost use Rattle.std.specs.Map.Iter.{TakesLast, deref};
-ghost use Rattle.zone_map.specs.Counts.{one_more};
+ghost use Rattle.zone_map.specs.Counts.{one_more_if};
 
 use crate::reads::Reads;
 use std::alloc::AllocError;
@@ -98,7 +98,7 @@ impl<'m> LastOwners<'m> {
     /// Takes the last owner of those that are left, if there is one, and counts it. Takes no memory.
     pub fn read_last(&mut self, reads: &mut Reads) -> Option<&'m LowerName>
         ensures last { TakesLast deref self.old result self.new }
-        ensures counted { reads.new ≡ cond (is_some result) (one_more reads.old) reads.old }
+        ensures counted { reads.new ≡ one_more_if (is_some result) reads.old }
     {
         let last = match &mut self.left {
             Some(left) => left.next_back(),

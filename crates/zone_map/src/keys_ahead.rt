@@ -49,7 +49,8 @@ impl<'m> KeysAhead<'m> {
     /// Whether `key` is one of those that are left. Those before it are passed, and those behind it stay. Takes no memory.
     pub fn has(&mut self, key: &RrKey) -> bool
         ensures answer { result ≡ list_any (key_eq key.now) self.old }
-        ensures later { (q : Key) → key_cmp key.now q ≡ Less → list_any (key_eq q) self.new ≡ list_any (key_eq q) self.old }
+        ensures later { (q : Key) → key_cmp key.now q ≡ Less
+            → list_any (key_eq q) self.new ≡ list_any (key_eq q) self.old }
     {
         self.first = first_not_before(self.first, &mut self.others, key);
         match self.first {
@@ -67,7 +68,9 @@ fn first_not_before<'m>(
 ) -> Option<&'m RrKey>
     requires { IsStrictlySortedBy key_cmp (ahead (option_copied first) others.old) }
     ensures ordered { IsStrictlySortedBy key_cmp (ahead (option_copied result) others.new) }
-    ensures same { (q : Key) → is_upto key_cmp key.now q ≡ true → list_any (key_eq q) (ahead (option_copied result) others.new) ≡ list_any (key_eq q) (ahead (option_copied first.entry) others.old) }
+    ensures same { (q : Key) → is_upto key_cmp key.now q ≡ true
+        → list_any (key_eq q) (ahead (option_copied result) others.new)
+        ≡ list_any (key_eq q) (ahead (option_copied first.entry) others.old) }
     ensures first { IfSome result (λ k. is_upto key_cmp key.now k.now ≡ true) }
 {
     while let Some(next) = first {

@@ -9,11 +9,11 @@
 mod at_name;
 mod denial_index;
 mod denial_owners;
+pub mod direct;
 mod keys_ahead;
 mod new_sets;
 mod reads;
 mod record_map;
-pub mod search;
 pub mod wildcard;
 
 pub use denial_owners::{DenialOwners, LastOwners};

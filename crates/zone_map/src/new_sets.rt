@@ -45,7 +45,8 @@ impl NewSets {
         entries: Vec<(RrKey, RecordSet)>,
     ) -> Result<NewSets, ProtoError>
         requires { AreStored entries.items }
-        ensures ok { IfOk result (λ map. (n : Name) (t : ℕ) → set_at map n t ≡ last_at entries.items n t) }
+        ensures ok { IfOk result
+            (λ map. (n : Name) (t : ℕ) → set_at map n t ≡ last_at entries.items n t) }
         ensures err { IsOkUnless result ProtoError.Memory }
     {
         let sets = collect_entries(alloc, entries)?;

@@ -1,3 +1,4 @@
+//! A count of reads of the map.
 ghost use Rattle.std.specs.Prelude.{◌≡◌};
 ghost use Rattle.zone_map.specs.Counts.{one_more};
 

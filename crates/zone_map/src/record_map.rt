@@ -1,11 +1,12 @@
-ghost use Rattle.std.specs.Prelude.{◌≡◌, ℕ, ◌<◌, [], true, false, IfOk, IfErr, OnOk, OnErr, IfSome, IsOkUnless, None, Some, is_some, cond, unwrap_or, option_copied};
+//! The record sets of a zone in canonical order, and the index of their denials.
+ghost use Rattle.std.specs.Prelude.{◌≡◌, ℕ, ◌<◌, [], true, false, IfOk, IfErr, OnOk, OnErr, IfSome, IsOkUnless, None, Some, unwrap_or, option_copied};
 ghost use Rattle.zone_proto.specs.Keys.{key as key_at};
-ghost use Rattle.zone_proto.specs.Names.{lower};
+ghost use Rattle.zone_proto.specs.Names.{lower, IsName};
 ghost use Rattle.zone_proto.specs.Data.{type_of};
 ghost use Rattle.zone_proto.specs.Sets.{inserted, empty_set};
 ghost use Rattle.zone_proto.specs.Results.{IsInsertion};
 ghost use Rattle.zone_map.specs.AnyTypes.{is_preferred, any_type};
-ghost use Rattle.zone_map.specs.Counts.{one_more};
+ghost use Rattle.zone_map.specs.Counts.{one_more_if};
 ghost use Rattle.zone_map.specs.Zones.{set_at, has_key_from, owns, owns_at_or_below, put, without, IsStoredAt, IsZone};
 ghost use Rattle.zone_map.specs.Wildcards.{exists};
 ghost use Rattle.zone_map.specs.Upserts.{upserted, with_record, clash, clashes, is_denial_type, CnamesStandAlone};
@@ -74,7 +75,8 @@ impl RecordMap {
     /// The set under a key, if there is one.
     pub fn get(&self, key: &RrKey) -> Option<&RecordSet>
         ensures found { option_copied result ≡ set_at self.now key.now.name key.now.record_type.0 }
-        ensures stored { IfSome result (λ set. IsStoredAt key.now.name key.now.record_type.0 set.now) }
+        ensures stored { IfSome result
+            (λ set. IsStoredAt key.now.name key.now.record_type.0 set.now) }
     {
         self.sets.get(key)
     }
@@ -85,7 +87,8 @@ impl RecordMap {
     /// which hands the set back and leaves the map as it was.
     pub fn put(&mut self, key: RrKey, set: RecordSet) -> Result<Option<RecordSet>, RecordSet>
         requires { IsStoredAt key.name key.record_type.0 set }
-        ensures before { IfOk result (λ before. before ≡ set_at self.old key.name key.record_type.0) }
+        ensures before { IfOk result
+            (λ before. before ≡ set_at self.old key.name key.record_type.0) }
         ensures stored { OnOk result (self.new ≡ put self.old key.name key.record_type.0 set) }
         ensures refused { IfErr result (λ refused. refused ≡ set) }
         ensures same { OnErr result (self.new ≡ self.old) }
@@ -128,7 +131,8 @@ impl RecordMap {
     /// `Memory` alone.
     pub fn owns_at_or_below(&self, name: &LowerName, reads: &mut Reads) -> Result<bool, ProtoError>
         ensures answer { IfOk result (λ owned. owned ≡ owns_at_or_below self.now name.now) }
-        ensures counted { OnOk result (reads.new ≡ cond (has_key_from self.now name.now) (one_more reads.old) reads.old) }
+        ensures counted { OnOk result
+            (reads.new ≡ one_more_if (has_key_from self.now name.now) reads.old) }
         ensures err { IsOkUnless result ProtoError.Memory }
         ensures uncounted { OnErr result (reads.new ≡ reads.old) }
     {
@@ -141,7 +145,7 @@ impl RecordMap {
     fn owns_from(&self, least: &RrKey, reads: &mut Reads) -> bool
         requires { least.now.record_type.0 ≡ 0 }
         ensures owned { result ≡ owns_at_or_below self.now least.now.name }
-        ensures counted { reads.new ≡ cond (has_key_from self.now least.now.name) (one_more reads.old) reads.old }
+        ensures counted { reads.new ≡ one_more_if (has_key_from self.now least.now.name) reads.old }
     {
         match self.sets.range(least..).next() {
             Some((first, _)) => {
@@ -203,7 +207,9 @@ impl RecordMap {
         serial: u32,
         dns_class: DNSClass,
     ) -> Result<bool, ProtoError>
-        ensures insertion { IsInsertion self.old (upserted self.old dns_class.0 «record» serial) result self.new }
+        ensures insertion { IsInsertion self.old (upserted self.old dns_class.0 «record» serial)
+            result self.new }
+        ensures zone { IsZone self.old → IsZone self.new }
         ensures cnames { CnamesStandAlone self.old → CnamesStandAlone self.new }
     {
         if record.dns_class != dns_class {
@@ -228,7 +234,8 @@ impl RecordMap {
     fn standing_at(&self, least: &RrKey, record_type: RecordType) -> Standing
         requires { least.now.record_type.0 ≡ 0 }
         ensures clashes { result.clashes ≡ clashes self.now least.now.name record_type.0 }
-        ensures absent { result.may_be_there ≡ false → owns self.now least.now.name record_type.0 ≡ false }
+        ensures absent { result.may_be_there ≡ false
+            → owns self.now least.now.name record_type.0 ≡ false }
     {
         let mut is_there = false;
         for (key, _) in self.sets.range(least..) {
@@ -252,7 +259,8 @@ impl RecordMap {
 
     /// Takes a record into the set under its key, or makes that set where there is none.
     fn insert_into(&mut self, key: RrKey, record: Record, serial: u32) -> Result<bool, ProtoError>
-        requires { key ≡ key_at (lower «record».name) (type_of «record».rdata) }
+        requires own_key { key ≡ key_at (lower «record».name) (type_of «record».rdata) }
+        requires named { IsName (lower «record».name) }
         ensures { IsInsertion self.old (with_record self.old «record» serial) result self.new }
     {
         match self.sets.get_mut(&key) {
@@ -264,6 +272,7 @@ impl RecordMap {
     /// Makes the set of a record under its key, where there is none.
     fn insert_new(&mut self, key: RrKey, record: Record, serial: u32) -> Result<bool, ProtoError>
         requires own_key { key ≡ key_at (lower «record».name) (type_of «record».rdata) }
+        requires named { IsName (lower «record».name) }
         requires absent { set_at self.old (lower «record».name) (type_of «record».rdata) ≡ None }
         ensures { IsInsertion self.old (with_record self.old «record» serial) result self.new }
     {

@@ -1,12 +1,11 @@
 //! The wildcard that answers for a name that doesn't exist (RFC 4592).
-ghost use Rattle.std.specs.Prelude.{◌≡◌, drop, IfOk, IsOkUnless, None, option_map};
-ghost use Rattle.zone_proto.specs.Keys.{first_key};
+ghost use Rattle.std.specs.Prelude.{◌≡◌, IfOk, IsOkUnless, None, Some};
 ghost use Rattle.zone_proto.specs.Names.{wildcard_of};
-ghost use Rattle.zone_map.specs.Search.{direct};
+ghost use Rattle.zone_map.specs.Direct.{direct};
 ghost use Rattle.zone_map.specs.Wildcards.{asked_star, asked_star_exists, renamed, renamed_signature, wildcard};
 
+use crate::direct::at_star;
 use crate::record_map::RecordMap;
-use crate::search::{Missing, at_star};
 use zone_proto::{LowerName, Name, ProtoError, Record, RecordSet, RecordType, RrKey};
 
 /// What a wildcard makes of a query for a name without a direct set.
@@ -14,34 +13,30 @@ use zone_proto::{LowerName, Name, ProtoError, Record, RecordSet, RecordType, RrK
 pub struct Synthesis {
     /// The set that it gives the name.
     pub set: Option<RecordSet>,
-    /// Whether a star is asked for the name, and exists.
-    pub is_there: bool,
+    /// Whether the star that is asked for the name exists.
+    pub star_exists: bool,
 }
 
 /// What a wildcard makes of a query for a name without a direct set (RFC 4592 section 3.3.1): the direct set of the star under
 /// the closest encloser, the longest of the name's proper ancestors that exists, under the name, with signatures only if
-/// `signed`. No star is asked for the root, for a name that begins with `*`, and for one that exists: `missing` is what the
-/// search for a direct set has seen. Refused by `Memory` alone.
+/// `signed`. The star has `*` in the place of the first label of `next_closer`, as the search for a direct set has seen it.
+/// Refused by `Memory` alone.
 pub fn wildcard(
     records: &RecordMap,
     name: &LowerName,
     record_type: RecordType,
     signed: bool,
-    missing: Missing,
+    next_closer: LowerName,
 ) -> Result<Synthesis, ProtoError>
     requires none { direct records.now name.now record_type.0 ≡ None }
-    requires star { option_map (λ k. wildcard_of (drop k name.now)) missing.star ≡ asked_star records.now name.now }
-    ensures set { IfOk result (λ synthesis. synthesis.set ≡ wildcard records.now signed name.now record_type.0) }
-    ensures there { IfOk result (λ synthesis. synthesis.is_there ≡ asked_star_exists records.now name.now) }
+    requires star { asked_star records.now name.now ≡ Some (wildcard_of next_closer) }
+    ensures set { IfOk result
+        (λ synthesis. synthesis.set ≡ wildcard records.now signed name.now record_type.0) }
+    ensures exists { IfOk result
+        (λ synthesis. synthesis.star_exists ≡ asked_star_exists records.now name.now) }
     ensures err { IsOkUnless result ProtoError.Memory }
 {
-    let Some(labels) = missing.star else {
-        return Ok(Synthesis {
-            set: None,
-            is_there: false,
-        });
-    };
-    let star = first_of_star(name, labels)?;
+    let star = RrKey::new(next_closer.into_wildcard(), RecordType(0));
     let here = at_star(records, &star, record_type);
     let set = match here.set {
         Some(set) => Some(renamed(set, &Name::from(star.name), name, signed)?),
@@ -49,21 +44,8 @@ pub fn wildcard(
     };
     Ok(Synthesis {
         set,
-        is_there: here.exists,
+        star_exists: here.exists,
     })
-}
-
-/// The least key of the name that has `*` in the place of the first of its labels that are left without so many. Refused by
-/// `Memory` alone.
-fn first_of_star(name: &LowerName, labels: usize) -> Result<RrKey, ProtoError>
-    ensures made { IfOk result (λ least. least ≡ first_key (wildcard_of (drop labels name.now))) }
-    ensures err { IsOkUnless result ProtoError.Memory }
-{
-    let mut next_closer = name.clone()?;
-    for _ in 0..labels {
-        next_closer.shorten();
-    }
-    Ok(RrKey::new(next_closer.into_wildcard(), RecordType(0)))
 }
 
 /// A star's set under the queried name.

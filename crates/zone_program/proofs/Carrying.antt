@@ -1,6 +1,6 @@
 -- A command carried out by what serves its kind
 use Rattle.std.proofs.Common.{◌≡◌, ℕ, List, OnOk, Ok, Err, Result, subst, sym, refl}
-use Rattle.zone_program.specs.declared.answers.Served.{Served}
+use Rattle.zone_program.specs.declared.session.Served.{Served}
 use Rattle.zone_commands.specs.declared.command.Command.{Command}
 use Rattle.zone_program.specs.Replies.{Reply}
 use Rattle.zone_program.specs.Steps.{Adds, Carries}

@@ -18,11 +18,11 @@ use Rattle.zone_handler.specs.declared.lookup_error.LookupError.{LookupError}
 use Rattle.zone_handler.specs.declared.lookup_error.LookupError.TheVariants as lookup_error
 use Rattle.zone_handler.specs.declared.lookup_options.LookupOptions.{LookupOptions}
 use Rattle.zone_handler.specs.declared.lookup_records.LookupRecords.TheVariants as section
-use Rattle.zone_search.specs.Replies.{one_set, answered, denied, nx_domain}
+use Rattle.zone_inner.specs.Replies.{one_set, answered, negative, nx_domain}
 use Rattle.zone_in_memory.specs.Lookup.{IsLookup}
 use Rattle.zone_commands.specs.Lines.{lines_of}
 use Rattle.zone_commands.specs.Transcripts.{AnswersLine, IsTranscript}
-use Rattle.zone_program.specs.declared.answers.Served.{Served}
+use Rattle.zone_program.specs.declared.session.Served.{Served}
 use Rattle.zone_program.specs.Replies.{yes}
 use Rattle.zone_program.specs.Sessions.{first_session, IsAnswer}
 use Rattle.zone_program.specs.Steps.{lookup_reply, signature_of, with_sets}
@@ -147,7 +147,7 @@ referred : IsLookup signature_of full.zone (codes "a" ∷ codes "sub" ∷ apex) 
 referred = inl (answered (one_set sub_set) [], record { more = []; found = refl; sections = refl }, (answer.Records (section.Records unsigned sub_set) None, refl, (section.Records unsigned sub_set, None, refl, refl, refl)))
 
 absent : IsLookup signature_of full.zone (codes "no" ∷ apex) A unsigned 0 no_name
-absent = inl (denied nx_domain, refl, refl)
+absent = inl (negative nx_domain, refl, refl)
 
 -- ---- the answer to each line, whatever its number
 

@@ -9,12 +9,12 @@ use Rattle.zone_handler.specs.declared.secure_error.SecureError.{SecureError}
 use Rattle.zone_proto.specs.Keys.{key, key_eq}
 use Rattle.zone_map.specs.Upserts.{upserted}
 use Rattle.zone_map.specs.Zones.{Sets, set_at}
-use Rattle.zone_search.specs.StartOfAuthority.{serial}
+use Rattle.zone_inner.specs.StartOfAuthority.{serial}
 use Rattle.zone_commands.specs.declared.command.Command.{Command}
 use Rattle.zone_commands.specs.declared.command.Command.TheVariants as command
 use Rattle.zone_commands.specs.Commands.{said_by}
 use Rattle.zone_commands.specs.Transcripts.{AnswersSaid}
-use Rattle.zone_program.specs.declared.answers.Served.{Served}
+use Rattle.zone_program.specs.declared.session.Served.{Served}
 use Rattle.zone_program.specs.Replies.{Reply, yes, no, done, secured, refused, failed, broken_off, answered, proved, listed, transferred, reply_text}
 use Rattle.zone_program.specs.Sessions.{IsAnswer}
 use Rattle.zone_program.specs.Steps.{with_sets, IsAdded, IsDropped, IsKeyed, IsRenewed, IsSecuredAt, TellsSecured}
@@ -66,7 +66,7 @@ module _ (old new : Served) (reply : Reply) (refusal : IsRefusal reply) where
 pub refused_changes_nothing : RefusedChangesNothing
 refused_changes_nothing old new (command.Add r) reply step refusal = add_refused old new reply refusal r step
 refused_changes_nothing old new (command.Drop k) reply step refusal = drop_refused old new reply refusal k step
-refused_changes_nothing old new (command.Renew kind) reply step refusal = renewal_refused old new reply refusal kind step
+refused_changes_nothing old new (command.Kind kind) reply step refusal = renewal_refused old new reply refusal kind step
 refused_changes_nothing old new (command.Key number) reply step refusal = key_refused old new reply refusal number step
 refused_changes_nothing old new (command.Secure now) reply step refusal = securing_refused old new reply refusal now step
 refused_changes_nothing old new (command.Lookup name record_type options) reply step refusal = step.1

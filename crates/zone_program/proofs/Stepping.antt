@@ -10,11 +10,11 @@ use Rattle.zone_proto.specs.declared.record_type.RecordType.{RecordType}
 use Rattle.zone_map.specs.DenialOwners.{denial_owners}
 use Rattle.zone_map.specs.Upserts.{upserted}
 use Rattle.zone_map.specs.Zones.{Sets}
-use Rattle.zone_search.specs.declared.zone_error.ZoneError.{ZoneError}
-use Rattle.zone_search.specs.StartOfAuthority.{serial}
+use Rattle.zone_inner.specs.declared.zone_error.ZoneError.{ZoneError}
+use Rattle.zone_inner.specs.StartOfAuthority.{serial}
 use Rattle.zone_in_memory.specs.Insertions.{IsUpsert}
 use Rattle.zone_in_memory.specs.Signing.{with_key, IsKeyAdded}
-use Rattle.zone_program.specs.declared.answers.Served.{Served}
+use Rattle.zone_program.specs.declared.session.Served.{Served}
 use Rattle.zone_program.specs.DemoSigners.{Demo, demo_key}
 use Rattle.zone_program.specs.Replies.{yes, no, done, refused, failed, listed, memory, reply_text}
 use Rattle.zone_program.specs.Steps.{DemoZone, circle_owners, denial_type, signer_of, with_sets, with_zone, IsOutOfMemory, IsAdded, IsKeyed}

@@ -1,10 +1,9 @@
 -- The signer of the program's demonstrations, which is no cryptography
-use Rattle.std.specs.Prelude.{ℕ, ◌+◌, ◌-◌, ◌/◌, ◌%◌, ◌^◌, List, [], ◌∷◌, cond, length}
+use Rattle.std.specs.Prelude.{ℕ, ◌+◌, ◌-◌, ◌/◌, ◌%◌, ◌^◌, List, [], ◌∷◌, length, if◌then◌else◌}
 use Rattle.zone_proto.specs.declared.rdata.signing.DNSKEY.{DNSKEY}
 use Rattle.zone_proto.specs.declared.rdata.signing.RRSIG.{RRSIG}
-use Rattle.zone_proto.specs.Names.{Name}
+use Rattle.zone_proto.specs.Names.{Name, is_wildcard}
 use Rattle.zone_proto.specs.Signing.{SignedPart}
-use Rattle.zone_in_memory.specs.Wildcards.{is_starred}
 
 -- what tells it from another: its number, and the origin of the zone that it signs for
 pub record Demo : Type 0 where
@@ -21,7 +20,7 @@ demo_key signer = record { flags = 256; protocol = 3; algorithm = 253; public_ke
 
 -- how many labels an owner has, without the root and a leading star (RFC 4034 section 3.1.3)
 abbrev pub signed_labels : Name → ℕ
-signed_labels owner = length owner - cond (is_starred owner) 1 0
+signed_labels owner = length owner - (if is_wildcard owner then 1 else 0)
 
 -- its signature of a set, for the day that begins at a moment, in seconds modulo 2^32 (RFC 4034 section 3.1.5)
 abbrev pub demo_signature : Demo → SignedPart → ℕ → RRSIG

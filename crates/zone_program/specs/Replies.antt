@@ -6,7 +6,7 @@ use Rattle.zone_proto.specs.declared.record.Record.{Record}
 use Rattle.zone_proto.specs.Names.{Name}
 use Rattle.zone_proto.specs.Text.{name_text}
 use Rattle.zone_proto.specs.TypeText.{response_code_text}
-use Rattle.zone_text.specs.Printing.{record_text}
+use Rattle.zone_text.specs.Records.{record_text}
 use Rattle.zone_handler.specs.declared.lookup_error.LookupError.{LookupError}
 use Rattle.zone_handler.specs.declared.lookup_error.LookupError.TheVariants as lookup_error
 use Rattle.zone_handler.specs.declared.secure_error.SecureError.{SecureError}

@@ -1,7 +1,7 @@
 -- Laws of sessions
 use Rattle.std.specs.Prelude.{◌≡◌, ℕ, List, Bool, Option, ⊤}
 use Rattle.zone_commands.specs.declared.command.Command.{Command}
-use Rattle.zone_program.specs.declared.answers.Served.{Served}
+use Rattle.zone_program.specs.declared.session.Served.{Served}
 use Rattle.zone_program.specs.Replies.{Reply, no, refused, failed, broken_off, reply_text}
 use Rattle.zone_commands.specs.Transcripts.{AnswersLine}
 use Rattle.zone_program.specs.Sessions.{IsAnswer}

@@ -6,7 +6,7 @@ use Rattle.zone_proto.specs.TextForm.{IsNameText}
 use Rattle.zone_commands.specs.declared.command.Command.{Command}
 use Rattle.zone_commands.specs.Lines.{lines_of}
 use Rattle.zone_commands.specs.Transcripts.{IsTranscript}
-use Rattle.zone_program.specs.declared.answers.Served.{Served}
+use Rattle.zone_program.specs.declared.session.Served.{Served}
 use Rattle.zone_program.specs.Steps.{empty_zone, Carries}
 
 -- the session before a command, the command, the text of an answer to it, and the session after it

@@ -1,6 +1,8 @@
 -- What each command does to the session, and which reply it has
 use Rattle.std.specs.Prelude.{◌≡◌, ◌⊎◌, ℕ, false, if◌then◌else◌, List, [], ◌∷◌, ◌++◌, Option, Some, None, is_some, Result, Ok, Err, MatchOption, unwrap_or}
+use Rattle.std.specs.declared.string.String.{String}
 use Rattle.std.specs.Option.{option_map_or}
+use Rattle.std.specs.String.{string_bytes}
 use Rattle.zone_proto.specs.declared.message.Query.{Query}
 use Rattle.zone_proto.specs.declared.nx_proof_kind.NxProofKind.{NxProofKind}
 use Rattle.zone_proto.specs.declared.nx_proof_kind.NxProofKind.TheVariants as kind
@@ -26,14 +28,14 @@ use Rattle.zone_handler.specs.Transfers.{transfer_records}
 use Rattle.zone_map.specs.DenialOwners.{denial_owners}
 use Rattle.zone_map.specs.Upserts.{upserted}
 use Rattle.zone_map.specs.Zones.{Sets, set_at, without}
-use Rattle.zone_search.specs.StartOfAuthority.{serial}
+use Rattle.zone_inner.specs.StartOfAuthority.{serial}
 use Rattle.zone_in_memory.specs.Handlers.{Zone}
 use Rattle.zone_in_memory.specs.Lookup.{IsLookup}
 use Rattle.zone_in_memory.specs.Nsec3Steps.{IsNsec3Answer}
 use Rattle.zone_in_memory.specs.NsecAnswers.{IsNsecAnswer}
 use Rattle.zone_in_memory.specs.Signing.{with_key, IsSecuring}
 use Rattle.zone_in_memory.specs.Transfers.{plain, IsZoneTransfer}
-use Rattle.zone_program.specs.declared.answers.Served.{Served}
+use Rattle.zone_program.specs.declared.session.Served.{Served}
 use Rattle.zone_commands.specs.declared.command.Command.{Command}
 use Rattle.zone_commands.specs.declared.command.Command.TheVariants as command
 use Rattle.zone_program.specs.declared.sha1_hash.Sha1Hash.{Sha1Hash}
@@ -191,7 +193,7 @@ module _ (session : Served) where
 abbrev pub IsStep : Served → Command → Reply → Served → Type 0
 IsStep old (command.Add r) reply new = IsAdded old r reply new
 IsStep old (command.Drop key) reply new = IsDropped old key reply new
-IsStep old (command.Renew kind) reply new = IsRenewed old kind reply new
+IsStep old (command.Kind kind) reply new = IsRenewed old kind reply new
 IsStep old (command.Key number) reply new = IsKeyed old number reply new
 IsStep old (command.Secure now) reply new = IsSecuredAt old now reply new
 IsStep old (command.Lookup name record_type options) reply new = IsLookedUp old name record_type.0 options reply × (new ≡ old)
@@ -202,6 +204,10 @@ IsStep old (command.Transfer options) reply new = IsTransferred old options repl
 -- the text of a reply stands behind the text before
 abbrev pub Adds : (Reply → Type 0) → List ℕ → List ℕ → Type 0
 Adds IsReply before after = (reply : Reply) × IsReply reply × (after ≡ before ++ reply_text reply)
+
+-- the same of what a buffer of text holds before and after
+abbrev pub AddsTo : {Z : Type 0} → (Reply → Type 0) → String Z → String Z → Type 0
+AddsTo IsReply old new = Adds IsReply (string_bytes old) (string_bytes new)
 
 -- a command is carried out: of the session before, the command, the text before, the text after, and the session after
 abbrev pub Carries : Served → Command → List ℕ → List ℕ → Served → Type 0

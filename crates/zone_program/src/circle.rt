@@ -1,13 +1,12 @@
-// The command that lists the owners of the sets of denial.
+//! The command that lists the owners of the sets of denial.
 ghost use Rattle.std.specs.Prelude.{◌≡◌, codes, option_copied, option_map, OnOk, Some};
-ghost use Rattle.std.specs.String.{string_bytes};
 ghost use Rattle.zone_proto.specs.Text.{name_text};
 ghost use Rattle.zone_map.specs.DenialOwners.{denial_owners};
 ghost use Rattle.zone_program.specs.Replies.{list_text};
-ghost use Rattle.zone_program.specs.Steps.{denial_type, IsCircled, Adds};
+ghost use Rattle.zone_program.specs.Steps.{denial_type, IsCircled, AddsTo};
 
-use crate::answers::Served;
 use crate::demo_signer::DemoSigner;
+use crate::session::Served;
 use std::alloc::AllocError;
 use std::fmt;
 use std::fmt::Write;
@@ -19,7 +18,7 @@ use zone_proto::{NxProofKind, RecordType};
 /// zone without a kind has none to list. Where the list finds no memory the answer says that in its place, and the next line can
 /// be served.
 pub fn circle(served: &Served, answer: &mut String) -> Result<(), AllocError>
-    ensures { OnOk result (Adds (IsCircled served.now) (string_bytes answer.old) (string_bytes answer.new)) }
+    ensures { OnOk result (AddsTo (IsCircled served.now) answer.old answer.new) }
 {
     let Some(record_type) = denial_type(served.zone.nx_proof_kind()) else {
         return answer.push_str("circle 0\n");
@@ -54,7 +53,8 @@ struct OwnersText<'z> {
 }
 
 impl fmt::Display for OwnersText<'_> {
-    ghost output = { λ owners. Some (list_text (codes "circle") name_text (denial_owners owners.inner.now.records owners.record_type.0)) };
+    ghost output = { λ owners. Some (list_text (codes "circle") name_text
+        (denial_owners owners.inner.now.records owners.record_type.0)) };
 
     fn fmt<W: fmt::Write>(&self, f: &mut fmt::Formatter<W>) -> fmt::Result {
         let mut count = 0u64;

@@ -1,3 +1,4 @@
+//! The signer of the demonstrations.
 ghost use Rattle.std.specs.Prelude.{Some, ◌≡◌, IfOk, IsOkUnless};
 ghost use Rattle.zone_program.specs.DemoSigners.{octets_of, demo_key, demo_signature, signed_labels};
 
@@ -30,7 +31,8 @@ impl DemoSigner {
     /// The demonstration signer of this number for the zone of this origin, whose name it copies together with
     /// the allocator that the name was made with. `Memory` where that copy is refused.
     pub fn new(number: u16, origin: &LowerName) -> Result<DemoSigner, ProtoError>
-        ensures made { IfOk result (λ signer. signer ≡ record { number = number; origin = origin.now }) }
+        ensures made { IfOk result
+            (λ signer. signer ≡ record { number = number; origin = origin.now }) }
         ensures err { IsOkUnless result ProtoError.Memory }
     {
         Ok(DemoSigner {

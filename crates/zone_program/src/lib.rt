@@ -7,15 +7,16 @@ ghost use Rattle.std.specs.Prelude.{◌≡◌, ◌≢◌, ◌≤◌, ◌<◌, �
 ghost use Rattle.zone_proto.specs.Names.{Name as NameLabels};
 ghost use Rattle.zone_program.specs.Sessions.{first_session, IsOnlyWord, IsServed};
 
-mod answers;
 mod circle;
 mod demo_signer;
 pub mod laws;
+mod replies;
+mod session;
 mod sha1_hash;
 mod signing;
 
-use answers::{Served, empty_zone};
 pub use demo_signer::DemoSigner;
+use session::{Served, empty_zone};
 pub use sha1_hash::Sha1Hash;
 use std::alloc::Global;
 use std::io::{Read, Write};
@@ -38,13 +39,16 @@ enum Fault {
 /// together are written together: those that wait are written in one piece before `input` is read again and at its
 /// end, and as soon as they have 4,096 octets or more.
 ///
-/// The status is 0, or 1 after a bad line: then `input` was read to its end, and what was written is the answers to its
-/// lines, one after the other, from a zone without records on. It is 2, with one line on `fault`, where the words aren't one
-/// name, where the first memory is refused, and after a read or a write that failed. When a read fails, the answers to all lines
-/// before it are written; after a write that failed nothing more is. Memory that is refused later on makes the
-/// answer of its line `error Memory`, and leaves the zone as it was. Where it is the text of an answer that finds no
-/// memory, which only one of more than 4,096 octets can meet, the answers before it are written and nothing of it,
-/// and the program ends as after a failed write.
+/// # Status
+/// It is 0, or 1 after a bad line: then `input` was read to its end, and what was written is the answers to its
+/// lines, one after the other, from a zone without records on. It is 2 after an error.
+///
+/// # Errors
+/// One line on `fault` says why the program ends: the words aren't one name, the first memory is refused, or a read or a
+/// write failed. When a read fails, the answers to all lines before it are written; after a write that failed nothing
+/// more is. Memory that is refused later on ends nothing: it makes the answer of its line `error Memory`, and leaves the
+/// zone as it was. Where it is the text of an answer that finds no memory, which only one of more than 4,096 octets can
+/// meet, the answers before it are written and nothing of it, and the program ends as after a failed write.
 pub fn run<R: Read, W: Write, E: Write>(
     alloc: Global,
     args: &[String],
@@ -54,7 +58,9 @@ pub fn run<R: Read, W: Write, E: Write>(
 ) -> u8
     ensures status { result ≤ 2 }
     ensures usage { length args.now ≢ 1 → result ≡ 2 }
-    ensures served { result < 2 → IsServed (map string_bytes args.now) (R.remaining input.old) (R.remaining input.new) (W.contents output.old) (W.contents output.new) result }
+    ensures served { result < 2
+        → IsServed (map string_bytes args.now) (R.remaining input.old) (R.remaining input.new)
+        (W.contents output.old) (W.contents output.new) result }
 {
     match serve_zone(alloc, args, input, output) {
         Ok(true) => 0,
@@ -84,7 +90,9 @@ fn serve_zone<R: Read, W: Write>(
     output: &mut W,
 ) -> Result<bool, Fault>
     ensures usage { length args.now ≢ 1 → IsErrOf result Fault.Usage }
-    ensures served { IfOk result (λ good. IsServed (map string_bytes args.now) (R.remaining input.old) (R.remaining input.new) (W.contents output.old) (W.contents output.new) (if good then 0 else 1)) }
+    ensures served { IfOk result (λ good.
+        IsServed (map string_bytes args.now) (R.remaining input.old) (R.remaining input.new)
+        (W.contents output.old) (W.contents output.new) (if good then 0 else 1)) }
 {
     let mut served = make_zone(alloc, args)?;
     match serve(alloc, &mut served, input, output) {
@@ -96,7 +104,9 @@ fn serve_zone<R: Read, W: Write>(
 /// Makes the zone without records, whose origin is the one word.
 fn make_zone(alloc: Global, args: &[String]) -> Result<Served, Fault>
     ensures usage { length args.now ≢ 1 → IsErrOf result Fault.Usage }
-    ensures made { IfOk result (λ served. (origin : NameLabels) × IsOnlyWord (map string_bytes args.now) origin × (served ≡ first_session origin)) }
+    ensures made { IfOk result
+        (λ served. (origin : NameLabels) × IsOnlyWord (map string_bytes args.now) origin
+        × (served ≡ first_session origin)) }
 {
     let [origin] = args else {
         return Err(Fault::Usage);

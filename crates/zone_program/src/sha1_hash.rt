@@ -1,3 +1,4 @@
+//! The hash of names for NSEC3 records: SHA-1.
 ghost use Rattle.std.specs.Prelude.{◌≡◌, ◌++◌};
 ghost use Rattle.sha1.specs.Sha1.{sha1};
 ghost use Rattle.zone_program.specs.Nsec3Digests.{iterated_hash, nsec3_digest};
@@ -14,7 +15,8 @@ const DIGEST_LENGTH: usize = 20;
 pub struct Sha1Hash;
 
 impl Nsec3Hash for Sha1Hash {
-    ghost digest_of = { λ _ algorithm salt name iterations. nsec3_digest algorithm salt name iterations };
+    ghost digest_of = { λ _ algorithm salt name iterations.
+        nsec3_digest algorithm salt name iterations };
 
     /// The digest of the name's wire form in lower case by SHA-1, for algorithm 1: hashed once, and then `iterations` times
     /// more, each time with the salt behind what is hashed (RFC 5155 section 5). It has 20 octets.

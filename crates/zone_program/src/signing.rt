@@ -1,12 +1,11 @@
-// The commands that sign the zone.
+//! The commands that sign the zone.
 ghost use Rattle.std.specs.Prelude.{◌≡◌, IfOk, OnOk, IsOkUnless};
-ghost use Rattle.std.specs.String.{string_bytes};
 ghost use Rattle.zone_proto.specs.Names.{lower};
 ghost use Rattle.zone_program.specs.Replies.{secure_word};
-ghost use Rattle.zone_program.specs.Steps.{signer_of, IsKeyed, IsRenewed, IsSecuredAt, Adds};
+ghost use Rattle.zone_program.specs.Steps.{signer_of, IsKeyed, IsRenewed, IsSecuredAt, AddsTo};
 
-use crate::answers::{Served, empty_zone};
 use crate::demo_signer::DemoSigner;
+use crate::session::{Served, empty_zone};
 use std::alloc::AllocError;
 use zone_handler::{KeyError, SecureError, ZoneHandler};
 use zone_proto::{Name, NxProofKind, ProtoError};
@@ -17,7 +16,9 @@ pub fn renew(
     nx_proof_kind: Option<NxProofKind>,
     answer: &mut String,
 ) -> Result<(), AllocError>
-    ensures { OnOk result (Adds (λ reply. IsRenewed served.old nx_proof_kind reply served.new) (string_bytes answer.old) (string_bytes answer.new)) }
+    ensures { OnOk result
+        (AddsTo (λ reply. IsRenewed served.old nx_proof_kind reply served.new)
+        answer.old answer.new) }
 {
     match origin_of(served) {
         Ok(origin) => {
@@ -30,7 +31,8 @@ pub fn renew(
 
 /// A copy of the zone's origin.
 fn origin_of(served: &Served) -> Result<Name, ProtoError>
-    ensures ok { IfOk result (λ origin. (origin ≡ served.now.zone.origin) × (lower origin ≡ origin)) }
+    ensures ok { IfOk result
+        (λ origin. (origin ≡ served.now.zone.origin) × (lower origin ≡ origin)) }
     ensures err { IsOkUnless result ProtoError.Memory }
 {
     Ok(Name::from(served.zone.origin().clone()?))
@@ -38,7 +40,8 @@ fn origin_of(served: &Served) -> Result<Name, ProtoError>
 
 /// Adds the demonstration signer of a number.
 pub fn add_key(served: &mut Served, number: u16, answer: &mut String) -> Result<(), AllocError>
-    ensures { OnOk result (Adds (λ reply. IsKeyed served.old number reply served.new) (string_bytes answer.old) (string_bytes answer.new)) }
+    ensures { OnOk result
+        (AddsTo (λ reply. IsKeyed served.old number reply served.new) answer.old answer.new) }
 {
     let Ok(signer) = signer_for(served, number) else {
         return answer.push_str("refused Memory\n");
@@ -60,7 +63,8 @@ fn signer_for(served: &Served, number: u16) -> Result<DemoSigner, ProtoError>
 
 /// Secures the zone, and tells the serial that it has then.
 pub fn secure(served: &mut Served, now: u64, answer: &mut String) -> Result<(), AllocError>
-    ensures { OnOk result (Adds (λ reply. IsSecuredAt served.old now reply served.new) (string_bytes answer.old) (string_bytes answer.new)) }
+    ensures { OnOk result
+        (AddsTo (λ reply. IsSecuredAt served.old now reply served.new) answer.old answer.new) }
 {
     match served.zone.secure_zone_mut(now) {
         Ok(()) => {

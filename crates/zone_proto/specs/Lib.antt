@@ -7,6 +7,7 @@ pub mod Vectors
 pub mod NameLaws
 pub mod Keys
 pub mod Faults
+pub mod WireForms
 pub mod Results
 pub mod Forms
 pub mod Suffixes

@@ -67,6 +67,11 @@ abbrev pub suffixes : Name → List Name
 suffixes [] = [] ∷ []
 suffixes (l ∷ ls) = (l ∷ ls) ∷ suffixes ls
 
+-- the name's ancestors without itself, the longest first, the root last
+abbrev pub proper_ancestors : Name → List Name
+proper_ancestors [] = []
+proper_ancestors (l ∷ ls) = suffixes ls
+
 abbrev pub is_root : Name → Bool
 is_root [] = true
 is_root (l ∷ ls) = false
@@ -83,6 +88,15 @@ IsWildcard n = (base : Name) × (n ≡ star_label ∷ base)
 abbrev pub wildcard_of : Name → Name
 wildcard_of [] = []
 wildcard_of (l ∷ ls) = star_label ∷ ls
+
+-- the test of a first label `*`
+abbrev pub is_wildcard : Name → Bool
+is_wildcard [] = false
+is_wildcard (l ∷ ls) = label_eq l star_label
+
+-- the wildcard under a name: `*` before its labels
+abbrev pub star_under : Name → Name
+star_under a = star_label ∷ a
 
 -- the name without its first label; the root of the root
 abbrev pub base_name : Name → Name

@@ -1,4 +1,4 @@
-// Digests in base32hex, as the owners of NSEC3 sets have them and as NSEC3 records are printed.
+//! Digests in base32hex, as the owners of NSEC3 sets have them and as NSEC3 records are printed.
 ghost use Rattle.std.specs.Prelude.{◌≡◌, ◌<◌, ◌+◌, ◌*◌, ◌/◌, length, slice_index, string_bytes, Some, IfOk, IsOkUnless};
 ghost use Rattle.std.specs.Char.{digit_char};
 ghost use Rattle.zone_proto.specs.Base32.{base32_count, base32_text, five_bits};

@@ -1,4 +1,4 @@
-// Names in one piece of octets: each label behind its length, leftmost first, as in the wire form (RFC 1035 section 3.1).
+//! Names in one piece of octets: each label behind its length, leftmost first, as in the wire form (RFC 1035 section 3.1).
 //
 // Here a label may have an octet 0. A length is at most 63, so that it is no letter, and the octets can be put into lower
 // case as they stand.
@@ -60,6 +60,14 @@ impl Counted {
         push_label(&mut octets, label)?;
         push_labels(&mut octets, labels)?;
         Ok(Counted { octets })
+    }
+
+    /// The name whose labels stand in these octets.
+    pub(crate) fn of_octets(octets: Octets) -> Counted
+        requires { IsCounting octets.items (counted_name octets.items) }
+        ensures { result ≡ counted_name octets.items }
+    {
+        Counted { octets }
     }
 
     /// Whether this is the root.
@@ -164,7 +172,8 @@ fn write_star(octets: &mut Octets)
 /// The first label, and the octets of the labels after it.
 pub(crate) fn split_counted(octets: &[u8]) -> Option<(&[u8], &[u8])>
     requires { IsCounting octets.now (counted_name octets.now) }
-    ensures gives { MatchOption result (counted_name octets.now ≡ []) (λ p. counted_name octets.now ≡ p.0.now ∷ counted_name p.1.now) }
+    ensures gives { MatchOption result (counted_name octets.now ≡ [])
+        (λ p. counted_name octets.now ≡ p.0.now ∷ counted_name p.1.now) }
     ensures base { IfSome result (λ p. IsCounting p.1.now (counted_name p.1.now)) }
 {
     let (count, rest) = octets.split_first()?;

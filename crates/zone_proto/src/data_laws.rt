@@ -1,5 +1,4 @@
 //! Laws of the definitions of types, data and record sets; each is proved, and no call does anything.
-
 ghost use Rattle.std.specs.Prelude.{◌≡◌, ◌<◌, ℕ, [], ◌≢◌, Some, true};
 ghost use Rattle.std.specs.Cmp.{IsEquivalence};
 ghost use Rattle.zone_proto.specs.Names.{same_name};
@@ -26,9 +25,12 @@ pub fn equality_of_sets()
 
 /// An insertion that takes a record keeps the set's owner and type, leaves at least one record, and leaves a set.
 pub fn insertion_keeps_the_set()
-    ensures owner { (s t : RRset) (r : Record) (serial : ℕ) → inserted s r serial ≡ Some t → t.owner ≡ s.owner }
-    ensures kind { (s t : RRset) (r : Record) (serial : ℕ) → inserted s r serial ≡ Some t → t.record_type ≡ s.record_type }
-    ensures some { (s t : RRset) (r : Record) (serial : ℕ) → inserted s r serial ≡ Some t → t.records ≢ [] }
+    ensures owner { (s t : RRset) (r : Record) (serial : ℕ) → inserted s r serial ≡ Some t
+        → t.owner ≡ s.owner }
+    ensures kind { (s t : RRset) (r : Record) (serial : ℕ) → inserted s r serial ≡ Some t
+        → t.record_type ≡ s.record_type }
+    ensures some { (s t : RRset) (r : Record) (serial : ℕ) → inserted s r serial ≡ Some t
+        → t.records ≢ [] }
     ensures rule { (s t : RRset) (r : Record) (serial : ℕ)
         → same_name r.name s.owner ≡ true
         → type_of r.rdata ≡ s.record_type

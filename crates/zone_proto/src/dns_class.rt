@@ -1,3 +1,4 @@
+//! Classes (RFC 1035 section 3.2.4).
 ghost use Rattle.std.specs.Prelude.{Some};
 ghost use Rattle.zone_proto.specs.TypeText.{class_text};
 

@@ -1,3 +1,4 @@
+//! Why a name, data or a set was refused.
 ghost use Rattle.std.specs.Prelude.{◌≡◌};
 
 use std::alloc::{AllocError, AllocFailed};
@@ -15,7 +16,8 @@ pub enum ProtoError {
     /// A name of more than 255 octets in wire form (RFC 1035 section 2.3.4).
     #[error("name too long")]
     NameTooLong,
-    /// A text that is not the text form of a name (RFC 1035 section 5.1).
+    /// A text that is not the text form of a name (RFC 1035 section 5.1), or octets that are the wire form of no labels (section
+    /// 3.1).
     #[error("bad text")]
     BadText,
     /// A digest that the hash does not give, as for an unknown algorithm.

@@ -1,4 +1,4 @@
-// How the labels of a name are kept.
+//! How the labels of a name are kept.
 ghost use Rattle.std.specs.Prelude.{◌≡◌, ◌↔◌, [], ◌∷◌, drop, IsTrue, IfOk};
 ghost use Rattle.std.specs.List.{AllByRecursion};
 ghost use Rattle.zone_proto.specs.Names.{lower, name_cmp, caseless_cmp, wildcard_of, IsAtOrAbove, IsLabel, IsName};
@@ -11,6 +11,7 @@ use crate::labels_iter::Labels;
 use crate::letter_case::lower_all;
 use crate::name_order::{compare_labels, labels_are_above, labels_are_same};
 use crate::packed::Packed;
+use crate::prepended_labels::PrependedLabels;
 use std::alloc::{AllocError, Global};
 use std::cmp::Ordering;
 
@@ -51,6 +52,13 @@ impl Form {
             Form::InOnePiece(packed) => Labels::of_piece(packed),
             Form::Counted(counted) => Labels::of_counted(counted),
         }
+    }
+
+    /// Lends the labels, to be compared with those of another name.
+    fn compared(&self) -> PrependedLabels<'_>
+        ensures { result ≡ labels_of self.now }
+    {
+        PrependedLabels::new(self.labels())
     }
 
     /// Whether there is no label.
@@ -152,7 +160,7 @@ impl Form {
     {
         match (self, other) {
             (Form::InOnePiece(own), Form::InOnePiece(theirs)) => own.compare(theirs),
-            _ => compare_labels(self.labels(), other.labels()),
+            _ => compare_labels(self.compared(), other.compared()),
         }
     }
 
@@ -162,7 +170,7 @@ impl Form {
     {
         match (self, other) {
             (Form::InOnePiece(own), Form::InOnePiece(theirs)) => own.compare_caseless(theirs),
-            _ => compare_labels(self.labels(), other.labels()),
+            _ => compare_labels(self.compared(), other.compared()),
         }
     }
 
@@ -178,11 +186,12 @@ impl Form {
 
     /// Whether the other name is this one or below it, the case of letters ignored.
     pub(crate) fn zone_of(&self, other: &Form) -> bool
-        ensures { IsTrue result ↔ IsAtOrAbove (lower (labels_of self.now)) (lower (labels_of other.now)) }
+        ensures { IsTrue result
+            ↔ IsAtOrAbove (lower (labels_of self.now)) (lower (labels_of other.now)) }
     {
         match (self, other) {
             (Form::InOnePiece(own), Form::InOnePiece(theirs)) => own.zone_of(theirs),
-            _ => labels_are_above(self.labels(), other.labels()),
+            _ => labels_are_above(self.compared(), other.compared()),
         }
     }
 }
@@ -254,7 +263,7 @@ fn pack_list(labels: &Vec<Vec<u8>>) -> Result<Form, AllocError>
 }
 
 /// Whether the label has no octet 0.
-fn is_inner(label: &[u8]) -> bool
+pub(crate) fn is_inner(label: &[u8]) -> bool
     ensures { IsTrue result → AllByRecursion IsInner label.now }
 {
     for octet in label {

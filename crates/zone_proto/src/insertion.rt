@@ -1,3 +1,4 @@
+//! How a record is put among the records of a set.
 ghost use Rattle.std.specs.Prelude.{◌≡◌, ◌++◌, ◌∷◌, []};
 ghost use Rattle.zone_proto.specs.Sets.{soa_serial, first_serial, is_single, stores};
 ghost use Rattle.zone_proto.specs.Insertion.{is_refused, records_with};
@@ -54,7 +55,8 @@ fn stores(records: &[Record], new: &RData) -> bool
 
 /// Puts a record in place of all others where the type has at most one, else behind them.
 pub(crate) fn put_record(records: &mut Vec<Record>, new: Record) -> Result<(), ProtoError>
-    ensures { IsChange records.old.items (records_with records.old.items new) result records.new.items }
+    ensures { IsChange records.old.items (records_with records.old.items new) result
+        records.new.items }
 {
     if is_single(new.record_type()) {
         put_alone(records, new)

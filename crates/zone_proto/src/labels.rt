@@ -1,4 +1,4 @@
-// Lists of labels: whether they make a name, and copies of them.
+//! Lists of labels: whether they make a name, and copies of them.
 ghost use Rattle.std.specs.Prelude.{◌∷◌, OnOk};
 ghost use Rattle.std.specs.List.{AllByRecursion};
 ghost use Rattle.zone_proto.specs.Names.{IsName};
@@ -14,7 +14,7 @@ use crate::wire::wire_length;
 pub(crate) const LONGEST_LABEL: usize = 63;
 
 /// The most octets that the wire form of a name may have (RFC 1035 section 2.3.4).
-const LONGEST_NAME: usize = 255;
+pub(crate) const LONGEST_NAME: usize = 255;
 
 /// Whether the labels make a name, and else the first fault.
 pub(crate) fn check_labels(labels: &[Vec<u8>]) -> Result<(), ProtoError>

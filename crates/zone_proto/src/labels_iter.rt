@@ -1,5 +1,5 @@
-// The labels of a name, without memory.
-ghost use Rattle.std.specs.Prelude.{◌≡◌, ◌++◌, length};
+//! The labels of a name, without memory.
+ghost use Rattle.std.specs.Prelude.{◌≡◌, ◌++◌, ◌+◌, ◌^◌, ◌<◌, length};
 ghost use Rattle.std.specs.Iterator.{YieldsFirstBy, item_count};
 ghost use Rattle.zone_proto.specs.Vectors.{octets_of};
 
@@ -23,9 +23,11 @@ impl<'n> Model for Labels<'n> {
 
     ghost Value = { List (List ℕ) };
 
-    ghost view = { λ s. octets_of s.listed.now ++ (name_of s.packed.now ++ counted_name s.counted.now) };
+    ghost view = { λ s. octets_of s.listed.now
+        ++ (name_of s.packed.now ++ counted_name s.counted.now) };
 
-    ghost invariant = { λ s. IsPacking s.packed.now (name_of s.packed.now) × IsCounting s.counted.now (counted_name s.counted.now) };
+    ghost invariant = { λ s. IsPacking s.packed.now (name_of s.packed.now)
+        × IsCounting s.counted.now (counted_name s.counted.now) };
 }
 
 impl<'n> Labels<'n> {
@@ -76,6 +78,14 @@ impl<'n> Labels<'n> {
     /// How many labels are left.
     pub fn len(&self) -> usize
         ensures { result ≡ length self.now }
+    {
+        self.len_below_max()
+    }
+
+    /// How many labels are left: one more can be counted.
+    pub(crate) fn len_below_max(&self) -> usize
+        ensures count { result ≡ length self.now }
+        ensures room { result + 1 < 2 ^ 64 }
     {
         self.listed.len() + count_labels(self.packed) + count_counted(self.counted)
     }

@@ -58,12 +58,14 @@ pub fn ancestor_is_first()
 
 /// The first key of a name is one: no key of the name, or of a name below it, stands before it.
 pub fn first_key_is_first()
-    ensures { (a n : Name) (t : ℕ) → IsAtOrAbove a n → IsFalse (is_before key_cmp (key n t) (first_key a)) }
+    ensures { (a n : Name) (t : ℕ) → IsAtOrAbove a n
+        → IsFalse (is_before key_cmp (key n t) (first_key a)) }
 {}
 
 /// The names at and below a name stand together: a name between two of them is one of them.
 pub fn descendants_are_together()
-    ensures { (a l x r : Name) → IsAtOrAbove a l → IsAtOrAbove a r → IsBefore l x → IsBefore x r → IsAtOrAbove a x }
+    ensures { (a l x r : Name) → IsAtOrAbove a l → IsAtOrAbove a r → IsBefore l x → IsBefore x r
+        → IsAtOrAbove a x }
 {}
 
 /// The tests whether a name is at or above another, or above it, hold exactly where it is.
@@ -75,16 +77,19 @@ pub fn tests_of_the_tree_are_exact()
 /// The greatest of names in lower case or of types is the one that none stands after, and it is there exactly where the
 /// list isn't empty.
 pub fn greatest_stands_last()
-    ensures name { (ns : List Name) (n : Name) → (greatest name_cmp ns ≡ Some n) ↔ IsGreatest name_cmp ns n }
+    ensures name { (ns : List Name) (n : Name)
+        → (greatest name_cmp ns ≡ Some n) ↔ IsGreatest name_cmp ns n }
     ensures no_name { (ns : List Name) → (greatest name_cmp ns ≡ None) ↔ (ns ≡ []) }
-    ensures number { (ts : List ℕ) (t : ℕ) → (greatest nat_cmp ts ≡ Some t) ↔ IsGreatest nat_cmp ts t }
+    ensures number { (ts : List ℕ) (t : ℕ)
+        → (greatest nat_cmp ts ≡ Some t) ↔ IsGreatest nat_cmp ts t }
     ensures no_number { (ts : List ℕ) → (greatest nat_cmp ts ≡ None) ↔ (ts ≡ []) }
 {}
 
 /// The least of names in lower case or of types is the one that none stands before, and it is there exactly where the list
 /// isn't empty.
 pub fn least_stands_first()
-    ensures name { (ns : List Name) (n : Name) → (least name_cmp ns ≡ Some n) ↔ IsLeast name_cmp ns n }
+    ensures name { (ns : List Name) (n : Name)
+        → (least name_cmp ns ≡ Some n) ↔ IsLeast name_cmp ns n }
     ensures no_name { (ns : List Name) → (least name_cmp ns ≡ None) ↔ (ns ≡ []) }
     ensures number { (ts : List ℕ) (t : ℕ) → (least nat_cmp ts ≡ Some t) ↔ IsLeast nat_cmp ts t }
     ensures no_number { (ts : List ℕ) → (least nat_cmp ts ≡ None) ↔ (ts ≡ []) }
@@ -94,9 +99,12 @@ pub fn least_stands_first()
 /// reads, or the text has a fault, by which `parse` refuses it; never both, and never two faults.
 pub fn text_is_read_or_refused()
     ensures one_name { (s : List ℕ) (n m : Name) → IsNameText s n → IsNameText s m → n ≡ m }
-    ensures either { (s : List ℕ) → ((n : Name) × IsNameText s n × IsName n) ⊎ ((e : ProtoError) × IsTextFault s e) }
-    ensures not_both { (s : List ℕ) (n : Name) (e : ProtoError) → IsNameText s n → IsName n → ¬ IsTextFault s e }
-    ensures one_fault { (s : List ℕ) (d e : ProtoError) → IsTextFault s d → IsTextFault s e → d ≡ e }
+    ensures either { (s : List ℕ)
+        → ((n : Name) × IsNameText s n × IsName n) ⊎ ((e : ProtoError) × IsTextFault s e) }
+    ensures not_both { (s : List ℕ) (n : Name) (e : ProtoError) → IsNameText s n → IsName n
+        → ¬ IsTextFault s e }
+    ensures one_fault { (s : List ℕ) (d e : ProtoError) → IsTextFault s d → IsTextFault s e
+        → d ≡ e }
 {}
 
 /// What is printed of a name is that name's text form and no other's, and has no fault, so `parse` accepts it.
@@ -108,8 +116,9 @@ pub fn printed_is_read()
 /// For digests of one length, the texts in base32hex are ordered as the digests, and so are the owners of NSEC3 sets under
 /// one zone (RFC 4648 section 7, RFC 5155 section 3).
 pub fn texts_sort_as_digests()
-    ensures texts { (d e : List ℕ) → length d ≡ length e → AllByRecursion IsOctet d → AllByRecursion IsOctet e
-        → octets_cmp (base32_text d) (base32_text e) ≡ octets_cmp d e }
-    ensures owners { (zone : Name) (d e : List ℕ) → length d ≡ length e → AllByRecursion IsOctet d → AllByRecursion IsOctet e
+    ensures texts { (d e : List ℕ) → length d ≡ length e → AllByRecursion IsOctet d
+        → AllByRecursion IsOctet e → octets_cmp (base32_text d) (base32_text e) ≡ octets_cmp d e }
+    ensures owners { (zone : Name) (d e : List ℕ) → length d ≡ length e → AllByRecursion IsOctet d
+        → AllByRecursion IsOctet e
         → name_cmp (hashed_owner zone d) (hashed_owner zone e) ≡ octets_cmp d e }
 {}

@@ -1,4 +1,4 @@
-// Labels put into lower case, in place.
+//! Labels put into lower case, in place.
 ghost use Rattle.std.specs.Prelude.{◌≡◌, map};
 ghost use Rattle.std.specs.Char.{to_ascii_lowercase};
 ghost use Rattle.zone_proto.specs.Names.{lower};

@@ -1,4 +1,4 @@
-// Names in lower case, as the owners of record sets are kept.
+//! Names in lower case, as the owners of record sets are kept.
 ghost use Rattle.std.specs.Prelude.{◌≡◌, ◌↔◌, [], ◌∷◌, length, drop, IsTrue, IfOk, IsOkUnless};
 ghost use Rattle.zone_proto.specs.Names.{lower, lower_label, suffixes, wire_form, wildcard_of, IsAtOrAbove, IsLowerName, IsWildcard};
 ghost use Rattle.zone_proto.specs.Ranges.{IsNameInRange};
@@ -60,7 +60,8 @@ impl LowerName {
 
     /// Reads the text form of a name, and puts the name into lower case. Reads and refuses as `Name::parse` does.
     pub fn parse(alloc: Global, text: &str) -> Result<LowerName, ProtoError>
-        ensures ok { IfOk result (λ n. (name : Name) × IsNameText text.now name × (n ≡ lower name)) }
+        ensures ok { IfOk result
+            (λ n. (name : Name) × IsNameText text.now name × (n ≡ lower name)) }
         ensures refusal { TellsTextFault result text.now }
     {
         Ok(LowerName::from(Name::parse(alloc, text)?))

@@ -1,3 +1,4 @@
+//! The parts of a message that a zone sees: questions, sections and EDNS.
 ghost use Rattle.std.specs.Prelude.{◌≡◌};
 
 use crate::dns_class::DNSClass;

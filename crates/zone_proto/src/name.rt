@@ -1,4 +1,4 @@
-// Names that keep the case of their letters.
+//! Names that keep the case of their letters.
 ghost use Rattle.std.specs.Prelude.{◌≡◌, ◌↔◌, [], ◌∷◌, length, drop, IsTrue, IfOk, IsOkUnless, Some, None};
 ghost use Rattle.zone_proto.specs.Names.{lower, suffixes, wire_form, wildcard_of, IsAtOrAbove, IsLowerName, IsName, IsWildcard};
 ghost use Rattle.zone_proto.specs.Ranges.{IsNameInRange};
@@ -7,6 +7,7 @@ ghost use Rattle.zone_proto.specs.Vectors.{octets_of};
 ghost use Rattle.zone_proto.specs.Suffixes.{suffixes_left};
 ghost use Rattle.zone_proto.specs.TextForm.{IsNameText};
 ghost use Rattle.zone_proto.specs.Results.{IsCopy, TellsFault, TellsFaultOrMemory, TellsTextFault};
+ghost use Rattle.zone_proto.specs.WireForms.{TellsWireFault};
 
 use crate::error::ProtoError;
 use crate::form::Form;
@@ -16,6 +17,7 @@ use crate::parser::read_labels;
 use crate::suffixes::Suffixes;
 use crate::unescaped::read_unescaped;
 use crate::wire::write_wire;
+use crate::wire_reader::read_wire;
 use std::alloc::Global;
 use std::marker::Model;
 
@@ -86,6 +88,20 @@ impl Name {
             });
         }
         Name::read(alloc, text)?.in_one_piece()
+    }
+
+    /// Reads the wire form of a name: each label behind its length, and the octet 0 of the root (RFC 1035 section 3.1).
+    ///
+    /// Octets that are the wire form of no labels give `BadText`: they end before the name does, or go on behind it. A label
+    /// of more than 63 octets gives `LabelTooLong`, so that a pointer of a message is refused too; then a wire form of more
+    /// than 255 octets gives `NameTooLong`; then comes `Memory`. Takes no memory for at most 33 octets.
+    pub fn from_wire(alloc: Global, octets: &[u8]) -> Result<Name, ProtoError>
+        ensures ok { IfOk result (λ n. octets.now ≡ wire_form n) }
+        ensures refusal { TellsWireFault result octets.now }
+    {
+        Ok(Name {
+            form: read_wire(alloc, octets)?,
+        })
     }
 
     /// Reads a name whose labels stand in a list.

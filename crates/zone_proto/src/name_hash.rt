@@ -1,4 +1,4 @@
-// What names feed a hasher: equal names feed it alike.
+//! What names feed a hasher: equal names feed it alike.
 ghost use Rattle.std.specs.Prelude.{◌≡◌, map, fold};
 ghost use Rattle.std.specs.Char.{to_ascii_lowercase};
 ghost use Rattle.std.specs.Hash as fed;
@@ -34,7 +34,8 @@ impl Hash for LowerName {
 
 /// Feeds the count of labels, and each label in lower case.
 fn hash_labels<H: Hasher>(labels: Labels<'_>, state: &mut H)
-    ensures { state.new ≡ fold H.write state.old (fed.slice (fed.slice fed.u8) (lower labels.entry)) }
+    ensures { state.new
+        ≡ fold H.write state.old (fed.slice (fed.slice fed.u8) (lower labels.entry)) }
 {
     state.write_usize(labels.len());
     for label in labels {
@@ -44,7 +45,8 @@ fn hash_labels<H: Hasher>(labels: Labels<'_>, state: &mut H)
 
 /// Feeds a label in lower case.
 fn hash_caseless<H: Hasher>(label: &[u8], state: &mut H)
-    ensures { state.new ≡ fold H.write state.old (fed.slice fed.u8 (map to_ascii_lowercase label.now)) }
+    ensures { state.new
+        ≡ fold H.write state.old (fed.slice fed.u8 (map to_ascii_lowercase label.now)) }
 {
     state.write_usize(label.len());
     for octet in label {

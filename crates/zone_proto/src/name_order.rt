@@ -1,4 +1,4 @@
-// The canonical order of names (RFC 4034 section 6.1), and their equality.
+//! The canonical order of names (RFC 4034 section 6.1), and their equality.
 ghost use Rattle.std.specs.Prelude.{◌≡◌, ◌↔◌, map, length, drop, IsTrue};
 ghost use Rattle.std.specs.Char.{to_ascii_lowercase};
 ghost use Rattle.std.specs.Cmp.{partial_order_from_total, partial_equiv_from_equiv};
@@ -11,6 +11,7 @@ ghost use Rattle.zone_proto.specs.NameLaws.{name_cmp_total, name_eq_equiv, casel
 use crate::labels_iter::Labels;
 use crate::lower_name::LowerName;
 use crate::name::Name;
+use crate::prepended_labels::PrependedLabels;
 use std::cmp::Ordering;
 
 /// Names are equal if they differ in the case of ASCII letters alone.
@@ -93,8 +94,9 @@ impl Ord for LowerName {
     }
 }
 
-/// The canonical order of two lists of labels, the case of letters ignored: the rightmost first.
-pub(crate) fn compare_labels(a: Labels<'_>, b: Labels<'_>) -> Ordering
+/// The canonical order of two lists of labels, the case of letters ignored: the rightmost first (RFC 4034 section 6.1). Takes no
+/// memory.
+pub fn compare_labels(a: PrependedLabels<'_>, b: PrependedLabels<'_>) -> Ordering
     ensures { result ≡ caseless_cmp a.entry b.entry }
 {
     let i = a.len();
@@ -103,8 +105,8 @@ pub(crate) fn compare_labels(a: Labels<'_>, b: Labels<'_>) -> Ordering
     compare_alike(skip(a, i - shared), skip(b, j - shared)).then(i.cmp(&j))
 }
 
-/// Whether the labels of a are the last of b, the case of letters ignored.
-pub(crate) fn labels_are_above(a: Labels<'_>, b: Labels<'_>) -> bool
+/// Whether the labels of `a` are the last of `b`, the case of letters ignored: the name `b` is `a` or below it. Takes no memory.
+pub fn labels_are_above(a: PrependedLabels<'_>, b: PrependedLabels<'_>) -> bool
     ensures { IsTrue result ↔ IsAtOrAbove (lower a.entry) (lower b.entry) }
 {
     let i = a.len();
@@ -132,7 +134,7 @@ pub(crate) fn labels_are_same(a: Labels<'_>, b: Labels<'_>) -> bool
 }
 
 /// The labels after the first ones.
-fn skip<'n>(labels: Labels<'n>, count: usize) -> Labels<'n>
+fn skip<'n>(labels: PrependedLabels<'n>, count: usize) -> PrependedLabels<'n>
     ensures { result ≡ drop count labels.entry }
 {
     let mut rest = labels;
@@ -144,7 +146,7 @@ fn skip<'n>(labels: Labels<'n>, count: usize) -> Labels<'n>
 
 /// The canonical order of as many labels, the case of letters ignored. A label further right decides before one further
 /// left.
-fn compare_alike(a: Labels<'_>, b: Labels<'_>) -> Ordering
+fn compare_alike(a: PrependedLabels<'_>, b: PrependedLabels<'_>) -> Ordering
     requires { length a ≡ length b }
     ensures { result ≡ caseless_cmp a.entry b.entry }
 {
@@ -160,7 +162,8 @@ fn compare_alike(a: Labels<'_>, b: Labels<'_>) -> Ordering
 
 /// The order of two labels, the case of letters ignored.
 pub(crate) fn compare_label(a: &[u8], b: &[u8]) -> Ordering
-    ensures { result ≡ slice_cmp nat_cmp (map to_ascii_lowercase a.now) (map to_ascii_lowercase b.now) }
+    ensures { result
+        ≡ slice_cmp nat_cmp (map to_ascii_lowercase a.now) (map to_ascii_lowercase b.now) }
 {
     let mut i = 0;
     while i < a.len() && i < b.len() {

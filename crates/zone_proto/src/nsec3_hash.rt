@@ -1,3 +1,4 @@
+//! The hash of owner names that NSEC3 uses (RFC 5155 section 5).
 ghost use Rattle.std.specs.Prelude.{◌≡◌, ℕ, List, Option, Some, None, ◌⊎◌, IfOk, IfErr};
 
 use crate::error::ProtoError;
@@ -20,7 +21,10 @@ pub trait Nsec3Hash: Drop {
         name: &LowerName,
         iterations: u16,
     ) -> Result<Vec<u8>, ProtoError>
-        ensures ok { IfOk result (λ d. digest_of self.now algorithm salt.now name.now iterations ≡ Some d.items) }
-        ensures err { IfErr result (λ e. (e ≡ ProtoError.Memory)
-            ⊎ ((e ≡ ProtoError.Hash) × (digest_of self.now algorithm salt.now name.now iterations ≡ None))) };
+        ensures ok { IfOk result
+            (λ d. digest_of self.now algorithm salt.now name.now iterations ≡ Some d.items) }
+        ensures err { IfErr result
+            (λ e. (e ≡ ProtoError.Memory)
+            ⊎ ((e ≡ ProtoError.Hash)
+            × (digest_of self.now algorithm salt.now name.now iterations ≡ None))) };
 }

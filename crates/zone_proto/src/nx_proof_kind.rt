@@ -1,3 +1,4 @@
+//! The kinds of denial that a zone may have.
 ghost use Rattle.zone_proto.specs.Results.{IsCopy};
 
 use crate::error::ProtoError;

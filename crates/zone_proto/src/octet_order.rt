@@ -1,4 +1,4 @@
-// The order of octets, eight at a time.
+//! The order of octets, eight at a time.
 ghost use Rattle.std.specs.Prelude.{◌≡◌};
 ghost use Rattle.std.specs.Cmp.Lexicographic.{slice_cmp};
 ghost use Rattle.std.specs.Ordering.{nat_cmp};

@@ -1,4 +1,4 @@
-// Names in one piece of octets: the labels from the root on, each ended by the octet 0.
+//! Names in one piece of octets: the labels from the root on, each ended by the octet 0.
 //
 // The canonical order of names (RFC 4034 section 6.1) compares labels from the rightmost on, each as a string of octets,
 // and an end is the least. As every label here is ended by the least octet, that is the order of the octets as one
@@ -181,7 +181,8 @@ impl Packed {
 
 /// Whether octets are the same, the case of letters ignored.
 fn are_same_caseless(a: &[u8], b: &[u8]) -> bool
-    ensures { result ≡ is_eq (slice_cmp nat_cmp (map to_ascii_lowercase a.now) (map to_ascii_lowercase b.now)) }
+    ensures { result
+        ≡ is_eq (slice_cmp nat_cmp (map to_ascii_lowercase a.now) (map to_ascii_lowercase b.now)) }
 {
     // Of names in lower case the first comparison tells, which takes eight octets at a time.
     compare_octets(a, b).is_eq() || compare_label(a, b).is_eq()
@@ -211,7 +212,8 @@ fn first_label_at(octets: &[u8]) -> usize
 /// Writes the label `*` from a place on, in place of all that stands there.
 fn overwrite(octets: &mut Octets, start: usize)
     requires { start + 1 < length octets.old.items }
-    ensures { octets.new.items ≡ take (start + 2) (set (set octets.old.items start 42) (start + 1) 0) }
+    ensures { octets.new.items
+        ≡ take (start + 2) (set (set octets.old.items start 42) (start + 1) 0) }
 {
     octets[start] = b'*';
     octets[start + 1] = 0;
@@ -221,7 +223,8 @@ fn overwrite(octets: &mut Octets, start: usize)
 /// The first label, and the octets of the labels after it.
 pub(crate) fn split_label(octets: &[u8]) -> Option<(&[u8], &[u8])>
     requires { IsPacking octets.now (name_of octets.now) }
-    ensures gives { MatchOption result (name_of octets.now ≡ []) (λ p. name_of octets.now ≡ p.0.now ∷ name_of p.1.now) }
+    ensures gives { MatchOption result (name_of octets.now ≡ [])
+        (λ p. name_of octets.now ≡ p.0.now ∷ name_of p.1.now) }
     ensures base { IfSome result (λ p. IsPacking p.1.now (name_of p.1.now)) }
 {
     if octets.is_empty() {

@@ -1,4 +1,4 @@
-// Reads the text form of a name, octet by octet (RFC 1035 section 5.1).
+//! Reads the text form of a name, octet by octet (RFC 1035 section 5.1).
 ghost use Rattle.std.specs.Prelude.{◌≡◌, ◌⊎◌, ◌++◌, [], ◌∷◌, IfOk, IfErr, OnOk, IsOkUnless, Some};
 ghost use Rattle.zone_proto.specs.Vectors.{octets_of};
 ghost use Rattle.zone_proto.specs.declared.error.ProtoError.TheVariants.{BadText, Memory};
@@ -54,7 +54,13 @@ impl Reader {
 
     /// Ends the current label, with room for its octets alone.
     fn end_label(&mut self, alloc: Global) -> Result<(), ProtoError>
-        ensures ok { OnOk result (reader_of self.new ≡ record { mode = Mode.AfterDot; labels = octets_of self.old.labels.items ++ self.old.label.items ∷ []; label = [] }) }
+        ensures ok { OnOk result
+            (reader_of self.new
+            ≡ record {
+              mode = Mode.AfterDot;
+              labels = octets_of self.old.labels.items ++ self.old.label.items ∷ [];
+              label = [];
+            }) }
         ensures err { IsOkUnless result Memory }
     {
         self.labels.push(Vec::from_slice(alloc, &self.label)?)?;
@@ -65,8 +71,10 @@ impl Reader {
 
     /// Reads the next octet of the text.
     fn step(&mut self, alloc: Global, octet: u8) -> Result<(), ProtoError>
-        ensures ok { OnOk result (step_in self.old.mode (reader_of self.old) octet ≡ Some (reader_of self.new)) }
-        ensures err { IfErr result (IsFaultOrMemory (fault_of_none (step_in self.old.mode (reader_of self.old) octet))) }
+        ensures ok { OnOk result
+            (step_in self.old.mode (reader_of self.old) octet ≡ Some (reader_of self.new)) }
+        ensures err { IfErr result
+            (IsFaultOrMemory (fault_of_none (step_in self.old.mode (reader_of self.old) octet))) }
     {
         match self.mode {
             Mode::Start | Mode::AfterDot | Mode::InLabel => {
@@ -113,8 +121,10 @@ impl Reader {
 
     /// The labels at the end of the text.
     fn finish(self, alloc: Global) -> Result<Vec<Vec<u8>>, ProtoError>
-        ensures ok { IfOk result (λ ls. labels_at_end self.mode (reader_of self) ≡ Some (octets_of ls.items)) }
-        ensures err { IfErr result (IsFaultOrMemory (fault_of_none (labels_at_end self.mode (reader_of self)))) }
+        ensures ok { IfOk result
+            (λ ls. labels_at_end self.mode (reader_of self) ≡ Some (octets_of ls.items)) }
+        ensures err { IfErr result
+            (IsFaultOrMemory (fault_of_none (labels_at_end self.mode (reader_of self)))) }
     {
         let Reader {
             mode,
@@ -176,7 +186,7 @@ fn read(alloc: Global, bytes: &[u8]) -> Result<Vec<Vec<u8>>, ProtoError>
 }
 
 /// The labels of whose text form a text is. Gives `BadText` if it is of none, and `Memory`.
-#[tactic(auto, using(crate::proofs::TextForms::read_form, crate::proofs::TextForms::bad_form))]
+#[tactic(auto, using(crate::proofs::Texts::TextForms::read_form, crate::proofs::Texts::TextForms::bad_form))]
 pub(crate) fn read_labels(alloc: Global, text: &str) -> Result<Vec<Vec<u8>>, ProtoError>
     ensures ok { IfOk result (λ ls. IsNameText text.now (octets_of ls.items)) }
     ensures err { IfErr result (λ e. (e ≡ Memory) ⊎ (IsBadText text.now × (e ≡ BadText))) }

@@ -1,3 +1,4 @@
+//! The data of records.
 ghost use Rattle.std.specs.Prelude.{◌≡◌};
 ghost use Rattle.zone_proto.specs.Results.{IsCopy};
 

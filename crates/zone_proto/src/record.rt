@@ -1,3 +1,4 @@
+//! Resource records (RFC 1035 section 3.2.1).
 ghost use Rattle.std.specs.Prelude.{◌≡◌, IfOk, IsOkUnless, map};
 ghost use Rattle.std.specs.Cmp.{partial_equiv_from_equiv};
 ghost use Rattle.zone_proto.specs.Data.{type_of};
@@ -43,7 +44,8 @@ impl Eq for Record {
 impl Record {
     /// A record of class IN. Takes no memory.
     pub fn from_rdata(name: Name, ttl: u32, rdata: RData) -> Record
-        ensures { result ≡ record { name = name; dns_class = DNSClass.IN; ttl = ttl; rdata = rdata } }
+        ensures { result
+            ≡ record { name = name; dns_class = DNSClass.IN; ttl = ttl; rdata = rdata } }
     {
         Record {
             name,

@@ -1,3 +1,4 @@
+//! Record sets (RFC 2181 section 5), with their signatures.
 ghost use Rattle.std.specs.Prelude.{◌≡◌, ◌<◌, ◌≤◌, ◌+◌, [], ◌++◌, ◌∷◌, true, ◌==◌, length, take, drop};
 ghost use Rattle.zone_proto.specs.Names.{same_name};
 ghost use Rattle.zone_proto.specs.Types.{IN, RRSIG};
@@ -274,7 +275,8 @@ impl RecordSet {
     /// Inserts, by the rule of `insert` and with serial 0, a record of these data with the set's owner and TTL and class IN.
     pub fn add_rdata(&mut self, rdata: RData) -> Result<bool, ProtoError>
         requires { type_of rdata ≡ self.old.record_type }
-        ensures { IsInsertion self.old (inserted self.old (record_of self.old rdata) 0) result self.new }
+        ensures { IsInsertion self.old (inserted self.old (record_of self.old rdata) 0) result
+            self.new }
     {
         let new = Record::from_rdata(self.name.clone()?, self.ttl, rdata);
         self.insert(new, 0)
@@ -284,7 +286,8 @@ impl RecordSet {
     /// `Memory` leaves the set as it was.
     pub fn insert_rrsig(&mut self, rrsig: Record) -> Result<(), ProtoError>
         requires kind { type_of rrsig.rdata ≡ RRSIG }
-        ensures { IsChange self.old (record self.old { signatures = self.old.signatures ++ rrsig ∷ [] }) result self.new }
+        ensures { IsChange self.old
+            (record self.old { signatures = self.old.signatures ++ rrsig ∷ [] }) result self.new }
     {
         put_last(&mut self.rrsigs, rrsig)
     }
@@ -300,10 +303,20 @@ impl RecordSet {
     /// answers where the next ones of that list stand. Where the list has fewer there, nothing is exchanged, and the answer
     /// is `start`. Takes no memory.
     pub fn exchange_rrsigs(&mut self, others: &mut Rrsigs, start: usize) -> usize
-        ensures set { length self.old.signatures ≤ length (drop start others.old) → self.new ≡ record self.old { signatures = take (length self.old.signatures) (drop start others.old) } }
-        ensures others { length self.old.signatures ≤ length (drop start others.old) → others.new ≡ take start others.old ++ self.old.signatures ++ drop (start + length self.old.signatures) others.old }
-        ensures next { length self.old.signatures ≤ length (drop start others.old) → result ≡ start + length self.old.signatures }
-        ensures short { length (drop start others.old) < length self.old.signatures → (self.new ≡ self.old) × (others.new ≡ others.old) × (result ≡ start) }
+        ensures set { length self.old.signatures ≤ length (drop start others.old)
+            → self.new
+            ≡ record self.old {
+              signatures = take (length self.old.signatures)
+                  (drop start others.old);
+            } }
+        ensures others { length self.old.signatures ≤ length (drop start others.old)
+            → others.new
+            ≡ take start others.old ++ self.old.signatures
+            ++ drop (start + length self.old.signatures) others.old }
+        ensures next { length self.old.signatures ≤ length (drop start others.old)
+            → result ≡ start + length self.old.signatures }
+        ensures short { length (drop start others.old) < length self.old.signatures
+            → (self.new ≡ self.old) × (others.new ≡ others.old) × (result ≡ start) }
     {
         others.exchange(start, self.rrsigs.as_mut_slice())
     }

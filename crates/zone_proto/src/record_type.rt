@@ -1,3 +1,4 @@
+//! Record types, by number and by word (RFC 1035 section 3.2.2, RFC 3597 section 5).
 ghost use Rattle.std.specs.Prelude.{◌≡◌, Some, option_map};
 ghost use Rattle.std.specs.Char.{is_ascii_digit};
 ghost use Rattle.std.specs.List.{list_all};
@@ -12,6 +13,28 @@ use std::fmt;
 /// A type of records, by its number (RFC 1035 section 3.2.2); ordered by number.
 #[derive(Clone, Copy, PartialEq, Eq, PartialOrd, Ord, Hash, Debug)]
 pub struct RecordType(pub u16);
+
+/// The types that have a word, in the order of their numbers: each with its word, and with whether `RData` has a case of its own
+/// for it.
+const NAMED_TYPES: [(RecordType, &str, bool); 17] = [
+    (RecordType::A, "A", true),
+    (RecordType::NS, "NS", true),
+    (RecordType::CNAME, "CNAME", true),
+    (RecordType::SOA, "SOA", true),
+    (RecordType::MX, "MX", true),
+    (RecordType::TXT, "TXT", false),
+    (RecordType::AAAA, "AAAA", true),
+    (RecordType::SRV, "SRV", true),
+    (RecordType::DS, "DS", false),
+    (RecordType::RRSIG, "RRSIG", true),
+    (RecordType::NSEC, "NSEC", true),
+    (RecordType::DNSKEY, "DNSKEY", true),
+    (RecordType::NSEC3, "NSEC3", true),
+    (RecordType::NSEC3PARAM, "NSEC3PARAM", true),
+    (RecordType::AXFR, "AXFR", false),
+    (RecordType::ANY, "ANY", false),
+    (RecordType::ANAME, "ANAME", true),
+];
 
 /// The type 0, which is reserved, for the places of a short list that no type takes.
 impl MadeWith<Global> for RecordType {
@@ -72,26 +95,12 @@ impl RecordType {
     /// An alias for addresses alone; a number for private use (RFC 6895 section 3.1).
     pub const ANAME: RecordType = RecordType(65305);
 
-    /// Whether `RData` has a case of its own for the type. Takes no memory.
-    pub(crate) fn has_own_case(self) -> bool
+    /// Whether `RData` has a case of its own for the type, so that its data are read part by part; those of any other type are
+    /// mere octets (RFC 3597 section 3). Takes no memory.
+    pub fn has_own_case(self) -> bool
         ensures { result ≡ has_own_case self.0 }
     {
-        matches!(
-            self,
-            RecordType::A
-                | RecordType::NS
-                | RecordType::CNAME
-                | RecordType::SOA
-                | RecordType::MX
-                | RecordType::AAAA
-                | RecordType::SRV
-                | RecordType::RRSIG
-                | RecordType::NSEC
-                | RecordType::DNSKEY
-                | RecordType::NSEC3
-                | RecordType::NSEC3PARAM
-                | RecordType::ANAME
-        )
+        NAMED_TYPES.iter().any(|named| named.2 && self == named.0)
     }
 
     /// The type that a text names: a word of a type, as `AAAA`, or `TYPE` and a number of decimal digits up to 65535,
@@ -109,26 +118,8 @@ impl RecordType {
     fn word(self) -> Option<&'static str>
         ensures { option_copied result ≡ type_word self.0 }
     {
-        match self {
-            RecordType::A => Some("A"),
-            RecordType::NS => Some("NS"),
-            RecordType::CNAME => Some("CNAME"),
-            RecordType::SOA => Some("SOA"),
-            RecordType::MX => Some("MX"),
-            RecordType::TXT => Some("TXT"),
-            RecordType::AAAA => Some("AAAA"),
-            RecordType::SRV => Some("SRV"),
-            RecordType::DS => Some("DS"),
-            RecordType::RRSIG => Some("RRSIG"),
-            RecordType::NSEC => Some("NSEC"),
-            RecordType::DNSKEY => Some("DNSKEY"),
-            RecordType::NSEC3 => Some("NSEC3"),
-            RecordType::NSEC3PARAM => Some("NSEC3PARAM"),
-            RecordType::AXFR => Some("AXFR"),
-            RecordType::ANY => Some("ANY"),
-            RecordType::ANAME => Some("ANAME"),
-            _ => None,
-        }
+        let named = NAMED_TYPES.iter().find(|named| self == named.0)?;
+        Some(named.1)
     }
 }
 
@@ -136,26 +127,8 @@ impl RecordType {
 fn from_word(text: &str) -> Option<RecordType>
     ensures { option_map (λ t. t.0) result ≡ number_of text.now type_words }
 {
-    match text {
-        "A" => Some(RecordType::A),
-        "NS" => Some(RecordType::NS),
-        "CNAME" => Some(RecordType::CNAME),
-        "SOA" => Some(RecordType::SOA),
-        "MX" => Some(RecordType::MX),
-        "TXT" => Some(RecordType::TXT),
-        "AAAA" => Some(RecordType::AAAA),
-        "SRV" => Some(RecordType::SRV),
-        "DS" => Some(RecordType::DS),
-        "RRSIG" => Some(RecordType::RRSIG),
-        "NSEC" => Some(RecordType::NSEC),
-        "DNSKEY" => Some(RecordType::DNSKEY),
-        "NSEC3" => Some(RecordType::NSEC3),
-        "NSEC3PARAM" => Some(RecordType::NSEC3PARAM),
-        "AXFR" => Some(RecordType::AXFR),
-        "ANY" => Some(RecordType::ANY),
-        "ANAME" => Some(RecordType::ANAME),
-        _ => None,
-    }
+    let named = NAMED_TYPES.iter().find(|named| text == named.1)?;
+    Some(named.0)
 }
 
 /// The type that `TYPE` and a number name.

@@ -1,3 +1,4 @@
+//! Response codes (RFC 1035 section 4.1.1, RFC 6895 section 2.3).
 use std::fmt;
 
 /// A response code (RFC 1035 section 4.1.1, RFC 6895 section 2.3).

@@ -1,6 +1,7 @@
-// Keys of record sets, in their order.
+//! Keys of record sets, in their order.
 ghost use Rattle.std.specs.Prelude.{◌≡◌, IfOk};
 ghost use Rattle.zone_proto.specs.Keys.{key, first_key, key_eq, IsKeyInRange};
+ghost use Rattle.zone_proto.specs.Names.{IsLowerName};
 ghost use Rattle.zone_proto.specs.Results.{IsCopy};
 
 use crate::error::ProtoError;
@@ -22,9 +23,10 @@ impl RrKey {
     /// The key of a name and a type. Takes no memory.
     pub fn new(name: LowerName, record_type: RecordType) -> RrKey
         ensures value { result ≡ key name record_type.0 }
+        ensures named { IsLowerName result.name }
         ensures range { IsKeyInRange result }
     {
-        // Its clauses say that the octets are in range.
+        // Its clauses say that this is a name, and that the octets are in range.
         let _ = name.labels();
         RrKey { name, record_type }
     }

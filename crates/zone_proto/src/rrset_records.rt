@@ -1,3 +1,4 @@
+//! The records of a set, and behind them its signatures.
 ghost use Rattle.std.specs.Prelude.{◌≡◌, ◌++◌};
 ghost use Rattle.std.specs.Iterator.{YieldsFirstRef, item_count};
 

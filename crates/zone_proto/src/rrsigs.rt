@@ -1,3 +1,4 @@
+//! The signatures of record sets, in a list by themselves.
 ghost use Rattle.std.specs.Prelude.{◌≡◌, ◌<◌, ◌≤◌, ◌+◌, [], ◌++◌, ◌∷◌, length, take, drop, IfOk, OnOk, OnErr, IsOkUnless};
 ghost use Rattle.zone_proto.specs.Types.{RRSIG};
 ghost use Rattle.zone_proto.specs.Data.{type_of};
@@ -71,10 +72,15 @@ impl Rrsigs {
     /// there, nothing is exchanged, and the answer is `start`. Takes no memory.
     pub(crate) fn exchange(&mut self, start: usize, others: &mut [Record]) -> usize
         requires { AreSignatures others.old }
-        ensures others { length others.old ≤ length (drop start self.old) → others.new ≡ take (length others.old) (drop start self.old) }
-        ensures own { length others.old ≤ length (drop start self.old) → self.new ≡ take start self.old ++ others.old ++ drop (start + length others.old) self.old }
-        ensures next { length others.old ≤ length (drop start self.old) → result ≡ start + length others.old }
-        ensures short { length (drop start self.old) < length others.old → (others.new ≡ others.old) × (self.new ≡ self.old) × (result ≡ start) }
+        ensures others { length others.old ≤ length (drop start self.old)
+            → others.new ≡ take (length others.old) (drop start self.old) }
+        ensures own { length others.old ≤ length (drop start self.old)
+            → self.new
+            ≡ take start self.old ++ others.old ++ drop (start + length others.old) self.old }
+        ensures next { length others.old ≤ length (drop start self.old)
+            → result ≡ start + length others.old }
+        ensures short { length (drop start self.old) < length others.old
+            → (others.new ≡ others.old) × (self.new ≡ self.old) × (result ≡ start) }
         ensures kind { AreSignatures others.new }
     {
         let end = start.saturating_add(others.len());
@@ -97,7 +103,8 @@ impl Rrsigs {
 /// Exchanges items with those from `start` on.
 fn exchange_part(items: &mut [Record], start: usize, others: &mut [Record])
     requires { start + length others.old ≤ length items.old }
-    ensures items { items.new ≡ take start items.old ++ others.old ++ drop (start + length others.old) items.old }
+    ensures items { items.new
+        ≡ take start items.old ++ others.old ++ drop (start + length others.old) items.old }
     ensures others { others.new ≡ take (length others.old) (drop start items.old) }
 {
     let end = start + others.len();

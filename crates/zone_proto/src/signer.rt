@@ -1,3 +1,4 @@
+//! What signs record sets (RFC 4034 section 3).
 ghost use Rattle.std.specs.Prelude.{◌≡◌, ℕ, Option, IfOk, IsOkUnless};
 ghost use Rattle.zone_proto.specs.Signing.{SignedPart, signed_part};
 ghost use Rattle.zone_proto.specs.declared.rdata.signing.DNSKEY.{DNSKEY};
@@ -33,6 +34,7 @@ pub trait Signer: Drop {
         class: DNSClass,
         inception: u64,
     ) -> Result<Option<RRSIG>, ProtoError>
-        ensures ok { IfOk result (λ r. r ≡ signature_of self.now (signed_part set.now) class.0 inception) }
+        ensures ok { IfOk result
+            (λ r. r ≡ signature_of self.now (signed_part set.now) class.0 inception) }
         ensures err { IsOkUnless result ProtoError.Memory };
 }

@@ -1,3 +1,4 @@
+//! The values of an SOA record, and those of the record.
 use crate::dns_class::DNSClass;
 use crate::name::Name;
 use crate::rdata::SOA;

@@ -1,3 +1,4 @@
+//! The step of an SOA serial (RFC 1982).
 ghost use Rattle.std.specs.Prelude.{◌≡◌};
 ghost use Rattle.zone_proto.specs.Sets.{soa_serial};
 ghost use Rattle.zone_proto.specs.Stepping.{stepped_data};

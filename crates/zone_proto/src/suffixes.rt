@@ -1,4 +1,4 @@
-// A name and its ancestors, without memory.
+//! A name and its ancestors, without memory.
 ghost use Rattle.std.specs.Prelude.{◌≡◌};
 ghost use Rattle.zone_proto.specs.Names.{suffixes};
 ghost use Rattle.zone_proto.specs.Suffixes.{suffixes_left};

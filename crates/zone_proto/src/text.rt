@@ -1,4 +1,4 @@
-// How names are printed.
+//! How names are printed.
 ghost use Rattle.std.specs.Prelude.{◌≡◌, ◌++◌, ◌≤◌, length, take, IfSome, Some};
 ghost use Rattle.zone_proto.specs.Text.{is_plain, octet_text, label_text, name_text};
 
@@ -101,7 +101,8 @@ fn put_label(label: &[u8], room: &mut [u8], front: usize) -> Option<usize>
     requires { front ≤ length room.old }
     ensures room { length room.new ≡ length room.old }
     ensures fits { IfSome result (λ end. end ≤ length room.new) }
-    ensures text { IfSome result (λ end. take end room.new ≡ take front room.old ++ label_text label.now) }
+    ensures text { IfSome result
+        (λ end. take end room.new ≡ take front room.old ++ label_text label.now) }
 {
     if room.len() - front <= label.len() {
         return None;

@@ -1,5 +1,4 @@
-// Reads the text of a name without escapes straight into one piece. It reads from the right, since the labels of such a piece
-// stand from the root on.
+//! Names without escapes, read straight into one piece: from the right, since its labels stand from the root on.
 ghost use Rattle.std.specs.Prelude.{◌≡◌, ◌⊎◌, ◌≤◌, [], ◌∷◌, ◌++◌, drop, length, IsTrue, IfOk, IfSome};
 ghost use Rattle.std.specs.List.{AllByRecursion};
 ghost use Rattle.zone_proto.specs.Names.{IsName};

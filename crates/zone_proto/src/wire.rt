@@ -1,4 +1,4 @@
-// The wire form of names (RFC 1035 section 3.1).
+//! The wire form of names (RFC 1035 section 3.1).
 ghost use Rattle.std.specs.Prelude.{◌≡◌, ◌≤◌, ◌∷◌, ◌++◌, length, map, IfOk, OnOk};
 ghost use Rattle.std.specs.Char.{to_ascii_lowercase};
 ghost use Rattle.zone_proto.specs.Names.{lower, wire_form, wire_length, IsName};
@@ -34,7 +34,8 @@ pub(crate) fn write_wire(alloc: Global, labels: Labels<'_>) -> Result<Vec<u8>, A
 /// Appends a label's length and its octets in lower case.
 fn push_label(bytes: &mut Vec<u8>, label: &[u8]) -> Result<(), AllocError>
     requires { length label.now ≤ 63 }
-    ensures { OnOk result (bytes.new.items ≡ bytes.old.items ++ length label.now ∷ map to_ascii_lowercase label.now) }
+    ensures { OnOk result
+        (bytes.new.items ≡ bytes.old.items ++ length label.now ∷ map to_ascii_lowercase label.now) }
 {
     bytes.push(label.len() as u8)?;
     for octet in label {

@@ -11,7 +11,7 @@ use Rattle.zone_proto.specs.declared.rr_key.RrKey.{RrKey}
 use Rattle.zone_proto.specs.Keys.{key, key_eq}
 use Rattle.zone_proto.specs.Names.{Name}
 use Rattle.zone_proto.specs.Sets.{RRset}
-use Rattle.zone_proto.proofs.KeyOrder.{key_same}
+use Rattle.zone_proto.proofs.Ordering.KeyOrder.{key_same}
 use Rattle.zone_map.specs.Puts.{without_all}
 use Rattle.zone_map.specs.Zones.{Sets, set_at, owns, owners, without, IsZone}
 use Rattle.zone_map.proofs.Stored.{IsZone-without}

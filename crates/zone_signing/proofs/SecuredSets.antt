@@ -10,7 +10,7 @@ use Rattle.zone_proto.specs.declared.record.Record.{Record}
 use Rattle.zone_proto.specs.Signing.{SignedPart}
 use Rattle.zone_proto.specs.Stepping.{stepped}
 use Rattle.zone_proto.specs.Types.{SOA}
-use Rattle.zone_proto.proofs.KeyOrder.{key_itself}
+use Rattle.zone_proto.proofs.Ordering.KeyOrder.{key_itself}
 use Rattle.zone_map.specs.Renewals.{with_signatures, stepped_under}
 use Rattle.zone_map.specs.Zones.{Sets, set_at}
 use Rattle.zone_signing.specs.Signatures.{signatures}

@@ -25,7 +25,9 @@ pub fn secure_kept<S: Signer>(
 ) -> Result<(), ProtoError>
     requires apex { apex.now.record_type.0 ≡ SOA }
     requires denials { IsTrue (is_denial_type denials.0) }
-    ensures ok { OnOk result (IsSecured S.signature_of now apex.now.name signers.now (kept_at denials.0 serial zone.old) zone.new) }
+    ensures ok { OnOk result
+        (IsSecured S.signature_of now apex.now.name signers.now (kept_at denials.0 serial zone.old)
+        zone.new) }
     ensures zone { OnOk result (IsZone zone.new) }
     ensures err { IsOkUnless result ProtoError.Memory }
     ensures same { OnErr result (zone.new ≡ zone.old) }

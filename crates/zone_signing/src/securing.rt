@@ -33,7 +33,9 @@ pub fn secure<S: Signer>(
     now: u64,
 ) -> Result<(), ProtoError>
     requires { apex.now.record_type.0 ≡ SOA }
-    ensures ok { OnOk result (IsSecured S.signature_of now apex.now.name signers.now (unsigned_at (option_map (λ d. d.0) denials) zone.old new_denials) zone.new) }
+    ensures ok { OnOk result
+        (IsSecured S.signature_of now apex.now.name signers.now
+        (unsigned_at (option_map (λ d. d.0) denials) zone.old new_denials) zone.new) }
     ensures zone { OnOk result (IsZone zone.new) }
     ensures err { IsOkUnless result ProtoError.Memory }
     ensures same { OnErr result (zone.new ≡ zone.old) }
@@ -64,7 +66,11 @@ pub(crate) fn sign_all<S: Signer>(
     signers: &[S],
     now: u64,
 ) -> Result<(), ProtoError>
-    ensures ok { OnOk result ((n : Name) (t : ℕ) → set_at zone.new n t ≡ option_map (secured_set S.signature_of now apex.now signers.now (key_at n t)) (set_at zone.old n t)) }
+    ensures ok { OnOk result
+        ((n : Name) (t : ℕ)
+        → set_at zone.new n t
+        ≡ option_map (secured_set S.signature_of now apex.now signers.now (key_at n t))
+        (set_at zone.old n t)) }
     ensures zone { OnOk result (IsZone zone.new) }
     ensures err { IsOkUnless result ProtoError.Memory }
     ensures same { OnErr result (zone.new ≡ zone.old) }
@@ -82,7 +88,11 @@ fn all_signatures<S: Signer>(
     signers: &[S],
     now: u64,
 ) -> Result<(Vec<Option<Rrsigs>>, Rrsigs), ProtoError>
-    ensures ok { IfOk result (λ made. AreHanded zone.now (map (λ e. (secured_set S.signature_of now apex.now signers.now e.0 e.1).signatures) zone.now) made.0.items made.1) }
+    ensures ok { IfOk result
+        (λ made. AreHanded zone.now
+        (map (λ e. (secured_set S.signature_of now apex.now signers.now e.0 e.1).signatures)
+        zone.now)
+        made.0.items made.1) }
     ensures err { IsOkUnless result ProtoError.Memory }
 {
     let alloc = apex.name.alloc();
@@ -107,7 +117,11 @@ fn sign_under<S: Signer>(
     now: u64,
 ) -> Result<Option<Rrsigs>, ProtoError>
     requires { IsStoredAt key.now.name key.now.record_type.0 set.now }
-    ensures ok { IfOk result (λ list. (part : List Signature) × (exchanged.new ≡ exchanged.old ++ part) × IsHanded set.now (secured_set S.signature_of now apex.now signers.now key.now set.now).signatures list part) }
+    ensures ok { IfOk result
+        (λ list. (part : List Signature) × (exchanged.new ≡ exchanged.old ++ part)
+        × IsHanded set.now
+        (secured_set S.signature_of now apex.now signers.now key.now set.now).signatures
+        list part) }
     ensures err { IsOkUnless result ProtoError.Memory }
 {
     let start = exchanged.len();
@@ -129,7 +143,11 @@ fn sign_next<S: Signer>(
     now: u64,
 ) -> Result<(), ProtoError>
     requires { IsStoredAt key.now.name key.now.record_type.0 set.now }
-    ensures ok { OnOk result (made.new ≡ made.old ++ (secured_set S.signature_of now apex.now signers.now key.now set.now).signatures) }
+    ensures ok { OnOk result
+        (made.new
+        ≡ made.old
+        ++ (secured_set S.signature_of now apex.now signers.now key.now
+        set.now).signatures) }
     ensures err { IsOkUnless result ProtoError.Memory }
 {
     // The set is asked first, as it is read in any case: the key stands elsewhere in memory.
@@ -148,7 +166,8 @@ fn gone_keys(
     denials: Option<RecordType>,
     new_denials: &NewSets,
 ) -> Result<Vec<RrKey>, ProtoError>
-    ensures ok { IfOk result (λ keys. keys.items ≡ gone (option_map (λ d. d.0) denials) new_denials.now zone.now) }
+    ensures ok { IfOk result
+        (λ keys. keys.items ≡ gone (option_map (λ d. d.0) denials) new_denials.now zone.now) }
     ensures err { IsOkUnless result ProtoError.Memory }
 {
     if has_none(zone, denials) {
@@ -164,7 +183,8 @@ fn list_gone(
     denials: Option<RecordType>,
     new_denials: &NewSets,
 ) -> Result<Vec<RrKey>, ProtoError>
-    ensures ok { IfOk result (λ keys. keys.items ≡ gone (option_map (λ d. d.0) denials) new_denials.now zone.now) }
+    ensures ok { IfOk result
+        (λ keys. keys.items ≡ gone (option_map (λ d. d.0) denials) new_denials.now zone.now) }
     ensures err { IsOkUnless result ProtoError.Memory }
 {
     let mut keys = Vec::new(alloc);

@@ -11,7 +11,9 @@ pub const LAST_MOMENT: u64 = 253402300799;
 /// passed over, and signatures that the set has go. Refused by `Memory` alone, of a signer too, which leaves the set as it
 /// was.
 pub fn sign_set<S: Signer>(set: &mut RecordSet, signers: &[S], now: u64) -> Result<(), ProtoError>
-    ensures ok { OnOk result (set.new ≡ record set.old { signatures = signatures S.signature_of now signers.now set.old }) }
+    ensures ok { OnOk result
+        (set.new
+        ≡ record set.old { signatures = signatures S.signature_of now signers.now set.old }) }
     ensures err { IsOkUnless result ProtoError.Memory }
     ensures same { OnErr result (set.new ≡ set.old) }
 {
@@ -30,7 +32,8 @@ pub fn add_signatures<S: Signer>(
     signers: &[S],
     now: u64,
 ) -> Result<(), ProtoError>
-    ensures ok { OnOk result (made.new ≡ made.old ++ signatures S.signature_of now signers.now set.now) }
+    ensures ok { OnOk result
+        (made.new ≡ made.old ++ signatures S.signature_of now signers.now set.now) }
     ensures err { IsOkUnless result ProtoError.Memory }
 {
     for signer in signers {
@@ -46,7 +49,8 @@ fn add_signature<S: Signer>(
     signer: &S,
     now: u64,
 ) -> Result<(), ProtoError>
-    ensures ok { OnOk result (made.new ≡ made.old ++ option_to_list (signature S.signature_of now set.now signer.now)) }
+    ensures ok { OnOk result
+        (made.new ≡ made.old ++ option_to_list (signature S.signature_of now set.now signer.now)) }
     ensures err { IsOkUnless result ProtoError.Memory }
 {
     let Some(rrsig) = signer.sign(set, DNSClass::IN, now)? else {

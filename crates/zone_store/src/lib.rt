@@ -24,5 +24,5 @@ pub mod program {
 }
 
 pub use zone_in_memory::{InMemoryZoneHandler, PutRefused, laws};
+pub use zone_inner::{Found, InnerInMemory, Searches, ZoneError};
 pub use zone_map::{DenialOwners, Reads};
-pub use zone_search::{Found, InnerInMemory, Searches, ZoneError};

@@ -11,8 +11,8 @@ use Rattle.zone_proto.specs.Names.{Name, Label, IsName}
 use Rattle.zone_proto.specs.TextForm.{three_digits}
 use Rattle.zone_proto.specs.Text.{is_plain, octet_text, label_text, name_text}
 use Rattle.zone_proto.specs.TypeText.{Word, word_of, type_words, type_text}
-use Rattle.zone_proto.proofs.RoundTrip.{printed_read}
-use Rattle.zone_proto.proofs.TypeTextLaws.{type_text_read}
+use Rattle.zone_proto.proofs.Texts.RoundTrip.{printed_read}
+use Rattle.zone_proto.proofs.Texts.TypeTextLaws.{type_text_read}
 use Rattle.zone_text.specs.Words.{is_blank, words, has_octets}
 use Rattle.zone_proto.specs.declared.rdata.start_of_authority.SOA.{SOA as SoaData}
 use Rattle.zone_proto.specs.declared.rdata.mail_exchange.MX.{MX as MxData}
@@ -22,12 +22,16 @@ use Rattle.zone_proto.specs.Data.{type_of}
 use Rattle.zone_proto.specs.Types.{has_own_case}
 use Rattle.zone_proto.specs.Ranges.{IsOctet}
 use Rattle.zone_text.specs.Numbers.{number_within}
-use Rattle.zone_text.specs.Octets.{hex_text}
-use Rattle.zone_text.specs.Addresses.{ipv4_text, ipv6_text, ipv4_of_text, ipv6_of_text}
-use Rattle.zone_text.specs.Reading.{name_of_word, type_of_word, timer_of_word, other_of_word, next_word, next_name, next_soa, next_mx, next_srv, next_data, next_record, read_as}
-use Rattle.zone_text.specs.Printing.{data_text, record_text}
-use Rattle.zone_text.specs.Readable.{without_class, IsTimer, IsOctets, IsReadableSoa, IsReadableSrv, IsReadableData, IsReadable}
-use Rattle.zone_text.proofs.PrintedWords.{is_solid, IsWord, word_and_more, word_alone, solid_append, word_append, decimal_word, hex_word_text, ipv4_word, ipv6_word}
+use Rattle.zone_text.specs.Hex.{hex_text}
+use Rattle.zone_text.specs.Addresses.{ipv4_text, ipv6_text, ipv4_of_text, ipv6_of_text, IsOctets}
+use Rattle.zone_text.specs.Reading.{name_of_word, type_of_word, timer_of_word, next_word, next_name, read_as}
+use Rattle.zone_text.specs.StartOfAuthority.{next_soa, soa_text, IsTimer, IsReadableSoa}
+use Rattle.zone_text.specs.MailExchange.{next_mx, mx_text, IsReadableMx}
+use Rattle.zone_text.specs.Service.{next_srv, srv_text, IsReadableSrv}
+use Rattle.zone_text.specs.Other.{next_other}
+use Rattle.zone_text.specs.Data.{next_data, data_text, IsReadableData}
+use Rattle.zone_text.specs.Records.{next_record, record_text, without_class, IsReadable}
+use Rattle.zone_text.proofs.PrintedWords.{and_both, is_solid, IsWord, word_and_more, word_alone, solid_append, word_append, decimal_word, hex_word_text, ipv4_word, ipv6_word}
 use Rattle.zone_text.proofs.ReadingFacts.{name_read, other_read}
 use Rattle.zone_text.proofs.RoundTrips.{decimal_read, hex_read, ipv4_read, ipv6_read}
 
@@ -67,10 +71,6 @@ name_back n h = name_read (name_text n) n ((printed_read n n h).1 refl) h
 
 -- ---- types are words, and are read
 
-and_both : (a b : Bool) → (a && b) ≡ true → (a ≡ true) × (b ≡ true)
-and_both true b h = (refl, h)
-and_both false b h = absurd (grind arith)
-
 abbrev is_word : List ℕ → Bool
 is_word w = has_octets w && is_solid w
 
@@ -108,7 +108,7 @@ timer_word z (n, e, small) = rw e (decimal_word n (omega arith))
 name_data_back : (make : Name → RData) (n : Name) → IsName n → read_as make (next_name (words (name_text n))) ≡ Some (make n, [])
 name_data_back make n h = rw (word_alone (name_text n) (name_word n), name_back n h) refl
 
-soa_back : (d : SoaData) → IsReadableSoa d → next_soa (words (data_text (V.SOA d))) ≡ Some (d, [])
+soa_back : (d : SoaData) → IsReadableSoa d → next_soa (words (soa_text d)) ≡ Some (d, [])
 soa_back d h =
     rw (
       word_and_more (name_text d.mname) _ (name_word d.mname),
@@ -128,17 +128,17 @@ soa_back d h =
     )
     refl
 
-mx_back : (d : MxData) → d.preference < 65536 → IsName d.exchange → next_mx (words (data_text (V.MX d))) ≡ Some (d, [])
-mx_back d h g =
+mx_back : (d : MxData) → IsReadableMx d → next_mx (words (mx_text d)) ≡ Some (d, [])
+mx_back d h =
     rw (
-      word_and_more (decimal d.preference) _ (decimal_word d.preference (omega arith)),
+      word_and_more (decimal d.preference) _ (decimal_word d.preference (omega (arith, h.preference))),
       word_alone (name_text d.exchange) (name_word d.exchange),
-      u16_back d.preference h,
-      name_back d.exchange g,
+      u16_back d.preference h.preference,
+      name_back d.exchange h.exchange,
     )
     refl
 
-srv_back : (d : SrvData) → IsReadableSrv d → next_srv (words (data_text (V.SRV d))) ≡ Some (d, [])
+srv_back : (d : SrvData) → IsReadableSrv d → next_srv (words (srv_text d)) ≡ Some (d, [])
 srv_back d h =
     rw (
       word_and_more (decimal d.priority) _ (decimal_word d.priority (omega (arith, h.priority))),
@@ -171,7 +171,7 @@ other_than t k own none = by (t == k) refl
         absurd (true≢false (sym own ∙ ap has_own_case (sym same) ∙ none))
 
 -- a type without a case of its own is none of those whose data have one
-other_chain : (t : ℕ) (ws : List (List ℕ)) → has_own_case t ≡ false → next_data t ws ≡ next_word (other_of_word t) ws
+other_chain : (t : ℕ) (ws : List (List ℕ)) → has_own_case t ≡ false → next_data t ws ≡ next_other t ws
 other_chain t ws own =
     rw (
       other_than t 1 refl own,
@@ -196,7 +196,7 @@ data_back (V.NS n) h = name_data_back V.NS n h
 data_back (V.CNAME n) h = name_data_back V.CNAME n h
 data_back (V.ANAME n) h = name_data_back V.ANAME n h
 data_back (V.SOA d) h = rw (soa_back d h) refl
-data_back (V.MX d) h = rw (mx_back d h.0 h.1) refl
+data_back (V.MX d) h = rw (mx_back d h) refl
 data_back (V.SRV d) h = rw (srv_back d h) refl
 data_back (V.DNSKEY d) h = absurd h
 data_back (V.NSEC d) h = absurd h

@@ -9,7 +9,8 @@ use Rattle.std.proofs.lemmas.Fmt.{decimal_is_IsNumeral}
 use Rattle.std.proofs.lemmas.List.Elements.{All-cons}
 use Rattle.std.proofs.lemmas.List.Splits.{slice_split_at, slice_split_none}
 use Rattle.zone_text.specs.Words.{is_blank, words, has_octets}
-use Rattle.zone_text.specs.Octets.{hex_of_octet, hex_text}
+use Rattle.zone_text.proofs.WordFacts.{has_some}
+use Rattle.zone_text.specs.Hex.{hex_of_octet, hex_text}
 use Rattle.zone_text.specs.Parts.{joined}
 use Rattle.zone_text.specs.Addresses.{groups, ipv4_text, ipv6_text}
 
@@ -20,7 +21,7 @@ is_solid = list_all (λ b. not (is_blank b))
 abbrev pub IsWord : List ℕ → Type 0
 IsWord w = (has_octets w ≡ true) × (is_solid w ≡ true)
 
-and_both : (a b : Bool) → (a && b) ≡ true → (a ≡ true) × (b ≡ true)
+pub and_both : (a b : Bool) → (a && b) ≡ true → (a ≡ true) × (b ≡ true)
 and_both true b h = (refl, h)
 and_both false b h = absurd (grind arith)
 
@@ -60,10 +61,6 @@ some_append (b ∷ v) w h = refl
 
 pub word_append : (v w : List ℕ) → IsWord v → is_solid w ≡ true → IsWord (v ++ w)
 word_append v w h g = (some_append v w h.0, solid_append v w h.1 g)
-
-has_some : (w : List ℕ) → 0 < length w → has_octets w ≡ true
-has_some [] h = absurd (omega arith)
-has_some (b ∷ w) h = refl
 
 digit_solid : (c : ℕ) → digit_value c < 10 → not (is_blank c) ≡ true
 digit_solid c h = grind (arith, nat_tests, leb_tells)

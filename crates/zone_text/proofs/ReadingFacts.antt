@@ -13,14 +13,15 @@ use Rattle.zone_proto.specs.TextForm.{IsNameText}
 use Rattle.zone_proto.specs.Parse.{labels_of_text}
 use Rattle.zone_proto.specs.TypeText.{type_of_text}
 use Rattle.zone_proto.specs.Faults.{fault_of, IsTextFault, no_labels, no_name}
-use Rattle.zone_proto.proofs.TextForms.{form_read, read_form, one_form}
-use Rattle.zone_proto.proofs.TextFaults.{name_has_no_fault, read_or_refused}
+use Rattle.zone_proto.proofs.Texts.TextForms.{form_read, read_form, one_form}
+use Rattle.zone_proto.proofs.Texts.TextFaults.{name_has_no_fault, read_or_refused}
 use mathlib.Core.Bool.{Bool-set}
 use Rattle.zone_proto.specs.Types.{has_own_case}
 use Rattle.zone_proto.specs.declared.rdata.other.OtherData.{OtherData}
 use Rattle.zone_proto.specs.declared.rdata.RData.TheVariants as V
 use Rattle.zone_text.specs.Hex.{hex_word}
-use Rattle.zone_text.specs.Reading.{WordList, Reading, next_word, then_read, name_of_word, type_of_word, unless_fault, other_unless_own, other_of_word}
+use Rattle.zone_text.specs.Reading.{WordList, Reading, next_word, then_read, name_of_word, type_of_word, unless_fault}
+use Rattle.zone_text.specs.Other.{other_unless_own, other_of_word}
 use Rattle.zone_text.proofs.Ascii.{name_ascii, type_ascii}
 
 -- ---- one word, and one reading after the other

@@ -9,8 +9,7 @@ use Rattle.std.proofs.lemmas.Fmt.{decimal_is_IsNumeral}
 use Rattle.std.proofs.lemmas.List.Elements.{All-cons}
 use Rattle.std.proofs.lemmas.List.Splits.{slice_split_at, slice_split_none}
 use Rattle.zone_text.specs.Numbers.{digit_of, is_numeral, number_within}
-use Rattle.zone_text.specs.Hex.{hex_octet, hex_octets, hex_word}
-use Rattle.zone_text.specs.Octets.{hex_of_octet, hex_text}
+use Rattle.zone_text.specs.Hex.{hex_octet, hex_octets, hex_of_octet, hex_text, hex_word}
 use Rattle.zone_text.specs.Parts.{parts, octets_of_parts}
 use Rattle.zone_text.specs.Addresses.{octet_of_text, ipv4_of_text, ipv4_text, octets_of_group, ipv6_of_text, groups, ipv6_text}
 use Rattle.zone_text.proofs.Digits.{within_most}

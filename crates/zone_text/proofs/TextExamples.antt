@@ -2,10 +2,10 @@
 use Rattle.std.proofs.Common.{◌≡◌, [], ◌∷◌, codes, refl}
 use Rattle.std.specs.Fmt.{digits}
 use Rattle.zone_proto.specs.declared.rdata.RData.TheVariants as V
-use Rattle.zone_text.specs.Octets.{hex_text}
-use Rattle.zone_text.specs.Printing.{data_text, record_text}
+use Rattle.zone_text.specs.Hex.{hex_text}
+use Rattle.zone_text.specs.Data.{data_text}
+use Rattle.zone_text.specs.Records.{record_text, without_class}
 use Rattle.zone_text.specs.Words.{words}
-use Rattle.zone_text.specs.Readable.{without_class}
 
 hex : hex_text (0 ∷ 10 ∷ 255 ∷ []) ≡ codes "000aff"
 hex = refl

@@ -32,7 +32,7 @@ words_after_blanks (b ∷ s) = by (is_blank b) refl (words_after_blanks s)
     by true e more = ap words (drop_more b _ s) ∙ more ∙ sym (words_after_blank b s e)
     by false e more = refl
 
-has_some : (w : List ℕ) → 0 < length w → has_octets w ≡ true
+pub has_some : (w : List ℕ) → 0 < length w → has_octets w ≡ true
 has_some [] h = absurd (omega arith)
 has_some (b ∷ w) h = refl
 

@@ -1,8 +1,10 @@
--- Addresses as text
-use Rattle.std.specs.Prelude.{ℕ, ◌/◌, ◌%◌, ◌++◌, List, [], ◌∷◌, ◌==◌, nat_le, length, map, Option, None, option_map, if◌then◌else◌}
+-- Addresses as text, which is how the data of A and AAAA records are read and printed
+use Rattle.std.specs.Prelude.{◌≡◌, ℕ, ◌/◌, ◌%◌, ◌++◌, List, [], ◌∷◌, ◌==◌, nat_le, length, map, Option, None, option_map, if◌then◌else◌}
 use Rattle.std.specs.Fmt.{decimal}
+use Rattle.std.specs.List.{AllByRecursion}
+use Rattle.zone_proto.specs.Ranges.{IsOctet}
 use Rattle.zone_text.specs.Numbers.{number_within}
-use Rattle.zone_text.specs.Octets.{hex_of_octet}
+use Rattle.zone_text.specs.Hex.{hex_of_octet}
 use Rattle.zone_text.specs.Parts.{parts, joined, octets_of_parts}
 
 -- a number from 0 to 255 is one octet
@@ -41,3 +43,7 @@ groups (b ∷ c ∷ bs) = (hex_of_octet b ++ hex_of_octet c) ∷ groups bs
 -- and an IPv6 address as its eight groups with colons between them, letters in lower case
 abbrev pub ipv6_text : List ℕ → List ℕ
 ipv6_text octets = joined 58 (groups octets)
+
+-- octets of a count
+abbrev pub IsOctets : ℕ → List ℕ → Type 0
+IsOctets n bs = (length bs ≡ n) × AllByRecursion IsOctet bs

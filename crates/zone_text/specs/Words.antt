@@ -1,6 +1,7 @@
 -- The words of a line
 use Rattle.std.specs.Prelude.{ℕ, List, [], ◌∷◌, Bool, true, false, ◌||◌, ◌==◌}
 use Rattle.std.specs.List.{slice_split, filter}
+use Rattle.zone_text.specs.Parts.{joined}
 
 -- a space or a tab
 abbrev pub is_blank : ℕ → Bool
@@ -13,3 +14,7 @@ has_octets (b ∷ bs) = true
 -- the words of a line, in order: what stands between two blanks, before the first or after the last, if that is not empty
 abbrev pub words : List ℕ → List (List ℕ)
 words line = filter has_octets (slice_split is_blank line)
+
+-- words with single spaces between them
+abbrev pub spaced : List (List ℕ) → List ℕ
+spaced = joined 32

@@ -1,8 +1,14 @@
-ghost use Rattle.std.specs.Prelude.{◌≡◌};
-ghost use Rattle.zone_text.specs.Addresses.{ipv4_of_text, ipv6_of_text, group_of_text};
+//! IPv4 and IPv6 addresses, which are the data of A and AAAA records, read and printed.
+ghost use Rattle.std.specs.Prelude.{◌≡◌, [], ◌∷◌, Some, None, IfOk, IfErr};
+ghost use Rattle.zone_text.specs.Addresses.{group_of_text, ipv4_of_text, ipv4_text, ipv6_of_text, ipv6_text};
+ghost use Rattle.zone_text.specs.Reading.{next_word};
 
+use crate::error::TextError;
+use crate::hex::HexOctet;
 use crate::numbers::{read_number, read_u8};
 use crate::parts::part_before;
+use crate::words::Words;
+use std::fmt;
 
 /// Reads an IPv4 address: four numbers from 0 to 255 with dots between them (RFC 1035 section 3.4.1). None where the word
 /// isn't that. Takes no memory.
@@ -52,4 +58,66 @@ fn read_group(part: &[u8]) -> Option<u16>
         return None;
     }
     Some(read_number(part, 16, 65535)? as u16)
+}
+
+/// Reads the next word as an IPv4 address.
+#[tactic(auto, using(crate::proofs::ReadingFacts::reading))]
+pub(crate) fn take_ipv4(words: &mut Words<'_>) -> Result<[u8; 4], TextError>
+    ensures ok { IfOk result (λ a. next_word ipv4_of_text words.old ≡ Some (a, words.new)) }
+    ensures refusal { IfErr result (λ e. next_word ipv4_of_text words.old ≡ None) }
+{
+    let word = words.take_needed()?;
+    read_ipv4(word).ok_or(TextError::BadText)
+}
+
+/// Reads the next word as an IPv6 address.
+#[tactic(auto, using(crate::proofs::ReadingFacts::reading))]
+pub(crate) fn take_ipv6(words: &mut Words<'_>) -> Result<[u8; 16], TextError>
+    ensures ok { IfOk result (λ a. next_word ipv6_of_text words.old ≡ Some (a, words.new)) }
+    ensures refusal { IfErr result (λ e. next_word ipv6_of_text words.old ≡ None) }
+{
+    let word = words.take_needed()?;
+    read_ipv6(word).ok_or(TextError::BadText)
+}
+
+/// An IPv4 address as four numbers with dots between them.
+#[derive(Drop)]
+pub(crate) struct Ipv4Text<'r>(pub &'r [u8; 4]);
+
+impl fmt::Display for Ipv4Text<'_> {
+    ghost output = { λ a. Some (ipv4_text a.0.now) };
+
+    fn fmt<W: fmt::Write>(&self, f: &mut fmt::Formatter<W>) -> fmt::Result {
+        let [a, b, c, d] = self.0;
+        write!(f, "{a}.{b}.{c}.{d}")
+    }
+}
+
+/// An IPv6 address as eight groups of four hex digits with colons between them.
+#[derive(Drop)]
+pub(crate) struct Ipv6Text<'r>(pub &'r [u8; 16]);
+
+impl fmt::Display for Ipv6Text<'_> {
+    ghost output = { λ a. Some (ipv6_text a.0.now) };
+
+    fn fmt<W: fmt::Write>(&self, f: &mut fmt::Formatter<W>) -> fmt::Result {
+        let [a, b, c, d, e, g, h, i, j, k, l, m, n, o, p, q] = self.0;
+        let (first, second) = (GroupsText(*a, *b, *c, *d), GroupsText(*e, *g, *h, *i));
+        let (third, fourth) = (GroupsText(*j, *k, *l, *m), GroupsText(*n, *o, *p, *q));
+        write!(f, "{first}:{second}:{third}:{fourth}")
+    }
+}
+
+/// Two groups of an IPv6 address, of four hex digits each, with a colon between them.
+#[derive(Drop)]
+struct GroupsText(u8, u8, u8, u8);
+
+impl fmt::Display for GroupsText {
+    ghost output = { λ g. Some (ipv6_text (g.0 ∷ g.1 ∷ g.2 ∷ g.3 ∷ [])) };
+
+    fn fmt<W: fmt::Write>(&self, f: &mut fmt::Formatter<W>) -> fmt::Result {
+        let (a, b) = (HexOctet(self.0), HexOctet(self.1));
+        let (c, d) = (HexOctet(self.2), HexOctet(self.3));
+        write!(f, "{a}{b}:{c}{d}")
+    }
 }

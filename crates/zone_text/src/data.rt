@@ -1,20 +1,36 @@
-ghost use Rattle.std.specs.Prelude.{◌≡◌, Some, None, IfOk, IfErr};
-ghost use Rattle.zone_text.specs.Reading.{next_data, next_mx, next_name, next_soa, next_srv, next_timer, next_u16, next_u32, next_word, other_of_word};
-ghost use Rattle.zone_text.specs.Addresses.{ipv4_of_text, ipv6_of_text};
+//! The data of a record, read by their type and printed. What the data of a type are stands in a file of its family.
+ghost use Rattle.std.specs.Prelude.{◌≡◌, Some, IfOk};
+ghost use Rattle.zone_text.specs.Data.{data_text, next_data};
+ghost use Rattle.zone_text.specs.Errors.{OnBadText};
 
-use crate::addresses::{read_ipv4, read_ipv6};
+mod denial;
+mod mail_exchange;
+mod other;
+mod service;
+mod signing;
+mod start_of_authority;
+
+use crate::addresses::{Ipv4Text, Ipv6Text, take_ipv4, take_ipv6};
 use crate::error::TextError;
-use crate::hex::read_hex;
+use crate::hex::HexText;
 use crate::names::read_name;
-use crate::numbers::{read_timer, read_u16, read_u32};
 use crate::words::Words;
+use denial::{Nsec3ParametersText, Nsec3Text, NsecText};
+use mail_exchange::{MxText, read_mx};
+use other::read_other;
+use service::{SrvText, read_srv};
+use signing::{KeyText, SignatureText};
+use start_of_authority::{SoaText, read_soa};
 use std::alloc::Global;
-use zone_proto::{MX, OtherData, RData, RecordType, SOA, SRV};
+use std::fmt;
+use zone_proto::{RData, RecordType};
 
 /// Reads the words that are left of a line as the data of a record of this type, their parts in the order of the type's
-/// standard, and those of a type that `RData` has no case for as one word of hex. `BadText` where the words aren't that,
-/// and for DNSKEY, NSEC, NSEC3, NSEC3PARAM and RRSIG, whose data aren't read; `Memory` where none is found. Words that
-/// follow the data stay. After a refusal the words are of no more use.
+/// standard, and those of a type that `RData` has no case for as one word of hex. Words that follow the data stay.
+///
+/// # Errors
+/// `BadText` where the words aren't that, and for DNSKEY, NSEC, NSEC3, NSEC3PARAM and RRSIG, whose data aren't read;
+/// `Memory` where none is found. After a refusal the words are of no more use.
 #[tactic(auto, using(crate::proofs::ReadingFacts::reading))]
 pub fn read_data(
     alloc: Global,
@@ -22,7 +38,7 @@ pub fn read_data(
     words: &mut Words<'_>,
 ) -> Result<RData, TextError>
     ensures ok { IfOk result (λ d. next_data record_type.0 words.old ≡ Some (d, words.new)) }
-    ensures refusal { IfErr result (λ e. e ≡ TextError.BadText → next_data record_type.0 words.old ≡ None) }
+    ensures refusal { OnBadText result (next_data record_type.0 words.old ≡ None) }
 {
     match record_type {
         RecordType::A => Ok(RData::A(take_ipv4(words)?)),
@@ -37,115 +53,31 @@ pub fn read_data(
     }
 }
 
-/// Reads the next word as an IPv4 address.
-#[tactic(auto, using(crate::proofs::ReadingFacts::reading))]
-fn take_ipv4(words: &mut Words<'_>) -> Result<[u8; 4], TextError>
-    ensures ok { IfOk result (λ a. next_word ipv4_of_text words.old ≡ Some (a, words.new)) }
-    ensures refusal { IfErr result (λ e. next_word ipv4_of_text words.old ≡ None) }
-{
-    let word = words.take_needed()?;
-    read_ipv4(word).ok_or(TextError::BadText)
-}
+/// The data of a record as text: their parts in the order of the type's standard, with single spaces between them, octets in
+/// hex, and the hash of an NSEC3 in base32hex. `read_data` reads this as the same data, of each type that it reads, unless a
+/// timer of an SOA is below zero.
+#[derive(Drop)]
+pub struct DataText<'r>(pub &'r RData);
 
-/// Reads the next word as an IPv6 address.
-#[tactic(auto, using(crate::proofs::ReadingFacts::reading))]
-fn take_ipv6(words: &mut Words<'_>) -> Result<[u8; 16], TextError>
-    ensures ok { IfOk result (λ a. next_word ipv6_of_text words.old ≡ Some (a, words.new)) }
-    ensures refusal { IfErr result (λ e. next_word ipv6_of_text words.old ≡ None) }
-{
-    let word = words.take_needed()?;
-    read_ipv6(word).ok_or(TextError::BadText)
-}
+impl fmt::Display for DataText<'_> {
+    ghost output = { λ d. Some (data_text d.0.now) };
 
-/// Reads the next word as a number of 16 bits.
-#[tactic(auto, using(crate::proofs::ReadingFacts::reading))]
-fn take_u16(words: &mut Words<'_>) -> Result<u16, TextError>
-    ensures ok { IfOk result (λ n. next_u16 words.old ≡ Some (n, words.new)) }
-    ensures refusal { IfErr result (λ e. next_u16 words.old ≡ None) }
-{
-    let word = words.take_needed()?;
-    read_u16(word).ok_or(TextError::BadText)
-}
-
-/// Reads the next word as a number of 32 bits.
-#[tactic(auto, using(crate::proofs::ReadingFacts::reading))]
-pub(crate) fn take_u32(words: &mut Words<'_>) -> Result<u32, TextError>
-    ensures ok { IfOk result (λ n. next_u32 words.old ≡ Some (n, words.new)) }
-    ensures refusal { IfErr result (λ e. next_u32 words.old ≡ None) }
-{
-    let word = words.take_needed()?;
-    read_u32(word).ok_or(TextError::BadText)
-}
-
-/// Reads the next word as the seconds of a timer.
-#[tactic(auto, using(crate::proofs::ReadingFacts::reading))]
-fn take_timer(words: &mut Words<'_>) -> Result<i32, TextError>
-    ensures ok { IfOk result (λ n. next_timer words.old ≡ Some (n, words.new)) }
-    ensures refusal { IfErr result (λ e. next_timer words.old ≡ None) }
-{
-    let word = words.take_needed()?;
-    read_timer(word).ok_or(TextError::BadText)
-}
-
-/// Reads the parts of an SOA in the order of RFC 1035 section 3.3.13.
-#[tactic(auto, using(crate::proofs::ReadingFacts::reading))]
-fn read_soa(alloc: Global, words: &mut Words<'_>) -> Result<SOA, TextError>
-    ensures ok { IfOk result (λ d. next_soa words.old ≡ Some (d, words.new)) }
-    ensures refusal { IfErr result (λ e. e ≡ TextError.BadText → next_soa words.old ≡ None) }
-{
-    Ok(SOA {
-        mname: read_name(alloc, words)?,
-        rname: read_name(alloc, words)?,
-        serial: take_u32(words)?,
-        refresh: take_timer(words)?,
-        retry: take_timer(words)?,
-        expire: take_timer(words)?,
-        minimum: take_u32(words)?,
-    })
-}
-
-/// Reads the parts of an MX in the order of RFC 1035 section 3.3.9.
-#[tactic(auto, using(crate::proofs::ReadingFacts::reading))]
-fn read_mx(alloc: Global, words: &mut Words<'_>) -> Result<MX, TextError>
-    ensures ok { IfOk result (λ d. next_mx words.old ≡ Some (d, words.new)) }
-    ensures refusal { IfErr result (λ e. e ≡ TextError.BadText → next_mx words.old ≡ None) }
-{
-    Ok(MX {
-        preference: take_u16(words)?,
-        exchange: read_name(alloc, words)?,
-    })
-}
-
-/// Reads the parts of an SRV in the order of RFC 2782.
-#[tactic(auto, using(crate::proofs::ReadingFacts::reading))]
-fn read_srv(alloc: Global, words: &mut Words<'_>) -> Result<SRV, TextError>
-    ensures ok { IfOk result (λ d. next_srv words.old ≡ Some (d, words.new)) }
-    ensures refusal { IfErr result (λ e. e ≡ TextError.BadText → next_srv words.old ≡ None) }
-{
-    Ok(SRV {
-        priority: take_u16(words)?,
-        weight: take_u16(words)?,
-        port: take_u16(words)?,
-        target: read_name(alloc, words)?,
-    })
-}
-
-/// Reads the data of a type without a case of its own: one word of hex.
-#[tactic(auto, using(crate::proofs::ReadingFacts::reading))]
-fn read_other(
-    alloc: Global,
-    record_type: RecordType,
-    words: &mut Words<'_>,
-) -> Result<RData, TextError>
-    ensures ok { IfOk result (λ d. next_word (other_of_word record_type.0) words.old ≡ Some (d, words.new)) }
-    ensures refusal { IfErr result (λ e. e ≡ TextError.BadText → next_word (other_of_word record_type.0) words.old ≡ None) }
-{
-    let word = words.take_needed()?;
-    let Some(octets) = read_hex(alloc, word)? else {
-        return Err(TextError::BadText);
-    };
-    match OtherData::new(record_type, octets) {
-        Some(other) => Ok(RData::Other(other)),
-        None => Err(TextError::BadText),
+    fn fmt<W: fmt::Write>(&self, f: &mut fmt::Formatter<W>) -> fmt::Result {
+        match self.0 {
+            RData::A(address) => write!(f, "{}", Ipv4Text(address)),
+            RData::AAAA(address) => write!(f, "{}", Ipv6Text(address)),
+            RData::NS(name) => write!(f, "{name}"),
+            RData::CNAME(name) => write!(f, "{name}"),
+            RData::ANAME(name) => write!(f, "{name}"),
+            RData::SOA(soa) => write!(f, "{}", SoaText(soa)),
+            RData::MX(mx) => write!(f, "{}", MxText(mx)),
+            RData::SRV(srv) => write!(f, "{}", SrvText(srv)),
+            RData::DNSKEY(key) => write!(f, "{}", KeyText(key)),
+            RData::NSEC(nsec) => write!(f, "{}", NsecText(nsec)),
+            RData::NSEC3(nsec3) => write!(f, "{}", Nsec3Text(nsec3)),
+            RData::NSEC3PARAM(parameters) => write!(f, "{}", Nsec3ParametersText(parameters)),
+            RData::RRSIG(rrsig) => write!(f, "{}", SignatureText(rrsig)),
+            RData::Other(other) => write!(f, "{}", HexText(other.octets())),
+        }
     }
 }

@@ -1,3 +1,4 @@
+//! Why words aren't read.
 ghost use Rattle.std.specs.Prelude.{◌≡◌};
 
 use std::alloc::{AllocError, AllocFailed};

@@ -1,8 +1,11 @@
-ghost use Rattle.std.specs.Prelude.{◌≡◌, IfOk, option_map};
-ghost use Rattle.zone_text.specs.Hex.{hex_digit, hex_octets, hex_word};
+//! Octets in hex, read and printed.
+ghost use Rattle.std.specs.Prelude.{◌≡◌, ◌<◌, Some, IfOk, option_map};
+ghost use Rattle.std.specs.Char.{digit_char};
+ghost use Rattle.zone_text.specs.Hex.{hex_digit, hex_octets, hex_of_octet, hex_text, hex_word};
 
 use crate::numbers::read_digit;
 use std::alloc::{AllocError, Global};
+use std::fmt;
 
 /// Reads the octets that a word of hex writes: two digits each, in either case, and `-` for none.
 /// Gives None where the word isn't hex.
@@ -41,4 +44,44 @@ fn read_hex_digit(octet: u8) -> Option<u8>
     ensures { result ≡ hex_digit octet }
 {
     Some(read_digit(octet, 16)? as u8)
+}
+
+/// Octets in hex, in lower case, and `-` for none.
+#[derive(Drop)]
+pub struct HexText<'r>(pub &'r [u8]);
+
+impl fmt::Display for HexText<'_> {
+    ghost output = { λ h. Some (hex_text h.0.now) };
+
+    fn fmt<W: fmt::Write>(&self, f: &mut fmt::Formatter<W>) -> fmt::Result {
+        if self.0.is_empty() {
+            return write!(f, "-");
+        }
+        for octet in self.0 {
+            write!(f, "{}", HexOctet(*octet))?;
+        }
+        Ok(())
+    }
+}
+
+/// An octet in hex.
+#[derive(Drop)]
+pub(crate) struct HexOctet(pub u8);
+
+impl fmt::Display for HexOctet {
+    ghost output = { λ o. Some (hex_of_octet o.0) };
+
+    fn fmt<W: fmt::Write>(&self, f: &mut fmt::Formatter<W>) -> fmt::Result {
+        let high = digit_character(self.0 / 16);
+        let low = digit_character(self.0 % 16);
+        write!(f, "{high}{low}")
+    }
+}
+
+/// The character of a digit of hex, in lower case.
+fn digit_character(digit: u8) -> char
+    requires { digit < 16 }
+    ensures { result ≡ digit_char digit }
+{
+    char::from_digit(u32::from(digit), 16).unwrap_or('0')
 }

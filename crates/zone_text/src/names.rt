@@ -1,5 +1,7 @@
+//! Names, types and keys of record sets, read.
 ghost use Rattle.std.specs.Prelude.{◌≡◌, Some, None, IfOk, IfErr};
-ghost use Rattle.zone_text.specs.Reading.{next_key, next_name, next_type, next_word, type_of_word};
+ghost use Rattle.zone_text.specs.Errors.{OnBadText};
+ghost use Rattle.zone_text.specs.Reading.{next_key, next_name, next_type, type_of_word};
 
 use crate::error::TextError;
 use crate::words::Words;
@@ -12,18 +14,14 @@ use zone_proto::{LowerName, Name, RecordType, RrKey};
 #[tactic(auto, using(crate::proofs::ReadingFacts::reading))]
 pub fn read_name(alloc: Global, words: &mut Words<'_>) -> Result<Name, TextError>
     ensures ok { IfOk result (λ n. next_name words.old ≡ Some (n, words.new)) }
-    ensures refusal { IfErr result (λ e. e ≡ TextError.BadText → next_name words.old ≡ None) }
+    ensures refusal { OnBadText result (next_name words.old ≡ None) }
 {
     let word = words.take_needed()?;
     let Ok(text) = str::from_utf8(word) else {
         return Err(TextError::BadText);
     };
     match Name::parse(alloc, text) {
-        Ok(name) => {
-            // Its clauses say that this is a name.
-            let _ = name.labels();
-            Ok(name)
-        }
+        Ok(name) => Ok(name),
         Err(error) => Err(TextError::from(error)),
     }
 }
@@ -36,10 +34,7 @@ pub fn read_type(words: &mut Words<'_>) -> Result<RecordType, TextError>
     ensures refusal { IfErr result (λ e. (e ≡ TextError.BadText) × (next_type words.old ≡ None)) }
 {
     let word = words.take_needed()?;
-    match type_of(word) {
-        Some(record_type) => Ok(record_type),
-        None => Err(TextError::BadText),
-    }
+    type_of(word).ok_or(TextError::BadText)
 }
 
 /// The type that a word names.
@@ -57,7 +52,7 @@ fn type_of(word: &[u8]) -> Option<RecordType>
 #[tactic(auto, using(crate::proofs::ReadingFacts::reading))]
 pub fn read_key(alloc: Global, words: &mut Words<'_>) -> Result<RrKey, TextError>
     ensures ok { IfOk result (λ k. next_key words.old ≡ Some (k, words.new)) }
-    ensures refusal { IfErr result (λ e. e ≡ TextError.BadText → next_key words.old ≡ None) }
+    ensures refusal { OnBadText result (next_key words.old ≡ None) }
 {
     let owner = read_name(alloc, words)?;
     let record_type = read_type(words)?;

@@ -1,3 +1,4 @@
+//! Numbers, read from their digits.
 ghost use Rattle.std.specs.Prelude.{◌≡◌, ◌≤◌, ◌+◌, ◌*◌, pos, option_map};
 ghost use Rattle.zone_text.specs.Numbers.{at_most, digit_of, number_within};
 

@@ -1,3 +1,4 @@
+//! The parts of a text between separators, one after the other.
 ghost use Rattle.std.specs.Prelude.{◌≡◌, ◌∷◌};
 ghost use Rattle.zone_text.specs.Parts.{parts, parts_left};
 

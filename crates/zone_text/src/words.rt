@@ -1,9 +1,11 @@
+//! The words of a line that are still to be read, and the next of them read as a number or as a flag.
 ghost use Rattle.std.specs.Prelude.{◌≡◌, ◌≢◌, ◌∷◌, [], IfSome, IfNone, IfOk, IfErr, OnOk, not};
 ghost use Rattle.std.specs.List.{position_or_len};
-ghost use Rattle.zone_text.specs.Reading.{next_flag};
+ghost use Rattle.zone_text.specs.Reading.{next_flag, next_timer, next_u16, next_u32, next_u64};
 ghost use Rattle.zone_text.specs.Words.{is_blank, words};
 
 use crate::error::TextError;
+use crate::numbers::{read_timer, read_u16, read_u32, read_u64};
 use std::marker::Model;
 
 /// The words of a line that are still to be read. Spaces and tabs separate words.
@@ -52,11 +54,53 @@ impl<'l> Words<'l> {
         self.take().ok_or(TextError::BadText)
     }
 
+    /// Takes the next word as a number, as [`read_u16`] reads it. `BadText` where there is no further word or it isn't
+    /// that. Takes no memory.
+    #[tactic(auto, using(crate::proofs::ReadingFacts::reading))]
+    pub fn take_u16(&mut self) -> Result<u16, TextError>
+        ensures ok { IfOk result (λ n. next_u16 self.old ≡ Some (n, self.new)) }
+        ensures err { IfErr result (λ e. (e ≡ TextError.BadText) × (next_u16 self.old ≡ None)) }
+    {
+        let word = self.take_needed()?;
+        read_u16(word).ok_or(TextError::BadText)
+    }
+
+    /// Takes the next word as `take_u16` does, as [`read_u32`] reads it.
+    #[tactic(auto, using(crate::proofs::ReadingFacts::reading))]
+    pub fn take_u32(&mut self) -> Result<u32, TextError>
+        ensures ok { IfOk result (λ n. next_u32 self.old ≡ Some (n, self.new)) }
+        ensures err { IfErr result (λ e. (e ≡ TextError.BadText) × (next_u32 self.old ≡ None)) }
+    {
+        let word = self.take_needed()?;
+        read_u32(word).ok_or(TextError::BadText)
+    }
+
+    /// Takes the next word as `take_u16` does, as [`read_u64`] reads it.
+    #[tactic(auto, using(crate::proofs::ReadingFacts::reading))]
+    pub fn take_u64(&mut self) -> Result<u64, TextError>
+        ensures ok { IfOk result (λ n. next_u64 self.old ≡ Some (n, self.new)) }
+        ensures err { IfErr result (λ e. (e ≡ TextError.BadText) × (next_u64 self.old ≡ None)) }
+    {
+        let word = self.take_needed()?;
+        read_u64(word).ok_or(TextError::BadText)
+    }
+
+    /// Takes the next word as `take_u16` does, as seconds that [`read_timer`] reads.
+    #[tactic(auto, using(crate::proofs::ReadingFacts::reading))]
+    pub fn take_timer(&mut self) -> Result<i32, TextError>
+        ensures ok { IfOk result (λ n. next_timer self.old ≡ Some (n, self.new)) }
+        ensures err { IfErr result (λ e. (e ≡ TextError.BadText) × (next_timer self.old ≡ None)) }
+    {
+        let word = self.take_needed()?;
+        read_timer(word).ok_or(TextError::BadText)
+    }
+
     /// Takes a word that may be left out, and tells whether it was there: a line without it is at its end. `BadText` where
     /// another word is in its place.
     pub fn take_flag(&mut self, flag: &[u8]) -> Result<bool, TextError>
         ensures ok { IfOk result (λ given. next_flag flag.now self.old ≡ Some (given, self.new)) }
-        ensures err { IfErr result (λ e. (e ≡ TextError.BadText) × (next_flag flag.now self.old ≡ None)) }
+        ensures err { IfErr result
+            (λ e. (e ≡ TextError.BadText) × (next_flag flag.now self.old ≡ None)) }
     {
         match self.take() {
             None => Ok(false),

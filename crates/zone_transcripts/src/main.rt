@@ -26,11 +26,15 @@
 //! One that has the line `! memory is refused to each line` is also run with no memory left while one line is carried out,
 //! and then with a little more each time, until that line is served; so it is done with each line that is answered. Each
 //! refusal has to be answered by `refused Memory` or `error Memory`, and the lines after it as if the line hadn't been there.
+//!
+//! At the end come the runs of `refused_runs.rt`, which no transcript says: those that are refused memory from their start, to
+//! an answer that is longer than the program's buffers, and to several lines that one read brings.
 #![tactic(auto)]
 
 mod difference;
-mod drought;
 mod marks;
+mod refused_lines;
+mod refused_runs;
 mod report;
 mod streams;
 mod transcript;
@@ -54,5 +58,6 @@ fn main(rt: HostRuntime) -> io::Result<()> {
             }
         }
     }
-    println!(rt; "{report}")
+    println!(rt; "{report}")?;
+    println!(rt; "{}", refused_runs::report(rt.alloc())?)
 }

@@ -1,7 +1,7 @@
 //! Runs of the program that a transcript is compared with.
 
 use crate::difference::{Ending, first_difference};
-use crate::drought::try_refusals;
+use crate::refused_lines::try_refusals;
 use crate::streams::{Capture, Feed, Portion};
 use crate::transcript::Transcript;
 use std::alloc::{AllocError, Global};

@@ -1,7 +1,6 @@
 -- The walk from a name up its proper ancestors, a label at a time
 use Rattle.std.proofs.Common.{◌≡◌, ℕ, Bool, true, false, cond, List, [], ◌∷◌, MatchOption, Option, Some, None, is_some, find, refl, sym, ap, drop, ◌∙◌, Bor}
-use Rattle.zone_proto.specs.Names.{Name, lower, suffixes}
-use Rattle.zone_validation.specs.Encloser.{proper_ancestors}
+use Rattle.zone_proto.specs.Names.{Name, lower, proper_ancestors, suffixes}
 
 -- a label taken from the front of a name, if it has one
 abbrev pub Shortens : Name → Option (Bor (List ℕ)) → Name → Type 0

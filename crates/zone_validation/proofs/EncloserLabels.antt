@@ -2,10 +2,10 @@
 use Rattle.std.proofs.Common.{◌≡◌, ◌≢◌, ℕ, ◌≤◌, ◌<◌, Bool, true, false, ◌==◌, ◌&&◌, cond, List, [], ◌∷◌, length, find, Option, Some, None, refl, sym, ap, ◌∙◌, arith, ne_eqb, eqb-true}
 use Rattle.std.specs.List.{list_any}
 use Rattle.std.specs.Option.{option_map_or}
-use Rattle.zone_proto.specs.Names.{Name, name_eq, suffixes}
-use Rattle.zone_proto.proofs.NameTree.{name_eq-Decides}
-use Rattle.zone_proto.proofs.Tree.{name_eq_itself}
-use Rattle.zone_validation.specs.Encloser.{ancestor_of, proper_ancestors, star_under}
+use Rattle.zone_proto.specs.Names.{Name, name_eq, proper_ancestors, star_under, suffixes}
+use Rattle.zone_proto.proofs.Names.NameTree.{name_eq-Decides}
+use Rattle.zone_proto.proofs.Names.Tree.{name_eq_itself}
+use Rattle.zone_validation.specs.Encloser.{ancestor_of}
 use Rattle.zone_validation.specs.NsecProofs.{denies_name, shown_encloser, proves_wildcard_answer}
 use Rattle.zone_validation.specs.NsecRecords.{NsecRecord}
 use Rattle.zone_validation.proofs.ListTests.{list_any-with}

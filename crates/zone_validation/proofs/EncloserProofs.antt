@@ -2,11 +2,11 @@
 use Rattle.std.proofs.Common.{◌≡◌, ℕ, ◌==◌, ◌&&◌, not, suc, Bool, true, false, cond, List, [], ◌∷◌, length, Option, Some, None, refl, sym, ap, ◌∙◌, true≢false, ne_eqb, arith}
 use Rattle.std.specs.List.{list_any}
 use Rattle.std.specs.Option.{option_map_or}
-use Rattle.zone_proto.specs.HashedOwners.{hashed_owner}
-use Rattle.zone_proto.specs.Names.{Name, base_name, name_eq, wildcard_of, is_above, suffixes}
-use Rattle.zone_proto.specs.Types.{NS, SOA, DS}
-use Rattle.zone_validation.specs.Encloser.{next_closer, star_under}
-use Rattle.zone_validation.specs.Nsec3Proofs.{lists, denies_type, owner_of, matches, goes_over, covers, is_matched, is_covered, is_of_encloser, proves_no_data, shows_unsigned_delegation, shown_encloser, encloser_and, proved_encloser, proves_opted_out}
+use Rattle.zone_proto.specs.Names.{Name, base_name, wildcard_of, is_above, star_under, suffixes}
+use Rattle.zone_validation.specs.declared.proof.Proof.{Proof}
+use Rattle.zone_validation.specs.declared.proof.Proof.TheVariants.{WildcardAnswer}
+use Rattle.zone_validation.specs.Encloser.{next_closer}
+use Rattle.zone_validation.specs.Nsec3Proofs.{denies_type, owner_of, matches, has_owner, covers_owner, covers, is_matched, is_encloser, is_handing_on, is_denied, is_covered, is_opted_out, is_of_encloser, is_of_unsigned, shown_encloser, encloser_and, proved_encloser, proves_opted_out}
 use Rattle.zone_validation.specs.Nsec3Records.{Nsec3Record}
 use Rattle.zone_validation.proofs.ListTests.{find_passes, list_any-alone, list_any-both_none}
 use Rattle.zone_validation.proofs.ShownWalk.{walk_ends}
@@ -26,20 +26,30 @@ star_of_closer x e (l ∷ ls) h = refl
 
 -- what is asked of the hashed owner of a name is asked of the name
 module _ (apex : Name) (hash : Name → Option (List ℕ)) (rs : List Nsec3Record) (n : Name) (o : Option Name) (is : o ≡ owner_of apex hash n) where
-  pub matched_by : list_any (λ r. option_map_or (name_eq r.owner) o false) rs ≡ is_matched apex hash rs n
-  matched_by = λ i. list_any (λ (r : Nsec3Record). option_map_or (name_eq r.owner) (is i) false) rs
+  pub matched_by : list_any (λ r. has_owner r o) rs ≡ is_matched apex hash rs n
+  matched_by = λ i. list_any (λ (r : Nsec3Record). has_owner r (is i)) rs
 
-  pub covered_by : list_any (λ r. option_map_or (goes_over apex hash r.owner (hashed_owner apex r.next)) o false) rs ≡ is_covered apex hash rs n
-  covered_by = λ i. list_any (λ (r : Nsec3Record). option_map_or (goes_over apex hash r.owner (hashed_owner apex r.next)) (is i) false) rs
+  pub encloser_by : list_any (λ r. has_owner r o && is_of_encloser r) rs ≡ is_encloser apex hash rs n
+  encloser_by = λ i. list_any (λ (r : Nsec3Record). has_owner r (is i) && is_of_encloser r) rs
 
-  pub opted_out_by : list_any (λ r. option_map_or (goes_over apex hash r.owner (hashed_owner apex r.next)) o false && r.opt_out) rs ≡ list_any (λ r. covers apex hash r n && r.opt_out) rs
-  opted_out_by = λ i. list_any (λ (r : Nsec3Record). option_map_or (goes_over apex hash r.owner (hashed_owner apex r.next)) (is i) false && r.opt_out) rs
+  pub handed_on_by : list_any (λ r. has_owner r o && not (is_of_encloser r)) rs ≡ is_handing_on apex hash rs n
+  handed_on_by = λ i. list_any (λ (r : Nsec3Record). has_owner r (is i) && not (is_of_encloser r)) rs
 
-  pub denied_by : (t : ℕ) → list_any (λ r. option_map_or (name_eq r.owner) o false && denies_type r t) rs ≡ proves_no_data apex hash rs n t
-  denied_by t = λ i. list_any (λ (r : Nsec3Record). option_map_or (name_eq r.owner) (is i) false && denies_type r t) rs
+  pub covered_by : list_any (λ r. covers_owner apex r o) rs ≡ is_covered apex hash rs n
+  covered_by = λ i. list_any (λ (r : Nsec3Record). covers_owner apex r (is i)) rs
 
-  pub unsigned_by : list_any (λ r. option_map_or (name_eq r.owner) o false && lists r NS && not (lists r DS) && not (lists r SOA)) rs ≡ shows_unsigned_delegation apex hash rs n
-  unsigned_by = λ i. list_any (λ (r : Nsec3Record). option_map_or (name_eq r.owner) (is i) false && lists r NS && not (lists r DS) && not (lists r SOA)) rs
+  pub opted_out_by : list_any (λ r. covers_owner apex r o && r.opt_out) rs ≡ is_opted_out apex hash rs n
+  opted_out_by = λ i. list_any (λ (r : Nsec3Record). covers_owner apex r (is i) && r.opt_out) rs
+
+  pub answered_by : (covered : Bool) (rest : Name) (found : Option Proof) → cond covered (Some (WildcardAnswer (length rest) (list_any (λ r. covers_owner apex r o && r.opt_out) rs))) found
+      ≡ cond covered (Some (WildcardAnswer (length rest) (is_opted_out apex hash rs n))) found
+  answered_by covered rest found = ap (λ b. cond covered (Some (WildcardAnswer (length rest) b)) found) opted_out_by
+
+  pub denied_by : (t : ℕ) → list_any (λ r. has_owner r o && denies_type apex r n t) rs ≡ is_denied apex hash rs n t
+  denied_by t = λ i. list_any (λ (r : Nsec3Record). has_owner r (is i) && denies_type apex r n t) rs
+
+  pub unsigned_by : list_any (λ r. has_owner r o && is_of_unsigned r) rs ≡ list_any (λ r. matches apex hash r n && is_of_unsigned r) rs
+  unsigned_by = λ i. list_any (λ (r : Nsec3Record). has_owner r (is i) && is_of_unsigned r) rs
 
 module _ (apex : Name) (hash : Name → Option (List ℕ)) (rs : List Nsec3Record) (x : Name) where
   -- an encloser that is shown is not above the apex

@@ -1,4 +1,3 @@
-pub mod NameCounts
 pub mod NameTests
 pub mod ListTests
 pub mod AncestorWalk
@@ -11,3 +10,4 @@ mod NsecExamples
 mod NsecForgeries
 mod Nsec3Examples
 mod Nsec3SumExamples
+mod Nsec3Forgeries

@@ -55,3 +55,13 @@ list_any-both_none p q (x ∷ xs) h = by (p x) (list_any p xs) h (list_any-both_
     by : (b rest : Bool) → (b || rest) ≡ false → (rest ≡ false → list_any (λ y. p y && q y) xs ≡ false) → ((b && q x) || list_any (λ y. p y && q y) xs) ≡ false
     by true rest e up = absurd (true≢false e)
     by false rest e up = up e
+
+-- nor another and it
+pub list_any-neither : {X : Type 0} (p q : X → Bool) (xs : List X) → list_any q xs ≡ false → list_any (λ x. p x && q x) xs ≡ false
+list_any-neither p q [] h = refl
+list_any-neither p q (x ∷ xs) h = by (p x) (q x) (list_any q xs) h (list_any-neither p q xs)
+  where
+    by : (b c rest : Bool) → (c || rest) ≡ false → (rest ≡ false → list_any (λ y. p y && q y) xs ≡ false) → ((b && c) || list_any (λ y. p y && q y) xs) ≡ false
+    by b true rest e up = absurd (true≢false e)
+    by true false rest e up = up e
+    by false false rest e up = up e

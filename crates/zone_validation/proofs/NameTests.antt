@@ -1,12 +1,12 @@
 -- The tests of names, as the program makes them
-use Rattle.std.proofs.Common.{◌≡◌, ℕ, Bool, true, List, [], ◌∷◌, MatchOption, Option, Some, None, is_some, sym, ap, ◌∙◌, Bor}
+use Rattle.std.proofs.Common.{◌≡◌, ℕ, Bool, true, List, [], ◌∷◌, length, ◌==◌, MatchOption, Option, Some, None, is_some, refl, sym, ap, ◌∙◌, Bor, arith, ne_eqb}
 use Rattle.std.specs.Cmp.{both_ways}
 use Rattle.std.specs.Ordering.{is_eq}
 use Rattle.std.specs.Prelude.{◌↔◌, IsTrue}
-use Rattle.zone_proto.specs.Names.{Name, lower, name_cmp, name_eq, is_above, is_at_or_above, IsAtOrAbove}
-use Rattle.zone_proto.proofs.KeyOrder.{equal_of}
-use Rattle.zone_proto.proofs.NameTree.{name_eq-Decides, name_itself, at_or_above_test}
-use Rattle.zone_proto.proofs.Tree.{name_order}
+use Rattle.zone_proto.specs.Names.{Name, lower, name_cmp, name_eq, is_above, is_at_or_above, is_root, IsAtOrAbove}
+use Rattle.zone_proto.proofs.Ordering.KeyOrder.{equal_of}
+use Rattle.zone_proto.proofs.Names.NameTree.{name_eq-Decides, name_itself, at_or_above_test}
+use Rattle.zone_proto.proofs.Names.Tree.{name_order}
 
 -- names are the same where none stands before the other
 pub same_by_order : (a b : Name) → is_eq (name_cmp a b) ≡ name_eq a b
@@ -24,3 +24,8 @@ pub above_by_parent : (a whole parent : Name) (first : Option (Bor (List ℕ))) 
     → t ≡ is_at_or_above a (lower parent) → t ≡ is_above a (lower whole)
 above_by_parent a whole parent None t step some h = cc
 above_by_parent a whole parent (Some l) t step some h = h ∙ ap (λ n. is_above a (lower n)) (sym step)
+
+-- the root is the name without labels
+pub root_by_count : (n : Name) → (length n == 0) ≡ is_root (lower n)
+root_by_count [] = refl
+root_by_count (l ∷ ls) = ne_eqb (length (l ∷ ls)) 0 (λ e. omega (arith, e))

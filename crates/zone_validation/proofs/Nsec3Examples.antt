@@ -5,9 +5,8 @@ use Rattle.zone_proto.specs.declared.rdata.RData.{RData}
 use Rattle.zone_proto.specs.declared.rdata.RData.TheVariants as V
 use Rattle.zone_proto.specs.declared.record.Record.{Record}
 use Rattle.zone_proto.specs.Base32.{base32_text}
-use Rattle.zone_proto.specs.Names.{Label, Name, name_eq}
+use Rattle.zone_proto.specs.Names.{Label, Name, name_eq, star_under}
 use Rattle.zone_proto.specs.Types.{A, NS, CNAME, SOA, MX, AAAA, DS, RRSIG, DNSKEY, NSEC3PARAM, ANY, IN}
-use Rattle.zone_validation.specs.Encloser.{star_under}
 use Rattle.zone_validation.specs.NsecProofs.{DNAME}
 use Rattle.zone_validation.specs.Nsec3Proofs.{is_covered, proves_name_error, proves_no_data, proves_wildcard_no_data, proves_empty_answer, proves_wildcard_answer, proves_unsigned_delegation}
 use Rattle.zone_validation.specs.Nsec3Records.{Nsec3Record, nsec3_records}
@@ -219,13 +218,13 @@ below_apex = refl
 listed : proves_empty_answer apex hash (at_ns1 ∷ []) ns1 A ≡ false
 listed = refl
 
-listed_star : proves_empty_answer apex hash (at_w ∷ at_ns2 ∷ at_star ∷ []) azw MX ≡ false
+listed_star : proves_wildcard_no_data apex hash (at_w ∷ at_ns2 ∷ at_star ∷ []) azw MX ≡ false
 listed_star = refl
 
 alias : proves_empty_answer apex hash (record at_ns1 { types = CNAME ∷ RRSIG ∷ [] } ∷ []) ns1 MX ≡ false
 alias = refl
 
-alias_star : proves_empty_answer apex hash (at_w ∷ at_ns2 ∷ record at_star { types = CNAME ∷ RRSIG ∷ [] } ∷ []) azw AAAA ≡ false
+alias_star : proves_wildcard_no_data apex hash (at_w ∷ at_ns2 ∷ record at_star { types = CNAME ∷ RRSIG ∷ [] } ∷ []) azw AAAA ≡ false
 alias_star = refl
 
 any_type : proves_empty_answer apex hash (at_ns1 ∷ []) ns1 ANY ≡ false

@@ -1,13 +1,12 @@
 -- The denials of RFC 4035 appendix B, with the NSEC records of the zone of its appendix A: what they prove, computed from the definitions
-use Rattle.std.proofs.Common.{◌≡◌, ℕ, true, List, [], ◌∷◌, map, refl}
+use Rattle.std.proofs.Common.{◌≡◌, ℕ, true, false, List, [], ◌∷◌, map, refl}
 use Rattle.std.specs.Prelude.{codes, Some, None}
 use Rattle.zone_proto.specs.declared.rdata.RData.{RData}
 use Rattle.zone_proto.specs.declared.rdata.RData.TheVariants as V
 use Rattle.zone_proto.specs.declared.record.Record.{Record}
-use Rattle.zone_proto.specs.Names.{Label, Name}
+use Rattle.zone_proto.specs.Names.{Label, Name, star_under}
 use Rattle.zone_proto.specs.Types.{A, NS, SOA, MX, AAAA, DS, RRSIG, NSEC, DNSKEY, IN}
 use Rattle.zone_validation.specs.declared.proof.Proof.TheVariants.{NameError, UnsignedDelegation, EmptyNonTerminal, NoData, WildcardNoData, WildcardAnswer}
-use Rattle.zone_validation.specs.Encloser.{star_under}
 use Rattle.zone_validation.specs.Judgement.{nsec_proof}
 use Rattle.zone_validation.specs.NsecProofs.{proves_no_data}
 use Rattle.zone_validation.specs.NsecRecords.{NsecRecord, nsec_records}
@@ -82,11 +81,11 @@ read = refl
 -- ---- the appendix
 
 -- B.2, a name error: one record denies the name, the other the star under the apex
-name_error : nsec_proof apex (at_b ∷ at_apex ∷ []) ml A ≡ Some NameError
+name_error : nsec_proof apex (at_b ∷ at_apex ∷ []) ml A ≡ Some (NameError false)
 name_error = refl
 
 -- in any order
-name_error_turned : nsec_proof apex (at_apex ∷ at_b ∷ []) ml A ≡ Some NameError
+name_error_turned : nsec_proof apex (at_apex ∷ at_b ∷ []) ml A ≡ Some (NameError false)
 name_error_turned = refl
 
 -- B.3, no data
@@ -101,11 +100,11 @@ no_ds : proves_no_data apex (at_b ∷ []) b DS ≡ true
 no_ds = refl
 
 -- B.6, an answer that a wildcard gave: the signature's labels field is 2
-wildcard_answer : nsec_proof apex (at_xyw ∷ []) azw MX ≡ Some (WildcardAnswer 2)
+wildcard_answer : nsec_proof apex (at_xyw ∷ []) azw MX ≡ Some (WildcardAnswer 2 false)
 wildcard_answer = refl
 
 -- B.7, no data by a wildcard
-wildcard_no_data : nsec_proof apex (at_xyw ∷ at_star ∷ []) azw AAAA ≡ Some WildcardNoData
+wildcard_no_data : nsec_proof apex (at_xyw ∷ at_star ∷ []) azw AAAA ≡ Some (WildcardNoData false)
 wildcard_no_data = refl
 
 -- B.8, DS at the apex: the zone's own record has no say on it, and the parent is to be asked
@@ -130,19 +129,23 @@ empty_below : nsec_proof apex (at_xw ∷ []) (codes "y" ∷ w) A ≡ Some EmptyN
 empty_below = refl
 
 -- a name below a host: the record of the host denies it, and the star under the host
-below_host : nsec_proof apex (at_ns1 ∷ []) (codes "a" ∷ ns1) A ≡ Some NameError
+below_host : nsec_proof apex (at_ns1 ∷ []) (codes "a" ∷ ns1) A ≡ Some (NameError false)
 below_host = refl
 
 -- a name after the last owner, whose record has the apex as its next name
-after_last : nsec_proof apex (at_xx ∷ at_apex ∷ []) (under (codes "zz")) A ≡ Some NameError
+after_last : nsec_proof apex (at_xx ∷ at_apex ∷ []) (under (codes "zz")) A ≡ Some (NameError false)
 after_last = refl
 
 -- ---- other zones
 
 -- of one that has sets at its apex alone, the one record denies every other name
-alone : nsec_proof apex (says apex apex (SOA ∷ RRSIG ∷ NSEC ∷ []) ∷ []) ml A ≡ Some NameError
+alone : nsec_proof apex (says apex apex (SOA ∷ RRSIG ∷ NSEC ∷ []) ∷ []) ml A ≡ Some (NameError false)
 alone = refl
 
 -- of one with a star that owns nothing and stands above x.*, one record denies the name, the other shows that the star is empty
-empty_star : nsec_proof apex (says (codes "x" ∷ star_under apex) apex (A ∷ RRSIG ∷ NSEC ∷ []) ∷ says apex (codes "x" ∷ star_under apex) (SOA ∷ RRSIG ∷ NSEC ∷ []) ∷ []) ml A ≡ Some WildcardNoData
+empty_star : nsec_proof apex (says (codes "x" ∷ star_under apex) apex (A ∷ RRSIG ∷ NSEC ∷ []) ∷ says apex (codes "x" ∷ star_under apex) (SOA ∷ RRSIG ∷ NSEC ∷ []) ∷ []) ml A ≡ Some (WildcardNoData false)
 empty_star = refl
+
+-- the root's own record denies DS of the root, which has no parent
+root_ds : nsec_proof [] (says [] (codes "com" ∷ []) (NS ∷ SOA ∷ RRSIG ∷ NSEC ∷ DNSKEY ∷ []) ∷ []) [] DS ≡ Some NoData
+root_ds = refl

@@ -1,12 +1,12 @@
 -- What NSEC records don't prove: those of the zone of RFC 4035 appendix A where they aren't in place, and some that are turned a little; computed from the definitions
 use Rattle.std.proofs.Common.{◌≡◌, true, false, [], ◌∷◌, refl}
 use Rattle.std.specs.Prelude.{codes, Some, None}
-use Rattle.zone_proto.specs.Names.{Name}
+use Rattle.zone_proto.specs.Names.{Name, star_under}
 use Rattle.zone_proto.specs.Types.{A, NS, CNAME, SOA, MX, AAAA, DS, RRSIG, NSEC, ANY}
 use Rattle.zone_validation.specs.declared.proof.Proof.TheVariants.{NameError, EmptyNonTerminal, WildcardAnswer}
-use Rattle.zone_validation.specs.Encloser.{star_under}
 use Rattle.zone_validation.specs.Judgement.{nsec_proof}
 use Rattle.zone_validation.specs.NsecProofs.{DNAME, denies_name, proves_name_error, proves_no_data, proves_wildcard_no_data, proves_wildcard_answer, proves_unsigned_delegation}
+use Rattle.zone_validation.specs.NsecRecords.{NsecRecord}
 use Rattle.zone_validation.proofs.NsecExamples.{apex, under, b, ml, ns1, w, azw, says, at_apex, at_a, at_b, at_ns1, at_ns2, at_star, at_xyw, at_xx}
 
 -- ---- the parent's record at a zone cut, used below the cut and for types that the child has (RFC 6840 section 4.1)
@@ -27,11 +27,11 @@ at_signed_cut : nsec_proof apex (at_a ∷ []) (under (codes "a")) A ≡ None
 at_signed_cut = refl
 
 -- with A in the place of NS it is the record of a host, and denies what is below
-below_host : nsec_proof apex (says b ns1 (A ∷ RRSIG ∷ NSEC ∷ []) ∷ []) mcb A ≡ Some NameError
+below_host : nsec_proof apex (says b ns1 (A ∷ RRSIG ∷ NSEC ∷ []) ∷ []) mcb A ≡ Some (NameError false)
 below_host = refl
 
 -- the child's own record, with the child as the signer, denies what is below too
-below_child : nsec_proof b (says b (codes "ns1" ∷ b) (NS ∷ SOA ∷ RRSIG ∷ NSEC ∷ []) ∷ []) mcb A ≡ Some NameError
+below_child : nsec_proof b (says b (codes "ns1" ∷ b) (NS ∷ SOA ∷ RRSIG ∷ NSEC ∷ []) ∷ []) mcb A ≡ Some (NameError false)
 below_child = refl
 
 -- ---- the record of a DNAME, used below it (RFC 6840 section 4.1)
@@ -52,7 +52,7 @@ alias_star = refl
 listed : nsec_proof apex (at_ns1 ∷ []) ns1 A ≡ None
 listed = refl
 
-listed_star : nsec_proof apex (at_xyw ∷ at_star ∷ []) azw MX ≡ Some (WildcardAnswer 2)
+listed_star : nsec_proof apex (at_xyw ∷ at_star ∷ []) azw MX ≡ Some (WildcardAnswer 2 false)
 listed_star = refl
 
 unlisted_signature : nsec_proof apex (says ns1 (under (codes "ns2")) (A ∷ []) ∷ []) ns1 RRSIG ≡ None
@@ -122,7 +122,7 @@ star_alone : nsec_proof apex (at_apex ∷ []) ml A ≡ None
 star_alone = refl
 
 -- that of the name: a star may answer
-name_alone : nsec_proof apex (at_b ∷ []) ml A ≡ Some (WildcardAnswer 1)
+name_alone : nsec_proof apex (at_b ∷ []) ml A ≡ Some (WildcardAnswer 1 false)
 name_alone = refl
 
 -- that of the star, which shows no more than the star's types
@@ -143,10 +143,39 @@ signed_delegation : nsec_proof apex (at_a ∷ []) (under (codes "a")) DS ≡ Non
 signed_delegation = refl
 
 -- a name that is no delegation (RFC 6840 section 4.4)
-no_delegation : proves_unsigned_delegation (at_ns1 ∷ []) ns1 ≡ false
+no_delegation : proves_unsigned_delegation apex (at_ns1 ∷ []) ns1 ≡ false
 no_delegation = refl
 
 -- ---- records that are said to be of another zone than the one that signed them
 
 other_apex : nsec_proof (codes "org" ∷ []) (at_b ∷ at_apex ∷ []) ml A ≡ None
 other_apex = refl
+
+-- ---- records of other zones. Each is genuine, and its own zone may have it signed by a key that a validator trusts
+
+-- one whose owner stands before the zone and whose next name is the apex would deny all names of the zone
+foreign : nsec_proof (codes "victim" ∷ []) (says (codes "a" ∷ codes "aaa" ∷ []) (codes "victim" ∷ []) (A ∷ RRSIG ∷ NSEC ∷ []) ∷ []) (codes "www" ∷ codes "victim" ∷ []) A ≡ None
+foreign = refl
+
+-- the parent's, which passes over the whole zone
+parents : nsec_proof b (says (under (codes "a")) ns1 (A ∷ RRSIG ∷ NSEC ∷ []) ∷ []) mcb A ≡ None
+parents = refl
+
+-- and that of the zone's own apex, from the parent: it has no say on what the zone has
+parents_at_apex : nsec_proof b (at_b ∷ []) b A ≡ None
+parents_at_apex = refl
+
+-- ---- an apex with NS and no SOA: the record is the parent's, whoever is said to have signed it (RFC 6840 section 4.1)
+
+abbrev without_soa : NsecRecord
+without_soa = says apex (under (codes "a")) (NS ∷ RRSIG ∷ NSEC ∷ [])
+
+below_without_soa : nsec_proof apex (without_soa ∷ at_b ∷ []) (under (codes "0")) A ≡ None
+below_without_soa = refl
+
+-- nor is the apex a delegation of its own zone, or its DS denied by it (RFC 4035 section 5.2)
+apex_delegation : proves_unsigned_delegation apex (without_soa ∷ []) apex ≡ false
+apex_delegation = refl
+
+apex_ds : nsec_proof apex (without_soa ∷ []) apex DS ≡ None
+apex_ds = refl

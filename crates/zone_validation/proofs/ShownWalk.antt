@@ -1,10 +1,12 @@
 -- The walk from a name up to the closest encloser that NSEC3 records show
-use Rattle.std.proofs.Common.{◌≡◌, ℕ, ◌==◌, ◌&&◌, ◌||◌, suc, Bool, true, false, cond, List, [], ◌∷◌, ◌++◌, length, drop, Option, Some, None, find, refl, sym, ap, ◌∙◌, arith, eq-eqb, ne_eqb, true≢false}
+use Rattle.std.proofs.Common.{◌≡◌, ℕ, ◌==◌, ◌&&◌, ◌||◌, not, suc, Bool, true, false, cond, List, [], ◌∷◌, ◌++◌, length, drop, Option, Some, None, find, refl, sym, ap, ◌∙◌, arith, eq-eqb, ne_eqb, true≢false}
+use Rattle.std.specs.List.{list_any}
 use Rattle.std.proofs.lemmas.List.{length-append}
-use Rattle.zone_proto.specs.Names.{Name, base_name, name_eq, is_above, is_at_or_above, suffixes}
-use Rattle.zone_validation.specs.Encloser.{proper_ancestors, next_closer}
-use Rattle.zone_validation.specs.Nsec3Proofs.{is_matched, shown_encloser}
+use Rattle.zone_proto.specs.Names.{Name, base_name, name_eq, is_above, is_at_or_above, proper_ancestors, suffixes}
+use Rattle.zone_validation.specs.Encloser.{next_closer}
+use Rattle.zone_validation.specs.Nsec3Proofs.{is_matched, is_handing_on, is_of_encloser, is_handed_on, shown_encloser}
 use Rattle.zone_validation.specs.Nsec3Records.{Nsec3Record}
+use Rattle.zone_validation.proofs.ListTests.{list_any-neither}
 
 find_suffix : (p : Name → Bool) (n : Name) → find p (suffixes n) ≡ cond (p n) (Some n) (find p (proper_ancestors n))
 find_suffix p [] = refl
@@ -40,6 +42,56 @@ module _ (apex : Name) (hash : Name → Option (List ℕ)) (rs : List Nsec3Recor
   pub walk_on : (n : Name) → is_above apex n ≡ true → is_matched apex hash rs (drop 1 n) ≡ false → shown_encloser apex hash rs n ≡ shown_encloser apex hash rs (drop 1 n)
   walk_on [] h m = absurd (true≢false (sym h))
   walk_on (l ∷ ls) h m = step l ls h ∙ ap (λ b. cond b (Some ls) (shown_encloser apex hash rs ls)) m
+
+-- ---- the walk up to the apex, for a name that hands on what is below it
+
+any_suffix : (p : Name → Bool) (n : Name) → list_any p (suffixes n) ≡ p n || list_any p (proper_ancestors n)
+any_suffix p [] = refl
+any_suffix p (l ∷ ls) = refl
+
+none_passes_above : (apex : Name) (m : Name → Bool) (n : Name) → is_at_or_above apex n ≡ false → list_any (λ a. is_at_or_above apex a && m a) (suffixes n) ≡ false
+none_passes_above apex m [] h = ap (λ b. (b && m []) || false) h
+none_passes_above apex m (l ∷ ls) h =
+    ap (λ b. (b && m (l ∷ ls)) || list_any (λ a. is_at_or_above apex a && m a) (suffixes ls)) h
+    ∙ none_passes_above apex m ls (rest (name_eq apex (l ∷ ls)) (is_at_or_above apex ls) h)
+  where
+    rest : (here below : Bool) → (here || below) ≡ false → below ≡ false
+    rest true below e = absurd (true≢false e)
+    rest false below e = e
+
+module _ (apex : Name) (hash : Name → Option (List ℕ)) (rs : List Nsec3Record) where
+  -- at the apex and above it the walk ends
+  pub referral_ends : (n : Name) → is_above apex n ≡ false → is_handed_on apex hash rs n ≡ false
+  referral_ends [] h = refl
+  referral_ends (l ∷ ls) h = none_passes_above apex (is_handing_on apex hash rs) ls h
+
+  referral_step : (l : List ℕ) (ls : Name) → is_above apex (l ∷ ls) ≡ true → is_handed_on apex hash rs (l ∷ ls) ≡ is_handing_on apex hash rs ls || is_handed_on apex hash rs ls
+  referral_step l ls h =
+      any_suffix (λ a. is_at_or_above apex a && is_handing_on apex hash rs a) ls ∙ ap (λ b. (b && is_handing_on apex hash rs ls) || is_handed_on apex hash rs ls) h
+
+  -- the parent hands it on
+  pub referral_found : (n : Name) → is_above apex n ≡ true → is_handing_on apex hash rs (drop 1 n) ≡ true → is_handed_on apex hash rs n ≡ true
+  referral_found [] h m = absurd (true≢false (sym h))
+  referral_found (l ∷ ls) h m = referral_step l ls h ∙ ap (λ b. b || is_handed_on apex hash rs ls) m
+
+  -- it doesn't: the walk goes on
+  pub referral_on : (n : Name) → is_above apex n ≡ true → is_handing_on apex hash rs (drop 1 n) ≡ false → is_handed_on apex hash rs n ≡ is_handed_on apex hash rs (drop 1 n)
+  referral_on [] h m = absurd (true≢false (sym h))
+  referral_on (l ∷ ls) h m = referral_step l ls h ∙ ap (λ b. b || is_handed_on apex hash rs ls) m
+
+  -- where no record is of a name that hands on, none is handed on
+  pub no_referral : (n : Name) → list_any (λ r. not (is_of_encloser r)) rs ≡ false → is_handed_on apex hash rs n ≡ false
+  no_referral n none = all (proper_ancestors n)
+    where
+      never : (b : Bool) → (b && false) ≡ false
+      never true = refl
+      never false = refl
+
+      all : (ns : List Name) → list_any (λ a. is_at_or_above apex a && is_handing_on apex hash rs a) ns ≡ false
+      all [] = refl
+      all (a ∷ more) =
+          ap (λ b. (is_at_or_above apex a && b) || list_any (λ k. is_at_or_above apex k && is_handing_on apex hash rs k) more) (list_any-neither _ (λ r. not (is_of_encloser r)) rs none)
+          ∙ ap (λ b. b || list_any (λ k. is_at_or_above apex k && is_handing_on apex hash rs k) more) (never (is_at_or_above apex a)) ∙ all more
 
 -- the base of a name is the name without its first label
 pub base_is_drop : (n : Name) → base_name n ≡ drop 1 n

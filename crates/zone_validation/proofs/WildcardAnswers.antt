@@ -5,10 +5,12 @@ use Rattle.std.specs.Prelude.{filter}
 use Rattle.std.specs.Option.{option_map_or, option_or}
 use Rattle.std.proofs.lemmas.Grind.{reverse_onto}
 use Rattle.std.proofs.lemmas.List.Folds.{find-append}
-use Rattle.zone_proto.specs.Names.{Name, base_name, name_eq, is_above, is_at_or_above, suffixes}
-use Rattle.zone_proto.proofs.Tree.{name_eq_itself}
-use Rattle.zone_validation.specs.Encloser.{ancestor_of, next_closer, proper_ancestors}
-use Rattle.zone_validation.specs.Nsec3Proofs.{is_covered, covered_closer, answering_labels, proves_wildcard_answer}
+use Rattle.zone_proto.specs.Names.{Name, base_name, name_eq, is_above, is_at_or_above, proper_ancestors, suffixes}
+use Rattle.zone_proto.proofs.Names.Tree.{name_eq_itself}
+use Rattle.zone_validation.specs.declared.proof.Proof.{Proof}
+use Rattle.zone_validation.specs.declared.proof.Proof.TheVariants.{WildcardAnswer}
+use Rattle.zone_validation.specs.Encloser.{ancestor_of, next_closer}
+use Rattle.zone_validation.specs.Nsec3Proofs.{is_covered, is_opted_out, covered_closer, wildcard_answer, proves_wildcard_answer}
 use Rattle.zone_validation.specs.Nsec3Records.{Nsec3Record}
 use Rattle.zone_validation.proofs.ListTests.{find_passes}
 use Rattle.zone_validation.proofs.ShownWalk.{base_is_drop}
@@ -45,6 +47,7 @@ record IsAncestor (n : Name) (k : ℕ) : Type 0 where
   is : ancestor_of n k ≡ Some ancestor
   above : is_above ancestor n ≡ true
   closer : next_closer n ancestor ≡ Some (drop (length n - suc k) n)
+  below : (apex : Name) → is_above apex (drop (length n - suc k) n) ≡ is_at_or_above apex ancestor
 
 ancestor_is : (n : Name) (k : ℕ) → k < length n → IsAncestor n k
 ancestor_is [] k h = absurd (omega arith)
@@ -60,6 +63,7 @@ ancestor_is (l ∷ ls) k h = by (length ls == k) refl (ancestor_is ls k)
           above = at_or_above_itself ls;
           closer = ap (λ b. cond b (Some (l ∷ ls)) (find (λ (s : Name). length s == suc (length ls)) (suffixes ls))) (eq-eqb (length (l ∷ ls)) (suc (length ls)) refl)
               ∙ ap (λ j. Some (drop j (l ∷ ls))) (sym none);
+          below = λ apex. ap (λ j. is_above apex (drop j (l ∷ ls))) none;
         }
     by false e up =
         let fewer : k < length ls = omega (arith, λ (s : length ls ≡ k). true≢false (sym (eq-eqb (length ls) k s) ∙ e)) in
@@ -72,15 +76,24 @@ ancestor_is (l ∷ ls) k h = by (length ls == k) refl (ancestor_is ls k)
           above = above_is_at_or_above of.ancestor ls of.above;
           closer = ap (λ b. cond b (Some (l ∷ ls)) (find (λ (s : Name). length s == suc (length of.ancestor)) (suffixes ls))) (ne_eqb (length (l ∷ ls)) (suc (length of.ancestor)) (λ s. omega (arith, s, has, fewer)))
               ∙ of.closer ∙ ap (λ j. Some (drop j (l ∷ ls))) (sym more);
+          below = λ apex. ap (λ j. is_above apex (drop j (l ∷ ls))) more ∙ of.below apex;
         }
 
 module _ (apex : Name) (hash : Name → Option (List ℕ)) (rs : List Nsec3Record) where
-  pub answer_by_closer : (x : Name) (k : ℕ) → k < length x
+  pub answer_by_closer : (x : Name) (k : ℕ) → k < length x → is_above apex (drop (length x - suc k) x) ≡ true
       → option_map_or (proves_wildcard_answer apex hash rs x) (ancestor_of x k) false ≡ is_covered apex hash rs (drop (length x - suc k) x)
-  answer_by_closer x k h =
+  answer_by_closer x k h inside =
       let of = ancestor_is x k h in
       ap (λ o. option_map_or (proves_wildcard_answer apex hash rs x) o false) of.is
-      ∙ (λ i. of.above i && option_map_or (is_covered apex hash rs) (of.closer i) false)
+      ∙ (λ i. (sym (of.below apex) ∙ inside) i && of.above i && option_map_or (is_covered apex hash rs) (of.closer i) false)
+
+  -- an encloser above the apex gives none
+  pub no_answer_outside : (x : Name) (k : ℕ) → k < length x → is_above apex (drop (length x - suc k) x) ≡ false
+      → option_map_or (proves_wildcard_answer apex hash rs x) (ancestor_of x k) false ≡ false
+  no_answer_outside x k h outside =
+      let of = ancestor_is x k h in
+      ap (λ o. option_map_or (proves_wildcard_answer apex hash rs x) o false) of.is
+      ∙ (λ i. (sym (of.below apex) ∙ outside) i && is_above of.ancestor x && option_map_or (is_covered apex hash rs) (next_closer x of.ancestor) false)
 
   pub no_answer : (x : Name) (k : ℕ) → length x ≤ k → option_map_or (proves_wildcard_answer apex hash rs x) (ancestor_of x k) false ≡ false
   no_answer x k h = ap (λ o. option_map_or (proves_wildcard_answer apex hash rs x) o false) (too_many_labels x k h)
@@ -110,39 +123,43 @@ module _ (apex : Name) (hash : Name → Option (List ℕ)) (rs : List Nsec3Recor
       ∙ ap (find (is_covered apex hash rs)) (reverse_onto below (l ∷ ls) [])
       ∙ find-append (is_covered apex hash rs) (reverse below) ((l ∷ ls) ∷ [])
 
-  no_labels : (n : Name) → is_above apex n ≡ false → answering_labels apex hash rs n ≡ None
-  no_labels n h = ap (option_map (λ (c : Name). length (base_name c))) (closer_ends n h)
+  no_answers : (n : Name) → is_above apex n ≡ false → wildcard_answer apex hash rs n ≡ None
+  no_answers n h = ap (option_map (λ (c : Name). WildcardAnswer (length (base_name c)) (is_opted_out apex hash rs c))) (closer_ends n h)
 
-  pub labels_end : (n : Name) (found : Option ℕ) → is_above apex n ≡ false → option_or (answering_labels apex hash rs n) found ≡ found
-  labels_end n found h = ap (λ k. option_or k found) (no_labels n h)
+  pub answers_end : (n : Name) (found : Option Proof) → is_above apex n ≡ false → option_or (wildcard_answer apex hash rs n) found ≡ found
+  answers_end n found h = ap (λ k. option_or k found) (no_answers n h)
 
-  pub labels_on : (n rest : Name) (covered : Bool) (found : Option ℕ) → is_above apex n ≡ true → covered ≡ is_covered apex hash rs n → rest ≡ drop 1 n
-      → option_or (answering_labels apex hash rs n) found ≡ option_or (answering_labels apex hash rs rest) (cond covered (Some (length rest)) found)
-  labels_on [] rest covered found h cover is = absurd (true≢false (sym h))
-  labels_on (l ∷ ls) rest covered found h cover is =
-      ap (λ c. option_or (option_map (λ (c : Name). length (base_name c)) c) found) (closer_on (l ∷ ls) h)
-      ∙ ap (λ b. option_or (option_map (λ (c : Name). length (base_name c)) (option_or (covered_closer apex hash rs ls) (cond b (Some (l ∷ ls)) None))) found) (sym cover)
+  -- the answer by the parent of a name, where it is covered
+  abbrev by_parent : Bool → Name → Name → Option Proof → Option Proof
+  by_parent covered n rest found = cond covered (Some (WildcardAnswer (length rest) (is_opted_out apex hash rs n))) found
+
+  pub answers_on : (n rest : Name) (covered : Bool) (found : Option Proof) → is_above apex n ≡ true → covered ≡ is_covered apex hash rs n → rest ≡ drop 1 n
+      → option_or (wildcard_answer apex hash rs n) found ≡ option_or (wildcard_answer apex hash rs rest) (by_parent covered n rest found)
+  answers_on [] rest covered found h cover is = absurd (true≢false (sym h))
+  answers_on (l ∷ ls) rest covered found h cover is =
+      ap (λ c. option_or (option_map (λ (c : Name). WildcardAnswer (length (base_name c)) (is_opted_out apex hash rs c)) c) found) (closer_on (l ∷ ls) h)
+      ∙ ap (λ b. option_or (option_map (λ (c : Name). WildcardAnswer (length (base_name c)) (is_opted_out apex hash rs c)) (option_or (covered_closer apex hash rs ls) (cond b (Some (l ∷ ls)) None))) found) (sym cover)
       ∙ by (covered_closer apex hash rs ls) covered
-      ∙ (λ i. option_or (answering_labels apex hash rs (sym is i)) (cond covered (Some (length (sym is i))) found))
+      ∙ (λ i. option_or (wildcard_answer apex hash rs (sym is i)) (by_parent covered (l ∷ ls) (sym is i) found))
     where
-      by : (c : Option Name) (b : Bool) → option_or (option_map (λ (c : Name). length (base_name c)) (option_or c (cond b (Some (l ∷ ls)) None))) found
-          ≡ option_or (option_map (λ (c : Name). length (base_name c)) c) (cond b (Some (length ls)) found)
+      by : (c : Option Name) (b : Bool) → option_or (option_map (λ (c : Name). WildcardAnswer (length (base_name c)) (is_opted_out apex hash rs c)) (option_or c (cond b (Some (l ∷ ls)) None))) found
+          ≡ option_or (option_map (λ (c : Name). WildcardAnswer (length (base_name c)) (is_opted_out apex hash rs c)) c) (by_parent b (l ∷ ls) ls found)
       by (Some c) b = refl
       by None true = refl
       by None false = refl
 
   -- a step of the walk where the hashed owner of a name is known: outside, not covered, and covered
-  pub labels_outside : (n : Name) (found : Option ℕ) → is_above apex n ≡ false → option_or (answering_labels apex hash rs (base_name n)) found ≡ option_or (answering_labels apex hash rs n) found
-  labels_outside [] found h = refl
-  labels_outside (l ∷ ls) found h = labels_end ls found (not_above ls h) ∙ sym (labels_end (l ∷ ls) found h)
+  pub answers_outside : (n : Name) (found : Option Proof) → is_above apex n ≡ false → option_or (wildcard_answer apex hash rs (base_name n)) found ≡ option_or (wildcard_answer apex hash rs n) found
+  answers_outside [] found h = refl
+  answers_outside (l ∷ ls) found h = answers_end ls found (not_above ls h) ∙ sym (answers_end (l ∷ ls) found h)
 
-  pub labels_kept : (n : Name) (found : Option ℕ) → is_above apex n ≡ true → is_covered apex hash rs n ≡ false
-      → option_or (answering_labels apex hash rs (base_name n)) found ≡ option_or (answering_labels apex hash rs n) found
-  labels_kept n found h uncovered = sym (labels_on n (base_name n) false found h (sym uncovered) (base_is_drop n))
+  pub answers_kept : (n : Name) (found : Option Proof) → is_above apex n ≡ true → is_covered apex hash rs n ≡ false
+      → option_or (wildcard_answer apex hash rs (base_name n)) found ≡ option_or (wildcard_answer apex hash rs n) found
+  answers_kept n found h uncovered = sym (answers_on n (base_name n) false found h (sym uncovered) (base_is_drop n))
 
-  pub labels_new : (n : Name) (k : ℕ) (found : Option ℕ) → is_above apex n ≡ true → is_covered apex hash rs n ≡ true → k ≡ length n
-      → option_or (answering_labels apex hash rs (base_name n)) (Some (k - 1)) ≡ option_or (answering_labels apex hash rs n) found
-  labels_new [] k found h covered count = absurd (true≢false (sym h))
-  labels_new (l ∷ ls) k found h covered count =
+  pub answers_new : (n : Name) (k : ℕ) (out : Bool) (found : Option Proof) → is_above apex n ≡ true → is_covered apex hash rs n ≡ true → k ≡ length n → out ≡ is_opted_out apex hash rs n
+      → option_or (wildcard_answer apex hash rs (base_name n)) (Some (WildcardAnswer (k - 1) out)) ≡ option_or (wildcard_answer apex hash rs n) found
+  answers_new [] k out found h covered count flag = absurd (true≢false (sym h))
+  answers_new (l ∷ ls) k out found h covered count flag =
       let same : k - 1 ≡ length ls = omega arith in
-      ap (λ (m : ℕ). option_or (answering_labels apex hash rs ls) (Some m)) same ∙ sym (labels_on (l ∷ ls) ls true found h (sym covered) refl)
+      (λ i. option_or (wildcard_answer apex hash rs ls) (Some (WildcardAnswer (same i) (flag i)))) ∙ sym (answers_on (l ∷ ls) ls true found h (sym covered) refl)

@@ -1,15 +1,6 @@
--- The ancestors of a name, and the stars under them
-use Rattle.std.specs.Prelude.{ℕ, suc, List, [], ◌∷◌, length, ◌==◌, Option, find}
-use Rattle.zone_proto.specs.Names.{Name, star_label, suffixes}
-
--- the name's ancestors without itself, the longest first, the root last
-abbrev pub proper_ancestors : Name → List Name
-proper_ancestors [] = []
-proper_ancestors (l ∷ ls) = suffixes ls
-
--- the star under a name: `*` before its labels (RFC 4592 section 2.1.1)
-abbrev pub star_under : Name → Name
-star_under a = star_label ∷ a
+-- An ancestor of a name by how many labels it has, and the name that is one label closer
+use Rattle.std.specs.Prelude.{ℕ, suc, length, ◌==◌, Option, find}
+use Rattle.zone_proto.specs.Names.{Name, proper_ancestors, suffixes}
 
 -- the proper ancestor of a name that has so many labels
 abbrev pub ancestor_of : Name → ℕ → Option Name

@@ -1,4 +1,5 @@
 -- NSEC records, as a validator reads them
+use Rattle.std.specs.Borrow.{Bor}
 use Rattle.std.specs.Prelude.{ℕ, List, map, filter_map, Option, Some, None, option_map}
 use Rattle.zone_proto.specs.declared.rdata.RData.{RData}
 use Rattle.zone_proto.specs.declared.rdata.RData.TheVariants as V
@@ -28,3 +29,7 @@ read_nsec r = option_map (nsec_record r.name) (nsec_data r.rdata)
 -- the NSEC records among some records
 abbrev pub nsec_records : List Record → List NsecRecord
 nsec_records rs = filter_map read_nsec rs
+
+-- and among records that are lent
+abbrev pub lent_nsec : List (Bor Record) → List NsecRecord
+lent_nsec lent = nsec_records (map (λ r. r.now) lent)

@@ -1,19 +1,17 @@
 // Names as the records of a denial and a question have them, compared without memory.
-ghost use Rattle.std.specs.Prelude.{◌≡◌, ◌&&◌, ◌||◌, ◌∷◌};
-ghost use Rattle.zone_proto.specs.Names.{lower, name_cmp, name_eq, is_above, is_at_or_above};
+ghost use Rattle.std.specs.Prelude.{◌≡◌, ◌∷◌};
+ghost use Rattle.zone_proto.specs.Names.{lower, name_cmp, name_eq, is_above, is_at_or_above, is_root, star_under};
 ghost use Rattle.zone_proto.specs.Order.{is_before, is_upto};
-ghost use Rattle.zone_validation.specs.Encloser.{star_under};
+ghost use Rattle.zone_validation.specs.Nsec3Proofs.{goes_over};
 
-use crate::asked_labels::{AskedLabels, compare_labels, labels_are_above};
-use crate::name_labels::NameLabels;
 use std::cmp::Ordering;
 use std::marker::Model;
-use zone_proto::{LowerName, Name};
+use zone_proto::{Labels, LowerName, Name, PrependedLabels, compare_labels, labels_are_above};
 
 /// A name, or one a label below it, lent; contracts see it in lower case.
 #[derive(Drop)]
 pub(crate) struct AskedName<'n> {
-    labels: AskedLabels<'n>,
+    labels: PrependedLabels<'n>,
 }
 
 impl<'n> Model for AskedName<'n> {
@@ -31,7 +29,7 @@ impl<'n> AskedName<'n> {
         ensures { result ≡ name.now }
     {
         AskedName {
-            labels: AskedLabels::of(NameLabels::of(name)),
+            labels: PrependedLabels::new(name.labels()),
         }
     }
 
@@ -40,34 +38,34 @@ impl<'n> AskedName<'n> {
         ensures { result ≡ lower name.now }
     {
         AskedName {
-            labels: AskedLabels::of(NameLabels::of_any(name)),
+            labels: PrependedLabels::new(name.labels()),
         }
     }
 
     /// The name whose labels are left.
-    pub(crate) fn of_labels(labels: NameLabels<'n>) -> AskedName<'n>
+    pub(crate) fn of_labels(labels: Labels<'n>) -> AskedName<'n>
         ensures { result ≡ lower labels.entry }
     {
         AskedName {
-            labels: AskedLabels::of(labels),
+            labels: PrependedLabels::new(labels),
         }
     }
 
     /// The star under it (RFC 4592 section 2.1.1).
-    pub(crate) fn star_under(base: NameLabels<'n>) -> AskedName<'n>
+    pub(crate) fn star_under(base: Labels<'n>) -> AskedName<'n>
         ensures { result ≡ star_under (lower base.entry) }
     {
         AskedName {
-            labels: AskedLabels::below(b"*", base),
+            labels: PrependedLabels::with_first(b"*", base),
         }
     }
 
     /// The name with this label before the labels of another.
-    pub(crate) fn below(first: &'n [u8], base: NameLabels<'n>) -> AskedName<'n>
+    pub(crate) fn below(first: &'n [u8], base: Labels<'n>) -> AskedName<'n>
         ensures { result ≡ lower (first.now ∷ base.entry) }
     {
         AskedName {
-            labels: AskedLabels::below(first, base),
+            labels: PrependedLabels::with_first(first, base),
         }
     }
 
@@ -102,11 +100,17 @@ impl<'n> AskedName<'n> {
     /// Whether it stands between an owner and the next one, or past the ends of the last pair, whose next is the first (RFC 5155
     /// section 1.3).
     pub(crate) fn is_between(&self, owner: &AskedName<'_>, next: &AskedName<'_>) -> bool
-        ensures { result ≡ ((is_before name_cmp owner.now self.now && is_before name_cmp self.now next.now)
-            || (is_upto name_cmp next.now owner.now && (is_before name_cmp owner.now self.now || is_before name_cmp self.now next.now))) }
+        ensures { result ≡ goes_over owner.now next.now self.now }
     {
         (owner.is_before(self) && self.is_before(next))
             || (next.is_upto(owner) && (owner.is_before(self) || self.is_before(next)))
+    }
+
+    /// Whether it is the root.
+    pub(crate) fn is_root(&self) -> bool
+        ensures { result ≡ is_root self.now }
+    {
+        self.labels.len() == 0
     }
 
     /// Whether the other name is this one or below it.

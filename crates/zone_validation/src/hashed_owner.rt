@@ -4,7 +4,6 @@ ghost use Rattle.zone_proto.specs.HashedOwners.{hashed_owner};
 ghost use Rattle.zone_proto.specs.Results.{IsCopy};
 
 use crate::asked_name::AskedName;
-use crate::name_labels::NameLabels;
 use std::marker::Model;
 use zone_proto::{LowerName, ProtoError, base32_dnssec};
 
@@ -50,6 +49,6 @@ impl<'z> HashedOwner<'z> {
     pub(crate) fn name(&self) -> AskedName<'_>
         ensures { result ≡ self.now }
     {
-        AskedName::below(self.label.as_bytes(), NameLabels::of(self.apex))
+        AskedName::below(self.label.as_bytes(), self.apex.labels())
     }
 }

@@ -4,10 +4,8 @@
 //! Signatures are not looked at: the records are taken as validated, with the apex as the name that signed them.
 #![tactic(auto)]
 
-mod asked_labels;
 mod asked_name;
 mod hashed_owner;
-mod name_labels;
 pub mod nsec;
 pub mod nsec3;
 mod nsec3_encloser;
@@ -15,6 +13,7 @@ mod nsec3_judgement;
 mod nsec3_parameters;
 mod nsec3_record;
 mod nsec3_records;
+mod nsec3_referral;
 mod nsec3_response;
 mod nsec3_wildcard;
 mod nsec_record;

@@ -1,15 +1,13 @@
 // The closest encloser proof (RFC 5155 section 8.3).
-ghost use Rattle.std.specs.Prelude.{◌≡◌, ◌&&◌, cond, false, true, Some, option_map, IfOk, IfSome, IsOkUnless, MatchOption};
-ghost use Rattle.std.specs.List.{list_any};
+ghost use Rattle.std.specs.Prelude.{◌≡◌, ◌&&◌, false, true, Some, option_map, IfOk, IfSome, IsOkUnless, MatchOption};
 ghost use Rattle.std.specs.Option.{option_map_or, option_or};
-ghost use Rattle.zone_proto.specs.Names.{base_name};
-ghost use Rattle.zone_validation.specs.Encloser.{next_closer, star_under};
-ghost use Rattle.zone_validation.specs.Nsec3Proofs.{matches, is_matched, is_covered, is_of_encloser, owner_of, shown_encloser, proved_encloser, proves_opted_out, answering_labels};
-ghost use Rattle.zone_validation.specs.Nsec3Responses.{hash_of};
+ghost use Rattle.zone_proto.specs.Names.{base_name, star_under};
+ghost use Rattle.zone_validation.specs.Encloser.{next_closer};
+ghost use Rattle.zone_validation.specs.Nsec3Responses.{owner_in, is_matched_in, is_encloser_in, is_covered_in, shown_here, proved_here, opted_out_here, answer_in};
 
 use crate::hashed_owner::HashedOwner;
 use crate::nsec3_response::Nsec3Response;
-use crate::nsec3_wildcard::nearest_labels;
+use crate::proof::Proof;
 use zone_proto::{LowerName, Nsec3Hash, ProtoError};
 
 /// The closest encloser of a name that the records show.
@@ -30,9 +28,9 @@ pub(crate) struct ShownEncloser<'q> {
 pub(crate) struct EncloserWalk<'q> {
     /// The encloser.
     pub shown: Option<ShownEncloser<'q>>,
-    /// How many labels the parent has of the last name on the walk, the encloser among them, that is below the apex and that a
-    /// record covers.
-    pub labels: Option<usize>,
+    /// The wildcard answer by the parent of the last name on the walk, the encloser among them, that is below the apex and that
+    /// a record covers.
+    pub answer: Option<Proof>,
 }
 
 /// The closest encloser of a name that the records prove.
@@ -48,16 +46,17 @@ impl<'q, 'r, H: Nsec3Hash> Nsec3Response<'q, 'r, H> {
     /// The closest encloser of the name that the records prove, if they do. Refused only for want of memory.
     pub(crate) fn proved_encloser(&self) -> Result<Option<ProvedEncloser>, ProtoError>
         ensures proved { IfOk result (λ proved. option_map (λ p. base_name p.star) proved
-            ≡ proved_encloser self.now.apex (hash_of H.digest_of self.now) self.now.records self.now.name) }
-        ensures star { IfOk result (λ proved. IfSome proved (λ p. p.star ≡ star_under (base_name p.star))) }
+            ≡ proved_here H.digest_of self.now) }
+        ensures star { IfOk result
+            (λ proved. IfSome proved (λ p. p.star ≡ star_under (base_name p.star))) }
         ensures opted_out { IfOk result (λ proved. option_map_or (λ p. p.opted_out) proved false
-            ≡ proves_opted_out self.now.apex (hash_of H.digest_of self.now) self.now.records self.now.name) }
+            ≡ opted_out_here H.digest_of self.now) }
         ensures err { IsOkUnless result ProtoError.Memory }
     {
         if self.is_matched(Some(self.own())) {
             return Ok(None);
         }
-        let EncloserWalk { shown, labels: _ } = self.encloser_walk()?;
+        let EncloserWalk { shown, answer: _ } = self.encloser_walk()?;
         match shown {
             Some(encloser) => self.proof_of(encloser),
             None => Ok(None),
@@ -66,18 +65,21 @@ impl<'q, 'r, H: Nsec3Hash> Nsec3Response<'q, 'r, H> {
 
     /// What the encloser that they show proves, if anything. Refused only for want of memory.
     fn proof_of(&self, encloser: ShownEncloser<'_>) -> Result<Option<ProvedEncloser>, ProtoError>
-        requires unmatched { is_matched self.now.apex (hash_of H.digest_of self.now) self.now.records self.now.name ≡ false }
-        requires shown { shown_encloser self.now.apex (hash_of H.digest_of self.now) self.now.records self.now.name ≡ Some (base_name encloser.next_closer) }
-        requires closer { next_closer self.now.name (base_name encloser.next_closer) ≡ Some encloser.next_closer }
-        requires hashed { encloser.hashed ≡ owner_of self.now.apex (hash_of H.digest_of self.now) encloser.next_closer }
-        requires covered { encloser.covered ≡ is_covered self.now.apex (hash_of H.digest_of self.now) self.now.records encloser.next_closer }
+        requires unmatched { is_matched_in H.digest_of self.now self.now.name ≡ false }
+        requires shown { shown_here H.digest_of self.now ≡ Some (base_name encloser.next_closer) }
+        requires closer { next_closer self.now.name (base_name encloser.next_closer)
+            ≡ Some encloser.next_closer }
+        requires hashed { encloser.hashed ≡ owner_in H.digest_of self.now encloser.next_closer }
+        requires covered { encloser.covered
+            ≡ is_covered_in H.digest_of self.now encloser.next_closer }
         requires in_zone { encloser.in_zone
-            ≡ list_any (λ r. matches self.now.apex (hash_of H.digest_of self.now) r (base_name encloser.next_closer) && is_of_encloser r) self.now.records }
+            ≡ is_encloser_in H.digest_of self.now (base_name encloser.next_closer) }
         ensures proved { IfOk result (λ proved. option_map (λ p. base_name p.star) proved
-            ≡ proved_encloser self.now.apex (hash_of H.digest_of self.now) self.now.records self.now.name) }
-        ensures star { IfOk result (λ proved. IfSome proved (λ p. p.star ≡ star_under (base_name p.star))) }
+            ≡ proved_here H.digest_of self.now) }
+        ensures star { IfOk result
+            (λ proved. IfSome proved (λ p. p.star ≡ star_under (base_name p.star))) }
         ensures opted_out { IfOk result (λ proved. option_map_or (λ p. p.opted_out) proved false
-            ≡ proves_opted_out self.now.apex (hash_of H.digest_of self.now) self.now.records self.now.name) }
+            ≡ opted_out_here H.digest_of self.now) }
         ensures err { IsOkUnless result ProtoError.Memory }
     {
         if encloser.stands() {
@@ -89,18 +91,21 @@ impl<'q, 'r, H: Nsec3Hash> Nsec3Response<'q, 'r, H> {
 
     /// What an encloser proves whose proof stands. Refused only for want of memory.
     pub(crate) fn standing(&self, encloser: ShownEncloser<'_>) -> Result<ProvedEncloser, ProtoError>
-        requires unmatched { is_matched self.now.apex (hash_of H.digest_of self.now) self.now.records self.now.name ≡ false }
-        requires shown { shown_encloser self.now.apex (hash_of H.digest_of self.now) self.now.records self.now.name ≡ Some (base_name encloser.next_closer) }
-        requires closer { next_closer self.now.name (base_name encloser.next_closer) ≡ Some encloser.next_closer }
-        requires hashed { encloser.hashed ≡ owner_of self.now.apex (hash_of H.digest_of self.now) encloser.next_closer }
-        requires covered { is_covered self.now.apex (hash_of H.digest_of self.now) self.now.records encloser.next_closer ≡ true }
-        requires in_zone { list_any (λ r. matches self.now.apex (hash_of H.digest_of self.now) r (base_name encloser.next_closer) && is_of_encloser r) self.now.records ≡ true }
+        requires unmatched { is_matched_in H.digest_of self.now self.now.name ≡ false }
+        requires shown { shown_here H.digest_of self.now ≡ Some (base_name encloser.next_closer) }
+        requires closer { next_closer self.now.name (base_name encloser.next_closer)
+            ≡ Some encloser.next_closer }
+        requires hashed { encloser.hashed ≡ owner_in H.digest_of self.now encloser.next_closer }
+        requires covered { is_covered_in H.digest_of self.now encloser.next_closer ≡ true }
+        requires in_zone { is_encloser_in H.digest_of self.now (base_name encloser.next_closer)
+            ≡ true }
         ensures proved { IfOk result (λ p. Some (base_name p.star)
-            ≡ proved_encloser self.now.apex (hash_of H.digest_of self.now) self.now.records self.now.name) }
-        ensures encloser { IfOk result (λ p. base_name p.star ≡ base_name encloser.entry.next_closer) }
+            ≡ proved_here H.digest_of self.now) }
+        ensures encloser { IfOk result
+            (λ p. base_name p.star ≡ base_name encloser.entry.next_closer) }
         ensures star { IfOk result (λ p. p.star ≡ star_under (base_name p.star)) }
         ensures opted_out { IfOk result (λ p. p.opted_out
-            ≡ proves_opted_out self.now.apex (hash_of H.digest_of self.now) self.now.records self.now.name) }
+            ≡ opted_out_here H.digest_of self.now) }
         ensures err { IsOkUnless result ProtoError.Memory }
     {
         let opted_out = self.is_opted_out(encloser.hashed.as_ref())?;
@@ -114,36 +119,39 @@ impl<'q, 'r, H: Nsec3Hash> Nsec3Response<'q, 'r, H> {
     /// which is the encloser, or else up to the apex. Refused only for want of memory.
     pub(crate) fn encloser_walk(&self) -> Result<EncloserWalk<'q>, ProtoError>
         ensures shown { IfOk result (λ walk. option_map (λ e. base_name e.next_closer) walk.shown
-            ≡ shown_encloser self.now.apex (hash_of H.digest_of self.now) self.now.records self.now.name) }
-        ensures closer { IfOk result (λ walk. IfSome walk.shown (λ e. next_closer self.now.name (base_name e.next_closer) ≡ Some e.next_closer)) }
-        ensures hashed { IfOk result (λ walk. IfSome walk.shown (λ e. e.hashed ≡ owner_of self.now.apex (hash_of H.digest_of self.now) e.next_closer)) }
-        ensures covered { IfOk result (λ walk. IfSome walk.shown (λ e. e.covered ≡ is_covered self.now.apex (hash_of H.digest_of self.now) self.now.records e.next_closer)) }
-        ensures in_zone { IfOk result (λ walk. IfSome walk.shown (λ e. e.in_zone
-            ≡ list_any (λ r. matches self.now.apex (hash_of H.digest_of self.now) r (base_name e.next_closer) && is_of_encloser r) self.now.records)) }
-        ensures labels { IfOk result (λ walk. MatchOption walk.shown
-            (walk.labels ≡ answering_labels self.now.apex (hash_of H.digest_of self.now) self.now.records self.now.name)
-            (λ e. option_or (answering_labels self.now.apex (hash_of H.digest_of self.now) self.now.records (base_name (base_name e.next_closer))) walk.labels
-            ≡ answering_labels self.now.apex (hash_of H.digest_of self.now) self.now.records self.now.name)) }
+            ≡ shown_here H.digest_of self.now) }
+        ensures closer { IfOk result (λ walk. IfSome walk.shown (λ e.
+            next_closer self.now.name (base_name e.next_closer) ≡ Some e.next_closer)) }
+        ensures hashed { IfOk result (λ walk. IfSome walk.shown (λ e.
+            e.hashed ≡ owner_in H.digest_of self.now e.next_closer)) }
+        ensures covered { IfOk result (λ walk. IfSome walk.shown (λ e.
+            e.covered ≡ is_covered_in H.digest_of self.now e.next_closer)) }
+        ensures in_zone { IfOk result (λ walk. IfSome walk.shown (λ e. e.in_zone ≡
+            is_encloser_in H.digest_of self.now (base_name e.next_closer))) }
+        ensures answer { IfOk result (λ walk. MatchOption walk.shown
+            (walk.answer ≡ answer_in H.digest_of self.now self.now.name)
+            (λ e. option_or (answer_in H.digest_of self.now (base_name (base_name e.next_closer)))
+            walk.answer ≡ answer_in H.digest_of self.now self.now.name)) }
         ensures err { IsOkUnless result ProtoError.Memory }
     {
         let mut next_closer = self.name().clone()?;
         let mut above = self.name().base_name()?;
         let mut hashed = Some(self.own().clone()?);
-        let mut labels = None;
+        let mut answer = None;
         while self.is_below_apex(&next_closer) {
             let covered = self.is_covered(hashed.as_ref())?;
-            labels = nearest_labels(covered, &above, labels);
+            answer = self.nearest_answer(covered, hashed.as_ref(), &above, answer)?;
             let owner = self.owner_of(&above)?;
             if self.is_matched(owner.as_ref()) {
-                let in_zone = self.is_matched_in_zone(owner.as_ref());
-                let labels = self.labels_with(&above, owner.as_ref(), labels)?;
+                let in_zone = self.is_encloser(owner.as_ref());
+                let answer = self.answer_with(&above, owner.as_ref(), answer)?;
                 let shown = Some(ShownEncloser {
                     next_closer,
                     hashed,
                     covered,
                     in_zone,
                 });
-                return Ok(EncloserWalk { shown, labels });
+                return Ok(EncloserWalk { shown, answer });
             }
             hashed = owner;
             next_closer.shorten();
@@ -151,7 +159,7 @@ impl<'q, 'r, H: Nsec3Hash> Nsec3Response<'q, 'r, H> {
         }
         Ok(EncloserWalk {
             shown: None,
-            labels,
+            answer,
         })
     }
 }

@@ -1,13 +1,49 @@
 // The parameters by which names are hashed, as NSEC3 records tell them.
-ghost use Rattle.std.specs.Prelude.{◌≡◌, ◌&&◌, not, cond, false, is_some, Some, None, map, find, option_map, option_and_then, IfOk, IfSome, IsOkUnless};
+ghost use Rattle.std.specs.Prelude.{◌≡◌, false, length, Some, find, option_copied, option_map, option_and_then, IfOk, IfSome, IsOkUnless};
 ghost use Rattle.std.specs.Option.{option_map_or};
-ghost use Rattle.zone_validation.specs.Nsec3Parameters.{same_parameters, has_parameters, digest_by, is_known, is_other_known, nsec3_datas, common_parameters};
+ghost use Rattle.zone_proto.specs.Base32.{base32_count};
+ghost use Rattle.zone_proto.specs.Names.{lower};
+ghost use Rattle.zone_validation.specs.Nsec3Parameters.{is_of_zone, zone_data, same_parameters, has_parameters, digest_by, is_known, known_or_none, is_other, is_other_known, nsec3_datas, common_parameters};
 ghost use Rattle.zone_validation.specs.Nsec3Proofs.{owner_of};
-ghost use Rattle.zone_validation.specs.Nsec3Records.{nsec3_data};
+ghost use Rattle.zone_validation.specs.Nsec3Responses.{lent_records};
 
+use crate::asked_name::AskedName;
 use crate::hashed_owner::HashedOwner;
 use crate::nsec3_record::nsec3_data;
-use zone_proto::{LowerName, NSEC3, Nsec3Hash, ProtoError, Record};
+use zone_proto::{LowerName, NSEC3, Name, Nsec3Hash, ProtoError, Record};
+
+/// The data of a record, if it is an NSEC3 record of the zone with this apex.
+fn zone_data<'r>(apex: &LowerName, lent: &'r Record) -> Option<&'r NSEC3>
+    ensures { option_copied result ≡ zone_data apex.now lent.now }
+{
+    let found = nsec3_data(lent)?;
+    if is_of_zone(apex, &lent.name, found.next_hashed_owner_name.as_slice()) {
+        Some(found)
+    } else {
+        None
+    }
+}
+
+/// Whether an owner stands one label before the apex, and this label is as long as the text of the next digest.
+fn is_of_zone(apex: &LowerName, owner: &Name, next: &[u8]) -> bool
+    ensures { result ≡ is_of_zone apex.now (lower owner.now) next.now }
+{
+    let mut labels = owner.labels();
+    match labels.next() {
+        Some(first) => {
+            first.len() == text_length(next)
+                && AskedName::of_labels(labels).equals(&AskedName::of(apex))
+        }
+        None => false,
+    }
+}
+
+/// How many characters the text of octets in base32hex has, the last one for what is left over.
+fn text_length(octets: &[u8]) -> usize
+    ensures { result ≡ base32_count (length octets.now) }
+{
+    octets.len() / 5 * 8 + (octets.len() % 5 * 8).div_ceil(5)
+}
 
 /// Whether the data of two records have the same parameters.
 fn same_parameters(a: &NSEC3, b: &NSEC3) -> bool
@@ -16,11 +52,11 @@ fn same_parameters(a: &NSEC3, b: &NSEC3) -> bool
     a.algorithm == b.algorithm && a.iterations == b.iterations && a.salt == b.salt
 }
 
-/// Whether a record is one of type NSEC3 and has these parameters.
-pub(crate) fn has_parameters(parameters: &NSEC3, lent: &Record) -> bool
-    ensures { result ≡ has_parameters parameters.now lent.now }
+/// Whether a record is an NSEC3 record of the zone and has these parameters.
+pub(crate) fn has_parameters(apex: &LowerName, parameters: &NSEC3, lent: &Record) -> bool
+    ensures { result ≡ has_parameters apex.now parameters.now lent.now }
 {
-    match nsec3_data(lent) {
+    match zone_data(apex, lent) {
         Some(found) => same_parameters(parameters, found),
         None => false,
     }
@@ -33,7 +69,8 @@ pub(crate) fn hashed_owner<'z, H: Nsec3Hash>(
     name: &LowerName,
     hash: &H,
 ) -> Result<Option<HashedOwner<'z>>, ProtoError>
-    ensures ok { IfOk result (λ owner. owner ≡ owner_of apex.now (digest_by (H.digest_of hash.now) parameters.now) name.now) }
+    ensures ok { IfOk result (λ owner. owner
+        ≡ owner_of apex.now (digest_by (H.digest_of hash.now) parameters.now) name.now) }
     ensures err { IsOkUnless result ProtoError.Memory }
 {
     match digest(parameters, name, hash)? {
@@ -48,7 +85,8 @@ fn digest<H: Nsec3Hash>(
     name: &LowerName,
     hash: &H,
 ) -> Result<Option<Vec<u8>>, ProtoError>
-    ensures ok { IfOk result (λ digest. option_map (λ d. d.items) digest ≡ digest_by (H.digest_of hash.now) parameters.now name.now) }
+    ensures ok { IfOk result (λ digest. option_map (λ d. d.items) digest
+        ≡ digest_by (H.digest_of hash.now) parameters.now name.now) }
     ensures err { IsOkUnless result ProtoError.Memory }
 {
     let digest = hash.hash(
@@ -80,14 +118,16 @@ pub(crate) fn common_parameters<'z, 'r, H: Nsec3Hash>(
     hash: &H,
 ) -> Result<Option<KnownParameters<'z, 'r>>, ProtoError>
     ensures common { IfOk result (λ known. option_map (λ k. k.parameters.now) known
-        ≡ common_parameters (H.digest_of hash.now) name.now (map (λ r. r.now) records.now)) }
-    ensures owner { IfOk result (λ known. IfSome known (λ k.
-        Some k.owner ≡ owner_of apex.now (digest_by (H.digest_of hash.now) k.parameters.now) name.now)) }
+        ≡ common_parameters (H.digest_of hash.now) apex.now name.now (lent_records records.now)) }
+    ensures owner { IfOk result
+        (λ known. IfSome known
+        (λ k. Some k.owner
+        ≡ owner_of apex.now (digest_by (H.digest_of hash.now) k.parameters.now) name.now)) }
     ensures err { IsOkUnless result ProtoError.Memory }
 {
     match first_known(apex, records, name, hash)? {
         Some(known) => {
-            let differ = is_other_known(records, name, hash, known.parameters)?;
+            let differ = is_other_known(apex, records, name, hash, known.parameters)?;
             if differ { Ok(None) } else { Ok(Some(known)) }
         }
         None => Ok(None),
@@ -102,9 +142,12 @@ fn first_known<'z, 'r, H: Nsec3Hash>(
     hash: &H,
 ) -> Result<Option<KnownParameters<'z, 'r>>, ProtoError>
     ensures first { IfOk result (λ known. option_map (λ k. k.parameters.now) known
-        ≡ find (is_known (H.digest_of hash.now) name.now) (nsec3_datas (map (λ r. r.now) records.now))) }
-    ensures owner { IfOk result (λ known. IfSome known (λ k.
-        Some k.owner ≡ owner_of apex.now (digest_by (H.digest_of hash.now) k.parameters.now) name.now)) }
+        ≡ find (is_known (H.digest_of hash.now) apex.now name.now)
+        (nsec3_datas apex.now (lent_records records.now))) }
+    ensures owner { IfOk result
+        (λ known. IfSome known
+        (λ k. Some k.owner
+        ≡ owner_of apex.now (digest_by (H.digest_of hash.now) k.parameters.now) name.now)) }
     ensures err { IsOkUnless result ProtoError.Memory }
 {
     for lent in records {
@@ -116,7 +159,7 @@ fn first_known<'z, 'r, H: Nsec3Hash>(
     Ok(None)
 }
 
-/// Those of one record, if it is of type NSEC3 and the hash knows its algorithm. Refused only for want of memory.
+/// Those of one record, if it is an NSEC3 record of the zone and the hash knows its algorithm. Refused only for want of memory.
 fn known_parameters<'z, 'r, H: Nsec3Hash>(
     apex: &'z LowerName,
     lent: &'r Record,
@@ -124,12 +167,15 @@ fn known_parameters<'z, 'r, H: Nsec3Hash>(
     hash: &H,
 ) -> Result<Option<KnownParameters<'z, 'r>>, ProtoError>
     ensures known { IfOk result (λ known. option_map (λ k. k.parameters.now) known
-        ≡ option_and_then (λ d. cond (is_known (H.digest_of hash.now) name.now d) (Some d) None) (nsec3_data lent.now.rdata)) }
-    ensures owner { IfOk result (λ known. IfSome known (λ k.
-        Some k.owner ≡ owner_of apex.now (digest_by (H.digest_of hash.now) k.parameters.now) name.now)) }
+        ≡ option_and_then (known_or_none (H.digest_of hash.now) apex.now name.now)
+        (zone_data apex.now lent.now)) }
+    ensures owner { IfOk result
+        (λ known. IfSome known
+        (λ k. Some k.owner
+        ≡ owner_of apex.now (digest_by (H.digest_of hash.now) k.parameters.now) name.now)) }
     ensures err { IsOkUnless result ProtoError.Memory }
 {
-    match nsec3_data(lent) {
+    match zone_data(apex, lent) {
         Some(parameters) => match hashed_owner(apex, parameters, name, hash)? {
             Some(owner) => Ok(Some(KnownParameters { parameters, owner })),
             None => Ok(None),
@@ -140,16 +186,19 @@ fn known_parameters<'z, 'r, H: Nsec3Hash>(
 
 /// Whether a record whose algorithm the hash knows has other parameters. Refused only for want of memory.
 fn is_other_known<H: Nsec3Hash>(
+    apex: &LowerName,
     records: &[&Record],
     name: &LowerName,
     hash: &H,
     parameters: &NSEC3,
 ) -> Result<bool, ProtoError>
-    ensures ok { IfOk result (λ other. other ≡ is_other_known (H.digest_of hash.now) name.now (map (λ r. r.now) records.now) parameters.now) }
+    ensures ok { IfOk result (λ other. other
+        ≡ is_other_known (H.digest_of hash.now) apex.now name.now (lent_records records.now)
+        parameters.now) }
     ensures err { IsOkUnless result ProtoError.Memory }
 {
     for lent in records {
-        if has_other_known(lent, name, hash, parameters)? {
+        if has_other_known(apex, lent, name, hash, parameters)? {
             return Ok(true);
         }
     }
@@ -158,16 +207,18 @@ fn is_other_known<H: Nsec3Hash>(
 
 /// Whether this record is one. Refused only for want of memory.
 fn has_other_known<H: Nsec3Hash>(
+    apex: &LowerName,
     lent: &Record,
     name: &LowerName,
     hash: &H,
     parameters: &NSEC3,
 ) -> Result<bool, ProtoError>
     ensures ok { IfOk result (λ other. other
-        ≡ option_map_or (λ d. not (same_parameters parameters.now d) && is_known (H.digest_of hash.now) name.now d) (nsec3_data lent.now.rdata) false) }
+        ≡ option_map_or (is_other (H.digest_of hash.now) apex.now name.now parameters.now)
+        (zone_data apex.now lent.now) false) }
     ensures err { IsOkUnless result ProtoError.Memory }
 {
-    match nsec3_data(lent) {
+    match zone_data(apex, lent) {
         Some(found) => {
             if same_parameters(parameters, found) {
                 Ok(false)

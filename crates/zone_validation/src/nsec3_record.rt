@@ -1,9 +1,6 @@
 // What one NSEC3 record says.
-ghost use Rattle.std.specs.Prelude.{◌≡◌, ◌&&◌, not, false, option_copied};
-ghost use Rattle.std.specs.Option.{option_map_or};
-ghost use Rattle.zone_proto.specs.Names.{name_eq};
-ghost use Rattle.zone_proto.specs.Types.{NS, SOA, DS};
-ghost use Rattle.zone_validation.specs.Nsec3Proofs.{lists, lists_none, is_of_encloser, is_wrong_side, denies_type};
+ghost use Rattle.std.specs.Prelude.{◌≡◌, option_copied};
+ghost use Rattle.zone_validation.specs.Nsec3Proofs.{lists, lists_none, has_owner, is_of_encloser, is_of_unsigned, is_wrong_side, denies_type};
 ghost use Rattle.zone_validation.specs.Nsec3Records.{nsec3_data, read_nsec3};
 
 use crate::asked_name::AskedName;
@@ -73,32 +70,43 @@ impl<'r> LentNsec3<'r> {
         !self.lists(DNAME) && (!self.lists(RecordType::NS) || self.lists(RecordType::SOA))
     }
 
-    /// Whether it is of the side of a zone cut that has no say on the type (RFC 4035 section 5.2, RFC 6840 section 4.1).
-    fn is_wrong_side(&self, record_type: RecordType) -> bool
-        ensures { result ≡ is_wrong_side self.now record_type.0 }
+    /// Whether it is of the side of a zone cut, the name, that has no say on the type (RFC 4035 section 5.2, RFC 6840 section
+    /// 4.1).
+    fn is_wrong_side(
+        &self,
+        apex: &AskedName<'_>,
+        name: &AskedName<'_>,
+        record_type: RecordType,
+    ) -> bool
+        ensures { result ≡ is_wrong_side apex.now self.now name.now record_type.0 }
     {
         if record_type == RecordType::DS {
-            self.lists(RecordType::SOA)
+            (self.lists(RecordType::SOA) || name.equals(apex)) && !name.is_root()
         } else {
             self.lists(RecordType::NS) && !self.lists(RecordType::SOA)
         }
     }
 
-    /// Whether its name owns no set of the type, and no alias either (RFC 5155 sections 8.5 and 8.6).
-    pub(crate) fn denies_type(&self, record_type: RecordType) -> bool
-        ensures { result ≡ denies_type self.now record_type.0 }
+    /// Whether its name, which is this one, owns no set of the type, and no alias either (RFC 5155 sections 8.5 and 8.6).
+    pub(crate) fn denies_type(
+        &self,
+        apex: &AskedName<'_>,
+        name: &AskedName<'_>,
+        record_type: RecordType,
+    ) -> bool
+        ensures { result ≡ denies_type apex.now self.now name.now record_type.0 }
     {
-        self.lists_none()
-            || (record_type != RecordType::ANY
-                && !self.lists(record_type)
-                && !self.lists(RecordType::CNAME)
-                && !self.is_wrong_side(record_type))
+        !self.is_wrong_side(apex, name, record_type)
+            && (self.lists_none()
+                || (record_type != RecordType::ANY
+                    && !self.lists(record_type)
+                    && !self.lists(RecordType::CNAME)))
     }
 
     /// Whether it has the hashed owner of a name: whether it matches the name (RFC 5155 section 1.3). That of a name without
     /// a digest it has not.
     pub(crate) fn has_owner(&self, hashed: Option<&HashedOwner<'_>>) -> bool
-        ensures { result ≡ option_map_or (name_eq self.now.owner) (option_copied hashed.entry) false }
+        ensures { result ≡ has_owner self.now (option_copied hashed.entry) }
     {
         match hashed {
             Some(owner) => self.owner.equals(&owner.name()),
@@ -106,14 +114,11 @@ impl<'r> LentNsec3<'r> {
         }
     }
 
-    /// Whether it is that of a name with this hashed owner, and the name a delegation without DS (RFC 5155 section 8.9).
-    pub(crate) fn shows_unsigned_delegation(&self, hashed: Option<&HashedOwner<'_>>) -> bool
-        ensures { result ≡ option_map_or (name_eq self.now.owner) (option_copied hashed.entry) false && lists self.now NS && not (lists self.now DS) && not (lists self.now SOA) }
+    /// Whether its name is a delegation without DS (RFC 5155 section 8.9).
+    pub(crate) fn is_of_unsigned(&self) -> bool
+        ensures { result ≡ is_of_unsigned self.now }
     {
-        self.has_owner(hashed)
-            && self.lists(RecordType::NS)
-            && !self.lists(RecordType::DS)
-            && !self.lists(RecordType::SOA)
+        self.lists(RecordType::NS) && !self.lists(RecordType::DS) && !self.lists(RecordType::SOA)
     }
 
     /// Its owner.

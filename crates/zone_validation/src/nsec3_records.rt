@@ -1,15 +1,17 @@
-// The NSEC3 records of a response that have the same parameters.
-ghost use Rattle.std.specs.Prelude.{◌≡◌, map};
+// The NSEC3 records of a zone in a response that have the same parameters.
+ghost use Rattle.std.specs.Prelude.{◌≡◌};
 ghost use Rattle.zone_validation.specs.Nsec3Parameters.{records_with};
+ghost use Rattle.zone_validation.specs.Nsec3Responses.{lent_records};
 
 use crate::nsec3_parameters::has_parameters;
 use crate::nsec3_record::LentNsec3;
 use std::marker::Model;
-use zone_proto::{NSEC3, Record};
+use zone_proto::{LowerName, NSEC3, Record};
 
-/// Lends the NSEC3 records among some records that have these parameters, in their order.
+/// Lends the NSEC3 records of a zone among some records that have these parameters, in their order.
 #[derive(Drop)]
 pub(crate) struct Nsec3Records<'s, 'r> {
+    apex: &'s LowerName,
     records: &'s [&'r Record],
     parameters: &'s NSEC3,
     next: usize,
@@ -22,15 +24,21 @@ impl<'s, 'r> Model for Nsec3Records<'s, 'r> {
 
     ghost Value = { List Nsec3Record };
 
-    ghost view = { λ s. records_with s.parameters.now (map (λ r. r.now) (drop s.next s.records.now)) };
+    ghost view = { λ s. records_with s.apex.now s.parameters.now
+        (map (λ r. r.now) (drop s.next s.records.now)) };
 }
 
 impl<'s, 'r> Nsec3Records<'s, 'r> {
     /// Those among these.
-    pub(crate) fn among(records: &'s [&'r Record], parameters: &'s NSEC3) -> Nsec3Records<'s, 'r>
-        ensures { result ≡ records_with parameters.now (map (λ r. r.now) records.now) }
+    pub(crate) fn among(
+        apex: &'s LowerName,
+        records: &'s [&'r Record],
+        parameters: &'s NSEC3,
+    ) -> Nsec3Records<'s, 'r>
+        ensures { result ≡ records_with apex.now parameters.now (lent_records records.now) }
     {
         Nsec3Records {
+            apex,
             records,
             parameters,
             next: 0,
@@ -51,7 +59,7 @@ impl<'s, 'r> Iterator for Nsec3Records<'s, 'r> {
         while self.next < self.records.len() {
             let lent = self.records[self.next];
             self.next += 1;
-            if has_parameters(self.parameters, lent) {
+            if has_parameters(self.apex, self.parameters, lent) {
                 if let Some(nsec3) = LentNsec3::read(lent) {
                     return Some(nsec3);
                 }

@@ -1,12 +1,9 @@
 // A name, and the NSEC3 records of a response by which it is judged.
-ghost use Rattle.std.specs.Prelude.{◌≡◌, ◌&&◌, not, false, Some, map, option_copied, IfOk, IsOkUnless};
+ghost use Rattle.std.specs.Prelude.{◌≡◌, ◌&&◌, not, Some, option_copied, IfOk, IsOkUnless};
 ghost use Rattle.std.specs.List.{list_any};
-ghost use Rattle.std.specs.Option.{option_map_or};
-ghost use Rattle.zone_proto.specs.HashedOwners.{hashed_owner};
-ghost use Rattle.zone_proto.specs.Names.{name_eq, is_above};
-ghost use Rattle.zone_proto.specs.Types.{NS, SOA, DS};
-ghost use Rattle.zone_validation.specs.Nsec3Proofs.{lists, is_of_encloser, denies_type, owner_of, goes_over};
-ghost use Rattle.zone_validation.specs.Nsec3Responses.{hash_of, nsec3_response};
+ghost use Rattle.zone_proto.specs.Names.{is_above, is_at_or_above};
+ghost use Rattle.zone_validation.specs.Nsec3Proofs.{has_owner, is_of_encloser, is_of_unsigned, denies_type, covers_owner};
+ghost use Rattle.zone_validation.specs.Nsec3Responses.{nsec3_response, lent_records, owner_in};
 
 use crate::asked_name::AskedName;
 use crate::hashed_owner::HashedOwner;
@@ -40,10 +37,11 @@ impl<'q, 'r, H: Nsec3Hash> Model for Nsec3Response<'q, 'r, H> {
       name = r.name.now;
       hash = r.hash.now;
       parameters = r.parameters.now;
-      records = records_with r.parameters.now (map (λ lent. lent.now) r.records.now);
+      records = records_with r.apex.now r.parameters.now (map (λ lent. lent.now) r.records.now);
     } };
 
-    ghost invariant = { λ r. Some r.own ≡ owner_of r.apex.now (digest_by (H.digest_of r.hash.now) r.parameters.now) r.name.now };
+    ghost invariant = { λ r. Some r.own
+        ≡ owner_of r.apex.now (digest_by (H.digest_of r.hash.now) r.parameters.now) r.name.now };
 }
 
 impl<'q, 'r, H: Nsec3Hash> Nsec3Response<'q, 'r, H> {
@@ -55,7 +53,8 @@ impl<'q, 'r, H: Nsec3Hash> Nsec3Response<'q, 'r, H> {
         name: &'q LowerName,
         hash: &'q H,
     ) -> Result<Option<Nsec3Response<'q, 'r, H>>, ProtoError>
-        ensures ok { IfOk result (λ response. response ≡ nsec3_response H.digest_of apex.now (map (λ r. r.now) records.now) name.now hash.now) }
+        ensures ok { IfOk result (λ response. response
+            ≡ nsec3_response H.digest_of apex.now (lent_records records.now) name.now hash.now) }
         ensures err { IsOkUnless result ProtoError.Memory }
     {
         match common_parameters(apex, records, name, hash)? {
@@ -73,7 +72,7 @@ impl<'q, 'r, H: Nsec3Hash> Nsec3Response<'q, 'r, H> {
 
     /// The hashed owner of a name, if the hash has a digest of it. Refused only for want of memory.
     pub(crate) fn owner_of(&self, name: &LowerName) -> Result<Option<HashedOwner<'q>>, ProtoError>
-        ensures ok { IfOk result (λ owner. owner ≡ owner_of self.now.apex (hash_of H.digest_of self.now) name.now) }
+        ensures ok { IfOk result (λ owner. owner ≡ owner_in H.digest_of self.now name.now) }
         ensures err { IsOkUnless result ProtoError.Memory }
     {
         hashed_owner(self.apex, self.parameters, name, self.hash)
@@ -88,9 +87,16 @@ impl<'q, 'r, H: Nsec3Hash> Nsec3Response<'q, 'r, H> {
 
     /// The hashed owner of the name.
     pub(crate) fn own(&self) -> &HashedOwner<'q>
-        ensures { Some result.now ≡ owner_of self.now.apex (hash_of H.digest_of self.now) self.now.name }
+        ensures { Some result.now ≡ owner_in H.digest_of self.now self.now.name }
     {
         &self.own
+    }
+
+    /// Whether the name is the apex or below it.
+    pub(crate) fn is_in_zone(&self) -> bool
+        ensures { result ≡ is_at_or_above self.now.apex self.now.name }
+    {
+        AskedName::of(self.apex).is_at_or_above(&AskedName::of(self.name))
     }
 
     /// Whether a name is below the apex.
@@ -104,51 +110,80 @@ impl<'q, 'r, H: Nsec3Hash> Nsec3Response<'q, 'r, H> {
     fn records(&self) -> Nsec3Records<'_, 'r>
         ensures { result ≡ self.now.records }
     {
-        Nsec3Records::among(self.records, self.parameters)
+        Nsec3Records::among(self.apex, self.records, self.parameters)
     }
 
     /// Whether a record matches the name with this hashed owner.
     pub(crate) fn is_matched(&self, hashed: Option<&HashedOwner<'_>>) -> bool
-        ensures { result ≡ list_any (λ r. option_map_or (name_eq r.owner) (option_copied hashed.entry) false) self.now.records }
+        ensures { result
+            ≡ list_any (λ r. has_owner r (option_copied hashed.entry)) self.now.records }
     {
         self.records().any(|nsec3| nsec3.has_owner(hashed))
     }
 
     /// Whether a record matches it that is of this zone, and of no name that hands on what is below it.
-    pub(crate) fn is_matched_in_zone(&self, hashed: Option<&HashedOwner<'_>>) -> bool
-        ensures { result ≡ list_any (λ r. option_map_or (name_eq r.owner) (option_copied hashed.entry) false && is_of_encloser r) self.now.records }
+    pub(crate) fn is_encloser(&self, hashed: Option<&HashedOwner<'_>>) -> bool
+        ensures { result
+            ≡ list_any (λ r. has_owner r (option_copied hashed.entry) && is_of_encloser r)
+            self.now.records }
     {
         self.records()
             .any(|nsec3| nsec3.has_owner(hashed) && nsec3.is_of_encloser())
     }
 
-    /// Whether a record matches it and denies the type.
+    /// Whether a record matches it that is of a name which hands on what is below it.
+    pub(crate) fn is_handing_on(&self, hashed: Option<&HashedOwner<'_>>) -> bool
+        ensures { result
+            ≡ list_any (λ r. has_owner r (option_copied hashed.entry) && not (is_of_encloser r))
+            self.now.records }
+    {
+        self.records()
+            .any(|nsec3| nsec3.has_owner(hashed) && !nsec3.is_of_encloser())
+    }
+
+    /// Whether any record is of such a name.
+    pub(crate) fn has_referral(&self) -> bool
+        ensures { result ≡ list_any (λ r. not (is_of_encloser r)) self.now.records }
+    {
+        self.records().any(|nsec3| !nsec3.is_of_encloser())
+    }
+
+    /// Whether a record matches the name, which has this hashed owner, and denies the type.
     pub(crate) fn denies_type(
         &self,
+        name: &LowerName,
         hashed: Option<&HashedOwner<'_>>,
         record_type: RecordType,
     ) -> bool
-        ensures { result ≡ list_any (λ r. option_map_or (name_eq r.owner) (option_copied hashed.entry) false && denies_type r record_type.0) self.now.records }
+        ensures { result
+            ≡ list_any (λ r. has_owner r (option_copied hashed.entry)
+            && denies_type self.now.apex r name.now record_type.0) self.now.records }
     {
-        self.records().any(|nsec3| nsec3.has_owner(hashed) && nsec3.denies_type(record_type))
+        let apex = AskedName::of(self.apex);
+        let asked = AskedName::of(name);
+        self.records().any(|nsec3| nsec3.has_owner(hashed)
+            && nsec3.denies_type(&apex, &asked, record_type))
     }
 
     /// Whether a record matches it and shows a delegation without DS.
-    pub(crate) fn shows_unsigned_delegation(&self, hashed: Option<&HashedOwner<'_>>) -> bool
-        ensures { result ≡ list_any (λ r. option_map_or (name_eq r.owner) (option_copied hashed.entry) false && lists r NS && not (lists r DS) && not (lists r SOA)) self.now.records }
+    pub(crate) fn is_unsigned(&self, hashed: Option<&HashedOwner<'_>>) -> bool
+        ensures { result
+            ≡ list_any (λ r. has_owner r (option_copied hashed.entry) && is_of_unsigned r)
+            self.now.records }
     {
         self.records()
-            .any(|nsec3| nsec3.shows_unsigned_delegation(hashed))
+            .any(|nsec3| nsec3.has_owner(hashed) && nsec3.is_of_unsigned())
     }
 
     /// Whether a record covers the name with this hashed owner. Refused only for want of memory.
     pub(crate) fn is_covered(&self, hashed: Option<&HashedOwner<'_>>) -> Result<bool, ProtoError>
         ensures ok { IfOk result (λ covered. covered
-            ≡ list_any (λ r. option_map_or (goes_over self.now.apex (hash_of H.digest_of self.now) r.owner (hashed_owner self.now.apex r.next)) (option_copied hashed.entry) false) self.now.records) }
+            ≡ list_any (λ r. covers_owner self.now.apex r (option_copied hashed.entry))
+            self.now.records) }
         ensures err { IsOkUnless result ProtoError.Memory }
     {
         for nsec3 in self.records() {
-            if self.goes_over(&nsec3, hashed)? {
+            if self.covers_owner(&nsec3, hashed)? {
                 return Ok(true);
             }
         }
@@ -158,11 +193,12 @@ impl<'q, 'r, H: Nsec3Hash> Nsec3Response<'q, 'r, H> {
     /// Whether a record covers it whose flag Opt-Out is set. Refused only for want of memory.
     pub(crate) fn is_opted_out(&self, hashed: Option<&HashedOwner<'_>>) -> Result<bool, ProtoError>
         ensures ok { IfOk result (λ out. out
-            ≡ list_any (λ r. option_map_or (goes_over self.now.apex (hash_of H.digest_of self.now) r.owner (hashed_owner self.now.apex r.next)) (option_copied hashed.entry) false && r.opt_out) self.now.records) }
+            ≡ list_any (λ r. covers_owner self.now.apex r (option_copied hashed.entry) && r.opt_out)
+            self.now.records) }
         ensures err { IsOkUnless result ProtoError.Memory }
     {
         for nsec3 in self.records() {
-            if self.goes_over(&nsec3, hashed)? && nsec3.opt_out() {
+            if self.covers_owner(&nsec3, hashed)? && nsec3.opt_out() {
                 return Ok(true);
             }
         }
@@ -170,13 +206,13 @@ impl<'q, 'r, H: Nsec3Hash> Nsec3Response<'q, 'r, H> {
     }
 
     /// Whether this record covers it. Refused only for want of memory.
-    fn goes_over(
+    fn covers_owner(
         &self,
         nsec3: &LentNsec3<'_>,
         hashed: Option<&HashedOwner<'_>>,
     ) -> Result<bool, ProtoError>
         ensures ok { IfOk result (λ covers. covers
-            ≡ option_map_or (goes_over self.now.apex (hash_of H.digest_of self.now) nsec3.now.owner (hashed_owner self.now.apex nsec3.now.next)) (option_copied hashed.entry) false) }
+            ≡ covers_owner self.now.apex nsec3.now (option_copied hashed.entry)) }
         ensures err { IsOkUnless result ProtoError.Memory }
     {
         match hashed {

@@ -3,13 +3,12 @@ ghost use Rattle.std.specs.Prelude.{◌≡◌, ◌==◌, ◌||◌, option_map};
 ghost use Rattle.std.specs.List.{list_any};
 ghost use Rattle.zone_proto.specs.declared.record_type.RecordType.{RecordType};
 ghost use Rattle.zone_proto.specs.Names.{lower, is_at_or_above};
-ghost use Rattle.zone_validation.specs.NsecProofs.{lists, shows_type, is_ancestor_delegation, may_tell_of, covers, denies_name, shows_empty, is_wrong_side, denies_type, shown_encloser, shows_unsigned_delegation};
+ghost use Rattle.zone_validation.specs.NsecProofs.{lists, shows_type, is_ancestor_delegation, may_tell_of, is_of_zone, covers, denies_name, shows_empty, is_of_apex, is_wrong_side, denies_type, shown_encloser, shows_unsigned_delegation};
 ghost use Rattle.zone_validation.specs.NsecRecords.{read_nsec};
 
 use crate::asked_name::AskedName;
-use crate::name_labels::NameLabels;
 use std::marker::Model;
-use zone_proto::{LowerName, RData, Record, RecordType};
+use zone_proto::{Labels, LowerName, RData, Record, RecordType};
 
 /// Another name for all names below the owner (RFC 6672 section 2.1).
 pub(crate) const DNAME: RecordType = RecordType(39);
@@ -28,7 +27,11 @@ impl<'r> Model for LentNsec<'r> {
 
     ghost Value = { NsecRecord };
 
-    ghost view = { λ r. record { owner = r.owner; next = r.next; types = map (λ t. t.0) r.types.now } };
+    ghost view = { λ r. record {
+      owner = r.owner;
+      next = r.next;
+      types = map (λ t. t.0) r.types.now;
+    } };
 }
 
 impl<'r> LentNsec<'r> {
@@ -63,26 +66,34 @@ impl<'r> LentNsec<'r> {
             || self.lists(record_type)
     }
 
-    /// Whether it is the parent's record at a zone cut, in the zone of this apex (RFC 6840 section 4.1).
-    fn is_ancestor_delegation(&self, apex: &AskedName<'_>) -> bool
-        ensures { result ≡ is_ancestor_delegation apex.now self.now }
+    /// Whether it is the parent's record at a zone cut (RFC 6840 section 4.1).
+    fn is_ancestor_delegation(&self) -> bool
+        ensures { result ≡ is_ancestor_delegation self.now }
     {
-        self.lists(RecordType::NS) && !self.lists(RecordType::SOA) && apex.is_above(&self.owner)
+        self.lists(RecordType::NS) && !self.lists(RecordType::SOA)
     }
 
     /// Whether it may tell of a name: an ancestor delegation and a DNAME tell nothing of the names below them (RFC 6840
     /// section 4.1).
-    fn may_tell_of(&self, apex: &AskedName<'_>, name: &AskedName<'_>) -> bool
-        ensures { result ≡ may_tell_of apex.now self.now name.now }
+    fn may_tell_of(&self, name: &AskedName<'_>) -> bool
+        ensures { result ≡ may_tell_of self.now name.now }
     {
-        !(self.owner.is_above(name) && (self.is_ancestor_delegation(apex) || self.lists(DNAME)))
+        !(self.owner.is_above(name) && (self.is_ancestor_delegation() || self.lists(DNAME)))
+    }
+
+    /// Whether its owner is a name of the zone.
+    fn is_of_zone(&self, apex: &AskedName<'_>) -> bool
+        ensures { result ≡ is_of_zone apex.now self.now }
+    {
+        apex.is_at_or_above(&self.owner)
     }
 
     /// Whether a name below the apex would stand between the owner and the next name (RFC 4035 section 5.4).
     fn covers(&self, apex: &AskedName<'_>, name: &AskedName<'_>) -> bool
         ensures { result ≡ covers apex.now self.now name.now }
     {
-        apex.is_above(name)
+        self.is_of_zone(apex)
+            && apex.is_above(name)
             && self.owner.is_before(name)
             && (name.is_before(&self.next) || self.next.equals(apex))
     }
@@ -91,14 +102,21 @@ impl<'r> LentNsec<'r> {
     pub(crate) fn denies_name(&self, apex: &AskedName<'_>, name: &AskedName<'_>) -> bool
         ensures { result ≡ denies_name apex.now self.now name.now }
     {
-        self.may_tell_of(apex, name) && self.covers(apex, name) && !name.is_above(&self.next)
+        self.may_tell_of(name) && self.covers(apex, name) && !name.is_above(&self.next)
     }
 
     /// Whether it shows that a name is an empty non-terminal (RFC 4592 section 2.2.2).
     pub(crate) fn shows_empty(&self, apex: &AskedName<'_>, name: &AskedName<'_>) -> bool
         ensures { result ≡ shows_empty apex.now self.now name.now }
     {
-        self.may_tell_of(apex, name) && self.covers(apex, name) && name.is_above(&self.next)
+        self.may_tell_of(name) && self.covers(apex, name) && name.is_above(&self.next)
+    }
+
+    /// Whether it is that of the apex of a zone, of this or of another.
+    fn is_of_apex(&self, apex: &AskedName<'_>) -> bool
+        ensures { result ≡ is_of_apex apex.now self.now }
+    {
+        self.lists(RecordType::SOA) || self.owner.equals(apex)
     }
 
     /// Whether it is of the side of a zone cut that has no say on the type (RFC 4035 section 5.2, RFC 6840 section 4.1).
@@ -106,9 +124,9 @@ impl<'r> LentNsec<'r> {
         ensures { result ≡ is_wrong_side apex.now self.now record_type.0 }
     {
         if record_type == RecordType::DS {
-            self.lists(RecordType::SOA)
+            self.is_of_apex(apex) && !self.owner.is_root()
         } else {
-            self.is_ancestor_delegation(apex)
+            self.is_ancestor_delegation()
         }
     }
 
@@ -121,17 +139,23 @@ impl<'r> LentNsec<'r> {
     ) -> bool
         ensures { result ≡ denies_type apex.now self.now name.now record_type.0 }
     {
-        self.owner.equals(name)
+        self.is_of_zone(apex)
+            && self.owner.equals(name)
             && !self.shows_type(record_type)
             && !self.lists(RecordType::CNAME)
             && !self.is_wrong_side(apex, record_type)
     }
 
-    /// Whether it shows that a name is a delegation without DS (RFC 6840 section 4.4).
-    pub(crate) fn shows_unsigned_delegation(&self, name: &AskedName<'_>) -> bool
-        ensures { result ≡ shows_unsigned_delegation self.now name.now }
+    /// Whether it shows that a name below the apex is a delegation without DS (RFC 6840 section 4.4).
+    pub(crate) fn shows_unsigned_delegation(
+        &self,
+        apex: &AskedName<'_>,
+        name: &AskedName<'_>,
+    ) -> bool
+        ensures { result ≡ shows_unsigned_delegation apex.now self.now name.now }
     {
-        self.owner.equals(name)
+        apex.is_above(&self.owner)
+            && self.owner.equals(name)
             && self.lists(RecordType::NS)
             && !self.lists(RecordType::DS)
             && !self.lists(RecordType::SOA)
@@ -139,10 +163,10 @@ impl<'r> LentNsec<'r> {
 
     /// The closest encloser of a name that it shows: the longest proper ancestor at or below which one of its names stands
     /// (RFC 4592 section 3.3.1).
-    pub(crate) fn shown_encloser<'n>(&self, name: &'n LowerName) -> Option<NameLabels<'n>>
+    pub(crate) fn shown_encloser<'n>(&self, name: &'n LowerName) -> Option<Labels<'n>>
         ensures { option_map lower result ≡ shown_encloser self.now name.now }
     {
-        let mut ancestor = NameLabels::of(name);
+        let mut ancestor = name.labels();
         while ancestor.next().is_some() {
             if self.shows_below(&ancestor) {
                 return Some(ancestor);
@@ -152,8 +176,9 @@ impl<'r> LentNsec<'r> {
     }
 
     /// Whether its owner or its next name stands at or below a name.
-    fn shows_below(&self, ancestor: &NameLabels<'_>) -> bool
-        ensures { result ≡ is_at_or_above (lower ancestor.now) self.now.owner || is_at_or_above (lower ancestor.now) self.now.next }
+    fn shows_below(&self, ancestor: &Labels<'_>) -> bool
+        ensures { result ≡ is_at_or_above (lower ancestor.now) self.now.owner
+            || is_at_or_above (lower ancestor.now) self.now.next }
     {
         let ancestor = AskedName::of_labels(ancestor.clone());
         ancestor.is_at_or_above(&self.owner) || ancestor.is_at_or_above(&self.next)

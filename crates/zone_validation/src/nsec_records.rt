@@ -1,6 +1,6 @@
 // The NSEC records of a response.
-ghost use Rattle.std.specs.Prelude.{◌≡◌, map};
-ghost use Rattle.zone_validation.specs.NsecRecords.{nsec_records};
+ghost use Rattle.std.specs.Prelude.{◌≡◌};
+ghost use Rattle.zone_validation.specs.NsecRecords.{lent_nsec};
 
 use crate::nsec_record::LentNsec;
 use std::marker::Model;
@@ -25,7 +25,7 @@ impl<'s, 'r> Model for NsecRecords<'s, 'r> {
 impl<'s, 'r> NsecRecords<'s, 'r> {
     /// Those among these.
     pub(crate) fn among(records: &'s [&'r Record]) -> NsecRecords<'s, 'r>
-        ensures { result ≡ nsec_records (map (λ r. r.now) records.now) }
+        ensures { result ≡ lent_nsec records.now }
     {
         NsecRecords { records, next: 0 }
     }

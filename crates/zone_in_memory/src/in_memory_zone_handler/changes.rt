@@ -1,4 +1,4 @@
-// What changes the record sets of a zone.
+//! What changes the record sets of a zone.
 ghost use Rattle.std.specs.Prelude.{◌≡◌, [], Err, IfErr, IfOk, OnOk, OnErr};
 ghost use Rattle.zone_proto.specs.Names.{lower};
 ghost use Rattle.zone_in_memory.specs.Insertions.{IsUpsert};
@@ -8,8 +8,8 @@ ghost use Rattle.zone_map.specs.Zones.{set_at, put, without};
 
 use crate::in_memory_zone_handler::InMemoryZoneHandler;
 use crate::put_refused::PutRefused;
+use zone_inner::ZoneError;
 use zone_proto::{LowerName, Nsec3Hash, Record, RecordSet, RrKey, Signer};
-use zone_search::ZoneError;
 
 impl<S: Signer, H: Nsec3Hash> InMemoryZoneHandler<S, H> {
     /// Takes a record into the set of its owner name and type, or makes that set.
@@ -38,9 +38,14 @@ impl<S: Signer, H: Nsec3Hash> InMemoryZoneHandler<S, H> {
     /// Nothing is asked of its class, nor of a CNAME beside it. Refused by `Empty` for a set without records, and by
     /// `Memory`; both hand the set back and leave the zone as it was.
     pub fn put_set(&mut self, set: RecordSet) -> Result<Option<RecordSet>, PutRefused>
-        ensures before { IfOk result (λ before. before ≡ set_at self.old.inner.records (lower set.owner) set.record_type) }
-        ensures stored { OnOk result (self.new
-            ≡ record self.old { inner = record self.old.inner { records = put self.old.inner.records (lower set.owner) set.record_type set } }) }
+        ensures before { IfOk result
+            (λ before. before ≡ set_at self.old.inner.records (lower set.owner) set.record_type) }
+        ensures stored { OnOk result
+            (self.new ≡ record self.old {
+              inner = record self.old.inner {
+                records = put self.old.inner.records (lower set.owner) set.record_type set;
+              };
+            }) }
         ensures empty { set.records ≡ [] → result ≡ Err (PutRefused.Empty set) }
         ensures refused { IfErr result (λ refusal. Refuses refusal set) }
         ensures same { OnErr result (self.new ≡ self.old) }
@@ -61,15 +66,19 @@ impl<S: Signer, H: Nsec3Hash> InMemoryZoneHandler<S, H> {
     /// Takes the set out that stands under a key, and gives it. This takes no memory.
     pub fn remove_set(&mut self, key: &RrKey) -> Option<RecordSet>
         ensures before { result ≡ set_at self.old.inner.records key.now.name key.now.record_type.0 }
-        ensures removed { self.new
-            ≡ record self.old { inner = record self.old.inner { records = without self.old.inner.records key.now.name key.now.record_type.0 } } }
+        ensures removed { self.new ≡ record self.old {
+          inner = record self.old.inner {
+            records = without self.old.inner.records key.now.name key.now.record_type.0;
+          };
+        } }
     {
         self.inner.remove(key)
     }
 
     /// Takes all record sets out; the signers stay. This takes no memory.
     pub fn clear(&mut self)
-        ensures cleared { self.new ≡ record self.old { inner = record self.old.inner { records = [] } } }
+        ensures cleared { self.new
+            ≡ record self.old { inner = record self.old.inner { records = [] } } }
         ensures cnames { CnamesStandAlone self.new.inner.records }
     {
         self.inner.clear();

@@ -1,4 +1,4 @@
-// The records that deny what a zone doesn't hold.
+//! The records that deny what a zone doesn't hold.
 ghost use Rattle.std.specs.Prelude.{◌≡◌, ◌++◌, map, IfOk, IsOkUnless, option_copied, option_to_list};
 ghost use Rattle.zone_in_memory.specs.NsecAnswers.{IsNsecAnswer, IsDenialSection};
 ghost use Rattle.zone_in_memory.specs.Nsec3Steps.{IsNsec3Answer};
@@ -19,7 +19,8 @@ impl<S: Signer, H: Nsec3Hash> InMemoryZoneHandler<S, H> {
         name: &LowerName,
         lookup_options: LookupOptions,
     ) -> Result<AuthLookup, LookupError>
-        ensures { IsNsecAnswer self.now name.now lookup_options (LookupControlFlow.Continue result) }
+        ensures { IsNsecAnswer self.now name.now lookup_options
+            (LookupControlFlow.Continue result) }
     {
         let section = self.denial_section(name, lookup_options)?;
         Ok(AuthLookup::answers(section, None))
@@ -31,7 +32,8 @@ impl<S: Signer, H: Nsec3Hash> InMemoryZoneHandler<S, H> {
         name: &LowerName,
         lookup_options: LookupOptions,
     ) -> Result<LookupRecords, LookupError>
-        ensures ok { IfOk result (IsDenialSection self.now.origin self.now.inner.records lookup_options name.now) }
+        ensures ok { IfOk result
+            (IsDenialSection self.now.origin self.now.inner.records lookup_options name.now) }
         ensures err { IsOkUnless result LookupError.Memory }
     {
         match self.inner.nsec_denial(self.origin(), name)? {
@@ -49,7 +51,8 @@ impl<S: Signer, H: Nsec3Hash> InMemoryZoneHandler<S, H> {
         info: Nsec3QueryInfo<'_>,
         lookup_options: LookupOptions,
     ) -> Result<AuthLookup, LookupError>
-        ensures { IsNsec3Answer H.digest_of self.now info.entry lookup_options (LookupControlFlow.Continue result) }
+        ensures { IsNsec3Answer H.digest_of self.now info.entry lookup_options
+            (LookupControlFlow.Continue result) }
     {
         let sets = self.inner.proof(info, self.origin(), &self.hash)?;
         let copies = copies_of(info.qname.alloc(), sets.as_slice())?;
@@ -64,7 +67,10 @@ fn copies(
     one: Option<&RecordSet>,
     other: Option<&RecordSet>,
 ) -> Result<Vec<RecordSet>, ProtoError>
-    ensures copies { IfOk result (λ copies. copies.items ≡ option_to_list (option_copied one.entry) ++ option_to_list (option_copied other.entry)) }
+    ensures copies { IfOk result
+        (λ copies. copies.items
+        ≡ option_to_list (option_copied one.entry)
+        ++ option_to_list (option_copied other.entry)) }
     ensures err { IsOkUnless result ProtoError.Memory }
 {
     let mut copies = Vec::with_capacity(alloc, 2)?;

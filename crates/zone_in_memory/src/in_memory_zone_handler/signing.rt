@@ -1,4 +1,4 @@
-// The signers of a zone, and the signatures of its sets.
+//! The signers of a zone, and the signatures of its sets.
 ghost use Rattle.std.specs.Prelude.{◌≡◌, OnOk, OnErr, IsOkUnless};
 ghost use Rattle.zone_map.specs.Upserts.{CnamesStandAlone};
 ghost use Rattle.zone_in_memory.specs.Signing.{with_key, IsKeyAdded, IsSecuring};
@@ -39,8 +39,10 @@ impl<S: Signer, H: Nsec3Hash> InMemoryZoneHandler<S, H> {
     /// Steps the zone's serial by one, modulo 2^32, and signs each set anew at the moment `now`, in seconds since 1970.
     ///
     /// Each set loses the signatures that it has, and gets those of the signers that sign it, in the order of the signers
-    /// (RFC 4034 section 3): of its owner and TTL, and class IN. Without an SOA no serial is stepped. All else stays as it
-    /// was.
+    /// (RFC 4034 section 3): of its owner and TTL, and class IN. Without an SOA no serial is stepped, and without a signer
+    /// denials stay as they are. All else stays as it was.
+    ///
+    /// # NSEC
     ///
     /// Of a zone that NSEC denies, and that has a signer, the NSEC sets are first made anew, wherever old ones stand: one for
     /// each name that the zone is authoritative for (RFC 4035 section 2.3), that is each one at or below the origin that owns
@@ -48,6 +50,8 @@ impl<S: Signer, H: Nsec3Hash> InMemoryZoneHandler<S, H> {
     /// origin after the last, and with the types that the name owns, NSEC and RRSIG among them (RFC 4034 section 4). Its TTL
     /// is the zone's minimum, and its serial that of before. So where the origin owns a set besides, the NSEC sets are one
     /// closed circle through exactly these names.
+    ///
+    /// # NSEC3
     ///
     /// Of a zone that NSEC3 denies, and that has a signer, the NSEC3 sets are made anew in the same way (RFC 5155 section 7.1):
     /// one for each of the names that the zone is authoritative for, of the empty names above them, and of the origin; with
@@ -58,7 +62,7 @@ impl<S: Signer, H: Nsec3Hash> InMemoryZoneHandler<S, H> {
     /// where the hash tells these names apart, by digests of one length, and the origin isn't the root, the NSEC3 sets are one
     /// closed circle through exactly these names.
     ///
-    /// Without a signer denials stay as they are.
+    /// # Errors
     ///
     /// Refused, in this order, by `TimeOutOfRange` for a moment past the year 9999 (253402300799), which takes no memory; and,
     /// where NSEC3 sets are to be made, by `CnameAtOrigin` where a CNAME stands at the origin, by `Hash` where the hash has no
@@ -80,7 +84,8 @@ impl<S: Signer, H: Nsec3Hash> InMemoryZoneHandler<S, H> {
     /// Inserts the key of a signer, and puts the signer behind the others. A refusal leaves the zone as it was.
     fn add_signer(&mut self, signer: S, key: DNSKEY) -> Result<(), ProtoError>
         ensures ok { OnOk result (self.new ≡ with_key self.old signer key) }
-        ensures cnames { CnamesStandAlone self.old.inner.records → CnamesStandAlone self.new.inner.records }
+        ensures cnames { CnamesStandAlone self.old.inner.records
+            → CnamesStandAlone self.new.inner.records }
         ensures err { IsOkUnless result ProtoError.Memory }
         ensures same { OnErr result (self.new ≡ self.old) }
     {
@@ -94,7 +99,8 @@ impl<S: Signer, H: Nsec3Hash> InMemoryZoneHandler<S, H> {
 impl<S: Signer, H: Nsec3Hash> DnssecZoneHandler<S> for InMemoryZoneHandler<S, H> {
     ghost adds_key = { λ old signer result new. IsKeyAdded S.key_of old signer result new };
 
-    ghost secures = { λ old now result new. IsSecuring S.signature_of H.digest_of old now result new };
+    ghost secures = { λ old now result new.
+        IsSecuring S.signature_of H.digest_of old now result new };
 
     /// The same as [`InMemoryZoneHandler::add_zone_signing_key_mut`].
     fn add_zone_signing_key(&mut self, signer: S) -> Result<(), KeyError> {

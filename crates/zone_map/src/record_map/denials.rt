@@ -1,4 +1,4 @@
-// The owners of the sets of denial in the record map.
+//! The owners of the sets of denial in the record map.
 ghost use Rattle.std.specs.Prelude.{◌≡◌, [], Some, IsTrue, IfSome};
 ghost use Rattle.std.specs.List.{list_any};
 ghost use Rattle.zone_proto.specs.Names.{is_at_or_above};
@@ -67,8 +67,11 @@ impl RecordMap {
     /// The owner and the set of the last key that isn't after this one, if it is of the same type: then no owner of the type
     /// stands between it and the key's name. None tells nothing of owners further back. Takes no memory.
     pub fn last_of_type_upto(&self, key: &RrKey) -> Option<(&LowerName, &RecordSet)>
-        ensures last { IfSome result (λ last. IsLastOf last.0.now (owners_upto self.now key.now.record_type.0 key.now.name)) }
-        ensures set { IfSome result (λ last. set_at self.now last.0.now key.now.record_type.0 ≡ Some last.1.now) }
+        ensures last { IfSome result
+            (λ last. IsLastOf last.0.now
+            (owners_upto self.now key.now.record_type.0 key.now.name)) }
+        ensures set { IfSome result
+            (λ last. set_at self.now last.0.now key.now.record_type.0 ≡ Some last.1.now) }
         ensures zone { IsZone self.now }
     {
         let (last, set) = self.sets.range(..=key).next_back()?;
@@ -81,7 +84,8 @@ impl RecordMap {
     /// Whether a name, or a name below it, owns a set of a type, if that is NSEC or NSEC3; no for other types. One owner is looked
     /// at, the first of the type that isn't before the name: the names below a name stand together. Takes no memory.
     pub fn owns_denial_at_or_below(&self, record_type: RecordType, name: &LowerName) -> bool
-        ensures { result ≡ list_any (is_at_or_above name.now) (denial_owners self.now record_type.0) }
+        ensures { result
+            ≡ list_any (is_at_or_above name.now) (denial_owners self.now record_type.0) }
     {
         let Some(owners) = self.denials.owners(record_type) else {
             return false;

@@ -1,4 +1,4 @@
-// The record map as the list of its sets by their keys.
+//! The record map as the list of its sets by their keys.
 ghost use Rattle.std.specs.Prelude.{◌≡◌, length};
 ghost use Rattle.zone_map.specs.Zones.{AreStored, IsZone};
 

@@ -1,4 +1,4 @@
-// Sets that are put into the record map together, and taken out again.
+//! Sets that are put into the record map together, and taken out again.
 ghost use Rattle.std.specs.Prelude.{◌≡◌, ℕ, ◌+◌, ◌≤◌, Bool, not, List, [], ◌∷◌, filter, Some, MatchOption, IsTrue, IfSome, IfOk, OnOk, OnErr, IsOkUnless, option_map, unwrap_or, vec_len, vec_capacity};
 ghost use Rattle.std.specs.BTreeMap.{BTreeMap as Tree, InsertsAll, MovesPrefix};
 ghost use Rattle.std.specs.List.{list_any};
@@ -41,7 +41,12 @@ impl Model for Replaced {
 
     ghost use Rattle.std.specs.Prelude.{option_map};
 
-    ghost view = { λ r. record { exchanged = r.exchanged.items; added = option_map (λ keys. keys.items) r.added; owners = r.denials } };
+    ghost view = { λ r.
+        record {
+          exchanged = r.exchanged.items;
+          added = option_map (λ keys. keys.items) r.added;
+          owners = r.denials;
+        } };
 }
 
 /// Sets that are to be put into a map, in the order of their keys.
@@ -59,7 +64,9 @@ impl RecordMap {
     /// Puts new sets in, in the place of those that stand under their keys. What stood there is handed out. Refused for want of
     /// memory alone, which leaves the map as it was.
     pub fn put_all(&mut self, alloc: Global, sets: NewSets) -> Result<Replaced, ProtoError>
-        ensures ok { OnOk result ((n : Name) (t : ℕ) → set_at self.new n t ≡ option_or (set_at sets n t) (set_at self.old n t)) }
+        ensures ok { OnOk result
+            ((n : Name) (t : ℕ)
+            → set_at self.new n t ≡ option_or (set_at sets n t) (set_at self.old n t)) }
         ensures before { IfOk result (λ replaced. Restores replaced self.new self.old) }
         ensures zone { OnOk result (IsZone sets) }
         ensures err { IsOkUnless result ProtoError.Memory }
@@ -106,10 +113,18 @@ impl RecordMap {
 impl RecordMap {
     /// Parts sets by whether others stand under their keys.
     fn part(&self, alloc: Global, more: BTreeMap<RrKey, RecordSet>) -> Result<Parted, ProtoError>
-        ensures common { IfOk result (λ parted. parted.common.items ≡ filter (λ e. list_any (key_eq e.0) (keys_of self.now)) more.entries) }
-        ensures fresh { IfOk result (λ parted. parted.fresh.entries ≡ filter (λ e. not (list_any (key_eq e.0) (keys_of self.now))) more.entries) }
-        ensures added { IfOk result (λ parted. IfSome parted.added (λ keys. keys.items ≡ keys_of parted.fresh.entries)) }
-        ensures denials { IfOk result (λ parted. IfNone parted.added ((parted.common.items ≡ []) × (without_denials self.now ≡ self.now) × (without_denials parted.fresh.entries ≡ []))) }
+        ensures common { IfOk result
+            (λ parted. parted.common.items
+            ≡ filter (λ e. list_any (key_eq e.0) (keys_of self.now)) more.entries) }
+        ensures fresh { IfOk result
+            (λ parted. parted.fresh.entries
+            ≡ filter (λ e. not (list_any (key_eq e.0) (keys_of self.now))) more.entries) }
+        ensures added { IfOk result
+            (λ parted. IfSome parted.added (λ keys. keys.items ≡ keys_of parted.fresh.entries)) }
+        ensures denials { IfOk result
+            (λ parted. IfNone parted.added
+            ((parted.common.items ≡ []) × (without_denials self.now ≡ self.now)
+            × (without_denials parted.fresh.entries ≡ []))) }
         ensures err { IsOkUnless result ProtoError.Memory }
     {
         // Their keys are those of all sets of denial that the map has then, so that they needn't be copied.
@@ -130,9 +145,15 @@ fn part_by_keys(
     sets: &BTreeMap<RrKey, RecordSet>,
     more: BTreeMap<RrKey, RecordSet>,
 ) -> Result<Parted, ProtoError>
-    ensures common { IfOk result (λ parted. parted.common.items ≡ filter (λ e. list_any (key_eq e.0) (keys_of sets.now.entries)) more.entries) }
-    ensures fresh { IfOk result (λ parted. parted.fresh.entries ≡ filter (λ e. not (list_any (key_eq e.0) (keys_of sets.now.entries))) more.entries) }
-    ensures added { IfOk result (λ parted. option_map (λ keys. keys.items) parted.added ≡ Some (keys_of parted.fresh.entries)) }
+    ensures common { IfOk result
+        (λ parted. parted.common.items
+        ≡ filter (λ e. list_any (key_eq e.0) (keys_of sets.now.entries)) more.entries) }
+    ensures fresh { IfOk result
+        (λ parted. parted.fresh.entries
+        ≡ filter (λ e. not (list_any (key_eq e.0) (keys_of sets.now.entries))) more.entries) }
+    ensures added { IfOk result
+        (λ parted. option_map (λ keys. keys.items) parted.added
+        ≡ Some (keys_of parted.fresh.entries)) }
     ensures err { IsOkUnless result ProtoError.Memory }
 {
     let added = absent_keys(alloc, sets, &more)?;
@@ -170,7 +191,10 @@ fn absent_keys(
     sets: &BTreeMap<RrKey, RecordSet>,
     more: &BTreeMap<RrKey, RecordSet>,
 ) -> Result<Vec<RrKey>, ProtoError>
-    ensures ok { IfOk result (λ keys. keys.items ≡ filter (λ k. not (list_any (key_eq k) (keys_of sets.now.entries))) (keys_of more.now.entries)) }
+    ensures ok { IfOk result
+        (λ keys. keys.items
+        ≡ filter (λ k. not (list_any (key_eq k) (keys_of sets.now.entries)))
+        (keys_of more.now.entries)) }
     ensures err { IsOkUnless result ProtoError.Memory }
 {
     let mut absent = Vec::new(alloc);
@@ -189,9 +213,16 @@ fn separate(
     more: BTreeMap<RrKey, RecordSet>,
     added: &[RrKey],
 ) -> Result<(Vec<(RrKey, RecordSet)>, Vec<(RrKey, RecordSet)>), ProtoError>
-    requires { (stands : Key → Bool) × (added.now ≡ filter (λ k. not (stands k)) (keys_of more.entries)) }
-    ensures common { IfOk result (λ parts. (stands : Key → Bool) → added.now ≡ filter (λ k. not (stands k)) (keys_of more.entries) → parts.0.items ≡ filter (λ e. stands e.0) more.entries) }
-    ensures fresh { IfOk result (λ parts. (stands : Key → Bool) → added.now ≡ filter (λ k. not (stands k)) (keys_of more.entries) → parts.1.items ≡ filter (λ e. not (stands e.0)) more.entries) }
+    requires { (stands : Key → Bool)
+        × (added.now ≡ filter (λ k. not (stands k)) (keys_of more.entries)) }
+    ensures common { IfOk result
+        (λ parts. (stands : Key → Bool)
+        → added.now ≡ filter (λ k. not (stands k)) (keys_of more.entries)
+        → parts.0.items ≡ filter (λ e. stands e.0) more.entries) }
+    ensures fresh { IfOk result
+        (λ parts. (stands : Key → Bool)
+        → added.now ≡ filter (λ k. not (stands k)) (keys_of more.entries)
+        → parts.1.items ≡ filter (λ e. not (stands e.0)) more.entries) }
     ensures err { IsOkUnless result ProtoError.Memory }
 {
     let mut common = Vec::with_capacity(alloc, more.len() - added.len())?;
@@ -211,7 +242,8 @@ fn separate(
 
 /// The keys behind a key, if it is the first of these.
 fn behind<'k>(keys: &'k [RrKey], key: &RrKey) -> Option<&'k [RrKey]>
-    ensures { MatchOption result ((others : List Key) → ¬ (keys.now ≡ key.now ∷ others)) (λ others. keys.now ≡ key.now ∷ others.now) }
+    ensures { MatchOption result ((others : List Key) → ¬ (keys.now ≡ key.now ∷ others))
+        (λ others. keys.now ≡ key.now ∷ others.now) }
 {
     let (first, others) = keys.split_first()?;
     key.same_as(first).then_some(others)
@@ -225,7 +257,8 @@ fn exchange(
 )
     requires { vec_len exchanged.old + vec_len common ≤ vec_capacity exchanged.old }
     ensures put { sets.new.entries ≡ with_exchanged sets.old.entries common.items }
-    ensures before { with_before sets.new.entries exchanged.new.items ≡ with_before sets.old.entries exchanged.old.items }
+    ensures before { with_before sets.new.entries exchanged.new.items
+        ≡ with_before sets.old.entries exchanged.old.items }
     ensures ordered { IsStrictlySortedBy key_cmp (keys_of sets.new.entries) }
 {
     // Its clauses say that the keys ascend.
@@ -247,7 +280,9 @@ fn add(
 ) -> Result<Option<DenialIndex>, ProtoError>
     ensures added { OnOk result (InsertsAll key_cmp sets.old fresh.entries sets.new) }
     ensures moved { (rest : Tree Key RRset) × MovesPrefix key_cmp sets.old fresh sets.new rest }
-    ensures index { OnOk result ((had : Sets) → keys_of sets.old.entries ≡ keys_of had → denials.old ≡ owners_of had → denials.new ≡ owners_of sets.new.entries) }
+    ensures index { OnOk result
+        ((had : Sets) → keys_of sets.old.entries ≡ keys_of had → denials.old ≡ owners_of had
+        → denials.new ≡ owners_of sets.new.entries) }
     ensures was { IfOk result (λ was. unwrap_or was denials.new ≡ denials.old) }
     ensures same { OnErr result (denials.new ≡ denials.old) }
     ensures err { IsOkUnless result ProtoError.Memory }
@@ -269,7 +304,9 @@ fn put_back(
     added: Option<Vec<RrKey>>,
     mut exchanged: Vec<(RrKey, RecordSet)>,
 )
-    ensures { sets.new.entries ≡ with_before (without_added sets.old.entries (option_map (λ keys. keys.items) added)) exchanged.items }
+    ensures { sets.new.entries
+        ≡ with_before (without_added sets.old.entries (option_map (λ keys. keys.items) added))
+        exchanged.items }
 {
     match added {
         Some(keys) => remove_all(sets, keys),

@@ -1,4 +1,4 @@
-// The sets of the record map with new signatures, in place.
+//! The sets of the record map with new signatures, in place.
 ghost use Rattle.std.specs.Prelude.{◌≡◌, ◌∷◌, ◌++◌, List, Option, drop};
 ghost use Rattle.std.specs.Vec.Iter.{into_iter_items};
 ghost use Rattle.zone_proto.specs.declared.record.Record.{Record as Signature};
@@ -16,7 +16,9 @@ impl RecordMap {
     /// `exchanged`. The set under `apex` has its serial stepped as [`RecordSet::step_serial`] says. Takes no memory.
     pub fn renew(&mut self, apex: &RrKey, lists: Vec<Option<Rrsigs>>, exchanged: Rrsigs)
         requires { (made : List (List Signature)) × AreHanded self.old made lists.items exchanged }
-        ensures sets { (made : List (List Signature)) → AreHanded self.old made lists.items exchanged → self.new ≡ stepped_under apex.now (with_signatures self.old made) }
+        ensures sets { (made : List (List Signature))
+            → AreHanded self.old made lists.items exchanged
+            → self.new ≡ stepped_under apex.now (with_signatures self.old made) }
         ensures zone { IsZone self.new }
     {
         put_signatures(&mut self.sets, lists, exchanged);
@@ -33,7 +35,8 @@ fn put_signatures(
     lists: Vec<Option<Rrsigs>>,
     mut exchanged: Rrsigs,
 )
-    ensures { (made : List (List Signature)) → AreHanded sets.old.entries made lists.items exchanged → sets.new.entries ≡ with_signatures sets.old.entries made }
+    ensures { (made : List (List Signature)) → AreHanded sets.old.entries made lists.items exchanged
+        → sets.new.entries ≡ with_signatures sets.old.entries made }
 {
     let mut left = lists.into_iter();
     let mut next = 0;
@@ -50,9 +53,12 @@ fn put_next(
     exchanged: &mut Rrsigs,
     next: &mut usize,
 )
-    ensures { (signatures part rest : List Signature) (list : Option (List Signature)) (lists : List (Option (List Signature)))
-        → into_iter_items left.old ≡ list ∷ lists → drop next.old exchanged.old ≡ part ++ rest → IsHanded set.old signatures list part
-        → (set.new ≡ record set.old { signatures = signatures }) × (into_iter_items left.new ≡ lists) × (drop next.new exchanged.new ≡ rest) }
+    ensures { (signatures part rest : List Signature) (list : Option (List Signature))
+        (lists : List (Option (List Signature)))
+        → into_iter_items left.old ≡ list ∷ lists → drop next.old exchanged.old ≡ part ++ rest
+        → IsHanded set.old signatures list part
+        → (set.new ≡ record set.old { signatures = signatures })
+        × (into_iter_items left.new ≡ lists) × (drop next.new exchanged.new ≡ rest) }
 {
     match left.next() {
         Some(Some(list)) => set.replace_rrsigs(list),

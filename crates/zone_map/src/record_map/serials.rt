@@ -1,4 +1,4 @@
-// The serials of the sets of one type, in place.
+//! The serials of the sets of one type, in place.
 ghost use Rattle.std.specs.Prelude.{◌≡◌, ◌==◌, if◌then◌else◌};
 ghost use Rattle.zone_map.specs.Standing.{with_serial};
 ghost use Rattle.zone_map.specs.Zones.{IsZone};
@@ -29,7 +29,9 @@ fn put_serials(sets: &mut BTreeMap<RrKey, RecordSet>, record_type: RecordType, s
 
 /// Puts a serial in the place of that of a set, if its key is of a type.
 fn put_serial(key: &RrKey, set: &mut RecordSet, record_type: RecordType, serial: u32)
-    ensures { set.new ≡ (if key.now.record_type.0 == record_type.0 then record set.old { serial = serial } else set.old) }
+    ensures { set.new
+        ≡ (if key.now.record_type.0 == record_type.0 then record set.old { serial = serial } else
+        set.old) }
 {
     if key.record_type == record_type {
         set.set_serial(serial);

@@ -1,3 +1,4 @@
+//! NSEC (RFC 4034 section 4), NSEC3 and NSEC3PARAM (RFC 5155 sections 3 and 4).
 ghost use Rattle.zone_proto.specs.Results.{IsCopy};
 
 use crate::error::ProtoError;

@@ -1,3 +1,4 @@
+//! Equality of data.
 ghost use Rattle.zone_proto.specs.Data.{same_data};
 ghost use Rattle.zone_proto.specs.DataEquality.{same_data_equiv};
 ghost use Rattle.std.specs.Cmp.{partial_equiv_from_equiv};

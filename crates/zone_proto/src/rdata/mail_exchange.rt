@@ -1,3 +1,4 @@
+//! MX (RFC 1035 section 3.3.9).
 ghost use Rattle.zone_proto.specs.Results.{IsCopy};
 
 use crate::error::ProtoError;

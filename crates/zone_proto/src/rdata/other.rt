@@ -1,3 +1,4 @@
+//! Data of types that have no case of their own (RFC 3597).
 ghost use Rattle.std.specs.Prelude.{◌≡◌, false, true, IsNone, IfSome, ◌↔◌};
 ghost use Rattle.zone_proto.specs.Types.{has_own_case};
 ghost use Rattle.zone_proto.specs.Results.{IsCopy};

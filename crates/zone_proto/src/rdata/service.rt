@@ -1,3 +1,4 @@
+//! SRV (RFC 2782).
 ghost use Rattle.zone_proto.specs.Results.{IsCopy};
 
 use crate::error::ProtoError;

@@ -1,3 +1,4 @@
+//! DNSKEY and RRSIG (RFC 4034 sections 2 and 3).
 ghost use Rattle.zone_proto.specs.Results.{IsCopy};
 
 use crate::error::ProtoError;

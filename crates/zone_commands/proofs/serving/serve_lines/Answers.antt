@@ -1,8 +1,8 @@
 use Rattle.std.proofs.Common.{◌++◌, ◌+◌, ℕ, List, subst, string_bytes}
-use Rattle.zone_commands.specs.Serving.{Moves}
+use Rattle.zone_commands.specs.Serving.{HasNext, Moves}
 use Rattle.zone_commands.specs.Told.{told}
 use Rattle.zone_commands.specs.Transcripts.{AnswersLine}
-use Rattle.zone_commands.proofs.ServedLines.{HasNext, all_served, line_served, none_served}
+use Rattle.zone_commands.proofs.ServedLines.{all_served, line_served, none_served}
 use Rattle.zone_commands.proofs.serving.serve_lines.Goals as goal
 
 pub loop-i-init : goal.loop-i-init

@@ -4,7 +4,7 @@ use Rattle.std.specs.Borrow.{Bor}
 use Rattle.std.specs.Map.{keys_of}
 use Rattle.std.proofs.lemmas.List.{map-append}
 use Rattle.zone_proto.specs.declared.rr_key.RrKey.{RrKey}
-use Rattle.zone_denial.proofs.CircleKeys.{kept, passed_over, counted, uncounted, kept_all, kept_is_authoritative, below_lent}
+use Rattle.zone_denial.proofs.Sets.CircleKeys.{kept, passed_over, counted, uncounted, kept_all, kept_is_authoritative, below_lent}
 use Rattle.zone_denial.proofs.authoritative_keys.authoritative_keys.Goals as goal
 
 pub loop-key-preserved-then-is_below : goal.loop-key-preserved-then-is_below

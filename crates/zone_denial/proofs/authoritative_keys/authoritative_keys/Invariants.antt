@@ -1,7 +1,7 @@
 use Rattle.std.proofs.Common.{◌≡◌, ◌++◌, map}
 use Rattle.std.specs.Prelude.{None, option_map}
 use Rattle.std.specs.Map.{keys_of}
-use Rattle.zone_denial.proofs.CircleKeys.{kept}
+use Rattle.zone_denial.proofs.Sets.CircleKeys.{kept}
 use Rattle.zone_denial.proofs.authoritative_keys.authoritative_keys.Given as goal
 
 -- the keys so far, and those that count of what is left, are all that count

@@ -1,5 +1,5 @@
 use Rattle.std.proofs.Common.{◌∙◌, sym, true≢false}
-use Rattle.zone_denial.proofs.AboveTests.{above_by_tests, not_above}
+use Rattle.zone_denial.proofs.Names.AboveTests.{above_by_tests, not_above}
 use Rattle.zone_denial.proofs.authoritative_keys.is_above.Goals as goal
 
 pub returns-then-zone_of : goal.returns-then-zone_of

@@ -1,6 +1,6 @@
 use Rattle.std.proofs.Common.{◌&&◌, sym, ap, ◌∙◌}
 use Rattle.zone_proto.specs.Names.{is_at_or_above}
-use Rattle.zone_denial.proofs.AboveTests.{at_or_above_by}
+use Rattle.zone_denial.proofs.Names.AboveTests.{at_or_above_by}
 use Rattle.zone_denial.proofs.authoritative_keys.is_listed.Goals as goal
 
 pub returns-then-ne : goal.returns-then-ne

@@ -1,6 +1,6 @@
 use Rattle.std.proofs.Common.{◌∙◌, sym, ap}
 use Rattle.std.specs.Prelude.{option_copied}
-use Rattle.zone_denial.proofs.ClosestSets.{none_read, none_closest, none_counted, last_closest, last_counted, last_refused, one_read, set_if, no_set_if, where_refused}
+use Rattle.zone_denial.proofs.Chain.ClosestSets.{none_read, none_closest, none_counted, last_closest, last_counted, last_refused, one_read, set_if, no_set_if, where_refused}
 use Rattle.zone_denial.proofs.closest.closest_by_index.Goals as goal
 
 pub loop-owner-init : goal.loop-owner-init

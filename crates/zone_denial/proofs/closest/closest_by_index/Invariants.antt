@@ -1,5 +1,5 @@
 use Rattle.std.proofs.Common.{length}
-use Rattle.zone_denial.proofs.ClosestSets.{AreRead}
+use Rattle.zone_denial.proofs.Chain.ClosestSets.{AreRead}
 use Rattle.zone_denial.proofs.closest.closest_by_index.Given as goal
 
 -- the owners that aren't left were read and counted, and the next name of none of them is past the name

@@ -8,7 +8,7 @@ use Rattle.zone_map.specs.DenialOwners.{denial_owners_upto, owners_upto, IsLastO
 use Rattle.zone_map.specs.Zones.{set_at}
 use Rattle.zone_denial.specs.NsecCircle.{next_of}
 use Rattle.zone_denial.specs.NsecDenial.{goes_past, says_past}
-use Rattle.zone_denial.proofs.ClosestSets.{none_read, last_closest}
+use Rattle.zone_denial.proofs.Chain.ClosestSets.{none_read, last_closest}
 use Rattle.zone_denial.proofs.closest.closest_nsec_knowing.Goals as goal
 
 pub returns-then-branch-clause-found : goal.returns-then-branch-clause-found

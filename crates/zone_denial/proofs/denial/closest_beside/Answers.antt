@@ -2,10 +2,10 @@ use Rattle.std.proofs.Common.{◌≡◌, ◌∙◌, sym, ap, true≢false}
 use Rattle.std.specs.Prelude.{option_and_then}
 use Rattle.std.proofs.lemmas.Result.{IfOk-weaker}
 use Rattle.zone_proto.specs.Names.{name_cmp, IsAtOrAbove}
-use Rattle.zone_proto.proofs.KeyOrder.{equal_of}
-use Rattle.zone_proto.proofs.Tree.{name_order}
+use Rattle.zone_proto.proofs.Ordering.KeyOrder.{equal_of}
+use Rattle.zone_proto.proofs.Names.Tree.{name_order}
 use Rattle.zone_denial.specs.NsecDenial.{closest_nsec, proved_beside}
-use Rattle.zone_denial.proofs.NsecEnclosers.{below_other, beside_origin, beside_below, beside_outside}
+use Rattle.zone_denial.proofs.Chain.NsecEnclosers.{below_other, beside_origin, beside_below, beside_outside}
 use Rattle.zone_denial.proofs.denial.closest_beside.Goals as goal
 
 pub returns-then-eq-clause-found : goal.returns-then-eq-clause-found

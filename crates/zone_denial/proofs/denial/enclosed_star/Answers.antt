@@ -1,8 +1,7 @@
 use Rattle.std.proofs.Common.{◌≡◌, drop, sym, ap, ◌∙◌, subst}
-use Rattle.zone_proto.specs.Names.{IsAbove}
-use Rattle.zone_map.specs.Wildcards.{star_under}
+use Rattle.zone_proto.specs.Names.{IsAbove, star_under}
 use Rattle.zone_denial.specs.NsecDenial.{nsec_encloser}
-use Rattle.zone_denial.proofs.NsecEnclosers.{star_found, goes_below, goes_on}
+use Rattle.zone_denial.proofs.Chain.NsecEnclosers.{star_found, goes_below, goes_on}
 use Rattle.zone_denial.proofs.denial.enclosed_star.Goals as goal
 
 pub loop-next_closer-preserved : goal.loop-next_closer-preserved

@@ -3,8 +3,11 @@ use Rattle.std.specs.Prelude.{option_and_then, option_copied, option_to_list}
 use Rattle.zone_proto.specs.Types.{NSEC}
 use Rattle.zone_map.specs.Zones.{set_at}
 use Rattle.zone_denial.specs.NsecDenial.{closest_nsec, proved_beside}
-use Rattle.zone_denial.proofs.DenialLists.{closest_denial}
+use Rattle.zone_denial.proofs.Chain.DenialLists.{closest_denial, closest_is_owners}
 use Rattle.zone_denial.proofs.denial.nsec_denial.Goals as goal
+
+pub closest_beside-requires : goal.closest_beside-requires
+closest_beside-requires c = closest_is_owners c.args.records.now c.closest_nsec.ensures.zone c.args.name.now _ c.in_ok-closest.ensures.found
 
 pub returns-clause-sets : goal.returns-clause-sets
 returns-clause-sets c =

@@ -1,5 +1,5 @@
 use Rattle.std.proofs.Common.{sym, ◌∙◌}
-use Rattle.zone_denial.proofs.NsecBelow.{none_owned}
+use Rattle.zone_denial.proofs.Chain.NsecBelow.{none_owned}
 use Rattle.zone_denial.proofs.denial.own_nsec.Goals as goal
 
 pub returns-then-not-owns_denial_at_or_below : goal.returns-then-not-owns_denial_at_or_below

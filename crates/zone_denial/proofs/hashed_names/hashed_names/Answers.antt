@@ -12,7 +12,7 @@ use Rattle.zone_denial.specs.declared.nsec3_names.Nsec3Name.{Nsec3Name}
 use Rattle.zone_denial.specs.HashedNames.{all_hashed}
 use Rattle.zone_denial.specs.Nsec3Nodes.{name_of}
 use Rattle.zone_denial.specs.Nsec3Zones.{hash_with}
-use Rattle.zone_denial.proofs.HashedNames.{HashedSoFar, HashedSoFar-more, none_hashed, sorted_is, names_moved}
+use Rattle.zone_denial.proofs.Hashed.HashedNames.{HashedSoFar, HashedSoFar-more, none_hashed, sorted_is, names_moved}
 use Rattle.zone_denial.proofs.hashed_names.hashed_names.Goals as goal
 
 by_cause : (hash : Name → Option (List ℕ)) (ns : List Nsec3Name) (n : Nsec3Name) (e : ProtoError) → In n ns → (e ≡ Memory) ⊎ ((e ≡ Hash) × (hash (name_of n) ≡ None)) → (e ≡ Memory) ⊎ ((e ≡ Hash) × (all_hashed hash (map name_of ns) ≡ false))

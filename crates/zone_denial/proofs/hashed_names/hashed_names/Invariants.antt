@@ -1,6 +1,6 @@
 use Rattle.std.proofs.Common.{take}
 use Rattle.zone_denial.specs.Nsec3Zones.{hash_with}
-use Rattle.zone_denial.proofs.HashedNames.{HashedSoFar}
+use Rattle.zone_denial.proofs.Hashed.HashedNames.{HashedSoFar}
 use Rattle.zone_denial.proofs.hashed_names.hashed_names.Given as goal
 
 -- the names passed have digests, and these are held

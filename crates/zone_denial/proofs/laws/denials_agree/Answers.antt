@@ -1,4 +1,4 @@
-use Rattle.zone_denial.proofs.NsecLists.{denials_agree}
+use Rattle.zone_denial.proofs.Chain.NsecLists.{denials_agree}
 use Rattle.zone_denial.proofs.laws.denials_agree.Goals as goal
 
 pub returns : goal.returns

@@ -1,4 +1,4 @@
-use Rattle.zone_denial.proofs.NsecAskedStar.{enclosers_agree, proved_star_is_asked}
+use Rattle.zone_denial.proofs.Chain.NsecAskedStar.{enclosers_agree, proved_star_is_asked}
 use Rattle.zone_denial.proofs.laws.enclosers_agree.Goals as goal
 
 pub returns-clause-encloser : goal.returns-clause-encloser

@@ -1,4 +1,4 @@
-use Rattle.zone_denial.proofs.Nsec3AskedStar.{enclosers_agree, proved_star_is_asked}
+use Rattle.zone_denial.proofs.Hashed.Nsec3AskedStar.{enclosers_agree, proved_star_is_asked}
 use Rattle.zone_denial.proofs.laws.nsec3_enclosers_agree.Goals as goal
 
 pub returns-clause-encloser : goal.returns-clause-encloser

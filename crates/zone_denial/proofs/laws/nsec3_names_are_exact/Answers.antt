@@ -1,4 +1,4 @@
-use Rattle.zone_denial.proofs.Nsec3NameLaws.{names_are_exact, names_ascend}
+use Rattle.zone_denial.proofs.Hashed.Nsec3NameLaws.{names_are_exact, names_ascend}
 use Rattle.zone_denial.proofs.laws.nsec3_names_are_exact.Goals as goal
 
 pub returns-clause-ascending : goal.returns-clause-ascending

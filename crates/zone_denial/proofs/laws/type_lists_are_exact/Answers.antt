@@ -1,4 +1,4 @@
-use Rattle.zone_denial.proofs.NsecLists.{list_ascends, list_has, from_list}
+use Rattle.zone_denial.proofs.Chain.NsecLists.{list_ascends, list_has, from_list}
 use Rattle.zone_denial.proofs.laws.type_lists_are_exact.Goals as goal
 
 pub returns-clause-ascending : goal.returns-clause-ascending

@@ -2,7 +2,7 @@ use Rattle.std.proofs.Common.{◌≡◌, ℕ, ◌+◌, [], ◌∷◌, ◌++◌, 
 use Rattle.std.specs.Borrow.{Bor}
 use Rattle.std.proofs.Math.Seq.{take-suc}
 use Rattle.zone_proto.specs.declared.rr_key.RrKey.{RrKey}
-use Rattle.zone_denial.proofs.TypesPassed.{one_more}
+use Rattle.zone_denial.proofs.Sets.TypesPassed.{one_more}
 use Rattle.zone_denial.proofs.listed_types.after_types.Goals as goal
 
 pub loop-key-preserved : goal.loop-key-preserved

@@ -1,5 +1,5 @@
 use Rattle.std.proofs.Common.{◌≡◌, ◌++◌, map, take}
-use Rattle.zone_denial.proofs.TypesPassed.{lent_types}
+use Rattle.zone_denial.proofs.Sets.TypesPassed.{lent_types}
 use Rattle.zone_denial.proofs.listed_types.after_types.Given as goal
 
 -- the types of the keys passed are passed

@@ -2,7 +2,7 @@ use Rattle.std.proofs.Common.{length, map, refl, sym, ap, ◌∙◌}
 use Rattle.zone_proto.specs.declared.record_type.RecordType.{RecordType}
 use Rattle.zone_proto.proofs.Members.{no_items}
 use Rattle.std.specs.Prelude.{List}
-use Rattle.zone_denial.proofs.TypesPassed.{all_passed}
+use Rattle.zone_denial.proofs.Sets.TypesPassed.{all_passed}
 use Rattle.zone_denial.proofs.listed_types.lists_types.Goals as goal
 
 pub returns : goal.returns

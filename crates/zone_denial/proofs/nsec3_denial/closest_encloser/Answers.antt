@@ -3,7 +3,7 @@ use Rattle.std.specs.Prelude.{Err, option_copied}
 use Rattle.zone_proto.specs.declared.error.ProtoError.TheVariants.{Memory}
 use Rattle.zone_denial.specs.Nsec3Denial.{encloser_of}
 use Rattle.zone_denial.specs.Nsec3Lent.{hashed_for}
-use Rattle.zone_denial.proofs.DenialSteps.{goes_on, is_found, is_refused, encloser_matched, refused_as, passed_on, closer_is}
+use Rattle.zone_denial.proofs.Hashed.DenialSteps.{goes_on, is_found, is_refused, encloser_matched, refused_as, passed_on, closer_is}
 use Rattle.zone_denial.proofs.nsec3_denial.closest_encloser.Goals as goal
 
 pub returns-in_err-owner-clause-err : goal.returns-in_err-owner-clause-err

@@ -3,7 +3,7 @@ use Rattle.std.specs.Prelude.{Ok, Some, option_copied, option_to_list}
 use Rattle.std.proofs.lemmas.Result.{IfOk-weaker}
 use Rattle.zone_proto.specs.Names.{base_name}
 use Rattle.zone_denial.specs.Nsec3Lent.{hashed_for, enclosed_sets}
-use Rattle.zone_denial.proofs.DenialSteps.{enclosed_answers, sets_covering, star_found}
+use Rattle.zone_denial.proofs.Hashed.DenialSteps.{enclosed_answers, sets_covering, star_found}
 use Rattle.zone_denial.proofs.nsec3_denial.enclosed.Goals as goal
 
 pub returns-clause-ok : goal.returns-clause-ok

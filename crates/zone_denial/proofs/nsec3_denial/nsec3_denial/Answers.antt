@@ -3,7 +3,7 @@ use Rattle.std.specs.Prelude.{Ok, Some, is_some, option_copied, option_map}
 use Rattle.std.proofs.lemmas.Result.{IfErr-weaker}
 use Rattle.zone_proto.specs.Names.{base_name}
 use Rattle.zone_denial.specs.Nsec3Lent.{hashed_for}
-use Rattle.zone_denial.proofs.DenialSteps.{encloser_denial, after_wildcard, without_own, refused_too}
+use Rattle.zone_denial.proofs.Hashed.DenialSteps.{encloser_denial, after_wildcard, without_own, refused_too}
 use Rattle.zone_denial.proofs.nsec3_denial.nsec3_denial.Goals as goal
 use Rattle.zone_denial.proofs.nsec3_denial.nsec3_denial.Goals.{else-is_some-via-then-is_some+else-not-query, else-is_some-via-else-is_some}
 

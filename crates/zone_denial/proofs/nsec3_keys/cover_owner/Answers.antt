@@ -4,7 +4,7 @@ use Rattle.std.specs.Map.Iter.{TakesLast, deref}
 use Rattle.zone_proto.specs.Names.{Name}
 use Rattle.zone_map.specs.Counts.{one_more}
 use Rattle.zone_denial.specs.Nsec3Denial.{cover_owner}
-use Rattle.zone_denial.proofs.CoverSets.{cover_before, cover_round, cover_counted}
+use Rattle.zone_denial.proofs.Hashed.CoverSets.{cover_before, cover_round, cover_counted}
 use Rattle.zone_denial.proofs.nsec3_keys.cover_owner.Goals as goal
 
 pub returns-in-Some-clause-found : goal.returns-in-Some-clause-found

@@ -5,7 +5,7 @@ use Rattle.std.proofs.lemmas.Result.{IfOk-weaker}
 use Rattle.zone_proto.specs.Types.{NSEC3}
 use Rattle.zone_map.specs.Zones.{set_at}
 use Rattle.zone_denial.specs.Nsec3Denial.{cover_owner}
-use Rattle.zone_denial.proofs.CoverSets.{matched_or_covered, none_matched, set_of_one}
+use Rattle.zone_denial.proofs.Hashed.CoverSets.{matched_or_covered, none_matched, set_of_one}
 use Rattle.zone_denial.proofs.nsec3_keys.matching_or_covering.Goals as goal
 
 pub returns-in-Some-clause-ok : goal.returns-in-Some-clause-ok

@@ -1,7 +1,7 @@
 use Rattle.std.proofs.Common.{[], ◌∷◌, ◌++◌, map, sym, ap, ◌∙◌, append-nil, true≢false, arith}
 use Rattle.std.proofs.lemmas.List.{map-append}
 use Rattle.zone_denial.specs.Nsec3Nodes.{node_of}
-use Rattle.zone_denial.proofs.NewAncestors.{no_new, shorter, one_more_node, empty_nodes}
+use Rattle.zone_denial.proofs.Names.NewAncestors.{no_new, shorter, one_more_node, empty_nodes}
 use Rattle.zone_denial.proofs.nsec3_names.+push_new_ancestors.Goals as goal
 
 pub returns-then-zone_of-clause-ok : goal.returns-then-zone_of-clause-ok

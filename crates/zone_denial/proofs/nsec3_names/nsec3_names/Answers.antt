@@ -4,9 +4,9 @@ use Rattle.std.proofs.lemmas.List.{map-append}
 use Rattle.zone_proto.specs.Types.{RRSIG}
 use Rattle.zone_denial.specs.Nsec3Nodes.{node_of}
 use Rattle.zone_denial.specs.TypeLists.{joined}
-use Rattle.zone_denial.proofs.KeyRuns.{lent_keys, of_count, goes_on, counted_from}
-use Rattle.zone_denial.proofs.Naming.{Naming, Naming-end, names_listed, types_listed}
-use Rattle.zone_denial.proofs.NamingSteps.{are_of_ns, lent_types, origin_listed, passed_over, name_listed}
+use Rattle.zone_denial.proofs.Sets.KeyRuns.{lent_keys, of_count, goes_on, counted_from}
+use Rattle.zone_denial.proofs.Names.Naming.{Naming, Naming-end, names_listed, types_listed}
+use Rattle.zone_denial.proofs.Names.NamingSteps.{are_of_ns, lent_types, origin_listed, passed_over, name_listed}
 use Rattle.zone_denial.proofs.nsec3_names.nsec3_names.Goals as goal
 use Rattle.zone_denial.proofs.nsec3_names.nsec3_names.Goals.{else-opt_out-via-then-opt_out+else-are_of_ns, else-opt_out-via-else-opt_out}
 

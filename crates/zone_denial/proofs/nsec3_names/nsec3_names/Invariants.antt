@@ -1,6 +1,6 @@
 use Rattle.std.proofs.Common.{map, length, drop, ◌-◌}
 use Rattle.zone_denial.specs.Nsec3Nodes.{node_of}
-use Rattle.zone_denial.proofs.Naming.{Naming}
+use Rattle.zone_denial.proofs.Names.Naming.{Naming}
 use Rattle.zone_denial.proofs.nsec3_names.nsec3_names.Given as goal
 
 -- the names of the keys passed are listed

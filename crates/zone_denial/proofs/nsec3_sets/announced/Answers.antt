@@ -9,7 +9,7 @@ use Rattle.zone_proto.specs.Names.{Name, lower}
 use Rattle.zone_proto.specs.Types.{NSEC3PARAM}
 use Rattle.zone_map.specs.Zones.{IsStoredAt, set_at}
 use Rattle.zone_denial.specs.Nsec3Sets.{announced_set}
-use Rattle.zone_denial.proofs.TakenRecords.{set_taking}
+use Rattle.zone_denial.proofs.Sets.TakenRecords.{set_taking}
 use Rattle.zone_denial.proofs.nsec3_sets.announced.Goals as goal
 
 pub entry_with-requires : goal.entry_with-requires

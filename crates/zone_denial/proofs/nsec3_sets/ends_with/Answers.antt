@@ -1,8 +1,8 @@
 use Rattle.std.proofs.Common.{◌++◌, ◌∷◌, [], sym, ap, ◌∙◌}
 use Rattle.zone_proto.specs.declared.rr_key.RrKey.{RrKey}
 use Rattle.zone_proto.specs.Sets.{RRset}
-use Rattle.zone_proto.proofs.KeyOrder.{key_same}
-use Rattle.zone_denial.proofs.CirclesMade.{ends_is}
+use Rattle.zone_proto.proofs.Ordering.KeyOrder.{key_same}
+use Rattle.zone_denial.proofs.Sets.CirclesMade.{ends_is}
 use Rattle.zone_denial.proofs.nsec3_sets.ends_with.Goals as goal
 
 pub returns-in-Some : goal.returns-in-Some

@@ -2,7 +2,7 @@ use Rattle.std.proofs.Common.{◌≡◌, ℕ, List, ◌∷◌, ap, ◌∙◌}
 use Rattle.std.proofs.lemmas.Result.{IfOk-weaker}
 use Rattle.zone_proto.specs.Base32.{base32_text}
 use Rattle.zone_proto.specs.Names.{lower_label}
-use Rattle.zone_proto.proofs.Base32Facts.{lower_text}
+use Rattle.zone_proto.proofs.Ordering.Base32Facts.{lower_text}
 use Rattle.zone_denial.proofs.nsec3_sets.hashed_owner.Goals as goal
 
 pub returns-clause-ok : goal.returns-clause-ok

@@ -6,8 +6,8 @@ use Rattle.zone_denial.specs.Covering.{next_around}
 use Rattle.zone_denial.specs.HashedNames.{hashed}
 use Rattle.zone_denial.specs.Nsec3Sets.{hashed_cmp}
 use Rattle.zone_denial.proofs.Ascending.{Ascends-from_sorted}
-use Rattle.zone_denial.proofs.HashedNames.{hashed_order}
-use Rattle.zone_denial.proofs.NextAround.{next_at, first_at}
+use Rattle.zone_denial.proofs.Hashed.HashedNames.{hashed_order}
+use Rattle.zone_denial.proofs.Hashed.NextAround.{next_at, first_at}
 use Rattle.zone_denial.proofs.nsec3_sets.next_name.Goals as goal
 use Rattle.zone_denial.proofs.nsec3_sets.next_name.Goals.{then-i-held, else-i-held}
 

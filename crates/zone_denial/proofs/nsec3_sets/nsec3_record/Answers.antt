@@ -2,7 +2,7 @@ use Rattle.std.proofs.Common.{ap, ◌∙◌}
 use Rattle.zone_proto.specs.declared.rdata.RData.TheVariants as V
 use Rattle.zone_proto.specs.HashedOwners.{hashed_owner}
 use Rattle.zone_proto.specs.Types.{IN}
-use Rattle.zone_denial.proofs.TypesJoined.{of_numbers}
+use Rattle.zone_denial.proofs.Sets.TypesJoined.{of_numbers}
 use Rattle.zone_denial.proofs.nsec3_sets.nsec3_record.Goals as goal
 
 pub returns-clause-ok : goal.returns-clause-ok

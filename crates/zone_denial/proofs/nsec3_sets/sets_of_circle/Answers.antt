@@ -1,6 +1,6 @@
 use Rattle.std.proofs.Common.{refl, ap, sym, ◌∙◌, cond}
 use Rattle.std.specs.Prelude.{Some, None}
-use Rattle.zone_proto.proofs.NameTree.{name_eq-Decides}
+use Rattle.zone_proto.proofs.Names.NameTree.{name_eq-Decides}
 use Rattle.zone_denial.specs.Nsec3Sets.{announced_set}
 use Rattle.zone_denial.proofs.nsec3_sets.sets_of_circle.Goals as goal
 

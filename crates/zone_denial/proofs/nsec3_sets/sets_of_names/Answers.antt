@@ -7,7 +7,7 @@ use Rattle.zone_denial.specs.declared.hashed_names.HashedName.{HashedName as Hel
 use Rattle.zone_denial.specs.HashedNames.{hashed}
 use Rattle.zone_denial.specs.Nsec3Sets.{hashed_cmp}
 use Rattle.zone_denial.specs.Nsec3Zones.{hash_with}
-use Rattle.zone_denial.proofs.CirclesOfZones.{names_rise, held_rise, made_same, stood_same, one_same}
+use Rattle.zone_denial.proofs.Sets.CirclesOfZones.{names_rise, held_rise, made_same, stood_same, one_same}
 use Rattle.zone_denial.proofs.nsec3_sets.sets_of_names.Goals as goal
 
 pub hashed_names-requires : goal.hashed_names-requires

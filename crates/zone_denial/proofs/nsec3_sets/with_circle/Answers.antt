@@ -15,7 +15,7 @@ use Rattle.zone_proto.proofs.Members.{In, Contains-In}
 use Rattle.zone_map.specs.Zones.{Sets}
 use Rattle.zone_denial.specs.declared.hashed_names.HashedName.{HashedName as HeldName}
 use Rattle.zone_denial.specs.HashedNames.{hashed, all_fit, circle_set_at}
-use Rattle.zone_denial.proofs.CirclesMade.{CircleSoFar, CircleSoFar-none, CircleSoFar-more, CircleSoFar-behind, beside, read_fits, found_among, linked_on, may_take, none_fits}
+use Rattle.zone_denial.proofs.Sets.CirclesMade.{CircleSoFar, CircleSoFar-none, CircleSoFar-more, CircleSoFar-behind, beside, read_fits, found_among, linked_on, may_take, none_fits}
 use Rattle.zone_denial.proofs.nsec3_sets.with_circle.Goals as goal
 
 by_cause : (origin : Name) (hs : List HeldName) (h : HeldName) (e : ProtoError) → In h hs → (e ≡ Memory) ⊎ (fault_of (hashed_owner origin h.digest) ≡ Some e) → (e ≡ Memory) ⊎ (all_fit origin (map hashed hs) ≡ false)

@@ -1,5 +1,5 @@
 use Rattle.std.proofs.Common.{Some, take}
-use Rattle.zone_denial.proofs.CirclesMade.{CircleSoFar}
+use Rattle.zone_denial.proofs.Sets.CirclesMade.{CircleSoFar}
 use Rattle.zone_denial.proofs.nsec3_sets.with_circle.Given as goal
 
 -- the entries hold the sets of the names passed, whose owners are names

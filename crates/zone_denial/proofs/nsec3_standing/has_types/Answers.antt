@@ -1,4 +1,4 @@
-use Rattle.zone_denial.proofs.StandingCircles.{types_same}
+use Rattle.zone_denial.proofs.Sets.StandingCircles.{types_same}
 use Rattle.zone_denial.proofs.nsec3_standing.has_types.Goals as goal
 
 pub returns : goal.returns

@@ -1,5 +1,5 @@
 use Rattle.std.proofs.Common.{rules}
-use Rattle.zone_denial.proofs.StandingCircles.{nsec3_data_is}
+use Rattle.zone_denial.proofs.Sets.StandingCircles.{nsec3_data_is}
 use Rattle.zone_denial.proofs.nsec3_standing.is_nsec3_data.Goals as goal
 
 pub returns : goal.returns

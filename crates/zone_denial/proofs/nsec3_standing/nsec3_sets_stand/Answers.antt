@@ -18,7 +18,7 @@ use Rattle.zone_denial.specs.Nsec3Circle.{nsec3_data}
 use Rattle.zone_denial.specs.Nsec3Nodes.{types_of}
 use Rattle.zone_denial.specs.Nsec3Sets.{HashedName, hashed_cmp}
 use Rattle.zone_denial.specs.OneRecordSets.{one_record_set}
-use Rattle.zone_denial.proofs.StandingCircles.{CircleStands, CircleStands-start, CircleStands-other, CircleStands-more, CircleStands-fit, CircleStands-end}
+use Rattle.zone_denial.proofs.Sets.StandingCircles.{CircleStands, CircleStands-start, CircleStands-other, CircleStands-more, CircleStands-fit, CircleStands-end}
 use Rattle.zone_denial.proofs.nsec3_standing.nsec3_sets_stand.Goals as goal
 
 pub loop-key-init : goal.loop-key-init

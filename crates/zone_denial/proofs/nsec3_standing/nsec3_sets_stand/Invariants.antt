@@ -1,6 +1,6 @@
 use Rattle.std.proofs.Common.{◌≤◌, length}
 use Rattle.zone_map.specs.Zones.{AreStored, IsZone}
-use Rattle.zone_denial.proofs.StandingCircles.{CircleStands}
+use Rattle.zone_denial.proofs.Sets.StandingCircles.{CircleStands}
 use Rattle.zone_denial.proofs.nsec3_standing.nsec3_sets_stand.Given as goal
 
 -- the sets passed are those of the names passed

@@ -11,8 +11,8 @@ use Rattle.zone_denial.specs.NsecLinks.{first_name}
 use Rattle.zone_denial.specs.NsecSets.{nsec_data, new_set}
 use Rattle.zone_denial.specs.TypeLists.{joined}
 use Rattle.zone_denial.proofs.Ascending.{Ascends-from_sorted}
-use Rattle.zone_denial.proofs.Linking.{Linking, Linking-start, Linking-end}
-use Rattle.zone_denial.proofs.KeyRuns.{lent_keys, to_end, of_count, goes_on, Linking-step, counted_from}
+use Rattle.zone_denial.proofs.Sets.Linking.{Linking, Linking-start, Linking-end}
+use Rattle.zone_denial.proofs.Sets.KeyRuns.{lent_keys, to_end, of_count, goes_on, Linking-step, counted_from}
 use Rattle.zone_denial.proofs.nsec_sets.nsec_entries.Goals as goal
 
 pub loop-start-init : goal.loop-start-init

@@ -1,5 +1,5 @@
 use Rattle.std.proofs.Common.{map, length, drop, ◌-◌}
-use Rattle.zone_denial.proofs.Linking.{Linking}
+use Rattle.zone_denial.proofs.Sets.Linking.{Linking}
 use Rattle.zone_denial.proofs.nsec_sets.nsec_entries.Given as goal
 
 -- the sets of the names passed are made

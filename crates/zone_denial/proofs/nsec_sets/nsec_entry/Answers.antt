@@ -8,7 +8,7 @@ use Rattle.zone_proto.specs.Sets.{RRset, inserted, empty_set}
 use Rattle.zone_proto.specs.Types.{NSEC, IN}
 use Rattle.zone_map.proofs.Upserting.{same_from_lower}
 use Rattle.zone_denial.specs.NsecSets.{nsec_data}
-use Rattle.zone_denial.proofs.TypesJoined.{numbers, of_numbers}
+use Rattle.zone_denial.proofs.Sets.TypesJoined.{numbers, of_numbers}
 use Rattle.zone_denial.proofs.nsec_sets.nsec_entry.Goals as goal
 
 pub insert-requires-clause-owner : goal.insert-requires-clause-owner

@@ -6,9 +6,9 @@ use Rattle.zone_proto.specs.Keys.{key_cmp}
 use Rattle.zone_proto.specs.Types.{NSEC}
 use Rattle.zone_denial.specs.AuthoritativeKeys.{is_circle_key}
 use Rattle.zone_denial.specs.StandingSets.{standing_sets}
-use Rattle.zone_denial.proofs.CircleSets.{AreStored-linked, last_at-linked}
-use Rattle.zone_denial.proofs.KeyRuns.{lent_keys}
-use Rattle.zone_denial.proofs.StandingSets.{last_at-standing}
+use Rattle.zone_denial.proofs.Sets.CircleSets.{AreStored-linked, last_at-linked}
+use Rattle.zone_denial.proofs.Sets.KeyRuns.{lent_keys}
+use Rattle.zone_denial.proofs.Sets.StandingSets.{last_at-standing}
 use Rattle.zone_denial.proofs.nsec_sets.nsec_sets.Goals as goal
 
 pub nsec_sets_stand-requires : goal.nsec_sets_stand-requires

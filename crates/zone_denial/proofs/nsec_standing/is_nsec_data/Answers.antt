@@ -1,6 +1,6 @@
 use Rattle.std.proofs.Common.{ap, sym, ◌∙◌, rules}
-use Rattle.zone_denial.proofs.StandingSets.{nsec_data_is}
-use Rattle.zone_denial.proofs.TypesJoined.{numbers}
+use Rattle.zone_denial.proofs.Sets.StandingSets.{nsec_data_is}
+use Rattle.zone_denial.proofs.Sets.TypesJoined.{numbers}
 use Rattle.zone_denial.proofs.nsec_standing.is_nsec_data.Goals as goal
 
 pub returns-then-is_exactly : goal.returns-then-is_exactly

@@ -13,8 +13,8 @@ use Rattle.zone_denial.specs.NsecLinks.{first_name}
 use Rattle.zone_denial.specs.NsecSets.{nsec_data, new_set}
 use Rattle.zone_denial.specs.TypeLists.{joined}
 use Rattle.zone_denial.proofs.Ascending.{Ascends-from_sorted}
-use Rattle.zone_denial.proofs.KeyRuns.{lent_keys, to_end, of_count, Linking-step, counted_from}
-use Rattle.zone_denial.proofs.StandingSets.{under_own_key, StandSoFar-start, StandSoFar-other, StandSoFar-more, StandSoFar-end}
+use Rattle.zone_denial.proofs.Sets.KeyRuns.{lent_keys, to_end, of_count, Linking-step, counted_from}
+use Rattle.zone_denial.proofs.Sets.StandingSets.{under_own_key, StandSoFar-start, StandSoFar-other, StandSoFar-more, StandSoFar-end}
 use Rattle.zone_denial.proofs.nsec_standing.nsec_sets_stand.Goals as goal
 
 pub loop-key-init : goal.loop-key-init

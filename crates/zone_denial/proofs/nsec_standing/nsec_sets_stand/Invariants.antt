@@ -1,7 +1,7 @@
 use Rattle.std.proofs.Common.{◌≤◌, length, drop}
 use Rattle.zone_map.specs.Zones.{AreStored}
-use Rattle.zone_denial.proofs.KeyRuns.{lent_keys}
-use Rattle.zone_denial.proofs.StandingSets.{StandSoFar}
+use Rattle.zone_denial.proofs.Sets.KeyRuns.{lent_keys}
+use Rattle.zone_denial.proofs.Sets.StandingSets.{StandSoFar}
 use Rattle.zone_denial.proofs.nsec_standing.nsec_sets_stand.Given as goal
 
 -- the sets passed are those of the names passed

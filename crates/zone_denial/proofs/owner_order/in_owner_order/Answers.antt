@@ -1,7 +1,7 @@
 use Rattle.std.proofs.Common.{ap, ◌∙◌}
 use Rattle.std.specs.Prelude.{option_copied}
 use Rattle.zone_denial.specs.Nsec3Lent.{joined_any}
-use Rattle.zone_denial.proofs.SetsJoined.{joined_all, lent}
+use Rattle.zone_denial.proofs.Sets.SetsJoined.{joined_all, lent}
 use Rattle.zone_denial.proofs.owner_order.in_owner_order.Goals as goal
 
 pub returns-clause-ok : goal.returns-clause-ok

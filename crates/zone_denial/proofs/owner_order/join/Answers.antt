@@ -1,7 +1,7 @@
 use Rattle.std.proofs.Common.{sym, ap, ◌∙◌}
 use Rattle.std.specs.Ordering.{is_eq}
 use Rattle.zone_proto.specs.Names.{caseless_cmp}
-use Rattle.zone_denial.proofs.SetsJoined.{place_of, kept_by, put_by, put_past}
+use Rattle.zone_denial.proofs.Sets.SetsJoined.{place_of, kept_by, put_by, put_past}
 use Rattle.zone_denial.proofs.owner_order.join.Goals as goal
 use Rattle.zone_denial.proofs.owner_order.join.Goals.{else-place-len-via-then-place-len+else-eq, else-place-len-via-else-place-len}
 

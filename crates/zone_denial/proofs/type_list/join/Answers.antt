@@ -1,5 +1,5 @@
 use Rattle.std.proofs.Common.{sym, ap, ◌∙◌}
-use Rattle.zone_denial.proofs.TypesJoined.{place_of, kept_by, put_by, put_past}
+use Rattle.zone_denial.proofs.Sets.TypesJoined.{place_of, kept_by, put_by, put_past}
 use Rattle.zone_denial.proofs.type_list.join.Goals as goal
 use Rattle.zone_denial.proofs.type_list.join.Goals.{else-place-len-via-then-place-len+else-eq, else-place-len-via-else-place-len}
 

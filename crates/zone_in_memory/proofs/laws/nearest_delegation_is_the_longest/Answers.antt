@@ -1,4 +1,4 @@
-use Rattle.zone_map.specs.Search.{is_delegated_for}
+use Rattle.zone_map.specs.Direct.{is_delegated_for}
 use Rattle.zone_map.proofs.Delegations.{found_above, found_longest, none_found}
 use Rattle.zone_in_memory.proofs.laws.nearest_delegation_is_the_longest.Goals as goal
 

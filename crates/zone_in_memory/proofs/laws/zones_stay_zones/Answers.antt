@@ -13,4 +13,4 @@ pub returns-clause-without : goal.returns-clause-without
 returns-clause-without c = λ m n t zone. IsZone-without m (key n t) zone
 
 pub returns-clause-insertion : goal.returns-clause-insertion
-returns-clause-insertion c = λ m after class r serial zone e. IsZone-upserted m class r serial after zone e
+returns-clause-insertion c = λ m after class r serial zone named e. IsZone-upserted m class r serial after zone named e

@@ -7,7 +7,7 @@ use Rattle.std.proofs.lemmas.Cmp.{ranked}
 use Rattle.zone_proto.specs.declared.rr_key.RrKey.{RrKey}
 use Rattle.zone_proto.specs.Names.{name_cmp}
 use Rattle.zone_proto.specs.Types.{NS, SOA}
-use Rattle.zone_map.specs.Search.{types_for}
+use Rattle.zone_map.specs.Direct.{types_for}
 use Rattle.zone_map.proofs.AnyTypes.{Ascends}
 use Rattle.zone_map.proofs.AtName.{first_set, first_over, first_passed, rest_ascends, later_differs, none_noted, none_left, whole_type, whole_exact, whole_ascends, type_listed}
 use Rattle.zone_map.proofs.FirstKeys.{front_key, whole_first, first_known, first_stays}

@@ -3,7 +3,7 @@ use Rattle.std.specs.Prelude.{option_copied}
 use Rattle.std.specs.List.{list_any}
 use Rattle.std.specs.Option.{option_or}
 use Rattle.zone_proto.specs.Types.{NS, SOA}
-use Rattle.zone_map.specs.Search.{types_for}
+use Rattle.zone_map.specs.Direct.{types_for}
 use Rattle.zone_map.proofs.AnyTypes.{Ascends}
 use Rattle.zone_map.proofs.AtName.{first_set}
 use Rattle.zone_map.proofs.FirstKeys.{front_key}

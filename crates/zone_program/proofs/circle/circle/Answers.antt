@@ -1,7 +1,7 @@
 use Rattle.std.proofs.Common.{ℕ, List, [], OnOk, string_bytes, codes, cond, is_ok, ◌++◌, inl, inr, refl, sym, ap, ◌∙◌, subst}
 use Rattle.zone_proto.specs.Text.{name_text}
 use Rattle.zone_map.specs.DenialOwners.{denial_owners}
-use Rattle.zone_search.specs.Inner.{Inner}
+use Rattle.zone_inner.specs.Inner.{Inner}
 use Rattle.zone_program.specs.DemoSigners.{Demo}
 use Rattle.zone_program.specs.Replies.{failed, listed, memory, list_text}
 use Rattle.zone_program.specs.Steps.{IsCircled, Adds, circle_owners, denial_type}

@@ -1,7 +1,7 @@
 use Rattle.std.proofs.Common.{◌≡◌, ◌++◌, Result, OnErr, codes, decimal, sym, refl, ap, subst}
 use Rattle.zone_handler.specs.declared.secure_error.SecureError.{SecureError}
-use Rattle.zone_search.specs.StartOfAuthority.{serial}
-use Rattle.zone_program.specs.declared.answers.Served.{Served}
+use Rattle.zone_inner.specs.StartOfAuthority.{serial}
+use Rattle.zone_program.specs.declared.session.Served.{Served}
 use Rattle.zone_program.specs.Replies.{Reply, secured, refused, secure_word}
 use Rattle.zone_program.specs.Steps.{IsSecuredAt, TellsSecured, with_zone}
 use Rattle.zone_program.proofs.Pushing.{written}

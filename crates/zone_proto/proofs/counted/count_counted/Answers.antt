@@ -1,6 +1,6 @@
 use Rattle.std.proofs.Common.{arith, ap, length}
 use Rattle.zone_proto.specs.Counting.{counted_name}
-use Rattle.zone_proto.proofs.Countings.{two_a_label}
+use Rattle.zone_proto.proofs.Names.Countings.{two_a_label}
 use Rattle.zone_proto.proofs.counted.count_counted.Goals as goal
 
 pub overflow_add-count : goal.overflow_add-count

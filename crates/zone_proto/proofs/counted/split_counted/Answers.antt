@@ -1,6 +1,6 @@
 use Rattle.std.proofs.Common.{◌≡◌, ◌∷◌, take, drop, subst, sym, ap, ◌∙◌}
 use Rattle.zone_proto.specs.Counting.{counted_name, IsCounting}
-use Rattle.zone_proto.proofs.Countings.{IsSplit, split}
+use Rattle.zone_proto.proofs.Names.Countings.{IsSplit, split}
 use Rattle.zone_proto.proofs.counted.split_counted.Goals as goal
 
 pub returns-clause-gives : goal.returns-clause-gives

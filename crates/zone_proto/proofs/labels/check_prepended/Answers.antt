@@ -1,5 +1,5 @@
 use Rattle.std.proofs.Common.{◌<◌, length, arith, sym, ◌∙◌}
-use Rattle.zone_proto.proofs.LabelFaults.{no_fault, name_long_fault, some_octets}
+use Rattle.zone_proto.proofs.Names.LabelFaults.{no_fault, name_long_fault, some_octets}
 use Rattle.zone_proto.proofs.labels.check_prepended.Goals as goal
 
 pub returns-then-label-wire_length-gt-LONGEST_NAME-clause-fault : goal.returns-then-label-wire_length-gt-LONGEST_NAME-clause-fault

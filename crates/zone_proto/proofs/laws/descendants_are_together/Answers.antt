@@ -1,4 +1,4 @@
-use Rattle.zone_proto.proofs.NameTree.{between_descendants}
+use Rattle.zone_proto.proofs.Names.NameTree.{between_descendants}
 use Rattle.zone_proto.proofs.laws.descendants_are_together.Goals as goal
 
 pub returns : goal.returns

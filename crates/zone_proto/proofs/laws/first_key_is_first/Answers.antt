@@ -5,8 +5,8 @@ use Rattle.std.proofs.lemmas.Cmp.{tied_itself}
 use Rattle.zone_proto.specs.Keys.{key, first_key, key_cmp}
 use Rattle.zone_proto.specs.Names.{Name, name_cmp, IsAbove}
 use Rattle.zone_proto.specs.Order.{is_before}
-use Rattle.zone_proto.proofs.NameTree.{above_is_less}
-use Rattle.zone_proto.proofs.Tree.{name_order, above_cases}
+use Rattle.zone_proto.proofs.Names.NameTree.{above_is_less}
+use Rattle.zone_proto.proofs.Names.Tree.{name_order, above_cases}
 use Rattle.zone_proto.proofs.laws.first_key_is_first.Goals as goal
 
 zero_first : (t : ℕ) → is_lt (nat_cmp t 0) ≡ false

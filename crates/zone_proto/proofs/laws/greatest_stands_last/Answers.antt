@@ -1,7 +1,7 @@
 use Rattle.std.specs.Ordering.{nat_cmp}
 use Rattle.zone_proto.specs.Names.{name_cmp}
-use Rattle.zone_proto.proofs.Orders.{greatest_law, greatest_there, number_order}
-use Rattle.zone_proto.proofs.Tree.{name_order}
+use Rattle.zone_proto.proofs.Ordering.Orders.{greatest_law, greatest_there, number_order}
+use Rattle.zone_proto.proofs.Names.Tree.{name_order}
 use Rattle.zone_proto.proofs.laws.greatest_stands_last.Goals as goal
 
 pub returns : goal.returns

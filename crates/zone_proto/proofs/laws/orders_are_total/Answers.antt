@@ -1,5 +1,5 @@
 use Rattle.zone_proto.specs.NameLaws.{name_cmp_total, caseless_cmp_total}
-use Rattle.zone_proto.proofs.KeyLaws.{key_cmp_total}
+use Rattle.zone_proto.proofs.Ordering.KeyLaws.{key_cmp_total}
 use Rattle.zone_proto.proofs.laws.orders_are_total.Goals as goal
 
 pub returns-clause-lower_names : goal.returns-clause-lower_names

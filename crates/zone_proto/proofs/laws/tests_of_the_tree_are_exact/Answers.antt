@@ -1,4 +1,4 @@
-use Rattle.zone_proto.proofs.NameTree.{at_or_above_test, above_test}
+use Rattle.zone_proto.proofs.Names.NameTree.{at_or_above_test, above_test}
 use Rattle.zone_proto.proofs.laws.tests_of_the_tree_are_exact.Goals as goal
 
 pub returns : goal.returns

@@ -1,7 +1,7 @@
 use Rattle.std.proofs.Common.{map, ap, sym, ◌<◌, length, ◌∙◌, rules}
 use Rattle.std.specs.Vec.{with_items}
 use Rattle.std.specs.Char.{to_ascii_lowercase}
-use Rattle.zone_proto.proofs.Lower.{label_written, lowered}
+use Rattle.zone_proto.proofs.Names.Lower.{label_written, lowered}
 use Rattle.zone_proto.proofs.letter_case.lower_all.Goals as goal
 
 pub loop-i-preserved : goal.loop-i-preserved

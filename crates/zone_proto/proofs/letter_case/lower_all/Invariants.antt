@@ -2,7 +2,7 @@ use Rattle.std.proofs.Common.{◌≡◌, map}
 use Rattle.std.specs.Char.{to_ascii_lowercase}
 use Rattle.zone_proto.specs.Names.{lower}
 use Rattle.zone_proto.specs.Vectors.{octets_of}
-use Rattle.zone_proto.proofs.Lower.{written}
+use Rattle.zone_proto.proofs.Names.Lower.{written}
 use Rattle.zone_proto.proofs.letter_case.lower_all.Given as goal
 
 abbrev pub invariant-loop-i : goal.invariant-loop-i

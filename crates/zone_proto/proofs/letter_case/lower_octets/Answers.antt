@@ -1,6 +1,6 @@
 use Rattle.std.proofs.Common.{◌+◌, arith, ◌∙◌, ap, set}
 use Rattle.std.specs.Char.{to_ascii_lowercase}
-use Rattle.zone_proto.proofs.Lower.{written, written_more}
+use Rattle.zone_proto.proofs.Names.Lower.{written, written_more}
 use Rattle.zone_proto.proofs.letter_case.lower_octets.Goals as goal
 
 pub loop-octet-preserved : goal.loop-octet-preserved

@@ -1,6 +1,6 @@
 use Rattle.std.proofs.Common.{◌≡◌, map}
 use Rattle.std.specs.Char.{to_ascii_lowercase}
-use Rattle.zone_proto.proofs.Lower.{written}
+use Rattle.zone_proto.proofs.Names.Lower.{written}
 use Rattle.zone_proto.proofs.letter_case.lower_octets.Given as goal
 
 abbrev pub invariant-loop-octet : goal.invariant-loop-octet

@@ -1,7 +1,7 @@
 use Rattle.std.proofs.Common.{◌≡◌, length, sym, ap, ◌∙◌, arith}
 use Rattle.std.specs.Ordering.{ordering_then}
 use Rattle.zone_proto.specs.Names.{caseless_cmp}
-use Rattle.zone_proto.proofs.FromLeft.{caseless_step}
+use Rattle.zone_proto.proofs.Ordering.FromLeft.{caseless_step}
 use Rattle.zone_proto.proofs.name_order.compare_alike.Goals as goal
 
 pub loop-label-preserved-in-Some-next : goal.loop-label-preserved-in-Some-next

@@ -1,6 +1,6 @@
 use Rattle.std.proofs.Common.{◌<◌, arith, sym, ◌∙◌, length}
 use Rattle.std.specs.Char.{to_ascii_lowercase}
-use Rattle.zone_proto.proofs.FromFront.{front_end}
+use Rattle.zone_proto.proofs.Ordering.FromFront.{front_end}
 use Rattle.zone_proto.proofs.name_order.compare_label.Goals as goal
 use Rattle.zone_proto.proofs.name_order.compare_label.Goals.{then-loop-i-test+else-i-b, else-loop-i-test}
 

@@ -1,7 +1,7 @@
 use Rattle.std.proofs.Common.{◌≡◌, ◌-◌, length, drop, min, ◌∙◌, arith}
 use Rattle.std.specs.Ordering.{ordering_then, nat_cmp}
 use Rattle.zone_proto.specs.Names.{caseless_cmp}
-use Rattle.zone_proto.proofs.FromLeft.{caseless_split}
+use Rattle.zone_proto.proofs.Ordering.FromLeft.{caseless_split}
 use Rattle.zone_proto.proofs.name_order.compare_labels.Goals as goal
 
 pub returns : goal.returns

@@ -1,7 +1,7 @@
 use Rattle.std.proofs.Common.{ap, ◌∙◌, ◌-◌, drop}
 use Rattle.std.specs.Ordering.{is_eq}
 use Rattle.zone_proto.specs.Names.{caseless_cmp}
-use Rattle.zone_proto.proofs.NameTree.{caseless_suffix_test}
+use Rattle.zone_proto.proofs.Names.NameTree.{caseless_suffix_test}
 use Rattle.zone_proto.proofs.name_order.labels_are_above.Goals as goal
 
 pub returns : goal.returns

@@ -1,4 +1,4 @@
-use Rattle.zone_proto.proofs.FromLeft.{skip_step}
+use Rattle.zone_proto.proofs.Ordering.FromLeft.{skip_step}
 use Rattle.zone_proto.proofs.name_order.skip.Goals as goal
 
 pub loop-i-preserved : goal.loop-i-preserved

@@ -1,6 +1,6 @@
 use Rattle.std.proofs.Common.{◌∙◌}
 use Rattle.std.specs.Ordering.{nat_cmp}
-use Rattle.zone_proto.proofs.OctetOrder.{eight_sort}
+use Rattle.zone_proto.proofs.Ordering.OctetOrder.{eight_sort}
 use Rattle.zone_proto.proofs.octet_order.compare_eight.Goals as goal
 
 pub returns : goal.returns

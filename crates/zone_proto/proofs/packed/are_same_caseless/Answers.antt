@@ -1,6 +1,6 @@
 use Rattle.std.proofs.Common.{◌∙◌, ap}
 use Rattle.std.specs.Ordering.{is_eq}
-use Rattle.zone_proto.proofs.Packings.{equal_lowered}
+use Rattle.zone_proto.proofs.Names.Packings.{equal_lowered}
 use Rattle.zone_proto.proofs.packed.are_same_caseless.Goals as goal
 
 pub returns-then-is_eq : goal.returns-then-is_eq

@@ -1,6 +1,6 @@
 use Rattle.std.proofs.Common.{arith, ap}
 use Rattle.std.proofs.lemmas.List.{drop_all}
-use Rattle.zone_proto.proofs.Packings.{ends, count_of}
+use Rattle.zone_proto.proofs.Names.Packings.{ends, count_of}
 use Rattle.zone_proto.proofs.packed.count_labels.Goals as goal
 
 pub returns-clause-count : goal.returns-clause-count

@@ -1,5 +1,5 @@
 use Rattle.std.proofs.Common.{◌≡◌, ◌≤◌, ◌+◌, drop}
-use Rattle.zone_proto.proofs.Packings.{ends}
+use Rattle.zone_proto.proofs.Names.Packings.{ends}
 use Rattle.zone_proto.proofs.packed.count_labels.Given as goal
 
 abbrev pub invariant-loop-octet : goal.invariant-loop-octet

@@ -1,6 +1,6 @@
 use Rattle.std.proofs.Common.{arith}
 use Rattle.zone_proto.specs.Packing.{name_of}
-use Rattle.zone_proto.proofs.FirstLabels.{step_back}
+use Rattle.zone_proto.proofs.Names.FirstLabels.{step_back}
 use Rattle.zone_proto.proofs.packed.first_label_at.Goals as goal
 
 pub loop-start-preserved : goal.loop-start-preserved

@@ -1,6 +1,6 @@
 use Rattle.std.proofs.Common.{◌≤◌, ◌-◌, length}
 use Rattle.zone_proto.specs.Packing.{name_of}
-use Rattle.zone_proto.proofs.FirstLabels.{before_first}
+use Rattle.zone_proto.proofs.Names.FirstLabels.{before_first}
 use Rattle.zone_proto.proofs.packed.first_label_at.Given as goal
 
 abbrev pub invariant-loop-start : goal.invariant-loop-start

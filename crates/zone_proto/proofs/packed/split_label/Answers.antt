@@ -1,6 +1,6 @@
 use Rattle.std.proofs.Common.{◌≡◌, sym, take, subst, [], rules}
 use Rattle.zone_proto.specs.Packing.{name_of, IsPacking}
-use Rattle.zone_proto.proofs.FirstLabels.{base_is_packing, split_gives}
+use Rattle.zone_proto.proofs.Names.FirstLabels.{base_is_packing, split_gives}
 use Rattle.zone_proto.proofs.packed.split_label.Goals as goal
 
 pub returns-clause-gives : goal.returns-clause-gives

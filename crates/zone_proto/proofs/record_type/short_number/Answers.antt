@@ -1,7 +1,7 @@
 use Rattle.std.proofs.Common.{◌≡◌, ◌∙◌, true, sym}
 use Rattle.std.specs.Char.{is_ascii_digit}
 use Rattle.std.specs.List.{list_all}
-use Rattle.zone_proto.proofs.TypeTextLaws.{short_from_parse}
+use Rattle.zone_proto.proofs.Texts.TypeTextLaws.{short_from_parse}
 use Rattle.zone_proto.proofs.record_type.short_number.Goals as goal
 
 pub returns-then-is_digits : goal.returns-then-is_digits

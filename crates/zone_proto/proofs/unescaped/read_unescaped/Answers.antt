@@ -3,7 +3,7 @@ use Rattle.std.proofs.lemmas.List.{nil_from_length}
 use Rattle.zone_proto.specs.Names.{IsName}
 use Rattle.zone_proto.specs.Packing.{name_of, IsPacking}
 use Rattle.zone_proto.specs.TextForm.{IsNameText}
-use Rattle.zone_proto.proofs.UnescapedTexts.{IsReadUpTo, label_read, all_read, ends_with_dot}
+use Rattle.zone_proto.proofs.Texts.UnescapedTexts.{IsReadUpTo, label_read, all_read, ends_with_dot}
 use Rattle.zone_proto.proofs.unescaped.read_unescaped.Goals as goal
 
 pub of_octets-requires : goal.of_octets-requires

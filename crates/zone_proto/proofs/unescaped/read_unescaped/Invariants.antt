@@ -1,5 +1,5 @@
 use Rattle.std.proofs.Common.{length}
-use Rattle.zone_proto.proofs.UnescapedTexts.{IsReadUpTo}
+use Rattle.zone_proto.proofs.Texts.UnescapedTexts.{IsReadUpTo}
 use Rattle.zone_proto.proofs.unescaped.read_unescaped.Given as goal
 
 abbrev pub invariant-loop-front : goal.invariant-loop-front

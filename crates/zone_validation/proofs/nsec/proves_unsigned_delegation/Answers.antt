@@ -6,5 +6,5 @@ use Rattle.zone_validation.proofs.nsec.proves_unsigned_delegation.Goals as goal
 
 pub returns : goal.returns
 returns c =
-    any_from_yields_List (λ r. shows_unsigned_delegation r c.args.name.now) _ _ _ c.any.ensures.ran
+    any_from_yields_List (λ r. shows_unsigned_delegation c.args.apex.now r c.args.name.now) _ _ _ c.any.ensures.ran
     (YieldsList-from_first (λ x. x) (λ s. s) _ c.among.ensures) (λ x b q k. search (rules, tests))

@@ -1,6 +1,7 @@
-use Rattle.std.proofs.Common.{None, map, ◌∙◌}
+use Rattle.std.proofs.Common.{None, ◌∙◌}
 use Rattle.std.proofs.lemmas.Result.{IfOk-weaker}
 use Rattle.zone_validation.specs.Judgement.{nsec3_proof}
+use Rattle.zone_validation.specs.Nsec3Responses.{lent_records}
 use Rattle.zone_validation.proofs.Nsec3Sums.{judged_is}
 use Rattle.zone_validation.proofs.nsec3.proof.Goals as goal
 
@@ -9,5 +10,5 @@ returns-in-Some-clause-ok g c =
     let read = rw c.in-Some.is at c.in_ok-response.ensures.ok in
     IfOk-weaker c.proof.result _ _
     (λ p is. is
-    ∙ judged_is g.H.Nsec3Hash.digest_of c.args.apex.now (map (λ r. r.now) c.args.records.now) c.args.name.now c.args.hash.now c.in-Some.response read None (λ apex digest rs x. nsec3_proof apex digest rs x c.args.record_type.0))
+    ∙ judged_is g.H.Nsec3Hash.digest_of c.args.apex.now (lent_records c.args.records.now) c.args.name.now c.args.hash.now c.in-Some.response read None (λ apex digest rs x. nsec3_proof apex digest rs x c.args.record_type.0))
     c.proof.ensures.ok

@@ -15,7 +15,7 @@ use Rattle.zone_map.proofs.record_map.RecordMap.insert_into.Goals as goal
 pub insert-requires-clause-owner : goal.insert-requires-clause-owner
 insert-requires-clause-owner c =
     let found : set_at c.self.inside.sets.entries (lower c.args.record.name) (type_of c.args.record.rdata) ≡ Some c.in-Some.set.now =
-    ap (λ k. lookup (key_eq k) c.self.inside.sets.entries) (sym c.requires) ∙ sym c.in-Some.ensures.value in
+    ap (λ k. lookup (key_eq k) c.self.inside.sets.entries) (sym c.requires.own_key) ∙ sym c.in-Some.ensures.value in
     let stored : IsStoredAt (lower c.args.record.name) (type_of c.args.record.rdata) c.in-Some.set.now =
     c.self.invariant.zone.stored (lower c.args.record.name) (type_of c.args.record.rdata) c.in-Some.set.now found in
     same_from_lower c.args.record.name c.in-Some.set.now.owner (sym stored.owner)
@@ -23,7 +23,7 @@ insert-requires-clause-owner c =
 pub insert-requires-clause-kind : goal.insert-requires-clause-kind
 insert-requires-clause-kind c =
     let found : set_at c.self.inside.sets.entries (lower c.args.record.name) (type_of c.args.record.rdata) ≡ Some c.in-Some.set.now =
-    ap (λ k. lookup (key_eq k) c.self.inside.sets.entries) (sym c.requires) ∙ sym c.in-Some.ensures.value in
+    ap (λ k. lookup (key_eq k) c.self.inside.sets.entries) (sym c.requires.own_key) ∙ sym c.in-Some.ensures.value in
     let stored : IsStoredAt (lower c.args.record.name) (type_of c.args.record.rdata) c.in-Some.set.now =
     c.self.invariant.zone.stored (lower c.args.record.name) (type_of c.args.record.rdata) c.in-Some.set.now found in
     sym stored.record_type
@@ -31,16 +31,16 @@ insert-requires-clause-kind c =
 pub invariant_of-self : goal.invariant_of-self
 invariant_of-self c =
     let found : set_at c.self.inside.sets.entries (lower c.args.record.name) (type_of c.args.record.rdata) ≡ Some c.in-Some.set.now =
-    ap (λ k. lookup (key_eq k) c.self.inside.sets.entries) (sym c.requires) ∙ sym c.in-Some.ensures.value in
+    ap (λ k. lookup (key_eq k) c.self.inside.sets.entries) (sym c.requires.own_key) ∙ sym c.in-Some.ensures.value in
     let written : (c.get_mut.follows.lender c.insert.new.self).entries ≡ set_value (key_eq (key (lower c.args.record.name) (type_of c.args.record.rdata))) c.self.inside.sets.entries c.insert.new.self =
-    (c.get_mut.follows.holds c.insert.new.self).0 ∙ ap (λ k. set_value (key_eq k) c.self.inside.sets.entries c.insert.new.self) c.requires in
+    (c.get_mut.follows.holds c.insert.new.self).0 ∙ ap (λ k. set_value (key_eq k) c.self.inside.sets.entries c.insert.new.self) c.requires.own_key in
     record {
       zone =
           subst IsZone (sym written)
           (IsZone-after (λ m. m) c.self.inside.sets.entries (set_value (key_eq (key (lower c.args.record.name) (type_of c.args.record.rdata))) c.self.inside.sets.entries c.insert.new.self)
           (unwrap_or (with_record c.self.inside.sets.entries c.args.record c.args.serial) c.self.inside.sets.entries) c.insert.result c.self.invariant.zone
           (IsZone-or_same c.self.inside.sets.entries (with_record c.self.inside.sets.entries c.args.record c.args.serial) c.self.invariant.zone
-          (λ n e. IsZone-with_record c.self.inside.sets.entries c.args.record c.args.serial n c.self.invariant.zone e))
+          (λ n e. IsZone-with_record c.self.inside.sets.entries c.args.record c.args.serial n c.self.invariant.zone c.requires.named e))
           (stored_after c.self.inside.sets.entries c.args.record c.args.serial c.in-Some.set.now found c.get_mut.ensures.ordered c.insert.new.self c.insert.result c.insert.ensures.after)
           (stored_same c.self.inside.sets.entries c.args.record c.args.serial c.in-Some.set.now found c.get_mut.ensures.ordered c.insert.new.self c.insert.result c.insert.ensures.same));
       index =
@@ -51,9 +51,9 @@ invariant_of-self c =
 pub returns-in-Some : goal.returns-in-Some
 returns-in-Some c =
     let found : set_at c.self.inside.sets.entries (lower c.args.record.name) (type_of c.args.record.rdata) ≡ Some c.in-Some.set.now =
-    ap (λ k. lookup (key_eq k) c.self.inside.sets.entries) (sym c.requires) ∙ sym c.in-Some.ensures.value in
+    ap (λ k. lookup (key_eq k) c.self.inside.sets.entries) (sym c.requires.own_key) ∙ sym c.in-Some.ensures.value in
     let written : (c.get_mut.follows.lender c.insert.new.self).entries ≡ set_value (key_eq (key (lower c.args.record.name) (type_of c.args.record.rdata))) c.self.inside.sets.entries c.insert.new.self =
-    (c.get_mut.follows.holds c.insert.new.self).0 ∙ ap (λ k. set_value (key_eq k) c.self.inside.sets.entries c.insert.new.self) c.requires in
+    (c.get_mut.follows.holds c.insert.new.self).0 ∙ ap (λ k. set_value (key_eq k) c.self.inside.sets.entries c.insert.new.self) c.requires.own_key in
     subst (λ (m : Sets). IsInsertion m (with_record m c.args.record c.args.serial) c.insert.result (c.get_mut.follows.lender c.insert.new.self).entries) c.self.view_is
     (subst (λ (n : Sets). IsInsertion c.self.inside.sets.entries (with_record c.self.inside.sets.entries c.args.record c.args.serial) c.insert.result n) (sym written)
     (record {

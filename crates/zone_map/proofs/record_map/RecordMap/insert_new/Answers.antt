@@ -21,7 +21,7 @@ put-requires c =
     ap (λ (s : RRset). inserted s c.args.record c.args.serial) (sym made)
     ∙ taken_set (inserted c.new-set.result c.args.record c.args.serial) c.new-set.result c.insert.new.self c.in_ok-insert.field-0 c.in_ok-insert.ensures.answer c.if-not-branch.false c.in_ok-insert.ensures.after in
     subst (λ (k : RrKey). IsStoredAt k.name k.record_type.0 c.insert.new.self) (sym c.requires.own_key)
-    (inserted_stored (empty_set c.args.record.name (type_of c.args.record.rdata) c.args.serial) c.args.record c.args.serial c.insert.new.self refl refl (IsSet-empty c.args.record.name (type_of c.args.record.rdata)) taken)
+    (inserted_stored (empty_set c.args.record.name (type_of c.args.record.rdata) c.args.serial) c.args.record c.args.serial c.insert.new.self c.requires.named refl refl (IsSet-empty c.args.record.name (type_of c.args.record.rdata)) taken)
 
 pub returns-in-Ok : goal.returns-in-Ok
 returns-in-Ok c =

@@ -3,7 +3,7 @@ use Rattle.std.specs.BTreeMap.{insert_entry}
 use Rattle.std.specs.Map.{remove_entry}
 use Rattle.zone_proto.specs.declared.rr_key.RrKey.{RrKey}
 use Rattle.zone_proto.specs.Keys.{key_cmp, key_eq}
-use Rattle.zone_proto.proofs.KeyOrder.{key_itself}
+use Rattle.zone_proto.proofs.Ordering.KeyOrder.{key_itself}
 use Rattle.zone_map.specs.DenialOwners.{owners_of}
 use Rattle.zone_map.specs.Zones.{IsZone}
 use Rattle.zone_map.proofs.OwnersKept.{put_removed}

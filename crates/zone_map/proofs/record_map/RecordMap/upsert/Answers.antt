@@ -1,14 +1,16 @@
-use Rattle.std.proofs.Common.{rules, ◌≡◌, ℕ, Bool, true, false, is_some, unwrap_or, refl, ap, sym}
-use Rattle.std.specs.Prelude.{Option, Some, None}
+use Rattle.std.proofs.Common.{rules, ◌≡◌, ℕ, Bool, true, false, is_some, unwrap_or, refl, ap, sym, ◌∙◌, subst}
+use Rattle.std.specs.Prelude.{Option, Some, None, Result}
+use Rattle.zone_proto.specs.Results.{IsInsertion}
+use Rattle.zone_proto.specs.declared.error.ProtoError.{ProtoError}
 use Rattle.zone_proto.specs.declared.record.Record.{Record}
 use Rattle.zone_proto.specs.declared.rr_key.RrKey.{RrKey}
 use Rattle.zone_proto.specs.Data.{type_of}
-use Rattle.zone_proto.specs.Names.{lower}
+use Rattle.zone_proto.specs.Names.{lower, IsName}
 use Rattle.zone_proto.specs.Sets.{RRset}
-use Rattle.zone_map.specs.Upserts.{clashes}
-use Rattle.zone_map.specs.Zones.{Sets, set_at, owns}
+use Rattle.zone_map.specs.Upserts.{clashes, with_record}
+use Rattle.zone_map.specs.Zones.{Sets, set_at, owns, IsZone}
 use Rattle.zone_map.proofs.CnamesAlone.{alone_after}
-use Rattle.zone_map.proofs.Upserting.{clash_is_not_taken, free_is_inserted}
+use Rattle.zone_map.proofs.Upserting.{clash_is_not_taken, free_is_inserted, IsZone-after, IsZone-or_same, IsZone-with_record}
 use Rattle.zone_map.proofs.record_map.RecordMap.upsert.Goals as goal
 
 -- what stands at the least key of a record's owner, for its type, tells whether the record clashes there
@@ -23,6 +25,29 @@ absent_there m r least key t made name kind none = nothing (set_at m (lower r.na
     nothing : (o : Option RRset) → is_some o ≡ false → o ≡ None
     nothing None h = refl
     nothing (Some s) h = cc
+
+-- the least key of a record's owner has a name that is one
+named_there : (r : Record) (least key : RrKey) → least ≡ key → key.name ≡ lower r.name → IsName least.name → IsName (lower r.name)
+named_there r least key made name named = subst IsName (ap (λ (k : RrKey). k.name) made ∙ name) named
+
+-- the sets of a zone stay those of one
+zone_after : (m n : Sets) (r : Record) (serial : ℕ) (res : Result Bool ProtoError) → IsName (lower r.name) → IsInsertion m (with_record m r serial) res n → IsZone m → IsZone n
+zone_after m n r serial res named h zone =
+    IsZone-after (λ k. k) m n (unwrap_or (with_record m r serial) m) res zone (IsZone-or_same m (with_record m r serial) zone (λ k e. IsZone-with_record m r serial k zone named e)) h.after h.same
+
+pub insert_into-requires-clause-named : goal.insert_into-requires-clause-named
+insert_into-requires-clause-named c = named_there c.args.record _ _ c.new-key.ensures.value c.in_ok-new.ensures.ok c.new-key.ensures.named.name
+
+pub insert_new-requires-clause-named : goal.insert_new-requires-clause-named
+insert_new-requires-clause-named c = named_there c.args.record _ _ c.new-key.ensures.value c.in_ok-new.ensures.ok c.new-key.ensures.named.name
+
+pub returns-then-standing-2-clause-zone : goal.returns-then-standing-2-clause-zone
+returns-then-standing-2-clause-zone c =
+    zone_after c.args.self.now c.insert_into.new.self c.args.record c.args.serial c.insert_into.result (named_there c.args.record _ _ c.new-key.ensures.value c.in_ok-new.ensures.ok c.new-key.ensures.named.name) c.insert_into.ensures
+
+pub returns-else-standing-2-clause-zone : goal.returns-else-standing-2-clause-zone
+returns-else-standing-2-clause-zone c =
+    zone_after c.args.self.now c.insert_new.new.self c.args.record c.args.serial c.insert_new.result (named_there c.args.record _ _ c.new-key.ensures.value c.in_ok-new.ensures.ok c.new-key.ensures.named.name) c.insert_new.ensures
 
 pub insert_new-requires-clause-absent : goal.insert_new-requires-clause-absent
 insert_new-requires-clause-absent c =

@@ -4,7 +4,7 @@ use Rattle.std.specs.Bool.{then_some}
 use denote.Ref.{Bor}
 use Rattle.zone_proto.specs.declared.rr_key.RrKey.{RrKey}
 use Rattle.zone_proto.specs.Keys.{key_eq}
-use Rattle.zone_proto.proofs.KeyOrder.{key_same, key_itself}
+use Rattle.zone_proto.proofs.Ordering.KeyOrder.{key_same, key_itself}
 use Rattle.zone_map.proofs.record_map.puts.behind.Goals as goal
 
 told : (keys : List RrKey) (k first : RrKey) (others : Bor (List RrKey)) (b : Bool) → keys ≡ first ∷ others.now → b ≡ key_eq k first

@@ -1,6 +1,6 @@
 use Rattle.std.proofs.Common.{arith}
 use Rattle.std.proofs.lemmas.Grind.{common_steps}
-use Rattle.zone_proto.proofs.Base32Facts.{next_character}
+use Rattle.zone_proto.proofs.Ordering.Base32Facts.{next_character}
 use Rattle.zone_proto.proofs.base32.Base32TextDisplay.fmt.Goals as goal
 
 pub loop-i-preserved : goal.loop-i-preserved

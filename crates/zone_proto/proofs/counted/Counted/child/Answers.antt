@@ -1,6 +1,6 @@
 use Rattle.std.proofs.Common.{◌≡◌, ◌++◌, ◌∷◌, length, ap, ◌∙◌}
 use Rattle.zone_proto.specs.Counting.{counting}
-use Rattle.zone_proto.proofs.Countings.{is_counting, is_counted_name}
+use Rattle.zone_proto.proofs.Names.Countings.{is_counting, is_counted_name}
 use Rattle.zone_proto.proofs.counted.Counted.child.Goals as goal
 
 pub invariant_of-result : goal.invariant_of-result

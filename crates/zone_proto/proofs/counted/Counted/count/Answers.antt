@@ -1,6 +1,6 @@
 use Rattle.std.proofs.Common.{◌≡◌, ◌++◌, ap, ◌∙◌}
 use Rattle.zone_proto.specs.Counting.{counting}
-use Rattle.zone_proto.proofs.Countings.{is_counting, is_counted_name}
+use Rattle.zone_proto.proofs.Names.Countings.{is_counting, is_counted_name}
 use Rattle.zone_proto.proofs.counted.Counted.count.Goals as goal
 
 pub invariant_of-result : goal.invariant_of-result

@@ -3,8 +3,8 @@ use Rattle.std.specs.Char.{to_ascii_lowercase}
 use Rattle.std.specs.List.{refill}
 use Rattle.zone_proto.specs.Names.{lower}
 use Rattle.zone_proto.specs.Counting.{counting, counted_name}
-use Rattle.zone_proto.proofs.Lower.{lowered, labels_lower}
-use Rattle.zone_proto.proofs.Countings.{is_counting, is_counted_name, counting_lower}
+use Rattle.zone_proto.proofs.Names.Lower.{lowered, labels_lower}
+use Rattle.zone_proto.proofs.Names.Countings.{is_counting, is_counted_name, counting_lower}
 use Rattle.zone_proto.proofs.counted.Counted.lower.Goals as goal
 
 pub invariant_of-self : goal.invariant_of-self

@@ -1,7 +1,7 @@
 use Rattle.std.proofs.Common.{◌≡◌, [], ap, sym, ◌∙◌, length, set, get_or, arith}
 use Rattle.zone_proto.specs.Names.{wildcard_of}
-use Rattle.zone_proto.proofs.LabelFaults.{some_octets}
-use Rattle.zone_proto.proofs.Countings.{starred_front}
+use Rattle.zone_proto.proofs.Names.LabelFaults.{some_octets}
+use Rattle.zone_proto.proofs.Names.Countings.{starred_front}
 use Rattle.zone_proto.proofs.counted.Counted.make_wildcard.Goals as goal
 
 pub invariant_of-self : goal.invariant_of-self

@@ -1,6 +1,6 @@
 use Rattle.std.proofs.Common.{◌≡◌, [], ap, sym, ◌∙◌, length, drop, get_or, arith}
-use Rattle.zone_proto.proofs.LabelFaults.{some_octets}
-use Rattle.zone_proto.proofs.Countings.{cut}
+use Rattle.zone_proto.proofs.Names.LabelFaults.{some_octets}
+use Rattle.zone_proto.proofs.Names.Countings.{cut}
 use Rattle.zone_proto.proofs.counted.Counted.shorten.Goals as goal
 
 pub invariant_of-self : goal.invariant_of-self

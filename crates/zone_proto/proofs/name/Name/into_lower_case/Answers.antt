@@ -1,7 +1,7 @@
 use Rattle.std.proofs.Common.{subst, sym}
 use Rattle.zone_proto.specs.Names.{IsName, IsLowerName}
 use Rattle.zone_proto.specs.Forms.{labels_of}
-use Rattle.zone_proto.proofs.Lower.{IsLowerName-lower}
+use Rattle.zone_proto.proofs.Names.Lower.{IsLowerName-lower}
 use Rattle.zone_proto.proofs.name.Name.into_lower_case.Goals as goal
 
 pub invariant_of-result : goal.invariant_of-result

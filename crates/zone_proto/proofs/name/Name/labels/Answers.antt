@@ -1,4 +1,4 @@
-use Rattle.zone_proto.proofs.NameParts.{IsName-in_range}
+use Rattle.zone_proto.proofs.Names.NameParts.{IsName-in_range}
 use Rattle.zone_proto.proofs.name.Name.labels.Goals as goal
 
 pub returns-clause-range : goal.returns-clause-range

@@ -1,5 +1,5 @@
 use Rattle.zone_proto.specs.Vectors.{octets_of}
-use Rattle.zone_proto.proofs.TextFaults.{labels_refused}
+use Rattle.zone_proto.proofs.Texts.TextFaults.{labels_refused}
 use Rattle.zone_proto.proofs.name.Name.read.Goals as goal
 
 pub returns-clause-refusal : goal.returns-clause-refusal

@@ -1,7 +1,7 @@
 use Rattle.std.proofs.Common.{◌≡◌, [], ◌∷◌, ◌++◌, List, ℕ, ap, ◌∙◌, append_assoc}
 use Rattle.zone_proto.specs.Names.{Name}
 use Rattle.zone_proto.specs.Packing.{packing, name_of}
-use Rattle.zone_proto.proofs.Packings.{is_packing, is_name_of}
+use Rattle.zone_proto.proofs.Names.Packings.{is_packing, is_name_of}
 use Rattle.zone_proto.proofs.packed.Packed.child.Goals as goal
 
 pub invariant_of-result : goal.invariant_of-result

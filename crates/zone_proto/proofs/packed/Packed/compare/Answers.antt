@@ -1,7 +1,7 @@
 use Rattle.std.proofs.Common.{◌∙◌}
 use Rattle.std.specs.Cmp.Lexicographic.{slice_cmp}
 use Rattle.std.specs.Ordering.{nat_cmp}
-use Rattle.zone_proto.proofs.Packings.{packing_cmp}
+use Rattle.zone_proto.proofs.Names.Packings.{packing_cmp}
 use Rattle.zone_proto.proofs.packed.Packed.compare.Goals as goal
 
 pub returns : goal.returns

@@ -2,7 +2,7 @@ use Rattle.std.proofs.Common.{◌∙◌, map}
 use Rattle.std.specs.Cmp.Lexicographic.{slice_cmp}
 use Rattle.std.specs.Char.{to_ascii_lowercase}
 use Rattle.std.specs.Ordering.{nat_cmp}
-use Rattle.zone_proto.proofs.Packings.{packing_caseless}
+use Rattle.zone_proto.proofs.Names.Packings.{packing_caseless}
 use Rattle.zone_proto.proofs.packed.Packed.compare_caseless.Goals as goal
 
 pub returns : goal.returns

@@ -3,8 +3,8 @@ use Rattle.std.specs.Char.{to_ascii_lowercase}
 use Rattle.std.specs.List.{refill}
 use Rattle.zone_proto.specs.Names.{Name, lower}
 use Rattle.zone_proto.specs.Packing.{packing, name_of}
-use Rattle.zone_proto.proofs.Lower.{lowered}
-use Rattle.zone_proto.proofs.Packings.{is_packing, is_name_of, packable_lower, packing_lower}
+use Rattle.zone_proto.proofs.Names.Lower.{lowered}
+use Rattle.zone_proto.proofs.Names.Packings.{is_packing, is_name_of, packable_lower, packing_lower}
 use Rattle.zone_proto.proofs.packed.Packed.lower.Goals as goal
 
 pub invariant_of-self : goal.invariant_of-self

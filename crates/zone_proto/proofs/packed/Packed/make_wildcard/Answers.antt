@@ -1,9 +1,9 @@
 use Rattle.std.proofs.Common.{◌≡◌, [], ◌+◌, ap, sym, ◌∙◌, take, set, length, subst, arith}
 use Rattle.zone_proto.specs.Names.{Name, IsName, wildcard_of}
 use Rattle.zone_proto.specs.Packing.{name_of}
-use Rattle.zone_proto.proofs.FirstLabels.{before_first, starred_name, star_fits}
-use Rattle.zone_proto.proofs.LabelFaults.{some_octets}
-use Rattle.zone_proto.proofs.Packings.{is_packing, is_name_of}
+use Rattle.zone_proto.proofs.Names.FirstLabels.{before_first, starred_name, star_fits}
+use Rattle.zone_proto.proofs.Names.LabelFaults.{some_octets}
+use Rattle.zone_proto.proofs.Names.Packings.{is_packing, is_name_of}
 use Rattle.zone_proto.proofs.packed.Packed.make_wildcard.Goals as goal
 
 pub overwrite-requires : goal.overwrite-requires

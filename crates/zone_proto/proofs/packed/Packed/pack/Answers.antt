@@ -1,7 +1,7 @@
 use Rattle.std.proofs.Common.{◌≡◌, ap, ◌∙◌, arith, drop}
 use Rattle.zone_proto.specs.Packing.{packing}
 use Rattle.zone_proto.specs.Vectors.{octets_of}
-use Rattle.zone_proto.proofs.Packings.{is_packing, is_name_of}
+use Rattle.zone_proto.proofs.Names.Packings.{is_packing, is_name_of}
 use Rattle.zone_proto.proofs.packed.Packed.pack.Goals as goal
 
 pub invariant_of-result : goal.invariant_of-result

@@ -1,6 +1,6 @@
 use Rattle.std.proofs.Common.{◌≡◌, ◌∙◌, ap, take, drop, subst, sym}
 use Rattle.zone_proto.specs.Packing.{name_of, IsPacking}
-use Rattle.zone_proto.proofs.FirstLabels.{before_first, base_is_packing, base_name_of}
+use Rattle.zone_proto.proofs.Names.FirstLabels.{before_first, base_is_packing, base_name_of}
 use Rattle.zone_proto.proofs.packed.Packed.shorten.Goals as goal
 
 pub invariant_of-self : goal.invariant_of-self

@@ -2,7 +2,7 @@ use Rattle.std.proofs.Common.{◌∙◌, map, take, arith}
 use Rattle.std.specs.Cmp.Lexicographic.{slice_cmp}
 use Rattle.std.specs.Char.{to_ascii_lowercase}
 use Rattle.std.specs.Ordering.{nat_cmp, is_eq}
-use Rattle.zone_proto.proofs.Packings.{front_test, no_room}
+use Rattle.zone_proto.proofs.Names.Packings.{front_test, no_room}
 use Rattle.zone_proto.proofs.packed.Packed.zone_of.Goals as goal
 
 pub returns-then-own-len : goal.returns-then-own-len

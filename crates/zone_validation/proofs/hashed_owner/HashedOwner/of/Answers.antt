@@ -1,6 +1,6 @@
 use Rattle.std.proofs.Common.{sym, ap, ◌∙◌}
 use Rattle.zone_proto.specs.Names.{lower_label}
-use Rattle.zone_proto.proofs.Base32Facts.{lower_text}
+use Rattle.zone_proto.proofs.Ordering.Base32Facts.{lower_text}
 use Rattle.zone_validation.proofs.hashed_owner.HashedOwner.of.Goals as goal
 
 pub invariant_of-result : goal.invariant_of-result

@@ -1,7 +1,7 @@
 use Rattle.std.proofs.Common.{◌≡◌, ◌++◌, length, drop}
 use Rattle.std.specs.Option.{option_or}
 use Rattle.zone_proto.specs.Names.{Name}
-use Rattle.zone_validation.specs.Nsec3Proofs.{owner_of, shown_encloser, answering_labels}
+use Rattle.zone_validation.specs.Nsec3Proofs.{owner_of, shown_encloser, wildcard_answer}
 use Rattle.zone_validation.specs.Nsec3Responses.{hash_of}
 use Rattle.zone_validation.proofs.nsec3_response.Nsec3Response.encloser_walk.Given as goal
 
@@ -13,8 +13,8 @@ invariant-loop-hashed g l = record {
   hashed : l.hashed ≡ owner_of l.self.apex (hash_of g.H.Nsec3Hash.digest_of l.self) l.next_closer;
   shown : shown_encloser l.self.apex (hash_of g.H.Nsec3Hash.digest_of l.self) l.self.records l.self.name
       ≡ shown_encloser l.self.apex (hash_of g.H.Nsec3Hash.digest_of l.self) l.self.records l.next_closer;
-  labels : option_or (answering_labels l.self.apex (hash_of g.H.Nsec3Hash.digest_of l.self) l.self.records l.next_closer) l.labels
-      ≡ answering_labels l.self.apex (hash_of g.H.Nsec3Hash.digest_of l.self) l.self.records l.self.name;
+  answer : option_or (wildcard_answer l.self.apex (hash_of g.H.Nsec3Hash.digest_of l.self) l.self.records l.next_closer) l.answer
+      ≡ wildcard_answer l.self.apex (hash_of g.H.Nsec3Hash.digest_of l.self) l.self.records l.self.name;
 }
 
 abbrev pub decreases-loop-hashed : goal.decreases-loop-hashed

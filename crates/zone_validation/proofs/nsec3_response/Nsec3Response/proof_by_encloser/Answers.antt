@@ -2,8 +2,7 @@ use Rattle.std.proofs.Common.{Some, None, cond, drop, sym, ap, ◌∙◌}
 use Rattle.std.specs.Option.{option_or}
 use Rattle.std.proofs.lemmas.Result.{IfOk-weaker}
 use Rattle.zone_proto.specs.Names.{base_name}
-use Rattle.zone_validation.specs.Judgement.{wildcard_proof}
-use Rattle.zone_validation.specs.Nsec3Proofs.{answering_labels}
+use Rattle.zone_validation.specs.Nsec3Proofs.{wildcard_answer}
 use Rattle.zone_validation.specs.Nsec3Responses.{hash_of}
 use Rattle.zone_validation.proofs.EncloserProofs.{proved_is, unopted_is}
 use Rattle.zone_validation.proofs.Nsec3Sums.{without_proof}
@@ -22,6 +21,6 @@ returns-clause-ok g c =
     let unproved = proved_is apex hash rs x e n c.requires.unmatched c.requires.shown c.requires.closer c.args.encloser.in_zone c.args.encloser.covered c.requires.in_zone c.requires.covered
     ∙ ap (λ b. cond b (Some e) None) falls in
     let kept = unopted_is apex hash rs x e n c.requires.unmatched c.requires.shown c.requires.closer c.args.encloser.in_zone c.args.encloser.covered c.requires.in_zone c.requires.covered falls in
-    let labels = ap (λ a. option_or (answering_labels apex hash rs a) c.args.labels) (c.shorten-2.ensures ∙ ap (drop 1) c.shorten.ensures ∙ base_of_base n) ∙ c.requires.labels in
+    let answer = ap (λ a. option_or (wildcard_answer apex hash rs a) c.args.answer) (c.shorten-2.ensures ∙ ap (drop 1) c.shorten.ensures ∙ base_of_base n) ∙ c.requires.answer in
     IfOk-weaker c.wildcard_answer_above.result _ _
-    (λ p is. is ∙ ap wildcard_proof labels ∙ sym (without_proof apex hash rs x c.args.record_type.0 c.requires.unmatched unproved kept)) c.wildcard_answer_above.ensures.ok
+    (λ p is. is ∙ answer ∙ sym (without_proof apex hash rs x c.args.record_type.0 c.requires.here c.requires.unmatched unproved kept)) c.wildcard_answer_above.ensures.ok

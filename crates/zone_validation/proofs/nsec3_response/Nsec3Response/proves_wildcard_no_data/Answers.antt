@@ -1,5 +1,5 @@
 use Rattle.std.proofs.Common.{sym, ◌∙◌}
-use Rattle.zone_validation.specs.Nsec3Proofs.{proves_no_data}
+use Rattle.zone_validation.specs.Nsec3Proofs.{is_denied}
 use Rattle.zone_validation.specs.Nsec3Responses.{hash_of}
 use Rattle.zone_validation.proofs.EncloserProofs.{denied_by, star_rest}
 use Rattle.zone_validation.proofs.nsec3_response.Nsec3Response.proves_wildcard_no_data.Goals as goal
@@ -12,4 +12,4 @@ returns-in_ok-star-in-Some-clause-ok g c =
     let star = c.in-Some.encloser.star in
     let t = c.args.record_type.0 in
     c.denies_type.ensures ∙ denied_by apex hash rs star _ (c.as_ref.ensures.value ∙ c.in_ok-star-in-Some.ensures.ok) t
-    ∙ sym (star_rest apex hash rs c.args.self.now.name star (rw c.in-Some.is at c.in_ok-encloser.ensures.proved) (rw c.in-Some.is at c.in_ok-encloser.ensures.star) (λ n. proves_no_data apex hash rs n t))
+    ∙ sym (star_rest apex hash rs c.args.self.now.name star (rw c.in-Some.is at c.in_ok-encloser.ensures.proved) (rw c.in-Some.is at c.in_ok-encloser.ensures.star) (λ n. is_denied apex hash rs n t))

@@ -1,6 +1,5 @@
 use Rattle.std.proofs.Common.{Some, true, sym, ap, ◌∙◌}
-use Rattle.zone_proto.specs.Names.{base_name}
-use Rattle.zone_validation.specs.Encloser.{star_under}
+use Rattle.zone_proto.specs.Names.{base_name, star_under}
 use Rattle.zone_validation.specs.Nsec3Responses.{hash_of}
 use Rattle.zone_validation.proofs.EncloserProofs.{base_of_star, star_of_closer, opted_out_by, proved_is, opted_out_is}
 use Rattle.zone_validation.proofs.nsec3_response.Nsec3Response.standing.Goals as goal

@@ -1,9 +1,9 @@
 use Rattle.std.proofs.Common.{sym, ap, ◌∙◌}
 use Rattle.std.specs.Option.{option_or}
-use Rattle.zone_validation.specs.Judgement.{wildcard_proof}
-use Rattle.zone_validation.specs.Nsec3Proofs.{answering_labels}
+use Rattle.zone_validation.specs.Nsec3Proofs.{wildcard_answer}
 use Rattle.zone_validation.specs.Nsec3Responses.{hash_of}
-use Rattle.zone_validation.proofs.WildcardAnswers.{labels_end, labels_on}
+use Rattle.zone_validation.proofs.EncloserProofs.{covered_by, answered_by}
+use Rattle.zone_validation.proofs.WildcardAnswers.{answers_end, answers_on}
 use Rattle.zone_validation.proofs.nsec3_response.Nsec3Response.wildcard_answer_above.Goals as goal
 
 pub loop-rest-preserved : goal.loop-rest-preserved
@@ -11,9 +11,25 @@ loop-rest-preserved g c =
     let apex = c.args.self.now.apex in
     let hash = hash_of g.H.Nsec3Hash.digest_of c.args.self.now in
     let rs = c.args.self.now.records in
+    let n = c.loop-rest.rest in
     let rest = c.shorten.new.self in
-    ap (option_or (answering_labels apex hash rs rest)) c.nearest_labels-labels.ensures
-    ∙ sym (labels_on apex hash rs c.loop-rest.rest rest c.in_ok-covered.covered c.loop-rest.labels (sym c.is_below_apex.ensures ∙ c.loop-rest-test.true) c.in_ok-covered.ensures.ok c.shorten.ensures)
+    let covered = c.in_ok-covered.ensures.ok ∙ covered_by apex hash rs n _ (c.as_ref.ensures.value ∙ c.in_ok-hashed.ensures.ok) in
+    let answer = c.in_ok-answer.ensures.ok ∙ answered_by apex hash rs n _ (c.as_ref-in-loop-rest.ensures.value ∙ c.in_ok-hashed.ensures.ok) c.in_ok-covered.covered rest c.loop-rest.answer in
+    ap (option_or (wildcard_answer apex hash rs rest)) answer
+    ∙ sym (answers_on apex hash rs n rest c.in_ok-covered.covered c.loop-rest.answer (sym c.is_below_apex.ensures ∙ c.loop-rest-test.true) covered c.shorten.ensures)
+    ∙ c.loop-rest.invariant
+
+pub loop-rest-preserved-in_ok-answer : goal.loop-rest-preserved-in_ok-answer
+loop-rest-preserved-in_ok-answer g c =
+    let apex = c.args.self.now.apex in
+    let hash = hash_of g.H.Nsec3Hash.digest_of c.args.self.now in
+    let rs = c.args.self.now.records in
+    let n = c.loop-rest.rest in
+    let rest = c.shorten.new.self in
+    let covered = c.in_ok-covered.ensures.ok ∙ covered_by apex hash rs n _ (c.as_ref.ensures.value ∙ c.in_ok-hashed.ensures.ok) in
+    let answer = c.in_ok-answer.ensures.ok ∙ answered_by apex hash rs n _ (c.as_ref-in-loop-rest.ensures.value ∙ c.in_ok-hashed.ensures.ok) c.in_ok-covered.covered rest c.loop-rest.answer in
+    ap (option_or (wildcard_answer apex hash rs rest)) answer
+    ∙ sym (answers_on apex hash rs n rest c.in_ok-covered.covered c.loop-rest.answer (sym c.is_below_apex.ensures ∙ c.loop-rest-test.true) covered c.shorten.ensures)
     ∙ c.loop-rest.invariant
 
 pub returns-clause-ok : goal.returns-clause-ok
@@ -21,5 +37,4 @@ returns-clause-ok g c =
     let apex = c.args.self.now.apex in
     let hash = hash_of g.H.Nsec3Hash.digest_of c.args.self.now in
     let rs = c.args.self.now.records in
-    c.wildcard_proof.ensures
-    ∙ ap wildcard_proof (sym (labels_end apex hash rs c.loop-rest.rest c.loop-rest.labels (sym c.is_below_apex.ensures ∙ c.loop-rest-test.false)) ∙ c.loop-rest.invariant)
+    sym (answers_end apex hash rs c.loop-rest.rest c.loop-rest.answer (sym c.is_below_apex.ensures ∙ c.loop-rest-test.false)) ∙ c.loop-rest.invariant

@@ -1,0 +1,24 @@
+//! Makes the calls of rows that need no zone of theirs: on names, records, answers, refusals and words, and those of a handler
+//! through its trait. What they answer is written as text into room that is there from the start.
+#![tactic(auto)]
+
+mod answers;
+mod handlers;
+mod hashes;
+mod iterators;
+mod names;
+mod records;
+mod refusals;
+mod texts;
+mod values;
+mod words;
+mod write;
+
+pub use handlers::make_handler_call;
+pub use iterators::write_records;
+pub use texts::{
+    Zone, write_about, write_chain, write_made_set, write_set, write_set_handed_out,
+    write_set_if_any, write_zone,
+};
+pub use values::make_value_call;
+pub use write::{Written, both, write_done, write_holds, write_whether};

@@ -1,0 +1,64 @@
+//! What calls are made on.
+
+use crate::denials::{make_denial_call, write_owners};
+use crate::judgements::make_judgement_call;
+use crate::searches::make_search_call;
+use crate::sets::make_set_call;
+use crate::zones::make_zone_call;
+use call_arguments::{Arguments, Form, Held, RowHash};
+use std::alloc::Global;
+use value_calls::{Written, Zone, make_handler_call, make_value_call, write_set, write_zone};
+use zone_handler::{AxfrPolicy, ZoneType};
+use zone_proto::{Name, RecordType};
+use zone_store::{InMemoryZoneHandler, Searches};
+
+/// A zone, a hash beside it, the sets that rows share, and the count of searches.
+#[derive(Drop)]
+pub struct State {
+    pub zone: Zone,
+    pub hash: RowHash,
+    pub held: Held,
+    pub searches: Searches,
+}
+
+impl State {
+    /// The zone of the root without records, and no sets.
+    pub fn new(alloc: Global) -> State {
+        let (zone_type, policy) = (ZoneType::Primary, AxfrPolicy::AllowAll);
+        let hash = RowHash::new(alloc);
+        State {
+            zone: InMemoryZoneHandler::empty(Name::root(alloc), zone_type, policy, None, hash),
+            hash: RowHash::new(alloc),
+            held: Held::new(alloc),
+            searches: Searches::new(),
+        }
+    }
+
+    /// Makes a call, and writes what it answers.
+    pub fn make(&mut self, out: &mut String, call: Form, arguments: &mut Arguments) -> Written {
+        let verb = call.verb;
+        match call.subject {
+            "sets" => make_set_call(out, &mut self.held, verb, arguments),
+            "zones" => make_zone_call(out, self, verb, arguments),
+            "searches" => make_search_call(out, self, verb, arguments),
+            "denials" => make_denial_call(out, self, verb, arguments),
+            "handlers" => make_handler_call(out, &mut self.zone, verb, arguments),
+            "judgements" => make_judgement_call(out, self, verb, arguments),
+            _ => make_value_call(out, call, arguments),
+        }
+    }
+
+    /// Writes all that a call could change: the zone and its indexes, the current set, and how many sets are collected and
+    /// signers are there.
+    pub fn write(&self, out: &mut String) -> Written {
+        write_zone(out, &self.zone)?;
+        if let Some(set) = &self.held.set {
+            write!(out, " current: ")?;
+            write_set(out, set)?;
+        }
+        write!(out, " {} collected", self.held.collected.len())?;
+        write!(out, " {} signers", self.zone.secure_keys().len())?;
+        write_owners(out, &self.zone, RecordType::NSEC)?;
+        write_owners(out, &self.zone, RecordType::NSEC3)
+    }
+}

@@ -1,0 +1,8 @@
+-- Worked examples
+pub mod NsecExamples
+pub mod Nsec3Examples
+mod Nsec3SetExamples
+mod Nsec3FalseCover
+mod StarExamples
+mod NsecPremises
+mod Nsec3Premises

@@ -1,0 +1,22 @@
+-- The circle of NSEC3 sets, and the denials by it
+pub mod AllPassing
+pub mod CircleImages
+pub mod HashedCircle
+pub mod HashedNames
+pub mod NextAround
+pub mod CoveringPairs
+pub mod CoverSets
+pub mod TextsApart
+pub mod DenialSteps
+pub mod Nsec3NameLaws
+pub mod Nsec3TypeLaws
+pub mod Nsec3Runs
+pub mod Nsec3SameNames
+pub mod Nsec3Owners
+pub mod Nsec3Covers
+pub mod Nsec3Enclosers
+pub mod Nsec3Encloses
+pub mod Nsec3Star
+pub mod Nsec3AskedStar
+pub mod Nsec3Lists
+pub mod Nsec3Secured

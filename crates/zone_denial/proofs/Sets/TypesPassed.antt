@@ -1,0 +1,78 @@
+-- Lists of types, passed one after the other
+use Rattle.std.proofs.Common.{◌≡◌, ℕ, ◌+◌, ◌<◌, List, [], ◌∷◌, ◌++◌, map, take, drop, true, refl, sym, ap, ◌∙◌, subst, inl, inr, arith, Ordering, Less, Equal, Greater, append_assoc, append-nil, take-append-drop}
+use Rattle.std.specs.Prelude.{nat_lt}
+use Rattle.std.specs.Borrow.{Bor}
+use Rattle.std.specs.List.{prefix_len}
+use Rattle.std.specs.Ordering.{nat_cmp, match_ordering, MatchOrdering}
+use Rattle.std.proofs.lemmas.Bool.Decides.{nat_tests}
+use Rattle.std.proofs.lemmas.Cmp.{ranked}
+use Rattle.std.proofs.lemmas.List.{map-append}
+use Rattle.zone_proto.specs.declared.rr_key.RrKey.{RrKey}
+use Rattle.zone_proto.specs.Types.{RRSIG, NSEC}
+use Rattle.zone_proto.proofs.Members.{In, In-from_map}
+use Rattle.zone_denial.specs.TypeLists.{joined}
+use Rattle.zone_denial.proofs.Sets.KeyRuns.{in_front}
+
+-- a number stands behind those that are less, and before one that is greater
+joined_behind : (x : ℕ) (low rest : List ℕ) → ((y : ℕ) → In y low → y < x) → joined nat_cmp x (low ++ rest) ≡ low ++ joined nat_cmp x rest
+joined_behind x [] rest h = refl
+joined_behind x (y ∷ low) rest h = by (nat_cmp x y) (ranked x y (nat_cmp x y) refl) (joined_behind x low rest (λ z i. h z (inr i)))
+  where
+    by : (r : Ordering) → MatchOrdering r (x < y) (x ≡ y) (y < x) → joined nat_cmp x (low ++ rest) ≡ low ++ joined nat_cmp x rest
+        → match_ordering r (x ∷ y ∷ (low ++ rest)) (y ∷ (low ++ rest)) (y ∷ joined nat_cmp x (low ++ rest)) ≡ y ∷ (low ++ joined nat_cmp x rest)
+    by Less k i = absurd (omega (arith, h y (inl refl)))
+    by Equal k i = absurd (omega (arith, h y (inl refl)))
+    by Greater k i = ap (λ ns. y ∷ ns) i
+
+joined_before : (x : ℕ) (high : List ℕ) → ((q : ℕ) (qs : List ℕ) → high ≡ q ∷ qs → x < q) → joined nat_cmp x high ≡ x ∷ high
+joined_before x [] h = refl
+joined_before x (q ∷ qs) h = by (nat_cmp x q) (ranked x q (nat_cmp x q) refl)
+  where
+    by : (r : Ordering) → MatchOrdering r (x < q) (x ≡ q) (q < x) → match_ordering r (x ∷ q ∷ qs) (q ∷ qs) (q ∷ joined nat_cmp x qs) ≡ x ∷ q ∷ qs
+    by Less k = refl
+    by Equal k = absurd (omega (arith, h q qs refl))
+    by Greater k = absurd (omega (arith, h q qs refl))
+
+both_joined : (low high : List ℕ) → ((y : ℕ) → In y low → y < RRSIG) → ((q : ℕ) (qs : List ℕ) → high ≡ q ∷ qs → NSEC < q)
+    → joined nat_cmp NSEC (joined nat_cmp RRSIG (low ++ high)) ≡ low ++ (RRSIG ∷ (NSEC ∷ high))
+both_joined low high below above =
+    let first = joined_behind RRSIG low high below ∙ ap (λ ns. low ++ ns) (joined_before RRSIG high (λ q qs e. omega (arith, above q qs e))) in
+    let second = joined_behind NSEC low (RRSIG ∷ high) (λ y i. omega (arith, below y i)) in
+    ap (joined nat_cmp NSEC) first ∙ second ∙ ap (λ ns. low ++ (RRSIG ∷ ns)) (joined_before NSEC high above)
+
+-- ---- of keys, as the program parts them
+
+-- the types of keys that are lent
+abbrev pub lent_types : List (Bor RrKey) → List ℕ
+lent_types ks = map (λ k. k.now.record_type.0) ks
+
+are_joined : (keys : List (Bor RrKey)) (k : ℕ) (types : List ℕ) → k ≡ prefix_len (λ (b : Bor RrKey). nat_lt b.now.record_type.0 RRSIG) keys
+    → ((q : ℕ) (qs : List ℕ) → lent_types (drop k keys) ≡ q ∷ qs → NSEC < q)
+    → types ≡ lent_types (take k keys) ++ (RRSIG ∷ (NSEC ∷ lent_types (drop k keys))) → types ≡ joined nat_cmp NSEC (joined nat_cmp RRSIG (lent_types keys))
+are_joined keys k types place above are =
+    let parts : lent_types keys ≡ lent_types (take k keys) ++ lent_types (drop k keys) =
+    ap lent_types (sym (take-append-drop k keys)) ∙ map-append (λ (b : Bor RrKey). b.now.record_type.0) (take k keys) (drop k keys) in
+    are ∙ sym (both_joined (lent_types (take k keys)) (lent_types (drop k keys)) below above) ∙ ap (λ ts. joined nat_cmp NSEC (joined nat_cmp RRSIG ts)) (sym parts)
+  where
+    below : (y : ℕ) → In y (lent_types (take k keys)) → y < RRSIG
+    below y i =
+        let r = In-from_map (λ (b : Bor RrKey). b.now.record_type.0) y (take k keys) i in
+        let passes : nat_lt r.0.now.record_type.0 RRSIG ≡ true = in_front (λ (b : Bor RrKey). nat_lt b.now.record_type.0 RRSIG) r.0 keys (subst (λ n. In r.0 (take n keys)) place r.1) in
+        let less : r.0.now.record_type.0 < RRSIG = grind (arith, nat_tests) in
+        subst (λ n. n < RRSIG) r.2 less
+
+pub all_passed : (keys low high : List (Bor RrKey)) (k : ℕ) (types left : List ℕ) → low ≡ take k keys → high ≡ drop k keys → k ≡ prefix_len (λ (b : Bor RrKey). nat_lt b.now.record_type.0 RRSIG) keys
+    → ((q : ℕ) (qs : List ℕ) → lent_types high ≡ q ∷ qs → NSEC < q) → types ≡ lent_types low ++ (RRSIG ∷ (NSEC ∷ (lent_types high ++ left))) → left ≡ []
+    → types ≡ joined nat_cmp NSEC (joined nat_cmp RRSIG (lent_types keys))
+all_passed keys low high k types left front back place above are none =
+    are_joined keys k types place (λ q qs e. above q qs (ap lent_types back ∙ e))
+    (are ∙ (λ i. lent_types (front i) ++ (RRSIG ∷ (NSEC ∷ (lent_types (back i) ++ none i))))
+    ∙ ap (λ ts. lent_types (take k keys) ++ (RRSIG ∷ (NSEC ∷ ts))) (append-nil (lent_types (drop k keys))))
+
+-- one more key is passed
+pub one_more : (keys : List (Bor RrKey)) (i : ℕ) (k : Bor RrKey) (all before after : List ℕ) → take (i + 1) keys ≡ take i keys ++ k ∷ [] → all ≡ lent_types (take i keys) ++ before → before ≡ k.now.record_type.0 ∷ after
+    → all ≡ lent_types (take (i + 1) keys) ++ after
+one_more keys i k all before after front so_far next =
+    so_far ∙ ap (λ ts. lent_types (take i keys) ++ ts) next
+    ∙ sym (append_assoc (lent_types (take i keys)) (k.now.record_type.0 ∷ []) after)
+    ∙ ap (λ ts. ts ++ after) (sym (ap lent_types front ∙ map-append (λ (b : Bor RrKey). b.now.record_type.0) (take i keys) (k ∷ [])))

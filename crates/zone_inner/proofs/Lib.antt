@@ -1,0 +1,16 @@
+pub mod ChainSearches
+pub mod Paths
+pub mod Targets
+pub mod AdditionalRuns
+pub mod AdditionalLaws
+pub mod RunFronts
+pub mod Chasing
+pub mod SeenNames
+pub mod ListedSets
+pub mod SecuredRecords
+pub mod KeptDenials
+pub mod Replies
+pub mod NegativeReplies
+pub mod Examples
+pub mod SearchExamples
+pub mod AdditionalExamples

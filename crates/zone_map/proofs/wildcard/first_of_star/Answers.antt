@@ -1,7 +1,0 @@
-use Rattle.std.proofs.Common.{ap, ◌∙◌}
-use Rattle.std.specs.Prelude.{drop}
-use Rattle.std.proofs.lemmas.List.{drop-drop}
-use Rattle.zone_map.proofs.wildcard.first_of_star.Goals as goal
-
-pub loop-preserved : goal.loop-preserved
-loop-preserved c = c.shorten.ensures ∙ ap (drop 1) c.loop.invariant ∙ drop-drop 1 c.loop.counter c.args.name.now

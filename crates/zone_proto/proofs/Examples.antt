@@ -1,0 +1,5 @@
+-- Worked examples
+mod NameVectors
+mod SetExamples
+mod TypeExamples
+mod Base32Examples

@@ -1,0 +1,101 @@
+//! Names read from their wire form (RFC 1035 section 3.1).
+ghost use Rattle.std.specs.Prelude.{◌≡◌, IfOk, IfErr, length, nat_lt, if◌then◌else◌, Some, None};
+ghost use Rattle.std.specs.List.{AllByRecursion};
+ghost use Rattle.zone_proto.specs.Counting.{counted_name, IsCounting};
+ghost use Rattle.zone_proto.specs.Names.{wire_form, IsName};
+ghost use Rattle.zone_proto.specs.Packing.{packing, IsInner};
+ghost use Rattle.zone_proto.specs.Faults.{first_of_faults};
+ghost use Rattle.zone_proto.specs.Forms.{labels_of};
+ghost use Rattle.zone_proto.specs.WireForms.{IsWireFault, IsWireForm, TellsWireFault};
+
+use crate::counted::{Counted, split_counted};
+use crate::error::ProtoError;
+use crate::form::{Form, is_inner};
+use crate::labels::{LONGEST_LABEL, LONGEST_NAME, octets_fit};
+use crate::packed::{Octets, Packed};
+use std::alloc::{AllocError, Global};
+
+/// The labels of the name whose wire form the octets are.
+pub(crate) fn read_wire(alloc: Global, octets: &[u8]) -> Result<Form, ProtoError>
+    ensures ok { IfOk result (λ f. octets.now ≡ wire_form (labels_of f)) }
+    ensures name { IfOk result (λ f. IsName (labels_of f)) }
+    ensures refusal { TellsWireFault result octets.now }
+{
+    let labels = check_wire(octets)?;
+    if is_inner(labels) {
+        Ok(Form::InOnePiece(pack(alloc, labels)?))
+    } else {
+        let octets = Octets::from_slice(alloc, labels)?;
+        Ok(Form::Counted(Counted::of_octets(octets)))
+    }
+}
+
+/// The labels behind their lengths, without the end, where the octets are the wire form of a name; else the first fault.
+fn check_wire(octets: &[u8]) -> Result<&[u8], ProtoError>
+    ensures ok { IfOk result (λ labels. IsWireForm octets.now labels.now) }
+    ensures refusal { IfErr result (IsWireFault octets.now) }
+{
+    let mut fault: Option<ProtoError> = None;
+    let mut rest = octets;
+    while let Some((first, after)) = rest.split_first() {
+        let count = usize::from(*first);
+        if count == 0 {
+            if !after.is_empty() {
+                return Err(ProtoError::BadText);
+            }
+            return match fault {
+                Some(fault) => Err(fault),
+                None if octets.len() > LONGEST_NAME => Err(ProtoError::NameTooLong),
+                None => Ok(&octets[..octets.len() - 1]),
+            };
+        }
+        if after.len() < count {
+            return Err(ProtoError::BadText);
+        }
+        let (label, next) = after.split_at(count);
+        octets_fit(label);
+        fault = first_fault(fault, count);
+        rest = next;
+    }
+    Err(ProtoError::BadText)
+}
+
+/// The fault, or where there is none that of a label of so many octets.
+fn first_fault(fault: Option<ProtoError>, count: usize) -> Option<ProtoError>
+    ensures { result
+        ≡ first_of_faults fault (if nat_lt 63 count then Some ProtoError.LabelTooLong else None) }
+{
+    match fault {
+        Some(fault) => Some(fault),
+        None if count > LONGEST_LABEL => Some(ProtoError::LabelTooLong),
+        None => None,
+    }
+}
+
+/// The name of these labels, none of which has an octet 0, in one piece.
+fn pack(alloc: Global, labels: &[u8]) -> Result<Packed, AllocError>
+    requires counting { IsCounting labels.now (counted_name labels.now) }
+    requires inner { AllByRecursion IsInner labels.now }
+    ensures { IfOk result (λ p. p ≡ counted_name labels.now) }
+{
+    let mut octets = Octets::from_elem(alloc, 0, labels.len())?;
+    write_packing(octets.as_mut_slice(), labels);
+    Ok(Packed::of_octets(octets))
+}
+
+/// Writes the labels from the root on, each before its end. What stands behind a label in their wire form is as long as what
+/// stands before it here.
+fn write_packing(octets: &mut [u8], labels: &[u8])
+    requires counting { IsCounting labels.now (counted_name labels.now) }
+    requires room { length octets.old ≡ length labels.now }
+    ensures { octets.new ≡ packing (counted_name labels.now) }
+{
+    let mut rest = labels;
+    while let Some((label, after)) = split_counted(rest) {
+        let start = after.len();
+        let end = start + label.len();
+        octets[start..end].copy_from_slice(label);
+        octets[end] = 0;
+        rest = after;
+    }
+}
