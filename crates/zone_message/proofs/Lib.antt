@@ -1,0 +1,9 @@
+pub mod NamesSpelled
+pub mod ReadingNames
+pub mod Passing
+pub mod Sections
+pub mod TypeBlocks
+pub mod PlainNames
+pub mod DataCases
+pub mod Queries
+pub mod MessageExamples

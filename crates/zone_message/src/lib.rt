@@ -1,0 +1,37 @@
+//! DNS messages read from their octets (RFC 1035 section 4.1): whole messages, queries as a server takes them, and the data of
+//! records of every type.
+//!
+//! What octets say is defined once, by reading them (`specs/`); each call is proved to give exactly that. A call that takes
+//! memory answers a `Result`, and where a growth is refused it answers `Memory`.
+#![tactic(auto)]
+
+mod data;
+mod denial_data;
+mod error;
+mod extension;
+mod header;
+mod header_reader;
+mod message;
+mod message_reader;
+mod name_octets;
+mod names;
+mod octets;
+mod options;
+mod other_data;
+mod query;
+mod query_reader;
+mod question;
+mod service_data;
+mod signing_data;
+mod start_of_authority;
+mod type_map;
+
+pub use data::plain_data_of;
+pub use error::{MessageError, ReadError};
+pub use header::Header;
+pub use header_reader::read_header;
+pub use message::Message;
+pub use message_reader::read_message;
+pub use query::{Extension, Query};
+pub use query_reader::read_query;
+pub use question::Question;
