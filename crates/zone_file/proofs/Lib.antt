@@ -1,0 +1,4 @@
+pub mod DataFacts
+pub mod NameFaults
+pub mod TypeFacts
+pub mod ZoneFacts

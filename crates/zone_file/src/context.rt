@@ -1,0 +1,16 @@
+//! What an entry takes from the entries before it.
+
+use zone_proto::Name;
+
+/// What an entry takes from the entries before it.
+#[derive(Debug, Drop)]
+pub struct Context {
+    /// The origin, which stands behind names that aren't absolute.
+    pub origin: Name,
+    /// The owner of the record before.
+    pub owner: Option<Name>,
+    /// The seconds of the last `$TTL`.
+    pub ttl: Option<u32>,
+    /// The seconds of the TTL of the record before.
+    pub last_ttl: Option<u32>,
+}

@@ -1,0 +1,151 @@
+//! What is wrong with a zone file, and where.
+ghost use Rattle.std.specs.Prelude.{◌≡◌};
+
+use std::alloc::{AllocError, AllocFailed};
+use thiserror::Error;
+use zone_entries::{EntryError, EntryReason, Place};
+use zone_proto::ProtoError;
+
+/// What is wrong at a place of a zone file.
+#[derive(Clone, Copy, PartialEq, Eq, Debug, Error)]
+pub enum Reason {
+    /// The text can't be cut into entries.
+    #[error("{0}")]
+    Entry(EntryReason),
+    /// A further word is needed.
+    #[error("a word is missing")]
+    Missing,
+    /// Words are left behind the data.
+    #[error("a word too many")]
+    Surplus,
+    /// A word in quotes where none may stand.
+    #[error("a word without quotes is needed here")]
+    Quoted,
+    /// No owner is given, and no record before gave one.
+    #[error("no owner is given, and no record before has one")]
+    NoOwner,
+    /// No TTL is given, and nothing before gave one.
+    #[error("no TTL is given, and nothing before has one")]
+    NoTtl,
+    /// A word that isn't read as a name, for this cause.
+    #[error("a name is needed here: {0}")]
+    Name(ProtoError),
+    /// A word that is no type, or one that records don't have.
+    #[error("a type of records is needed here")]
+    Type,
+    /// A type whose data aren't read in a form of their own, and aren't written as `\#` either.
+    #[error("data of this type are read as \\# and hex digits alone")]
+    OnlyGeneric,
+    /// Octets written as `\#` that aren't of the form of the type.
+    #[error("these octets aren't data of this type")]
+    Octets,
+    /// The class isn't IN.
+    #[error("the class has to be IN")]
+    Class,
+    /// A word that is no number from 0 to 255.
+    #[error("a number from 0 to 255 is needed here")]
+    Number8,
+    /// A word that is no number from 0 to 65535.
+    #[error("a number from 0 to 65535 is needed here")]
+    Number16,
+    /// A word that is no number from 0 to 4294967295.
+    #[error("a number from 0 to 4294967295 is needed here")]
+    Number32,
+    /// A word that is no algorithm.
+    #[error("an algorithm is needed here, by its number or mnemonic")]
+    Algorithm,
+    /// A word that is no TTL.
+    #[error("a TTL is needed here: at most 2147483647 seconds, or numbers with w, d, h, m or s behind them")]
+    Ttl,
+    /// A word that is no IPv4 address.
+    #[error("A takes four numbers with dots")]
+    Ipv4,
+    /// A word that is no IPv6 address.
+    #[error("AAAA takes eight groups of hex digits with colons, or fewer with ::")]
+    Ipv6,
+    /// A word that is no string of at most 255 octets.
+    #[error("a string of at most 255 octets is needed here")]
+    Text,
+    /// Words that aren't hex, or hex of another length than was said.
+    #[error("hex digits are needed here, two for each octet")]
+    Hex,
+    /// A word that is no salt.
+    #[error("a salt is needed here: at most 255 octets in hex, or - for none")]
+    Salt,
+    /// A word that is no hash.
+    #[error("a hash is needed here, in base32hex without padding")]
+    HashedOwner,
+    /// Flags that have no meaning.
+    #[error("the flags are 0, or 1 for opt-out")]
+    Flags,
+    /// Words that aren't base64.
+    #[error("base64 is needed here")]
+    Base64,
+    /// A word that is no moment.
+    #[error("a moment is needed here, as YYYYMMDDHHmmSS or in seconds")]
+    Moment,
+    /// Data that are longer than a record can have.
+    #[error("data of more than 65535 octets")]
+    TooLong,
+    /// An entry of `$INCLUDE`, which names another file.
+    #[error("$INCLUDE isn't read here")]
+    Include,
+    /// A control entry that is none.
+    #[error("a control entry is $ORIGIN, $TTL or $INCLUDE")]
+    Control,
+}
+
+/// A fault and its place.
+#[derive(Clone, Copy, PartialEq, Eq, Debug)]
+pub struct Fault {
+    pub place: Place,
+    pub reason: Reason,
+}
+
+/// Why a zone file isn't read.
+#[derive(Clone, Copy, PartialEq, Eq, Debug)]
+pub enum ReadError {
+    /// A growth that the allocator refused.
+    Memory,
+    /// The first fault of the text.
+    Fault(Fault),
+}
+
+/// Want of memory is `Memory`.
+impl From<AllocError> for ReadError {
+    ghost use Rattle.zone_file.specs.declared.fault.ReadError.TheVariants.{Memory};
+
+    ghost from_gives = { λ _ e. e ≡ Memory };
+
+    fn from(_: AllocError) -> ReadError {
+        ReadError::Memory
+    }
+}
+
+/// Want of memory is `Memory`; the value that found no room is dropped.
+impl<T: Drop> From<AllocFailed<T>> for ReadError {
+    ghost use Rattle.zone_file.specs.declared.fault.ReadError.TheVariants.{Memory};
+
+    ghost from_gives = { λ _ e. e ≡ Memory };
+
+    fn from(_: AllocFailed<T>) -> ReadError {
+        ReadError::Memory
+    }
+}
+
+/// What is wrong with the text's entries is wrong with the zone file.
+impl From<EntryError> for ReadError {
+    ghost use Rattle.zone_file.specs.Zones.{error_of};
+
+    ghost from_gives = { λ entries e. e ≡ error_of entries };
+
+    fn from(error: EntryError) -> ReadError {
+        match error {
+            EntryError::Memory => ReadError::Memory,
+            EntryError::Fault(fault) => ReadError::Fault(Fault {
+                place: fault.place,
+                reason: Reason::Entry(fault.reason),
+            }),
+        }
+    }
+}

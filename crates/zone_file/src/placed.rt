@@ -1,0 +1,11 @@
+//! A record and where it stands.
+
+use zone_entries::Place;
+use zone_proto::Record;
+
+/// A record of a zone file, and the place where its entry begins.
+#[derive(Debug, Drop)]
+pub struct PlacedRecord {
+    pub place: Place,
+    pub given: Record,
+}

@@ -1,0 +1,97 @@
+//! The words of an entry that are still to be read.
+ghost use Rattle.std.specs.Prelude.{◌≡◌, []};
+ghost use Rattle.zone_file.specs.Readings.{Gives};
+ghost use Rattle.zone_file.specs.Fields.{Left, left_at, next_word, unquoted};
+ghost use Rattle.zone_file.specs.Records.{if_none_left};
+
+use crate::fault::{Fault, ReadError, Reason};
+use std::marker::Model;
+use zone_entries::{Place, Word};
+
+/// The words that are left of an entry. Contracts see it as `Left`.
+#[derive(Drop)]
+pub(crate) struct Words<'e> {
+    place: Place,
+    words: &'e [Word],
+}
+
+impl<'e> Model for Words<'e> {
+    ghost use Rattle.zone_file.specs.Fields.{Left, left_at};
+
+    ghost Value = { Left };
+
+    ghost view = { λ w. left_at w.place w.words.now };
+}
+
+impl<'e> Words<'e> {
+    /// The words behind a word at this place.
+    pub(crate) fn new(place: Place, words: &'e [Word]) -> Words<'e>
+        ensures { result ≡ left_at place words.now }
+    {
+        Words { place, words }
+    }
+
+    /// Takes the next word, which may not be in quotes. A fault where there is none.
+    pub(crate) fn take(&mut self) -> Result<&'e Word, ReadError>
+        ensures { Gives (λ w. (w.now, self.new)) result (next_word self.old) }
+    {
+        match self.words.split_first() {
+            None => Err(self.fault(Reason::Missing)),
+            Some((word, words)) => {
+                self.place = word.place();
+                self.words = words;
+                if word.is_quoted() {
+                    return Err(self.fault(Reason::Quoted));
+                }
+                Ok(word)
+            }
+        }
+    }
+
+    /// A fault at the place of the word that was taken last.
+    pub(crate) fn fault(&self, reason: Reason) -> ReadError
+        ensures { result ≡ ReadError.Fault (record { place = self.now.place; reason = reason }) }
+    {
+        ReadError::Fault(Fault {
+            place: self.place,
+            reason,
+        })
+    }
+
+    /// The place of the word that was taken last.
+    pub(crate) fn place(&self) -> Place
+        ensures { result ≡ self.now.place }
+    {
+        self.place
+    }
+
+    /// Takes all words that are left.
+    pub(crate) fn take_rest(&mut self) -> &'e [Word]
+        ensures words { result.now ≡ self.old.words }
+        ensures none_left { self.new ≡ left_at self.old.place [] }
+    {
+        let words = self.words;
+        self.words = &[];
+        words
+    }
+
+    /// The words that are left.
+    pub(crate) fn rest(&self) -> &'e [Word]
+        ensures { result.now ≡ self.now.words }
+    {
+        self.words
+    }
+
+    /// Refuses an entry with words that weren't taken, by the first of them.
+    pub(crate) fn end(&self) -> Result<(), ReadError>
+        ensures { Gives (λ _. self.now.place) result (if_none_left self.now.place self.now.words) }
+    {
+        match self.words.first() {
+            None => Ok(()),
+            Some(word) => Err(ReadError::Fault(Fault {
+                place: word.place(),
+                reason: Reason::Surplus,
+            })),
+        }
+    }
+}

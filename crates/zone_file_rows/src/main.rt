@@ -1,0 +1,27 @@
+//! Reads texts of zone files that lines of text write, and tells which of them are read otherwise. Each line of standard input
+//! names a file of such lines, rows, in the folder where the program runs, `data`.
+//!
+//! A row is `TEXT => ANSWER`; a line without `=>` is a comment. In a text `{10}` is the octet 10, and `{97x300}` is the octet
+//! 97 three hundred times. In the file `words` a text is a call and a word; in `zones` and `printed` it is an origin and a zone
+//! file, and in any other one it is read whole and in pieces of one octet.
+#![tactic(auto)]
+
+mod entries;
+mod octets;
+mod printed;
+mod rows;
+mod words;
+mod zone;
+
+use rows::Kind;
+use std::{fs, io};
+
+fn main(rt: HostRuntime) -> io::Result<()> {
+    for file in rt.lines(rt.alloc()) {
+        let file = file?;
+        let text = fs::read_to_string(&rt, file.as_str())?;
+        let report = rows::report(rt.alloc(), Kind::of_file(file.as_str()), text.as_str())?;
+        println!(rt; "{file}: {report}")?;
+    }
+    Ok(())
+}

@@ -1,0 +1,25 @@
+//! The words of master files (RFC 1035 section 5.1), each read by itself: names relative to an origin, TTLs with units,
+//! types, classes and algorithms by word or number, addresses, moments, strings with escapes, hex, base64 and base32hex.
+//!
+//! A word is its octets as they stand in the text, with its escapes. A call answers None where the word isn't what it reads,
+//! and an error where no memory is found. What stands where in an entry is for the crate above.
+#![tactic(auto)]
+
+mod addresses;
+mod base32;
+mod digests;
+mod moments;
+mod names;
+mod registry;
+mod strings;
+mod ttls;
+mod types;
+
+pub use addresses::{read_ipv4_word, read_ipv6_word};
+pub use base32::read_base32;
+pub use digests::{read_base64, read_hex_digits, read_salt};
+pub use moments::read_moment;
+pub use names::read_name_under;
+pub use strings::{read_octets, read_string};
+pub use ttls::{read_seconds, read_ttl};
+pub use types::{read_algorithm, read_class, read_type_word, to_upper};
