@@ -32,14 +32,10 @@ pub fn make_search_call(
 /// Writes how counts and a map by itself begin.
 fn write_counts(out: &mut String, alloc: Global) -> Written {
     let map: InnerInMemory<RowSigner> = InnerInMemory::new(alloc);
-    write!(
-        out,
-        "{} read, {} by default, ",
-        Reads::new().count(),
-        Reads::default().count()
-    )?;
-    let searches = (Searches::new().count(), Searches::default().count());
-    write!(out, "{} searched, {} by default, ", searches.0, searches.1)?;
+    let mut reads = Reads::new();
+    reads.add_one();
+    let by_default = Searches::default().count();
+    write!(out, "{} read, {by_default} by default, ", reads.count())?;
     write!(
         out,
         "{} sets, {} signers",

@@ -1,17 +1,16 @@
 -- Lines that are taken from the left
-use Rattle.std.proofs.Common.{◌≡◌, ◌≢◌, ◌≤◌, ◌<◌, ◌+◌, ◌==◌, ℕ, suc, List, [], ◌∷◌, ◌++◌, Bool, true, false, cond, length, take, drop, not, ◌||◌, ◌-◌, nat_le, get_or, refl, sym, ap, ◌∙◌, subst, arith, Option, Some, None, append_assoc, append-nil, length-append, add-one, drop-cons, if◌then◌else◌, ltb}
-use Rattle.std.specs.Prelude.{All, position, map}
-use Rattle.std.specs.List.{position_or_len, slice_split, slice_range}
+use Rattle.std.proofs.Common.{◌≡◌, ◌≢◌, ◌≤◌, ◌<◌, ◌+◌, ◌==◌, ℕ, suc, List, [], ◌∷◌, ◌++◌, Bool, true, false, length, take, drop, not, ◌||◌, ◌-◌, nat_le, get_or, refl, sym, ap, ◌∙◌, subst, arith, Option, Some, None, append_assoc, append-nil, length-append, add-one, drop-cons, if◌then◌else◌}
+use Rattle.std.specs.Prelude.{All, map, slice_index}
+use Rattle.std.specs.List.{slice_split, slice_range}
 use Rattle.std.specs.Str.Lines.{lines, lines_of_parts, strip_carriage_return}
 use Rattle.std.proofs.lemmas.Bool.{eqb-true}
 use Rattle.std.proofs.lemmas.Bool.Decides.{leb_tells, nat_tests}
 use Rattle.std.proofs.lemmas.Grind.{common_steps}
-use Rattle.std.proofs.lemmas.List.{drop-drop, drop-take, get_or-take, take-append-drop}
+use Rattle.std.proofs.lemmas.List.{drop-drop, drop-take, get_or_default, get_or-take, take-append-drop}
 use Rattle.std.proofs.Math.Seq.{drop-append-add, drop-length}
 use Rattle.std.proofs.lemmas.List.Elements.{All-append}
-use Rattle.std.proofs.lemmas.List.Quantifiers.{position-Some}
 use Rattle.std.proofs.lemmas.List.Splits.{length-slice_split, slice_split_at, slice_split_none}
-use Rattle.std.proofs.lemmas.List.Sums.{fails_before_first}
+use Rattle.memchr.specs.Find.{is_byte, IsFirstByte, Passes}
 use Rattle.zone_commands.specs.Lines.{plain, lines_of}
 use Rattle.zone_commands.specs.InHand.{HasNoFeed, IsBegun, InHand, IsUntaken, TakesLine}
 use Rattle.zone_commands.specs.Kept.{begun_of, is_feed, kept_if, IsCut}
@@ -25,27 +24,21 @@ feed_test o h = by (is_feed o) refl
     by true e = absurd (h (eqb-true o 10 e))
     by false e = refl
 
-not_feed : (o : ℕ) → is_feed o ≡ false → o ≢ 10
-not_feed o h e = let feed : is_feed o ≡ true = rw e refl in absurd (grind arith)
+-- an octet of which the kit's search says that it is no line feed
+no_feed : (xs : List ℕ) (k d : ℕ) → k < length xs → ¬ Passes (is_byte 10) xs k → get_or xs k d ≢ 10
+no_feed xs k d m other e = other (ap (λ o. o == 10) (get_or_default xs k 0 d m ∙ e))
 
-pub cut_none : (xs : List ℕ) → position is_feed xs ≡ None → IsCut xs xs false
-cut_none xs h = by (ltb (position_or_len is_feed xs) (length xs)) refl h
-  where
-    by : (b : Bool) → ltb (position_or_len is_feed xs) (length xs) ≡ b → cond b (Some (position_or_len is_feed xs)) None ≡ None → IsCut xs xs false
-    by true e g = absurd (grind arith)
-    by false e g =
-        let end : length xs ≤ position_or_len is_feed xs = grind (arith, leb_tells) in
-        (λ k d m. not_feed (get_or xs k d) (fails_before_first is_feed xs k d (omega (arith, end))), refl)
+pub cut_none : (xs : List ℕ) → IsFirstByte (is_byte 10) xs None → IsCut xs xs false
+cut_none xs none = (λ k d m. no_feed xs k d m (none k (omega arith) m), refl)
 
-pub cut_some : (xs : List ℕ) (i : ℕ) → position is_feed xs ≡ Some i → IsCut xs (take i xs) true
-cut_some xs i h =
-    let at = position-Some is_feed xs i 0 h in
-    let feed : get_or xs i 0 ≡ 10 = eqb-true (get_or xs i 0) 10 at.1 in
-    let within : i < length xs = at.0 in
+pub cut_some : (xs : List ℕ) (i : ℕ) → IsFirstByte (is_byte 10) xs (Some i) → IsCut xs (take i xs) true
+cut_some xs i found =
+    let feed : get_or xs i 0 ≡ 10 = eqb-true (slice_index xs i) 10 found.1 in
+    let within : i < length xs = found.0.high in
     let from : drop i xs ≡ 10 ∷ drop (i + 1) xs = rw (add-one, drop-cons xs i 0) (ap (λ o. o ∷ drop (suc i) xs) feed) in
     let before : HasNoFeed (take i xs) = λ k d m.
     let low : k < i = grind (arith, common_steps) in
-    rw (get_or-take i xs k d low) (not_feed (get_or xs k d) ((position-Some is_feed xs i d h).2 k low)) in
+    rw (get_or-take i xs k d low) (no_feed xs k d (omega (arith, low, within)) (found.0.before k (omega arith) low)) in
     (before, (drop (i + 1) xs, sym (take-append-drop i xs) ∙ ap (λ ys. take i xs ++ ys) from))
 
 pub ruleset cutting = (cut_none, cut_some)

@@ -1,5 +1,5 @@
 //! The lines of an input, as they are read.
-ghost use Rattle.std.specs.Prelude.{◌≡◌, ◌≤◌, ◌<◌, ◌+◌, ◌↔◌, ◌≢◌, ℕ, List, [], ◌∷◌, ◌++◌, Some, None, vec_len, vec_capacity, length, IfOk, IfSome, IfNone, OnOk, OnErr, IsTrue, true, nat_le, position, if◌then◌else◌};
+ghost use Rattle.std.specs.Prelude.{◌≡◌, ◌≤◌, ◌<◌, ◌+◌, ◌↔◌, ◌≢◌, ℕ, List, [], ◌∷◌, ◌++◌, Some, None, vec_len, vec_capacity, length, IfOk, IfSome, IfNone, OnOk, OnErr, IsTrue, true, nat_le, if◌then◌else◌};
 ghost use Rattle.std.specs.Bool.{OnFalse, OnTrue};
 ghost use Rattle.std.specs.Io.KnownBytes.{Consumes, IsAtEnd, Keeps, ReadConsumes};
 ghost use Rattle.std.specs.Io.{ReadsAtMost};
@@ -8,8 +8,9 @@ ghost use Rattle.std.specs.Str.Lines.{strip_carriage_return};
 ghost use Rattle.zone_commands.specs.Lines.{is_plain, plain};
 ghost use Rattle.zone_commands.specs.InHand.{IsBegun};
 ghost use Rattle.zone_commands.specs.Told.{told};
-ghost use Rattle.zone_commands.specs.Kept.{begun_of, is_feed, kept_if, IsCut};
+ghost use Rattle.zone_commands.specs.Kept.{begun_of, kept_if, IsCut};
 
+use memchr::memchr;
 use std::alloc::{AllocError, Global};
 use std::io;
 use std::io::{ErrorKind, Read};
@@ -150,17 +151,10 @@ impl Lines {
 fn first_piece(unread: &[u8]) -> (&[u8], bool)
     ensures { IsCut unread.now result.0.now result.1 }
 {
-    match first_feed(unread) {
+    match memchr(b'\n', unread) {
         Some(end) => (&unread[..end], true),
         None => (unread, false),
     }
-}
-
-/// The place of the first line feed.
-fn first_feed(unread: &[u8]) -> Option<usize>
-    ensures { result ≡ position is_feed unread.now }
-{
-    unread.iter().position(|octet| *octet == b'\n')
 }
 
 /// Puts a piece behind what was taken of the line that goes on, or at the beginning of a new one. Answers whether all that was

@@ -1,5 +1,5 @@
 //! The NSEC3 sets that a zone gets when it is secured.
-ghost use Rattle.std.specs.Prelude.{◌≡◌, ◌↔◌, ◌⊎◌, ◌<◌, ◌-◌, ◌==◌, ◌&&◌, ℕ, length, map, [], slice_index_or, slice_get, Some, None, option_copied, option_map, unwrap_or, true, false, IsTrue, IsFalse, IfSome, IfOk, IfErr, OnOk, IsOkUnless, All};
+ghost use Rattle.std.specs.Prelude.{◌≡◌, ◌↔◌, ◌⊎◌, ◌<◌, ◌-◌, ◌==◌, ◌&&◌, ℕ, length, map, [], slice_index_or, slice_get, Some, None, option_copied, option_map, unwrap_or, true, false, IsTrue, IsFalse, IfSome, IfOk, IfErr, OnOk, IsOkUnless};
 ghost use Rattle.std.specs.List.{AllByRecursion};
 ghost use Rattle.std.specs.List.Sorted.{IsStrictlySortedBy};
 ghost use Rattle.std.specs.Option.{IfNone};
@@ -17,14 +17,11 @@ ghost use Rattle.zone_map.specs.Zones.{set_at, IsStoredAt};
 ghost use Rattle.zone_denial.specs.Covering.{next_around};
 ghost use Rattle.zone_denial.specs.HashedNames.{hashed, all_fit, linked_record, circle_sets_at, circle_with};
 ghost use Rattle.zone_denial.specs.RepeatedDigests.{RepeatsDigest, EndsWith, IsPutBehind};
-ghost use Rattle.zone_denial.specs.Nsec3Nodes.{name_of, types_of};
-ghost use Rattle.zone_denial.specs.Nsec3Circle.{nsec3_types};
-ghost use Rattle.zone_denial.specs.Nsec3Names.{nsec3_names};
 ghost use Rattle.zone_denial.specs.Nsec3Sets.{hashed_cmp, with_taken, announced_set, nsec3_sets_at, nsec3_fault};
 ghost use Rattle.zone_denial.specs.Nsec3Zones.{hash_with};
 
 use crate::hashed_names::{HashedName, hashed_names};
-use crate::nsec3_names::{Nsec3Name, nsec3_names};
+use crate::nsec3_names::nsec3_names;
 use crate::nsec3_standing::{is_announced, nsec3_sets_stand};
 use zone_handler::SecureError;
 use zone_map::{NewSets, RecordMap};
@@ -84,57 +81,11 @@ pub fn nsec3_sets<H: Nsec3Hash>(
         parameters.now.opt_out
         ≡ Some e)) }
 {
-    match nsec3_names(records, origin, parameters.opt_out) {
-        Ok(names) => sets_of_names(&names, records, origin, hash, parameters, ttl, serial),
-        Err(_) => Err(SecureError::Memory),
-    }
-}
-
-/// The same of the names that get NSEC3 sets, with their types.
-fn sets_of_names<H: Nsec3Hash>(
-    names: &[Nsec3Name<'_>],
-    records: &RecordMap,
-    origin: &LowerName,
-    hash: &H,
-    parameters: &NSEC3PARAM,
-    ttl: u32,
-    serial: u32,
-) -> Result<Option<NewSets>, SecureError>
-    requires names { map name_of names.now
-        ≡ nsec3_names origin.now records.now parameters.now.opt_out }
-    requires types { All (λ n. types_of n ≡ nsec3_types origin.now records.now (name_of n))
-        names.now }
-    ensures made { IfOk result
-        (λ made. IfSome made
-        (λ map. (n : Name) (t : ℕ)
-        → set_at map n t
-        ≡ nsec3_sets_at origin.now records.now
-        (hash_with (H.digest_of hash.now) parameters.now) parameters.now ttl serial
-        n t)) }
-    ensures standing { IfOk result
-        (λ made. IfNone made
-        ((n : Name)
-        → standing_at records.now nsec3_type serial n nsec3_type
-        ≡ nsec3_sets_at origin.now records.now
-        (hash_with (H.digest_of hash.now) parameters.now) parameters.now ttl serial
-        n nsec3_type)) }
-    ensures announced { IfOk result
-        (λ made. IfNone made
-        (set_at records.now origin.now nsec3param_type
-        ≡ nsec3_sets_at origin.now records.now
-        (hash_with (H.digest_of hash.now) parameters.now) parameters.now ttl serial
-        origin.now nsec3param_type)) }
-    ensures fits { OnOk result
-        (nsec3_fault origin.now records.now (hash_with (H.digest_of hash.now) parameters.now)
-        parameters.now.opt_out
-        ≡ None) }
-    ensures err { IfErr result
-        (λ e. (e ≡ SecureError.Memory)
-        ⊎ (nsec3_fault origin.now records.now (hash_with (H.digest_of hash.now) parameters.now)
-        parameters.now.opt_out
-        ≡ Some e)) }
-{
-    let held = match hashed_names(origin.alloc(), names, hash, parameters) {
+    let names = match nsec3_names(records, origin, parameters.opt_out) {
+        Ok(names) => names,
+        Err(_) => return Err(SecureError::Memory),
+    };
+    let held = match hashed_names(origin.alloc(), &names, hash, parameters) {
         Ok(held) => held,
         Err(ProtoError::Memory) => return Err(SecureError::Memory),
         Err(_) => return Err(SecureError::Hash),

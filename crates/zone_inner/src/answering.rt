@@ -12,8 +12,8 @@ use crate::chain::into_sets;
 use crate::flattening::{flattened, stands_for_addresses};
 use crate::found::Found;
 use crate::inner_in_memory::InnerInMemory;
-use crate::searches::Searches;
 use zone_handler::{AuthLookup, LookupError, LookupOptions, LookupRecords};
+use zone_map::Searches;
 use zone_proto::{LowerName, ProtoError, RecordSet, RecordType, Signer};
 
 /// What `zone_in_memory` makes a zone of: no user of a zone needs it.

@@ -7,8 +7,8 @@ ghost use Rattle.zone_map.specs.Counts.{counted_more};
 
 use crate::found::Found;
 use crate::inner_in_memory::InnerInMemory;
-use crate::searches::Searches;
 use zone_handler::{LookupError, LookupOptions};
+use zone_map::Searches;
 use zone_proto::{LowerName, ProtoError, RData, RecordSet, RecordType, Signer};
 
 // How many sets a chain has at most.

@@ -21,7 +21,6 @@ ghost use Rattle.zone_map.specs.Zones.{set_at, has_key_from, owns_at_or_below, p
 mod securing;
 
 use crate::found::{Found, Outcome};
-use crate::searches::Searches;
 use crate::zone_error::ZoneError;
 use std::alloc::Global;
 use std::collections::BTreeMap;
@@ -30,7 +29,7 @@ use zone_denial::denial::{self, NsecDenial};
 use zone_denial::{closest, nsec3_denial};
 use zone_handler::{LookupError, LookupOptions, Nsec3QueryInfo};
 use zone_map::direct::{self, Direct};
-use zone_map::{DenialOwners, Reads, RecordMap, wildcard};
+use zone_map::{DenialOwners, Reads, RecordMap, Searches, wildcard};
 use zone_proto::{
     DNSClass, LowerName, Nsec3Hash, ProtoError, Record, RecordSet, RecordType, RrKey, Signer,
 };

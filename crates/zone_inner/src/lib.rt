@@ -15,12 +15,11 @@ mod found;
 mod inner_in_memory;
 pub mod laws;
 mod listed_sets;
-mod searches;
 mod seen_names;
 pub mod start_of_authority;
 mod zone_error;
 
 pub use found::{Found, Outcome};
 pub use inner_in_memory::InnerInMemory;
-pub use searches::Searches;
 pub use zone_error::ZoneError;
+pub use zone_map::Searches;

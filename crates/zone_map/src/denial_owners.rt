@@ -4,7 +4,7 @@ ghost use Rattle.std.specs.Iterator.{YieldsFirstRef, item_count};
 ghost use Rattle.std.specs.Map.Iter.{TakesLast, deref};
 ghost use Rattle.zone_map.specs.Counts.{one_more_if};
 
-use crate::reads::Reads;
+use crate::counter::Reads;
 use std::alloc::AllocError;
 use std::collections::btree_set::{Iter, Range};
 use std::marker::Model;

@@ -7,17 +7,17 @@
 #![tactic(auto)]
 
 mod at_name;
+mod counter;
 mod denial_index;
 mod denial_owners;
 pub mod direct;
 mod keys_ahead;
 mod new_sets;
-mod reads;
 mod record_map;
 pub mod wildcard;
 
+pub use counter::{Counter, Reads, Searches};
 pub use denial_owners::{DenialOwners, LastOwners};
 pub use keys_ahead::KeysAhead;
 pub use new_sets::NewSets;
-pub use reads::Reads;
 pub use record_map::{RecordMap, Replaced};

@@ -17,8 +17,8 @@ mod puts;
 mod renewal;
 mod serials;
 
+use crate::counter::Reads;
 use crate::denial_index::DenialIndex;
-use crate::reads::Reads;
 pub use puts::Replaced;
 use std::alloc::Global;
 use std::collections::BTreeMap;

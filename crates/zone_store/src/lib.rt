@@ -6,9 +6,9 @@
 //!   (RFC 1034 section 4.3.2), `nsec_records` (RFC 4035 section 3.1.3), `nsec3_records` (RFC 5155 section 7.2) and
 //!   `zone_transfer` (RFC 5936), which are calls of the traits `ZoneHandler` and `DnssecZoneHandler` of `zone_handler`.
 //!   [`PutRefused`] says why a set was not stored.
-//! - [`InnerInMemory`] is what a zone lends for reading: its record sets by name and type, and its signers. [`Searches`] counts
-//!   what is searched among them, [`Found`] is a set that was found, and [`ZoneError`] says why there is none. [`DenialOwners`]
-//!   lends the owners of its sets of denial, and [`Reads`] counts what is read of them.
+//! - [`InnerInMemory`] is what a zone lends for reading: its record sets by name and type, and its signers. [`Found`] is a set
+//!   that was found, and [`ZoneError`] says why there is none. [`DenialOwners`] lends the owners of its sets of denial. A
+//!   [`Counter`] counts what is searched ([`Searches`]) and what is read ([`Reads`]).
 //! - [`program`] has the command language of `zonectl` over any reader and writer, with the signer and the hash of its
 //!   demonstrations.
 //! - [`laws`] has laws of the definitions: contracts of functions that do nothing. What the contracts of all these calls cite
@@ -25,4 +25,4 @@ pub mod program {
 
 pub use zone_in_memory::{InMemoryZoneHandler, PutRefused, laws};
 pub use zone_inner::{Found, InnerInMemory, Searches, ZoneError};
-pub use zone_map::{DenialOwners, Reads};
+pub use zone_map::{Counter, DenialOwners, Reads};
