@@ -1,0 +1,83 @@
+//! The answer to a call.
+
+use crate::limits::limits_answer;
+use crate::meant::{Meant, read_meant, response_of, sections_of};
+use scarce::Scarcity;
+use std::alloc::{AllocError, Global};
+use zone_text::{HexText, TextError};
+use zone_wire::{Response, WriteError, write_response};
+
+/// How many rooms are tried before a call has to succeed.
+const ROOMS: usize = 400;
+
+/// How many octets more each room has.
+const STEP: usize = 16;
+
+/// The answer to a call.
+pub fn answer(alloc: Global, call: &str) -> Result<String, AllocError> {
+    let Some((verb, words)) = call.split_once(" ") else {
+        return format!(in alloc; "a row that can't be read");
+    };
+    match read_meant(alloc, words) {
+        Ok(meant) => answer_of(alloc, verb, &meant),
+        Err(TextError::BadText) => format!(in alloc; "a row that can't be read"),
+        Err(TextError::Memory) => Err(AllocError),
+    }
+}
+
+/// What becomes of a response.
+fn answer_of(alloc: Global, verb: &str, meant: &Meant) -> Result<String, AllocError> {
+    let sections = sections_of(alloc, meant)?;
+    let response = response_of(meant, &sections);
+    match verb {
+        "write" | "length" => write_answer(alloc, verb, &response, meant.limit),
+        "limits" => limits_answer(alloc, &response, meant.limit),
+        "refusals" => refusals_answer(alloc, &response, meant.limit),
+        _ => format!(in alloc; "no such call"),
+    }
+}
+
+/// The octets of a response, or how many they are, or why there are none.
+fn write_answer(
+    alloc: Global,
+    verb: &str,
+    response: &Response<'_, '_>,
+    limit: u16,
+) -> Result<String, AllocError> {
+    let mut out = Vec::new(alloc);
+    match write_response(alloc, &mut out, response, limit) {
+        Ok(()) if verb == "length" => format!(in alloc; "{} octets", out.len()),
+        Ok(()) => format!(in alloc; "{}", HexText(out.as_slice())),
+        Err(WriteError::NoRoom) => format!(in alloc; "no room"),
+        Err(WriteError::Unwritable) => format!(in alloc; "unwritable"),
+        Err(WriteError::Memory) => Err(AllocError),
+    }
+}
+
+/// Whether writing a response was refused memory, and whether it was written then.
+fn refusals_answer(
+    alloc: Global,
+    response: &Response<'_, '_>,
+    limit: u16,
+) -> Result<String, AllocError> {
+    let mut scarce = Scarcity::new(alloc)?;
+    scarce.begin(ROOMS)?;
+    let given = scarce.until_given(STEP, || is_written(alloc, response, limit));
+    scarce.end();
+    match given {
+        None => format!(in alloc; "refused"),
+        Some((0, _)) => format!(in alloc; "never refused"),
+        Some((_, true)) => format!(in alloc; "refused, then written"),
+        Some((_, false)) => format!(in alloc; "refused, then not written"),
+    }
+}
+
+/// Whether a response is written; none where memory is refused, and no octets are left.
+fn is_written(alloc: Global, response: &Response<'_, '_>, limit: u16) -> Option<bool> {
+    let mut out = Vec::new(alloc);
+    match write_response(alloc, &mut out, response, limit) {
+        Ok(()) => Some(true),
+        Err(WriteError::Memory) if out.is_empty() => None,
+        Err(_) => Some(false),
+    }
+}

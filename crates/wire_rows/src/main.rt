@@ -1,0 +1,34 @@
+//! Writes responses that rows of text mean, and tells which of them are written otherwise. Each line of standard input names a
+//! file of rows in the folder where the program runs, `data`.
+//!
+//! A row is `CALL => ANSWER`; a line without `=>` is a comment, and spaces within an answer are passed over. The calls:
+//!
+//! - `write RESPONSE` writes a response: its octets in hex, or why it was not written; `length RESPONSE` tells how many they are;
+//! - `limits RESPONSE` writes it at each limit from 12 octets on, below the one that it names, and reads each message that was
+//!   written: from which limit on how many records each section has, and whether TC is set;
+//! - `refusals RESPONSE` writes it with no memory left, and then with a little more each time: whether memory was refused, and
+//!   whether the response was written then.
+//!
+//! A response is `LIMIT CODE SIZE FLAG; HEX; SET; SET ..`: the limit in octets, the response code, how many octets the server
+//! takes, `aa` or `-`, the octets of the query, and the sets. A set is `SECTION RECORD | RECORD & SIGNATURE | SIGNATURE`, and all
+//! of it has the TTL of its first record. A record is `NAME TTL TYPE DATA`, the data of NSEC, NSEC3, NSEC3PARAM, DNSKEY and RRSIG
+//! as one word of hex, and those of TYPE65280 as a count of octets 0.
+#![tactic(auto)]
+
+mod answer;
+mod limits;
+mod meant;
+mod rows;
+mod sets;
+
+use std::{fs, io};
+
+fn main(rt: HostRuntime) -> io::Result<()> {
+    for file in rt.lines(rt.alloc()) {
+        let file = file?;
+        let text = fs::read_to_string(&rt, file.as_str())?;
+        let report = rows::report(rt.alloc(), text.as_str())?;
+        println!(rt; "{file}: {report}")?;
+    }
+    Ok(())
+}

@@ -1,0 +1,130 @@
+//! Sets of records that rows mean.
+
+use crate::rows::without_spaces;
+use std::alloc::{AllocError, Global};
+use zone_message::plain_data_of;
+use zone_proto::{RData, Record, RecordType};
+use zone_text::{TextError, Words, read_data, read_hex, read_name, read_type};
+use zone_wire::Group;
+
+/// The type whose data a row gives as a count of octets 0: the first for private use (RFC 6895 section 3.1).
+const ZEROS: u16 = 65280;
+
+/// The records of a set, the signatures that cover them, and the TTL of all of them in seconds.
+#[derive(Drop)]
+pub struct Set {
+    records: Vec<Record>,
+    signatures: Vec<Record>,
+    ttl: u32,
+}
+
+/// Reads a set: its records, and its signatures behind `&`.
+pub fn read_set(alloc: Global, text: &str) -> Result<Set, TextError> {
+    let (records, signatures) = text.split_once(" & ").unwrap_or((text, ""));
+    let records = read_records(alloc, records)?;
+    let signatures = read_records(alloc, signatures)?;
+    let ttl = match records.as_slice() {
+        [first, ..] => first.ttl,
+        [] => 0,
+    };
+    Ok(Set {
+        records,
+        signatures,
+        ttl,
+    })
+}
+
+/// Reads records with `|` between them.
+fn read_records(alloc: Global, text: &str) -> Result<Vec<Record>, TextError> {
+    let mut records = Vec::new(alloc);
+    if text.is_empty() {
+        return Ok(records);
+    }
+    for line in text.split(" | ") {
+        let record = read_line(alloc, line)?;
+        records.push(record)?;
+    }
+    Ok(records)
+}
+
+/// Reads a record.
+fn read_line(alloc: Global, line: &str) -> Result<Record, TextError> {
+    let mut words = Words::new(line.as_bytes());
+    let owner = read_name(alloc, &mut words)?;
+    let ttl = words.take_u32()?;
+    let record_type = read_type(&mut words)?;
+    let rdata = read_parts(alloc, record_type, &mut words)?;
+    words.end()?;
+    Ok(Record::from_rdata(owner, ttl, rdata))
+}
+
+/// Reads the data of a record.
+fn read_parts(
+    alloc: Global,
+    record_type: RecordType,
+    words: &mut Words<'_>,
+) -> Result<RData, TextError> {
+    match record_type {
+        RecordType::NSEC
+        | RecordType::NSEC3
+        | RecordType::NSEC3PARAM
+        | RecordType::DNSKEY
+        | RecordType::RRSIG => {
+            let word = words.take_needed()?;
+            read_octets(alloc, record_type, word)
+        }
+        RecordType(ZEROS) => {
+            let count = words.take_u16()?;
+            zeros(alloc, count)
+        }
+        _ => read_data(alloc, record_type, words),
+    }
+}
+
+/// Reads the octets of data that a word of hex writes.
+fn read_octets(alloc: Global, record_type: RecordType, word: &[u8]) -> Result<RData, TextError> {
+    let Some(octets) = read_hex(alloc, word)? else {
+        return Err(TextError::BadText);
+    };
+    data_of(alloc, record_type, octets.as_slice())
+}
+
+/// Data of so many octets 0.
+fn zeros(alloc: Global, count: u16) -> Result<RData, TextError> {
+    let mut octets = Vec::new(alloc);
+    for _ in 0..count {
+        octets.push(0u8)?;
+    }
+    data_of(alloc, RecordType(ZEROS), octets.as_slice())
+}
+
+/// The data that octets are.
+fn data_of(alloc: Global, record_type: RecordType, octets: &[u8]) -> Result<RData, TextError> {
+    match plain_data_of(alloc, record_type, octets)? {
+        Some(rdata) => Ok(rdata),
+        None => Err(TextError::BadText),
+    }
+}
+
+/// The octets that hex writes, in which spaces are passed over.
+pub fn octets_of(alloc: Global, hex: &str) -> Result<Vec<u8>, TextError> {
+    let digits = without_spaces(alloc, hex)?;
+    match read_hex(alloc, digits.as_slice())? {
+        Some(octets) => Ok(octets),
+        None => Err(TextError::BadText),
+    }
+}
+
+/// Sets as groups of a response.
+pub fn groups_of(alloc: Global, sets: &[Set]) -> Result<Vec<Group<'_>>, AllocError> {
+    let mut groups = Vec::new(alloc);
+    for set in sets {
+        let group = Group {
+            records: set.records.as_slice(),
+            signatures: set.signatures.as_slice(),
+            ttl: set.ttl,
+        };
+        groups.push(group)?;
+    }
+    Ok(groups)
+}

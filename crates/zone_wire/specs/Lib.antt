@@ -1,0 +1,9 @@
+pub mod Continuing
+pub mod KnownNames
+pub mod StrictReading
+pub mod TypeMapText
+pub mod DataText
+pub mod HeaderText
+pub mod Responses
+pub mod Outcomes
+pub mod Checks
