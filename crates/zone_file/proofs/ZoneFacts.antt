@@ -9,10 +9,11 @@ use Rattle.zone_entries.specs.declared.fault.EntryError.TheVariants as entries
 use Rattle.zone_entries.specs.Entries.{EntryWords, Event, Whole, Broken}
 use Rattle.zone_file.specs.declared.context.Context.{Context}
 use Rattle.zone_file.specs.declared.placed.PlacedRecord.{PlacedRecord}
-use Rattle.zone_file.specs.declared.fault.Fault.{Fault}
-use Rattle.zone_file.specs.declared.fault.ReadError.TheVariants as errors
+use Rattle.zone_file.specs.declared.error.ZoneFault.{ZoneFault}
+use Rattle.zone_file.specs.declared.error.ZoneError.TheVariants as errors
+use Rattle.zone_file.specs.Faults.{as_fault, error_of}
 use Rattle.zone_file.specs.Records.{read_entry}
-use Rattle.zone_file.specs.Zones.{EndsIn, Outcome, Read, Standing, Stopped, as_fault, error_of, outcomes, outcomes_from, with_record, zone_of}
+use Rattle.zone_file.specs.Zones.{EndsIn, Outcome, Read, Standing, Stopped, outcomes, outcomes_from, with_record, zone_of}
 
 pub same_outcomes : (c : Context) (es fs : List Event) → es ≡ fs → outcomes es c ≡ outcomes fs c
 same_outcomes c es fs h = ap (λ (x : List Event). outcomes x c) h
@@ -21,16 +22,16 @@ pub entry_read : (es rest : List Event) (e : EntryWords) (c d : Context) (r : Op
     → es ≡ Whole e ∷ rest → read_entry c e ≡ Ok (d, r) → outcomes es c ≡ with_record r (outcomes rest d)
 entry_read es rest e c d r h k = rw (h, k) refl
 
-pub entry_wrong : (es rest : List Event) (e : EntryWords) (c : Context) (f : Fault)
+pub entry_wrong : (es rest : List Event) (e : EntryWords) (c : Context) (f : ZoneFault)
     → es ≡ Whole e ∷ rest → read_entry c e ≡ Err f → outcomes es c ≡ Stopped f ∷ []
 entry_wrong es rest e c f h k = rw (h, k) refl
 
-pub text_wrong : (es : List Event) (c : Context) (x : EntryError) (f : Fault)
+pub text_wrong : (es : List Event) (c : Context) (x : EntryError) (f : ZoneFault)
     → error_of x ≡ errors.Fault f → ((g : EntryFault) → x ≡ entries.Fault g → es ≡ Broken g ∷ []) → outcomes es c ≡ Stopped f ∷ []
 text_wrong es c entries.Memory f h k = absurd (cc)
 text_wrong es c (entries.Fault g) f h k =
     let same : as_fault g ≡ f = cc in
-    rw (k g refl) (ap (λ (x : Fault). Stopped x ∷ []) same)
+    rw (k g refl) (ap (λ (x : ZoneFault). Stopped x ∷ []) same)
 
 pub ruleset readings = (entry_read, entry_wrong, text_wrong)
 
@@ -51,7 +52,7 @@ pub last_one : (rs qs : List PlacedRecord) (os : List Outcome) (r : Option Place
 last_one rs qs os r k p = ap (λ (x : List Outcome). map Read rs ++ x) k ∙ p [] ∙ append-nil (map Read qs)
 
 -- a fault behind what was read
-pub stops : (rs : List PlacedRecord) (all os : List Outcome) (f : Fault) → all ≡ map Read rs ++ os → os ≡ Stopped f ∷ [] → EndsIn f all
+pub stops : (rs : List PlacedRecord) (all os : List Outcome) (f : ZoneFault) → all ≡ map Read rs ++ os → os ≡ Stopped f ∷ [] → EndsIn f all
 stops rs all os f h k = (rs, h ∙ ap (λ (x : List Outcome). map Read rs ++ x) k)
 
 -- a text whose records are taken as one piece, behind none
@@ -67,13 +68,13 @@ pub whole_text : (origin : Name) (text : List ℕ) (y z : Standing) (ps rs qs : 
     → zone_of origin text ≡ map Read qs
 whole_text origin text y z ps rs qs none start h k = sym (of_text origin text y ps none start) ∙ h [] ∙ k
 
-pub piece_ends : (origin : Name) (text : List ℕ) (y : Standing) (ps : List PlacedRecord) (f : Fault)
+pub piece_ends : (origin : Name) (text : List ℕ) (y : Standing) (ps : List PlacedRecord) (f : ZoneFault)
     → ps ≡ [] → ((t : List ℕ) → outcomes_from t y ≡ zone_of origin t)
     → ((more : List ℕ) → EndsIn f (map Read ps ++ outcomes_from (text ++ more) y))
     → EndsIn f (zone_of origin text)
 piece_ends origin text y ps f none start h = subst (EndsIn f) (of_text origin text y ps none start) (h [])
 
-pub text_ends : (origin : Name) (text : List ℕ) (y z : Standing) (ps rs : List PlacedRecord) (f : Fault)
+pub text_ends : (origin : Name) (text : List ℕ) (y z : Standing) (ps rs : List PlacedRecord) (f : ZoneFault)
     → ps ≡ [] → ((t : List ℕ) → outcomes_from t y ≡ zone_of origin t)
     → ((more : List ℕ) → map Read ps ++ outcomes_from (text ++ more) y ≡ map Read rs ++ outcomes_from more z)
     → EndsIn f (map Read rs ++ outcomes_from [] z)

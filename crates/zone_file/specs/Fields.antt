@@ -31,12 +31,15 @@ abbrev pub word_of : Place → List WordText → Reading WordText
 word_of p [] = Err (fault p reason.Missing)
 word_of p (w ∷ ws) = Ok (w, left_at w.place ws)
 
+abbrev pub next_any_word : Left → Reading WordText
+next_any_word l = word_of l.place l.words
+
 -- the next word, which may not be in quotes
 abbrev pub unquoted : WordText → Left → Reading WordText
 unquoted w l = if w.quoted then Err (fault w.place reason.Quoted) else Ok (w, l)
 
 abbrev pub next_word : Left → Reading WordText
-next_word l = word_of l.place l.words >>= λ w. unquoted w.0 w.1
+next_word l = next_any_word l >>= λ w. unquoted w.0 w.1
 
 -- the next word, read by itself; a word that isn't of the form that is read is a fault at its place
 abbrev pub or_fault : {X : Type 0} → Option X → Reason → Left → Reading X
@@ -45,6 +48,10 @@ or_fault (Some x) why l = Ok (x, l)
 
 abbrev pub next : {X : Type 0} → (List ℕ → Option X) → Reason → Left → Reading X
 next read why l = next_word l >>= λ w. or_fault (read w.0.octets) why w.1
+
+-- the same of a word in quotes or not
+abbrev pub next_any : {X : Type 0} → (List ℕ → Option X) → Reason → Left → Reading X
+next_any read why l = next_any_word l >>= λ w. or_fault (read w.0.octets) why w.1
 
 abbrev pub next_u8 : Left → Reading ℕ
 next_u8 = next (number_within 10 255) reason.Number8

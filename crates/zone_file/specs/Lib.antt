@@ -1,6 +1,11 @@
-pub mod Data
-pub mod Denials
-pub mod Fields
 pub mod Readings
+pub mod Fields
+pub mod Texts
+pub mod Keys
+pub mod Services
+pub mod Denials
+pub mod Data
+pub mod Faults
 pub mod Records
 pub mod Zones
+pub mod Inputs

@@ -17,8 +17,10 @@ use Rattle.zone_file.specs.declared.fault.Reason.TheVariants as reason
 use Rattle.zone_file.specs.declared.fault.Fault.{Fault}
 use Rattle.zone_file.specs.declared.context.Context.{Context}
 use Rattle.zone_file.specs.declared.placed.PlacedRecord.{PlacedRecord}
+use Rattle.zone_file.specs.declared.error.ZoneFault.{ZoneFault}
 use Rattle.zone_file.specs.Readings.{fault, or_else_fault, ◌>>=◌}
-use Rattle.zone_file.specs.Fields.{Left, Reading, left_at, next_name, next_type, next_ttl}
+use Rattle.zone_file.specs.Fields.{Left, Reading, left_at, next_any_word, next_name, next_type, next_ttl}
+use Rattle.zone_file.specs.Faults.{with_word}
 use Rattle.zone_file.specs.Data.{next_data, data_size}
 
 -- Owner. That of an entry whose line begins with a blank is the last one given. The words behind it are left.
@@ -106,12 +108,12 @@ read_record c indented p l = do
   ttl ← or_else_fault (ttl_for c given.0 d.0) (fault p reason.NoTtl)
   if_none_left (record c { owner = Some owner.0; last_ttl = Some ttl }, class_in owner.0 ttl d.0) d.1.words
 
--- a control entry: $ORIGIN and a name, $TTL and a TTL; $INCLUDE isn't read
+-- a control entry: $ORIGIN and a name, $TTL and a TTL; $INCLUDE and the file that it names, which isn't read
 unfoldable pub read_control : Context → List ℕ → Left → Result Context Fault
 read_control c verb l =
     if same_octets verb (codes "$ORIGIN") then (next_name c.origin l >>= λ n. if_none_left (record c { origin = n.0 }) n.1.words)
     else (if same_octets verb (codes "$TTL") then (next_ttl l >>= λ t. if_none_left (record c { ttl = Some t.0 }) t.1.words)
-    else (if same_octets verb (codes "$INCLUDE") then Err (fault l.place reason.Include)
+    else (if same_octets verb (codes "$INCLUDE") then (next_any_word l >>= λ w. Err (fault w.1.place reason.Include))
     else Err (fault l.place reason.Control)))
 
 -- a control entry begins with `$`, which isn't in quotes and has no blank before it
@@ -132,5 +134,5 @@ read_words c indented (w ∷ ws) =
     if is_control indented w then (read_control c (upper w.octets) (left_at w.place ws) >>= λ d. Ok (d, None))
     else (read_record c indented w.place (left_at w.place (w ∷ ws)) >>= λ r. Ok (r.0, Some (placed_at w.place r.1)))
 
-abbrev pub read_entry : Context → EntryWords → Result (Context × Option PlacedRecord) Fault
-read_entry c e = read_words c e.indented e.words
+abbrev pub read_entry : Context → EntryWords → Result (Context × Option PlacedRecord) ZoneFault
+read_entry c e = with_word e.words (read_words c e.indented e.words)

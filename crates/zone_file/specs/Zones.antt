@@ -1,41 +1,26 @@
 -- What is read of a whole zone file
 use Rattle.std.specs.Prelude.{◌≡◌, ℕ, List, [], ◌∷◌, ◌++◌, map, Option, Some, None, Result, Ok, Err}
 use Rattle.zone_proto.specs.Names.{Name}
-use Rattle.zone_entries.specs.declared.fault.EntryFault.{EntryFault}
-use Rattle.zone_entries.specs.declared.fault.EntryError.{EntryError}
-use Rattle.zone_entries.specs.declared.fault.EntryError.TheVariants as entries
 use Rattle.zone_entries.specs.Entries.{Event, Whole, Broken, events_of}
 use Rattle.zone_entries.specs.Steps.{Reader, events_from}
-use Rattle.zone_file.specs.declared.fault.Reason.TheVariants as reason
-use Rattle.zone_file.specs.declared.fault.Fault.{Fault}
-use Rattle.zone_file.specs.declared.fault.ReadError.{ReadError}
-use Rattle.zone_file.specs.declared.fault.ReadError.TheVariants as errors
+use Rattle.zone_file.specs.declared.error.ZoneFault.{ZoneFault}
 use Rattle.zone_file.specs.declared.context.Context.{Context}
 use Rattle.zone_file.specs.declared.placed.PlacedRecord.{PlacedRecord}
-use Rattle.zone_file.specs.Readings.{fault}
+use Rattle.zone_file.specs.Faults.{as_fault}
 use Rattle.zone_file.specs.Records.{read_entry}
 
 -- a record with its place, or the first fault, with which reading ends
 pub data Outcome : Type 0 where
   Read : PlacedRecord → Outcome
-  Stopped : Fault → Outcome
+  Stopped : ZoneFault → Outcome
 
 abbrev pub with_record : Option PlacedRecord → List Outcome → List Outcome
 with_record None os = os
 with_record (Some r) os = Read r ∷ os
 
-abbrev pub outcome_then : Result (Context × Option PlacedRecord) Fault → (Context → List Outcome) → List Outcome
+abbrev pub outcome_then : Result (Context × Option PlacedRecord) ZoneFault → (Context → List Outcome) → List Outcome
 outcome_then (Ok x) more = with_record x.1 (more x.0)
 outcome_then (Err f) more = Stopped f ∷ []
-
--- a text that can't be cut into entries is no zone file for that reason
-abbrev pub as_fault : EntryFault → Fault
-as_fault f = fault f.place (reason.Entry f.reason)
-
--- and a call that isn't answered entries
-abbrev pub error_of : EntryError → ReadError
-error_of entries.Memory = errors.Memory
-error_of (entries.Fault f) = errors.Fault (as_fault f)
 
 -- entries, one after the other
 abbrev pub outcomes : List Event → Context → List Outcome
@@ -52,7 +37,7 @@ abbrev pub zone_of : Name → List ℕ → List Outcome
 zone_of origin text = outcomes (events_of text) (context_of origin)
 
 -- reading ends in this fault, behind some records
-abbrev pub EndsIn : Fault → List Outcome → Type 0
+abbrev pub EndsIn : ZoneFault → List Outcome → Type 0
 EndsIn f os = (rs : List PlacedRecord) × (os ≡ map Read rs ++ Stopped f ∷ [])
 
 -- what has been read of a text that comes in pieces, and what is read of the rest of it

@@ -5,13 +5,15 @@ ghost use Rattle.zone_file.specs.declared.fault.Reason.TheVariants as reason;
 ghost use Rattle.zone_proto.specs.Data.{same_octets};
 ghost use Rattle.zone_file.specs.Readings.{Gives};
 ghost use Rattle.zone_file.specs.Fields.{Left, or_fault};
-ghost use Rattle.zone_file.specs.Data.{data_size, generic, is_generic, next_data, next_data_octets, next_mx, next_own, next_soa, next_srv, other_data};
+ghost use Rattle.zone_file.specs.Data.{data_size, next_data, next_data_octets, next_mx, next_own, next_own_octets, next_soa, next_srv, other_data};
+ghost use Rattle.zone_file.specs.Texts.{generic, is_generic};
 
 use crate::denials::{take_nsec, take_nsec3, take_nsec3param};
 use crate::fault::{ReadError, Reason};
 use crate::fields::{take_ipv4, take_ipv6, take_timer, take_ttl, take_u16, take_u32};
-use crate::keys::{take_dnskey, take_ds, take_rrsig};
+use crate::keys::{take_dnskey, take_ds, take_key_octets, take_rrsig};
 use crate::names::{take_name, take_name_octets};
+use crate::services::{take_caa, take_hinfo, take_naptr, take_sshfp, take_tlsa};
 use crate::texts::{take_generic, take_strings};
 use crate::words::Words;
 use std::alloc::{AllocError, Global};
@@ -22,8 +24,32 @@ use zone_proto::{MX, Name, OtherData, RData, RecordType, SOA, SRV};
 /// A pointer to a name (RFC 1035 section 3.3.12).
 const PTR: RecordType = RecordType(12);
 
+/// What processor and system a host has (RFC 1035 section 3.3.2).
+const HINFO: RecordType = RecordType(13);
+
+/// A rule that makes names of texts (RFC 3403 section 4).
+const NAPTR: RecordType = RecordType(35);
+
 /// The name that all names below the owner are moved under (RFC 6672).
 const DNAME: RecordType = RecordType(39);
+
+/// The fingerprint of a host's key (RFC 4255).
+const SSHFP: RecordType = RecordType(44);
+
+/// The certificate or key of a service (RFC 6698).
+const TLSA: RecordType = RecordType(52);
+
+/// A digest that the parent zone is to have as its DS (RFC 7344 section 3.1).
+const CDS: RecordType = RecordType(59);
+
+/// A key that the parent zone is to have a DS of (RFC 7344 section 3.2).
+const CDNSKEY: RecordType = RecordType(60);
+
+/// Which hosts send mail for a name (RFC 4408 section 3.1.1).
+const SPF: RecordType = RecordType(99);
+
+/// Who may issue certificates for a name (RFC 8659).
+const CAA: RecordType = RecordType(257);
 
 /// Takes the data of a type, in the form of the type or as `\#`.
 pub(crate) fn take_data(
@@ -103,22 +129,36 @@ fn take_own(
         RecordType::NSEC => Ok(RData::NSEC(take_nsec(alloc, origin, words)?)),
         RecordType::NSEC3 => Ok(RData::NSEC3(take_nsec3(alloc, words)?)),
         RecordType::NSEC3PARAM => Ok(RData::NSEC3PARAM(take_nsec3param(alloc, words)?)),
-        RecordType::DS => {
-            let octets = take_ds(alloc, words)?;
-            Ok(take_other(words, RecordType::DS, octets)?)
+        _ => {
+            let octets = take_own_octets(alloc, origin, record_type, words)?;
+            Ok(take_other(words, record_type, octets)?)
         }
-        RecordType::TXT => {
-            let octets = take_strings(alloc, words)?;
-            Ok(take_other(words, RecordType::TXT, octets)?)
-        }
-        PTR => {
-            let octets = take_name_octets(alloc, origin, words)?;
-            Ok(take_other(words, PTR, octets)?)
-        }
-        DNAME => {
-            let octets = take_name_octets(alloc, origin, words)?;
-            Ok(take_other(words, DNAME, octets)?)
-        }
+    }
+}
+
+/// Takes the octets of data of a type without a case of its own, in the form of the type.
+fn take_own_octets(
+    alloc: Global,
+    origin: &Name,
+    record_type: RecordType,
+    words: &mut Words<'_>,
+) -> Result<Vec<u8>, ReadError>
+    ensures { Gives (λ os. (os.items, words.new)) result
+        (next_own_octets origin.now record_type.0 words.old) }
+{
+    match record_type {
+        RecordType::TXT => Ok(take_strings(alloc, words)?),
+        RecordType::DS => Ok(take_ds(alloc, words)?),
+        PTR => Ok(take_name_octets(alloc, origin, words)?),
+        HINFO => Ok(take_hinfo(alloc, words)?),
+        NAPTR => Ok(take_naptr(alloc, origin, words)?),
+        DNAME => Ok(take_name_octets(alloc, origin, words)?),
+        SSHFP => Ok(take_sshfp(alloc, words)?),
+        TLSA => Ok(take_tlsa(alloc, words)?),
+        CDS => Ok(take_ds(alloc, words)?),
+        CDNSKEY => Ok(take_key_octets(alloc, words)?),
+        SPF => Ok(take_strings(alloc, words)?),
+        CAA => Ok(take_caa(alloc, words)?),
         _ => Err(words.fault(Reason::OnlyGeneric)),
     }
 }

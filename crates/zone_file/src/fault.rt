@@ -3,7 +3,7 @@ ghost use Rattle.std.specs.Prelude.{◌≡◌};
 
 use std::alloc::{AllocError, AllocFailed};
 use thiserror::Error;
-use zone_entries::{EntryError, EntryReason, Place};
+use zone_entries::{EntryReason, Place};
 use zone_proto::ProtoError;
 
 /// What is wrong at a place of a zone file.
@@ -28,7 +28,7 @@ pub enum Reason {
     #[error("no TTL is given, and nothing before has one")]
     NoTtl,
     /// A word that isn't read as a name, for this cause.
-    #[error("a name is needed here: {0}")]
+    #[error("a name is needed here ({0})")]
     Name(ProtoError),
     /// A word that is no type, or one that records don't have.
     #[error("a type of records is needed here")]
@@ -55,7 +55,7 @@ pub enum Reason {
     #[error("an algorithm is needed here, by its number or mnemonic")]
     Algorithm,
     /// A word that is no TTL.
-    #[error("a TTL is needed here: at most 2147483647 seconds, or numbers with w, d, h, m or s behind them")]
+    #[error("a TTL is needed here, of at most 2147483647 seconds, as 3600 or 1h30m")]
     Ttl,
     /// A word that is no IPv4 address.
     #[error("A takes four numbers with dots")]
@@ -66,11 +66,20 @@ pub enum Reason {
     /// A word that is no string of at most 255 octets.
     #[error("a string of at most 255 octets is needed here")]
     Text,
-    /// Words that aren't hex, or hex of another length than was said.
+    /// A word that is no text with escapes.
+    #[error("a text is needed here, with \\ before three digits up to 255 or before another octet")]
+    Escapes,
+    /// A word that is no tag of a CAA.
+    #[error("a tag is needed here, of 1 to 255 letters and digits")]
+    Tag,
+    /// Words that aren't hex.
     #[error("hex digits are needed here, two for each octet")]
     Hex,
+    /// Words behind a count of octets that aren't hex of so many.
+    #[error("hex digits of so many octets have to follow here")]
+    HexOctets,
     /// A word that is no salt.
-    #[error("a salt is needed here: at most 255 octets in hex, or - for none")]
+    #[error("a salt is needed here, of at most 255 octets in hex, or - for none")]
     Salt,
     /// A word that is no hash.
     #[error("a hash is needed here, in base32hex without padding")]
@@ -97,17 +106,17 @@ pub enum Reason {
 
 /// A fault and its place.
 #[derive(Clone, Copy, PartialEq, Eq, Debug)]
-pub struct Fault {
-    pub place: Place,
-    pub reason: Reason,
+pub(crate) struct Fault {
+    pub(crate) place: Place,
+    pub(crate) reason: Reason,
 }
 
-/// Why a zone file isn't read.
+/// Why words aren't read.
 #[derive(Clone, Copy, PartialEq, Eq, Debug)]
-pub enum ReadError {
+pub(crate) enum ReadError {
     /// A growth that the allocator refused.
     Memory,
-    /// The first fault of the text.
+    /// The first fault of the words.
     Fault(Fault),
 }
 
@@ -130,22 +139,5 @@ impl<T: Drop> From<AllocFailed<T>> for ReadError {
 
     fn from(_: AllocFailed<T>) -> ReadError {
         ReadError::Memory
-    }
-}
-
-/// What is wrong with the text's entries is wrong with the zone file.
-impl From<EntryError> for ReadError {
-    ghost use Rattle.zone_file.specs.Zones.{error_of};
-
-    ghost from_gives = { λ entries e. e ≡ error_of entries };
-
-    fn from(error: EntryError) -> ReadError {
-        match error {
-            EntryError::Memory => ReadError::Memory,
-            EntryError::Fault(fault) => ReadError::Fault(Fault {
-                place: fault.place,
-                reason: Reason::Entry(fault.reason),
-            }),
-        }
     }
 }

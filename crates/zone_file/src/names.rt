@@ -1,7 +1,7 @@
 //! Names of an entry.
 ghost use Rattle.std.specs.Prelude.{◌≡◌, ◌≢◌, ◌≤◌, ◌++◌, ◌∷◌, length, Ok, Err, IfOk, OnOk};
 ghost use Rattle.zone_proto.specs.Names.{wire_form};
-ghost use Rattle.zone_file.specs.Data.{next_name_octets};
+ghost use Rattle.zone_file.specs.Services.{next_name_octets};
 ghost use Rattle.zone_file.specs.Readings.{Gives};
 ghost use Rattle.zone_file.specs.Fields.{Left, named_at, next_name};
 ghost use Rattle.zone_words.specs.Names.{name_under};
@@ -74,18 +74,19 @@ fn wire_form_of(alloc: Global, name: &Name) -> Result<Vec<u8>, AllocError>
 {
     let mut octets = Vec::new(alloc);
     for label in name.labels() {
-        push_label(&mut octets, label)?;
+        push_counted(&mut octets, label)?;
     }
     octets.push(0)?;
     Ok(octets)
 }
 
-/// Puts a label behind octets, its length before it.
-fn push_label(octets: &mut Vec<u8>, label: &[u8]) -> Result<(), AllocError>
-    requires { length label.now ≤ 63 }
-    ensures { OnOk result (octets.new.items ≡ octets.old.items ++ length label.now ∷ label.now) }
+/// Puts octets behind others, their count before them.
+pub(crate) fn push_counted(octets: &mut Vec<u8>, counted: &[u8]) -> Result<(), AllocError>
+    requires { length counted.now ≤ 255 }
+    ensures { OnOk result (octets.new.items
+        ≡ octets.old.items ++ length counted.now ∷ counted.now) }
 {
-    octets.push(label.len() as u8)?;
-    octets.extend_from_slice(label)?;
+    octets.push(counted.len() as u8)?;
+    octets.extend_from_slice(counted)?;
     Ok(())
 }

@@ -2,15 +2,18 @@
 ghost use Rattle.std.specs.Prelude.{◌≡◌, Some, None, Ok, IfOk, codes};
 ghost use Rattle.zone_proto.specs.Data.{same_octets};
 ghost use Rattle.zone_file.specs.Readings.{Gives};
-ghost use Rattle.zone_file.specs.Fields.{Left, left_at};
-ghost use Rattle.zone_file.specs.Records.{read_entry, read_record, read_control, next_owner, begins_with_digit, begins_with_dollar, is_ttl_word, ttl_and_class, ttl_if_there, class_if_there, class_of_word, if_short, ttl_for, minimum_of, original_ttl_of, is_control};
+ghost use Rattle.zone_file.specs.Faults.{Answers, at_word, with_word};
+ghost use Rattle.zone_file.specs.Fields.{Left, left_at, next_any_word};
+ghost use Rattle.zone_file.specs.Records.{read_entry, read_words, read_record, read_control, next_owner, begins_with_digit, begins_with_dollar, is_ttl_word, ttl_and_class, ttl_if_there, class_if_there, class_of_word, if_short, ttl_for, minimum_of, original_ttl_of, is_control};
 
 use crate::context::Context;
 use crate::data::{is_too_long, take_data};
+use crate::error::ZoneError;
 use crate::fault::{Fault, ReadError, Reason};
 use crate::fields::{take_ttl, take_type};
 use crate::names::take_name;
 use crate::placed::PlacedRecord;
+use crate::told::at_word;
 use crate::words::Words;
 use std::alloc::{AllocError, Global};
 use zone_entries::{Entry, Place, Word};
@@ -27,22 +30,39 @@ pub fn read_entry(
     alloc: Global,
     context: &mut Context,
     entry: &Entry,
-) -> Result<Option<PlacedRecord>, ReadError>
-    ensures { Gives (λ r. (context.new, r)) result (read_entry context.old entry.now) }
+) -> Result<Option<PlacedRecord>, ZoneError>
+    ensures { Answers (λ r. (context.new, r)) result (read_entry context.old entry.now) }
 {
     let words = entry.words();
+    match read_words(alloc, context, entry.is_indented(), words) {
+        Ok(given) => Ok(given),
+        Err(ReadError::Memory) => Err(ZoneError::Memory),
+        Err(ReadError::Fault(fault)) => Err(ZoneError::Fault(at_word(alloc, words, fault)?)),
+    }
+}
+
+/// Reads the words of an entry.
+fn read_words(
+    alloc: Global,
+    context: &mut Context,
+    is_indented: bool,
+    words: &[Word],
+) -> Result<Option<PlacedRecord>, ReadError>
+    ensures { Gives (λ r. (context.new, r)) result
+        (read_words context.old is_indented words.now) }
+{
     let Some((first, rest)) = words.split_first() else {
         return Ok(None);
     };
     let place = first.place();
-    if is_control(entry.is_indented(), first) {
+    if is_control(is_indented, first) {
         let verb = to_upper(alloc, first.octets())?;
         let mut left = Words::new(place, rest);
         read_control(alloc, context, verb.as_slice(), &mut left)?;
         return Ok(None);
     }
     let mut left = Words::new(place, words);
-    let given = read_record(alloc, context, entry.is_indented(), place, &mut left)?;
+    let given = read_record(alloc, context, is_indented, place, &mut left)?;
     Ok(Some(PlacedRecord { place, given }))
 }
 
@@ -88,6 +108,7 @@ fn read_control(
         return Ok(());
     }
     if verb == b"$INCLUDE".as_slice() {
+        let _ = words.take_any()?;
         return Err(words.fault(Reason::Include));
     }
     Err(words.fault(Reason::Control))

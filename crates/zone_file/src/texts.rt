@@ -1,15 +1,37 @@
-//! Strings, hex and base64, to the end of an entry.
+//! Strings, hex and base64.
 ghost use Rattle.std.specs.Prelude.{◌≡◌, ◌++◌, Ok, Some, None, OnOk, IfOk, option_map, length, ◌==◌};
 ghost use Rattle.zone_file.specs.Readings.{Gives};
 ghost use Rattle.zone_file.specs.Fields.{Left};
-ghost use Rattle.zone_file.specs.Data.{any_hex, hex_left, next_base64, next_generic, next_hex, next_strings, of_length, strings_of, texts_of};
+ghost use Rattle.zone_file.specs.Texts.{any_hex, hex_left, next_base64, next_generic, next_hex, next_octets, next_string, next_strings, of_length, strings_of, texts_of};
 
 use crate::fault::{Fault, ReadError, Reason};
 use crate::fields::take_u16;
 use crate::words::Words;
 use std::alloc::{AllocError, Global};
 use zone_entries::Word;
-use zone_words::{read_base64, read_hex_digits, read_string};
+use zone_words::{read_base64, read_hex_digits, read_octets, read_string};
+
+/// Takes a string, in quotes or not, and gives its octets behind their count.
+pub(crate) fn take_string(alloc: Global, words: &mut Words<'_>) -> Result<Vec<u8>, ReadError>
+    ensures { Gives (λ os. (os.items, words.new)) result (next_string words.old) }
+{
+    let word = words.take_any()?;
+    match read_string(alloc, word.octets())? {
+        Some(octets) => Ok(octets),
+        None => Err(words.fault(Reason::Text)),
+    }
+}
+
+/// Takes octets of any count, in quotes or not.
+pub(crate) fn take_octets(alloc: Global, words: &mut Words<'_>) -> Result<Vec<u8>, ReadError>
+    ensures { Gives (λ os. (os.items, words.new)) result (next_octets words.old) }
+{
+    let word = words.take_any()?;
+    match read_octets(alloc, word.octets())? {
+        Some(octets) => Ok(octets),
+        None => Err(words.fault(Reason::Escapes)),
+    }
+}
 
 /// Takes strings to the end of the entry, one or more.
 pub(crate) fn take_strings(alloc: Global, words: &mut Words<'_>) -> Result<Vec<u8>, ReadError>
@@ -88,7 +110,7 @@ pub(crate) fn take_generic(alloc: Global, words: &mut Words<'_>) -> Result<Vec<u
     push_texts(&mut text, texts)?;
     match hex_of_length(alloc, text.as_slice(), count)? {
         Some(octets) => Ok(octets),
-        None => Err(words.fault(Reason::Hex)),
+        None => Err(words.fault(Reason::HexOctets)),
     }
 }
 

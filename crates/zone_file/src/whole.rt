@@ -2,7 +2,7 @@
 ghost use Rattle.std.specs.Prelude.{◌≡◌, ◌++◌, ◌∷◌, [], List, ℕ, map, OnOk, IfOk, IfErr, IsOkUnless};
 ghost use Rattle.zone_file.specs.Zones.{EndsIn, Outcome, Read, Stopped, outcomes_from, with_record, zone_of};
 
-use crate::fault::{Fault, ReadError};
+use crate::error::{ZoneError, ZoneFault};
 use crate::placed::PlacedRecord;
 use crate::zone_reader::ZoneReader;
 use std::alloc::Global;
@@ -17,9 +17,9 @@ pub fn read_zone_text(
     alloc: Global,
     origin: Name,
     text: &[u8],
-) -> Result<Vec<PlacedRecord>, ReadError>
+) -> Result<Vec<PlacedRecord>, ZoneError>
     ensures ok { IfOk result (λ records. zone_of origin text.now ≡ map Read records.items) }
-    ensures fault { IfErr result (λ e. (f : Fault) → e ≡ ReadError.Fault f →
+    ensures fault { IfErr result (λ e. (f : ZoneFault) → e ≡ ZoneError.Fault f →
         EndsIn f (zone_of origin text.now)) }
 {
     let mut reader = ZoneReader::new(alloc, origin);
@@ -36,11 +36,11 @@ pub(crate) fn take_records(
     reader: &mut ZoneReader,
     records: &mut Vec<PlacedRecord>,
     piece: &[u8],
-) -> Result<(), ReadError>
+) -> Result<(), ZoneError>
     ensures ok { OnOk result ((more : List ℕ) →
         map Read records.old.items ++ outcomes_from (piece.now ++ more) reader.old
         ≡ map Read records.new.items ++ outcomes_from more reader.new) }
-    ensures fault { IfErr result (λ e. (f : Fault) → e ≡ ReadError.Fault f →
+    ensures fault { IfErr result (λ e. (f : ZoneFault) → e ≡ ZoneError.Fault f →
         (more : List ℕ) →
         EndsIn f (map Read records.old.items ++ outcomes_from (piece.now ++ more) reader.old)) }
 {
@@ -59,10 +59,10 @@ pub(crate) fn take_last(
     alloc: Global,
     reader: ZoneReader,
     records: &mut Vec<PlacedRecord>,
-) -> Result<(), ReadError>
+) -> Result<(), ZoneError>
     ensures ok { OnOk result
         (map Read records.old.items ++ outcomes_from [] reader ≡ map Read records.new.items) }
-    ensures fault { IfErr result (λ e. (f : Fault) → e ≡ ReadError.Fault f →
+    ensures fault { IfErr result (λ e. (f : ZoneFault) → e ≡ ZoneError.Fault f →
         EndsIn f (map Read records.old.items ++ outcomes_from [] reader)) }
 {
     let last = reader.finish(alloc)?;
@@ -71,11 +71,11 @@ pub(crate) fn take_last(
 }
 
 /// Puts a record behind others, if there is one.
-fn push(records: &mut Vec<PlacedRecord>, given: Option<PlacedRecord>) -> Result<(), ReadError>
+fn push(records: &mut Vec<PlacedRecord>, given: Option<PlacedRecord>) -> Result<(), ZoneError>
     ensures ok { OnOk result ((others : List Outcome) →
         map Read records.old.items ++ with_record given others
         ≡ map Read records.new.items ++ others) }
-    ensures err { IsOkUnless result ReadError.Memory }
+    ensures err { IsOkUnless result ZoneError.Memory }
 {
     match given {
         Some(given) => {

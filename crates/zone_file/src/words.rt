@@ -1,7 +1,7 @@
 //! The words of an entry that are still to be read.
-ghost use Rattle.std.specs.Prelude.{◌≡◌, []};
+ghost use Rattle.std.specs.Prelude.{◌≡◌, [], IfOk};
 ghost use Rattle.zone_file.specs.Readings.{Gives};
-ghost use Rattle.zone_file.specs.Fields.{Left, left_at, next_word, unquoted};
+ghost use Rattle.zone_file.specs.Fields.{Left, left_at, next_any_word, next_word, unquoted};
 ghost use Rattle.zone_file.specs.Records.{if_none_left};
 
 use crate::fault::{Fault, ReadError, Reason};
@@ -31,21 +31,30 @@ impl<'e> Words<'e> {
         Words { place, words }
     }
 
-    /// Takes the next word, which may not be in quotes. A fault where there is none.
-    pub(crate) fn take(&mut self) -> Result<&'e Word, ReadError>
-        ensures { Gives (λ w. (w.now, self.new)) result (next_word self.old) }
+    /// Takes the next word, in quotes or not. A fault where there is none.
+    pub(crate) fn take_any(&mut self) -> Result<&'e Word, ReadError>
+        ensures value { Gives (λ w. (w.now, self.new)) result (next_any_word self.old) }
+        ensures place { IfOk result (λ w. self.new.place ≡ w.now.place) }
     {
         match self.words.split_first() {
             None => Err(self.fault(Reason::Missing)),
             Some((word, words)) => {
                 self.place = word.place();
                 self.words = words;
-                if word.is_quoted() {
-                    return Err(self.fault(Reason::Quoted));
-                }
                 Ok(word)
             }
         }
+    }
+
+    /// Takes the next word, which may not be in quotes. A fault where there is none.
+    pub(crate) fn take(&mut self) -> Result<&'e Word, ReadError>
+        ensures { Gives (λ w. (w.now, self.new)) result (next_word self.old) }
+    {
+        let word = self.take_any()?;
+        if word.is_quoted() {
+            return Err(self.fault(Reason::Quoted));
+        }
+        Ok(word)
     }
 
     /// A fault at the place of the word that was taken last.

@@ -3,7 +3,7 @@ ghost use Rattle.std.specs.Prelude.{◌≡◌, ◌++◌, ◌≤◌, ◌<◌, ℕ
 ghost use Rattle.zone_entries.specs.Steps.{events_from};
 
 use crate::context::Context;
-use crate::fault::{Fault, ReadError};
+use crate::error::{ZoneError, ZoneFault};
 use crate::placed::PlacedRecord;
 use crate::records::read_entry;
 use std::alloc::Global;
@@ -28,7 +28,8 @@ impl Model for ZoneReader {
 }
 
 impl ZoneReader {
-    ghost use Rattle.zone_file.specs.Zones.{outcomes_from, zone_of, with_record, as_fault, Stopped};
+    ghost use Rattle.zone_file.specs.Faults.{as_fault};
+    ghost use Rattle.zone_file.specs.Zones.{outcomes_from, zone_of, with_record, Stopped};
 
     /// At the beginning of a zone file of this origin. Takes no memory.
     #[tactic(auto, using(crate::proofs::ZoneFacts::same_outcomes))]
@@ -58,14 +59,14 @@ impl ZoneReader {
         &mut self,
         alloc: Global,
         piece: &[u8],
-    ) -> Result<(usize, Option<PlacedRecord>), ReadError>
+    ) -> Result<(usize, Option<PlacedRecord>), ZoneError>
         // Whatever follows the piece, what is read of the text is this record and what is read of the rest.
         ensures ok { IfOk result (λ t. (more : List ℕ) →
             outcomes_from (piece.now ++ more) self.old
             ≡ with_record t.1 (outcomes_from (drop t.0 piece.now ++ more) self.new)) }
         ensures within { IfOk result (λ t. t.0 ≤ length piece.now) }
         ensures progress { IfOk result (λ t. 0 < length piece.now → 0 < t.0) }
-        ensures fault { IfErr result (λ e. (f : Fault) → e ≡ ReadError.Fault f →
+        ensures fault { IfErr result (λ e. (f : ZoneFault) → e ≡ ZoneError.Fault f →
             (more : List ℕ) → outcomes_from (piece.now ++ more) self.old ≡ Stopped f ∷ []) }
     {
         let (count, entry) = self.entries.take_entry(alloc, piece)?;
@@ -84,9 +85,9 @@ impl ZoneReader {
     ///
     /// A fault of the last line, or where the text may not end here; `Memory` where none is found.
     #[tactic(auto, using(crate::proofs::ZoneFacts::readings))]
-    pub fn finish(self, alloc: Global) -> Result<Option<PlacedRecord>, ReadError>
+    pub fn finish(self, alloc: Global) -> Result<Option<PlacedRecord>, ZoneError>
         ensures ok { IfOk result (λ r. outcomes_from [] self ≡ with_record r []) }
-        ensures fault { IfErr result (λ e. (f : Fault) → e ≡ ReadError.Fault f →
+        ensures fault { IfErr result (λ e. (f : ZoneFault) → e ≡ ZoneError.Fault f →
             outcomes_from [] self ≡ Stopped f ∷ []) }
     {
         let ZoneReader {

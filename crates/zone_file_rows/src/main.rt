@@ -2,12 +2,13 @@
 //! names a file of such lines, rows, in the folder where the program runs, `data`.
 //!
 //! A row is `TEXT => ANSWER`; a line without `=>` is a comment. In a text `{10}` is the octet 10, and `{97x300}` is the octet
-//! 97 three hundred times. In the file `words` a text is a call and a word; in `zones` and `printed` it is an origin and a zone
-//! file, and in any other one it is read whole and in pieces of one octet.
+//! 97 three hundred times. In the file `words` a text is a call and a word; in `zones`, `failing` and `printed` it is an origin
+//! and a zone file. Texts and zone files are read whole, and octet by octet too.
 #![tactic(auto)]
 
 mod entries;
 mod octets;
+mod pieces;
 mod printed;
 mod rows;
 mod words;

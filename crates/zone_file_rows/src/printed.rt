@@ -3,7 +3,7 @@
 use crate::octets::octets_of;
 use crate::zone;
 use std::alloc::{AllocError, Global};
-use zone_file::{PlacedRecord, ReadError};
+use zone_file::PlacedRecord;
 use zone_master_text::MasterText;
 
 /// The records of a zone file as they are printed, with `/` behind each; the first word of a row is the origin. What is printed is
@@ -27,11 +27,7 @@ pub fn answer(alloc: Global, row: &str) -> Result<String, AllocError> {
 fn lines_of(alloc: Global, origin: &str, text: &[u8]) -> Result<String, AllocError> {
     match zone::read(alloc, origin, text) {
         Ok(records) => print(alloc, records.as_slice()),
-        Err(ReadError::Memory) => Err(AllocError),
-        Err(ReadError::Fault(fault)) => {
-            let (place, reason) = (fault.place, fault.reason);
-            format!(in alloc; "{}:{}: {}", place.line, place.column, reason)
-        }
+        Err(error) => zone::error_line(alloc, &error),
     }
 }
 

@@ -13,6 +13,8 @@ pub enum Kind {
     Words,
     /// An origin and a zone file, and its records.
     Zones,
+    /// An origin and a zone file behind which the input fails, and what is told of it.
+    Failing,
     /// An origin and a zone file, and its records as they are printed in the form of a zone file.
     Printed,
 }
@@ -23,6 +25,7 @@ impl Kind {
         match file {
             "words" => Kind::Words,
             "zones" => Kind::Zones,
+            "failing" => Kind::Failing,
             "printed" => Kind::Printed,
             _ => Kind::Entries,
         }
@@ -66,6 +69,7 @@ fn answer(alloc: Global, kind: Kind, row: &str) -> Result<String, AllocError> {
         Kind::Entries => entries_answer(alloc, row),
         Kind::Words => words::answer(alloc, row),
         Kind::Zones => zone::answer(alloc, row),
+        Kind::Failing => zone::failing_answer(alloc, row),
         Kind::Printed => printed::answer(alloc, row),
     }
 }

@@ -16,7 +16,9 @@ use Rattle.zone_proto.specs.declared.rdata.service.SRV.{SRV as SrvData}
 use Rattle.zone_proto.specs.declared.rdata.signing.DNSKEY.{DNSKEY as KeyData}
 use Rattle.zone_proto.specs.declared.rdata.signing.RRSIG.{RRSIG as SignatureData}
 use Rattle.zone_proto.specs.declared.rdata.denial.NSEC.{NSEC as DenialData}
+use Rattle.zone_proto.specs.declared.rdata.denial.NSEC3.{NSEC3 as HashedData}
 use Rattle.zone_proto.specs.declared.rdata.denial.NSEC3PARAM.{NSEC3PARAM as HashParameters}
+use Rattle.zone_proto.specs.Base32.{base32_text}
 use Rattle.zone_proto.specs.Names.{Name, IsName}
 use Rattle.zone_proto.specs.Text.{name_text}
 use Rattle.zone_proto.specs.TypeText.{Word, type_text, type_words, word_of}
@@ -32,17 +34,19 @@ use Rattle.zone_text.proofs.PrintedWords.{and_both}
 use Rattle.zone_text.proofs.RoundTrips.{decimal_read, hex_read}
 use Rattle.zone_entries.specs.declared.place.Place.{Place}
 use Rattle.zone_entries.specs.Signs.{place_behind}
-use Rattle.zone_file.specs.Fields.{Left, left_at, next_name}
-use Rattle.zone_file.specs.Denials.{next_nsec, next_nsec3param, salt_of_word, types_with, with_type, opt_out_of_word}
-use Rattle.zone_file.specs.declared.fault.Fault.{Fault}
-use Rattle.zone_file.specs.Data.{data_size, generic, read_as, next_data, next_own, next_soa, next_mx, next_srv, next_dnskey, next_rrsig, any_hex, next_generic}
+use Rattle.zone_file.specs.Fields.{Left, Reading, left_at, next_name}
+use Rattle.zone_file.specs.Denials.{next_nsec, next_nsec3, next_nsec3param, salt_of_word, types_with, with_type, opt_out_of_word}
+use Rattle.zone_file.specs.Data.{data_size, read_as, next_data, next_own, next_soa, next_mx, next_srv}
+use Rattle.zone_file.specs.Keys.{next_dnskey, next_rrsig}
+use Rattle.zone_file.specs.Texts.{any_hex, generic, next_generic}
 use Rattle.zone_master_text.specs.Printing.{base64_text, hex_words, master_data_text}
-use Rattle.zone_master_text.specs.Printable.{AreTypesFrom, IsPrintableSoa, IsPrintableKey, IsPrintableSignature, IsPrintableDenial, IsPrintableParameters, IsPrintableData}
+use Rattle.zone_master_text.specs.Printable.{AreTypesFrom, IsPrintableSoa, IsPrintableKey, IsPrintableSignature, IsPrintableDenial, IsPrintableHashed, IsPrintableParameters, IsPrintableData}
 use Rattle.zone_master_text.proofs.Lines.{IsWordText, AreWordTexts, place_after, words_from}
 use Rattle.zone_master_text.proofs.WordTexts.{backslash_ordinary, decimal_text, hex_is_text, ipv4_is_text, ipv6_is_text, name_is_text, timer_text, type_is_text, value_harmless, digit_char_harmless}
 use Rattle.zone_master_text.proofs.NamesBack.{first_is, first_of_name, name_there, not_generic}
 use Rattle.zone_master_text.proofs.AddressesBack.{ipv4_back, ipv6_back}
 use Rattle.zone_master_text.proofs.NumbersBack.{u8_back, u16_back, u32_back, algorithm_back, ttl_back, timer_back, moment_back, type_back, hex_back}
+use Rattle.zone_master_text.proofs.Base32Back.{base32_is_text, hash_back}
 use Rattle.zone_master_text.proofs.Base64Facts.{base64_back, base64_is_text}
 
 -- the place behind a word and the blank that follows it, and that of the last of some words
@@ -75,7 +79,8 @@ data_words (V.MX d) = decimal d.preference ∷ name_text d.exchange ∷ []
 data_words (V.SRV d) = decimal d.priority ∷ decimal d.weight ∷ decimal d.port ∷ name_text d.target ∷ []
 data_words (V.DNSKEY d) = decimal d.flags ∷ decimal d.protocol ∷ decimal d.algorithm ∷ base64_text d.public_key ∷ []
 data_words (V.NSEC d) = name_text d.next_domain_name ∷ type_texts d.types
-data_words (V.NSEC3 d) = []
+data_words (V.NSEC3 d) =
+    decimal d.algorithm ∷ decimal (opt_out_flag d.opt_out) ∷ decimal d.iterations ∷ hex_text d.salt ∷ base32_text d.next_hashed_owner_name ∷ type_texts d.types
 data_words (V.NSEC3PARAM d) = decimal d.algorithm ∷ decimal (opt_out_flag d.opt_out) ∷ decimal d.iterations ∷ hex_text d.salt ∷ []
 data_words (V.RRSIG d) =
     type_text d.type_covered.0 ∷ decimal d.algorithm ∷ decimal d.num_labels ∷ decimal d.original_ttl ∷ decimal d.expiration ∷ decimal d.inception
@@ -85,6 +90,9 @@ data_words (V.Other d) = codes "\\#" ∷ decimal (length d.octets) ∷ hex_words
 spread : (t : List ℕ) (ts : List RecordType) → t ++ types_text ts ≡ joined 32 (t ∷ type_texts ts)
 spread t [] = append-nil t
 spread t (u ∷ us) = ap (λ (s : List ℕ). t ++ 32 ∷ s) (spread (type_text u.0) us)
+
+spread_last : (a b c d t : List ℕ) (ts : List RecordType) → joined 32 (a ∷ b ∷ c ∷ d ∷ t ∷ []) ++ types_text ts ≡ joined 32 (a ∷ b ∷ c ∷ d ∷ t ∷ type_texts ts)
+spread_last a b c d t ts = simp append_assoc (ap (λ (s : List ℕ). a ++ 32 ∷ (b ++ 32 ∷ (c ++ 32 ∷ (d ++ 32 ∷ s)))) (spread t ts))
 
 pub text_is : (d : RData) → IsPrintableData d → master_data_text d ≡ joined 32 (data_words d)
 text_is (V.A a) h = refl
@@ -97,7 +105,8 @@ text_is (V.MX d) h = refl
 text_is (V.SRV d) h = refl
 text_is (V.DNSKEY d) h = refl
 text_is (V.NSEC d) h = spread (name_text d.next_domain_name) d.types
-text_is (V.NSEC3 d) h = absurd h
+text_is (V.NSEC3 d) h =
+    spread_last (decimal d.algorithm) (decimal (opt_out_flag d.opt_out)) (decimal d.iterations) (hex_text d.salt) (base32_text d.next_hashed_owner_name) d.types
 text_is (V.NSEC3PARAM d) h = refl
 text_is (V.RRSIG d) h = refl
 text_is (V.Other d) h = refl
@@ -111,6 +120,10 @@ types_are_texts least (t ∷ ts) h = (type_is_text t.0 h.1.range, types_are_text
 key_text_is : (m : List ℕ) → AllByRecursion (λ b. b < 256) m → m ≢ [] → IsWordText (base64_text m)
 key_text_is [] h some = absurd (some refl)
 key_text_is (a ∷ m) h some = base64_is_text a m h
+
+hash_text_is : (os : List ℕ) → os ≢ [] → IsWordText (base32_text os)
+hash_text_is [] some = absurd (some refl)
+hash_text_is (o ∷ os) some = base32_is_text o os
 
 flag_text : (b : Bool) → IsWordText (decimal (opt_out_flag b))
 flag_text true = decimal_text 1 (omega arith)
@@ -155,7 +168,16 @@ data_are_texts (V.DNSKEY d) h k = (
   ),
 )
 data_are_texts (V.NSEC d) h k = (name_is_text d.next_domain_name h.next, types_are_texts 0 d.types h.types)
-data_are_texts (V.NSEC3 d) h k = absurd h
+data_are_texts (V.NSEC3 d) h k = (
+  decimal_text d.algorithm (omega (arith, h.algorithm)),
+  (
+    flag_text d.opt_out,
+    (
+      decimal_text d.iterations (omega (arith, h.iterations)),
+      (hex_is_text d.salt h.salt, (hash_text_is d.next_hashed_owner_name h.some, types_are_texts 0 d.types h.types)),
+    ),
+  ),
+)
 data_are_texts (V.NSEC3PARAM d) h k = (
   decimal_text d.algorithm (omega (arith, h.algorithm)),
   (flag_text d.opt_out, (decimal_text d.iterations (omega (arith, h.iterations)), (hex_is_text d.salt h.salt, tt))),
@@ -294,6 +316,24 @@ unfolding next_nsec3param
 parameters_read d q p h =
     rw (u8_back d.algorithm h.algorithm, opt_out_back d.opt_out, u16_back d.iterations h.iterations, salt_back d.salt h.salt h.short) refl
 
+-- the place of the hash, behind which types stand
+abbrev hash_place : HashedData → Place → Place
+hash_place d p = behind (behind (behind (behind p (decimal d.algorithm)) (decimal (opt_out_flag d.opt_out))) (decimal d.iterations)) (hex_text d.salt)
+
+hashed_read : (d : HashedData) (q p : Place) → IsPrintableHashed d
+    → next_nsec3 (left q p (data_words (V.NSEC3 d))) ≡ Ok (d, left_at (hash_place d p) [])
+unfolding next_nsec3
+hashed_read d q p h =
+    rw (
+      u8_back d.algorithm h.algorithm,
+      opt_out_back d.opt_out,
+      u16_back d.iterations h.iterations,
+      salt_back d.salt h.salt h.short,
+      hash_back d.next_hashed_owner_name h.hash h.some h.short_hash,
+      types_read 0 [] d.types (behind (hash_place d p) (base32_text d.next_hashed_owner_name)) tt h.types,
+    )
+    refl
+
 same_length : (n : ℕ) → (n == n) ≡ true
 same_length n = grind (arith, nat_tests)
 
@@ -308,7 +348,7 @@ octets_read (o ∷ os) q p h k =
     generic_read (decimal (length (o ∷ os))) (hex_text (o ∷ os)) (length (o ∷ os)) (o ∷ os) q p (u16_back (length (o ∷ os)) (omega arith)) (hex_back o os h) refl
 
 -- data, in a context of any origin: they are read, and no word is left
-pub record IsReadAs (d : RData) (r : Result (RData × Left) Fault) : Type 0 where
+pub record IsReadAs (d : RData) (r : Reading RData) : Type 0 where
   pub place : Place
   pub is : r ≡ Ok (d, left_at place [])
 
@@ -436,7 +476,10 @@ data_read origin (V.NSEC d) q p h k = record {
   place = p;
   is = own origin 47 q p (name_text d.next_domain_name) (rest_of (data_words (V.NSEC d))) (name_is_own d.next_domain_name h.next) ∙ rw (denial_read origin d q p h) refl;
 }
-data_read origin (V.NSEC3 d) q p h k = absurd h
+data_read origin (V.NSEC3 d) q p h k = record {
+  place = hash_place d p;
+  is = own origin 50 q p (decimal d.algorithm) (rest_of (data_words (V.NSEC3 d))) (decimal_own d.algorithm (omega (arith, h.algorithm))) ∙ rw (hashed_read d q p h) refl;
+}
 data_read origin (V.NSEC3PARAM d) q p h k = record {
   place = last_from q p (data_words (V.NSEC3PARAM d));
   is = own origin 51 q p (decimal d.algorithm) (rest_of (data_words (V.NSEC3PARAM d))) (decimal_own d.algorithm (omega (arith, h.algorithm))) ∙ rw (parameters_read d q p h) refl;

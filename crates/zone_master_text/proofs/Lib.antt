@@ -1,4 +1,5 @@
 pub mod AddressesBack
+pub mod Base32Back
 pub mod Base64Facts
 pub mod DataBack
 pub mod Lines

@@ -12,7 +12,7 @@ use Rattle.zone_proto.specs.TextForm.{three_digits}
 use Rattle.zone_proto.specs.Text.{is_plain, octet_text, label_text, name_text}
 use Rattle.zone_text.specs.Reading.{name_of_word, unless_fault}
 use Rattle.zone_text.proofs.PrintedRecords.{name_back}
-use Rattle.zone_file.specs.Data.{generic}
+use Rattle.zone_file.specs.Texts.{generic}
 use Rattle.zone_words.specs.Names.{at_sign, checked_if_there, is_absolute, name_alone, name_under, unless}
 
 -- an octet that is printed first is no `@` and no `$`, and a text goes on behind it

@@ -19,7 +19,7 @@ use Rattle.zone_words.specs.Moments.{moment_of_word}
 use Rattle.zone_words.specs.Ttls.{ttl_of_word, timer_of_word}
 use Rattle.zone_words.specs.Types.{algorithm_named, upper, type_named}
 use Rattle.zone_file.specs.Fields.{record_type_named}
-use Rattle.zone_file.specs.Data.{any_hex}
+use Rattle.zone_file.specs.Texts.{any_hex}
 use Rattle.zone_master_text.specs.Printable.{IsRecordType}
 
 pub u8_back : (n : ℕ) → n < 256 → number_within 10 255 (decimal n) ≡ Some n

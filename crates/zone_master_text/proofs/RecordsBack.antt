@@ -20,7 +20,7 @@ use Rattle.zone_entries.specs.Signs.{first_place}
 use Rattle.zone_entries.specs.Entries.{Event, Whole}
 use Rattle.zone_entries.specs.Steps.{events_from}
 use Rattle.zone_entries.proofs.EntryLaw.{reads_text}
-use Rattle.zone_file.specs.declared.fault.Fault.{Fault}
+use Rattle.zone_file.specs.declared.error.ZoneFault.{ZoneFault}
 use Rattle.zone_file.specs.declared.context.Context.{Context}
 use Rattle.zone_file.specs.declared.placed.PlacedRecord.{PlacedRecord}
 use Rattle.zone_file.specs.Data.{data_size}
@@ -51,7 +51,7 @@ type_in (V.MX d) h = record { range = omega arith; records = refl }
 type_in (V.SRV d) h = record { range = omega arith; records = refl }
 type_in (V.DNSKEY d) h = record { range = omega arith; records = refl }
 type_in (V.NSEC d) h = record { range = omega arith; records = refl }
-type_in (V.NSEC3 d) h = absurd h
+type_in (V.NSEC3 d) h = record { range = omega arith; records = refl }
 type_in (V.NSEC3PARAM d) h = record { range = omega arith; records = refl }
 type_in (V.RRSIG d) h = record { range = omega arith; records = refl }
 type_in (V.Other d) h = h.record_type
@@ -74,7 +74,7 @@ some_words a d h = ap (λ (s : List ℕ). a ++ 32 ∷ s) (text_is d h) ∙ by (d
     not_none (V.SRV y) g = λ e. cc
     not_none (V.DNSKEY y) g = λ e. cc
     not_none (V.NSEC y) g = λ e. cc
-    not_none (V.NSEC3 y) g = absurd g
+    not_none (V.NSEC3 y) g = λ e. cc
     not_none (V.NSEC3PARAM y) g = λ e. cc
     not_none (V.RRSIG y) g = λ e. cc
     not_none (V.Other y) g = λ e. cc
@@ -170,7 +170,7 @@ lines_read (r ∷ rs) c p h =
     let q : Place = next_line p (joined 32 (record_words r)) in
     ap (λ (s : List ℕ). records_of (outcomes (events_from s (start_at p)) c)) (append_assoc (master_text r) (10 ∷ []) (lines_text rs))
     ∙ ap (λ (es : List Event). records_of (outcomes es c)) (line_of_record r (lines_text rs) p h.0)
-    ∙ ap (λ (x : Result (Context × Option PlacedRecord) Fault). records_of (outcome_then x (outcomes (events_from (lines_text rs) (start_at q))))) (record_read r c p h.0)
+    ∙ ap (λ (x : Result (Context × Option PlacedRecord) ZoneFault). records_of (outcome_then x (outcomes (events_from (lines_text rs) (start_at q))))) (record_read r c p h.0)
     ∙ ap (option_map (λ (vs : List Record). r ∷ vs)) (lines_read rs (after c r) q h.1)
 
 pub zone_back : (origin : Name) (rs : List Record) → ArePrintable rs → records_of (zone_of origin (lines_text rs)) ≡ Some rs

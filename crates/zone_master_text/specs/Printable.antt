@@ -9,6 +9,7 @@ use Rattle.zone_proto.specs.declared.rdata.start_of_authority.SOA.{SOA as SoaDat
 use Rattle.zone_proto.specs.declared.rdata.signing.DNSKEY.{DNSKEY as KeyData}
 use Rattle.zone_proto.specs.declared.rdata.signing.RRSIG.{RRSIG as SignatureData}
 use Rattle.zone_proto.specs.declared.rdata.denial.NSEC.{NSEC as DenialData}
+use Rattle.zone_proto.specs.declared.rdata.denial.NSEC3.{NSEC3 as HashedData}
 use Rattle.zone_proto.specs.declared.rdata.denial.NSEC3PARAM.{NSEC3PARAM as HashParameters}
 use Rattle.zone_proto.specs.declared.rdata.other.OtherData.{OtherData}
 use Rattle.zone_proto.specs.Names.{IsName}
@@ -73,6 +74,17 @@ pub record IsPrintableDenial (d : DenialData) : Type 0 where
   pub next : IsName d.next_domain_name
   pub types : AreTypesFrom 0 d.types
 
+-- an NSEC3 with a hash, whose salt and hash an octet counts each
+pub record IsPrintableHashed (d : HashedData) : Type 0 where
+  pub algorithm : d.algorithm < 256
+  pub iterations : d.iterations < 65536
+  pub salt : AreOctets d.salt
+  pub short : length d.salt ≤ 255
+  pub hash : AreOctets d.next_hashed_owner_name
+  pub some : d.next_hashed_owner_name ≢ []
+  pub short_hash : length d.next_hashed_owner_name ≤ 255
+  pub types : AreTypesFrom 0 d.types
+
 -- an NSEC3PARAM, whose salt an octet counts
 pub record IsPrintableParameters (d : HashParameters) : Type 0 where
   pub algorithm : d.algorithm < 256
@@ -86,7 +98,7 @@ pub record IsPrintableOther (d : OtherData) : Type 0 where
   pub octets : AreOctets d.octets
   pub form : plain_data_of d.record_type.0 d.octets ≡ Some (V.Other d)
 
--- data of any type but NSEC3
+-- data of any type
 abbrev pub IsPrintableData : RData → Type 0
 IsPrintableData (V.A a) = IsOctets 4 a
 IsPrintableData (V.AAAA a) = IsOctets 16 a
@@ -98,7 +110,7 @@ IsPrintableData (V.MX d) = IsReadableMx d
 IsPrintableData (V.SRV d) = IsReadableSrv d
 IsPrintableData (V.DNSKEY d) = IsPrintableKey d
 IsPrintableData (V.NSEC d) = IsPrintableDenial d
-IsPrintableData (V.NSEC3 d) = ⊥
+IsPrintableData (V.NSEC3 d) = IsPrintableHashed d
 IsPrintableData (V.NSEC3PARAM d) = IsPrintableParameters d
 IsPrintableData (V.RRSIG d) = IsPrintableSignature d
 IsPrintableData (V.Other d) = IsPrintableOther d

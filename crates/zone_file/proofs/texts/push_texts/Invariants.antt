@@ -1,5 +1,5 @@
 use Rattle.std.proofs.Common.{◌≡◌, ◌++◌, drop}
-use Rattle.zone_file.specs.Data.{texts_of}
+use Rattle.zone_file.specs.Texts.{texts_of}
 use Rattle.zone_file.proofs.texts.push_texts.Given as goal
 
 abbrev pub invariant-loop-word : goal.invariant-loop-word
