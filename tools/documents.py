@@ -315,7 +315,7 @@ def missing(span):
             if not has_path(word):
                 yield word
         else:
-            parts = [it for it in word.split(".") if is_name(it)]
+            parts = [it for it in word.removeprefix("./").split(".") if is_name(it)]
             yield from (it for it in parts if it not in all_words() and it not in ELSEWHERE)
 
 

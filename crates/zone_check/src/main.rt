@@ -1,0 +1,49 @@
+//! `zone_check [--print] FILE [ORIGIN]`: reads a zone file, and says whether it is one.
+#![tactic(auto)]
+
+mod checking;
+mod wanted;
+
+use std::alloc::{AllocError, Global};
+use std::io::{BufWriter, Write};
+use std::process::ExitCode;
+use std::{env, fs, io};
+use wanted::{Wanted, wanted_by};
+
+const USAGE: &[u8] = b"usage: zone_check [--print] FILE [ORIGIN]\n";
+
+fn main(rt: HostRuntime) -> ExitCode {
+    let alloc = rt.alloc();
+    let args = match env::args(&rt) {
+        Ok(words) => words.skip(1).collect::<Vec<String>>(alloc),
+        // Words that are no text are wrong arguments, as no words are.
+        Err(e) if e.kind() == io::ErrorKind::InvalidData => Ok(Vec::new(alloc)),
+        Err(_) => Err(AllocError),
+    };
+    let Ok(args) = args else {
+        let _ = rt.stderr().write_all(b"out of memory\n");
+        return ExitCode::from(2);
+    };
+    let status = match wanted_by(alloc, args.as_slice()) {
+        Some(wanted) => check_file(&rt, alloc, &wanted),
+        None => {
+            let _ = rt.stderr().write_all(USAGE);
+            2
+        }
+    };
+    ExitCode::from(status)
+}
+
+/// Checks the file, and gives the status of the program.
+fn check_file(rt: &HostRuntime, alloc: Global, wanted: &Wanted<'_>) -> u8 {
+    let mut fault = rt.stderr();
+    let Ok(mut input) = fs::open(rt, wanted.file) else {
+        let _ = write!(fault, "{}: the file can't be read\n", wanted.file);
+        return 2;
+    };
+    let Ok(mut output) = BufWriter::new(alloc, io::writer(rt)) else {
+        let _ = fault.write_all(b"out of memory\n");
+        return 2;
+    };
+    checking::check(alloc, wanted, &mut input, &mut output, &mut fault)
+}

@@ -1,0 +1,325 @@
+#!/usr/bin/env python3
+"""Compares what zone_check reads with what the tools of other servers read, on zone files that are made here: written ones, random
+ones and one with the shape of the root zone, as they are and signed with NSEC and with NSEC3. Where a tool isn't there, what needs
+it is left out, and a line says so. It is no part of the gate.
+
+  tools/other_tools.py [SEED]
+
+What zone_check prints of a file is read by named-compilezone, and has to give what named-compilezone makes of the file itself, line
+by line. Files with a fault have to be refused by zone_check and by the checkers of BIND, NSD and Knot, but for a list of those that
+one of them takes. The tools are Debian's packages bind9-utils, ldnsutils, nsd, knot and knot-dnssecutils. The status is 1 where
+something differs.
+"""
+import os
+import random
+import shutil
+import subprocess
+import sys
+import tempfile
+
+sys.dont_write_bytecode = True
+
+from sources import TOP
+
+ORIGIN = "example.com."
+
+WRITTEN = """\
+$ORIGIN example.com.
+$TTL 1h
+@ IN SOA ns1 hostmaster ( 2026112601 ; serial
+        2h 15m
+        2w 1h )
+  NS ns1
+  NS ns2.example.net.
+  MX 10 mail
+ns1 A 192.0.2.1
+    AAAA 2001:db8::1
+mail 300 IN A 192.0.2.2
+MAIL IN 300 AAAA 2001:db8::2
+www CNAME @
+txt TXT "hello world" foo "a;b" "q\\"uote" "\\065\\000\\255"
+srv SRV 0 5 5060 sip
+sip A 192.0.2.3
+*.wild TXT "star"
+a\\.b A 192.0.2.4
+\\100x A 192.0.2.5
+deep.empty.node A 192.0.2.6
+sub NS ns.sub
+ns.sub A 192.0.2.53
+safe NS ns.sub
+safe DS 60485 13 2 ( 2BB183AF5F22588179A53B0A98631FAD1A292118
+ 2BB183AF5F22588179A53B0A )
+caa CAA 0 issue "ca.example.net; account=x"
+tlsa TLSA 3 1 1 d2abde240d7cd3ee6b4b28c54df034b97983a1d16e8a410e4561cb106618e971
+ssh SSHFP 2 1 123456789abcdef67890123456789abcdef67890
+hinfo HINFO "PC" "Linux"
+naptr NAPTR 100 50 "s" "z3950+I2L+I2C" "" _z3950._tcp.example.net.
+ptr PTR www.example.org.
+dname DNAME other.example.net.
+gen TYPE731 \\# 6 abcdef ( 01 23
+ 45 )
+gen2 A \\# 4 0A000001
+"""
+
+# Each with a fault of its own.
+HEAD = "$ORIGIN example.com.\n$TTL 3600\n@ SOA ns host 1 2 3 4 5\n@ NS ns\nns A 192.0.2.1\n"
+FAULTY = {
+    "an address of three numbers": "x A 192.0.2",
+    "an address with 256": "x A 192.0.2.256",
+    "an address of a name": "x A www",
+    "IPv6 with two gaps": "x AAAA 2001::db8::1",
+    "a label of 64 octets": "a" * 64 + " A 192.0.2.1",
+    "an empty label": "a..b A 192.0.2.1",
+    "a parenthesis that isn't closed": "x A ( 192.0.2.1",
+    "a parenthesis that isn't open": "x A 192.0.2.1 )",
+    "a quote that isn't closed": 'x TXT "a',
+    "data that are missing": "x A",
+    "data too many": "x A 192.0.2.1 192.0.2.2",
+    "a preference that is no number": "x MX ten mail",
+    "a preference of 65536": "x MX 65536 mail",
+    "no type": "x 300 IN",
+    "a type that isn't one": "x ADDRESS 192.0.2.1",
+    "a TTL that isn't one": "$TTL hour",
+    "a control entry that isn't one": "$TTLS 3600",
+    "generic data that are short": "x TYPE731 \\# 3 abcd",
+    "generic data that aren't hex": "x TYPE731 \\# 2 xyzt",
+    "a string of 256 octets": f'x TXT "{"a" * 256}"',
+    "an escape of 256": 'x TXT "\\256"',
+    "a class that isn't the zone's": "x CH A 192.0.2.1",
+    "base64 that isn't": "x DNSKEY 256 3 13 ****",
+    "a name of 256 octets": ".".join(["a" * 63] * 4) + " A 192.0.2.1",
+}
+# Which of the others take a file that zone_check refuses, and what they make of it.
+TAKEN = {
+    ("a parenthesis that isn't closed", "nsd"): "the entry ends with the file",
+    ("a preference of 65536", "nsd"): "0",
+    ("generic data that are short", "nsd"): "as many octets as there are",
+    ("an escape of 256", "nsd"): "the three digits, with a warning",
+    ("a string of 256 octets", "knot"): "two strings",
+}
+
+
+class Failed(Exception):
+    pass
+
+
+def run(*words, folder=None, **how):
+    ran = subprocess.run(words, cwd=folder, capture_output=True, text=True, errors="replace", check=False, **how)
+    return ran.returncode, ran.stdout, ran.stderr
+
+
+def need(*names):
+    """Whether these tools are there; says which one isn't."""
+    lacking = [it for it in names if not shutil.which(it)]
+    for it in lacking:
+        print(f"left out, for want of {it}")
+    return not lacking
+
+
+def done(*words, folder=None):
+    status, out, err = run(*words, folder=folder)
+    if status:
+        raise Failed(f"{' '.join(words)}: status {status}: {err.strip()[-500:] or out.strip()[-500:]}")
+    return out
+
+
+def printed(program, path):
+    return done(program, "--print", path, ORIGIN)
+
+
+def compiled(path):
+    """What named-compilezone makes of a file: one record a line."""
+    out = f"{path}.compiled"
+    done("named-compilezone", "-i", "none", "-k", "ignore", "-m", "ignore", "-M", "ignore", "-S", "ignore", "-q", "-s", "full", "-o", out, ORIGIN, path)
+    with open(out, encoding="latin-1") as it:
+        return it.read()
+
+
+def compare(program, path, what):
+    text = f"{path}.printed"
+    with open(text, "w", encoding="ascii") as it:
+        it.write(printed(program, path))
+    one, other = compiled(path).splitlines(), compiled(text).splitlines()
+    if one != other:
+        lines = [f"  {it}" for pair in zip(one, other) if pair[0] != pair[1] for it in pair][:4]
+        raise Failed("\n".join([f"{what}: {len(one)} and {len(other)} lines", *lines]))
+    print(f"{what}: {len(one)} records are the same")
+
+
+# ---- zones
+
+def random_label(rolls):
+    letters = "abcdefghijklmnopqrstuvwxyzABCXYZ0123456789-_"
+    label = "".join(rolls.choice(letters) for _ in range(rolls.randint(1, 12))).strip("-") or "x"
+    return label + rolls.choice(["", "", "", "", "\\.y", "\\032z", "\\@", "\\(", "\\;", '\\"'])
+
+
+def random_data(rolls):
+    name = rolls.choice(["ns", "@", "a.b", "elsewhere.example.net.", "."])
+    word = "".join(rolls.choice("abc XYZ;()@.") for _ in range(rolls.randint(0, 30)))
+    octets = bytes(rolls.randrange(256) for _ in range(rolls.randint(0, 20)))
+    groups = ":".join(f"{rolls.randrange(65536):x}" for _ in range(8))
+    return rolls.choice([
+        f"A {'.'.join(str(rolls.randrange(256)) for _ in range(4))}",
+        f"AAAA {groups}",
+        f"AAAA {rolls.randrange(65536):x}::{rolls.randrange(65536):x}",
+        f"MX {rolls.randrange(65536)} {name}",
+        f"SRV {rolls.randrange(65536)} {rolls.randrange(65536)} {rolls.randrange(65536)} {name}",
+        f'TXT "{word}" x{rolls.randrange(100)}',
+        f"PTR {name}",
+        f"TYPE{rolls.randrange(1000, 60000)} \\# {len(octets)} {octets.hex()}",
+        f'CAA {rolls.randrange(256)} issue "{word}"',
+        f'HINFO "{word}" cpu',
+        f'NAPTR {rolls.randrange(65536)} 1 "s" "x+{rolls.randrange(10)}" "!^.*$!{rolls.randrange(100)}!" {name}',
+        f"SSHFP 1 1 {rolls.randrange(2 ** 160):040x}",
+        f"TLSA 3 1 1 {octets.hex()}00",
+    ])
+
+
+def random_zone(rolls, count):
+    lines, owner = [HEAD], "@"
+    for _ in range(count):
+        owner = rolls.choice(["", "", ".".join(random_label(rolls) for _ in range(rolls.randint(1, 3)))]) or owner
+        head = rolls.choice(["", f"{rolls.randrange(100000)} ", "IN ", "in 2h ", "1d IN "])
+        lines.append(f"{owner} {head}{random_data(rolls)}{rolls.choice(['', ' ; a comment', ' ( ; more', ''])}")
+        if lines[-1].endswith("; more"):
+            lines.append(")")
+    return "\n".join(lines) + "\n"
+
+
+def root_shaped(count):
+    """Delegations with glue, each third one signed."""
+    lines = [HEAD]
+    for i in range(count):
+        lines += [f"tld{i} NS a.nic.tld{i}", f"tld{i} NS b.nic.tld{i}", f"a.nic.tld{i} A 192.0.2.{i % 256}", f"b.nic.tld{i} AAAA 2001:db8::{i:x}"]
+        if i % 3 == 0:
+            lines.append(f"tld{i} DS {i} 13 2 {'%064x' % i}")
+    return "\n".join(lines) + "\n"
+
+
+# ---- signed ones
+
+def signed_by_bind(path, folder, *flags):
+    key = done("dnssec-keygen", "-q", "-a", "ECDSAP256SHA256", "-f", "KSK", ORIGIN, folder=folder).strip()
+    other = done("dnssec-keygen", "-q", "-a", "ECDSAP256SHA256", ORIGIN, folder=folder).strip()
+    out = f"{path}.bind{len(flags)}"
+    done("dnssec-signzone", "-q", "-S", "-P", "-o", ORIGIN, *flags, "-f", out, path, key, other, folder=folder)
+    return out
+
+
+def signed_by_ldns(path, folder, *flags):
+    key = done("ldns-keygen", "-a", "ECDSAP256SHA256", "-k", ORIGIN, folder=folder).strip()
+    out = f"{path}.ldns{len(flags)}"
+    done("ldns-signzone", *flags, "-f", out, path, key, folder=folder)
+    return out
+
+
+KNOT = """\
+server:
+    rundir: "{folder}"
+database:
+    storage: "{folder}"
+policy:
+  - id: here
+    single-type-signing: on
+    nsec3: {nsec3}
+zone:
+  - domain: {origin}
+    storage: "{folder}"
+    file: "{file}"
+    dnssec-signing: on
+    dnssec-policy: here
+    zonefile-load: whole
+"""
+
+
+def signed_by_knot(path, folder, nsec3):
+    room = tempfile.mkdtemp(dir=folder)
+    write(f"{room}/conf", KNOT.format(folder=room, nsec3=nsec3, origin=ORIGIN, file=os.path.basename(path)))
+    shutil.copyfile(path, f"{room}/{os.path.basename(path)}")
+    os.mkdir(f"{room}/out")
+    done("kzonesign", "-c", f"{room}/conf", "-o", f"{room}/out", ORIGIN)
+    return f"{room}/out/{os.path.basename(path)}"
+
+
+SIGNERS = [
+    ("dnssec-signzone with NSEC", ["dnssec-keygen", "dnssec-signzone"], signed_by_bind, []),
+    ("dnssec-signzone with NSEC3", ["dnssec-keygen", "dnssec-signzone"], signed_by_bind, ["-3", "aabbccdd"]),
+    ("dnssec-signzone with opt-out", ["dnssec-keygen", "dnssec-signzone"], signed_by_bind, ["-3", "-", "-A"]),
+    ("ldns-signzone with NSEC", ["ldns-keygen", "ldns-signzone"], signed_by_ldns, []),
+    ("ldns-signzone with NSEC3", ["ldns-keygen", "ldns-signzone"], signed_by_ldns, ["-n", "-s", "aabb"]),
+    ("kzonesign with NSEC", ["kzonesign"], signed_by_knot, ["off"]),
+    ("kzonesign with NSEC3", ["kzonesign"], signed_by_knot, ["on"]),
+]
+# What a tool can't read, though the others can.
+UNREAD = {("the written zone", "ldns-signzone"): "text with the octet 0"}
+
+
+def compare_signed(program, path, folder, what, name, sign, flags):
+    """Compares a zone as one of the tools signs it."""
+    tool = name.split(" ")[0]
+    if reason := UNREAD.get((what, tool)):
+        print(f"{what}: {tool} doesn't read {reason}")
+    else:
+        compare(program, sign(path, folder, *flags), f"{what}, signed by {name}")
+
+
+# ---- files with a fault
+
+def checkers():
+    """How each of the checkers that are there is called."""
+    calls = {"bind": ["named-checkzone", "-i", "none", "-k", "ignore", "-q", ORIGIN], "nsd": ["nsd-checkzone", ORIGIN], "knot": ["kzonecheck", "-o", ORIGIN]}
+    return {name: words for name, words in calls.items() if need(words[0])}
+
+
+def compare_faults(program, folder):
+    others, wrong = checkers(), []
+    for what, line in FAULTY.items():
+        path = f"{folder}/faulty"
+        with open(path, "w", encoding="ascii") as it:
+            it.write(f"{HEAD}{line}\n")
+        status, _, err = run(program, path, ORIGIN)
+        if status != 1 or not err.startswith(f"{path}:"):
+            wrong.append(f"{what}: zone_check has status {status}")
+        taken = [name for name, words in others.items() if run(*words, path)[0] == 0]
+        if unknown := [it for it in taken if (what, it) not in TAKEN]:
+            wrong.append(f"{what}: taken by {', '.join(unknown)}; zone_check says {err.strip()}")
+    if wrong:
+        raise Failed("\n".join(wrong))
+    print(f"{len(FAULTY)} files with a fault are refused")
+
+
+def write(path, text):
+    with open(path, "w", encoding="ascii") as it:
+        it.write(text)
+    return path
+
+
+def main(words):
+    seed = int(words[0]) if words else 1
+    program = done(f"{TOP}/tools/program", "path", "zone_check").strip()
+    if not need("named-compilezone"):
+        return 0
+    wrong, signers = 0, [it for it in SIGNERS if need(*it[1])]
+    with tempfile.TemporaryDirectory(prefix="zones-") as folder:
+        os.chmod(folder, 0o755)
+        rolls = random.Random(seed)
+        zones = {"the written zone": WRITTEN, "a zone of 2000 delegations": root_shaped(2000)}
+        zones.update({f"random zone {i}": random_zone(rolls, 300) for i in range(20)})
+        tasks = [(compare_faults, program, folder)]
+        for i, (what, text) in enumerate(zones.items()):
+            path = write(f"{folder}/zone{i}", text)
+            tasks.append((compare, program, path, what))
+            if not what.startswith("random"):
+                tasks += [(compare_signed, program, path, folder, what, name, sign, flags) for name, _, sign, flags in signers]
+        for call, *given in tasks:
+            try:
+                call(*given)
+            except Failed as failed:
+                wrong += 1
+                print(f"WRONG {failed}")
+    return 1 if wrong else 0
+
+
+if __name__ == "__main__":
+    sys.exit(main(sys.argv[1:]))
