@@ -1,9 +1,9 @@
 -- What calls answer that can be refused, where several calls say the same
-use Rattle.std.specs.Prelude.{◌≡◌, ◌⊎◌, ℕ, List, Bool, IfOk, IfErr, OnOk, OnErr, IsOkUnless, MatchResult, Result, Option, None, Some, is_some, unwrap_or}
+use Rattle.std.specs.Prelude.{◌≡◌, ◌⊎◌, ℕ, List, ◌∷◌, Bool, IfOk, IfErr, OnOk, OnErr, IsOkUnless, MatchResult, Result, Option, None, Some, is_some, unwrap_or}
 use Rattle.zone_proto.specs.declared.error.ProtoError.{ProtoError}
 use Rattle.zone_proto.specs.declared.error.ProtoError.TheVariants.{Memory}
-use Rattle.zone_proto.specs.Names.{Name}
-use Rattle.zone_proto.specs.Faults.{fault_of, IsFaultOrMemory, IsTextFault}
+use Rattle.zone_proto.specs.Names.{Label, Name}
+use Rattle.zone_proto.specs.Faults.{label_fault, fault_of, IsFaultOrMemory, IsTextFault}
 
 -- a copy of a value, refused only for want of memory
 pub record IsCopy {A : Type 0} (result : Result A ProtoError) (whole : A) : Type 0 where
@@ -14,7 +14,12 @@ pub record IsCopy {A : Type 0} (result : Result A ProtoError) (whole : A) : Type
 abbrev pub TellsFault : {A : Type 0} → Result A ProtoError → Name → Type 0
 TellsFault result ls = MatchResult result (λ _. fault_of ls ≡ None) (λ e. fault_of ls ≡ Some e)
 
--- the same of a call that takes memory, of which there may be none
+-- the same of a call that takes the first label of some
+abbrev pub TellsLabelFault : {A : Type 0} → Result A ProtoError → Label → Type 0
+TellsLabelFault result l = (ls : Name)
+    → MatchResult result (λ _. label_fault (l ∷ ls) ≡ label_fault ls) (λ e. label_fault (l ∷ ls) ≡ Some e)
+
+-- the same of a call that takes labels and memory, of which there may be none
 abbrev pub TellsFaultOrMemory : {A : Type 0} → Result A ProtoError → Name → Type 0
 TellsFaultOrMemory result ls = MatchResult result (λ _. fault_of ls ≡ None) (IsFaultOrMemory (fault_of ls))
 

@@ -1,10 +1,8 @@
 //! Lists of labels: whether they make a name, and copies of them.
 ghost use Rattle.std.specs.Prelude.{◌∷◌, OnOk};
-ghost use Rattle.std.specs.List.{AllByRecursion};
-ghost use Rattle.zone_proto.specs.Names.{IsName};
-ghost use Rattle.zone_proto.specs.Ranges.{IsOctet};
+ghost use Rattle.zone_proto.specs.Names.{IsLabel, IsName};
 ghost use Rattle.zone_proto.specs.Vectors.{octets_of};
-ghost use Rattle.zone_proto.specs.Results.{TellsFault};
+ghost use Rattle.zone_proto.specs.Results.{TellsFault, TellsLabelFault};
 
 use crate::error::ProtoError;
 use crate::labels_iter::Labels;
@@ -23,13 +21,7 @@ pub(crate) fn check_labels(labels: &[Vec<u8>]) -> Result<(), ProtoError>
 {
     let mut wire = 0usize;
     for label in labels {
-        if label.is_empty() {
-            return Err(ProtoError::EmptyLabel);
-        }
-        if label.len() > LONGEST_LABEL {
-            return Err(ProtoError::LabelTooLong);
-        }
-        octets_fit(label);
+        check_label(label)?;
         wire = (wire + 1 + label.len()).min(LONGEST_NAME + 1);
     }
     if wire + 1 > LONGEST_NAME {
@@ -44,20 +36,23 @@ pub(crate) fn check_prepended(label: &[u8], labels: Labels<'_>) -> Result<(), Pr
     ensures fault { TellsFault result (label.now ∷ labels.entry) }
     ensures valid { OnOk result (IsName (label.now ∷ labels.entry)) }
 {
+    check_label(label)?;
+    if label.len() + 1 + wire_length(labels) > LONGEST_NAME {
+        return Err(ProtoError::NameTooLong);
+    }
+    Ok(())
+}
+
+/// Whether these octets make a label, and else the fault.
+fn check_label(label: &[u8]) -> Result<(), ProtoError>
+    ensures fault { TellsLabelFault result label.now }
+    ensures valid { OnOk result (IsLabel label.now) }
+{
     if label.is_empty() {
         return Err(ProtoError::EmptyLabel);
     }
     if label.len() > LONGEST_LABEL {
         return Err(ProtoError::LabelTooLong);
     }
-    if label.len() + 1 + wire_length(labels) > LONGEST_NAME {
-        return Err(ProtoError::NameTooLong);
-    }
-    octets_fit(label);
     Ok(())
 }
-
-/// Each octet of a label is below 256, as each `u8` is.
-pub(crate) fn octets_fit(label: &[u8])
-    ensures { AllByRecursion IsOctet label.now }
-{}

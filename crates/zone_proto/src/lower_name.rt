@@ -1,6 +1,7 @@
 //! Names in lower case, as the owners of record sets are kept.
 ghost use Rattle.std.specs.Prelude.{◌≡◌, ◌↔◌, [], ◌∷◌, length, drop, IsTrue, IfOk, IsOkUnless};
 ghost use Rattle.zone_proto.specs.Names.{lower, lower_label, suffixes, wire_form, wildcard_of, IsAtOrAbove, IsLowerName, IsWildcard};
+ghost use Rattle.zone_proto.specs.Keys.{key, IsKeyInRange};
 ghost use Rattle.zone_proto.specs.Ranges.{IsNameInRange};
 ghost use Rattle.zone_proto.specs.Forms.{labels_of};
 ghost use Rattle.zone_proto.specs.Vectors.{octets_of};
@@ -12,6 +13,8 @@ use crate::error::ProtoError;
 use crate::form::Form;
 use crate::labels_iter::Labels;
 use crate::name::Name;
+use crate::record_type::RecordType;
+use crate::rr_key::RrKey;
 use crate::suffixes::Suffixes;
 use std::alloc::Global;
 use std::marker::Model;
@@ -134,6 +137,19 @@ impl LowerName {
         }
     }
 
+    /// The key of this name and a type. Takes no memory.
+    pub(crate) fn into_key(self, record_type: RecordType) -> RrKey
+        ensures value { result ≡ key self record_type.0 }
+        ensures named { IsLowerName result.name }
+        ensures range { IsKeyInRange result }
+    {
+        let LowerName { name } = self;
+        RrKey {
+            name: LowerName { name },
+            record_type,
+        }
+    }
+
     /// Whether the other name is this one or below it: whether this name's labels are the other's last labels.
     pub fn zone_of(&self, other: &LowerName) -> bool
         ensures { IsTrue result ↔ IsAtOrAbove self.now other.now }
@@ -143,7 +159,8 @@ impl LowerName {
 
     /// Whether a name is this one with its letters in lower case too, which `==` of names doesn't tell. Takes no memory.
     pub fn is_exactly(&self, name: &Name) -> bool
-        ensures { IsTrue result ↔ (name.now ≡ self.now) }
+        ensures same { IsTrue result ↔ (name.now ≡ self.now) }
+        ensures lower { lower self.now ≡ self.now }
     {
         name.form().is_same(self.form())
     }
@@ -152,6 +169,7 @@ impl LowerName {
     pub fn prepend_label(&self, label: &[u8]) -> Result<LowerName, ProtoError>
         ensures ok { IfOk result (λ n. n ≡ lower_label label.now ∷ self.now) }
         ensures refusal { TellsFaultOrMemory result (label.now ∷ self.now) }
+        ensures valid { IsLowerName self.now }
     {
         Ok(LowerName::from(self.name.prepend_label(label)?))
     }
@@ -178,7 +196,8 @@ impl LowerName {
 
     /// A copy of the name. Refused only for want of memory.
     pub fn clone(&self) -> Result<LowerName, ProtoError>
-        ensures { IsCopy result self.now }
+        ensures copy { IsCopy result self.now }
+        ensures valid { IsLowerName self.now }
     {
         Ok(LowerName {
             name: self.name.clone()?,

@@ -80,6 +80,7 @@ impl Name {
     /// memory if the wire form of its name has at most 33 octets.
     pub fn parse(alloc: Global, text: &str) -> Result<Name, ProtoError>
         ensures ok { IfOk result (IsNameText text.now) }
+        ensures name { IfOk result (λ n. IsName n) }
         ensures refusal { TellsTextFault result text.now }
     {
         if let Some(packed) = read_unescaped(alloc, text.as_bytes())? {

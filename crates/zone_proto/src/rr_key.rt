@@ -26,9 +26,7 @@ impl RrKey {
         ensures named { IsLowerName result.name }
         ensures range { IsKeyInRange result }
     {
-        // Its clauses say that this is a name, and that the octets are in range.
-        let _ = name.labels();
-        RrKey { name, record_type }
+        name.into_key(record_type)
     }
 
     /// The key of a name and type 0. No key of the name, or of a name below it, stands before it, so what a map has of these
@@ -53,8 +51,6 @@ impl RrKey {
         ensures copy { IsCopy result self.now }
         ensures range { IsKeyInRange self.now }
     {
-        // Its clauses say that the octets are in range.
-        let _ = self.name.labels();
         // The pattern says that the number is in range.
         let RecordType(number) = self.record_type;
         Ok(RrKey::new(self.name.clone()?, RecordType(number)))

@@ -3,6 +3,7 @@ ghost use Rattle.std.specs.Prelude.{◌≡◌, IfOk, IfErr, length, nat_lt, if�
 ghost use Rattle.std.specs.List.{AllByRecursion};
 ghost use Rattle.zone_proto.specs.Counting.{counted_name, IsCounting};
 ghost use Rattle.zone_proto.specs.Names.{wire_form, IsName};
+ghost use Rattle.zone_proto.specs.Ranges.{IsOctet};
 ghost use Rattle.zone_proto.specs.Packing.{packing, IsInner};
 ghost use Rattle.zone_proto.specs.Faults.{first_of_faults};
 ghost use Rattle.zone_proto.specs.Forms.{labels_of};
@@ -11,7 +12,7 @@ ghost use Rattle.zone_proto.specs.WireForms.{IsWireFault, IsWireForm, TellsWireF
 use crate::counted::{Counted, split_counted};
 use crate::error::ProtoError;
 use crate::form::{Form, is_inner};
-use crate::labels::{LONGEST_LABEL, LONGEST_NAME, octets_fit};
+use crate::labels::{LONGEST_LABEL, LONGEST_NAME};
 use crate::packed::{Octets, Packed};
 use std::alloc::{AllocError, Global};
 
@@ -53,21 +54,22 @@ fn check_wire(octets: &[u8]) -> Result<&[u8], ProtoError>
             return Err(ProtoError::BadText);
         }
         let (label, next) = after.split_at(count);
-        octets_fit(label);
-        fault = first_fault(fault, count);
+        fault = first_fault(fault, label);
         rest = next;
     }
     Err(ProtoError::BadText)
 }
 
-/// The fault, or where there is none that of a label of so many octets.
-fn first_fault(fault: Option<ProtoError>, count: usize) -> Option<ProtoError>
-    ensures { result
-        ≡ first_of_faults fault (if nat_lt 63 count then Some ProtoError.LabelTooLong else None) }
+/// The fault, or where there is none that of a label, which has octets.
+fn first_fault(fault: Option<ProtoError>, label: &[u8]) -> Option<ProtoError>
+    ensures first { result
+        ≡ first_of_faults fault
+        (if nat_lt 63 (length label.now) then Some ProtoError.LabelTooLong else None) }
+    ensures octets { AllByRecursion IsOctet label.now }
 {
     match fault {
         Some(fault) => Some(fault),
-        None if count > LONGEST_LABEL => Some(ProtoError::LabelTooLong),
+        None if label.len() > LONGEST_LABEL => Some(ProtoError::LabelTooLong),
         None => None,
     }
 }

@@ -1,5 +1,5 @@
 -- Names read from their wire form, label by label, and written from the root on
-use Rattle.std.proofs.Common.{◌≡◌, ◌≢◌, ℕ, zero, suc, ◌+◌, ◌-◌, ◌<◌, ◌≤◌, List, [], ◌∷◌, ◌++◌, length, take, drop, get_or, set, Bool, true, false, cond, eqb, Option, Some, None, refl, sym, ap, subst, ◌∙◌, arith, append_assoc, length-take-le}
+use Rattle.std.proofs.Common.{◌≡◌, ◌≢◌, ℕ, suc, ◌+◌, ◌-◌, ◌<◌, ◌≤◌, List, [], ◌∷◌, ◌++◌, length, take, drop, get_or, set, Bool, true, false, cond, eqb, Option, Some, None, refl, sym, ap, subst, ◌∙◌, arith, append_assoc, length-take-le}
 use Rattle.std.specs.Prelude.{nat_lt, ◌==◌}
 use Rattle.std.specs.List.{AllByRecursion}
 use borrow.Rule.Slice.PartMut.{put_mid}
@@ -8,7 +8,7 @@ use Rattle.std.proofs.lemmas.List.{length-append, append-nil, take_at, drop_at, 
 use Rattle.zone_proto.specs.declared.error.ProtoError.{ProtoError}
 use Rattle.zone_proto.specs.declared.error.ProtoError.TheVariants.{EmptyLabel, LabelTooLong, NameTooLong, BadText}
 use Rattle.zone_proto.specs.Counting.{counting, counted_name, IsCounting}
-use Rattle.zone_proto.specs.Faults.{label_fault, length_fault, first_of_faults, fault_of}
+use Rattle.zone_proto.specs.Faults.{label_fault, length_fault, first_of_faults}
 use Rattle.zone_proto.specs.Names.{Name, Label, IsLabel, IsName, wire_form, wire_length}
 use Rattle.zone_proto.specs.Packing.{packing, name_of, IsInner, IsPackable, IsPacking}
 use Rattle.zone_proto.specs.Ranges.{IsOctet}

@@ -1,4 +1,4 @@
-use Rattle.std.proofs.Common.{◌≡◌, ◌∷◌, ◌++◌, [], take, drop, ap, sym, ◌∙◌, arith, refl, take-append-drop, subst, Some, None, cond}
+use Rattle.std.proofs.Common.{◌≡◌, ◌∷◌, ◌++◌, sym, ◌∙◌, arith, refl, take-append-drop, subst, Some, None, cond}
 use Rattle.std.specs.Prelude.{nat_lt}
 use Rattle.std.proofs.lemmas.List.{nil_from_length}
 use Rattle.zone_proto.specs.declared.error.ProtoError.TheVariants.{LabelTooLong}
@@ -14,10 +14,11 @@ loop-first-preserved c =
     let count = c.from-count.result in
     let parts : after ≡ label ++ next =
     sym (take-append-drop count after) ∙ λ i. sym c.split_at.ensures.front i ++ sym c.split_at.ensures.back i in
-    subst (IsReadUpTo c.args.octets.now next) (sym c.first_fault-fault.ensures)
+    subst (IsReadUpTo c.args.octets.now next) (sym (c.first_fault-fault.ensures.first
+    ∙ λ i. first_of_faults c.loop-first.fault (cond (nat_lt 63 (c.split_at.ensures.front_len i)) (Some LabelTooLong) None)))
     (label_read c.args.octets.now c.loop-first.rest.now c.loop-first.fault count label next c.loop-first.invariant
     (c.in-Some.ensures.cases.0 ∙ λ i. sym c.from-count.ensures i ∷ parts i) (omega (arith, c.if-count-eq0.false)) c.split_at.ensures.front_len
-    c.octets_fit.ensures)
+    c.first_fault-fault.ensures.octets)
 
 pub returns-then-not-is_empty-clause-refusal : goal.returns-then-not-is_empty-clause-refusal
 returns-then-not-is_empty-clause-refusal c =

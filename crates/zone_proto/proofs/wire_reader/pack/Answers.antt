@@ -1,4 +1,4 @@
-use Rattle.std.proofs.Common.{◌≡◌, length, ap, sym, ◌∙◌, arith}
+use Rattle.std.proofs.Common.{◌≡◌, length, ap, ◌∙◌, arith}
 use Rattle.std.specs.List.{refill}
 use Rattle.zone_proto.specs.Counting.{counted_name}
 use Rattle.zone_proto.proofs.Names.WireLabels.{counting_is_packing, refilled, packed}

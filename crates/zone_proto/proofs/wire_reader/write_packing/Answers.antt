@@ -1,4 +1,4 @@
-use Rattle.std.proofs.Common.{◌≡◌, ◌+◌, ◌-◌, length, set, ap, sym, ◌∙◌, refl, arith}
+use Rattle.std.proofs.Common.{◌≡◌, ◌+◌, ◌-◌, length, set, refl, arith}
 use borrow.Rule.Slice.PartMut.{put_mid}
 use Rattle.zone_proto.proofs.Names.WireLabels.{label_written}
 use Rattle.zone_proto.proofs.wire_reader.write_packing.Goals as goal
