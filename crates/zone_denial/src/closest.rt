@@ -41,8 +41,6 @@ pub(crate) fn closest_nsec_knowing<'m>(
     ensures zone { IsZone records.now }
     ensures err { IsOkUnless result ProtoError.Memory }
 {
-    // Its clauses say that the keys ascend.
-    let _ = records.as_map();
     if are_many(records) {
         let place = RrKey::new(name.clone()?, RecordType::NSEC);
         if let Some((owner, set)) = records.last_of_type_upto(&place) {
@@ -56,7 +54,9 @@ pub(crate) fn closest_nsec_knowing<'m>(
 
 /// Whether so many sets are NSEC sets that the closest one to a name mostly stands right before the place that the name's own
 /// would have: then one read of the map finds it, and the index, which is large, needn't be asked.
-pub(crate) fn are_many(records: &RecordMap) -> bool {
+pub(crate) fn are_many(records: &RecordMap) -> bool
+    ensures { IsZone records.now }
+{
     records.denial_owners(RecordType::NSEC).size_hint().0 >= records.len() / 8
 }
 
@@ -131,8 +131,6 @@ fn nsec_of<'m>(
     ensures found { IfOk result (λ set. option_copied set ≡ set_at records.now owner.now NSEC) }
     ensures err { IsOkUnless result ProtoError.Memory }
 {
-    // Its clauses say that the owner is in lower case.
-    let _ = owner.labels();
     if let Some(known) = known {
         if owner.is_exactly(known.name()) {
             return Ok(Some(known));

@@ -1,10 +1,10 @@
 //! Whether a list of types is the one that a denial has for keys, found without making that.
-ghost use Rattle.std.specs.Prelude.{◌≡◌, ℕ, ◌<◌, ◌≤◌, List, ◌∷◌, ◌++◌, length, map, nat_lt, IfSome, IsTrue};
-ghost use Rattle.std.specs.List.{prefix_len};
+ghost use Rattle.std.specs.Prelude.{◌≡◌, ℕ, ◌<◌, List, ◌∷◌, ◌++◌, map, IfSome, IsTrue};
 ghost use Rattle.std.specs.Ordering.{nat_cmp};
 ghost use Rattle.zone_proto.specs.Types.{NSEC as nsec, RRSIG as rrsig};
 ghost use Rattle.zone_denial.specs.TypeLists.{joined};
 
+use crate::type_list::count_below;
 use zone_proto::{RecordType, RrKey};
 
 /// Whether a list of types is that of keys that ascend, with RRSIG and NSEC, each once; no where a key is of one of the two.
@@ -12,7 +12,11 @@ pub(crate) fn lists_types(types: &[RecordType], keys: &[&RrKey]) -> bool
     ensures { IsTrue result → map (λ t. t.0) types.now
         ≡ joined nat_cmp nsec (joined nat_cmp rrsig (map (λ k. k.now.record_type.0) keys.now)) }
 {
-    let (low, high) = keys.split_at(count_below(keys, RecordType::RRSIG));
+    let below = count_below(types, RecordType::RRSIG);
+    if below > keys.len() {
+        return false;
+    }
+    let (low, high) = keys.split_at(below);
     if !begins_above(high) {
         return false;
     }
@@ -31,16 +35,6 @@ fn begins_above(keys: &[&RrKey]) -> bool
         Some(first) => first.record_type > RecordType::NSEC,
         None => true,
     }
-}
-
-/// How many keys in front are of a type less than another.
-fn count_below(keys: &[&RrKey], record_type: RecordType) -> usize
-    ensures value { result ≡ prefix_len (λ k. nat_lt k.now.record_type.0 record_type.0) keys.now }
-    ensures bound { result ≤ length keys.now }
-{
-    keys.iter()
-        .take_while(|key| key.record_type < record_type)
-        .count()
 }
 
 /// What is left of a list of types behind those of keys, RRSIG, NSEC, and those of other keys, if it begins with these.

@@ -156,13 +156,9 @@ fn with_circle(
     ensures err { IfErr result
         (λ e. (e ≡ ProtoError.Memory) ⊎ (all_fit origin.now (map hashed held.now) ≡ false)) }
 {
-    // Its clauses say that the origin is in lower case.
-    let _ = origin.labels();
     let mut entries = Vec::with_capacity(origin.alloc(), held.len().saturating_add(1))?;
     entries.push(announced)?;
     for i in 0..held.len() {
-        // Its clause says that the octets are in range, so that another digest has another owner.
-        octets_fit(held[i].digest.as_slice());
         let record = nsec3_record(&held[i], next_name(held, i), origin, parameters, ttl)?;
         let before = set_before(entries.as_slice(), held, i);
         let entry = entry_with(before, record, serial)?;
@@ -196,11 +192,6 @@ fn ends_with(entries: &[(RrKey, RecordSet)], key: &RrKey) -> bool
         None => false,
     }
 }
-
-/// Each octet of a digest is below 256, as each `u8` is.
-pub(crate) fn octets_fit(digest: &[u8])
-    ensures { AllByRecursion IsOctet digest.now }
-{}
 
 /// The set of the last entry, if the name of this place has the digest of the one before it, so that they have one owner.
 fn set_before<'e>(
@@ -311,6 +302,8 @@ fn nsec3_record(
     ensures ok { IfOk result
         (λ r. r ≡ linked_record origin.now parameters.now ttl name.now next.now.digest) }
     ensures refusal { TellsFaultOrMemory result (hashed_owner origin.now name.now.digest) }
+    ensures digest { OnOk result (AllByRecursion IsOctet name.now.digest) }
+    ensures lower { OnOk result (lower origin.now ≡ origin.now) }
 {
     let data = NSEC3 {
         algorithm: parameters.algorithm,
@@ -328,6 +321,8 @@ fn nsec3_record(
 pub(crate) fn hashed_owner(digest: &[u8], origin: &LowerName) -> Result<LowerName, ProtoError>
     ensures ok { IfOk result (λ n. n ≡ hashed_owner origin.now digest.now) }
     ensures refusal { TellsFaultOrMemory result (hashed_owner origin.now digest.now) }
+    ensures digest { AllByRecursion IsOctet digest.now }
+    ensures lower { OnOk result (lower origin.now ≡ origin.now) }
 {
     let label = base32_dnssec(origin.alloc(), digest)?;
     origin.prepend_label(label.as_bytes())
@@ -351,8 +346,6 @@ fn announced(
     ensures stored { IfOk result (λ e. IsStoredAt e.0.name e.0.record_type.0 e.1) }
     ensures err { IsOkUnless result ProtoError.Memory }
 {
-    // Its clauses say that the origin is in lower case.
-    let _ = origin.labels();
     let key = RrKey::new(origin.clone()?, RecordType::NSEC3PARAM);
     let record = announcement(origin, parameters, ttl)?;
     entry_with(records.get(&key), record, serial)

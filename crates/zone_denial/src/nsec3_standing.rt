@@ -1,10 +1,12 @@
 //! Whether the NSEC3 sets that stand in a zone, and its NSEC3PARAM set, are those that it would get.
 ghost use Rattle.std.specs.Prelude.{◌≡◌, ℕ, ◌==◌, cond, map, None, Some, true, IfOk, IsTrue, IsOkUnless};
+ghost use Rattle.std.specs.List.{AllByRecursion};
 ghost use Rattle.std.specs.List.Sorted.{IsStrictlySortedBy};
 ghost use Rattle.zone_proto.specs.declared.rdata.RData.TheVariants as variant;
 ghost use Rattle.zone_proto.specs.Faults.{fault_of};
 ghost use Rattle.zone_proto.specs.HashedOwners.{hashed_owner};
-ghost use Rattle.zone_proto.specs.Names.{Name};
+ghost use Rattle.zone_proto.specs.Names.{Name, lower};
+ghost use Rattle.zone_proto.specs.Ranges.{IsOctet};
 ghost use Rattle.zone_proto.specs.Types.{NSEC3 as nsec3_type, NSEC3PARAM as nsec3param_type};
 ghost use Rattle.zone_map.specs.Standing.{renumbered, standing_at};
 ghost use Rattle.zone_map.specs.Zones.{set_at};
@@ -15,7 +17,7 @@ ghost use Rattle.zone_denial.specs.Nsec3Sets.{hashed_cmp, announced_set};
 ghost use Rattle.zone_denial.specs.OneRecordSets.{one_record_set};
 
 use crate::hashed_names::HashedName;
-use crate::nsec3_sets::{announcement, hashed_owner, next_name, octets_fit};
+use crate::nsec3_sets::{announcement, hashed_owner, next_name};
 use crate::only_data::only_data;
 use zone_map::RecordMap;
 use zone_proto::{
@@ -42,8 +44,6 @@ pub(crate) fn nsec3_sets_stand(
         (λ stand. IsTrue stand → all_fit origin.now (map hashed held.now) ≡ true) }
     ensures err { IsOkUnless result ProtoError.Memory }
 {
-    // Its clauses say that the origin is in lower case.
-    let _ = origin.labels();
     let mut passed = 0;
     for (key, set) in records.iter() {
         if key.record_type != RecordType::NSEC3 {
@@ -53,7 +53,6 @@ pub(crate) fn nsec3_sets_stand(
             return Ok(false);
         }
         let name = &held[passed];
-        octets_fit(name.digest.as_slice());
         if !is_set_of_name(set, name, next_name(held, passed), origin, parameters, ttl)? {
             return Ok(false);
         }
@@ -80,6 +79,8 @@ fn is_set_of_name(
         (nsec3_data parameters.now next.now.digest (types_of name.now.name.now)))) }
     ensures fits { IfOk result
         (λ is. IsTrue is → fault_of (hashed_owner origin.now name.now.digest) ≡ None) }
+    ensures digest { AllByRecursion IsOctet name.now.digest }
+    ensures lower { IfOk result (λ is. IsTrue is → lower origin.now ≡ origin.now) }
     ensures err { IsOkUnless result ProtoError.Memory }
 {
     match hashed_owner(name.digest.as_slice(), origin) {
@@ -170,8 +171,6 @@ pub(crate) fn is_announced(
         (announced_set origin.now records.now (λ _. None) parameters.now ttl serial)) }
     ensures err { IsOkUnless result ProtoError.Memory }
 {
-    // Its clauses say that the origin is in lower case.
-    let _ = origin.labels();
     let key = RrKey::new(origin.clone()?, RecordType::NSEC3PARAM);
     let Some(set) = records.get(&key) else {
         return Ok(false);

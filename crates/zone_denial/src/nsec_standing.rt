@@ -3,6 +3,7 @@ ghost use Rattle.std.specs.Prelude.{◌≡◌, ℕ, map, IsTrue};
 ghost use Rattle.std.specs.List.Sorted.{IsStrictlySortedBy};
 ghost use Rattle.std.specs.Ordering.{nat_cmp};
 ghost use Rattle.zone_proto.specs.Keys.{key_cmp};
+ghost use Rattle.zone_proto.specs.Names.{lower};
 ghost use Rattle.zone_proto.specs.Types.{NSEC as nsec_type, RRSIG};
 ghost use Rattle.zone_map.specs.Standing.{renumbered};
 ghost use Rattle.zone_denial.specs.NsecLinks.{AreLinked};
@@ -43,8 +44,6 @@ pub(crate) fn nsec_sets_stand(
             return false;
         }
         let first = keys[start];
-        // Its clauses say that the name is in lower case.
-        let _ = first.name.labels();
         let end = start + count_of_first(&keys[start..]);
         let next = first_name(&keys[end..], origin);
         if !is_nsec_set(set, &first.name, next, &keys[start..end], ttl) {
@@ -64,12 +63,13 @@ fn is_nsec_set(
     ttl: u32,
 ) -> bool
     requires { set.now.record_type ≡ nsec_type }
-    ensures { IsTrue result → (serial : ℕ)
+    ensures whole { IsTrue result → (serial : ℕ)
         → renumbered serial set.now
         ≡ new_set ttl serial name.now
         (nsec_data next.now
         (joined nat_cmp nsec_type
         (joined nat_cmp RRSIG (map (λ k. k.now.record_type.0) keys.now)))) }
+    ensures lower { IsTrue result → lower name.now ≡ name.now }
 {
     match only_data(set, name, ttl) {
         Some(RData::NSEC(data)) => is_nsec_data(data, next, keys),

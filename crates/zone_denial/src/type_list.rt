@@ -66,7 +66,7 @@ fn join(types: &mut Vec<RecordType>, record_type: RecordType) -> Result<(), Prot
 }
 
 /// How many types in front are less than another.
-fn count_below(types: &[RecordType], record_type: RecordType) -> usize
+pub(crate) fn count_below(types: &[RecordType], record_type: RecordType) -> usize
     ensures value { result ≡ prefix_len (λ t. nat_lt t.0 record_type.0) types.now }
     ensures bound { result ≤ length types.now }
 {

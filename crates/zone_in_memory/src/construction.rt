@@ -9,6 +9,7 @@ ghost use Rattle.zone_proto.specs.Types as types;
 ghost use Rattle.zone_in_memory.specs.Construction.{is_own_key, inserted_sets, made};
 ghost use Rattle.zone_inner.specs.StartOfAuthority.{soa};
 ghost use Rattle.zone_map.specs.Upserts.{all_upserted};
+ghost use Rattle.zone_map.specs.Zones.{IsZone};
 
 use std::collections::BTreeMap;
 use zone_inner::ZoneError;
@@ -25,6 +26,7 @@ pub(crate) fn make(
 ) -> Result<RecordMap, ZoneError>
     requires { apex.now ≡ key_at (lower origin.now) types.SOA }
     ensures ok { IfOk result (λ map. made origin.now sets.now.entries ≡ Ok map) }
+    ensures zone { IfOk result (λ map. IsZone map) }
     ensures err { IfErr result
         (λ error. (error ≡ ZoneError.Memory) ⊎ (made origin.now sets.now.entries ≡ Err error)) }
 {
@@ -89,6 +91,7 @@ fn insert_sets(
 ) -> Result<RecordMap, ZoneError>
     ensures ok { IfOk result
         (λ map. inserted_sets origin.now serial [] (values sets.now) ≡ Ok map) }
+    ensures zone { IfOk result (λ map. IsZone map) }
     ensures err { IfErr result
         (λ error. (error ≡ ZoneError.Memory)
         ⊎ (inserted_sets origin.now serial [] (values sets.now) ≡ Err error)) }
@@ -125,6 +128,7 @@ fn insert_records(map: &mut RecordMap, set: &RecordSet, serial: u32) -> Result<b
         (λ all. all ≡ is_some (all_upserted map.old IN set.now.records serial)) }
     ensures after { IfOk result
         (λ all. all ≡ true → all_upserted map.old IN set.now.records serial ≡ Some map.new) }
+    ensures zone { IsZone map.old → IsZone map.new }
     ensures err { IsOkUnless result ProtoError.Memory }
 {
     for record in set.records_without_rrsigs() {

@@ -53,8 +53,6 @@ impl<S: Signer> InnerInMemory<S> {
             (1 + alias_sets self.now.records) }
         ensures err { IsOkUnless result LookupError.Memory }
     {
-        // Its clause says that these are the sets of a zone.
-        let _ = self.as_map();
         let alloc = next_name.alloc();
         let mut sets = ListedSets::new(alloc);
         let mut seen = Vec::new(alloc);
@@ -108,7 +106,7 @@ impl<S: Signer> InnerInMemory<S> {
         ensures followed { IfOk result
             (λ _. IsFollowed self.now.records lookup_options.dnssec_ok seen.items search_type.0 from
             sets.old sets.new searches.old searches.new) }
-        ensures at_most { IsZone self.now.records → (u : ℕ) → Contains (run_types u) search_type.0
+        ensures at_most { (u : ℕ) → Contains (run_types u) search_type.0
             → searches.new ≤ searches.old + (1 + alias_sets self.now.records) }
         ensures err { IsOkUnless result LookupError.Memory }
     {

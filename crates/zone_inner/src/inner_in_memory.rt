@@ -136,6 +136,7 @@ impl<S: Signer> InnerInMemory<S> {
         ensures lent { IfOk result
             (λ set. option_and_then lent_set set ≡ direct self.now.records name.now record_type.0) }
         ensures counted { searches.new ≡ one_more searches.old }
+        ensures zone { IsZone self.now.records }
         ensures err { IsOkUnless result LookupError.Memory }
     {
         let outcome = self.find(name, record_type, lookup_options, searches)?;
@@ -279,11 +280,9 @@ impl<S: Signer> InnerInMemory<S> {
 impl<S: Signer> InnerInMemory<S> {
     /// These record sets, and no signers. What is put in later takes its memory from `alloc`; this takes none.
     pub fn with_records(alloc: Global, records: RecordMap) -> Self
-        ensures value { result ≡ record { records = records; signers = [] } }
-        ensures zone { IsZone records }
+        requires { IsZone records }
+        ensures { result ≡ record { records = records; signers = [] } }
     {
-        // Its clause says that these are the sets of a zone.
-        let _ = records.as_map();
         InnerInMemory {
             records,
             signers: Vec::new(alloc),
@@ -304,11 +303,13 @@ impl<S: Signer> InnerInMemory<S> {
             (λ outcome. IsOutcome self.now.records lookup_options.dnssec_ok name.now record_type.0
             outcome) }
         ensures counted { searches.new ≡ one_more searches.old }
+        ensures zone { IsZone self.now.records }
         ensures err { IsOkUnless result LookupError.Memory }
     {
         searches.add_one();
+        let records = &self.records;
         let key = RrKey::new(name.clone()?, record_type);
-        match direct::find(&self.records, key)? {
+        match direct::find(records, key)? {
             Direct::Found(set) => Ok(Outcome::Found(Found::Stored(set))),
             Direct::Missing(missing) => match missing.next_closer {
                 Some(next_closer) => {

@@ -2,7 +2,7 @@
 ghost use Rattle.std.specs.Prelude.{◌≡◌, ℕ, ◌<◌, ◌≤◌, ◌==◌, ◌||◌, false, None, option_copied};
 ghost use Rattle.std.specs.Option.{option_or};
 ghost use Rattle.zone_proto.specs.Types.{NS, SOA};
-ghost use Rattle.zone_map.specs.Zones.{set_at, owns};
+ghost use Rattle.zone_map.specs.Zones.{set_at, owns, IsZone};
 ghost use Rattle.zone_map.specs.Direct.{exact, answers_for, set_if};
 ghost use Rattle.zone_map.specs.Walks.{first_key_from};
 ghost use Rattle.zone_map.specs.Wildcards.{exists};
@@ -35,6 +35,7 @@ pub(crate) fn at_name<'m>(
     ensures ns { option_copied result.ns ≡ set_at records.now least.now.name NS }
     ensures soa { result.owns_soa ≡ owns records.now least.now.name SOA }
     ensures first { option_copied result.first ≡ first_key_from records.now least.now.name }
+    ensures zone { IsZone records.now }
 {
     let mut here = AtName {
         exact: None,
@@ -100,10 +101,9 @@ impl<'m> AtName<'m> {
     pub(crate) fn exists(self, records: &RecordMap, least: &RrKey) -> bool
         requires type_zero { least.now.record_type.0 ≡ 0 }
         requires first { option_copied self.first ≡ first_key_from records.now least.now.name }
+        requires zone { IsZone records.now }
         ensures { result ≡ exists records.now least.now.name }
     {
-        // Its clause says that the keys ascend.
-        let _ = records.as_map();
         let Some(first) = self.first else {
             return false;
         };

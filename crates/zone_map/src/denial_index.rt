@@ -127,8 +127,6 @@ fn listed_owners(
     ensures ordered { IsStrictlySortedBy key_cmp (keys_of sets.now.entries) }
     ensures err { IsOkUnless result ProtoError.Memory }
 {
-    // Its clauses say that the keys ascend.
-    let _ = sets.len();
     let mut nsec = Vec::new(alloc);
     let mut nsec3 = Vec::new(alloc);
     for (key, _) in sets.iter() {

@@ -3,7 +3,7 @@ ghost use Rattle.std.specs.Prelude.{◌≡◌, ◌||◌, not, drop, find, option
 ghost use Rattle.std.specs.Option.{option_map_or};
 ghost use Rattle.zone_proto.specs.Names.{is_root, suffixes, is_wildcard};
 ghost use Rattle.zone_proto.specs.Types.{NS, SOA};
-ghost use Rattle.zone_map.specs.Zones.{Sets, set_at, owns};
+ghost use Rattle.zone_map.specs.Zones.{Sets, set_at, owns, IsZone};
 ghost use Rattle.zone_map.specs.Direct.{is_address, direct};
 ghost use Rattle.zone_map.specs.Walks.{referral_above, own_referral, first_key_from, told_by, IsChild, FindsAbove, FindsDirect};
 ghost use Rattle.zone_map.specs.Wildcards.{exists};
@@ -168,6 +168,7 @@ fn cut_above<'m>(
 ) -> Result<Direct<'m>, ProtoError>
     requires least { least.record_type.0 ≡ 0 }
     requires first { option_copied here.first ≡ first_key_from records.now least.name }
+    requires zone { IsZone records.now }
     ensures found { IfOk result (λ found. FindsAbove records.now least.name found) }
     ensures err { IsOkUnless result ProtoError.Memory }
 {

@@ -1,5 +1,6 @@
 -- A name is read by itself as defined.
 use Rattle.std.proofs.Common.{◌≡◌, ◌⊎◌, inl, inr, ℕ, List, ◌++◌, true, false, Option, Some, None, Ok, Err, Result, refl, subst}
+use Rattle.std.specs.Prelude.{IfOk}
 use Rattle.std.specs.Str.{IsUtf8}
 use Rattle.std.proofs.lemmas.Str.{IsUtf8-from_ascii}
 use Rattle.zone_proto.specs.declared.error.ProtoError.{ProtoError}
@@ -8,6 +9,7 @@ use Rattle.zone_proto.specs.Names.{Name, IsName}
 use Rattle.zone_proto.specs.TextForm.{IsNameText}
 use Rattle.zone_proto.specs.Parse.{labels_of_text}
 use Rattle.zone_proto.specs.Faults.{fault_of, IsTextFault, no_labels, no_name}
+use Rattle.zone_proto.specs.Results.{TellsTextFault}
 use Rattle.zone_proto.proofs.Texts.TextForms.{form_read, read_form}
 use Rattle.zone_proto.proofs.Texts.TextFaults.{name_has_no_fault}
 use Rattle.zone_text.proofs.Ascii.{name_ascii}
@@ -48,9 +50,10 @@ alone_not_text w wrong = by (labels_of_text w) refl
     by None h = refl
     by (Some ls) h = absurd (wrong (IsUtf8-from_ascii w (name_ascii w ls (read_form w ls h))))
 
--- the same of a text that is the word's octets
-pub refused_at : (w t : List ℕ) (e : ProtoError) → t ≡ w → (e ≡ Memory) ⊎ IsTextFault t e → Refuses e (name_alone w)
-refused_at w t e same fault =
+-- what is read of a text that is the word's octets
+pub read_as_text : (w t : List ℕ) (r : Result Name ProtoError) → t ≡ w → IfOk r (IsNameText t) → IfOk r (λ n. IsName n) → TellsTextFault r t → Reads r (name_alone w)
+read_as_text w t (Ok n) same form name fault = alone_read w n (subst (λ s. IsNameText s n) same form) name
+read_as_text w t (Err e) same form name fault =
     let P : List ℕ → Type 0 = λ s. (e ≡ Memory) ⊎ IsTextFault s e in
     alone_refused w e (subst P same fault)
 

@@ -71,14 +71,7 @@ fn read_name(alloc: Global, word: &[u8]) -> Result<Name, ProtoError>
     let Ok(text) = str::from_utf8(word) else {
         return Err(ProtoError::BadText);
     };
-    match Name::parse(alloc, text) {
-        Ok(name) => {
-            // Its clauses say that this is a name.
-            let _ = name.labels();
-            Ok(name)
-        }
-        Err(error) => Err(error),
-    }
+    Name::parse(alloc, text)
 }
 
 /// A name with the origin behind it.

@@ -284,9 +284,6 @@ module _ (origin : Name) (parameters : Nsec3Parameters) (ttl serial : ℕ) (all 
   same_read : (i : ℕ) (h g : HeldName) → i < length all → h ≡ get_or all i h → g ≡ get_or all i g → g ≡ h
   same_read i h g lt is own = own ∙ get_or_default all i g h lt ∙ sym is
 
-  pub read_fits : (i : ℕ) (h g : HeldName) (octets : List ℕ) → i < length all → h ≡ get_or all i h → g ≡ get_or all i g → octets ≡ g.digest → AllByRecursion IsOctet octets → AllByRecursion IsOctet h.digest
-  read_fits i h g octets lt is own e fits = subst (AllByRecursion IsOctet) (e ∙ ap (λ (x : HeldName). x.digest) (same_read i h g lt is own)) fits
-
   pub found_among : (i : ℕ) (h : HeldName) (es entries : Sets) (b : Option (Bor RRset)) → entries ≡ es → CircleSoFar (take i all) es → i < length all → h ≡ get_or all i h
       → IsStrictlySortedBy hashed_cmp (map hashed all) → AllByRecursion IsOctet h.digest → IfSome b (λ s. last_set entries ≡ Some s.now) → IfSome b (λ s. RepeatsDigest all i)
       → IfNone b ((entries ≡ []) ⊎ ¬ RepeatsDigest all i) → option_copied b ≡ last_at es (owner_of h) NSEC3

@@ -1,12 +1,13 @@
 -- Lists of types, passed one after the other
-use Rattle.std.proofs.Common.{◌≡◌, ℕ, ◌+◌, ◌<◌, List, [], ◌∷◌, ◌++◌, map, take, drop, true, refl, sym, ap, ◌∙◌, subst, inl, inr, arith, Ordering, Less, Equal, Greater, append_assoc, append-nil, take-append-drop}
+use Rattle.std.proofs.Common.{◌≡◌, ℕ, ◌+◌, ◌<◌, ◌≤◌, length, List, [], ◌∷◌, ◌++◌, map, take, drop, true, refl, sym, ap, ◌∙◌, subst, inl, inr, arith, Ordering, Less, Equal, Greater, append_assoc, append-nil, take-append-drop}
 use Rattle.std.specs.Prelude.{nat_lt}
 use Rattle.std.specs.Borrow.{Bor}
 use Rattle.std.specs.List.{prefix_len}
 use Rattle.std.specs.Ordering.{nat_cmp, match_ordering, MatchOrdering}
 use Rattle.std.proofs.lemmas.Bool.Decides.{nat_tests}
 use Rattle.std.proofs.lemmas.Cmp.{ranked}
-use Rattle.std.proofs.lemmas.List.{map-append}
+use Rattle.std.proofs.lemmas.List.{map-append, take-map, take_at, length-map, length-take-le}
+use Rattle.zone_proto.specs.declared.record_type.RecordType.{RecordType}
 use Rattle.zone_proto.specs.declared.rr_key.RrKey.{RrKey}
 use Rattle.zone_proto.specs.Types.{RRSIG, NSEC}
 use Rattle.zone_proto.proofs.Members.{In, In-from_map}
@@ -46,28 +47,32 @@ both_joined low high below above =
 abbrev pub lent_types : List (Bor RrKey) → List ℕ
 lent_types ks = map (λ k. k.now.record_type.0) ks
 
-are_joined : (keys : List (Bor RrKey)) (k : ℕ) (types : List ℕ) → k ≡ prefix_len (λ (b : Bor RrKey). nat_lt b.now.record_type.0 RRSIG) keys
-    → ((q : ℕ) (qs : List ℕ) → lent_types (drop k keys) ≡ q ∷ qs → NSEC < q)
-    → types ≡ lent_types (take k keys) ++ (RRSIG ∷ (NSEC ∷ lent_types (drop k keys))) → types ≡ joined nat_cmp NSEC (joined nat_cmp RRSIG (lent_types keys))
-are_joined keys k types place above are =
+-- the types below RRSIG that a list begins with are those of the keys in front, if these are as many and it begins with theirs
+below_in_front : (keys : List (Bor RrKey)) (k : ℕ) (types : List RecordType) (rest : List ℕ) → k ≤ length keys → k ≡ prefix_len (λ (t : RecordType). nat_lt t.0 RRSIG) types
+    → map (λ t. t.0) types ≡ lent_types (take k keys) ++ rest → (y : ℕ) → In y (lent_types (take k keys)) → y < RRSIG
+below_in_front keys k types rest fits place are y i =
+    let number : RecordType → ℕ = λ t. t.0 in
+    let counted : length (lent_types (take k keys)) ≡ k = length-map (take k keys) (λ b. b.now.record_type.0) ∙ length-take-le k keys fits in
+    let front : map number (take k types) ≡ lent_types (take k keys) = sym (take-map number k types) ∙ ap (take k) are ∙ take_at (lent_types (take k keys)) rest k counted in
+    let r = In-from_map number y (take k types) (subst (In y) (sym front) i) in
+    let passes : nat_lt r.0.0 RRSIG ≡ true = in_front (λ (t : RecordType). nat_lt t.0 RRSIG) r.0 types (subst (λ n. In r.0 (take n types)) place r.1) in
+    let less : r.0.0 < RRSIG = grind (arith, nat_tests) in
+    subst (λ n. n < RRSIG) r.2 less
+
+pub all_passed : (keys low high : List (Bor RrKey)) (k : ℕ) (types left : List RecordType) → k ≤ length keys → low ≡ take k keys → high ≡ drop k keys
+    → k ≡ prefix_len (λ (t : RecordType). nat_lt t.0 RRSIG) types → ((q : ℕ) (qs : List ℕ) → lent_types high ≡ q ∷ qs → NSEC < q)
+    → map (λ t. t.0) types ≡ lent_types low ++ (RRSIG ∷ (NSEC ∷ (lent_types high ++ map (λ t. t.0) left))) → left ≡ []
+    → map (λ t. t.0) types ≡ joined nat_cmp NSEC (joined nat_cmp RRSIG (lent_types keys))
+all_passed keys low high k types left fits front back place above are none =
     let parts : lent_types keys ≡ lent_types (take k keys) ++ lent_types (drop k keys) =
     ap lent_types (sym (take-append-drop k keys)) ∙ map-append (λ (b : Bor RrKey). b.now.record_type.0) (take k keys) (drop k keys) in
-    are ∙ sym (both_joined (lent_types (take k keys)) (lent_types (drop k keys)) below above) ∙ ap (λ ts. joined nat_cmp NSEC (joined nat_cmp RRSIG ts)) (sym parts)
-  where
-    below : (y : ℕ) → In y (lent_types (take k keys)) → y < RRSIG
-    below y i =
-        let r = In-from_map (λ (b : Bor RrKey). b.now.record_type.0) y (take k keys) i in
-        let passes : nat_lt r.0.now.record_type.0 RRSIG ≡ true = in_front (λ (b : Bor RrKey). nat_lt b.now.record_type.0 RRSIG) r.0 keys (subst (λ n. In r.0 (take n keys)) place r.1) in
-        let less : r.0.now.record_type.0 < RRSIG = grind (arith, nat_tests) in
-        subst (λ n. n < RRSIG) r.2 less
-
-pub all_passed : (keys low high : List (Bor RrKey)) (k : ℕ) (types left : List ℕ) → low ≡ take k keys → high ≡ drop k keys → k ≡ prefix_len (λ (b : Bor RrKey). nat_lt b.now.record_type.0 RRSIG) keys
-    → ((q : ℕ) (qs : List ℕ) → lent_types high ≡ q ∷ qs → NSEC < q) → types ≡ lent_types low ++ (RRSIG ∷ (NSEC ∷ (lent_types high ++ left))) → left ≡ []
-    → types ≡ joined nat_cmp NSEC (joined nat_cmp RRSIG (lent_types keys))
-all_passed keys low high k types left front back place above are none =
-    are_joined keys k types place (λ q qs e. above q qs (ap lent_types back ∙ e))
-    (are ∙ (λ i. lent_types (front i) ++ (RRSIG ∷ (NSEC ∷ (lent_types (back i) ++ none i))))
-    ∙ ap (λ ts. lent_types (take k keys) ++ (RRSIG ∷ (NSEC ∷ ts))) (append-nil (lent_types (drop k keys))))
+    let number : RecordType → ℕ = λ t. t.0 in
+    let whole : map number types ≡ lent_types (take k keys) ++ (RRSIG ∷ (NSEC ∷ lent_types (drop k keys))) =
+    are ∙ (λ i. lent_types (front i) ++ (RRSIG ∷ (NSEC ∷ (lent_types (back i) ++ map number (none i)))))
+    ∙ ap (λ ts. lent_types (take k keys) ++ (RRSIG ∷ (NSEC ∷ ts))) (append-nil (lent_types (drop k keys))) in
+    whole ∙ sym (both_joined (lent_types (take k keys)) (lent_types (drop k keys)) (below_in_front keys k types (RRSIG ∷ (NSEC ∷ lent_types (drop k keys))) fits place whole)
+    (λ q qs e. above q qs (ap lent_types back ∙ e)))
+    ∙ ap (λ ts. joined nat_cmp NSEC (joined nat_cmp RRSIG ts)) (sym parts)
 
 -- one more key is passed
 pub one_more : (keys : List (Bor RrKey)) (i : ℕ) (k : Bor RrKey) (all before after : List ℕ) → take (i + 1) keys ≡ take i keys ++ k ∷ [] → all ≡ lent_types (take i keys) ++ before → before ≡ k.now.record_type.0 ∷ after

@@ -18,7 +18,8 @@ impl RecordMap {
 
     /// How many sets there are. Takes no memory.
     pub fn len(&self) -> usize
-        ensures { result ≡ length self.now }
+        ensures count { result ≡ length self.now }
+        ensures zone { IsZone self.now }
     {
         self.sets.len()
     }

@@ -255,14 +255,13 @@ fn exchange(
     common: Vec<(RrKey, RecordSet)>,
     exchanged: &mut Vec<(RrKey, RecordSet)>,
 )
-    requires { vec_len exchanged.old + vec_len common ≤ vec_capacity exchanged.old }
+    requires room { vec_len exchanged.old + vec_len common ≤ vec_capacity exchanged.old }
+    requires ordered { IsStrictlySortedBy key_cmp (keys_of sets.old.entries) }
     ensures put { sets.new.entries ≡ with_exchanged sets.old.entries common.items }
     ensures before { with_before sets.new.entries exchanged.new.items
         ≡ with_before sets.old.entries exchanged.old.items }
     ensures ordered { IsStrictlySortedBy key_cmp (keys_of sets.new.entries) }
 {
-    // Its clauses say that the keys ascend.
-    let _ = sets.len();
     for (key, set) in common {
         if let Some(stood) = sets.get_mut(&key) {
             exchanged.push_reserved((key, replace(stood, set)));
@@ -278,6 +277,7 @@ fn add(
     denials: &mut DenialIndex,
     mut fresh: BTreeMap<RrKey, RecordSet>,
 ) -> Result<Option<DenialIndex>, ProtoError>
+    requires { IsStrictlySortedBy key_cmp (keys_of sets.old.entries) }
     ensures added { OnOk result (InsertsAll key_cmp sets.old fresh.entries sets.new) }
     ensures moved { (rest : Tree Key RRset) × MovesPrefix key_cmp sets.old fresh sets.new rest }
     ensures index { OnOk result
@@ -287,8 +287,6 @@ fn add(
     ensures same { OnErr result (denials.new ≡ denials.old) }
     ensures err { IsOkUnless result ProtoError.Memory }
 {
-    // Its clauses say that the keys ascend.
-    let _ = sets.len();
     if fresh.is_empty() {
         return Ok(None);
     }

@@ -16,8 +16,8 @@ returns-then-branch-clause-found c =
     let m = c.args.records.now in
     let x = c.args.name.now in
     let owner = c.in-Some.owner.now in
-    let place : c.new-place.result ≡ key x NSEC = c.new-place.ensures.value ∙ ap (λ n. key n NSEC) c.in_ok-clone.ensures.ok in
+    let place : c.new-place.result ≡ key x NSEC = c.new-place.ensures.value ∙ ap (λ n. key n NSEC) c.in_ok-clone.ensures.copy.ok in
     let last = subst (λ k. IsLastOf owner (owners_upto m k.record_type.0 k.name)) place c.in-Some.ensures.last in
     let set = subst (λ k. set_at m owner k.record_type.0 ≡ Some c.in-Some.set.now) place c.in-Some.ensures.set in
     let past : says_past m x owner ≡ true = ap (λ s. option_map_or (goes_past owner x) (option_and_then next_of s) false) set ∙ sym c.in_ok-says_past.ensures.past ∙ c.if-branch.true in
-    sym set ∙ last_closest m x (denial_owners_upto m NSEC x) 0 0 (none_read m x (denial_owners_upto m NSEC x) 0 c.as_map.ensures.zone refl) last.0 owner (one_more 0) last.1 refl past
+    sym set ∙ last_closest m x (denial_owners_upto m NSEC x) 0 0 (none_read m x (denial_owners_upto m NSEC x) 0 c.last_of_type_upto.ensures.zone refl) last.0 owner (one_more 0) last.1 refl past

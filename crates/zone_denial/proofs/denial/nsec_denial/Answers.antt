@@ -12,7 +12,7 @@ closest_beside-requires c = closest_is_owners c.args.records.now c.closest_nsec.
 pub returns-clause-sets : goal.returns-clause-sets
 returns-clause-sets c =
     let m = c.args.records.now in
-    let named : c.new-key.result.name ≡ c.args.name.now = ap (λ k. k.name) c.new-key.ensures.value ∙ c.in_ok-clone.ensures.ok in
+    let named : c.new-key.result.name ≡ c.args.name.now = ap (λ k. k.name) c.new-key.ensures.value ∙ c.in_ok-clone.ensures.copy.ok in
     ap (λ o. option_to_list o ++ option_to_list (option_copied c.in_ok-closest.closest)) c.unless_same.ensures
     ∙ closest_denial m c.closest_nsec.ensures.zone c.args.origin.now c.args.name.now (option_copied c.in_ok-beside.beside) (option_copied c.in_ok-closest.closest)
     (sym (ap (λ n. set_at m n NSEC) named) ∙ sym c.own_nsec.ensures ∙ ap option_copied c.in_default.is)

@@ -15,7 +15,7 @@ use Rattle.zone_proto.proofs.Members.{In, Contains-In}
 use Rattle.zone_map.specs.Zones.{Sets}
 use Rattle.zone_denial.specs.declared.hashed_names.HashedName.{HashedName as HeldName}
 use Rattle.zone_denial.specs.HashedNames.{hashed, all_fit, circle_set_at}
-use Rattle.zone_denial.proofs.Sets.CirclesMade.{CircleSoFar, CircleSoFar-none, CircleSoFar-more, CircleSoFar-behind, beside, read_fits, found_among, linked_on, may_take, none_fits}
+use Rattle.zone_denial.proofs.Sets.CirclesMade.{CircleSoFar, CircleSoFar-none, CircleSoFar-more, CircleSoFar-behind, beside, found_among, linked_on, may_take, none_fits}
 use Rattle.zone_denial.proofs.nsec3_sets.with_circle.Goals as goal
 
 by_cause : (origin : Name) (hs : List HeldName) (h : HeldName) (e : ProtoError) → In h hs → (e ≡ Memory) ⊎ (fault_of (hashed_owner origin h.digest) ≡ Some e) → (e ≡ Memory) ⊎ (all_fit origin (map hashed hs) ≡ false)
@@ -31,8 +31,8 @@ loop-i-init c =
 pub returns-in_err-record-clause-err : goal.returns-in_err-record-clause-err
 returns-in_err-record-clause-err c =
     let hs = c.args.held.now in
-    let h = c.index-held-i-in-loop-i.result in
-    let listed = Contains-In h hs (subst (Contains hs) (sym c.index-held-i-in-loop-i.is) (Contains-get_or hs c.loop-i.i h c.loop-i-test.true)) in
+    let h = c.index-held-i.result in
+    let listed = Contains-In h hs (subst (Contains hs) (sym c.index-held-i.is) (Contains-get_or hs c.loop-i.i h c.loop-i-test.true)) in
     let told = by_cause c.args.origin.now hs h c.in_err-record.field-0.0 listed c.in_err-record.ensures.refusal in
     search (rules, told)
 
@@ -45,12 +45,12 @@ entry_with-requires c =
     let hs = c.args.held.now in
     let announced = Some c.args.announced.1 in
     let i = c.loop-i.i in
-    let h = c.index-held-i-in-loop-i.result in
-    let is = c.index-held-i-in-loop-i.is in
+    let h = c.index-held-i.result in
+    let is = c.index-held-i.is in
     let es = c.loop-i.entries.items in
-    let low = c.labels.ensures.valid.lower in
-    let fits = read_fits origin parameters ttl serial hs announced i h c.index-held-i.result c.as_slice.result.now c.loop-i-test.true is c.index-held-i.is (c.as_slice.ensures ∙ ap (λ (x : HeldName). x.digest) (sym c.index-held-i.is)) c.octets_fit.ensures in
-    let found = found_among origin parameters ttl serial hs announced i h es c.as_slice-in-loop-i.result.now c.set_before-before.result c.as_slice-in-loop-i.ensures.value c.loop-i.invariant c.loop-i-test.true is c.requires.ascending fits c.set_before-before.ensures.last c.set_before-before.ensures.same c.set_before-before.ensures.none in
+    let low = c.in_ok-record.ensures.lower in
+    let fits = c.in_ok-record.ensures.digest in
+    let found = found_among origin parameters ttl serial hs announced i h es c.as_slice.result.now c.set_before-before.result c.as_slice.ensures.value c.loop-i.invariant c.loop-i-test.true is c.requires.ascending fits c.set_before-before.ensures.last c.set_before-before.ensures.same c.set_before-before.ensures.none in
     let r = c.in_ok-record.record in
     let made = linked_on origin parameters ttl serial hs announced i h c.next_name.result.now r c.loop-i-test.true is c.next_name.ensures c.in_ok-record.ensures.ok in
     may_take origin parameters ttl serial hs announced h es c.set_before-before.result r low made c.loop-i.invariant.stored found
@@ -64,12 +64,12 @@ loop-i-preserved c =
     let hs = c.args.held.now in
     let announced = Some c.args.announced.1 in
     let i = c.loop-i.i in
-    let h = c.index-held-i-in-loop-i.result in
-    let is = c.index-held-i-in-loop-i.is in
+    let h = c.index-held-i.result in
+    let is = c.index-held-i.is in
     let es = c.loop-i.entries.items in
-    let low = c.labels.ensures.valid.lower in
-    let fits = read_fits origin parameters ttl serial hs announced i h c.index-held-i.result c.as_slice.result.now c.loop-i-test.true is c.index-held-i.is (c.as_slice.ensures ∙ ap (λ (x : HeldName). x.digest) (sym c.index-held-i.is)) c.octets_fit.ensures in
-    let found = found_among origin parameters ttl serial hs announced i h es c.as_slice-in-loop-i.result.now c.set_before-before.result c.as_slice-in-loop-i.ensures.value c.loop-i.invariant c.loop-i-test.true is c.requires.ascending fits c.set_before-before.ensures.last c.set_before-before.ensures.same c.set_before-before.ensures.none in
+    let low = c.in_ok-record.ensures.lower in
+    let fits = c.in_ok-record.ensures.digest in
+    let found = found_among origin parameters ttl serial hs announced i h es c.as_slice.result.now c.set_before-before.result c.as_slice.ensures.value c.loop-i.invariant c.loop-i-test.true is c.requires.ascending fits c.set_before-before.ensures.last c.set_before-before.ensures.same c.set_before-before.ensures.none in
     let r = c.in_ok-record.record in
     let made = linked_on origin parameters ttl serial hs announced i h c.next_name.result.now r c.loop-i-test.true is c.next_name.ensures c.in_ok-record.ensures.ok in
     let e = c.in_ok-entry.entry in

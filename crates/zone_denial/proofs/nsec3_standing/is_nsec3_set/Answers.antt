@@ -8,4 +8,4 @@ use Rattle.zone_denial.proofs.nsec3_standing.is_nsec3_set.Goals as goal
 pub returns-in-Some-NSEC3 : goal.returns-in-Some-NSEC3
 returns-in-Some-NSEC3 c = λ passed serial.
     let made : c.in-Some-NSEC3.field-0.now ≡ V.NSEC3 (nsec3_data c.args.parameters.now c.args.next.now.digest (types_of c.args.name.now.name.now)) = search (rules, c.is_nsec3_data.ensures passed) in
-    c.in-Some-NSEC3.ensures serial ∙ (λ i. one_record_set (c.requires i) c.args.ttl serial c.args.owner.now (made i))
+    c.in-Some-NSEC3.ensures.whole serial ∙ (λ i. one_record_set (c.requires i) c.args.ttl serial c.args.owner.now (made i))

@@ -1,12 +1,10 @@
 use Rattle.std.proofs.Common.{◌≡◌, ◌<◌, ◌==◌, ℕ, true, List, map, length, get_or, sym, ap, ◌∙◌, subst, arith, eqb-true}
-use Rattle.std.specs.List.{AllByRecursion}
 use Rattle.std.proofs.Math.Numerals.{add-one}
 use Rattle.std.proofs.lemmas.List.{get_or_default}
 use Rattle.std.proofs.lemmas.List.Elements.{All-head, All-tail}
 use Rattle.zone_proto.specs.declared.rdata.RData.TheVariants as V
 use Rattle.zone_proto.specs.declared.rr_key.RrKey.{RrKey}
 use Rattle.zone_proto.specs.HashedOwners.{hashed_owner}
-use Rattle.zone_proto.specs.Ranges.{IsOctet}
 use Rattle.zone_proto.specs.Sets.{RRset}
 use Rattle.zone_proto.specs.Types.{NSEC3}
 use Rattle.zone_map.proofs.Neighbours.{not_false, not_true}
@@ -64,7 +62,7 @@ loop-key-preserved c =
     let made = λ (serial : ℕ) (d : List ℕ). one_record_set NSEC3 c.args.ttl serial (hashed_owner origin h.digest) (V.NSEC3 (nsec3_data parameters d (types_of h.name.now))) in
     let more =
     CircleStands-more origin parameters c.args.ttl hs c.args.records.now e c.loop-key.key-iterator c.next.new.self i h c.in-Some.ensures.steps denies stored c.loop-key.invariant.zone lt c.index-held-passed.is
-    c.labels.ensures.valid.lower (c.in_ok-is_set_of_name.ensures.fits passed) (subst (AllByRecursion IsOctet) c.as_slice.ensures c.octets_fit.ensures)
+    (c.in_ok-is_set_of_name.ensures.lower passed) (c.in_ok-is_set_of_name.ensures.fits passed) c.in_ok-is_set_of_name.ensures.digest
     (λ serial. c.in_ok-is_set_of_name.ensures.set passed serial ∙ ap (made serial) next) c.loop-key.invariant.so_far in
     record {
       zone = c.loop-key.invariant.zone;

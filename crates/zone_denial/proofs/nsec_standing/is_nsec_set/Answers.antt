@@ -9,8 +9,8 @@ use Rattle.zone_denial.specs.OneRecordSets.{one_record_set}
 use Rattle.zone_denial.specs.TypeLists.{joined}
 use Rattle.zone_denial.proofs.nsec_standing.is_nsec_set.Goals as goal
 
-pub returns-in-Some-NSEC : goal.returns-in-Some-NSEC
-returns-in-Some-NSEC c = λ passed serial.
+pub returns-in-Some-NSEC-clause-whole : goal.returns-in-Some-NSEC-clause-whole
+returns-in-Some-NSEC-clause-whole c = λ passed serial.
     let types = joined nat_cmp NSEC (joined nat_cmp RRSIG (map (λ (k : Bor RrKey). k.now.record_type.0) c.args.keys.now)) in
     let made : c.in-Some-NSEC.field-0.now ≡ V.NSEC (nsec_data c.args.next.now types) = search (rules, c.is_nsec_data.ensures passed) in
-    c.in-Some-NSEC.ensures serial ∙ (λ i. one_record_set (c.requires i) c.args.ttl serial c.args.name.now (made i))
+    c.in-Some-NSEC.ensures.whole serial ∙ (λ i. one_record_set (c.requires i) c.args.ttl serial c.args.name.now (made i))

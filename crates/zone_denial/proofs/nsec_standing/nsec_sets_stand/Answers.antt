@@ -61,13 +61,13 @@ loop-key-preserved c =
     let passed : c.is_nsec_set.result ≡ true = c.if-not-is_nsec_set.false in
     let data' = nsec_data (first_name c.args.origin.now (lent_keys others)) (joined nat_cmp NSEC (joined nat_cmp RRSIG (map (λ (b : Bor RrKey). b.now.record_type.0) (take count (drop start keys))))) in
     let made : ℕ → RrKey × RRset = λ serial. (key name NSEC, new_set c.args.ttl serial name data') in
-    let same = λ (serial : ℕ). c.is_nsec_set.ensures passed serial ∙ (λ i. new_set c.args.ttl serial name (nsec_data (next i) (types i))) in
+    let same = λ (serial : ℕ). c.is_nsec_set.ensures.whole passed serial ∙ (λ i. new_set c.args.ttl serial name (nsec_data (next i) (types i))) in
     record {
       stored = All-tail (λ d. IsStoredAt d.0.name d.0.record_type.0 d.1) _ _ all;
       bound = omega (arith, c.count_of_first.ensures.bound);
       so_far =
           StandSoFar-more c.args.origin.now ks c.args.ttl c.args.records.now e c.loop-key.key-iterator c.next.new.self c.in-Some.ensures.steps (lent_keys (drop start keys)) c.loop-key.invariant.so_far (lent_keys others) made denies
-          (λ serial. under_own_key e name c.args.ttl serial data' stored denies c.labels.ensures.valid.lower (same serial))
+          (λ serial. under_own_key e name c.args.ttl serial data' stored denies (c.is_nsec_set.ensures.lower passed) (same serial))
           (λ serial done so_far. Linking-step keys start count c.index-keys-start.result lt c.index-keys-start.is counted c.args.origin.now ks c.args.ttl serial done so_far);
     }
 

@@ -16,7 +16,7 @@ insert_rrsig-requires c =
 
 pub returns-clause-made : goal.returns-clause-made
 returns-clause-made c =
-    let owner = c.from-owner.ensures ∙ c.in_ok-clone.ensures.ok in
+    let owner = c.from-owner.ensures ∙ c.in_ok-clone.ensures.copy.ok in
     let made : c.in_ok-made.made ≡ set_under c.args.name.now c.args.set.now.ttl c.args.set.now =
     c.in_ok-made.ensures.ok ∙ (λ i. set_under (owner i) (c.ttl.ensures i) c.args.set.now) in
     elim c.if-signed.branch [

@@ -1,5 +1,5 @@
-use Rattle.zone_words.proofs.NameFacts.{refused_at}
+use Rattle.zone_words.proofs.NameFacts.{read_as_text}
 use Rattle.zone_words.proofs.names.read_name.Goals as goal
 
-pub returns-in-Err : goal.returns-in-Err
-returns-in-Err c = refused_at c.args.word.now c.in-Ok.text.now c.in-Err.error c.in-Ok.ensures.cases.0 c.in-Err.ensures.refusal
+pub returns : goal.returns
+returns c = read_as_text c.args.word.now c.in-Ok.text.now c.parse.result c.in-Ok.ensures.cases.0 c.parse.ensures.ok c.parse.ensures.name c.parse.ensures.refusal

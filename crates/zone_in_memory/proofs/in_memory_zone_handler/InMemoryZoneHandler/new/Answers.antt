@@ -2,4 +2,4 @@ use Rattle.zone_in_memory.proofs.CnamesMade.{made_alone}
 use Rattle.zone_in_memory.proofs.in_memory_zone_handler.InMemoryZoneHandler.new.Goals as goal
 
 pub returns-clause-cnames : goal.returns-clause-cnames
-returns-clause-cnames g c = rw c.with_records.ensures.value (made_alone c.args.origin c.args.records.entries c.in_ok-map.map c.in_ok-map.ensures.ok)
+returns-clause-cnames g c = rw c.with_records.ensures (made_alone c.args.origin c.args.records.entries c.in_ok-map.map c.in_ok-map.ensures.ok)

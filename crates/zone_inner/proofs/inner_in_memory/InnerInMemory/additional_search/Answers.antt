@@ -22,7 +22,7 @@ returns-then-is_empty-clause-counted g c =
           let r = two_runs c.args.self.now.records c.args.lookup_options.dnssec_ok c.args.original_name.now c.args.original_type.0 c.args.next_name
           c.new-seen.result.items w.new-seen-then-names_host.result.items w.in_ok-from.from c.new-sets.result w.follow.new.sets w.follow-then-names_host.new.sets
           c.args.searches.now w.follow.new.searches w.follow-then-names_host.new.searches
-          (sym c.names_host.ensures ∙ w.if-names_host.true) c.new-seen.ensures.items w.new-seen-then-names_host.ensures.items w.in_ok-from.ensures.ok
+          (sym c.names_host.ensures ∙ w.if-names_host.true) c.new-seen.ensures.items w.new-seen-then-names_host.ensures.items w.in_ok-from.ensures.copy.ok
           w.in_ok-follow.ensures.followed w.in_ok-follow-2.ensures.followed in
           (r.0, r.1, w.searches-is ∙ r.2)
       | else-names_host+in_ok-clone+in_ok-push+in_ok-follow-3 w ↦
@@ -30,7 +30,7 @@ returns-then-is_empty-clause-counted g c =
           w.push.new.list.items c.new-sets.result w.follow-else-names_host.new.sets
           c.args.searches.now w.follow-else-names_host.new.searches
           (sym c.names_host.ensures ∙ w.if-names_host.false)
-          (w.in_ok-push.ensures.ok ∙ ap (λ xs. xs ++ w.in_ok-clone.field-0 ∷ []) c.new-seen.ensures.items ∙ ap (λ x. x ∷ []) w.in_ok-clone.ensures.ok)
+          (w.in_ok-push.ensures.ok ∙ ap (λ xs. xs ++ w.in_ok-clone.field-0 ∷ []) c.new-seen.ensures.items ∙ ap (λ x. x ∷ []) w.in_ok-clone.ensures.copy.ok)
           w.in_ok-follow-3.ensures.followed in
           (r.0, r.1, w.searches-is ∙ r.2)
     ]
@@ -42,7 +42,7 @@ returns-clause-counted g c =
           let r = two_runs c.args.self.now.records c.args.lookup_options.dnssec_ok c.args.original_name.now c.args.original_type.0 c.args.next_name
           c.new-seen.result.items w.new-seen-then-names_host.result.items w.in_ok-from.from c.new-sets.result w.follow.new.sets w.follow-then-names_host.new.sets
           c.args.searches.now w.follow.new.searches w.follow-then-names_host.new.searches
-          (sym c.names_host.ensures ∙ w.if-names_host.true) c.new-seen.ensures.items w.new-seen-then-names_host.ensures.items w.in_ok-from.ensures.ok
+          (sym c.names_host.ensures ∙ w.if-names_host.true) c.new-seen.ensures.items w.new-seen-then-names_host.ensures.items w.in_ok-from.ensures.copy.ok
           w.in_ok-follow.ensures.followed w.in_ok-follow-2.ensures.followed in
           (r.0, r.1, w.searches-is ∙ r.2)
       | else-names_host+in_ok-clone+in_ok-push+in_ok-follow-3 w ↦
@@ -50,7 +50,7 @@ returns-clause-counted g c =
           w.push.new.list.items c.new-sets.result w.follow-else-names_host.new.sets
           c.args.searches.now w.follow-else-names_host.new.searches
           (sym c.names_host.ensures ∙ w.if-names_host.false)
-          (w.in_ok-push.ensures.ok ∙ ap (λ xs. xs ++ w.in_ok-clone.field-0 ∷ []) c.new-seen.ensures.items ∙ ap (λ x. x ∷ []) w.in_ok-clone.ensures.ok)
+          (w.in_ok-push.ensures.ok ∙ ap (λ xs. xs ++ w.in_ok-clone.field-0 ∷ []) c.new-seen.ensures.items ∙ ap (λ x. x ∷ []) w.in_ok-clone.ensures.copy.ok)
           w.in_ok-follow-3.ensures.followed in
           (r.0, r.1, w.searches-is ∙ r.2)
     ]
@@ -64,7 +64,7 @@ returns-then-is_empty-clause-additionals g c =
           (two_listed c.args.self.now.records c.args.lookup_options.dnssec_ok c.args.original_name.now c.args.original_type.0 c.args.next_name
           c.new-seen.result.items w.new-seen-then-names_host.result.items w.in_ok-from.from c.new-sets.result w.follow.new.sets w.follow-then-names_host.new.sets
           c.args.searches.now w.follow.new.searches w.follow-then-names_host.new.searches
-          (sym c.names_host.ensures ∙ w.if-names_host.true) c.new-seen.ensures.items w.new-seen-then-names_host.ensures.items w.in_ok-from.ensures.ok c.new-sets.ensures
+          (sym c.names_host.ensures ∙ w.if-names_host.true) c.new-seen.ensures.items w.new-seen-then-names_host.ensures.items w.in_ok-from.ensures.copy.ok c.new-sets.ensures
           w.in_ok-follow.ensures.followed w.in_ok-follow-2.ensures.followed)
       | else-names_host+in_ok-clone+in_ok-push+in_ok-follow-3 w ↦
           subst (AreAdditionals c.args.self.now.records c.args.lookup_options.dnssec_ok c.args.original_name.now c.args.original_type.0 c.args.next_name)
@@ -73,7 +73,7 @@ returns-then-is_empty-clause-additionals g c =
           w.push.new.list.items c.new-sets.result w.follow-else-names_host.new.sets
           c.args.searches.now w.follow-else-names_host.new.searches
           (sym c.names_host.ensures ∙ w.if-names_host.false)
-          (w.in_ok-push.ensures.ok ∙ ap (λ xs. xs ++ w.in_ok-clone.field-0 ∷ []) c.new-seen.ensures.items ∙ ap (λ x. x ∷ []) w.in_ok-clone.ensures.ok)
+          (w.in_ok-push.ensures.ok ∙ ap (λ xs. xs ++ w.in_ok-clone.field-0 ∷ []) c.new-seen.ensures.items ∙ ap (λ x. x ∷ []) w.in_ok-clone.ensures.copy.ok)
           c.new-sets.ensures
           w.in_ok-follow-3.ensures.followed)
     ]
@@ -81,18 +81,18 @@ returns-then-is_empty-clause-additionals g c =
 pub returns-in_err-follow-clause-at_most : goal.returns-in_err-follow-clause-at_most
 returns-in_err-follow-clause-at_most g c =
     two_made c.args.original_type.0 c.args.searches.now c.follow.new.searches (1 + alias_sets c.args.self.now.records) c.args.searches.now (sym c.names_host.ensures ∙ c.if-names_host.true)
-    (omega arith) (c.follow.ensures.at_most c.as_map.ensures.zone ANAME first_of_hosts)
+    (omega arith) (c.follow.ensures.at_most ANAME first_of_hosts)
 
 pub returns-in_err-follow-2-clause-at_most : goal.returns-in_err-follow-2-clause-at_most
 returns-in_err-follow-2-clause-at_most g c =
     two_made c.args.original_type.0 c.args.searches.now c.follow-then-names_host.new.searches (1 + alias_sets c.args.self.now.records) c.follow.new.searches (sym c.names_host.ensures ∙ c.if-names_host.true)
-    (c.follow.ensures.at_most c.as_map.ensures.zone ANAME first_of_hosts) (c.follow-then-names_host.ensures.at_most c.as_map.ensures.zone ANAME second_of_hosts)
+    (c.follow.ensures.at_most ANAME first_of_hosts) (c.follow-then-names_host.ensures.at_most ANAME second_of_hosts)
 
 pub returns-in_err-follow-3-clause-at_most : goal.returns-in_err-follow-3-clause-at_most
 returns-in_err-follow-3-clause-at_most g c =
     let none = sym c.names_host.ensures ∙ c.if-names_host.false in
     one_made c.args.original_type.0 c.args.searches.now c.follow-else-names_host.new.searches (1 + alias_sets c.args.self.now.records) none
-    (c.follow-else-names_host.ensures.at_most c.as_map.ensures.zone c.args.original_type.0 (own_type c.args.original_type.0 none))
+    (c.follow-else-names_host.ensures.at_most c.args.original_type.0 (own_type c.args.original_type.0 none))
 
 pub returns-then-is_empty-clause-at_most : goal.returns-then-is_empty-clause-at_most
 returns-then-is_empty-clause-at_most g c =
@@ -102,11 +102,11 @@ returns-then-is_empty-clause-at_most g c =
       | then-names_host+in_ok-from+in_ok-follow+in_ok-follow-2 w ↦
           subst (λ after. after ≤ c.args.searches.now + length (run_types t) * few) (sym w.searches-is)
           (two_made t c.args.searches.now w.follow-then-names_host.new.searches few w.follow.new.searches (sym c.names_host.ensures ∙ w.if-names_host.true)
-          (w.follow.ensures.at_most c.as_map.ensures.zone ANAME first_of_hosts) (w.follow-then-names_host.ensures.at_most c.as_map.ensures.zone ANAME second_of_hosts))
+          (w.follow.ensures.at_most ANAME first_of_hosts) (w.follow-then-names_host.ensures.at_most ANAME second_of_hosts))
       | else-names_host+in_ok-clone+in_ok-push+in_ok-follow-3 w ↦
           let none = sym c.names_host.ensures ∙ w.if-names_host.false in
           subst (λ after. after ≤ c.args.searches.now + length (run_types t) * few) (sym w.searches-is)
-          (one_made t c.args.searches.now w.follow-else-names_host.new.searches few none (w.follow-else-names_host.ensures.at_most c.as_map.ensures.zone t (own_type t none)))
+          (one_made t c.args.searches.now w.follow-else-names_host.new.searches few none (w.follow-else-names_host.ensures.at_most t (own_type t none)))
     ]
 
 pub returns-clause-at_most : goal.returns-clause-at_most
@@ -117,9 +117,9 @@ returns-clause-at_most g c =
       | then-names_host+in_ok-from+in_ok-follow+in_ok-follow-2 w ↦
           subst (λ after. after ≤ c.args.searches.now + length (run_types t) * few) (sym w.searches-is)
           (two_made t c.args.searches.now w.follow-then-names_host.new.searches few w.follow.new.searches (sym c.names_host.ensures ∙ w.if-names_host.true)
-          (w.follow.ensures.at_most c.as_map.ensures.zone ANAME first_of_hosts) (w.follow-then-names_host.ensures.at_most c.as_map.ensures.zone ANAME second_of_hosts))
+          (w.follow.ensures.at_most ANAME first_of_hosts) (w.follow-then-names_host.ensures.at_most ANAME second_of_hosts))
       | else-names_host+in_ok-clone+in_ok-push+in_ok-follow-3 w ↦
           let none = sym c.names_host.ensures ∙ w.if-names_host.false in
           subst (λ after. after ≤ c.args.searches.now + length (run_types t) * few) (sym w.searches-is)
-          (one_made t c.args.searches.now w.follow-else-names_host.new.searches few none (w.follow-else-names_host.ensures.at_most c.as_map.ensures.zone t (own_type t none)))
+          (one_made t c.args.searches.now w.follow-else-names_host.new.searches few none (w.follow-else-names_host.ensures.at_most t (own_type t none)))
     ]

@@ -14,7 +14,7 @@ loop-query_type-init g c =
     begins c.args.self.now.records c.args.lookup_options.dnssec_ok c.args.query_type.0 c.args.name.now c.args.first c.args.searches.now
     c.push-2.new.list.items c.push.new.list.items c.in_ok-next.next
     (c.in_ok-push-2.ensures.ok ∙ ap (λ xs. xs ++ c.args.first ∷ []) c.new-chain.ensures.items)
-    (c.in_ok-push.ensures.ok ∙ ap (λ xs. xs ++ c.in_ok-clone.field-0 ∷ []) c.new-seen.ensures.items ∙ ap (λ x. x ∷ []) c.in_ok-clone.ensures.ok)
+    (c.in_ok-push.ensures.ok ∙ ap (λ xs. xs ++ c.in_ok-clone.field-0 ∷ []) c.new-seen.ensures.items ∙ ap (λ x. x ∷ []) c.in_ok-clone.ensures.copy.ok)
     (c.in_ok-next.ensures.target ∙ ap cname_target c.set.ensures)
 
 pub loop-query_type-preserved : goal.loop-query_type-preserved

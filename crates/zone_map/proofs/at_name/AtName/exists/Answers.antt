@@ -19,7 +19,7 @@ returns-then-not-is_denial_type c =
     let first = sym (ap option_copied c.in-Some.is) ∙ c.requires.first in
     let below = is_at_or_above_complete n k.name (c.zone_of.ensures.0 c.if-not-zone_of.false) in
     ap not c.if-not-is_denial_type.true
-    ∙ exists_by_first n c.args.records.now c.as_map.ensures.zone.ordered k first below (sym c.is_denial_type.ensures ∙ c.if-not-is_denial_type.true)
+    ∙ exists_by_first n c.args.records.now c.requires.zone.ordered k first below (sym c.is_denial_type.ensures ∙ c.if-not-is_denial_type.true)
 
 pub returns-then-not-zone_of : goal.returns-then-not-zone_of
 returns-then-not-zone_of c =
@@ -27,9 +27,9 @@ returns-then-not-zone_of c =
     let k = c.in-Some.first.now in
     let first = sym (ap option_copied c.in-Some.is) ∙ c.requires.first in
     let apart = not_above n k.name (λ u. true≢false (sym (c.zone_of.ensures.1 u) ∙ c.if-not-zone_of.true)) in
-    absent_by_first n c.args.records.now c.as_map.ensures.zone.ordered k first apart
+    absent_by_first n c.args.records.now c.requires.zone.ordered k first apart
 
 pub returns-in_default : goal.returns-in_default
 returns-in_default c =
     let none = sym (ap option_copied c.in_default.is) ∙ c.requires.first in
-    exists_without c.args.least.now.name c.args.records.now c.as_map.ensures.zone.ordered none
+    exists_without c.args.least.now.name c.args.records.now c.requires.zone.ordered none

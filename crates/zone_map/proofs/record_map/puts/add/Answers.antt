@@ -9,10 +9,10 @@ use Rattle.zone_map.proofs.record_map.puts.add.Goals as goal
 pub returns-then-is_empty-clause-added : goal.returns-then-is_empty-clause-added
 returns-then-is_empty-clause-added c =
     let none : c.args.fresh.entries ≡ [] = nil_from_length c.args.fresh.entries (c.is_empty.ensures.0 c.if-is_empty.true) in
-    (λ q. sym (ap (λ (xs : Sets). update_all key_eq (λ k. lookup (key_eq k) c.args.sets.now.entries) xs q) none), c.len.ensures.ordered)
+    (λ q. sym (ap (λ (xs : Sets). update_all key_eq (λ k. lookup (key_eq k) c.args.sets.now.entries) xs q) none), c.requires)
 
 pub returns-then-is_empty-clause-moved : goal.returns-then-is_empty-clause-moved
-returns-then-is_empty-clause-moved c = (c.args.fresh, ([], refl, ((λ q. refl), c.len.ensures.ordered)))
+returns-then-is_empty-clause-moved c = (c.args.fresh, ([], refl, ((λ q. refl), c.requires)))
 
 pub returns-then-is_empty-clause-index : goal.returns-then-is_empty-clause-index
 returns-then-is_empty-clause-index c = λ had keys is. index_of_keys had c.args.sets.now.entries c.args.denials.now keys is
