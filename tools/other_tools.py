@@ -5,13 +5,15 @@ it is left out, and a line says so. It is no part of the gate.
 
   tools/other_tools.py [SEED]
 
-What zone_check prints of a file is read by named-compilezone, and has to give what named-compilezone makes of the file itself, line
-by line. Files with a fault have to be refused by zone_check and by the checkers of BIND, NSD and Knot, but for a list of those that
-one of them takes. The tools are Debian's packages bind9-utils, ldnsutils, nsd, knot and knot-dnssecutils. The status is 1 where
-something differs.
+What zone_check prints of a file has to be what named-compilezone prints of it, line by line once both are sorted, but for the spelling
+that NAMES and the lists behind it tell of; and read by named-compilezone it has to give the same as the file itself. Files with a
+fault have to be refused by zone_check and by the checkers of BIND, NSD and Knot, but for a list of those that one of them takes. The
+tools are Debian's packages bind9-utils, ldnsutils, nsd, knot and knot-dnssecutils. The status is 1 where something differs.
 """
+import ipaddress
 import os
 import random
+import re
 import shutil
 import subprocess
 import sys
@@ -135,14 +137,65 @@ def compiled(path):
         return it.read()
 
 
-def compare(program, path, what):
-    text = f"{path}.printed"
-    with open(text, "w", encoding="ascii") as it:
-        it.write(printed(program, path))
-    one, other = compiled(path).splitlines(), compiled(text).splitlines()
+# Where named-compilezone and zone_check spell the same otherwise, by types: in names (which words of the data are names), in base64 and
+# hex (from which word on they are one text), and in an IPv6 address that ends with an IPv4 one. NSEC3 has letters in either case. Data of
+# other types that named-compilezone prints in a form of their own, as NAPTR, are compared by what it reads alone.
+NAMES = {"PTR": [0], "DNAME": [0], "NS": [0], "CNAME": [0], "SOA": [0, 1], "MX": [1], "SRV": [3], "RRSIG": [7], "NSEC": [0]}
+TEXTS = {"DS": 3, "CDS": 3, "DNSKEY": 3, "CDNSKEY": 3, "RRSIG": 8, "TLSA": 3, "SSHFP": 2}
+QUOTED = {"TXT", "SPF", "CAA", "HINFO"}
+ALIKE = {"A", "AAAA", "NSEC3", "NSEC3PARAM", *NAMES, *TEXTS, *QUOTED}
+
+
+def spelled_name(name):
+    """A name as zone_check spells it: octets that aren't plain as \\DDD."""
+    octets = re.sub(r"\\(\d{3})|\\(.)", lambda it: it[0] if it[1] else f"\\{ord(it[2]):03}", name)
+    return re.sub(r"\\\d{3}|[^A-Za-z0-9_*.-]", lambda it: it[0] if len(it[0]) > 1 else f"\\{ord(it[0]):03}", octets)
+
+
+def spelled(line):
+    """A line of named-compilezone as zone_check spells it; none for data that are compared by what is read of them."""
+    owner, ttl, group, kind, *data = line.split(None, 4)
+    data = data[0] if data else ""
+    words = data.split()
+    if kind.startswith("TYPE") or words[:1] == ["\\#"]:
+        data = " ".join([*words[:2], "".join(words[2:])]).strip()
+    elif kind not in ALIKE:
+        return None
+    elif kind == "AAAA":
+        data = str(ipaddress.IPv6Address(data)) if "." in data else data
+    elif kind.startswith("NSEC3"):
+        data = " ".join(it.lower() if i < 5 else it for i, it in enumerate(words))
+    elif kind not in QUOTED:
+        for i in NAMES.get(kind, []):
+            words[i] = spelled_name(words[i])
+        if first := TEXTS.get(kind):
+            words[first:] = ["".join(words[first:])]
+        data = " ".join(words)
+    return f"{spelled_name(owner)} {ttl} {group} {kind} {data}"
+
+
+def spelled_lines(text, unlike):
+    """The lines of a text, sorted, but for comments and those of types that are spelled unlike."""
+    lines = [it for it in text.splitlines() if not it.startswith(";")]
+    return sorted(it for it in lines if it.split(None, 4)[3] not in unlike)
+
+
+def differing(what, one, other):
     if one != other:
         lines = [f"  {it}" for pair in zip(one, other) if pair[0] != pair[1] for it in pair][:4]
         raise Failed("\n".join([f"{what}: {len(one)} and {len(other)} lines", *lines]))
+
+
+def compare(program, path, what):
+    text, lines = f"{path}.printed", printed(program, path)
+    with open(text, "w", encoding="ascii") as it:
+        it.write(lines)
+    read = compiled(path)
+    unlike = {it.split(None, 4)[3] for it in read.splitlines() if not it.startswith(";") and spelled(it) is None}
+    wanted = "\n".join(filter(None, (spelled(it) for it in read.splitlines() if not it.startswith(";"))))
+    differing(f"{what}, as it is printed", spelled_lines(wanted, unlike), spelled_lines(lines, unlike))
+    one, other = read.splitlines(), compiled(text).splitlines()
+    differing(what, one, other)
     print(f"{what}: {len(one)} records are the same")
 
 

@@ -1,6 +1,7 @@
 -- The data of NSEC, NSEC3 and NSEC3PARAM records in the form of their standards (RFC 4034 section 4.2, RFC 5155 sections 3.3
 -- and 4.3)
 use Rattle.std.specs.Prelude.{ℕ, ◌+◌, ◌==◌, List, [], ◌∷◌, length, nat_le, nat_lt, Bool, Option, Some, None, option_map, option_and_then, Result, Ok, if◌then◌else◌}
+use Rattle.std.specs.List.{prefix_len}
 use Rattle.zone_proto.specs.declared.rdata.denial.NSEC.{NSEC as DenialData}
 use Rattle.zone_proto.specs.declared.rdata.denial.NSEC3.{NSEC3 as HashedData}
 use Rattle.zone_proto.specs.declared.rdata.denial.NSEC3PARAM.{NSEC3PARAM as HashParameters}
@@ -22,9 +23,8 @@ with_type t [] = t ∷ []
 with_type t (u ∷ us) = if nat_lt t.0 u.0 then t ∷ u ∷ us else (if t.0 == u.0 then u ∷ us else u ∷ with_type t us)
 
 -- how many types stand before the first that isn't less
-abbrev pub count_below : RecordType → List RecordType → ℕ
-count_below t [] = 0
-count_below t (u ∷ us) = if nat_lt u.0 t.0 then count_below t us + 1 else 0
+abbrev pub place_of : RecordType → List RecordType → ℕ
+place_of t ts = prefix_len (λ u. nat_lt u.0 t.0) ts
 
 -- these types, and those that words name
 abbrev pub types_with : List RecordType → List WordText → Result (List RecordType) Fault

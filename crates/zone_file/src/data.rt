@@ -15,41 +15,12 @@ use crate::keys::{take_dnskey, take_ds, take_key_octets, take_rrsig};
 use crate::names::{take_name, take_name_octets};
 use crate::services::{take_caa, take_hinfo, take_naptr, take_sshfp, take_tlsa};
 use crate::texts::{take_generic, take_strings};
+use crate::types;
 use crate::words::Words;
 use std::alloc::{AllocError, Global};
 use zone_entries::Word;
 use zone_message::plain_data_of;
 use zone_proto::{MX, Name, OtherData, RData, RecordType, SOA, SRV};
-
-/// A pointer to a name (RFC 1035 section 3.3.12).
-const PTR: RecordType = RecordType(12);
-
-/// What processor and system a host has (RFC 1035 section 3.3.2).
-const HINFO: RecordType = RecordType(13);
-
-/// A rule that makes names of texts (RFC 3403 section 4).
-const NAPTR: RecordType = RecordType(35);
-
-/// The name that all names below the owner are moved under (RFC 6672).
-const DNAME: RecordType = RecordType(39);
-
-/// The fingerprint of a host's key (RFC 4255).
-const SSHFP: RecordType = RecordType(44);
-
-/// The certificate or key of a service (RFC 6698).
-const TLSA: RecordType = RecordType(52);
-
-/// A digest that the parent zone is to have as its DS (RFC 7344 section 3.1).
-const CDS: RecordType = RecordType(59);
-
-/// A key that the parent zone is to have a DS of (RFC 7344 section 3.2).
-const CDNSKEY: RecordType = RecordType(60);
-
-/// Which hosts send mail for a name (RFC 4408 section 3.1.1).
-const SPF: RecordType = RecordType(99);
-
-/// Who may issue certificates for a name (RFC 8659).
-const CAA: RecordType = RecordType(257);
 
 /// Takes the data of a type, in the form of the type or as `\#`.
 pub(crate) fn take_data(
@@ -149,16 +120,16 @@ fn take_own_octets(
     match record_type {
         RecordType::TXT => Ok(take_strings(alloc, words)?),
         RecordType::DS => Ok(take_ds(alloc, words)?),
-        PTR => Ok(take_name_octets(alloc, origin, words)?),
-        HINFO => Ok(take_hinfo(alloc, words)?),
-        NAPTR => Ok(take_naptr(alloc, origin, words)?),
-        DNAME => Ok(take_name_octets(alloc, origin, words)?),
-        SSHFP => Ok(take_sshfp(alloc, words)?),
-        TLSA => Ok(take_tlsa(alloc, words)?),
-        CDS => Ok(take_ds(alloc, words)?),
-        CDNSKEY => Ok(take_key_octets(alloc, words)?),
-        SPF => Ok(take_strings(alloc, words)?),
-        CAA => Ok(take_caa(alloc, words)?),
+        types::PTR => Ok(take_name_octets(alloc, origin, words)?),
+        types::HINFO => Ok(take_hinfo(alloc, words)?),
+        types::NAPTR => Ok(take_naptr(alloc, origin, words)?),
+        types::DNAME => Ok(take_name_octets(alloc, origin, words)?),
+        types::SSHFP => Ok(take_sshfp(alloc, words)?),
+        types::TLSA => Ok(take_tlsa(alloc, words)?),
+        types::CDS => Ok(take_ds(alloc, words)?),
+        types::CDNSKEY => Ok(take_key_octets(alloc, words)?),
+        types::SPF => Ok(take_strings(alloc, words)?),
+        types::CAA => Ok(take_caa(alloc, words)?),
         _ => Err(words.fault(Reason::OnlyGeneric)),
     }
 }

@@ -1,8 +1,9 @@
 //! Denials: NSEC, NSEC3 and NSEC3PARAM.
 ghost use Rattle.std.specs.Prelude.{◌≡◌, ◌≤◌, ◌↔◌, [], length, slice_get, Ok, Some, None, IfOk, OnOk, IsTrue, option_map, option_and_then};
+ghost use Rattle.std.specs.List.Sorted.{IsNonDecreasingBy};
 ghost use Rattle.zone_file.specs.Readings.{Gives};
 ghost use Rattle.zone_file.specs.Fields.{Left};
-ghost use Rattle.zone_file.specs.Denials.{count_below, hash_of_word, if_countable, if_hash, next_hash, next_nsec, next_nsec3, next_nsec3param, next_opt_out, next_salt, next_types, opt_out_of_word, salt_of_word, types_with, with_type};
+ghost use Rattle.zone_file.specs.Denials.{hash_of_word, if_countable, if_hash, next_hash, next_nsec, next_nsec3, next_nsec3param, next_opt_out, next_salt, next_types, opt_out_of_word, place_of, salt_of_word, types_with, with_type};
 
 use crate::fault::{Fault, ReadError, Reason};
 use crate::fields::{read_record_type, take_u8, take_u16};
@@ -151,6 +152,7 @@ fn take_types(alloc: Global, words: &mut Words<'_>) -> Result<Vec<RecordType>, R
 }
 
 /// The types that words name, in ascending order.
+#[tactic(auto, using(crate::proofs::TypeFacts::none_ascend))]
 fn read_types(alloc: Global, words: &[Word]) -> Result<Vec<RecordType>, ReadError>
     ensures { Gives (λ ts. ts.items) result (types_with [] words.now) }
 {
@@ -167,12 +169,14 @@ fn read_types(alloc: Global, words: &[Word]) -> Result<Vec<RecordType>, ReadErro
     Ok(types)
 }
 
-/// Puts a type to its place among others, unless it is there.
-#[tactic(auto, using(crate::proofs::TypeFacts::put, crate::proofs::TypeFacts::there))]
+/// Puts a type to its place among others, which ascend, unless it is there.
+#[tactic(auto, using(crate::proofs::TypeFacts::put, crate::proofs::TypeFacts::there, crate::proofs::TypeFacts::put_ascend))]
 fn put_type(types: &mut Vec<RecordType>, record_type: RecordType) -> Result<(), AllocError>
-    ensures { OnOk result (types.new.items ≡ with_type record_type types.old.items) }
+    requires { IsNonDecreasingBy (λ t. t.0) types.old.items }
+    ensures put { OnOk result (types.new.items ≡ with_type record_type types.old.items) }
+    ensures ascending { OnOk result (IsNonDecreasingBy (λ t. t.0) types.new.items) }
 {
-    let at = count_below(types.as_slice(), record_type);
+    let at = place_of(types.as_slice(), record_type);
     if is_at(types.as_slice(), at, record_type) {
         return Ok(());
     }
@@ -180,17 +184,13 @@ fn put_type(types: &mut Vec<RecordType>, record_type: RecordType) -> Result<(), 
     Ok(())
 }
 
-/// How many types of a list stand before the first that isn't less than a type.
-fn count_below(types: &[RecordType], record_type: RecordType) -> usize
-    ensures value { result ≡ count_below record_type types.now }
+/// How many types of a list that ascends are less than a type.
+fn place_of(types: &[RecordType], record_type: RecordType) -> usize
+    requires { IsNonDecreasingBy (λ t. t.0) types.now }
+    ensures value { result ≡ place_of record_type types.now }
     ensures within { result ≤ length types.now }
 {
-    for (i, other) in types.iter().enumerate() {
-        if other.0 >= record_type.0 {
-            return i;
-        }
-    }
-    types.len()
+    types.partition_point(|other| other.0 < record_type.0)
 }
 
 /// Whether a type stands at an index of a list.

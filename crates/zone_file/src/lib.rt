@@ -20,6 +20,7 @@ mod records;
 mod services;
 mod texts;
 mod told;
+pub mod types;
 mod whole;
 mod words;
 mod zone_reader;

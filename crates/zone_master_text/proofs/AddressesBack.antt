@@ -1,18 +1,14 @@
--- Printed addresses are read back.
+-- Printed IPv4 addresses are read back.
 use Rattle.std.proofs.Common.{◌≡◌, ◌≤◌, ◌<◌, ℕ, ◌+◌, ◌-◌, ◌*◌, ◌/◌, ◌%◌, ◌==◌, List, [], ◌∷◌, ◌++◌, length, Bool, true, false, cond, Some, None, refl, sym, ap, ◌∙◌, arith, append-nil, length-append}
 use Rattle.std.specs.Prelude.{nat_lt, sum_by}
-use Rattle.std.specs.Char.{digit_char}
 use Rattle.std.specs.Fmt.{decimal}
 use Rattle.std.specs.List.{AllByRecursion}
 use Rattle.std.proofs.lemmas.Bool.Decides.{leb_tells, nat_tests}
 use Rattle.std.proofs.lemmas.Fmt.{decimal_digit, decimal_step}
-use Rattle.zone_text.specs.Hex.{hex_of_octet}
 use Rattle.zone_text.specs.Parts.{joined}
-use Rattle.zone_text.specs.Addresses.{ipv4_text, ipv6_text}
-use Rattle.zone_text.proofs.RoundTrips.{ipv4_read, ipv6_read}
-use Rattle.zone_words.specs.Addresses.{double_at, ipv4_of_word, ipv4_width, ipv6_of_word, width}
-
--- ---- IPv4: no leading zeros
+use Rattle.zone_text.specs.Addresses.{ipv4_text}
+use Rattle.zone_text.proofs.RoundTrips.{ipv4_read}
+use Rattle.zone_words.specs.Addresses.{ipv4_of_word, ipv4_width, width}
 
 length_step : (n : ℕ) → 10 ≤ n → n < 1000 → length (decimal n) ≡ length (decimal (n / 10)) + 1
 length_step n h k = ap length (decimal_step n h (omega arith)) ∙ length-append (decimal (n / 10)) ((48 + n % 10) ∷ [])
@@ -57,56 +53,3 @@ same n = grind (arith, nat_tests)
 
 pub ipv4_back : (bs : List ℕ) → length bs ≡ 4 → AllByRecursion (λ b. b < 256) bs → ipv4_of_word (ipv4_text bs) ≡ Some bs
 ipv4_back bs l h = rw (ipv4_read bs l h, width_of bs l h, same (ipv4_width bs)) refl
-
--- ---- IPv6: with all groups there is no `::`
-
--- whether a text begins with a colon
-abbrev begins_colon : List ℕ → Bool
-begins_colon [] = false
-begins_colon (b ∷ s) = b == 58
-
-not_double : (b : ℕ) (s : List ℕ) → (b == 58) ≡ false → double_at s ≡ None → double_at (b ∷ s) ≡ None
-not_double b [] h e = refl
-not_double b (c ∷ s) h e = rw (h, e) refl
-
-colon_then : (s : List ℕ) → begins_colon s ≡ false → double_at s ≡ None → double_at (58 ∷ s) ≡ None
-colon_then [] h e = refl
-colon_then (c ∷ s) h e = rw (h, e) refl
-
-hex_char : (d : ℕ) → d < 16 → (digit_char d == 58) ≡ false
-hex_char d h = grind (arith, nat_tests, leb_tells)
-
-four_then : (b c : ℕ) (s : List ℕ) → b < 256 → c < 256 → double_at s ≡ None → double_at ((hex_of_octet b ++ hex_of_octet c) ++ s) ≡ None
-four_then b c s h g e =
-    let y : ℕ = digit_char (c / 16) in
-    let z : ℕ = digit_char (c % 16) in
-    let last : double_at (z ∷ s) ≡ None = not_double z s (hex_char (c % 16) (omega arith)) e in
-    let third : double_at (y ∷ z ∷ s) ≡ None = not_double y (z ∷ s) (hex_char (c / 16) (omega arith)) last in
-    let second : double_at (digit_char (b % 16) ∷ y ∷ z ∷ s) ≡ None = not_double (digit_char (b % 16)) (y ∷ z ∷ s) (hex_char (b % 16) (omega arith)) third in
-    not_double (digit_char (b / 16)) (digit_char (b % 16) ∷ y ∷ z ∷ s) (hex_char (b / 16) (omega arith)) second
-
--- the text of groups has no two colons side by side, and begins with none
-groups_single : (bs : List ℕ) → AllByRecursion (λ b. b < 256) bs → (double_at (ipv6_text bs) ≡ None) × (begins_colon (ipv6_text bs) ≡ false)
-groups_single [] h = (refl, refl)
-groups_single (b ∷ []) h = (refl, refl)
-groups_single (b ∷ c ∷ []) h = (ap double_at (sym (append-nil (hex_of_octet b ++ hex_of_octet c))) ∙ four_then b c [] h.0 h.1.0 refl, hex_char (b / 16) (omega (arith, h.0)))
-groups_single (b ∷ c ∷ d ∷ []) h = (ap double_at (sym (append-nil (hex_of_octet b ++ hex_of_octet c))) ∙ four_then b c [] h.0 h.1.0 refl, hex_char (b / 16) (omega (arith, h.0)))
-groups_single (b ∷ c ∷ d ∷ e ∷ bs) h =
-    let more = groups_single (d ∷ e ∷ bs) h.1.1 in
-    (four_then b c (58 ∷ ipv6_text (d ∷ e ∷ bs)) h.0 h.1.0 (colon_then (ipv6_text (d ∷ e ∷ bs)) more.1 more.0), hex_char (b / 16) (omega (arith, h.0)))
-
-full_length : (bs : List ℕ) (k : ℕ) → length bs ≡ 2 * k → 0 < k → length (ipv6_text bs) + 1 ≤ 5 * k
-full_length [] k l some = absurd (omega arith)
-full_length (b ∷ []) k l some = absurd (omega arith)
-full_length (b ∷ c ∷ []) k l some = omega arith
-full_length (b ∷ c ∷ d ∷ []) k l some = absurd (omega arith)
-full_length (b ∷ c ∷ d ∷ e ∷ bs) k l some = omega (arith, full_length (d ∷ e ∷ bs) (k - 1) (omega arith) (omega arith))
-
--- eight groups and the colons between them are 39 octets
-short_text : (bs : List ℕ) → length bs ≡ 16 → nat_lt 39 (length (ipv6_text bs)) ≡ false
-short_text bs l = let most : length (ipv6_text bs) + 1 ≤ 40 = full_length bs 8 l (omega arith) in grind (arith, leb_tells)
-
-pub ipv6_back : (bs : List ℕ) → length bs ≡ 16 → AllByRecursion (λ b. b < 256) bs → ipv6_of_word (ipv6_text bs) ≡ Some bs
-ipv6_back bs l h =
-    let short : nat_lt 39 (length (ipv6_text bs)) ≡ false = short_text bs l in
-    rw (short, (groups_single bs h).0) (ipv6_read bs l h)

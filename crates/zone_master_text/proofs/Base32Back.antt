@@ -10,7 +10,7 @@ use Rattle.zone_proto.specs.Data.{same_octets}
 use Rattle.zone_proto.proofs.Ordering.Base32Facts.{lower_text}
 use Rattle.zone_words.specs.Base32.{base32_octets, five_bits_at, five_bits_of, octet_from, octets_in}
 use Rattle.zone_file.specs.Denials.{hash_of_word}
-use Rattle.zone_master_text.proofs.Lines.{IsInWord, IsWordText}
+use Rattle.zone_master_text.proofs.Lines.{IsInWord, IsBareText}
 use Rattle.zone_master_text.proofs.WordTexts.{digit_char_harmless, harmless_in_word, word_text}
 
 -- ---- characters and their five bits
@@ -204,7 +204,7 @@ counted : (f : ℕ → ℕ) (n a : ℕ) → length (map f (range_with_len a n)) 
 counted f zero a = refl
 counted f (suc n) a = ap suc (counted f n (a + 1))
 
-pub base32_is_text : (o : ℕ) (os : List ℕ) → IsWordText (base32_text (o ∷ os))
+pub base32_is_text : (o : ℕ) (os : List ℕ) → IsBareText (base32_text (o ∷ os))
 base32_is_text o os =
     let all : List ℕ = o ∷ os in
     let bits : ℕ → ℕ = λ k. five_bits all (k * 5) in

@@ -9,8 +9,8 @@ use Rattle.base64.specs.GeneralPurpose.{decoded_of, engine_symbols}
 use Rattle.base64.proofs.EngineFacts.{decode_of-encode_of}
 use Rattle.base64.proofs.Streams.{decoded_of-ok}
 use Rattle.zone_text.proofs.PrintedWords.{and_both}
-use Rattle.zone_master_text.specs.Printing.{base64_text}
-use Rattle.zone_master_text.proofs.Lines.{IsInWord, IsWordText}
+use Rattle.zone_master_text.specs.Others.{base64_text}
+use Rattle.zone_master_text.proofs.Lines.{IsInWord, IsBareText}
 use Rattle.zone_master_text.proofs.WordTexts.{IsHarmless, harmless, harmless_in_word, in_word_append, word_text}
 
 -- the 64 symbols
@@ -65,7 +65,7 @@ some_symbols a (b ∷ []) t = omega arith
 some_symbols a (b ∷ c ∷ m) t = omega arith
 
 -- of one octet at least
-pub base64_is_text : (a : ℕ) (m : List ℕ) → AllByRecursion (λ b. b < 256) (a ∷ m) → IsWordText (base64_text (a ∷ m))
+pub base64_is_text : (a : ℕ) (m : List ℕ) → AllByRecursion (λ b. b < 256) (a ∷ m) → IsBareText (base64_text (a ∷ m))
 base64_is_text a m h =
     word_text (base64_text (a ∷ m)) (some_symbols a m (replicate (padding_len (length (a ∷ m))) 61))
     (in_word_append (encode_symbols symbols (a ∷ m)) (replicate (padding_len (length (a ∷ m))) 61) false (symbols_in_word (a ∷ m) h) (padding_in_word (padding_len (length (a ∷ m)))))

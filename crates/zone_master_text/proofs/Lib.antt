@@ -1,9 +1,16 @@
+pub mod AddressGroups
 pub mod AddressesBack
 pub mod Base32Back
 pub mod Base64Facts
 pub mod DataBack
+pub mod DataTexts
+pub mod DateFacts
+pub mod LabelFacts
 pub mod Lines
 pub mod NamesBack
 pub mod NumbersBack
+pub mod OthersBack
 pub mod RecordsBack
+pub mod Ipv6Back
+pub mod StringFacts
 pub mod WordTexts

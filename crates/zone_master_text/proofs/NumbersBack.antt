@@ -1,25 +1,26 @@
 -- Printed numbers, types and octets are read back.
-use Rattle.std.proofs.Common.{◌≡◌, ◌<◌, ◌≤◌, ℕ, ◌==◌, List, [], ◌∷◌, ◌++◌, length, Bool, true, false, cond, ◌&&◌, not, Some, refl, ap, ◌∙◌, arith, codes, unwrap_or}
-use Rattle.std.specs.Prelude.{ℤ, nat_le}
+use Rattle.std.proofs.Common.{◌≡◌, ◌<◌, ◌≤◌, ℕ, ◌==◌, List, [], ◌∷◌, ◌++◌, length, Bool, true, false, cond, ◌&&◌, not, ◌*◌, ◌/◌, ◌%◌, ◌+◌, None, Option, Some, refl, ap, ◌∙◌, arith, codes, unwrap_or}
+use Rattle.std.specs.Prelude.{ℤ, nat_le, nat_lt}
 use Rattle.std.specs.Char.{digit_value, to_ascii_uppercase}
 use Rattle.std.specs.Fmt.{decimal, signed_decimal}
 use Rattle.std.specs.List.{list_all, AllByRecursion}
 use Rattle.std.specs.Str.Parse.{AllDigits}
 use Rattle.std.proofs.lemmas.Bool.Decides.{leb_tells, nat_tests}
-use Rattle.std.proofs.lemmas.Fmt.{decimal_is_IsNumeral, length-decimal-le}
+use Rattle.std.proofs.lemmas.Fmt.{decimal_is_IsNumeral}
 use Rattle.zone_proto.specs.declared.record_type.RecordType.{RecordType}
 use Rattle.zone_proto.specs.TypeText.{Word, word_of, type_words, type_text}
 use Rattle.zone_proto.proofs.Texts.TypeTextLaws.{type_text_read}
-use Rattle.zone_text.specs.Numbers.{number_within, at_most}
-use Rattle.zone_text.specs.Hex.{hex_text}
+use Rattle.zone_text.specs.Numbers.{number_within, at_most, digit_of}
+use Rattle.zone_text.specs.Hex.{hex_octet, hex_octets}
+use Rattle.zone_words.specs.Hex.{hex_text}
 use Rattle.zone_text.specs.StartOfAuthority.{IsTimer}
 use Rattle.zone_text.proofs.PrintedWords.{and_both}
-use Rattle.zone_text.proofs.RoundTrips.{decimal_read, hex_read}
-use Rattle.zone_words.specs.Moments.{moment_of_word}
+use Rattle.zone_text.proofs.RoundTrips.{decimal_read}
 use Rattle.zone_words.specs.Ttls.{ttl_of_word, timer_of_word}
 use Rattle.zone_words.specs.Types.{algorithm_named, upper, type_named}
 use Rattle.zone_file.specs.Fields.{record_type_named}
-use Rattle.zone_file.specs.Texts.{any_hex}
+use Rattle.zone_master_text.specs.Others.{hex_digit, hex_digits}
+use Rattle.zone_master_text.specs.Words.{further_words, type_word}
 use Rattle.zone_master_text.specs.Printable.{IsRecordType}
 
 pub u8_back : (n : ℕ) → n < 256 → number_within 10 255 (decimal n) ≡ Some n
@@ -46,13 +47,6 @@ ttl_back n h = seconds (decimal n) n (decimal_is_IsNumeral n (omega arith)).0.0 
 
 pub timer_back : (z : ℤ) → IsTimer z → timer_of_word (signed_decimal z) ≡ Some z
 timer_back z (n, e, small) = rw (e, ttl_back n (omega arith), small_enough n small) refl
-
--- seconds have at most ten digits, so they are no date
-decimal_short : (n : ℕ) → n < 4294967296 → (length (decimal n) == 14) ≡ false
-decimal_short n h = let most : length (decimal n) ≤ 10 = length-decimal-le 10 n (omega arith) (omega arith) (omega arith) in grind (arith, nat_tests)
-
-pub moment_back : (n : ℕ) → n < 4294967296 → moment_of_word (decimal n) ≡ Some n
-moment_back n h = rw (decimal_short n h) (u32_back n h)
 
 -- ---- types
 
@@ -95,10 +89,68 @@ upper_type_text t h = listed_upper t (codes "TYPE" ++ decimal t) type_words refl
 named_back : (t : ℕ) → t < 65536 → type_named (type_text t) ≡ Some (record { 0 = t })
 named_back t h = rw (upper_type_text t h, type_text_read t h) refl
 
-pub type_back : (t : RecordType) → IsRecordType t → record_type_named (type_text t.0) ≡ Some t
-type_back t h = rw (named_back t.0 h.range, h.records) refl
+abbrev by_number : ℕ → RecordType
+by_number n = record { 0 = n }
+
+-- whether a word names this type
+abbrev is_some_of : Option RecordType → ℕ → Bool
+is_some_of None t = false
+is_some_of (Some u) t = u.0 == t
+
+abbrev names : ℕ → List ℕ → Bool
+names t text = is_some_of (type_named text) t
+
+some_back : (o : Option RecordType) (t : ℕ) → is_some_of o t ≡ true → o ≡ Some (record { 0 = t })
+some_back None t h = absurd (cc)
+some_back (Some u) t h = let same : u.0 ≡ t = grind (arith, nat_tests) in ap (λ (n : ℕ). Some (by_number n)) same
+
+further_back : (t : ℕ) (other : List ℕ) (ws : List Word) → list_all (λ w. names w.number w.text) ws ≡ true → type_named other ≡ Some (record { 0 = t })
+    → type_named (unwrap_or (word_of t ws) other) ≡ Some (record { 0 = t })
+further_back t other [] all h = h
+further_back t other (w ∷ ws) all h =
+    let both = and_both (names w.number w.text) (list_all (λ v. names v.number v.text) ws) all in
+    by (t == w.number) refl (some_back (type_named w.text) w.number both.0) (further_back t other ws both.1 h)
+  where
+    by : (b : Bool) → (t == w.number) ≡ b → type_named w.text ≡ Some (record { 0 = w.number }) → type_named (unwrap_or (word_of t ws) other) ≡ Some (record { 0 = t })
+        → type_named (unwrap_or (cond b (Some w.text) (word_of t ws)) other) ≡ Some (record { 0 = t })
+    by true e this more = let same : w.number ≡ t = grind (arith, nat_tests) in this ∙ ap (λ (n : ℕ). Some (by_number n)) same
+    by false e this more = more
+
+word_back : (t : ℕ) → t < 65536 → type_named (type_word t) ≡ Some (record { 0 = t })
+word_back t h = further_back t (type_text t) further_words refl (named_back t h)
+
+pub type_back : (t : RecordType) → IsRecordType t → record_type_named (type_word t.0) ≡ Some t
+type_back t h = rw (word_back t.0 h.range, h.records) refl
 
 -- ---- octets
 
-pub hex_back : (o : ℕ) (os : List ℕ) → AllByRecursion (λ b. b < 256) (o ∷ os) → any_hex (hex_text (o ∷ os)) ≡ Some (o ∷ os)
-hex_back o os h = hex_read (o ∷ os) h
+less_true : (a b : ℕ) → a < b → nat_lt a b ≡ true
+less_true a b h = grind (arith, leb_tells)
+
+upper_value : (d : ℕ) → d < 16 → digit_value (hex_digit d) ≡ d
+upper_value d h = by (nat_lt d 10) refl
+  where
+    low : (d : ℕ) → d < 10 → digit_value (48 + d) ≡ d
+    low d h = grind (arith, nat_tests, leb_tells)
+
+    high : (d : ℕ) → 10 ≤ d → d < 16 → digit_value (55 + d) ≡ d
+    high d h g = grind (arith, nat_tests, leb_tells)
+
+    by : (b : Bool) → nat_lt d 10 ≡ b → digit_value (cond b (48 + d) (55 + d)) ≡ d
+    by true e = low d (grind (arith, leb_tells))
+    by false e = high d (grind (arith, leb_tells)) h
+
+hex_digit_back : (d : ℕ) → d < 16 → digit_of 16 (hex_digit d) ≡ Some d
+hex_digit_back d h = rw (upper_value d h, less_true d 16 h) refl
+
+hex_octet_back : (b : ℕ) → b < 256 → hex_octet (hex_digit (b / 16)) (hex_digit (b % 16)) ≡ Some b
+hex_octet_back b h =
+    let whole : b / 16 * 16 + b % 16 ≡ b = omega arith in
+    rw (hex_digit_back (b / 16) (omega arith), hex_digit_back (b % 16) (omega arith)) (ap (λ (n : ℕ). Some n) whole)
+
+hex_octets_back : (bs : List ℕ) → AllByRecursion (λ b. b < 256) bs → hex_octets (hex_digits bs) ≡ Some bs
+hex_octets_back [] h = refl
+hex_octets_back (b ∷ bs) h = rw (hex_octet_back b h.0, hex_octets_back bs h.1) refl
+
+pub digits_back : (o : ℕ) (os : List ℕ) → AllByRecursion (λ b. b < 256) (o ∷ os) → hex_text (hex_digits (o ∷ os)) ≡ Some (o ∷ os)
+digits_back o os h = hex_octets_back (o ∷ os) h

@@ -1,3 +1,9 @@
+pub mod Addresses
+pub mod Labels
 pub mod Laws
+pub mod Moments
+pub mod Others
 pub mod Printable
 pub mod Printing
+pub mod Strings
+pub mod Words

@@ -3,6 +3,7 @@ ghost use Rattle.std.specs.Prelude.{Some};
 ghost use Rattle.zone_master_text.specs.Printing.{master_text};
 
 use crate::data::MasterDataText;
+use crate::types::TypeText;
 use std::fmt;
 use zone_proto::Record;
 
@@ -16,7 +17,7 @@ impl fmt::Display for MasterText<'_> {
 
     fn fmt<W: fmt::Write>(&self, f: &mut fmt::Formatter<W>) -> fmt::Result {
         let record = self.0;
-        let (class, record_type) = (record.dns_class, record.record_type());
+        let (class, record_type) = (record.dns_class, TypeText(record.record_type()));
         let data = MasterDataText(&record.rdata);
         write!(f, "{} {} {class} ", record.name, record.ttl)?;
         write!(f, "{record_type} {data}")
