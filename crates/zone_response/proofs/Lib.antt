@@ -1,0 +1,10 @@
+pub mod NameTests
+pub mod StarWalk
+pub mod TurnWalk
+pub mod NodeCases
+pub mod StepCases
+pub mod PathSteps
+pub mod HostFacts
+pub mod SetLists
+pub mod ResponseCases
+pub mod ResponseExamples

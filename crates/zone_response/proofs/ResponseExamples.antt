@@ -1,0 +1,190 @@
+-- Worked examples: whole responses of a small zone that denies by NSEC, computed from the definitions
+use Rattle.std.proofs.Common.{ℕ, Bool, true, false, List, [], ◌∷◌, map, refl}
+use Rattle.std.specs.Prelude.{codes, Some, None, pos}
+use Rattle.zone_proto.specs.declared.nx_proof_kind.NxProofKind.TheVariants as kind
+use Rattle.zone_proto.specs.declared.rdata.RData.{RData}
+use Rattle.zone_proto.specs.declared.rdata.RData.TheVariants as V
+use Rattle.zone_proto.specs.declared.record.Record.{Record}
+use Rattle.zone_proto.specs.declared.response_code.ResponseCode.TheVariants as code
+use Rattle.zone_proto.specs.Keys.{key}
+use Rattle.zone_proto.specs.Names.{Name, star_under}
+use Rattle.zone_proto.specs.Sets.{RRset}
+use Rattle.zone_proto.specs.Types.{A, NS, SOA, CNAME, TXT, DS, RRSIG, NSEC, IN}
+use Rattle.zone_map.specs.Zones.{Sets}
+use Rattle.zone_response.specs.Paths.{path}
+use Rattle.zone_response.specs.Queries.{Zone, Query}
+use Rattle.zone_response.specs.Responses.{bare, IsResponse}
+use Rattle.zone_response.specs.Sections.{Sections}
+
+-- ---- the zone example: an alias that leads to no name, an unsigned and a signed child, a star, and a host
+
+abbrev example : Name
+example = codes "example" ∷ []
+
+abbrev under : List ℕ → Name
+under label = label ∷ example
+
+abbrev unsigned_child : Name
+unsigned_child = under (codes "b")
+
+abbrev server : Name
+server = codes "ns" ∷ unsigned_child
+
+abbrev star : Name
+star = star_under (under (codes "w"))
+
+abbrev record_of : Name → ℕ → RData → Record
+record_of n ttl d = record { name = n; dns_class = record { 0 = IN }; ttl = ttl; rdata = d }
+
+abbrev signature : Name → ℕ → ℕ → ℕ → Record
+signature n ttl t labels =
+    record_of n ttl (V.RRSIG (record { type_covered = record { 0 = t }; algorithm = 8; num_labels = labels; original_ttl = 3600; expiration = 86400; inception = 0; key_tag = 1; signer_name = example; signature = [] }))
+
+abbrev set_with : ℕ → Name → ℕ → RData → List Record → RRset
+set_with ttl n t d signatures = record { owner = n; record_type = t; class = IN; ttl = ttl; serial = 1; records = record_of n ttl d ∷ []; signatures = signatures }
+
+-- a set with the signature that covers its type
+abbrev signed : ℕ → Name → ℕ → ℕ → RData → RRset
+signed ttl n t labels d = set_with ttl n t d (signature n ttl t labels ∷ [])
+
+abbrev nsec : ℕ → Name → ℕ → Name → List ℕ → RRset
+nsec ttl n labels next types = signed ttl n NSEC labels (V.NSEC (record { next_domain_name = next; types = map (λ t. record { 0 = t }) types }))
+
+abbrev soa : ℕ → RRset
+soa ttl = signed ttl example SOA 1 (V.SOA (record { mname = server; rname = server; serial = 1; refresh = pos 7200; retry = pos 600; expire = pos 86400; minimum = 300 }))
+
+abbrev first_nsec : ℕ → RRset
+first_nsec ttl = nsec ttl example 1 (under (codes "a")) (SOA ∷ RRSIG ∷ NSEC ∷ [])
+
+abbrev alias : RRset
+alias = signed 3600 (under (codes "a")) CNAME 2 (V.CNAME (under (codes "gone")))
+
+abbrev child_servers : RRset
+child_servers = set_with 3600 unsigned_child NS (V.NS server) []
+
+abbrev child_nsec : ℕ → RRset
+child_nsec ttl = nsec ttl unsigned_child 2 (under (codes "c")) (NS ∷ RRSIG ∷ NSEC ∷ [])
+
+abbrev glue : RRset
+glue = set_with 3600 server A (V.A (192 ∷ 0 ∷ 2 ∷ 1 ∷ [])) []
+
+abbrev signed_child_servers : RRset
+signed_child_servers = set_with 3600 (under (codes "c")) NS (V.NS server) []
+
+abbrev digest : RRset
+digest = signed 3600 (under (codes "c")) DS 2 (V.Other (record { record_type = record { 0 = DS }; octets = 1 ∷ []; other = refl }))
+
+abbrev signed_child_nsec : ℕ → RRset
+signed_child_nsec ttl = nsec ttl (under (codes "c")) 2 star (NS ∷ DS ∷ RRSIG ∷ NSEC ∷ [])
+
+abbrev text : RData
+text = V.Other (record { record_type = record { 0 = TXT }; octets = 0 ∷ []; other = refl })
+
+abbrev star_text : RRset
+star_text = signed 3600 star TXT 2 text
+
+abbrev star_nsec : ℕ → RRset
+star_nsec ttl = nsec ttl star 2 (under (codes "www")) (TXT ∷ RRSIG ∷ NSEC ∷ [])
+
+-- with a signature that covers another type
+abbrev host : List Record → RRset
+host more = set_with 3600 (under (codes "www")) A (V.A (192 ∷ 0 ∷ 2 ∷ 2 ∷ [])) (signature (under (codes "www")) 3600 A 2 ∷ more)
+
+abbrev last_nsec : RRset
+last_nsec = nsec 3600 (under (codes "www")) 2 example (A ∷ RRSIG ∷ NSEC ∷ [])
+
+abbrev sets : Sets
+sets =
+    (key example SOA, soa 3600) ∷ (key example NSEC, first_nsec 3600)
+    ∷ (key (under (codes "a")) CNAME, alias) ∷ (key (under (codes "a")) NSEC, nsec 3600 (under (codes "a")) 2 unsigned_child (CNAME ∷ RRSIG ∷ NSEC ∷ []))
+    ∷ (key unsigned_child NS, child_servers) ∷ (key unsigned_child NSEC, child_nsec 3600)
+    ∷ (key server A, glue)
+    ∷ (key (under (codes "c")) NS, signed_child_servers) ∷ (key (under (codes "c")) DS, digest) ∷ (key (under (codes "c")) NSEC, signed_child_nsec 3600)
+    ∷ (key star TXT, star_text) ∷ (key star NSEC, star_nsec 3600)
+    ∷ (key (under (codes "www")) A, host (signature (under (codes "www")) 3600 TXT 2 ∷ [])) ∷ (key (under (codes "www")) NSEC, last_nsec)
+    ∷ []
+
+abbrev zone : Zone
+zone = record { origin = example; sets = sets; nx_proof_kind = Some kind.Nsec }
+
+-- a query that asks for DNSSEC
+abbrev asked : Name → ℕ → Query
+asked n t = record { name = n; record_type = t; class = IN; signed = true }
+
+abbrev sections : Bool → List RRset → List RRset → List RRset → List RRset → Sections
+sections authoritative answers authorities additionals glue =
+    record { code = code.NoError; authoritative = authoritative; answers = answers; authorities = authorities; additionals = additionals; glue = glue; left_at = None }
+
+-- ---- answers
+
+-- the signature goes along that covers the set's type
+of_host : IsResponse zone (asked (under (codes "www")) A) (sections true (host [] ∷ []) [] [] [])
+unfolding path
+of_host = record { code = refl; authoritative = refl; answers = refl; authorities = refl; additionals = refl; glue = refl; left_at = refl }
+
+-- the star answers with its text and signature under the name, and the NSEC set says that it may (RFC 4035 section 3.1.3.3)
+of_star : IsResponse zone (asked (codes "q" ∷ under (codes "w")) TXT) (sections true (record (signed 3600 (codes "q" ∷ under (codes "w")) TXT 2 text) { serial = 0 } ∷ []) (star_nsec 300 ∷ []) [] [])
+unfolding path
+of_star = record { code = refl; authoritative = refl; answers = refl; authorities = refl; additionals = refl; glue = refl; left_at = refl }
+
+-- the code is that of the alias's target, which isn't there (RFC 6604 section 3); the SOA has its minimum as TTL, and the NSEC sets deny the target and the star
+along_alias : IsResponse zone (asked (under (codes "a")) A) (record { code = code.NXDomain; authoritative = true; answers = alias ∷ []; authorities = soa 300 ∷ signed_child_nsec 300 ∷ first_nsec 300 ∷ []; additionals = []; glue = []; left_at = None })
+unfolding path
+along_alias = record { code = refl; authoritative = refl; answers = refl; authorities = refl; additionals = refl; glue = refl; left_at = refl }
+
+-- ---- negative responses
+
+-- a name error
+of_missing : IsResponse zone (asked (codes "x" ∷ under (codes "no")) A) (record { code = code.NXDomain; authoritative = true; answers = []; authorities = soa 300 ∷ signed_child_nsec 300 ∷ first_nsec 300 ∷ []; additionals = []; glue = []; left_at = None })
+unfolding path
+of_missing = record { code = refl; authoritative = refl; answers = refl; authorities = refl; additionals = refl; glue = refl; left_at = refl }
+
+-- an empty name is there (RFC 4592 section 2.2.2)
+of_empty_name : IsResponse zone (asked (under (codes "w")) A) (sections true [] (soa 300 ∷ signed_child_nsec 300 ∷ []) [] [])
+unfolding path
+of_empty_name = record { code = refl; authoritative = refl; answers = refl; authorities = refl; additionals = refl; glue = refl; left_at = refl }
+
+-- no data by the star: one set says both that the name isn't there and what the star has, and stands once
+of_star_without_data : IsResponse zone (asked (codes "q" ∷ under (codes "w")) A) (sections true [] (soa 300 ∷ star_nsec 300 ∷ []) [] [])
+unfolding path
+of_star_without_data = record { code = refl; authoritative = refl; answers = refl; authorities = refl; additionals = refl; glue = refl; left_at = refl }
+
+-- DS of an unsigned child is no data of the parent
+of_no_digest : IsResponse zone (asked unsigned_child DS) (sections true [] (soa 300 ∷ child_nsec 300 ∷ []) [] [])
+unfolding path
+of_no_digest = record { code = refl; authoritative = refl; answers = refl; authorities = refl; additionals = refl; glue = refl; left_at = refl }
+
+-- and that of a signed one is an answer
+of_digest : IsResponse zone (asked (under (codes "c")) DS) (sections true (digest ∷ []) [] [] [])
+unfolding path
+of_digest = record { code = refl; authoritative = refl; answers = refl; authorities = refl; additionals = refl; glue = refl; left_at = refl }
+
+-- ---- referrals
+
+-- NS without signature and without AA, the NSEC set that proves the child unsigned, and glue without signature
+below_unsigned_child : IsResponse zone (asked (codes "x" ∷ unsigned_child) A) (sections false [] (child_servers ∷ child_nsec 300 ∷ []) [] (glue ∷ []))
+unfolding path
+below_unsigned_child = record { code = refl; authoritative = refl; answers = refl; authorities = refl; additionals = refl; glue = refl; left_at = refl }
+
+-- the DS set of a signed child; its server stands in the other child, so that its address may go
+below_signed_child : IsResponse zone (asked (under (codes "c")) A) (sections false [] (signed_child_servers ∷ digest ∷ []) (glue ∷ []) [])
+unfolding path
+below_signed_child = record { code = refl; authoritative = refl; answers = refl; authorities = refl; additionals = refl; glue = refl; left_at = refl }
+
+-- ---- what isn't searched
+
+-- outside the zone
+of_outside : IsResponse zone (asked (codes "org" ∷ []) A) (bare code.Refused)
+of_outside = refl
+
+-- of another class
+of_another_class : IsResponse zone (record (asked (under (codes "www")) A) { class = 3 }) (bare code.Refused)
+of_another_class = refl
+
+-- of a type that no record has
+of_no_type : IsResponse zone (asked (under (codes "www")) 41) (bare code.NotImp)
+of_no_type = refl
+
+-- of a zone that denies by hashed names
+pub of_hashed_zone : IsResponse (record zone { nx_proof_kind = Some (kind.Nsec3 1 [] 0 false) }) (asked (under (codes "www")) A) (bare code.ServFail)
+of_hashed_zone = refl

@@ -1,0 +1,52 @@
+-- Which step a name gives, case by case
+use Rattle.std.proofs.Common.{◌≡◌, true, false, cond, sym, ap, ◌∙◌, subst}
+use Rattle.std.specs.Prelude.{Option, Some, None, Result, IfOk}
+use Rattle.std.proofs.lemmas.List.{append-nil}
+use Rattle.zone_proto.specs.Names.{Name, is_at_or_above}
+use Rattle.zone_map.specs.Wildcards.{exists}
+use Rattle.zone_response.specs.declared.steps.Next.{Next as KeptNext}
+use Rattle.zone_response.specs.declared.steps.SoFar.{SoFar}
+use Rattle.zone_response.specs.Nodes.{AtNode, at_node}
+use Rattle.zone_response.specs.Queries.{Inquiry}
+use Rattle.zone_response.specs.Sections.{sent_sets}
+use Rattle.zone_response.specs.Sources.{star_of}
+use Rattle.zone_response.specs.Steps.{End, missing, outside, ends, Step, at_end, node_step, step_at, star_step, name_step, turned_step, step, next_of, Takes}
+use Rattle.zone_response.specs.Turns.{Turn, turn}
+
+-- ---- what is taken of a step
+
+-- an end adds nothing
+pub at_its_end : (s : Step) (e : End) (before : SoFar) (came : KeptNext) → s ≡ at_end e → next_of came ≡ ends e → Takes s before before came
+at_its_end s e before came is next =
+    subst (λ u. Takes u before before came) (sym is)
+    (record { answers = sym (append-nil (sent_sets before.answers)); made = sym (append-nil before.made.items); next = next })
+
+pub same_step : {E : Type 0} (result : Result KeptNext E) (before after : SoFar) (s t : Step) → s ≡ t → IfOk result (λ next. Takes t before after next) → IfOk result (λ next. Takes s before after next)
+same_step result before after s t e h = subst (λ u. IfOk result (λ next. Takes u before after next)) (sym e) h
+
+-- ---- the step of a name
+
+module _ (q : Inquiry) (x : Name) where
+  pub outside_step : is_at_or_above q.origin x ≡ false → step q x ≡ at_end (outside x)
+  outside_step h = ap (λ b. cond b (turned_step q x (turn q.origin q.sets x q.record_type)) (at_end (outside x))) h
+
+  pub inside_step : (o : Option Turn) → is_at_or_above q.origin x ≡ true → o ≡ turn q.origin q.sets x q.record_type → step q x ≡ turned_step q x o
+  inside_step o h e =
+      ap (λ b. cond b (turned_step q x (turn q.origin q.sets x q.record_type)) (at_end (outside x))) h
+      ∙ ap (turned_step q x) (sym e)
+
+  at_a : (star : Option Name) (a : Name) (node : AtNode) → node ≡ at_node q.sets a q.record_type → step_at q star x a ≡ node_step q.signed q.record_type star x node
+  at_a star a node e = ap (node_step q.signed q.record_type star x) (sym e)
+
+  pub own_step : (node : AtNode) → exists q.sets x ≡ true → node ≡ at_node q.sets x q.record_type → name_step q x ≡ node_step q.signed q.record_type None x node
+  own_step node h e = ap (λ b. cond b (step_at q None x x) (star_step q x (star_of q.sets x))) h ∙ at_a None x node e
+
+  pub absent_step : (star : Option Name) → exists q.sets x ≡ false → star ≡ star_of q.sets x → name_step q x ≡ star_step q x star
+  absent_step star h e = ap (λ b. cond b (step_at q None x x) (star_step q x (star_of q.sets x))) h ∙ ap (star_step q x) (sym e)
+
+  pub starred_step : (star : Name) (node : AtNode) → exists q.sets star ≡ true → node ≡ at_node q.sets star q.record_type
+      → star_step q x (Some star) ≡ node_step q.signed q.record_type (Some star) x node
+  starred_step star node h e = ap (λ b. cond b (step_at q (Some star) x star) (at_end (missing x (Some star) false))) h ∙ at_a (Some star) star node e
+
+  pub starless_step : (star : Name) → exists q.sets star ≡ false → star_step q x (Some star) ≡ at_end (missing x (Some star) false)
+  starless_step star h = ap (λ b. cond b (step_at q (Some star) x star) (at_end (missing x (Some star) false))) h

@@ -1,0 +1,11 @@
+use Rattle.std.proofs.Common.{◌≡◌, ◌-◌}
+use Rattle.zone_response.specs.Paths.{behind, path_from, path}
+use Rattle.zone_response.specs.Queries.{inquiry_of}
+use Rattle.zone_response.specs.Sections.{sent_sets}
+use Rattle.zone_response.proofs.paths.walk.Given as goal
+
+-- what is left of the path, behind what was found, is the whole
+abbrev pub invariant-loop-count : goal.invariant-loop-count
+invariant-loop-count g l =
+    behind (sent_sets l.so_far.answers) l.so_far.made.items (path_from (inquiry_of l.fn.asked l.inner.records) (8 - l._count) l.seen.items l.name)
+    ≡ path (inquiry_of l.fn.asked l.inner.records) l.fn.name

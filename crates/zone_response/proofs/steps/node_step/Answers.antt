@@ -1,0 +1,36 @@
+use Rattle.std.proofs.Common.{true, [], ◌∷◌, ◌++◌, refl, sym, ap, ◌∙◌, subst}
+use Rattle.zone_response.specs.declared.nodes.Node.{Node}
+use Rattle.zone_response.specs.Nodes.{node_of}
+use Rattle.zone_response.specs.Sections.{as_it_is, sent_sets}
+use Rattle.zone_response.specs.Steps.{missing, made_by, node_step, Takes}
+use Rattle.zone_response.proofs.StepCases.{at_its_end}
+use Rattle.zone_response.proofs.steps.node_step.Goals as goal
+
+pub returns-in_ok-answer-in-Own-clause-ok : goal.returns-in_ok-answer-in-Own-clause-ok
+returns-in_ok-answer-in-Own-clause-ok c =
+    let x = c.args.name.now in
+    subst (λ n. Takes (node_step c.args.asked.signed c.args.asked.record_type.0 c.args.star x (node_of n)) c.args.so_far.now c.answer.new.so_far _) (sym c.in-Own.is)
+    (record {
+      answers =
+          c.in_ok-answer-in-Own.ensures.answers
+          ∙ (λ i. sent_sets c.args.so_far.now.answers ++ as_it_is (c.own_part-part.ensures i) (made_by (c.keeps.ensures i) c.args.star x c.in-Own.set.now) ∷ []);
+      made = c.in_ok-answer-in-Own.ensures.made;
+      next = refl;
+    })
+
+pub returns-in_ok-after_alias-in-Alias-clause-ok : goal.returns-in_ok-after_alias-in-Alias-clause-ok
+returns-in_ok-after_alias-in-Alias-clause-ok c =
+    let x = c.args.name.now in
+    subst (λ n. Takes (node_step c.args.asked.signed c.args.asked.record_type.0 c.args.star x (node_of n)) c.args.so_far.now c.answer-in-Alias.new.so_far c.in_ok-after_alias-in-Alias.field-0) (sym c.in-Alias.is)
+    (record {
+      answers =
+          c.in_ok-answer-in-Alias.ensures.answers
+          ∙ (λ i. sent_sets c.args.so_far.now.answers ++ as_it_is (c.part_for-part.ensures i) (made_by (c.keeps-in-Alias.ensures i) c.args.star x c.in-Alias.set.now) ∷ []);
+      made = c.in_ok-answer-in-Alias.ensures.made;
+      next = c.in_ok-after_alias-in-Alias.ensures.ok;
+    })
+
+pub returns-in_ok-at_missing-in-Nothing-clause-ok : goal.returns-in_ok-at_missing-in-Nothing-clause-ok
+returns-in_ok-at_missing-in-Nothing-clause-ok c =
+    let step_of = λ (n : Node). node_step c.args.asked.signed c.args.asked.record_type.0 c.args.star c.args.name.now (node_of n) in
+    at_its_end (step_of c.args.node) (missing c.args.name.now c.args.star true) c.args.so_far.now c.in_ok-at_missing-in-Nothing.field-0 (ap step_of c.in-Nothing.is) c.in_ok-at_missing-in-Nothing.ensures.ok

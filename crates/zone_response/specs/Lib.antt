@@ -1,0 +1,11 @@
+pub mod Queries
+pub mod Sections
+pub mod QueryTypes
+pub mod Turns
+pub mod Sources
+pub mod Nodes
+pub mod Steps
+pub mod Paths
+pub mod Denials
+pub mod Hosts
+pub mod Responses

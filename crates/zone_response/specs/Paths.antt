@@ -1,0 +1,42 @@
+-- The path of a query: its name, and the names that its aliases lead on to (RFC 1034 section 4.3.2 step 3a)
+use Rattle.std.specs.Prelude.{ℕ, zero, suc, cond, List, [], ◌∷◌, ◌++◌}
+use Rattle.std.specs.List.{list_any}
+use Rattle.zone_proto.specs.Names.{Name, name_eq}
+use Rattle.zone_proto.specs.Sets.{RRset}
+use Rattle.zone_response.specs.declared.paths.Path.{Path as KeptPath}
+use Rattle.zone_response.specs.Queries.{Inquiry}
+use Rattle.zone_response.specs.Sections.{sent_sets}
+use Rattle.zone_response.specs.Steps.{End, unfollowed, Next, on, ends, step, end_of}
+
+-- the sets of the answer section, the names for which a star answered, and how the search ends
+pub record Path : Type 0 where
+  pub answers : List RRset
+  pub made : List Name
+  pub end : End
+
+abbrev pub ended : End → Path
+ended e = record { answers = []; made = []; end = e }
+
+-- a path behind the sets and names of others
+abbrev pub behind : List RRset → List Name → Path → Path
+behind answers made p = record { answers = answers ++ p.answers; made = made ++ p.made; end = p.end }
+
+-- what comes next, searched
+abbrev pub searched : (Name → Path) → Next → Path
+searched search (on x) = search x
+searched search (ends e) = ended e
+
+module _ (q : Inquiry) where
+  -- the path from x on, of k names at most; a name that was searched isn't searched again
+  abbrev pub path_from : ℕ → List Name → Name → Path
+  path_from zero seen x = ended unfollowed
+  path_from (suc k) seen x = cond (list_any (name_eq x) seen) (ended unfollowed)
+      (behind (step q x).answers (step q x).made (searched (path_from k (seen ++ x ∷ [])) (step q x).next))
+
+  -- a chain has 8 names at most
+  unfoldable pub path : Name → Path
+  path = path_from 8 []
+
+-- as the program keeps it
+abbrev pub path_of : KeptPath → Path
+path_of p = record { answers = sent_sets p.answers; made = p.made.items; end = end_of p.end }

@@ -1,0 +1,40 @@
+-- The zone that is asked, and the query
+use Rattle.std.specs.Prelude.{ℕ, Bool, Option}
+use Rattle.zone_proto.specs.declared.nx_proof_kind.NxProofKind.{NxProofKind}
+use Rattle.zone_proto.specs.Names.{Name}
+use Rattle.zone_map.specs.Zones.{Sets}
+use Rattle.zone_response.specs.declared.question.Question.{Question}
+use Rattle.zone_response.specs.declared.steps.Asked.{Asked}
+
+pub record Zone : Type 0 where
+  -- the name at its top
+  pub origin : Name
+  -- its record sets
+  pub sets : Sets
+  -- how it denies what it doesn't hold
+  pub nx_proof_kind : Option NxProofKind
+
+-- a question (RFC 1035 section 4.1.2), and whether it asks for DNSSEC (RFC 3225 section 3)
+pub record Query : Type 0 where
+  pub name : Name
+  pub record_type : ℕ
+  pub class : ℕ
+  pub signed : Bool
+
+-- what is asked of a zone, apart from the name, which changes along aliases
+pub record Inquiry : Type 0 where
+  pub origin : Name
+  pub sets : Sets
+  pub record_type : ℕ
+  pub signed : Bool
+
+abbrev pub inquiry : Zone → Query → Inquiry
+inquiry z q = record { origin = z.origin; sets = z.sets; record_type = q.record_type; signed = q.signed }
+
+-- ---- as the program keeps them
+
+abbrev pub query_of : Question → Bool → Query
+query_of q signed = record { name = q.name.now; record_type = q.query_type.0; class = q.query_class.0; signed = signed }
+
+abbrev pub inquiry_of : Asked → Sets → Inquiry
+inquiry_of a m = record { origin = a.origin.now; sets = m; record_type = a.record_type.0; signed = a.signed }

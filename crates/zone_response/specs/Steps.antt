@@ -1,0 +1,123 @@
+-- One step of a search: what a name of a chain is answered with (RFC 1034 section 4.3.2 step 3)
+use Rattle.std.specs.Prelude.{◌≡◌, ℕ, Bool, true, false, ◌||◌, cond, List, [], ◌∷◌, ◌++◌, ◌==◌, Option, Some, None}
+use Rattle.zone_proto.specs.Names.{Name, is_at_or_above}
+use Rattle.zone_proto.specs.Sets.{RRset}
+use Rattle.zone_proto.specs.Types.{RRSIG}
+use Rattle.zone_map.specs.Chains.{cname_target}
+use Rattle.zone_map.specs.Wildcards.{exists, renamed}
+use Rattle.zone_response.specs.declared.response.Part.{Part}
+use Rattle.zone_response.specs.declared.response.Part.TheVariants as part
+use Rattle.zone_response.specs.declared.steps.End.{End as KeptEnd}
+use Rattle.zone_response.specs.declared.steps.End.TheVariants as kept_end
+use Rattle.zone_response.specs.declared.steps.Next.{Next as KeptNext}
+use Rattle.zone_response.specs.declared.steps.Next.TheVariants as kept_next
+use Rattle.zone_response.specs.declared.steps.SoFar.{SoFar}
+use Rattle.zone_response.specs.Queries.{Inquiry}
+use Rattle.zone_response.specs.Nodes.{AtNode, own, alias, stand_in, nothing, at_node}
+use Rattle.zone_response.specs.Sections.{as_it_is, part_for, sent_sets}
+use Rattle.zone_response.specs.Sources.{star_of}
+use Rattle.zone_response.specs.Turns.{Turn, cut, renaming, turn}
+
+-- how a search ends
+pub data End : Type 0 where
+  -- with the set that is asked for
+  complete : End
+  -- at a zone cut, of which this is the NS set
+  referred : RRset → End
+  -- at a name of the zone without such a set; with the star that was asked for it, none where the name exists, and with whether one of the two exists
+  missing : Name → Option Name → Bool → End
+  -- at a name outside the zone
+  outside : Name → End
+  -- at an alias that isn't followed any farther
+  unfollowed : End
+  -- at what this server doesn't answer
+  failed : End
+
+-- what comes after a step: the search of another name, or the end
+pub data Next : Type 0 where
+  on : Name → Next
+  ends : End → Next
+
+-- the sets that a step adds to the answer section; the names for which a star answered; and what comes next
+pub record Step : Type 0 where
+  pub answers : List RRset
+  pub made : List Name
+  pub next : Next
+
+abbrev pub at_end : End → Step
+at_end e = record { answers = []; made = []; next = ends e }
+
+-- a set as it is found for x: its own, or that of a star under the name x, whose signatures are kept where they are of use
+abbrev pub made_by : Bool → Option Name → Name → RRset → RRset
+made_by keep None x s = s
+made_by keep (Some star) x s = renamed keep star x s
+
+-- the name for which a star answered
+abbrev pub made_names : Option Name → Name → List Name
+made_names None x = []
+made_names (Some star) x = x ∷ []
+
+-- behind an alias comes its target
+abbrev pub after_alias : Option Name → Next
+after_alias None = ends complete
+after_alias (Some target) = on target
+
+-- by what x itself has, or the star that is asked for it, for a query of t, which asks for DNSSEC or not
+module _ (signed : Bool) (t : ℕ) where
+  -- signatures are of use where the query asks for DNSSEC, and where it asks for them
+  abbrev pub keeps : Bool
+  keeps = signed || (t == RRSIG)
+
+  -- what goes out of the set that is asked for
+  abbrev pub own_part : Part
+  own_part = cond (t == RRSIG) part.Signatures (part_for signed)
+
+  -- the set is the whole answer, and an alias is followed (RFC 1034 section 4.3.2 step 3a)
+  abbrev pub node_step : Option Name → Name → AtNode → Step
+  node_step star x (own s) = record { answers = as_it_is own_part (made_by keeps star x s) ∷ []; made = made_names star x; next = ends complete }
+  node_step star x (alias s) = record { answers = as_it_is (part_for signed) (made_by keeps star x s) ∷ []; made = made_names star x; next = after_alias (cname_target s) }
+  node_step star x (stand_in s) = at_end failed
+  node_step star x nothing = at_end (missing x star true)
+
+module _ (q : Inquiry) where
+  -- by what a name has, for x
+  abbrev pub step_at : Option Name → Name → Name → Step
+  step_at star x a = node_step q.signed q.record_type star x (at_node q.sets a q.record_type)
+
+  -- for a name that doesn't exist: by the star that is asked for it, if that exists (RFC 1034 section 4.3.2 step 3c, RFC 4592 section 3.3.1)
+  abbrev pub star_step : Name → Option Name → Step
+  star_step x None = at_end (missing x None false)
+  star_step x (Some star) = cond (exists q.sets star) (step_at (Some star) x star) (at_end (missing x (Some star) false))
+
+  -- for a name that no cut and no DNAME stands above
+  abbrev pub name_step : Name → Step
+  name_step x = cond (exists q.sets x) (step_at None x x) (star_step x (star_of q.sets x))
+
+  -- a cut refers (RFC 1034 section 4.3.2 step 3b)
+  abbrev pub turned_step : Name → Option Turn → Step
+  turned_step x None = name_step x
+  turned_step x (Some (cut s)) = at_end (referred s)
+  turned_step x (Some (renaming s)) = at_end failed
+
+  abbrev pub step : Name → Step
+  step x = cond (is_at_or_above q.origin x) (turned_step x (turn q.origin q.sets x q.record_type)) (at_end (outside x))
+
+-- ---- as the program keeps it
+
+abbrev pub end_of : KeptEnd → End
+end_of kept_end.Complete = complete
+end_of (kept_end.Referred s) = referred s.now
+end_of (kept_end.Missing x) = missing x.name x.star x.is_there
+end_of (kept_end.Outside x) = outside x
+end_of kept_end.Unfollowed = unfollowed
+end_of kept_end.Failed = failed
+
+abbrev pub next_of : KeptNext → Next
+next_of (kept_next.On x) = on x
+next_of (kept_next.Ends e) = ends (end_of e)
+
+-- a step, from what was found before it: the sets and names that it adds stand behind these, and this comes next
+pub record Takes (s : Step) (before after : SoFar) (came : KeptNext) : Type 0 where
+  pub answers : sent_sets after.answers ≡ sent_sets before.answers ++ s.answers
+  pub made : after.made.items ≡ before.made.items ++ s.made
+  pub next : next_of came ≡ s.next

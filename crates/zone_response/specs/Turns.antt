@@ -1,0 +1,46 @@
+-- What turns a search on its way from the origin down to a name: the first zone cut or DNAME (RFC 1034 section 4.3.2 step 3, RFC 6672 section 3.2)
+use Rattle.std.specs.Prelude.{ℕ, ◌&&◌, ◌||◌, cond, [], ◌∷◌, ◌==◌, Option, None, option_map}
+use Rattle.std.specs.Option.{option_or}
+use Rattle.zone_proto.specs.Names.{Name, name_eq, is_at_or_above}
+use Rattle.zone_proto.specs.Sets.{RRset}
+use Rattle.zone_proto.specs.Types.{NS, DS}
+use Rattle.zone_map.specs.Zones.{Sets, set_at}
+use Rattle.zone_response.specs.declared.turns.Turning.{Turning}
+use Rattle.zone_response.specs.declared.turns.Turning.TheVariants as turning
+
+-- the type of a record that renames the names below its owner (RFC 6672 section 2.1)
+abbrev pub DNAME : ℕ
+DNAME = 39
+
+pub data Turn : Type 0 where
+  -- a zone cut, of which this is the NS set
+  cut : RRset → Turn
+  -- the names below the owner of this DNAME set have other names
+  renaming : RRset → Turn
+
+-- a DNAME renames the names below its owner, and not the owner (RFC 6672 section 2.3): on the way to x
+abbrev pub dname_at : Sets → Name → Name → Option RRset
+dname_at m x a = cond (name_eq a x) None (set_at m a DNAME)
+
+module _ (origin : Name) (m : Sets) (x : Name) (t : ℕ) where
+  -- for a query of x and t, a name below the origin that owns NS is a zone cut; but not for DS of the name itself, which is the parent's (RFC 4035 section 3.1.4.1)
+  abbrev pub cut_at : Name → Option RRset
+  cut_at a = cond (name_eq a origin || (name_eq a x && (t == DS))) None (set_at m a NS)
+
+  -- what a name of the zone turns
+  abbrev pub turn_at : Name → Option Turn
+  turn_at a = cond (is_at_or_above origin a) (option_or (option_map cut (cut_at a)) (option_map renaming (dname_at m x a))) None
+
+  -- the first turn on the way down to a name: that of its ancestors, and else its own
+  abbrev pub turn_down_to : Name → Option Turn
+  turn_down_to [] = turn_at []
+  turn_down_to (l ∷ a) = option_or (turn_down_to a) (turn_at (l ∷ a))
+
+  -- on the way down to x
+  abbrev pub turn : Option Turn
+  turn = turn_down_to x
+
+-- as the program keeps it
+abbrev pub turn_of : Turning → Turn
+turn_of (turning.Cut s) = cut s.now
+turn_of (turning.Renaming s) = renaming s.now

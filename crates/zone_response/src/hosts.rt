@@ -1,0 +1,274 @@
+//! The addresses of the hosts that records name: those that go beside an answer, and glue.
+ghost use Rattle.std.specs.Prelude.{◌≡◌, ◌++◌, map, flat_map, IfOk, OnOk, IsOkUnless, option_copied, option_map, option_to_list};
+ghost use Rattle.zone_map.specs.Zones.{set_at};
+ghost use Rattle.zone_proto.specs.Names.{lower, name_eq};
+ghost use Rattle.zone_inner.specs.Runs.{with_new};
+ghost use Rattle.zone_response.specs.Hosts.{host_of, with_host, hosts, addresses, host_sets, turned_host, beside, glue, glue_of, sibling_glue, sibling_sets};
+ghost use Rattle.zone_response.specs.Sections.{as_it_is, sent_sets};
+ghost use Rattle.zone_response.specs.Turns.{turn_of};
+
+use crate::lists::{lend, push};
+use crate::names::{has_name, is_at_or_above};
+use crate::response::{Part, Sent};
+use crate::steps::part_for;
+use crate::turns::{Turning, turn};
+use zone_inner::InnerInMemory;
+use zone_proto::{
+    LowerName, Name, ProtoError, RData, Record, RecordSet, RecordType, RrKey, Signer,
+};
+
+// Of how many records of a set the hosts are looked up: more would make a small query cost many look-ups.
+const MAX_RECORDS: usize = 64;
+
+/// The host that data name.
+fn host_of(rdata: &RData) -> Option<&Name>
+    ensures { option_map (λ n. lower n.now) result ≡ host_of rdata.now }
+{
+    match rdata {
+        RData::NS(server) => Some(server),
+        RData::MX(mx) => Some(&mx.exchange),
+        RData::SRV(srv) => Some(&srv.target),
+        _ => None,
+    }
+}
+
+/// The hosts that the first records of a set name, each once.
+fn hosts(set: &RecordSet) -> Result<Vec<LowerName>, ProtoError>
+    ensures ok { IfOk result (λ names. names.items ≡ hosts set.now) }
+    ensures err { IsOkUnless result ProtoError.Memory }
+{
+    let mut names = Vec::new(set.name().alloc());
+    let mut left = MAX_RECORDS;
+    for naming in set.records_without_rrsigs() {
+        if left == 0 {
+            return Ok(names);
+        }
+        left -= 1;
+        add_host(&mut names, naming)?;
+    }
+    Ok(names)
+}
+
+/// Puts the host last that a record names, unless the list has it.
+fn add_host(names: &mut Vec<LowerName>, naming: &Record) -> Result<(), ProtoError>
+    ensures ok { OnOk result (names.new.items ≡ with_host names.old.items naming.now) }
+    ensures err { IsOkUnless result ProtoError.Memory }
+{
+    match host_of(&naming.rdata) {
+        Some(host) => add_new(names, LowerName::new(host)?),
+        None => Ok(()),
+    }
+}
+
+/// Puts a name last, unless the list has it.
+fn add_new(names: &mut Vec<LowerName>, name: LowerName) -> Result<(), ProtoError>
+    ensures ok { OnOk result (names.new.items ≡ with_new name_eq names.old.items name) }
+    ensures err { IsOkUnless result ProtoError.Memory }
+{
+    if has_name(names, &name) {
+        return Ok(());
+    }
+    push(names, name)
+}
+
+/// Puts the addresses last that a name owns.
+fn send_addresses<'z, S: Signer>(
+    inner: &'z InnerInMemory<S>,
+    name: &LowerName,
+    part: Part,
+    list: &mut Vec<Sent<'z>>,
+) -> Result<(), ProtoError>
+    ensures ok { OnOk result
+        (sent_sets list.new
+        ≡ sent_sets list.old ++ map (as_it_is part) (addresses inner.now.records name.now)) }
+    ensures err { IsOkUnless result ProtoError.Memory }
+{
+    let mut key = RrKey::new(name.clone()?, RecordType::A);
+    send_stored(inner, &key, part, list)?;
+    key.record_type = RecordType::AAAA;
+    send_stored(inner, &key, part, list)
+}
+
+/// Puts the set of a key last, if there is one.
+fn send_stored<'z, S: Signer>(
+    inner: &'z InnerInMemory<S>,
+    key: &RrKey,
+    part: Part,
+    list: &mut Vec<Sent<'z>>,
+) -> Result<(), ProtoError>
+    ensures ok { OnOk result
+        (sent_sets list.new
+        ≡ sent_sets list.old
+        ++ map (as_it_is part)
+        (option_to_list (set_at inner.now.records key.now.name key.now.record_type.0))) }
+    ensures err { IsOkUnless result ProtoError.Memory }
+{
+    match inner.get(key) {
+        Some(set) => lend(list, set, part),
+        None => Ok(()),
+    }
+}
+
+/// Puts the addresses of a host last, if it is one of the zone; `below` tells whether they go also where the host stands at a
+/// zone cut or below it.
+fn send_host<'z, S: Signer>(
+    inner: &'z InnerInMemory<S>,
+    origin: &LowerName,
+    signed: bool,
+    below: bool,
+    host: &LowerName,
+    list: &mut Vec<Sent<'z>>,
+) -> Result<(), ProtoError>
+    ensures ok { OnOk result
+        (sent_sets list.new
+        ≡ sent_sets list.old ++ host_sets origin.now inner.now.records signed below host.now) }
+    ensures err { IsOkUnless result ProtoError.Memory }
+{
+    if !is_at_or_above(origin, host) {
+        return Ok(());
+    }
+    let turning = turn(inner, origin, host, RecordType::A)?;
+    send_turned(inner, signed, below, host, turning, list)
+}
+
+/// Puts the addresses of a host of the zone last, by what stands above it.
+fn send_turned<'z, S: Signer>(
+    inner: &'z InnerInMemory<S>,
+    signed: bool,
+    below: bool,
+    host: &LowerName,
+    turning: Option<Turning<'z>>,
+    list: &mut Vec<Sent<'z>>,
+) -> Result<(), ProtoError>
+    ensures ok { OnOk result
+        (sent_sets list.new
+        ≡ sent_sets list.old
+        ++ turned_host inner.now.records signed below host.now
+        (option_map turn_of turning.entry)) }
+    ensures err { IsOkUnless result ProtoError.Memory }
+{
+    match turning {
+        None => send_addresses(inner, host, part_for(signed), list),
+        Some(Turning::Cut(_)) => {
+            if below {
+                return send_addresses(inner, host, Part::Records, list);
+            }
+            Ok(())
+        }
+        Some(Turning::Renaming(_)) => Ok(()),
+    }
+}
+
+/// Puts the sets last that go beside the last set of an answer.
+pub(crate) fn send_beside<'z, S: Signer>(
+    inner: &'z InnerInMemory<S>,
+    origin: &LowerName,
+    signed: bool,
+    set: &RecordSet,
+    list: &mut Vec<Sent<'z>>,
+) -> Result<(), ProtoError>
+    ensures ok { OnOk result
+        (sent_sets list.new
+        ≡ sent_sets list.old ++ beside origin.now inner.now.records signed set.now) }
+    ensures err { IsOkUnless result ProtoError.Memory }
+{
+    let below = set.record_type() == RecordType::NS;
+    send_hosts(inner, origin, signed, below, hosts(set)?, list)
+}
+
+/// Puts the addresses of hosts last.
+fn send_hosts<'z, S: Signer>(
+    inner: &'z InnerInMemory<S>,
+    origin: &LowerName,
+    signed: bool,
+    below: bool,
+    hosts: Vec<LowerName>,
+    list: &mut Vec<Sent<'z>>,
+) -> Result<(), ProtoError>
+    ensures ok { OnOk result
+        (sent_sets list.new
+        ≡ sent_sets list.old
+        ++ flat_map (host_sets origin.now inner.now.records signed below) hosts.items) }
+    ensures err { IsOkUnless result ProtoError.Memory }
+{
+    for host in hosts {
+        send_host(inner, origin, signed, below, &host, list)?;
+    }
+    Ok(())
+}
+
+/// Puts the addresses of a child's servers last that stand elsewhere in the zone.
+pub(crate) fn send_siblings<'z, S: Signer>(
+    inner: &'z InnerInMemory<S>,
+    origin: &LowerName,
+    signed: bool,
+    cut: &RecordSet,
+    list: &mut Vec<Sent<'z>>,
+) -> Result<(), ProtoError>
+    ensures ok { OnOk result
+        (sent_sets list.new
+        ≡ sent_sets list.old ++ sibling_glue origin.now inner.now.records signed cut.now) }
+    ensures err { IsOkUnless result ProtoError.Memory }
+{
+    let child = LowerName::new(cut.name())?;
+    for host in hosts(cut)? {
+        send_sibling(inner, origin, signed, &child, &host, list)?;
+    }
+    Ok(())
+}
+
+/// Puts the addresses of a server last, if it stands outside the child.
+fn send_sibling<'z, S: Signer>(
+    inner: &'z InnerInMemory<S>,
+    origin: &LowerName,
+    signed: bool,
+    child: &LowerName,
+    host: &LowerName,
+    list: &mut Vec<Sent<'z>>,
+) -> Result<(), ProtoError>
+    ensures ok { OnOk result
+        (sent_sets list.new
+        ≡ sent_sets list.old
+        ++ sibling_sets origin.now inner.now.records signed child.now host.now) }
+    ensures err { IsOkUnless result ProtoError.Memory }
+{
+    if is_at_or_above(child, host) {
+        return Ok(());
+    }
+    send_host(inner, origin, signed, true, host, list)
+}
+
+/// Puts the addresses of a child's servers last that stand in the child.
+pub(crate) fn send_glue<'z, S: Signer>(
+    inner: &'z InnerInMemory<S>,
+    cut: &RecordSet,
+    list: &mut Vec<Sent<'z>>,
+) -> Result<(), ProtoError>
+    ensures ok { OnOk result
+        (sent_sets list.new ≡ sent_sets list.old ++ glue inner.now.records cut.now) }
+    ensures err { IsOkUnless result ProtoError.Memory }
+{
+    let child = LowerName::new(cut.name())?;
+    for host in hosts(cut)? {
+        send_own(inner, &child, &host, list)?;
+    }
+    Ok(())
+}
+
+/// Puts the addresses of a server last, if it stands in the child.
+fn send_own<'z, S: Signer>(
+    inner: &'z InnerInMemory<S>,
+    child: &LowerName,
+    host: &LowerName,
+    list: &mut Vec<Sent<'z>>,
+) -> Result<(), ProtoError>
+    ensures ok { OnOk result
+        (sent_sets list.new
+        ≡ sent_sets list.old ++ glue_of inner.now.records child.now host.now) }
+    ensures err { IsOkUnless result ProtoError.Memory }
+{
+    if !is_at_or_above(child, host) {
+        return Ok(());
+    }
+    send_addresses(inner, host, Part::Records, list)
+}

@@ -1,0 +1,111 @@
+//! What a name, or the star that is asked for one, has for a query of a type.
+ghost use Rattle.std.specs.Prelude.{◌≡◌, IfOk, IsOkUnless, option_copied, option_and_then};
+ghost use Rattle.zone_map.specs.Zones.{set_at};
+ghost use Rattle.zone_response.specs.Nodes.{at_node, asked_set, stand_in_set, if_signed, chosen_type, node_of};
+
+use crate::response::is_signed;
+use zone_handler::LookupError;
+use zone_inner::InnerInMemory;
+use zone_map::direct::is_address;
+use zone_proto::{RecordSet, RecordType, RrKey, Signer};
+
+/// What a name has for a query.
+#[derive(Clone, Copy)]
+pub(crate) enum Node<'z> {
+    /// The set that is asked for.
+    Own(&'z RecordSet),
+    /// An alias to be followed.
+    Alias(&'z RecordSet),
+    /// An ANAME set, whose target's addresses are asked for.
+    StandIn(&'z RecordSet),
+    /// No set.
+    Nothing,
+}
+
+/// What the key's name has for a query of a type; the key's own type is of no account. Refused by `Memory` alone.
+pub(crate) fn at_node<'z, S: Signer>(
+    inner: &'z InnerInMemory<S>,
+    key: &mut RrKey,
+    record_type: RecordType,
+) -> Result<Node<'z>, LookupError>
+    ensures node { IfOk result
+        (λ node. node_of node ≡ at_node inner.now.records key.old.name record_type.0) }
+    ensures err { IsOkUnless result LookupError.Memory }
+    ensures same { key.new.name ≡ key.old.name }
+{
+    if let Some(set) = asked_set(inner, key, record_type)? {
+        return Ok(Node::Own(set));
+    }
+    key.record_type = RecordType::CNAME;
+    if let Some(set) = inner.get(key) {
+        return Ok(Node::Alias(set));
+    }
+    match stand_in_set(inner, key, record_type) {
+        Some(set) => Ok(Node::StandIn(set)),
+        None => Ok(Node::Nothing),
+    }
+}
+
+/// The set that is asked for.
+fn asked_set<'z, S: Signer>(
+    inner: &'z InnerInMemory<S>,
+    key: &mut RrKey,
+    record_type: RecordType,
+) -> Result<Option<&'z RecordSet>, LookupError>
+    ensures set { IfOk result
+        (λ set. option_copied set ≡ asked_set inner.now.records key.old.name record_type.0) }
+    ensures err { IsOkUnless result LookupError.Memory }
+    ensures same { key.new.name ≡ key.old.name }
+{
+    if record_type == RecordType::NSEC3 {
+        return Ok(None);
+    }
+    key.record_type = chosen_type(inner, key, record_type)?;
+    match inner.get(key) {
+        Some(set) => Ok(if_signed(record_type, set)),
+        None => Ok(None),
+    }
+}
+
+/// The type that is searched at the key's name.
+fn chosen_type<S: Signer>(
+    inner: &InnerInMemory<S>,
+    key: &RrKey,
+    record_type: RecordType,
+) -> Result<RecordType, LookupError>
+    ensures chosen { IfOk result
+        (λ chosen. chosen.0 ≡ chosen_type inner.now.records key.now.name record_type.0) }
+    ensures err { IsOkUnless result LookupError.Memory }
+{
+    if record_type == RecordType::ANY || record_type == RecordType::RRSIG {
+        return inner.replace_any(&key.name);
+    }
+    Ok(record_type)
+}
+
+/// Of a set, what goes out for a query of RRSIG are its signatures, if it has any.
+fn if_signed(record_type: RecordType, set: &RecordSet) -> Option<&RecordSet>
+    ensures { option_copied result ≡ if_signed record_type.0 set.now }
+{
+    if record_type == RecordType::RRSIG && !is_signed(set) {
+        return None;
+    }
+    Some(set)
+}
+
+/// The ANAME set that stands in for addresses.
+fn stand_in_set<'z, S: Signer>(
+    inner: &'z InnerInMemory<S>,
+    key: &mut RrKey,
+    record_type: RecordType,
+) -> Option<&'z RecordSet>
+    ensures set { option_copied result
+        ≡ stand_in_set inner.now.records key.old.name record_type.0 }
+    ensures same { key.new.name ≡ key.old.name }
+{
+    if !is_address(record_type) {
+        return None;
+    }
+    key.record_type = RecordType::ANAME;
+    inner.get(key)
+}

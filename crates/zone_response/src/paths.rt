@@ -1,0 +1,68 @@
+//! The path of a query: its name, and the names that its aliases lead on to.
+ghost use Rattle.std.specs.Prelude.{◌≡◌, IfOk, IsOkUnless};
+ghost use Rattle.zone_response.specs.Paths.{path, path_of};
+ghost use Rattle.zone_response.specs.Queries.{inquiry_of};
+
+use crate::lists::push;
+use crate::names::has_name;
+use crate::response::Sent;
+use crate::steps::{Asked, End, Next, SoFar, step};
+use zone_handler::LookupError;
+use zone_inner::InnerInMemory;
+use zone_proto::{LowerName, Signer};
+
+// How many names a chain has at most.
+const MAX_CHAIN: usize = 8;
+
+/// What a search has found.
+#[derive(Drop)]
+pub(crate) struct Path<'z> {
+    /// The sets of the answer section.
+    pub(crate) answers: Vec<Sent<'z>>,
+    /// The names for which a star answered.
+    pub(crate) made: Vec<LowerName>,
+    /// How it ends.
+    pub(crate) end: End<'z>,
+}
+
+/// The path from a name. Refused by `Memory` alone.
+pub(crate) fn walk<'z, S: Signer>(
+    inner: &'z InnerInMemory<S>,
+    asked: Asked<'_>,
+    name: &LowerName,
+) -> Result<Path<'z>, LookupError>
+    ensures ok { IfOk result
+        (λ found. path_of found ≡ path (inquiry_of asked.entry inner.now.records) name.now) }
+    ensures err { IsOkUnless result LookupError.Memory }
+{
+    let alloc = name.alloc();
+    let mut so_far = SoFar {
+        answers: Vec::new(alloc),
+        made: Vec::new(alloc),
+    };
+    let mut seen = Vec::new(alloc);
+    let mut name = name.clone()?;
+    for _count in 0..MAX_CHAIN {
+        if has_name(&seen, &name) {
+            return Ok(ended(so_far, End::Unfollowed));
+        }
+        match step(inner, asked, &name, &mut so_far)? {
+            Next::On(target) => {
+                push(&mut seen, name)?;
+                name = target;
+            }
+            Next::Ends(end) => return Ok(ended(so_far, end)),
+        }
+    }
+    Ok(ended(so_far, End::Unfollowed))
+}
+
+/// A path with its end.
+fn ended<'z>(so_far: SoFar<'z>, end: End<'z>) -> Path<'z>
+    ensures answers { result.answers ≡ so_far.entry.answers }
+    ensures made { result.made ≡ so_far.entry.made }
+    ensures end { result.end ≡ end.entry }
+{
+    let SoFar { answers, made } = so_far;
+    Path { answers, made, end }
+}

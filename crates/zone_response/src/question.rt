@@ -1,0 +1,26 @@
+//! What is asked, and of which zone.
+
+use zone_inner::InnerInMemory;
+use zone_proto::{DNSClass, LowerName, NxProofKind, RecordType, Signer};
+
+/// A zone that is asked: of an `InMemoryZoneHandler` what its calls `origin`, `inner` and `nx_proof_kind` lend.
+#[derive(Drop)]
+pub struct ServedZone<'z, S: Signer> {
+    /// The name at its top.
+    pub origin: &'z LowerName,
+    /// Its record sets.
+    pub inner: &'z InnerInMemory<S>,
+    /// How it denies what it doesn't hold.
+    pub nx_proof_kind: Option<&'z NxProofKind>,
+}
+
+/// A question (RFC 1035 section 4.1.2).
+#[derive(Clone, Copy)]
+pub struct Question<'q> {
+    /// The name that is asked for.
+    pub name: &'q LowerName,
+    /// The type that is asked for.
+    pub query_type: RecordType,
+    /// The class that is asked for.
+    pub query_class: DNSClass,
+}

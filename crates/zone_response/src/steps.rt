@@ -1,0 +1,336 @@
+//! One step of a search: what a name of a chain is answered with.
+ghost use Rattle.std.specs.Prelude.{◌≡◌, ◌++◌, ◌∷◌, [], IfOk, OnOk, IsOkUnless};
+ghost use Rattle.zone_map.specs.Chains.{cname_target};
+ghost use Rattle.zone_inner.specs.FoundSets.{found_set};
+ghost use Rattle.zone_map.specs.Wildcards.{renamed, renamed_signature};
+ghost use Rattle.zone_response.specs.Nodes.{node_of};
+ghost use Rattle.zone_response.specs.Sections.{as_it_is, sent_sets, part_for};
+ghost use Rattle.zone_response.specs.Queries.{inquiry_of};
+ghost use Rattle.zone_response.specs.Steps.{step, name_step, star_step, node_step, keeps, made_by, made_names, own_part, after_alias, missing as missing_at, ends, next_of, Takes};
+
+use crate::lists::{push, send};
+use crate::names::is_at_or_above;
+use crate::nodes::{Node, at_node};
+use crate::response::{Part, Sent};
+use crate::sources::{exists, star_of};
+use crate::turns::{Turning, turn};
+use zone_handler::LookupError;
+use zone_inner::{Found, InnerInMemory};
+use zone_proto::{
+    LowerName, Name, ProtoError, RData, Record, RecordSet, RecordType, RrKey, Signer,
+};
+
+/// What is asked, apart from the name.
+#[derive(Clone, Copy)]
+pub(crate) struct Asked<'z> {
+    /// The zone's origin.
+    pub(crate) origin: &'z LowerName,
+    /// The type.
+    pub(crate) record_type: RecordType,
+    /// Whether the query asks for DNSSEC.
+    pub(crate) signed: bool,
+}
+
+/// A name of the zone without the set that is asked for.
+#[derive(Drop)]
+pub(crate) struct Missing {
+    pub(crate) name: LowerName,
+    /// The star that was asked for it, if the name doesn't exist.
+    pub(crate) star: Option<LowerName>,
+    /// Whether the name or this star exists.
+    pub(crate) is_there: bool,
+}
+
+/// How a search ends.
+#[derive(Drop)]
+pub(crate) enum End<'z> {
+    /// With the set that is asked for.
+    Complete,
+    /// At a zone cut, of which this is the NS set.
+    Referred(&'z RecordSet),
+    /// At a name of the zone without such a set.
+    Missing(Missing),
+    /// At a name outside the zone.
+    Outside(LowerName),
+    /// At an alias that isn't followed any farther.
+    Unfollowed,
+    /// At what this server doesn't answer.
+    Failed,
+}
+
+/// What comes after a step.
+#[derive(Drop)]
+pub(crate) enum Next<'z> {
+    /// The search of another name.
+    On(LowerName),
+    /// The end.
+    Ends(End<'z>),
+}
+
+/// What a search has found so far.
+#[derive(Drop)]
+pub(crate) struct SoFar<'z> {
+    /// The sets of the answer section.
+    pub(crate) answers: Vec<Sent<'z>>,
+    /// The names for which a star answered.
+    pub(crate) made: Vec<LowerName>,
+}
+
+/// A step from a name: it puts the step's sets and names behind those so far. Refused by `Memory` alone.
+pub(crate) fn step<'z, S: Signer>(
+    inner: &'z InnerInMemory<S>,
+    asked: Asked<'_>,
+    name: &LowerName,
+    so_far: &mut SoFar<'z>,
+) -> Result<Next<'z>, LookupError>
+    ensures ok { IfOk result
+        (λ next. Takes (step (inquiry_of asked.entry inner.now.records) name.now)
+        so_far.old so_far.new next) }
+    ensures err { IsOkUnless result LookupError.Memory }
+{
+    if !is_at_or_above(asked.origin, name) {
+        return Ok(Next::Ends(End::Outside(name.clone()?)));
+    }
+    match turn(inner, asked.origin, name, asked.record_type)? {
+        Some(Turning::Cut(cut)) => Ok(Next::Ends(End::Referred(cut))),
+        Some(Turning::Renaming(_)) => Ok(Next::Ends(End::Failed)),
+        None => name_step(inner, asked, name, so_far),
+    }
+}
+
+/// The step from a name that no cut and no DNAME stands above.
+fn name_step<'z, S: Signer>(
+    inner: &'z InnerInMemory<S>,
+    asked: Asked<'_>,
+    name: &LowerName,
+    so_far: &mut SoFar<'z>,
+) -> Result<Next<'z>, LookupError>
+    ensures ok { IfOk result
+        (λ next. Takes (name_step (inquiry_of asked.entry inner.now.records) name.now)
+        so_far.old so_far.new next) }
+    ensures err { IsOkUnless result LookupError.Memory }
+{
+    let mut key = RrKey::first_of(name)?;
+    if exists(inner, &key) {
+        let node = at_node(inner, &mut key, asked.record_type)?;
+        return node_step(node, None, name, asked, so_far);
+    }
+    let star = star_of(inner, name)?;
+    star_step(inner, asked, name, star, so_far)
+}
+
+/// The step from a name that doesn't exist, by the star that is asked for it.
+fn star_step<'z, S: Signer>(
+    inner: &'z InnerInMemory<S>,
+    asked: Asked<'_>,
+    name: &LowerName,
+    star: Option<LowerName>,
+    so_far: &mut SoFar<'z>,
+) -> Result<Next<'z>, LookupError>
+    ensures ok { IfOk result
+        (λ next. Takes (star_step (inquiry_of asked.entry inner.now.records) name.now star)
+        so_far.old so_far.new next) }
+    ensures err { IsOkUnless result LookupError.Memory }
+{
+    let Some(star) = star else {
+        return Ok(at_missing(name, None, false)?);
+    };
+    let mut key = RrKey::first_of(&star)?;
+    if !exists(inner, &key) {
+        return Ok(at_missing(name, Some(star), false)?);
+    }
+    let node = at_node(inner, &mut key, asked.record_type)?;
+    node_step(node, Some(star), name, asked, so_far)
+}
+
+/// The step from a name by what it has itself, or what the star has that is asked for it.
+fn node_step<'z>(
+    node: Node<'z>,
+    star: Option<LowerName>,
+    name: &LowerName,
+    asked: Asked<'_>,
+    so_far: &mut SoFar<'z>,
+) -> Result<Next<'z>, LookupError>
+    ensures ok { IfOk result
+        (λ next. Takes
+        (node_step asked.entry.signed asked.entry.record_type.0 star name.now
+        (node_of node.entry)) so_far.old so_far.new next) }
+    ensures err { IsOkUnless result LookupError.Memory }
+{
+    match node {
+        Node::Own(set) => {
+            let part = own_part(asked);
+            answer(set, star, name, part, keeps(asked), so_far)?;
+            Ok(Next::Ends(End::Complete))
+        }
+        Node::Alias(set) => {
+            let part = part_for(asked.signed);
+            answer(set, star, name, part, keeps(asked), so_far)?;
+            Ok(after_alias(set)?)
+        }
+        Node::StandIn(_) => Ok(Next::Ends(End::Failed)),
+        Node::Nothing => Ok(at_missing(name, star, true)?),
+    }
+}
+
+/// Signatures are of use where the query asks for DNSSEC, and where it asks for them.
+fn keeps(asked: Asked<'_>) -> bool
+    ensures { result ≡ keeps asked.entry.signed asked.entry.record_type.0 }
+{
+    asked.signed || asked.record_type == RecordType::RRSIG
+}
+
+/// What goes out of the set that is asked for.
+fn own_part(asked: Asked<'_>) -> Part
+    ensures { result ≡ own_part asked.entry.signed asked.entry.record_type.0 }
+{
+    if asked.record_type == RecordType::RRSIG {
+        return Part::Signatures;
+    }
+    part_for(asked.signed)
+}
+
+/// Signatures go with the records where the query asks for DNSSEC.
+pub(crate) fn part_for(signed: bool) -> Part
+    ensures { result ≡ part_for signed }
+{
+    if signed { Part::Signed } else { Part::Records }
+}
+
+/// The end at a name without the set that is asked for.
+fn at_missing<'z>(
+    name: &LowerName,
+    star: Option<LowerName>,
+    is_there: bool,
+) -> Result<Next<'z>, ProtoError>
+    ensures ok { IfOk result (λ next. next_of next ≡ ends (missing_at name.now star is_there)) }
+    ensures err { IsOkUnless result ProtoError.Memory }
+{
+    Ok(Next::Ends(End::Missing(Missing {
+        name: name.clone()?,
+        star,
+        is_there,
+    })))
+}
+
+/// What comes after an alias: its target.
+fn after_alias<'z>(set: &RecordSet) -> Result<Next<'z>, ProtoError>
+    ensures ok { IfOk result (λ next. next_of next ≡ after_alias (cname_target set.now)) }
+    ensures err { IsOkUnless result ProtoError.Memory }
+{
+    Ok(match cname_target(set)? {
+        Some(target) => Next::On(target),
+        None => Next::Ends(End::Complete),
+    })
+}
+
+/// The target of a set whose first record is a CNAME.
+fn cname_target(set: &RecordSet) -> Result<Option<LowerName>, ProtoError>
+    ensures target { IfOk result (λ target. target ≡ cname_target set.now) }
+    ensures err { IsOkUnless result ProtoError.Memory }
+{
+    match set.records_without_rrsigs().next() {
+        Some(first) => match &first.rdata {
+            RData::CNAME(target) => Ok(Some(LowerName::new(target)?)),
+            _ => Ok(None),
+        },
+        None => Ok(None),
+    }
+}
+
+/// Puts a set as it is found for a name behind the sets so far, and the name behind the names if a star has the set.
+fn answer<'z>(
+    set: &'z RecordSet,
+    star: Option<LowerName>,
+    name: &LowerName,
+    part: Part,
+    keep: bool,
+    so_far: &mut SoFar<'z>,
+) -> Result<(), ProtoError>
+    ensures answers { OnOk result
+        (sent_sets so_far.new.answers
+        ≡ sent_sets so_far.old.answers
+        ++ as_it_is part (made_by keep star name.now set.now) ∷ []) }
+    ensures made { OnOk result
+        (so_far.new.made.items ≡ so_far.old.made.items ++ made_names star name.now) }
+    ensures err { IsOkUnless result ProtoError.Memory }
+{
+    add_made(&star, name, &mut so_far.made)?;
+    let found = found_for(set, star, name, keep)?;
+    let ttl = found.set().ttl();
+    let item = Sent {
+        set: found,
+        ttl,
+        part,
+    };
+    send(&mut so_far.answers, item)
+}
+
+/// Puts a name last if a star has its set.
+fn add_made(
+    star: &Option<LowerName>,
+    name: &LowerName,
+    made: &mut Vec<LowerName>,
+) -> Result<(), ProtoError>
+    ensures ok { OnOk result (made.new.items ≡ made.old.items ++ made_names star.now name.now) }
+    ensures err { IsOkUnless result ProtoError.Memory }
+{
+    match star {
+        Some(_) => push(made, name.clone()?),
+        None => Ok(()),
+    }
+}
+
+/// A set as it is found for a name.
+fn found_for<'z>(
+    set: &'z RecordSet,
+    star: Option<LowerName>,
+    name: &LowerName,
+    keep: bool,
+) -> Result<Found<'z>, ProtoError>
+    ensures ok { IfOk result (λ found. found_set found ≡ made_by keep star name.now set.now) }
+    ensures err { IsOkUnless result ProtoError.Memory }
+{
+    match star {
+        Some(star) => Ok(Found::Made(renamed(set, &Name::from(star), name, keep)?)),
+        None => Ok(Found::Stored(set)),
+    }
+}
+
+/// A star's set under a name.
+fn renamed(
+    set: &RecordSet,
+    star: &Name,
+    name: &LowerName,
+    keep: bool,
+) -> Result<RecordSet, ProtoError>
+    ensures made { IfOk result (λ made. made ≡ renamed keep star.now name.now set.now) }
+    ensures err { IsOkUnless result ProtoError.Memory }
+{
+    let owner = Name::from(name.clone()?);
+    let mut made = set.clone_under(owner, set.ttl())?;
+    if keep {
+        for rrsig in set.rrsigs() {
+            made.insert_rrsig(renamed_signature(rrsig, star, name)?)?;
+        }
+    }
+    Ok(made)
+}
+
+/// A signature of a star's set under a name: one that the star owns is the name's.
+fn renamed_signature(rrsig: &Record, star: &Name, name: &LowerName) -> Result<Record, ProtoError>
+    ensures made { IfOk result (λ made. made ≡ renamed_signature star.now name.now rrsig.now) }
+    ensures err { IsOkUnless result ProtoError.Memory }
+{
+    let owner = if rrsig.name == *star {
+        Name::from(name.clone()?)
+    } else {
+        rrsig.name.clone()?
+    };
+    Ok(Record {
+        name: owner,
+        dns_class: rrsig.dns_class,
+        ttl: rrsig.ttl,
+        rdata: rrsig.rdata.clone()?,
+    })
+}
