@@ -5,13 +5,18 @@ calls-without-memory.txt of crates/zone_calls.
 A line there is `CALL: ROW`, `CALL: by ROW` or `CALL: transcript NAME`, as the heads of the lists say. Each public call has to
 stand in one of the lists, and once, and what a line names has to be there: a row of crates/zone_calls/data that refuses memory
 to the call, or a transcript of crates/zone_transcripts that refuses memory to its lines. The file that makes the calls of a row
-has to name the call, if the line doesn't say that another call makes it.
+has to name the call, if the line doesn't say that another call makes it; of a transcript's call a source of the program has to,
+and beside it the type or module that has the call.
 Prints what is wrong, and ends with status 1 where something is.
 """
 import glob
 import os
 import re
 import sys
+
+sys.dont_write_bytecode = True
+
+import sources
 
 TOP = os.path.dirname(os.path.dirname(os.path.realpath(__file__)))
 
@@ -30,6 +35,9 @@ WRITERS = ["iterators", "texts", "write"]
 
 # The crates whose files make the calls of rows.
 MAKERS = ["value_calls", "zone_calls"]
+
+# The program of the transcripts.
+PROGRAM = "zonectl"
 
 # Where the lists are, beside the rows that they name; each, and how a row of it refuses memory to its call.
 FOLDER = "crates/zone_calls"
@@ -111,9 +119,20 @@ def makes(row, call):
     subject = next((it for verb, it in forms() if f"{row} ".startswith(f"{verb} ")), None)
     if not subject:
         return False
-    name = re.split("::", call)[-1]
-    sources = "\n".join(source(it) for it in [subject, *WRITERS])
-    return re.search(WRITTEN.get(name, rf"(?<!fn )\b{name}\b(::<.*?>)?\("), sources) is not None
+    return re.search(written(call), "\n".join(source(it) for it in [subject, *WRITERS])) is not None
+
+
+def written(call):
+    """How a source writes a call of the library."""
+    name = call.split("::")[-1]
+    return WRITTEN.get(name, rf"(?<!fn )\b{name}\b(::<.*?>)?\(")
+
+
+def runs(call):
+    """Whether a source of the program of the transcripts, or of what that stands on, makes a call, and names what has it."""
+    crates = sources.standing_below(PROGRAM, sources.crates())
+    files = [it for crate in crates for it in texts(f"crates/{crate}/src/**/*.rt")]
+    return any(re.search(written(call), it) and all(re.search(rf"\b{owner}\b", it) for owner in call.split("::")[:-1]) for it in files)
 
 
 def main():
@@ -127,6 +146,8 @@ def main():
             row = where.removeprefix("by ")
             if where not in others and not re.search(f"^{form}{re.escape(row)} ", rows, re.M):
                 wrong.append(f"{FOLDER}/{name}: {call}: nothing refuses memory to '{row}'")
+            elif where in others and not runs(call):
+                wrong.append(f"{FOLDER}/{name}: {call}: no source of {PROGRAM} makes it")
             elif where == row and where not in others and not makes(row, call):
                 wrong.append(f"{FOLDER}/{name}: {call}: what makes '{row}' doesn't name it")
     public = public_calls()
