@@ -49,6 +49,7 @@ fn write_answer(
         Ok(()) if verb == "length" => format!(in alloc; "{} octets", out.len()),
         Ok(()) => format!(in alloc; "{}", HexText(out.as_slice())),
         Err(WriteError::NoRoom) => format!(in alloc; "no room"),
+        Err(WriteError::BadCode) => format!(in alloc; "no such code"),
         Err(WriteError::Unwritable) => format!(in alloc; "unwritable"),
         Err(WriteError::Memory) => Err(AllocError),
     }

@@ -8,6 +8,7 @@ use zone_wire::{Response, WriteError, write_response};
 #[derive(Clone, Copy, PartialEq, Eq, Debug)]
 enum Outcome {
     NoRoom,
+    BadCode,
     Unwritable,
     Unread,
     Written(u16, u16, u16, bool),
@@ -42,6 +43,7 @@ fn outcome_of(
     match write_response(alloc, &mut out, response, limit) {
         Ok(()) => outcome_of_octets(alloc, out.as_slice(), limit),
         Err(WriteError::NoRoom) => Ok(Outcome::NoRoom),
+        Err(WriteError::BadCode) => Ok(Outcome::BadCode),
         Err(WriteError::Unwritable) => Ok(Outcome::Unwritable),
         Err(WriteError::Memory) => Err(AllocError),
     }
@@ -76,6 +78,7 @@ fn tell(told: &mut String, limit: u16, outcome: Outcome) -> Result<(), AllocErro
     }
     match outcome {
         Outcome::NoRoom => write!(told, "{limit}: no room"),
+        Outcome::BadCode => write!(told, "{limit}: no such code"),
         Outcome::Unwritable => write!(told, "{limit}: unwritable"),
         Outcome::Unread => write!(told, "{limit}: WRONG"),
         Outcome::Written(answers, authorities, additionals, truncated) => {

@@ -25,6 +25,7 @@ unwritable_in xs rs ys h = record {
 pub fails_in : (xs rs ys : List Record) (e : WriteError) → FailsToPutAny rs e → FailsToPutAny (xs ++ (rs ++ ys)) e
 fails_in xs rs ys errors.Unwritable h = unwritable_in xs rs ys h
 fails_in xs rs ys errors.NoRoom h = h
+fails_in xs rs ys errors.BadCode h = h
 fails_in xs rs ys errors.Memory h = h
 
 -- a record of a list, written with another TTL
@@ -42,6 +43,7 @@ one_fails ttl rs i r errors.Unwritable inside is h =
       is = h;
     }
 one_fails ttl rs i r errors.NoRoom inside is h = absurd h
+one_fails ttl rs i r errors.BadCode inside is h = absurd h
 one_fails ttl rs i r errors.Memory inside is h = h
 
 -- the records of one of two lists with a TTL
@@ -79,9 +81,11 @@ groups_fail before gs after false errors.Unwritable h = absurd (none h.front h.u
     none [] r rest e = cc
     none (x ∷ front) r rest e = cc
 groups_fail before gs after false errors.NoRoom h = absurd h
+groups_fail before gs after false errors.BadCode h = absurd h
 groups_fail before gs after false errors.Memory h = h
 
 pub body_fails : (limit : ℕ) (r : Response) (e : WriteError) → FailsToPutAny (records_in r) e → FailsToWrite limit r e
 body_fails limit r errors.Unwritable h = h
 body_fails limit r errors.NoRoom h = absurd h
+body_fails limit r errors.BadCode h = absurd h
 body_fails limit r errors.Memory h = h

@@ -57,12 +57,14 @@ pub record IsBodyPut (room : ℕ) (r : Response) (start end : List ℕ) (counts 
 abbrev pub FailsToPut : RData → WriteError → Type 0
 FailsToPut rdata errors.Unwritable = IsWritable rdata → ⊥
 FailsToPut rdata errors.NoRoom = ⊥
+FailsToPut rdata errors.BadCode = ⊥
 FailsToPut rdata errors.Memory = Unit {0}
 
 -- the same of one of some records
 abbrev pub FailsToPutAny : List Record → WriteError → Type 0
 FailsToPutAny rs errors.Unwritable = HasUnwritable rs
 FailsToPutAny rs errors.NoRoom = ⊥
+FailsToPutAny rs errors.BadCode = ⊥
 FailsToPutAny rs errors.Memory = Unit {0}
 
 -- the records of a response
@@ -76,9 +78,10 @@ HasNoRoom limit r = limit < 12 + (wire_length r.query.now.question.name + 4) + o
 abbrev pub FailsToWrite : ℕ → Response → WriteError → Type 0
 FailsToWrite limit r errors.Unwritable = HasUnwritable (records_in r)
 FailsToWrite limit r errors.NoRoom = HasNoRoom limit r
+FailsToWrite limit r errors.BadCode = 4095 < r.code
 FailsToWrite limit r errors.Memory = Unit {0}
 
--- A call wrote a response within a limit, or it says why not, and then there are no octets.
+-- A call wrote a response, whose code has twelve bits at most, within a limit; or it says why not, and then there are no octets.
 abbrev pub Writes : ℕ → Response → List ℕ → Result (Unit {0}) WriteError → Type 0
-Writes limit r octets (Ok done) = IsWritten limit r octets
+Writes limit r octets (Ok done) = (r.code ≤ 4095) × IsWritten limit r octets
 Writes limit r octets (Err e) = (octets ≡ []) × FailsToWrite limit r e

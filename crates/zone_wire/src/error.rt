@@ -12,6 +12,8 @@ pub enum WriteError {
     Unwritable,
     /// The header, the question and the OPT record have more octets than the limit.
     NoRoom,
+    /// The response code isn't of twelve bits, so that it is none (RFC 6891 section 6.1.3).
+    BadCode,
     /// A growth that the allocator refused.
     Memory,
 }

@@ -30,8 +30,8 @@ use zone_message::{Extension, Question};
 ///
 /// # Errors
 ///
-/// `NoRoom` where header, question and OPT record go over the limit; `Unwritable` where a record has data that no octets are;
-/// `Memory` where none is found. The octets of `out` are gone then.
+/// `BadCode` where the response code has more than twelve bits; `NoRoom` where header, question and OPT record go over the limit;
+/// `Unwritable` where a record has data that no octets are; `Memory` where none is found. The octets of `out` are gone then.
 pub fn write_response(
     alloc: Global,
     out: &mut Vec<u8>,
@@ -48,6 +48,9 @@ pub fn write_response(
         }
     }
 }
+
+/// The greatest response code, of twelve bits (RFC 6891 section 6.1.3).
+const GREATEST_CODE: u16 = 4095;
 
 /// How many octets an OPT record without options has (RFC 6891 section 6.1.2).
 const OPT_OCTETS: usize = 11;
@@ -72,9 +75,13 @@ fn compose(
 ) -> Result<(), WriteError>
     requires { limit < 65536 }
     ensures ok { OnOk result (IsWritten limit response.now out.new.items) }
+    ensures code { OnOk result (response.now.code ≤ 4095) }
     ensures err { IfErr result (FailsToWrite limit response.now) }
 {
     out.clear();
+    if response.code > GREATEST_CODE {
+        return Err(WriteError::BadCode);
+    }
     let question = &response.query.question;
     let opts = opt_count(response);
     let name = wire_length(question.name.labels());

@@ -4,7 +4,8 @@ use Rattle.zone_wire.specs.Responses.{IsWritten}
 use Rattle.zone_wire.proofs.response_writer.write_response.Goals as goal
 
 pub returns-in-Ok : goal.returns-in-Ok
-returns-in-Ok c = subst (λ n. IsWritten n c.args.response.now c.compose.new.out.items) c.from.ensures c.in-Ok.ensures.ok
+returns-in-Ok c =
+    (c.in-Ok.ensures.code, subst (λ n. IsWritten n c.args.response.now c.compose.new.out.items) c.from.ensures c.in-Ok.ensures.ok)
 
 pub returns-in-Err : goal.returns-in-Err
 returns-in-Err c =
