@@ -75,8 +75,8 @@ impl<S: Signer> InnerInMemory<S> {
     }
 }
 
-/// The target of a set whose first record is a CNAME.
-pub(crate) fn cname_target(set: &RecordSet) -> Result<Option<LowerName>, ProtoError>
+/// The target of a set whose first record is a CNAME; None for any other set. Refused by `Memory` alone.
+pub fn cname_target(set: &RecordSet) -> Result<Option<LowerName>, ProtoError>
     ensures target { IfOk result (λ target. target ≡ cname_target set.now) }
     ensures err { IsOkUnless result ProtoError.Memory }
 {

@@ -13,7 +13,7 @@ ghost use Rattle.zone_proto.specs.declared.error.ProtoError.{ProtoError};
 ghost use Rattle.zone_handler.specs.Errors.{error_of_proto};
 ghost use Rattle.zone_inner.specs.FoundSets.{found_set, lent_set, IsOutcome};
 ghost use Rattle.zone_map.specs.Direct.{direct};
-ghost use Rattle.zone_map.specs.Wildcards.{asked_star, found};
+ghost use Rattle.zone_map.specs.Wildcards.{asked_star, exists, found};
 ghost use Rattle.zone_map.specs.Counts.{one_more, counted_more, one_more_if};
 ghost use Rattle.zone_map.specs.Upserts.{upserted, CnamesStandAlone};
 ghost use Rattle.zone_map.specs.Zones.{set_at, has_key_from, owns_at_or_below, put, without, IsStoredAt, IsZone};
@@ -275,10 +275,11 @@ impl<S: Signer> InnerInMemory<S> {
     }
 }
 
-/// What `zone_in_memory` makes a zone of: no user of a zone needs it.
+/// What `zone_in_memory` makes a zone of, and `zone_response` a response: no user of a zone needs it.
 #[doc(hidden)]
 impl<S: Signer> InnerInMemory<S> {
-    /// These record sets, and no signers. What is put in later takes its memory from `alloc`; this takes none.
+    /// These record sets, each of which has records and stands under its own name, in lower case, and type; and no signers. What
+    /// is put in later takes its memory from `alloc`; this takes none.
     pub fn with_records(alloc: Global, records: RecordMap) -> Self
         requires { IsZone records }
         ensures { result ≡ record { records = records; signers = [] } }
@@ -344,6 +345,15 @@ impl<S: Signer> InnerInMemory<S> {
             None if made.star_exists => Ok(Outcome::NoData),
             None => Ok(Outcome::NoName),
         }
+    }
+
+    /// Whether the name of `least`, its least key, that of type 0, exists: whether it, or a name below it, owns a set of a type
+    /// other than NSEC and NSEC3 (RFC 4592 section 2.2.2). Takes no memory.
+    pub fn exists(&self, least: &RrKey) -> bool
+        requires { least.now.record_type.0 ≡ 0 }
+        ensures { result ≡ exists self.now.records least.now.name }
+    {
+        self.records.exists(least)
     }
 
     /// The NSEC sets that deny `name` in the zone of `origin`, lent out of the zone; see [`denial::nsec_denial`]. Refused by

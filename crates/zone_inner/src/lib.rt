@@ -19,6 +19,8 @@ mod seen_names;
 pub mod start_of_authority;
 mod zone_error;
 
+#[doc(hidden)]
+pub use chain::cname_target;
 pub use found::{Found, Outcome};
 pub use inner_in_memory::InnerInMemory;
 pub use zone_error::ZoneError;

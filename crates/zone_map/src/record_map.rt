@@ -159,7 +159,7 @@ impl RecordMap {
     /// Whether the name of its least key, that of type 0, or a name below it, owns a set of a type other than those of denial,
     /// so that it exists (RFC 4592 section 2.2.2). Descendants stand together, so one key is read, and the next only after one
     /// of a type of denial.
-    pub(crate) fn exists(&self, least: &RrKey) -> bool
+    pub fn exists(&self, least: &RrKey) -> bool
         requires { least.now.record_type.0 ≡ 0 }
         ensures { result ≡ exists self.now least.now.name }
     {

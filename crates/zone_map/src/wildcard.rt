@@ -48,8 +48,9 @@ pub fn wildcard(
     })
 }
 
-/// A star's set under the queried name.
-fn renamed(
+/// The set of a star under the queried name, which is of class IN and serial 0, each record with the set's TTL. Its signatures come
+/// along only if `signed`: one that the star owns is the name's then. Refused by `Memory` alone.
+pub fn renamed(
     set: &RecordSet,
     star: &Name,
     name: &LowerName,

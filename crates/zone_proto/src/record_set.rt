@@ -240,6 +240,14 @@ impl RecordSet {
         }
     }
 
+    /// The records in order, as a slice. Takes no memory.
+    pub fn as_slice(&self) -> &[Record]
+        ensures value { result.now ≡ self.now.records }
+        ensures rule { IsSet self.now.owner self.now.record_type self.now.records }
+    {
+        self.records.as_slice()
+    }
+
     /// The records in order. Takes no memory.
     pub fn records_without_rrsigs(&self) -> RrsetRecords<'_>
         ensures lent { result ≡ self.now.records }

@@ -89,3 +89,10 @@ body_fails limit r errors.Unwritable h = h
 body_fails limit r errors.NoRoom h = absurd h
 body_fails limit r errors.BadCode h = absurd h
 body_fails limit r errors.Memory h = h
+
+-- records are written, or not, whatever the limit
+pub unfit : (rs : List Record) (e : WriteError) → FailsToPutAny rs e → e ≡ errors.NoRoom → ⊥
+unfit rs errors.Unwritable h e = cc
+unfit rs errors.NoRoom h e = absurd h
+unfit rs errors.BadCode h e = cc
+unfit rs errors.Memory h e = cc

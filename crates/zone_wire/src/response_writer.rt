@@ -1,5 +1,5 @@
 //! Responses written as messages (RFC 1035 section 4.1).
-ghost use Rattle.std.specs.Prelude.{◌≡◌, ◌≤◌, ◌<◌, ◌+◌, ◌*◌, ◌/◌, ◌%◌, ◌++◌, IfErr, OnOk, Some, drop, length};
+ghost use Rattle.std.specs.Prelude.{◌≡◌, ◌≢◌, ◌≤◌, ◌<◌, ◌+◌, ◌*◌, ◌/◌, ◌%◌, ◌++◌, IfErr, OnOk, Some, drop, length};
 ghost use Rattle.zone_message.specs.Messages.{question_of};
 ghost use Rattle.zone_proto.specs.Names.{wire_length};
 ghost use Rattle.zone_wire.specs.Continuing.{Appends, AppendsAll};
@@ -30,7 +30,8 @@ use zone_message::{Extension, Question};
 ///
 /// # Errors
 ///
-/// `BadCode` where the response code has more than twelve bits; `NoRoom` where header, question and OPT record go over the limit;
+/// `BadCode` where the response code has more than twelve bits; `NoRoom` where header, question and OPT record go over the limit,
+/// which 282 octets never do, as a name has 255 at most (RFC 1035 section 3.1);
 /// `Unwritable` where a record has data that no octets are; `Memory` where none is found. The octets of `out` are gone then.
 pub fn write_response(
     alloc: Global,
@@ -38,7 +39,8 @@ pub fn write_response(
     response: &Response<'_, '_>,
     limit: u16,
 ) -> Result<(), WriteError>
-    ensures { Writes limit response.now out.new.items result }
+    ensures written { Writes limit response.now out.new.items result }
+    ensures room { 282 ≤ limit → IfErr result (λ e. e ≢ WriteError.NoRoom) }
 {
     match compose(alloc, out, response, usize::from(limit)) {
         Ok(()) => Ok(()),
@@ -77,6 +79,7 @@ fn compose(
     ensures ok { OnOk result (IsWritten limit response.now out.new.items) }
     ensures code { OnOk result (response.now.code ≤ 4095) }
     ensures err { IfErr result (FailsToWrite limit response.now) }
+    ensures room { 282 ≤ limit → IfErr result (λ e. e ≢ WriteError.NoRoom) }
 {
     out.clear();
     if response.code > GREATEST_CODE {

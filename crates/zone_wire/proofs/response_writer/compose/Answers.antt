@@ -1,10 +1,10 @@
 use Rattle.std.proofs.Common.{ℕ, ◌≡◌, ◌+◌, ◌-◌, ◌*◌, List, [], ◌++◌, length, refl, ap, subst, arith, rules}
 use Rattle.std.proofs.lemmas.List.{length-append}
-use Rattle.zone_wire.specs.Outcomes.{IsBodyPut}
+use Rattle.zone_wire.specs.Outcomes.{IsBodyPut, records_in}
 use Rattle.zone_wire.specs.Responses.{opt_of}
 use Rattle.zone_proto.specs.Names.{wire_length}
 use Rattle.zone_wire.proofs.BodyParts.{body_small}
-use Rattle.zone_wire.proofs.Failures.{body_fails}
+use Rattle.zone_wire.proofs.Failures.{body_fails, unfit}
 use Rattle.zone_wire.proofs.ResponseBack.{response_back}
 use Rattle.zone_wire.proofs.response_writer.compose.Goals as goal
 
@@ -62,6 +62,22 @@ put_header-requires-clause-additionals c =
 pub returns-in_err-counts-clause-err : goal.returns-in_err-counts-clause-err
 returns-in_err-counts-clause-err c =
     let told = body_fails c.args.limit c.args.response.now c.in_err-counts.field-0.0 c.in_err-counts.ensures.err in search (rules, told)
+
+pub returns-then-limit-least-clause-room : goal.returns-then-limit-least-clause-room
+returns-then-limit-least-clause-room c enough =
+    absurd (omega (
+      arith,
+      enough,
+      c.if-limit-least.true,
+      c.wire_length-name.ensures.length,
+      ap wire_length c.labels.ensures.value,
+      c.labels.ensures.valid.short,
+      c.opt_count-opts.ensures.small,
+    ))
+
+pub returns-in_err-counts-clause-room : goal.returns-in_err-counts-clause-room
+returns-in_err-counts-clause-room c enough =
+    let told = unfit (records_in c.args.response.now) c.in_err-counts.field-0.0 c.in_err-counts.ensures.err in search (rules, told)
 
 pub returns-clause-ok : goal.returns-clause-ok
 returns-clause-ok c =

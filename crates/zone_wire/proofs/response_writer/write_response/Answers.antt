@@ -3,10 +3,10 @@ use Rattle.zone_wire.specs.Outcomes.{FailsToWrite}
 use Rattle.zone_wire.specs.Responses.{IsWritten}
 use Rattle.zone_wire.proofs.response_writer.write_response.Goals as goal
 
-pub returns-in-Ok : goal.returns-in-Ok
-returns-in-Ok c =
+pub returns-in-Ok-clause-written : goal.returns-in-Ok-clause-written
+returns-in-Ok-clause-written c =
     (c.in-Ok.ensures.code, subst (λ n. IsWritten n c.args.response.now c.compose.new.out.items) c.from.ensures c.in-Ok.ensures.ok)
 
-pub returns-in-Err : goal.returns-in-Err
-returns-in-Err c =
+pub returns-in-Err-clause-written : goal.returns-in-Err-clause-written
+returns-in-Err-clause-written c =
     (c.clear.ensures.items, subst (λ n. FailsToWrite n c.args.response.now c.in-Err.error) c.from.ensures c.in-Err.ensures.err)
