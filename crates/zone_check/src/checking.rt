@@ -1,18 +1,21 @@
 //! Reads a zone file, and tells what is wrong with it, or what it has.
-ghost use Rattle.std.specs.Prelude.{◌≡◌, ◌≤◌};
+ghost use Rattle.std.specs.Prelude.{◌≡◌, ◌≤◌, [], IfOk, IsOkUnless, unwrap_or};
 
+use crate::telling::tell;
 use crate::wanted::Wanted;
+use crate::zone::check_zone;
 use std::alloc::Global;
 use std::cmp::Ordering;
 use std::io;
 use std::io::{ErrorKind, Read, Write};
 use zone_file::{FaultText, InputError, PlacedRecord, ZoneFault, read_zone};
 use zone_master_text::MasterText;
-use zone_proto::{Record, RecordType};
+use zone_proto::{Name, ProtoError, Record, RecordType};
 
-/// Reads a zone file from `input`, and gives the status of the program: 0 where it is one, 1 where it isn't, and 2 where that
-/// can't be told. A fault is told on `fault` in a line, with its file, line and column. What the file has is told on `output`:
-/// its records, if they are to be printed, and else how many.
+/// Reads a zone file from `input`, and gives the status of the program: 0 where a zone can be made of it, and its NSEC sets, if it
+/// has any, are a closed circle; 1 where that isn't so, and 2 where it can't be told. With `--print` it is 0 where the file is read
+/// to its end. What is wrong is told on `fault`, a line each, with file, line and column where it is about a record. What the file
+/// has is told on `output`: its records, if they are to be printed, and else what zone they make.
 pub fn check<R: Read, W: Write, E: Write>(
     alloc: Global,
     wanted: &Wanted<'_>,
@@ -22,27 +25,31 @@ pub fn check<R: Read, W: Write, E: Write>(
 ) -> u8
     ensures { result ≤ 2 }
 {
-    let Ok(origin) = wanted.origin.clone() else {
+    let Ok(origin) = first_origin(alloc, wanted) else {
         return tell(fault, b"out of memory\n");
     };
     match read_zone(alloc, origin, input) {
-        Ok(mut records) => match write_records(output, wanted, &mut records) {
+        Ok(mut records) if wanted.is_printed => match print(output, &mut records) {
             Ok(()) => 0,
             Err(e) if e.kind() == ErrorKind::OutOfMemory => tell(fault, b"out of memory\n"),
             Err(_) => tell(fault, b"write failed\n"),
         },
+        Ok(records) => check_zone(alloc, wanted, records, output, fault),
         Err(InputError::Memory) => tell(fault, b"out of memory\n"),
         Err(InputError::Input(_)) => tell(fault, b"read failed\n"),
         Err(InputError::Fault(found)) => tell_fault(fault, wanted.file, &found),
     }
 }
 
-/// Tells why the file can't be checked, and gives the status for it.
-fn tell<E: Write>(fault: &mut E, why: &[u8]) -> u8
-    ensures { result ≡ 2 }
+/// The origin that the file begins with: the one that is named, or the root. Refused by `Memory` alone.
+fn first_origin(alloc: Global, wanted: &Wanted<'_>) -> Result<Name, ProtoError>
+    ensures ok { IfOk result (λ origin. origin ≡ unwrap_or wanted.now.origin []) }
+    ensures err { IsOkUnless result ProtoError.Memory }
 {
-    let _ = fault.write_all(why);
-    2
+    match &wanted.origin {
+        Some(origin) => origin.clone(),
+        None => Ok(Name::root(alloc)),
+    }
 }
 
 /// Tells what is wrong with the file, and gives the status for it.
@@ -54,17 +61,8 @@ fn tell_fault<E: Write>(fault: &mut E, file: &str, found: &ZoneFault) -> u8
     1
 }
 
-/// Writes the records in the order in which they are printed, those of one owner and type in the order of the file; or how many
-/// there are.
-fn write_records<W: Write>(
-    output: &mut W,
-    wanted: &Wanted<'_>,
-    records: &mut Vec<PlacedRecord>,
-) -> io::Result<()> {
-    if !wanted.is_printed {
-        write!(output, "{}: {} records\n", wanted.file, records.len())?;
-        return output.flush();
-    }
+/// Writes the records in the order in which they are printed, those of one owner and type in the order of the file.
+fn print<W: Write>(output: &mut W, records: &mut Vec<PlacedRecord>) -> io::Result<()> {
     records.sort_by(|one, other| printed_order(&one.given, &other.given))?;
     for placed in records.iter() {
         write!(output, "{}\n", MasterText(&placed.given))?;

@@ -2,7 +2,9 @@
 #![tactic(auto)]
 
 mod checking;
+mod telling;
 mod wanted;
+mod zone;
 
 use std::alloc::{AllocError, Global};
 use std::io::{BufWriter, Write};

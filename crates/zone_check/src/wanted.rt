@@ -10,12 +10,11 @@ pub struct Wanted<'w> {
     pub is_printed: bool,
     /// The name of the file.
     pub file: &'w str,
-    /// The origin that the file begins with.
-    pub origin: Name,
+    /// The origin that the file begins with, and that of its zone, if one is named.
+    pub origin: Option<Name>,
 }
 
-/// What words ask for: `--print` or nothing, a file, and an origin, which is the root where none is named. None where they
-/// aren't that.
+/// What words ask for: `--print` or nothing, a file, and an origin or nothing. None where they aren't that.
 pub fn wanted_by(alloc: Global, words: &[String]) -> Option<Wanted<'_>> {
     let (is_printed, words) = match words.split_first() {
         Some((first, others)) if first.as_str() == "--print" => (true, others),
@@ -23,8 +22,8 @@ pub fn wanted_by(alloc: Global, words: &[String]) -> Option<Wanted<'_>> {
     };
     let (file, others) = words.split_first()?;
     let origin = match others {
-        [] => Name::root(alloc),
-        [origin] => Name::parse(alloc, origin.as_str()).ok()?,
+        [] => None,
+        [origin] => Some(Name::parse(alloc, origin.as_str()).ok()?),
         _ => return None,
     };
     Some(Wanted {

@@ -1,0 +1,9 @@
+mod KeysFound
+mod Grouping
+mod Belonging
+mod Making
+mod LoadedSets
+mod Faulting
+mod CnamesAlone
+mod CirclesCompared
+mod CircleLists

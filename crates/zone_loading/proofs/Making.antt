@@ -1,0 +1,146 @@
+-- Sets made of their records, and put under their keys
+use Rattle.std.proofs.Common.{◌≡◌, ℕ, Bool, true, false, cond, List, [], ◌∷◌, ◌++◌, refl, sym, ap, ◌∙◌, subst, Ordering, Less, Equal, Greater}
+use Rattle.std.specs.Prelude.{Option, Some, None, map, fold, option_and_then, unwrap_or, IfSome}
+use Rattle.std.specs.BTreeMap.{insert_entry}
+use Rattle.std.specs.List.{AllByRecursion}
+use Rattle.std.specs.List.Sorted.{IsStrictlySortedBy}
+use Rattle.std.specs.Map.{lookup, keys_of}
+use Rattle.std.specs.Option.{option_or}
+use Rattle.std.specs.Ordering.{is_eq, match_ordering}
+use Rattle.zone_proto.specs.declared.rdata.RData.{RData}
+use Rattle.zone_proto.specs.declared.rdata.RData.TheVariants as V
+use Rattle.zone_proto.specs.declared.record.Record.{Record}
+use Rattle.zone_proto.specs.declared.rr_key.RrKey.{RrKey}
+use Rattle.zone_proto.specs.Data.{type_of}
+use Rattle.zone_proto.specs.Keys.{key_cmp, key_eq}
+use Rattle.zone_proto.specs.Names.{IsName, lower}
+use Rattle.zone_proto.specs.Types.{RRSIG}
+use Rattle.zone_proto.specs.Sets.{RRset, empty_set}
+use Rattle.zone_proto.proofs.Ordering.KeyOrder.{key_same, key_itself}
+use Rattle.zone_map.specs.Zones.{Sets, IsStoredAt, IsZone}
+use Rattle.zone_map.proofs.Stored.{put_apart, IsZone-put}
+use Rattle.zone_denial.specs.Nsec3Sets.{with_taken}
+use Rattle.zone_denial.proofs.Sets.TakenRecords.{taken_stored}
+use Rattle.zone_loading.specs.declared.given.GivenRecord.{GivenRecord}
+use Rattle.zone_loading.specs.declared.groups.Group.{Group}
+use Rattle.zone_loading.specs.Groups.{IsGroupOf}
+use Rattle.zone_loading.specs.Records.{is_signature, records_of}
+use Rattle.zone_loading.specs.Sets.{with_ttl, least_ttl, signed_by, signed_set_of, set_in, with_set}
+use Rattle.zone_loading.proofs.KeysFound.{absent}
+
+-- records that are taken one after the other
+module _ (k : RrKey) (serial ttl : ℕ) (named : IsName k.name) where
+  -- a set that is empty, or stands under the key, stands there once it takes a record of the key
+  pub one_stored : (r : Record) → lower r.name ≡ k.name → type_of r.rdata ≡ k.record_type.0 → (s : Option RRset) → IfSome s (IsStoredAt k.name k.record_type.0)
+      → IsStoredAt k.name k.record_type.0 (with_taken serial (unwrap_or s (empty_set r.name (type_of r.rdata) serial)) r)
+  one_stored r o t s h =
+      subst (λ n. IsStoredAt n k.record_type.0 (with_taken serial (unwrap_or s (empty_set r.name (type_of r.rdata) serial)) r)) o
+      (subst (λ u. IsStoredAt (lower r.name) u (with_taken serial (unwrap_or s (empty_set r.name (type_of r.rdata) serial)) r)) t
+      (taken_stored r serial (subst IsName (sym o) named) s
+      (subst (λ u. IfSome s (IsStoredAt (lower r.name) u)) (sym t) (subst (λ n. IfSome s (IsStoredAt n k.record_type.0)) (sym o) h))))
+
+  pub fold_stored : (gs : List GivenRecord) (s : RRset) → IsStoredAt k.name k.record_type.0 s
+      → AllByRecursion (λ (g : GivenRecord). lower g.record.name ≡ k.name) gs → AllByRecursion (λ (g : GivenRecord). type_of g.record.rdata ≡ k.record_type.0) gs
+      → IsStoredAt k.name k.record_type.0 (fold (with_taken serial) s (map (with_ttl ttl) (records_of gs)))
+  fold_stored [] s h o t = h
+  fold_stored (g ∷ gs) s h o t = fold_stored gs (with_taken serial s (with_ttl ttl g.record)) (one_stored (with_ttl ttl g.record) o.0 t.0 (Some s) h) o.1 t.1
+
+-- ---- the set of a group
+
+-- it may stand under the group's key
+pub made_stored : (k : RrKey) (serial : ℕ) (g : Group) → IsName k.name → IsGroupOf k g → (s : RRset) → Some s ≡ set_in serial g → IsStoredAt k.name k.record_type.0 s
+made_stored k serial g named of s e = by g.records.items refl
+  where
+    signed : (x w : RRset) → IsStoredAt k.name k.record_type.0 x → (more : List Record) → Some w ≡ Some (record x { signatures = more }) → IsStoredAt k.name k.record_type.0 w
+    signed x w h more q =
+        let same : record x { signatures = more } ≡ w = ap (λ o. unwrap_or o x) (sym q) in
+        subst (IsStoredAt k.name k.record_type.0) same (record { named = h.named; owner = h.owner; record_type = h.record_type; filled = h.filled; set = h.set })
+
+    by : (gs : List GivenRecord) → gs ≡ g.records.items → IsStoredAt k.name k.record_type.0 s
+    by [] q =
+        let none : Some s ≡ None = e ∙ ap (λ gs. signed_set_of serial gs g.signatures.items) (sym q) in
+        absurd cc
+    by (x ∷ xs) q =
+        let ttl = least_ttl (x ∷ xs) in
+        let o : AllByRecursion (λ (r : GivenRecord). lower r.record.name ≡ k.name) (x ∷ xs) = subst (AllByRecursion (λ (r : GivenRecord). lower r.record.name ≡ k.name)) (sym q) of.owners in
+        let t : AllByRecursion (λ (r : GivenRecord). type_of r.record.rdata ≡ k.record_type.0) (x ∷ xs) = subst (AllByRecursion (λ (r : GivenRecord). type_of r.record.rdata ≡ k.record_type.0)) (sym q) of.types in
+        let first = with_taken serial (empty_set x.record.name (type_of x.record.rdata) serial) (with_ttl ttl x.record) in
+        signed _ s (fold_stored k serial ttl named xs first (one_stored k serial ttl named (with_ttl ttl x.record) o.0 t.0 None tt) o.1 t.1) _
+        (e ∙ ap (λ gs. signed_set_of serial gs g.signatures.items) (sym q))
+
+-- with it the sets are those of a zone, as they were before
+pub zone_with : (k : RrKey) (serial : ℕ) (g : Group) → IsName k.name → IsGroupOf k g → (m n : Sets) → n ≡ with_set m k (set_in serial g) → IsZone m → IsZone n
+zone_with k serial g named of m n e zone = subst IsZone (sym e) (by (set_in serial g) refl)
+  where
+    by : (o : Option RRset) → o ≡ set_in serial g → IsZone (with_set m k o)
+    by None q = zone
+    by (Some s) q = IsZone-put m k s zone (made_stored k serial g named of s q)
+
+-- ---- the sets of groups whose keys ascend
+
+put_found : (m : Sets) (k : RrKey) (v : RRset) → lookup (key_eq k) (insert_entry key_cmp m k v) ≡ Some v
+put_found [] k v = ap (λ b. cond b (Some v) None) (key_itself k)
+put_found (e ∷ m) k v = by (key_cmp k e.0) refl (put_found m k v)
+  where
+    by : (o : Ordering) → key_cmp k e.0 ≡ o → lookup (key_eq k) (insert_entry key_cmp m k v) ≡ Some v
+        → lookup (key_eq k) (match_ordering o ((k, v) ∷ e ∷ m) ((e.0, v) ∷ m) (e ∷ insert_entry key_cmp m k v)) ≡ Some v
+    by Less g i = ap (λ b. cond b (Some v) (lookup (key_eq k) (e ∷ m))) (key_itself k)
+    by Equal g i = ap (λ b. cond b (Some v) (lookup (key_eq k) m)) (ap is_eq g)
+    by Greater g i = ap (λ b. cond b (Some e.1) (lookup (key_eq k) (insert_entry key_cmp m k v))) (ap is_eq g) ∙ i
+
+-- what stands under a key where the set of a group was put, if there is one
+with_own : (m : Sets) (k : RrKey) (o : Option RRset) → lookup (key_eq k) (with_set m k o) ≡ option_or o (lookup (key_eq k) m)
+with_own m k None = refl
+with_own m k (Some s) = put_found m k s
+
+with_apart : (m : Sets) (k q : RrKey) (o : Option RRset) → key_eq q k ≡ false → lookup (key_eq q) (with_set m k o) ≡ lookup (key_eq q) m
+with_apart m k q None h = refl
+with_apart m k q (Some s) h = put_apart m k q s h
+
+-- the sets of the groups that are left, and those that stand so far
+abbrev pub sets_with : ℕ → List (RrKey × Group) → Sets → RrKey → Option RRset
+sets_with serial es m k = option_or (option_and_then (set_in serial) (lookup (key_eq k) es)) (lookup (key_eq k) m)
+
+pub set_more : (serial : ℕ) (m n : Sets) (key : RrKey) (g : Group) (left all : List (RrKey × Group)) → n ≡ with_set m key (set_in serial g) → all ≡ (key, g) ∷ left
+    → IsStrictlySortedBy key_cmp (keys_of all) → (k : RrKey) → sets_with serial left n k ≡ sets_with serial all m k
+unfolding IsStrictlySortedBy
+set_more serial m n key g left all made steps sorted k =
+    ap (λ x. sets_with serial left x k) made ∙ by (key_eq k key) refl ∙ ap (λ es. sets_with serial es m k) (sym steps)
+  where
+    above : AllByRecursion (λ q. key_cmp key q ≡ Less) (keys_of left)
+    above = (subst (λ es. IsStrictlySortedBy key_cmp (keys_of es)) steps sorted).0
+
+    by : (b : Bool) → key_eq k key ≡ b → sets_with serial left (with_set m key (set_in serial g)) k
+        ≡ option_or (option_and_then (set_in serial) (cond b (Some g) (lookup (key_eq k) left))) (lookup (key_eq k) m)
+    by true h =
+        let same : k ≡ key = key_same k key h in
+        ap (λ q. sets_with serial left (with_set m key (set_in serial g)) q) same
+        ∙ ap (λ o. option_or (option_and_then (set_in serial) o) (lookup (key_eq key) (with_set m key (set_in serial g)))) (absent key left above)
+        ∙ with_own m key (set_in serial g)
+        ∙ ap (λ q. option_or (set_in serial g) (lookup (key_eq q) m)) (sym same)
+    by false h = ap (option_or (option_and_then (set_in serial) (lookup (key_eq k) left))) (with_apart m key k (set_in serial g) h)
+
+pub sorted_left : (key : RrKey) (g : Group) (left all : List (RrKey × Group)) → all ≡ (key, g) ∷ left → IsStrictlySortedBy key_cmp (keys_of all) → IsStrictlySortedBy key_cmp (keys_of left)
+unfolding IsStrictlySortedBy
+sorted_left key g left all steps sorted = (subst (λ es. IsStrictlySortedBy key_cmp (keys_of es)) steps sorted).1
+
+-- ---- signatures one after the other
+
+pub signature_type : (d : RData) → is_signature d ≡ true → type_of d ≡ RRSIG
+signature_type (V.RRSIG a) h = refl
+signature_type d h = absurd cc
+
+append_one : (xs : List Record) (x : Record) (ys : List Record) → (xs ++ x ∷ []) ++ ys ≡ xs ++ (x ∷ ys)
+append_one [] x ys = refl
+append_one (z ∷ xs) x ys = ap (◌∷◌ z) (append_one xs x ys)
+
+append_none : (xs : List Record) → xs ≡ xs ++ []
+append_none [] = refl
+append_none (x ∷ xs) = ap (◌∷◌ x) (append_none xs)
+
+pub signed_more : (ttl : ℕ) (s : RRset) (g : GivenRecord) (gs : List GivenRecord)
+    → signed_by ttl gs (record s { signatures = s.signatures ++ with_ttl ttl g.record ∷ [] }) ≡ signed_by ttl (g ∷ gs) s
+signed_more ttl s g gs = ap (λ xs. record s { signatures = xs }) (append_one s.signatures (with_ttl ttl g.record) (map (with_ttl ttl) (records_of gs)))
+
+pub signed_none : (ttl : ℕ) (s : RRset) → s ≡ signed_by ttl [] s
+signed_none ttl s = ap (λ xs. record s { signatures = xs }) (append_none s.signatures)

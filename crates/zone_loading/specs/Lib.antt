@@ -1,0 +1,7 @@
+pub mod Records
+pub mod Groups
+pub mod Sets
+pub mod Faults
+pub mod GroupFaults
+pub mod Circles
+pub mod Comparing

@@ -1,0 +1,20 @@
+//! Zones made of the records of zone files (RFC 1035 section 5.2): each set with its signatures, checked for what makes a zone.
+//!
+//! [`load`] makes a zone of records, or says why none can be made; what it takes otherwise than it stands in the file is told
+//! as warnings. A signed file keeps its signatures and its denials.
+#![tactic(auto)]
+
+mod checks;
+mod circle;
+mod fault;
+mod given;
+mod groups;
+mod loading;
+mod sets;
+mod warning;
+
+pub use circle::{Difference, NsecCircle, OpenCircle, closed_nsec_circle};
+pub use fault::LoadFault;
+pub use given::{GivenRecord, RecordAt};
+pub use loading::{Loaded, load};
+pub use warning::LoadWarning;
