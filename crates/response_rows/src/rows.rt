@@ -1,32 +1,32 @@
-//! Rows: questions and the responses that are wanted.
+//! Rows: questions and messages, and the responses that are wanted.
 
-use crate::questions::{Zone, add, ask, empty_zone, read_zone, secure};
+use crate::questions::say;
+use crate::zones::{Zone, add, ask, read_zone, secure, serve};
 use std::alloc::Global;
-use zone_proto::Name;
 use zone_text::Words;
 
 /// What has been read of a file.
 #[derive(Drop)]
 struct Reader<'t> {
-    /// The zone that is asked.
-    zone: Zone,
-    /// The words of the question that is to be asked.
-    question: Option<&'t str>,
-    /// The response that is wanted.
+    /// The zones of the server.
+    zones: Vec<Zone>,
+    /// The line of the messages that are to be answered.
+    asked: Option<&'t str>,
+    /// The responses that are wanted.
     wanted: String,
-    /// How many questions were asked.
+    /// How many rows there were.
     rows: usize,
-    /// How many of them had another response.
+    /// How many of them were answered otherwise.
     wrong: usize,
     /// A line for each of these, and what came.
     faults: String,
 }
 
-/// Asks the questions of a file. The report counts them, and has lines for each with another response.
+/// Tries the rows of a file. The report counts them, and has lines for each that is answered otherwise.
 pub fn report(alloc: Global, text: &str) -> anyhow::Result<String> {
     let mut reader = Reader {
-        zone: empty_zone(Name::root(alloc), None),
-        question: None,
+        zones: Vec::new(alloc),
+        asked: None,
         wanted: String::new(alloc),
         rows: 0,
         wrong: 0,
@@ -42,45 +42,61 @@ pub fn report(alloc: Global, text: &str) -> anyhow::Result<String> {
     )?)
 }
 
-/// Takes a line. One that is none of a response ends the response that is wanted.
+/// Takes a line. One that is none of a response ends the responses that are wanted.
 fn take_line<'t>(alloc: Global, reader: &mut Reader<'t>, line: &'t str) -> anyhow::Result<()> {
-    if line.starts_with(";;") || is_record(line) {
+    if is_response(line) {
         reader.wanted.push_str(line)?;
         reader.wanted.push_str("\n")?;
         return Ok(());
     }
     judge(alloc, reader)?;
-    if let Some(words) = line.strip_prefix("? ") {
-        reader.question = Some(words);
+    if line.starts_with("= ") || line.starts_with("? ") || line.starts_with("< ") {
+        reader.asked = Some(line);
     } else if let Some(words) = line.strip_prefix("> ") {
-        add(alloc, &mut reader.zone, &mut Words::new(words.as_bytes()))?;
+        add(alloc, &mut reader.zones, &mut Words::new(words.as_bytes()))?;
     } else if let Some(words) = line.strip_prefix("$ zone ") {
-        reader.zone = read_zone(alloc, &mut Words::new(words.as_bytes()))?;
+        let zone = read_zone(alloc, &mut Words::new(words.as_bytes()))?;
+        reader.zones.push(zone)?;
     } else if line == "$ secure" {
-        secure(&mut reader.zone)?;
+        secure(&mut reader.zones)?;
+    } else if line == "$ server" {
+        reader.zones.clear();
     }
     Ok(())
 }
 
-/// Whether a line is a record of a response.
-fn is_record(line: &str) -> bool {
+/// Whether a line is one of a response.
+fn is_response(line: &str) -> bool {
     !line.is_empty()
         && !line.starts_with("#")
+        && !line.starts_with("=")
         && !line.starts_with("?")
+        && !line.starts_with("<")
         && !line.starts_with(">")
         && !line.starts_with("$")
 }
 
-/// Asks the question that waits, and notes a fault where another response comes than the one that is wanted.
+/// Hands over the messages that wait, and notes a fault where they are answered otherwise than it is wanted.
 fn judge(alloc: Global, reader: &mut Reader<'_>) -> anyhow::Result<()> {
-    if let Some(question) = reader.question.take() {
-        let came = ask(alloc, &reader.zone, &mut Words::new(question.as_bytes()))?;
+    if let Some(asked) = reader.asked.take() {
+        let came = came_of(alloc, reader.zones.as_slice(), asked)?;
         reader.rows = reader.rows.saturating_add(1);
         if came != reader.wanted {
             reader.wrong = reader.wrong.saturating_add(1);
-            write!(reader.faults, "\n  WRONG {question}: there came\n{came}")?;
+            write!(reader.faults, "\n  WRONG {asked}: there came\n{came}")?;
         }
     }
     reader.wanted.clear();
     Ok(())
+}
+
+/// What came in answer to a line.
+fn came_of(alloc: Global, zones: &[Zone], asked: &str) -> anyhow::Result<String> {
+    if let Some(words) = asked.strip_prefix("= ") {
+        return say(alloc, zones, &mut Words::new(words.as_bytes()));
+    }
+    match asked.strip_prefix("< ") {
+        Some(words) => serve(alloc, zones, words),
+        None => ask(alloc, zones, asked.strip_prefix("? ").unwrap_or(asked)),
+    }
 }

@@ -6,5 +6,7 @@ pub mod StepCases
 pub mod PathSteps
 pub mod HostFacts
 pub mod SetLists
+pub mod ProofSteps
+pub mod HashedSteps
 pub mod ResponseCases
 pub mod ResponseExamples

@@ -1,6 +1,6 @@
--- Worked examples: whole responses of a small zone that denies by NSEC, computed from the definitions
-use Rattle.std.proofs.Common.{ℕ, Bool, true, false, List, [], ◌∷◌, map, refl}
-use Rattle.std.specs.Prelude.{codes, Some, None, pos}
+-- Worked examples: whole responses of a small zone that denies by NSEC, and of one that denies by NSEC3, computed from the definitions
+use Rattle.std.proofs.Common.{ℕ, ◌+◌, Bool, true, false, cond, List, [], ◌∷◌, length, map, refl}
+use Rattle.std.specs.Prelude.{◌==◌, codes, Some, None, pos}
 use Rattle.zone_proto.specs.declared.nx_proof_kind.NxProofKind.TheVariants as kind
 use Rattle.zone_proto.specs.declared.rdata.RData.{RData}
 use Rattle.zone_proto.specs.declared.rdata.RData.TheVariants as V
@@ -9,7 +9,7 @@ use Rattle.zone_proto.specs.declared.response_code.ResponseCode.TheVariants as c
 use Rattle.zone_proto.specs.Keys.{key}
 use Rattle.zone_proto.specs.Names.{Name, star_under}
 use Rattle.zone_proto.specs.Sets.{RRset}
-use Rattle.zone_proto.specs.Types.{A, NS, SOA, CNAME, TXT, DS, RRSIG, NSEC, IN}
+use Rattle.zone_proto.specs.Types.{A, NS, SOA, CNAME, TXT, DS, RRSIG, NSEC, NSEC3, IN}
 use Rattle.zone_map.specs.Zones.{Sets}
 use Rattle.zone_response.specs.Paths.{path}
 use Rattle.zone_response.specs.Queries.{Zone, Query}
@@ -105,7 +105,7 @@ sets =
     ∷ []
 
 abbrev zone : Zone
-zone = record { origin = example; sets = sets; nx_proof_kind = Some kind.Nsec }
+zone = record { origin = example; sets = sets; nx_proof_kind = Some kind.Nsec; digest_of = λ algorithm salt n iterations. None }
 
 -- a query that asks for DNSSEC
 abbrev asked : Name → ℕ → Query
@@ -185,6 +185,70 @@ of_another_class = refl
 of_no_type : IsResponse zone (asked (under (codes "www")) 41) (bare code.NotImp)
 of_no_type = refl
 
--- of a zone that denies by hashed names
-pub of_hashed_zone : IsResponse (record zone { nx_proof_kind = Some (kind.Nsec3 1 [] 0 false) }) (asked (under (codes "www")) A) (bare code.ServFail)
-of_hashed_zone = refl
+-- ---- a zone that denies by hashed names: with a host, a child that has its NSEC3 set, and one that opt-out leaves out
+
+-- a digest that counts the octets of a name
+octets : Name → ℕ
+octets [] = 0
+octets (l ∷ n) = length l + octets n
+
+abbrev nsec3 : ℕ → List ℕ → ℕ → List ℕ → RRset
+nsec3 ttl owner next types =
+    signed ttl (owner ∷ example) NSEC3 2 (V.NSEC3 (record { algorithm = 1; opt_out = true; iterations = 0; salt = []; next_hashed_owner_name = next ∷ []; types = map (λ t. record { 0 = t }) types }))
+
+-- of example, which has 7 octets; of sub.example, which has 10; and of mail.example, which has 11
+abbrev of_apex : ℕ → RRset
+of_apex ttl = nsec3 ttl (codes "0s") 10 (SOA ∷ RRSIG ∷ [])
+
+abbrev of_sub : ℕ → RRset
+of_sub ttl = nsec3 ttl (codes "18") 11 (NS ∷ [])
+
+abbrev of_mail : ℕ → RRset
+of_mail ttl = nsec3 ttl (codes "1c") 7 (A ∷ RRSIG ∷ [])
+
+abbrev servers : Name → RRset
+servers n = set_with 3600 n NS (V.NS (codes "ns" ∷ codes "other" ∷ [])) []
+
+abbrev mail : RRset
+mail = signed 3600 (under (codes "mail")) A 2 (V.A (192 ∷ 0 ∷ 2 ∷ 3 ∷ []))
+
+abbrev hashed_sets : Sets
+hashed_sets =
+    (key example SOA, soa 3600)
+    ∷ (key (codes "0s" ∷ example) NSEC3, of_apex 3600) ∷ (key (codes "18" ∷ example) NSEC3, of_sub 3600) ∷ (key (codes "1c" ∷ example) NSEC3, of_mail 3600)
+    ∷ (key (under (codes "mail")) A, mail) ∷ (key (under (codes "sub")) NS, servers (under (codes "sub"))) ∷ (key (under (codes "unsigned")) NS, servers (under (codes "unsigned")))
+    ∷ []
+
+-- with the algorithm 1 alone
+abbrev hashed_zone : ℕ → Zone
+hashed_zone algorithm = record { origin = example; sets = hashed_sets; nx_proof_kind = Some (kind.Nsec3 algorithm [] 0 true); digest_of = λ algorithm salt n iterations. cond (algorithm == 1) (Some (octets n ∷ [])) None }
+
+-- a name error: one set matches the closest encloser, and covers the name, of 9 octets, and the star, of 8
+of_hashed_absence : IsResponse (hashed_zone 1) (asked (under (codes "no")) A) (record { code = code.NXDomain; authoritative = true; answers = []; authorities = soa 300 ∷ of_apex 300 ∷ []; additionals = []; glue = []; left_at = None })
+unfolding path octets
+of_hashed_absence = record { code = refl; authoritative = refl; answers = refl; authorities = refl; additionals = refl; glue = refl; left_at = refl }
+
+-- no data
+of_hashed_mail : IsResponse (hashed_zone 1) (asked (under (codes "mail")) TXT) (sections true [] (soa 300 ∷ of_mail 300 ∷ []) [] [])
+unfolding path octets
+of_hashed_mail = record { code = refl; authoritative = refl; answers = refl; authorities = refl; additionals = refl; glue = refl; left_at = refl }
+
+-- a referral with the child's own set
+below_hashed_child : IsResponse (hashed_zone 1) (asked (under (codes "sub")) A) (sections false [] (servers (under (codes "sub")) ∷ of_sub 300 ∷ []) [] [])
+unfolding path octets
+below_hashed_child = record { code = refl; authoritative = refl; answers = refl; authorities = refl; additionals = refl; glue = refl; left_at = refl }
+
+-- and one by the closest encloser proof (RFC 5155 section 7.2.7): the set that covers the child, of 15 octets, and that of its encloser
+below_left_out : IsResponse (hashed_zone 1) (asked (under (codes "unsigned")) A) (sections false [] (servers (under (codes "unsigned")) ∷ of_mail 300 ∷ of_apex 300 ∷ []) [] [])
+unfolding path octets
+below_left_out = record { code = refl; authoritative = refl; answers = refl; authorities = refl; additionals = refl; glue = refl; left_at = refl }
+
+-- without a digest nothing is said that has to be proved
+of_undigested_absence : IsResponse (hashed_zone 2) (asked (under (codes "no")) A) (bare code.ServFail)
+unfolding path octets
+of_undigested_absence = refl
+
+-- and an answer is given
+of_undigested_mail : IsResponse (hashed_zone 2) (asked (under (codes "mail")) A) (sections true (mail ∷ []) [] [] [])
+unfolding path octets
+of_undigested_mail = record { code = refl; authoritative = refl; answers = refl; authorities = refl; additionals = refl; glue = refl; left_at = refl }

@@ -6,6 +6,7 @@ pub mod Sources
 pub mod Nodes
 pub mod Steps
 pub mod Paths
+pub mod HashedDenials
 pub mod Denials
 pub mod Hosts
 pub mod Responses

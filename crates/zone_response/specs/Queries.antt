@@ -1,9 +1,10 @@
 -- The zone that is asked, and the query
-use Rattle.std.specs.Prelude.{ℕ, Bool, Option}
+use Rattle.std.specs.Prelude.{ℕ, Bool, List, Option, option_copied}
 use Rattle.zone_proto.specs.declared.nx_proof_kind.NxProofKind.{NxProofKind}
 use Rattle.zone_proto.specs.Names.{Name}
 use Rattle.zone_map.specs.Zones.{Sets}
 use Rattle.zone_response.specs.declared.question.Question.{Question}
+use Rattle.zone_response.specs.declared.question.ServedZone.{ServedZone}
 use Rattle.zone_response.specs.declared.steps.Asked.{Asked}
 
 pub record Zone : Type 0 where
@@ -13,6 +14,8 @@ pub record Zone : Type 0 where
   pub sets : Sets
   -- how it denies what it doesn't hold
   pub nx_proof_kind : Option NxProofKind
+  -- the digest of an algorithm, a salt, a name and a count of iterations, or none, where it denies by hashed names (RFC 5155 section 5)
+  pub digest_of : ℕ → List ℕ → Name → ℕ → Option (List ℕ)
 
 -- a question (RFC 1035 section 4.1.2), and whether it asks for DNSSEC (RFC 3225 section 3)
 pub record Query : Type 0 where
@@ -32,6 +35,9 @@ abbrev pub inquiry : Zone → Query → Inquiry
 inquiry z q = record { origin = z.origin; sets = z.sets; record_type = q.record_type; signed = q.signed }
 
 -- ---- as the program keeps them
+
+abbrev pub zone_of : {S H : Type 0} → (H → ℕ → List ℕ → Name → ℕ → Option (List ℕ)) → ServedZone S H → Zone
+zone_of digest_of z = record { origin = z.origin.now; sets = z.inner.now.records; nx_proof_kind = option_copied z.nx_proof_kind; digest_of = digest_of z.hash.now }
 
 abbrev pub query_of : Question → Bool → Query
 query_of q signed = record { name = q.name.now; record_type = q.query_type.0; class = q.query_class.0; signed = signed }

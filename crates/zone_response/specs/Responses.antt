@@ -1,19 +1,19 @@
 -- The response of an authoritative server to a query
-use Rattle.std.specs.Prelude.{◌≡◌, ℕ, Bool, true, false, ◌&&◌, ◌||◌, not, cond, List, [], ◌∷◌, ◌++◌, ◌==◌, length, map, min, Option, Some, None, MatchOption, option_to_list}
+use Rattle.std.specs.Prelude.{◌≡◌, ℕ, Bool, true, false, ◌||◌, not, cond, List, [], ◌∷◌, ◌++◌, ◌==◌, length, map, min, Option, Some, None, MatchOption, MatchResult, Result, Ok, option_to_list}
 use Rattle.std.specs.Bool.{MatchBool}
 use Rattle.std.specs.Option.{option_map_or}
-use Rattle.zone_proto.specs.declared.nx_proof_kind.NxProofKind.{NxProofKind}
-use Rattle.zone_proto.specs.declared.nx_proof_kind.NxProofKind.TheVariants as kind
+use Rattle.zone_proto.specs.declared.error.ProtoError.{ProtoError}
 use Rattle.zone_proto.specs.declared.response_code.ResponseCode.{ResponseCode}
 use Rattle.zone_proto.specs.declared.response_code.ResponseCode.TheVariants as code
 use Rattle.zone_proto.specs.Names.{Name, lower, is_at_or_above}
 use Rattle.zone_proto.specs.Sets.{RRset}
 use Rattle.zone_proto.specs.Types.{IN, SOA, DS}
 use Rattle.zone_map.specs.Zones.{Sets, set_at}
+use Rattle.zone_denial.specs.Nsec3Denial.{result_and_then}
 use Rattle.zone_inner.specs.Flattening.{last_set}
 use Rattle.zone_inner.specs.StartOfAuthority.{first_soa}
 use Rattle.zone_response.specs.declared.response.Part.TheVariants as part
-use Rattle.zone_response.specs.Denials.{nsec_sets, proved_at, sent_nsec}
+use Rattle.zone_response.specs.Denials.{proofs, sent_proof}
 use Rattle.zone_response.specs.Hosts.{beside, sibling_glue, glue}
 use Rattle.zone_response.specs.Paths.{Path, path}
 use Rattle.zone_response.specs.Queries.{Zone, Query, Inquiry, inquiry}
@@ -60,12 +60,13 @@ end_sets ds signed soa (missing x star there) = sent (part_for signed) (negative
 end_sets ds signed soa (referred c) = referral_sets ds signed c
 end_sets ds signed soa _ = []
 
--- with DNSSEC, the NSEC sets of each name for which a star answered, so that it may (RFC 4035 section 3.1.3.3), and of those of which the end says something
-abbrev pub proof_sets : Sets → Option RRset → Bool → RRset → List Name → End → List RRset
-proof_sets m ds signed soa made end = cond signed (map (sent_nsec (negative_ttl soa)) (nsec_sets m (made ++ proved_at ds end))) []
+-- the sets that prove what is said, where the query asks for DNSSEC; or why a name has no hashed owner of which something is to be proved
+abbrev pub proof_sets : Zone → Option RRset → Bool → List Name → End → Result (List RRset) ProtoError
+proof_sets z ds signed made end = cond signed (proofs z ds made end) (Ok [])
 
-abbrev pub authority_sets : Sets → Bool → RRset → List Name → End → List RRset
-authority_sets m signed soa made end = end_sets (ds_at m end) signed soa end ++ proof_sets m (ds_at m end) signed soa made end
+abbrev pub authority_sets : Zone → Bool → RRset → List Name → End → Result (List RRset) ProtoError
+authority_sets z signed soa made end =
+    result_and_then (λ sets. Ok (end_sets (ds_at z.sets end) signed soa end ++ map (sent_proof (negative_ttl soa)) sets)) (proof_sets z (ds_at z.sets end) signed made end)
 
 -- beside the last set of an answer
 abbrev pub beside_last : Inquiry → List RRset → List RRset
@@ -88,40 +89,39 @@ left_at _ = None
 
 -- ---- the whole
 
--- the response of a path, in a zone with this SOA set
-pub record IsResponseBy (q : Inquiry) (soa : RRset) (p : Path) (r : Sections) : Type 0 where
+-- the response of a path, with these sets in its authority section
+pub record IsResponseBy (q : Inquiry) (p : Path) (sets : List RRset) (r : Sections) : Type 0 where
   pub code : r.code ≡ code_at p.end
   pub authoritative : r.authoritative ≡ is_authority p.end p.answers
   pub answers : r.answers ≡ p.answers
-  pub authorities : r.authorities ≡ authority_sets q.sets q.signed soa p.made p.end
+  pub authorities : r.authorities ≡ sets
   pub additionals : r.additionals ≡ additional_sets q p.answers p.end
   pub glue : r.glue ≡ glue_at q.sets p.end
   pub left_at : r.left_at ≡ left_at p.end
+
+-- the response of a path that doesn't fail: where a name has no hashed owner of which something is to be proved, it is the code ServFail alone
+abbrev pub IsProvenResponse : Zone → Inquiry → RRset → Path → Sections → Type 0
+IsProvenResponse z q soa p r = MatchResult (authority_sets z q.signed soa p.made p.end) (λ sets. IsResponseBy q p sets r) (λ refusal. r ≡ bare code.ServFail)
 
 -- a search fails at what this server doesn't answer: at a DNAME, and where an ANAME stands in for addresses
 abbrev pub fails : End → Bool
 fails failed = true
 fails _ = false
 
-abbrev pub IsResponseAlong : Inquiry → RRset → Path → Sections → Type 0
-IsResponseAlong q soa p r = MatchBool (fails p.end) (r ≡ bare code.ServFail) (IsResponseBy q soa p r)
+-- the response of a path, in a zone with this SOA set
+abbrev pub IsResponseAlong : Zone → Inquiry → RRset → Path → Sections → Type 0
+IsResponseAlong z q soa p r = MatchBool (fails p.end) (r ≡ bare code.ServFail) (IsProvenResponse z q soa p r)
 
--- a zone that denies by hashed names (RFC 5155)
-abbrev pub denies_by_hash : Option NxProofKind → Bool
-denies_by_hash (Some (kind.Nsec3 algorithm salt iterations opt_out)) = true
-denies_by_hash _ = false
-
--- the code of a query that isn't searched: of another class than the zone's or outside the zone; of a type that is no data; and with DNSSEC in a zone that denies by hashed names, which this server doesn't do
-abbrev pub refusal : Name → Option NxProofKind → Query → Option ResponseCode
-refusal origin kind q =
+-- the code of a query that isn't searched: of another class than the zone's or outside the zone; and of a type that is no data
+abbrev pub refusal : Name → Query → Option ResponseCode
+refusal origin q =
     cond (not (q.class == IN) || not (is_at_or_above origin q.name)) (Some code.Refused)
-    (cond (is_no_data q.record_type) (Some code.NotImp)
-    (cond (q.signed && denies_by_hash kind) (Some code.ServFail) None))
+    (cond (is_no_data q.record_type) (Some code.NotImp) None)
 
 -- a zone without SOA has failed, and else the path from the name that is asked for tells
-abbrev pub IsSearched : Inquiry → Name → Sections → Type 0
-IsSearched q x r = MatchOption (set_at q.sets q.origin SOA) (r ≡ bare code.ServFail) (λ soa. IsResponseAlong q soa (path q x) r)
+abbrev pub IsSearched : Zone → Inquiry → Name → Sections → Type 0
+IsSearched z q x r = MatchOption (set_at z.sets z.origin SOA) (r ≡ bare code.ServFail) (λ soa. IsResponseAlong z q soa (path q x) r)
 
 -- the response to a query: a refusal is its code alone
 abbrev pub IsResponse : Zone → Query → Sections → Type 0
-IsResponse z q r = MatchOption (refusal z.origin z.nx_proof_kind q) (IsSearched (inquiry z q) q.name r) (λ c. r ≡ bare c)
+IsResponse z q r = MatchOption (refusal z.origin q) (IsSearched z (inquiry z q) q.name r) (λ c. r ≡ bare c)

@@ -1,15 +1,15 @@
 //! What a query is answered with.
-ghost use Rattle.std.specs.Prelude.{◌≡◌, IfOk, IsOkUnless, option_copied};
+ghost use Rattle.std.specs.Prelude.{◌≡◌, ◌≢◌, IfOk, IsOkUnless};
 ghost use Rattle.zone_response.specs.Paths.{path_of};
-ghost use Rattle.zone_response.specs.Queries.{query_of, inquiry_of};
-ghost use Rattle.zone_response.specs.Responses.{bare, refusal, denies_by_hash, IsResponse, IsSearched, IsResponseAlong, IsResponseBy};
-ghost use Rattle.zone_response.specs.Sections.{sections};
+ghost use Rattle.zone_response.specs.Queries.{zone_of, query_of, inquiry_of};
+ghost use Rattle.zone_response.specs.Responses.{bare, refusal, IsResponse, IsSearched, IsResponseAlong, IsProvenResponse, IsResponseBy};
+ghost use Rattle.zone_response.specs.Sections.{sections, sent_sets};
 
 use crate::names::is_at_or_above;
 use crate::paths::{Path, walk};
 use crate::query_types::is_no_data;
 use crate::question::{Question, ServedZone};
-use crate::response::Response;
+use crate::response::{Response, Sent};
 use crate::sections::{
     authorities, code_at, fails, is_authority, left_at, send_additionals, send_glue_at,
 };
@@ -18,10 +18,10 @@ use std::alloc::Global;
 use zone_handler::{LookupError, LookupOptions};
 use zone_inner::InnerInMemory;
 use zone_proto::{
-    DNSClass, LowerName, NxProofKind, RecordSet, RecordType, ResponseCode, RrKey, Signer,
+    DNSClass, LowerName, Nsec3Hash, RecordSet, RecordType, ResponseCode, RrKey, Signer,
 };
 
-/// The response of a zone to a question, with signatures and the NSEC sets that prove it
+/// The response of a zone to a question, with signatures and the NSEC or NSEC3 sets that prove it
 /// where `options` ask for DNSSEC (RFC 1034 section 4.3.2). Refused by `Memory` alone. Its sets are lent out of the zone, but
 /// for those that a wildcard gives the name.
 ///
@@ -32,20 +32,17 @@ use zone_proto::{
 ///   encloser answers, if that exists (RFC 4592 section 3.3.1); a name that begins with `*` is a name like others.
 /// - For ANY one set is chosen (RFC 8482 section 4.1), and for RRSIG the signatures of that set go out.
 /// - An alias is followed as long as its target is a name of the zone that wasn't searched, up to 8 names.
-/// - With DNSSEC, a zone that denies by NSEC3 gives `ServFail`, and so do a DNAME above the name and an ANAME that stands in
-///   for addresses, with DNSSEC or without: these aren't answered yet.
-pub fn respond<'z, S: Signer>(
-    zone: ServedZone<'z, S>,
+/// - With DNSSEC, the authority section has the NSEC sets (RFC 4035 section 3.1.3) or NSEC3 sets (RFC 5155 section 7.2), each
+///   once, that prove a name error, absent data, an unsigned child, and each answer of a wildcard. Where the zone denies by NSEC3
+///   and its hash has no digest of a name that is hashed for this, or one that makes no owner name, the code is `ServFail`.
+/// - A DNAME above the name and an ANAME that stands in for addresses give `ServFail`: these aren't answered yet.
+pub fn respond<'z, S: Signer, H: Nsec3Hash>(
+    zone: ServedZone<'z, S, H>,
     question: Question<'_>,
     options: LookupOptions,
 ) -> Result<Response<'z>, LookupError>
     ensures response { IfOk result
-        (λ r. IsResponse
-        (record {
-          origin = zone.entry.origin.now;
-          sets = zone.entry.inner.now.records;
-          nx_proof_kind = option_copied zone.entry.nx_proof_kind;
-        })
+        (λ r. IsResponse (zone_of H.digest_of zone.entry)
         (query_of question.entry options.dnssec_ok) (sections r)) }
     ensures err { IsOkUnless result LookupError.Memory }
 {
@@ -55,62 +52,98 @@ pub fn respond<'z, S: Signer>(
         signed: options.dnssec_ok,
     };
     let name = question.name;
-    match refusal(zone.nx_proof_kind, question.query_class, asked, name) {
+    match refusal(question.query_class, asked, name) {
         Some(code) => Ok(bare(name.alloc(), code)),
-        None => searched(zone.inner, asked, name),
+        None => searched(&zone, asked, name),
     }
 }
 
-/// The response to a query that is searched.
-fn searched<'z, S: Signer>(
-    inner: &'z InnerInMemory<S>,
+/// The response to a query that is searched; the origin that is asked is the zone's.
+fn searched<'z, S: Signer, H: Nsec3Hash>(
+    zone: &ServedZone<'z, S, H>,
     asked: Asked<'_>,
     name: &LowerName,
 ) -> Result<Response<'z>, LookupError>
     ensures response { IfOk result
-        (λ r. IsSearched (inquiry_of asked.entry inner.now.records) name.now (sections r)) }
+        (λ r. IsSearched (zone_of H.digest_of zone.now)
+        (inquiry_of asked.entry zone.now.inner.now.records) name.now (sections r)) }
     ensures err { IsOkUnless result LookupError.Memory }
 {
-    let key = RrKey::new(asked.origin.clone()?, RecordType::SOA);
-    match inner.get(&key) {
-        Some(soa) => along(inner, asked, soa, walk(inner, asked, name)?),
+    let key = RrKey::new(zone.origin.clone()?, RecordType::SOA);
+    match zone.inner.get(&key) {
+        Some(soa) => along(zone, asked, soa, walk(zone.inner, asked, name)?),
         None => Ok(bare(name.alloc(), ResponseCode::ServFail)),
     }
 }
 
 /// The response along a path, in a zone with this SOA set.
-fn along<'z, S: Signer>(
-    inner: &'z InnerInMemory<S>,
+fn along<'z, S: Signer, H: Nsec3Hash>(
+    zone: &ServedZone<'z, S, H>,
     asked: Asked<'_>,
     soa: &'z RecordSet,
     path: Path<'z>,
 ) -> Result<Response<'z>, LookupError>
     ensures response { IfOk result
-        (λ r. IsResponseAlong (inquiry_of asked.entry inner.now.records) soa.now
-        (path_of path.entry) (sections r)) }
+        (λ r. IsResponseAlong (zone_of H.digest_of zone.now)
+        (inquiry_of asked.entry zone.now.inner.now.records) soa.now (path_of path.entry)
+        (sections r)) }
     ensures err { IsOkUnless result LookupError.Memory }
 {
     if fails(&path.end) {
         return Ok(bare(*path.answers.allocator(), ResponseCode::ServFail));
     }
-    by_path(inner, asked, soa, path)
+    proven(zone, asked, soa, path)
 }
 
 /// The response of a path that doesn't fail.
-fn by_path<'z, S: Signer>(
-    inner: &'z InnerInMemory<S>,
+fn proven<'z, S: Signer, H: Nsec3Hash>(
+    zone: &ServedZone<'z, S, H>,
     asked: Asked<'_>,
     soa: &'z RecordSet,
     path: Path<'z>,
 ) -> Result<Response<'z>, LookupError>
     ensures response { IfOk result
-        (λ r. IsResponseBy (inquiry_of asked.entry inner.now.records) soa.now
-        (path_of path.entry) (sections r)) }
+        (λ r. IsProvenResponse (zone_of H.digest_of zone.now)
+        (inquiry_of asked.entry zone.now.inner.now.records) soa.now (path_of path.entry)
+        (sections r)) }
     ensures err { IsOkUnless result LookupError.Memory }
 {
-    let Path { answers, made, end } = path;
+    match authorities(zone, asked.signed, soa, path.made.as_slice(), &path.end) {
+        Ok(authorities) => by_path(zone.inner, asked, path, authorities),
+        Err(error) => unproven(path, error),
+    }
+}
+
+/// The response of a path that says what can't be proved for this error; or want of memory, if it is that.
+fn unproven<'z>(path: Path<'z>, error: LookupError) -> Result<Response<'z>, LookupError>
+    ensures response { IfOk result
+        (λ r. (sections r ≡ bare ResponseCode.ServFail) × (error ≢ LookupError.Memory)) }
+    ensures err { IsOkUnless result LookupError.Memory }
+{
+    match error {
+        LookupError::Memory => Err(LookupError::Memory),
+        _ => Ok(bare(*path.answers.allocator(), ResponseCode::ServFail)),
+    }
+}
+
+/// The response of a path with this authority section.
+fn by_path<'z, S: Signer>(
+    inner: &'z InnerInMemory<S>,
+    asked: Asked<'_>,
+    path: Path<'z>,
+    authorities: Vec<Sent<'z>>,
+) -> Result<Response<'z>, LookupError>
+    ensures response { IfOk result
+        (λ r. IsResponseBy (inquiry_of asked.entry inner.now.records) (path_of path.entry)
+        (sent_sets authorities.entry) (sections r)) }
+    ensures err { IsOkUnless result LookupError.Memory }
+{
+    let Path {
+        answers,
+        made: _,
+        end,
+    } = path;
     let alloc = *answers.allocator();
-    let authorities = authorities(inner, asked.signed, soa, made, &end)?;
     let mut additionals = Vec::new(alloc);
     let mut glue = Vec::new(alloc);
     send_additionals(inner, asked, &answers, &end, &mut additionals)?;
@@ -127,14 +160,9 @@ fn by_path<'z, S: Signer>(
 }
 
 /// The code of a query that isn't searched.
-fn refusal(
-    kind: Option<&NxProofKind>,
-    query_class: DNSClass,
-    asked: Asked<'_>,
-    name: &LowerName,
-) -> Option<ResponseCode>
+fn refusal(query_class: DNSClass, asked: Asked<'_>, name: &LowerName) -> Option<ResponseCode>
     ensures { result
-        ≡ refusal asked.entry.origin.now (option_copied kind.entry)
+        ≡ refusal asked.entry.origin.now
         (record {
           name = name.now;
           record_type = asked.entry.record_type.0;
@@ -148,17 +176,7 @@ fn refusal(
     if is_no_data(asked.record_type) {
         return Some(ResponseCode::NotImp);
     }
-    if asked.signed && denies_by_hash(kind) {
-        return Some(ResponseCode::ServFail);
-    }
     None
-}
-
-/// Whether a zone of this kind denies by hashed names.
-fn denies_by_hash(kind: Option<&NxProofKind>) -> bool
-    ensures { result ≡ denies_by_hash (option_copied kind.entry) }
-{
-    matches!(kind, Some(NxProofKind::Nsec3 { .. }))
 }
 
 /// A response of a code alone.

@@ -1,79 +1,217 @@
-//! The NSEC sets that prove what a response says.
-ghost use Rattle.std.specs.Prelude.{◌≡◌, ◌++◌, ◌∷◌, map, IfOk, OnOk, IsOkUnless, option_copied, option_to_list};
+//! The NSEC or NSEC3 sets that prove what a response says.
+ghost use Rattle.std.specs.Prelude.{◌≡◌, ◌⊎◌, ◌++◌, fold, map, Ok, IfErr, IfOk, IsErr, OnOk, IsOkUnless, option_and_then, option_copied, option_to_list};
 ghost use Rattle.std.specs.List.{list_any};
 ghost use Rattle.zone_proto.specs.Names.{same_name};
+ghost use Rattle.zone_denial.specs.NsecDenial.{closest_nsec};
 ghost use Rattle.zone_inner.specs.Runs.{with_new};
-ghost use Rattle.zone_response.specs.Denials.{same_owner, with_nsec, nsec_sets, proved_at, sent_nsec};
+ghost use Rattle.zone_response.specs.Denials.{star_proof, denial, end_proof, same_owner, together, with_star_proof, proofs, sent_proof};
+ghost use Rattle.zone_response.specs.HashedDenials.{AsksByHash};
+ghost use Rattle.zone_response.specs.Queries.{zone_of};
 ghost use Rattle.zone_response.specs.Sections.{sent_sets};
 ghost use Rattle.zone_response.specs.Steps.{end_of};
 
+use crate::hashed_denials::no_data_proof;
 use crate::lists::{lend_for, push};
+use crate::question::ServedZone;
 use crate::response::{Part, Sent};
-use crate::steps::{End, Missing};
-use std::alloc::Global;
-use zone_handler::LookupError;
+use crate::steps::End;
+use zone_handler::{LookupError, Nsec3QueryInfo};
 use zone_inner::InnerInMemory;
-use zone_proto::{LowerName, ProtoError, RecordSet, Signer};
+use zone_proto::{LowerName, Nsec3Hash, NxProofKind, ProtoError, RecordSet, RecordType, Signer};
 
-/// Puts the names last of which an end says something; `ds` is the DS set of the child that is referred to, if it owns one.
-pub(crate) fn add_proved(
-    names: &mut Vec<LowerName>,
-    end: &End<'_>,
+/// The sets that prove that a star may answer for each name for which one did, and what the end says; each set once. `ds` is the DS
+/// set of the child that is referred to, if it owns one. Refused by `Memory`, and as the hash of a zone that denies by NSEC3
+/// refuses a name.
+pub(crate) fn proofs<'z, S: Signer, H: Nsec3Hash>(
+    zone: &ServedZone<'z, S, H>,
     ds: Option<&RecordSet>,
-) -> Result<(), ProtoError>
-    ensures ok { OnOk result
-        (names.new.items ≡ names.old.items ++ proved_at (option_copied ds.entry) (end_of end.now)) }
-    ensures err { IsOkUnless result ProtoError.Memory }
+    made: &[LowerName],
+    end: &End<'_>,
+) -> Result<Vec<&'z RecordSet>, LookupError>
+    ensures ok { IfOk result
+        (λ sets. proofs (zone_of H.digest_of zone.now) (option_copied ds.entry) made.now
+        (end_of end.now)
+        ≡ Ok (map (λ s. s.now) sets.items)) }
+    ensures err { IfErr result
+        (λ e. (e ≡ LookupError.Memory)
+        ⊎ IsErr (proofs (zone_of H.digest_of zone.now) (option_copied ds.entry) made.now
+        (end_of end.now))) }
 {
-    match end {
-        End::Missing(missing) => add_missing(names, missing),
-        End::Referred(cut) => match ds {
-            Some(_) => Ok(()),
-            None => push(names, LowerName::new(cut.name())?),
-        },
-        _ => Ok(()),
+    let mut sets = Vec::new(zone.origin.alloc());
+    for name in made {
+        add_star_proof(zone, name, &mut sets)?;
+    }
+    let more = end_proof(zone, ds, end)?;
+    add_all(&mut sets, more)?;
+    Ok(sets)
+}
+
+/// Puts the sets last that prove that a star may answer for a name, unless the list has them.
+fn add_star_proof<'z, S: Signer, H: Nsec3Hash>(
+    zone: &ServedZone<'z, S, H>,
+    name: &LowerName,
+    sets: &mut Vec<&'z RecordSet>,
+) -> Result<(), LookupError>
+    ensures ok { OnOk result
+        (with_star_proof (zone_of H.digest_of zone.now) (Ok (map (λ s. s.now) sets.old.items))
+        name.now
+        ≡ Ok (map (λ s. s.now) sets.new.items)) }
+    ensures err { IfErr result
+        (λ e. (e ≡ LookupError.Memory)
+        ⊎ IsErr (with_star_proof (zone_of H.digest_of zone.now)
+        (Ok (map (λ s. s.now) sets.old.items)) name.now)) }
+{
+    let more = star_proof(zone, name)?;
+    Ok(add_all(sets, more)?)
+}
+
+/// The sets that prove that a star may answer for a name.
+fn star_proof<'z, S: Signer, H: Nsec3Hash>(
+    zone: &ServedZone<'z, S, H>,
+    name: &LowerName,
+) -> Result<Vec<&'z RecordSet>, LookupError>
+    ensures ok { IfOk result
+        (λ sets. star_proof (zone_of H.digest_of zone.now) name.now
+        ≡ Ok (map (λ s. s.now) sets.items)) }
+    ensures err { IfErr result
+        (λ e. (e ≡ LookupError.Memory)
+        ⊎ IsErr (star_proof (zone_of H.digest_of zone.now) name.now)) }
+{
+    match hashed_query(zone.nx_proof_kind, name) {
+        Some(query) => {
+            let starred = Nsec3QueryInfo {
+                has_wildcard_match: true,
+                ..query
+            };
+            zone.inner.proof(starred, zone.origin, zone.hash)
+        }
+        None => nsec_proof(zone.inner, name, None),
     }
 }
 
-/// Puts a name without a set last, and the star that was asked for it.
-fn add_missing(names: &mut Vec<LowerName>, missing: &Missing) -> Result<(), ProtoError>
-    ensures ok { OnOk result
-        (names.new.items
-        ≡ names.old.items ++ missing.now.name ∷ option_to_list missing.now.star) }
-    ensures err { IsOkUnless result ProtoError.Memory }
+/// The sets that prove what an end says.
+fn end_proof<'z, S: Signer, H: Nsec3Hash>(
+    zone: &ServedZone<'z, S, H>,
+    ds: Option<&RecordSet>,
+    end: &End<'_>,
+) -> Result<Vec<&'z RecordSet>, LookupError>
+    ensures ok { IfOk result
+        (λ sets. end_proof (zone_of H.digest_of zone.now) (option_copied ds.entry)
+        (end_of end.now)
+        ≡ Ok (map (λ s. s.now) sets.items)) }
+    ensures err { IfErr result
+        (λ e. (e ≡ LookupError.Memory)
+        ⊎ IsErr (end_proof (zone_of H.digest_of zone.now) (option_copied ds.entry)
+        (end_of end.now))) }
 {
-    push(names, missing.name.clone()?)?;
-    match &missing.star {
-        Some(star) => push(names, star.clone()?),
+    match end {
+        End::Missing(missing) => denial(zone, &missing.name, missing.star.as_ref()),
+        End::Referred(cut) => match ds {
+            Some(_) => Ok(Vec::new(zone.origin.alloc())),
+            None => denial(zone, &LowerName::new(cut.name())?, None),
+        },
+        _ => Ok(Vec::new(zone.origin.alloc())),
+    }
+}
+
+/// The sets that prove that a name, and the star that was asked for it, hasn't what is asked for.
+fn denial<'z, S: Signer, H: Nsec3Hash>(
+    zone: &ServedZone<'z, S, H>,
+    name: &LowerName,
+    star: Option<&LowerName>,
+) -> Result<Vec<&'z RecordSet>, LookupError>
+    ensures ok { IfOk result
+        (λ sets. denial (zone_of H.digest_of zone.now) name.now (option_copied star.entry)
+        ≡ Ok (map (λ s. s.now) sets.items)) }
+    ensures err { IfErr result
+        (λ e. (e ≡ LookupError.Memory)
+        ⊎ IsErr (denial (zone_of H.digest_of zone.now) name.now (option_copied star.entry))) }
+{
+    match hashed_query(zone.nx_proof_kind, name) {
+        Some(query) => match star {
+            Some(_) => zone.inner.proof(query, zone.origin, zone.hash),
+            None => no_data_proof(zone, query),
+        },
+        None => nsec_proof(zone.inner, name, star),
+    }
+}
+
+/// What is asked of a zone that denies by NSEC3, of this kind, about a name for which no wildcard answered.
+fn hashed_query<'q>(
+    kind: Option<&'q NxProofKind>,
+    name: &'q LowerName,
+) -> Option<Nsec3QueryInfo<'q>>
+    ensures { AsksByHash (option_copied kind.entry) name.now result }
+{
+    match kind {
+        Some(
+            NxProofKind::Nsec3 {
+                algorithm,
+                salt,
+                iterations,
+                ..
+            },
+        ) => Some(Nsec3QueryInfo {
+            qname: name,
+            // Nothing depends on the type.
+            qtype: RecordType::NSEC3,
+            has_wildcard_match: false,
+            algorithm: *algorithm,
+            salt: salt.as_slice(),
+            iterations: *iterations,
+        }),
+        Some(NxProofKind::Nsec) | None => None,
+    }
+}
+
+/// The NSEC sets of a name and of the star that was asked for it, or else those that cover them.
+fn nsec_proof<'z, S: Signer>(
+    inner: &'z InnerInMemory<S>,
+    name: &LowerName,
+    star: Option<&LowerName>,
+) -> Result<Vec<&'z RecordSet>, LookupError>
+    ensures ok { IfOk result
+        (λ sets. map (λ s. s.now) sets.items
+        ≡ option_to_list (closest_nsec inner.now.records name.now)
+        ++ option_to_list
+        (option_and_then (closest_nsec inner.now.records) (option_copied star.entry))) }
+    ensures err { IsOkUnless result LookupError.Memory }
+{
+    let mut sets = Vec::new(name.alloc());
+    add_closest(inner, name, &mut sets)?;
+    if let Some(star) = star {
+        add_closest(inner, star, &mut sets)?;
+    }
+    Ok(sets)
+}
+
+/// Puts the NSEC set of a name last, or else the one that covers it, if there is one.
+fn add_closest<'z, S: Signer>(
+    inner: &'z InnerInMemory<S>,
+    name: &LowerName,
+    sets: &mut Vec<&'z RecordSet>,
+) -> Result<(), LookupError>
+    ensures ok { OnOk result
+        (map (λ s. s.now) sets.new.items
+        ≡ map (λ s. s.now) sets.old.items
+        ++ option_to_list (closest_nsec inner.now.records name.now)) }
+    ensures err { IsOkUnless result LookupError.Memory }
+{
+    match inner.closest_nsec(name)? {
+        Some(set) => Ok(push(sets, set)?),
         None => Ok(()),
     }
 }
 
-/// Puts the NSEC sets of names last, each set once, with the lesser one of their TTL and of this.
-pub(crate) fn send_proofs<'z, S: Signer>(
-    inner: &'z InnerInMemory<S>,
-    names: &[LowerName],
-    ttl: u32,
-    list: &mut Vec<Sent<'z>>,
-) -> Result<(), LookupError>
-    ensures ok { OnOk result
-        (sent_sets list.new
-        ≡ sent_sets list.old ++ map (sent_nsec ttl) (nsec_sets inner.now.records names.now)) }
-    ensures err { IsOkUnless result LookupError.Memory }
-{
-    let sets = nsec_sets(*list.allocator(), inner, names)?;
-    Ok(send_nsec(sets, ttl, list)?)
-}
-
-/// Puts NSEC sets last, with the lesser one of their TTL and of this.
-fn send_nsec<'z>(
+/// Puts the sets last that prove something, with the lesser one of their TTL and of this.
+pub(crate) fn send_proofs<'z>(
     sets: Vec<&'z RecordSet>,
     ttl: u32,
     list: &mut Vec<Sent<'z>>,
 ) -> Result<(), ProtoError>
     ensures ok { OnOk result
         (sent_sets list.new
-        ≡ sent_sets list.old ++ map (sent_nsec ttl) (map (λ s. s.now) sets.entry.items)) }
+        ≡ sent_sets list.old ++ map (sent_proof ttl) (map (λ s. s.now) sets.entry.items)) }
     ensures err { IsOkUnless result ProtoError.Memory }
 {
     for set in sets {
@@ -82,38 +220,18 @@ fn send_nsec<'z>(
     Ok(())
 }
 
-/// The NSEC sets of names, each set once.
-fn nsec_sets<'z, S: Signer>(
-    alloc: Global,
-    inner: &'z InnerInMemory<S>,
-    names: &[LowerName],
-) -> Result<Vec<&'z RecordSet>, LookupError>
-    ensures ok { IfOk result
-        (λ sets. map (λ s. s.now) sets.items ≡ nsec_sets inner.now.records names.now) }
-    ensures err { IsOkUnless result LookupError.Memory }
-{
-    let mut sets = Vec::new(alloc);
-    for name in names {
-        add_closest(inner, name, &mut sets)?;
-    }
-    Ok(sets)
-}
-
-/// Puts the NSEC set of a name last, if there is one and the list doesn't have it.
-fn add_closest<'z, S: Signer>(
-    inner: &'z InnerInMemory<S>,
-    name: &LowerName,
-    sets: &mut Vec<&'z RecordSet>,
-) -> Result<(), LookupError>
+/// Puts sets last, each unless the list has one of its owner.
+fn add_all<'z>(sets: &mut Vec<&'z RecordSet>, more: Vec<&'z RecordSet>) -> Result<(), ProtoError>
     ensures ok { OnOk result
         (map (λ s. s.now) sets.new.items
-        ≡ with_nsec inner.now.records (map (λ s. s.now) sets.old.items) name.now) }
-    ensures err { IsOkUnless result LookupError.Memory }
+        ≡ fold (with_new same_owner) (map (λ s. s.now) sets.old.items)
+        (map (λ s. s.now) more.entry.items)) }
+    ensures err { IsOkUnless result ProtoError.Memory }
 {
-    match inner.closest_nsec(name)? {
-        Some(set) => Ok(add_new(sets, set)?),
-        None => Ok(()),
+    for set in more {
+        add_new(sets, set)?;
     }
+    Ok(())
 }
 
 /// Puts a set last, unless one of the list has its owner.

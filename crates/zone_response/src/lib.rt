@@ -1,16 +1,17 @@
 //! The whole response of an authoritative server, by its sections (RFC 1034 section 4.3.2): code, AA, the answer section with
-//! chains of aliases, referrals with their DS sets and glue, the SOA of a negative response, the NSEC sets that prove what is
-//! said, and the additional section.
+//! chains of aliases, referrals with their DS sets and glue, the SOA of a negative response, the NSEC or NSEC3 sets that prove
+//! what is said, and the additional section.
 //!
-//! Zones without DNSSEC are answered whole, and so are zones that deny by NSEC. Three things aren't answered yet, and give
-//! `ServFail`: a query with DNSSEC to a zone that denies by NSEC3, a name below the owner of a DNAME, and addresses of a name
-//! for which an ANAME stands in. A user of these needs another server.
+//! Zones without DNSSEC are answered whole, and so are zones that deny by NSEC, and by NSEC3 with and without opt-out. Two things
+//! aren't answered yet, and give `ServFail`: a name below the owner of a DNAME, and addresses of a name for which an ANAME stands
+//! in. A user of these needs another server.
 //!
 //! Contracts see a response as its code and its sections, each a list of record sets as they go out.
 #![tactic(auto)]
 
 mod answering;
 mod denials;
+mod hashed_denials;
 mod hosts;
 mod lists;
 mod names;

@@ -1,17 +1,20 @@
 //! What is asked, and of which zone.
 
 use zone_inner::InnerInMemory;
-use zone_proto::{DNSClass, LowerName, NxProofKind, RecordType, Signer};
+use zone_proto::{DNSClass, LowerName, Nsec3Hash, NxProofKind, RecordType, Signer};
 
-/// A zone that is asked: of an `InMemoryZoneHandler` what its calls `origin`, `inner` and `nx_proof_kind` lend.
+/// A zone that is asked: of an `InMemoryZoneHandler` what its calls `origin`, `inner` and `nx_proof_kind` lend, and a hash of
+/// names as it was made with.
 #[derive(Drop)]
-pub struct ServedZone<'z, S: Signer> {
+pub struct ServedZone<'z, S: Signer, H: Nsec3Hash> {
     /// The name at its top.
     pub origin: &'z LowerName,
     /// Its record sets.
     pub inner: &'z InnerInMemory<S>,
     /// How it denies what it doesn't hold.
     pub nx_proof_kind: Option<&'z NxProofKind>,
+    /// What names are hashed by, where it denies by NSEC3 (RFC 5155 section 5).
+    pub hash: &'z H,
 }
 
 /// A question (RFC 1035 section 4.1.2).

@@ -1,20 +1,23 @@
 //! The parts of a response by how its search ends.
-ghost use Rattle.std.specs.Prelude.{◌≡◌, ◌++◌, map, IfOk, OnOk, IsOkUnless, option_copied};
+ghost use Rattle.std.specs.Prelude.{◌≡◌, ◌⊎◌, ◌++◌, map, Ok, IfOk, IfErr, IsErr, OnOk, IsOkUnless, option_copied};
 ghost use Rattle.zone_response.specs.Responses.{code_at, is_authority, negative_ttl, ds_at, referral_sets, end_sets, proof_sets, authority_sets, beside_last, additional_sets, glue_at, left_at, fails};
 ghost use Rattle.zone_response.specs.Hosts.{beside};
-ghost use Rattle.zone_response.specs.Queries.{inquiry_of};
+ghost use Rattle.zone_response.specs.Queries.{inquiry_of, zone_of};
 ghost use Rattle.zone_response.specs.Sections.{sent_set, sent_sets};
 ghost use Rattle.zone_response.specs.Steps.{end_of};
 
-use crate::denials::{add_proved, send_proofs};
+use crate::denials::{proofs, send_proofs};
 use crate::hosts::{send_beside, send_glue, send_siblings};
 use crate::lists::{lend, lend_for};
+use crate::question::ServedZone;
 use crate::response::{Part, Sent};
 use crate::steps::{Asked, End, part_for};
 use zone_handler::LookupError;
 use zone_inner::InnerInMemory;
 use zone_inner::start_of_authority::first_soa;
-use zone_proto::{LowerName, ProtoError, RecordSet, RecordType, ResponseCode, RrKey, Signer};
+use zone_proto::{
+    LowerName, Nsec3Hash, ProtoError, RecordSet, RecordType, ResponseCode, RrKey, Signer,
+};
 
 /// Whether a search fails at what this server doesn't answer.
 pub(crate) fn fails(end: &End<'_>) -> bool
@@ -66,49 +69,52 @@ fn negative_ttl(soa: &RecordSet) -> u32
     }
 }
 
-/// The authority section.
-pub(crate) fn authorities<'z, S: Signer>(
-    inner: &'z InnerInMemory<S>,
+/// The authority section. Refused by `Memory`, and as the hash of a zone that denies by NSEC3 refuses a name.
+pub(crate) fn authorities<'z, S: Signer, H: Nsec3Hash>(
+    zone: &ServedZone<'z, S, H>,
     signed: bool,
     soa: &'z RecordSet,
-    made: Vec<LowerName>,
+    made: &[LowerName],
     end: &End<'z>,
 ) -> Result<Vec<Sent<'z>>, LookupError>
     ensures ok { IfOk result
-        (λ list. sent_sets list
-        ≡ authority_sets inner.now.records signed soa.now made.items (end_of end.now)) }
-    ensures err { IsOkUnless result LookupError.Memory }
+        (λ list. authority_sets (zone_of H.digest_of zone.now) signed soa.now made.now
+        (end_of end.now)
+        ≡ Ok (sent_sets list)) }
+    ensures err { IfErr result
+        (λ e. (e ≡ LookupError.Memory)
+        ⊎ IsErr (authority_sets (zone_of H.digest_of zone.now) signed soa.now made.now
+        (end_of end.now))) }
 {
-    let mut list = Vec::new(*made.allocator());
-    let ds = ds_at(inner, end)?;
+    let mut list = Vec::new(zone.origin.alloc());
+    let ds = ds_at(zone.inner, end)?;
     send_end(soa, end, ds, signed, &mut list)?;
-    send_proof_sets(inner, signed, soa, made, end, ds, &mut list)?;
+    let sets = proof_sets(zone, signed, made, end, ds)?;
+    send_proofs(sets, negative_ttl(soa), &mut list)?;
     Ok(list)
 }
 
-/// Puts the sets last that prove what is said, where the query asks for DNSSEC.
-fn send_proof_sets<'z, S: Signer>(
-    inner: &'z InnerInMemory<S>,
+/// The sets that prove what is said, where the query asks for DNSSEC.
+fn proof_sets<'z, S: Signer, H: Nsec3Hash>(
+    zone: &ServedZone<'z, S, H>,
     signed: bool,
-    soa: &RecordSet,
-    made: Vec<LowerName>,
+    made: &[LowerName],
     end: &End<'_>,
     ds: Option<&RecordSet>,
-    list: &mut Vec<Sent<'z>>,
-) -> Result<(), LookupError>
-    ensures ok { OnOk result
-        (sent_sets list.new
-        ≡ sent_sets list.old
-        ++ proof_sets inner.now.records (option_copied ds.entry) signed soa.now made.items
-        (end_of end.now)) }
-    ensures err { IsOkUnless result LookupError.Memory }
+) -> Result<Vec<&'z RecordSet>, LookupError>
+    ensures ok { IfOk result
+        (λ sets. proof_sets (zone_of H.digest_of zone.now) (option_copied ds.entry) signed
+        made.now (end_of end.now)
+        ≡ Ok (map (λ s. s.now) sets.items)) }
+    ensures err { IfErr result
+        (λ e. (e ≡ LookupError.Memory)
+        ⊎ IsErr (proof_sets (zone_of H.digest_of zone.now) (option_copied ds.entry) signed
+        made.now (end_of end.now))) }
 {
     if !signed {
-        return Ok(());
+        return Ok(Vec::new(zone.origin.alloc()));
     }
-    let mut names = made;
-    add_proved(&mut names, end, ds)?;
-    send_proofs(inner, &names, negative_ttl(soa), list)
+    proofs(zone, ds, made, end)
 }
 
 /// The DS set of the child to which a search is referred.

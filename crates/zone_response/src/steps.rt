@@ -2,7 +2,6 @@
 ghost use Rattle.std.specs.Prelude.{◌≡◌, ◌++◌, ◌∷◌, [], IfOk, OnOk, IsOkUnless};
 ghost use Rattle.zone_map.specs.Chains.{cname_target};
 ghost use Rattle.zone_inner.specs.FoundSets.{found_set};
-ghost use Rattle.zone_map.specs.Wildcards.{renamed, renamed_signature};
 ghost use Rattle.zone_response.specs.Nodes.{node_of};
 ghost use Rattle.zone_response.specs.Sections.{as_it_is, sent_sets, part_for};
 ghost use Rattle.zone_response.specs.Queries.{inquiry_of};
@@ -12,13 +11,12 @@ use crate::lists::{push, send};
 use crate::names::is_at_or_above;
 use crate::nodes::{Node, at_node};
 use crate::response::{Part, Sent};
-use crate::sources::{exists, star_of};
+use crate::sources::star_of;
 use crate::turns::{Turning, turn};
 use zone_handler::LookupError;
-use zone_inner::{Found, InnerInMemory};
-use zone_proto::{
-    LowerName, Name, ProtoError, RData, Record, RecordSet, RecordType, RrKey, Signer,
-};
+use zone_inner::{Found, InnerInMemory, cname_target};
+use zone_map::wildcard::renamed;
+use zone_proto::{LowerName, Name, ProtoError, RecordSet, RecordType, RrKey, Signer};
 
 /// What is asked, apart from the name.
 #[derive(Clone, Copy)]
@@ -111,7 +109,7 @@ fn name_step<'z, S: Signer>(
     ensures err { IsOkUnless result LookupError.Memory }
 {
     let mut key = RrKey::first_of(name)?;
-    if exists(inner, &key) {
+    if inner.exists(&key) {
         let node = at_node(inner, &mut key, asked.record_type)?;
         return node_step(node, None, name, asked, so_far);
     }
@@ -136,7 +134,7 @@ fn star_step<'z, S: Signer>(
         return Ok(at_missing(name, None, false)?);
     };
     let mut key = RrKey::first_of(&star)?;
-    if !exists(inner, &key) {
+    if !inner.exists(&key) {
         return Ok(at_missing(name, Some(star), false)?);
     }
     let node = at_node(inner, &mut key, asked.record_type)?;
@@ -224,20 +222,6 @@ fn after_alias<'z>(set: &RecordSet) -> Result<Next<'z>, ProtoError>
     })
 }
 
-/// The target of a set whose first record is a CNAME.
-fn cname_target(set: &RecordSet) -> Result<Option<LowerName>, ProtoError>
-    ensures target { IfOk result (λ target. target ≡ cname_target set.now) }
-    ensures err { IsOkUnless result ProtoError.Memory }
-{
-    match set.records_without_rrsigs().next() {
-        Some(first) => match &first.rdata {
-            RData::CNAME(target) => Ok(Some(LowerName::new(target)?)),
-            _ => Ok(None),
-        },
-        None => Ok(None),
-    }
-}
-
 /// Puts a set as it is found for a name behind the sets so far, and the name behind the names if a star has the set.
 fn answer<'z>(
     set: &'z RecordSet,
@@ -295,42 +279,4 @@ fn found_for<'z>(
         Some(star) => Ok(Found::Made(renamed(set, &Name::from(star), name, keep)?)),
         None => Ok(Found::Stored(set)),
     }
-}
-
-/// A star's set under a name.
-fn renamed(
-    set: &RecordSet,
-    star: &Name,
-    name: &LowerName,
-    keep: bool,
-) -> Result<RecordSet, ProtoError>
-    ensures made { IfOk result (λ made. made ≡ renamed keep star.now name.now set.now) }
-    ensures err { IsOkUnless result ProtoError.Memory }
-{
-    let owner = Name::from(name.clone()?);
-    let mut made = set.clone_under(owner, set.ttl())?;
-    if keep {
-        for rrsig in set.rrsigs() {
-            made.insert_rrsig(renamed_signature(rrsig, star, name)?)?;
-        }
-    }
-    Ok(made)
-}
-
-/// A signature of a star's set under a name: one that the star owns is the name's.
-fn renamed_signature(rrsig: &Record, star: &Name, name: &LowerName) -> Result<Record, ProtoError>
-    ensures made { IfOk result (λ made. made ≡ renamed_signature star.now name.now rrsig.now) }
-    ensures err { IsOkUnless result ProtoError.Memory }
-{
-    let owner = if rrsig.name == *star {
-        Name::from(name.clone()?)
-    } else {
-        rrsig.name.clone()?
-    };
-    Ok(Record {
-        name: owner,
-        dns_class: rrsig.dns_class,
-        ttl: rrsig.ttl,
-        rdata: rrsig.rdata.clone()?,
-    })
 }

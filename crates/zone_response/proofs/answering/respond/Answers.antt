@@ -1,15 +1,12 @@
-use Rattle.std.specs.Prelude.{option_copied}
-use Rattle.zone_response.specs.Queries.{query_of}
+use Rattle.zone_response.specs.Queries.{zone_of, query_of}
 use Rattle.zone_response.specs.Sections.{sections}
 use Rattle.zone_response.proofs.ResponseCases.{refused, searched}
 use Rattle.zone_response.proofs.answering.respond.Goals as goal
 
 pub returns-in-Some-clause-response : goal.returns-in-Some-clause-response
 returns-in-Some-clause-response g c =
-    refused (record { origin = c.args.zone.origin.now; sets = c.args.zone.inner.now.records; nx_proof_kind = option_copied c.args.zone.nx_proof_kind })
-    (query_of c.args.question c.args.options.dnssec_ok) c.in-Some.code (sections c.bare.result) c.in-Some.ensures c.bare.ensures
+    refused (zone_of g.H.Nsec3Hash.digest_of c.args.zone) (query_of c.args.question c.args.options.dnssec_ok) c.in-Some.code (sections c.bare.result) c.in-Some.ensures c.bare.ensures
 
 pub returns-in-None-clause-response : goal.returns-in-None-clause-response
 returns-in-None-clause-response g c =
-    searched (record { origin = c.args.zone.origin.now; sets = c.args.zone.inner.now.records; nx_proof_kind = option_copied c.args.zone.nx_proof_kind })
-    (query_of c.args.question c.args.options.dnssec_ok) c.searched.result c.in-None.ensures c.searched.ensures.response
+    searched (zone_of g.H.Nsec3Hash.digest_of c.args.zone) (query_of c.args.question c.args.options.dnssec_ok) c.searched.result c.in-None.ensures c.searched.ensures.response

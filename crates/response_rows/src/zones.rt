@@ -1,0 +1,138 @@
+//! The zones of a server by their words, and what they answer.
+
+use crate::message_text::{frames_text, message_text};
+use crate::octets::octets_of;
+use crate::queries::{message_of, transport_of};
+use anyhow::bail;
+use std::alloc::Global;
+use zone_handler::{AxfrPolicy, ZoneHandler, ZoneType};
+use zone_proto::{NxProofKind, Seq};
+use zone_response::ServedZone;
+use zone_server::{Answered, Mode, answer, serve_frames};
+use zone_store::InMemoryZoneHandler;
+use zone_store::program::{DemoSigner, Sha1Hash};
+use zone_text::{Words, read_hex, read_name, read_record, read_u8};
+
+/// A zone that is served.
+pub type Zone = InMemoryZoneHandler<DemoSigner, Sha1Hash>;
+
+/// A zone without records by its words.
+pub fn read_zone(alloc: Global, words: &mut Words<'_>) -> anyhow::Result<Zone> {
+    let origin = read_name(alloc, words)?;
+    let kind = match words.take() {
+        None => None,
+        Some(word) if word == b"nsec".as_slice() => Some(NxProofKind::Nsec),
+        Some(_) => Some(read_hashed_kind(alloc, words)?),
+    };
+    let (zone_type, policy) = (ZoneType::Primary, AxfrPolicy::Deny);
+    Ok(Zone::empty(origin, zone_type, policy, kind, Sha1Hash))
+}
+
+/// How a zone denies by NSEC3: by SHA-1, or with the algorithm, the salt in hex and the iterations that follow, and then `optout`.
+fn read_hashed_kind(alloc: Global, words: &mut Words<'_>) -> anyhow::Result<NxProofKind> {
+    let Some(word) = words.take() else {
+        return Ok(NxProofKind::Nsec3 {
+            algorithm: 1,
+            salt: Seq::new(alloc),
+            iterations: 0,
+            opt_out: false,
+        });
+    };
+    let (Some(algorithm), Some(salt)) = (read_u8(word), read_hex(alloc, words.take_needed()?)?)
+    else {
+        bail!("no algorithm and salt");
+    };
+    Ok(NxProofKind::Nsec3 {
+        algorithm,
+        salt: Seq::from_vec(salt),
+        iterations: words.take_u16()?,
+        opt_out: words.take_flag(b"optout")?,
+    })
+}
+
+/// Signs the last zone at the moment 0.
+pub fn secure(zones: &mut Vec<Zone>) -> anyhow::Result<()> {
+    let Some(zone) = zones.last_mut() else {
+        bail!("there is no zone to be signed");
+    };
+    let signer = DemoSigner::new(1, zone.origin())?;
+    if zone.add_zone_signing_key_mut(signer).is_err() || zone.secure_zone_mut(0).is_err() {
+        bail!("a zone wasn't signed");
+    }
+    Ok(())
+}
+
+/// Puts a record into the last zone by its words.
+pub fn add(alloc: Global, zones: &mut Vec<Zone>, words: &mut Words<'_>) -> anyhow::Result<()> {
+    let Some(zone) = zones.last_mut() else {
+        bail!("there is no zone for a record");
+    };
+    let new = read_record(alloc, words)?;
+    let serial = zone.serial();
+    if !zone.upsert(new, serial)? {
+        bail!("a record wasn't taken");
+    }
+    Ok(())
+}
+
+/// A zone as it is served.
+pub fn lent(zone: &Zone) -> ServedZone<'_, DemoSigner, Sha1Hash> {
+    ServedZone {
+        origin: zone.origin(),
+        inner: zone.inner(),
+        nx_proof_kind: zone.nx_proof_kind(),
+        hash: &Sha1Hash,
+    }
+}
+
+/// The zones as they are served.
+fn served(
+    alloc: Global,
+    zones: &[Zone],
+) -> anyhow::Result<Vec<ServedZone<'_, DemoSigner, Sha1Hash>>> {
+    let mut served = Vec::new(alloc);
+    for zone in zones {
+        served.push(lent(zone))?;
+    }
+    Ok(served)
+}
+
+/// The response to a message by its words.
+pub fn ask(alloc: Global, zones: &[Zone], words: &str) -> anyhow::Result<String> {
+    let Some((way, words)) = words.split_once(" ") else {
+        bail!("a row has no transport");
+    };
+    let message = message_of(alloc, words)?;
+    let zones = served(alloc, zones)?;
+    let mut out = Vec::new(alloc);
+    match answer(
+        alloc,
+        zones.as_slice(),
+        message.as_slice(),
+        transport_of(way)?,
+        &mut out,
+    )? {
+        Answered::Nothing => Ok(format!(in alloc; ";; no response\n")?),
+        Answered::Response => message_text(alloc, out.as_slice()),
+    }
+}
+
+/// The responses to frames by their words.
+pub fn serve(alloc: Global, zones: &[Zone], words: &str) -> anyhow::Result<String> {
+    let Some((mode, hex)) = words.split_once(" ") else {
+        bail!("a row has no mode");
+    };
+    let mode = if mode == "stream" {
+        Mode::Stream
+    } else {
+        Mode::Limits
+    };
+    let frames = octets_of(alloc, hex)?;
+    let zones = served(alloc, zones)?;
+    let mut input = frames.as_slice();
+    let mut output = Vec::new(alloc);
+    if serve_frames(alloc, zones.as_slice(), mode, &mut input, &mut output).is_err() {
+        bail!("frames weren't served");
+    }
+    frames_text(alloc, output.as_slice())
+}

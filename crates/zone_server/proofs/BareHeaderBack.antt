@@ -1,0 +1,119 @@
+-- A response of a header alone, read back
+use Rattle.std.proofs.Common.{◌≡◌, ℕ, length, sym, subst, ◌+◌, ◌*◌, ◌/◌, ◌%◌, ◌<◌, Bool, true, false, eqb, List, [], Some, ap, arith}
+use Rattle.std.specs.Prelude.{if◌then◌else◌, Result, Ok, Err, OnOk}
+use Rattle.std.specs.declared.alloc.AllocError.{AllocError}
+use Rattle.zone_message.specs.declared.header.Header.{Header}
+use Rattle.zone_message.specs.Headers.{has_bit}
+use Rattle.zone_message.specs.Messages.{several, sections_of, message_of}
+use Rattle.zone_server.specs.BareHeaders.{bare_text, IsBareHeader}
+
+bit_is : (weight n b : ℕ) → (n / weight) % 2 ≡ b → has_bit weight n ≡ eqb b 1
+bit_is weight n b e = ap (λ x. eqb x 1) e
+
+-- ---- QR, opcode and RD
+
+abbrev high_of : ℕ → Bool → ℕ
+high_of opcode desired = 128 + (opcode * 8 + (if desired then 1 else 0))
+
+record IsHigh (opcode : ℕ) (desired : Bool) (n : ℕ) : Type 0 where
+  response : has_bit 128 n ≡ true
+  opcode_is : (n / 8) % 16 ≡ opcode
+  aa : has_bit 4 n ≡ false
+  tc : has_bit 2 n ≡ false
+  rd : eqb (n % 2) 1 ≡ desired
+
+high_is : (opcode : ℕ) (desired : Bool) → opcode < 16 → IsHigh opcode desired (high_of opcode desired)
+high_is opcode true small =
+    let n = 128 + (opcode * 8 + 1) in
+    record {
+      response = bit_is 128 n 1 (omega arith);
+      opcode_is = omega arith;
+      aa = bit_is 4 n 0 (omega arith);
+      tc = bit_is 2 n 0 (omega arith);
+      rd = let odd : n % 2 ≡ 1 = omega arith in ap (λ x. eqb x 1) odd;
+    }
+high_is opcode false small =
+    let n = 128 + (opcode * 8 + 0) in
+    record {
+      response = bit_is 128 n 1 (omega arith);
+      opcode_is = omega arith;
+      aa = bit_is 4 n 0 (omega arith);
+      tc = bit_is 2 n 0 (omega arith);
+      rd = let even : n % 2 ≡ 0 = omega arith in ap (λ x. eqb x 1) even;
+    }
+
+-- ---- CD and the response code
+
+abbrev low_of : Bool → ℕ → ℕ
+low_of disabled code = (if disabled then 16 else 0) + code
+
+record IsLow (disabled : Bool) (code n : ℕ) : Type 0 where
+  ra : has_bit 128 n ≡ false
+  z : has_bit 64 n ≡ false
+  ad : has_bit 32 n ≡ false
+  cd : has_bit 16 n ≡ disabled
+  rcode : n % 16 ≡ code
+
+low_is : (disabled : Bool) (code : ℕ) → code < 16 → IsLow disabled code (low_of disabled code)
+low_is true code small =
+    let n = 16 + code in
+    record {
+      ra = bit_is 128 n 0 (omega arith);
+      z = bit_is 64 n 0 (omega arith);
+      ad = bit_is 32 n 0 (omega arith);
+      cd = bit_is 16 n 1 (omega arith);
+      rcode = omega arith;
+    }
+low_is false code small =
+    let n = 0 + code in
+    record {
+      ra = bit_is 128 n 0 (omega arith);
+      z = bit_is 64 n 0 (omega arith);
+      ad = bit_is 32 n 0 (omega arith);
+      cd = bit_is 16 n 0 (omega arith);
+      rcode = omega arith;
+    }
+
+-- ---- the header
+
+pub bare_back : (h : Header) (code : ℕ) → h.opcode < 16 → code < 16 → IsBareHeader h code (bare_text h code)
+unfolding message_of sections_of several
+bare_back h code small_opcode small_code =
+    let high = high_is h.opcode h.recursion_desired small_opcode in
+    let low = low_is h.checking_disabled code small_code in
+    let id : (h.id / 256) * 256 + h.id % 256 ≡ h.id = omega arith in
+    λ i. Some (record {
+      header = record {
+        id = id i;
+        is_response = high.response i;
+        opcode = high.opcode_is i;
+        authoritative = high.aa i;
+        truncated = high.tc i;
+        recursion_desired = high.rd i;
+        recursion_available = low.ra i;
+        reserved = low.z i;
+        authentic_data = low.ad i;
+        checking_disabled = low.cd i;
+        response_code = low.rcode i;
+        questions = 0;
+        answers = 0;
+        authorities = 0;
+        additionals = 0;
+      };
+      questions = [];
+      answers = [];
+      authorities = [];
+      additionals = [];
+    })
+
+-- ---- written
+
+pub bare_written : (r : Result (Unit {0}) AllocError) (h : Header) (code : ℕ) (octets : List ℕ) → h.opcode < 16 → code < 16
+    → OnOk r (octets ≡ bare_text h code) → OnOk r (IsBareHeader h code octets)
+bare_written (Ok done) h code octets small_opcode small_code e = subst (IsBareHeader h code) (sym e) (bare_back h code small_opcode small_code)
+bare_written (Err error) h code octets small_opcode small_code e = tt
+
+pub bare_length : (r : Result (Unit {0}) AllocError) (h : Header) (code : ℕ) (octets : List ℕ)
+    → OnOk r (octets ≡ bare_text h code) → OnOk r (length octets ≡ 12)
+bare_length (Ok done) h code octets e = ap length e
+bare_length (Err error) h code octets e = tt

@@ -1,0 +1,193 @@
+//! From the octets of a query to those of its response.
+ghost use Rattle.std.specs.Prelude.{◌≡◌, ◌<◌, ◌≤◌, length, map, IfOk, OnOk};
+ghost use Rattle.zone_response.specs.Responses.{bare};
+ghost use Rattle.zone_server.specs.Answers.{asked_of, bad_version, IsAnswer, IsAnswerTo, IsResponseTo, IsSent, Tells};
+ghost use Rattle.zone_server.specs.BareHeaders.{HasOpcode, IsBareHeader};
+ghost use Rattle.zone_server.specs.Limits.{limit_for};
+ghost use Rattle.zone_response.specs.Queries.{zone_of};
+
+use crate::bare_header::write_bare_header;
+use crate::sending::{send, send_code};
+use crate::transport::{Transport, limit_for};
+use crate::zones::zone_for;
+use std::alloc::{AllocError, Global};
+use zone_handler::LookupOptions;
+use zone_message::{Header, Query, ReadError, read_query};
+use zone_proto::{LowerName, Nsec3Hash, ResponseCode, Signer};
+use zone_response::{Question, ServedZone, respond};
+
+/// FORMERR (RFC 1035 section 4.1.1).
+const MALFORMED: u8 = 1;
+
+/// NOTIMP (RFC 1035 section 4.1.1).
+const NOT_IMPLEMENTED: u8 = 4;
+
+/// BADVERS (RFC 6891 section 9).
+const BAD_VERSION: ResponseCode = ResponseCode::Other(16);
+
+/// Whether a message is answered.
+#[derive(Clone, Copy, PartialEq, Eq, Debug)]
+pub enum Answered {
+    /// It has fewer octets than a header, or is a response: it gets no answer.
+    Nothing,
+    /// The octets of the response are there.
+    Response,
+}
+
+/// Answers a message from some zones, in place of the octets of `out`.
+///
+/// - Fewer than 12 octets and a response are answered by nothing. Another opcode than that of a standard query gets NOTIMP, and
+///   what isn't of the form of a query FORMERR, by a header alone (RFC 1035 section 4.1.1; RFC 9619 section 4 for more than one
+///   question); a version of EDNS other than 0 gets BADVERS (RFC 6891 section 6.1.3).
+/// - The zone of the longest origin at or above the name answers, as `respond` says; for DS the one of the longest origin above
+///   the name, if there is one (RFC 4035 section 3.1.4.1). Where there is none the code is `Refused`.
+/// - Identifier, RD, CD and the question are copied as they came; the response has an OPT record if and only if the query has one
+///   (RFC 6891 section 6.1.1), with its DO and without options; AD and RA are clear.
+/// - By UDP the response has at most as many octets as client and way take, and 1,232, but 512 without an OPT record and never
+///   fewer; by TCP at most 65,535. What is required and goes over is cut with TC (RFC 2181 section 9).
+/// - Where a record has data that no octets are, the code is `ServFail`.
+///
+/// Refused for want of memory alone.
+pub fn answer<S: Signer, H: Nsec3Hash>(
+    alloc: Global,
+    zones: &[ServedZone<'_, S, H>],
+    message: &[u8],
+    transport: Transport,
+    out: &mut Vec<u8>,
+) -> Result<Answered, AllocError>
+    ensures answer { OnOk result
+        (IsAnswer (map (zone_of H.digest_of) zones.now) transport message.now out.new.items) }
+    ensures told { IfOk result (λ told. Tells told out.new.items) }
+    ensures short { OnOk result (length out.new.items < 65536) }
+{
+    let read = read_query(alloc, message);
+    answer_read(alloc, zones, read, transport, out)
+}
+
+/// Answers a message by what is read of it.
+fn answer_read<S: Signer, H: Nsec3Hash>(
+    alloc: Global,
+    zones: &[ServedZone<'_, S, H>],
+    read: Result<Query, ReadError>,
+    transport: Transport,
+    out: &mut Vec<u8>,
+) -> Result<Answered, AllocError>
+    requires { HasOpcode read }
+    ensures answer { OnOk result
+        (IsAnswerTo (map (zone_of H.digest_of) zones.now) transport read out.new.items) }
+    ensures told { IfOk result (λ told. Tells told out.new.items) }
+    ensures short { OnOk result (length out.new.items < 65536) }
+{
+    match read {
+        Ok(query) => answer_query(alloc, zones, &query, transport, out),
+        Err(ReadError::NoHeader | ReadError::NoQuery) => {
+            out.clear();
+            Ok(Answered::Nothing)
+        }
+        Err(ReadError::NotImplemented(header)) => answer_header(header, NOT_IMPLEMENTED, out),
+        Err(ReadError::Malformed(header)) => answer_header(header, MALFORMED, out),
+        Err(ReadError::BadVersion(query)) => answer_version(alloc, &query, transport, out),
+        Err(ReadError::Memory) => Err(AllocError),
+    }
+}
+
+/// Answers by a header alone.
+fn answer_header(header: Header, code: u8, out: &mut Vec<u8>) -> Result<Answered, AllocError>
+    requires opcode { header.opcode < 16 }
+    requires code { code < 16 }
+    ensures answer { OnOk result (IsBareHeader header code out.new.items) }
+    ensures told { IfOk result (λ told. Tells told out.new.items) }
+    ensures short { OnOk result (length out.new.items < 65536) }
+{
+    write_bare_header(out, header, code)?;
+    Ok(Answered::Response)
+}
+
+/// Answers a query of another version of EDNS than 0.
+fn answer_version(
+    alloc: Global,
+    query: &Query,
+    transport: Transport,
+    out: &mut Vec<u8>,
+) -> Result<Answered, AllocError>
+    ensures answer { OnOk result (IsSent (limit_for transport query.now.extension) query.now
+        (bare bad_version) out.new.items) }
+    ensures told { IfOk result (λ told. Tells told out.new.items) }
+    ensures short { OnOk result (length out.new.items < 65536) }
+{
+    let limit = limit_for(transport, query);
+    send_code(alloc, out, query, BAD_VERSION, limit)?;
+    Ok(Answered::Response)
+}
+
+/// Answers a query that was read.
+fn answer_query<S: Signer, H: Nsec3Hash>(
+    alloc: Global,
+    zones: &[ServedZone<'_, S, H>],
+    query: &Query,
+    transport: Transport,
+    out: &mut Vec<u8>,
+) -> Result<Answered, AllocError>
+    ensures answer { OnOk result (IsResponseTo (map (zone_of H.digest_of) zones.now)
+        (limit_for transport query.now.extension) query.now out.new.items) }
+    ensures told { IfOk result (λ told. Tells told out.new.items) }
+    ensures short { OnOk result (length out.new.items < 65536) }
+{
+    let limit = limit_for(transport, query);
+    send_response(alloc, zones, query, limit, out)?;
+    Ok(Answered::Response)
+}
+
+/// Writes the response to a query from the zone that answers, in place of the octets of `out`.
+fn send_response<S: Signer, H: Nsec3Hash>(
+    alloc: Global,
+    zones: &[ServedZone<'_, S, H>],
+    query: &Query,
+    limit: u16,
+    out: &mut Vec<u8>,
+) -> Result<(), AllocError>
+    requires { 512 ≤ limit }
+    ensures { OnOk result
+        (IsResponseTo (map (zone_of H.digest_of) zones.now) limit query.now out.new.items) }
+{
+    let Ok(name) = LowerName::new(&query.question.name) else {
+        return Err(AllocError);
+    };
+    let question = Question {
+        name: &name,
+        query_type: query.question.query_type,
+        query_class: query.question.query_class,
+    };
+    let Some(zone) = zone_for(zones, question) else {
+        return send_code(alloc, out, query, ResponseCode::Refused, limit);
+    };
+    let options = LookupOptions {
+        dnssec_ok: asks_for_dnssec(query),
+    };
+    match respond(lent(zone), question, options) {
+        Ok(response) => send(alloc, out, query, &response, limit),
+        Err(_) => Err(AllocError),
+    }
+}
+
+/// The same zone.
+fn lent<'z, S: Signer, H: Nsec3Hash>(zone: &ServedZone<'z, S, H>) -> ServedZone<'z, S, H>
+    ensures { zone_of H.digest_of result ≡ zone_of H.digest_of zone.now }
+{
+    ServedZone {
+        origin: zone.origin,
+        inner: zone.inner,
+        nx_proof_kind: zone.nx_proof_kind,
+        hash: zone.hash,
+    }
+}
+
+/// Whether a query asks for DNSSEC (RFC 3225 section 3).
+fn asks_for_dnssec(query: &Query) -> bool
+    ensures { result ≡ (asked_of query.now).signed }
+{
+    match query.extension {
+        Some(extension) => extension.dnssec_ok,
+        None => false,
+    }
+}

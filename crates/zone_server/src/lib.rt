@@ -1,0 +1,21 @@
+//! A name server without its sockets: from the octets of a query to those of the response (RFC 1035 section 4), and frames of
+//! messages answered over any reader and writer.
+//!
+//! What a message says is defined in `zone_message`, what a zone answers in `zone_response`, and what is written in `zone_wire`;
+//! here these meet.
+#![tactic(auto)]
+
+mod answering;
+mod bare_header;
+mod frames;
+mod groups;
+mod sections;
+mod sending;
+mod serving;
+mod transport;
+mod zones;
+
+pub use answering::{Answered, answer};
+pub use frames::Mode;
+pub use serving::{Stop, serve_frames};
+pub use transport::Transport;

@@ -1,0 +1,141 @@
+//! Responses of a zone written as messages.
+ghost use Rattle.std.specs.Prelude.{◌≡◌, ◌≤◌, OnOk};
+ghost use Rattle.zone_response.specs.Responses.{bare};
+ghost use Rattle.zone_response.specs.Sections.{sections};
+ghost use Rattle.zone_server.specs.Answers.{code_number, GoesOut, IsSent};
+ghost use Rattle.zone_server.specs.Outgoing.{AreGroups};
+ghost use Rattle.zone_server.specs.Sending.{Sends};
+
+use crate::sections::{GroupedSections, grouped_sections, outgoing_sections};
+use crate::transport::DATAGRAM_SIZE;
+use std::alloc::{AllocError, Global};
+use zone_message::Query;
+use zone_proto::ResponseCode;
+use zone_response::Response;
+use zone_wire::{Response as Message, WriteError, write_response};
+
+/// Writes the response to a query within a limit, in place of the octets of `out`; where no message has its code, or the data of one
+/// of its records, one of `ServFail`.
+pub(crate) fn send(
+    alloc: Global,
+    out: &mut Vec<u8>,
+    query: &Query,
+    response: &Response<'_>,
+    limit: u16,
+) -> Result<(), AllocError>
+    requires { 512 ≤ limit }
+    ensures { OnOk result (GoesOut limit query.now (sections response.now) out.new.items) }
+{
+    match send_sections(alloc, out, query, response, limit) {
+        Ok(()) => Ok(()),
+        Err(WriteError::Unwritable | WriteError::BadCode) => {
+            send_code(alloc, out, query, ResponseCode::ServFail, limit)
+        }
+        Err(WriteError::Memory) => Err(AllocError),
+        // In 512 octets header, question and OPT record find room.
+        Err(WriteError::NoRoom) => unreachable!(),
+    }
+}
+
+/// Writes the response to a query.
+fn send_sections(
+    alloc: Global,
+    out: &mut Vec<u8>,
+    query: &Query,
+    response: &Response<'_>,
+    limit: u16,
+) -> Result<(), WriteError>
+    requires { 512 ≤ limit }
+    ensures { Sends limit query.now (sections response.now) out.new.items result }
+{
+    let outgoing = outgoing_sections(alloc, response)?;
+    let grouped = grouped_sections(alloc, &outgoing)?;
+    send_groups(alloc, out, query, response, &grouped, limit)
+}
+
+/// Writes the response to a query, whose sections are these groups.
+fn send_groups(
+    alloc: Global,
+    out: &mut Vec<u8>,
+    query: &Query,
+    response: &Response<'_>,
+    grouped: &GroupedSections<'_>,
+    limit: u16,
+) -> Result<(), WriteError>
+    requires room { 512 ≤ limit }
+    requires groups { AreGroups (sections response.now) grouped.now }
+    ensures { Sends limit query.now (sections response.now) out.new.items result }
+{
+    let message = Message {
+        query,
+        authoritative: response.authoritative,
+        code: number_of(response.code),
+        size: DATAGRAM_SIZE,
+        answers: grouped.answers.as_slice(),
+        authorities: grouped.authorities.as_slice(),
+        glue: grouped.glue.as_slice(),
+        additionals: grouped.additionals.as_slice(),
+    };
+    write_response(alloc, out, &message, limit)
+}
+
+/// Writes a response of a code alone, with the question, in place of the octets of `out`.
+pub(crate) fn send_code(
+    alloc: Global,
+    out: &mut Vec<u8>,
+    query: &Query,
+    code: ResponseCode,
+    limit: u16,
+) -> Result<(), AllocError>
+    requires room { 512 ≤ limit }
+    requires code { code_number code ≤ 4095 }
+    ensures { OnOk result (IsSent limit query.now (bare code) out.new.items) }
+{
+    match send_bare(alloc, out, query, code, limit) {
+        Ok(()) => Ok(()),
+        Err(WriteError::Memory) => Err(AllocError),
+        // It has no records, its code has twelve bits, and header, question and OPT record find room in 512 octets.
+        Err(WriteError::Unwritable) => unreachable!(),
+        Err(WriteError::BadCode) => unreachable!(),
+        Err(WriteError::NoRoom) => unreachable!(),
+    }
+}
+
+/// Writes a response of a code alone.
+fn send_bare(
+    alloc: Global,
+    out: &mut Vec<u8>,
+    query: &Query,
+    code: ResponseCode,
+    limit: u16,
+) -> Result<(), WriteError>
+    requires { 512 ≤ limit }
+    ensures { Sends limit query.now (bare code) out.new.items result }
+{
+    let message = Message {
+        query,
+        authoritative: false,
+        code: number_of(code),
+        size: DATAGRAM_SIZE,
+        answers: &[],
+        authorities: &[],
+        glue: &[],
+        additionals: &[],
+    };
+    write_response(alloc, out, &message, limit)
+}
+
+/// The number of a response code (RFC 1035 section 4.1.1).
+fn number_of(code: ResponseCode) -> u16
+    ensures { result ≡ code_number code }
+{
+    match code {
+        ResponseCode::NoError => 0,
+        ResponseCode::FormErr => 1,
+        ResponseCode::ServFail => 2,
+        ResponseCode::NXDomain => 3,
+        ResponseCode::NotImp => 4,
+        ResponseCode::Refused => 5,
+        ResponseCode::Other(number) => number,
+    }
+}

@@ -1,0 +1,87 @@
+//! `zoned [--check] [--limits] ZONE..`: answers the frames of messages on standard input from zone files, up to the end of the
+//! input, on standard output. It opens no socket: something else lays one on its streams.
+//!
+//! A ZONE is `FILE`, whose origin is the owner of its first SOA, or `ORIGIN=FILE`. With `--limits` each query stands behind the
+//! limit of its answer; with `--check` the program ends once the zones are loaded, and writes their origins.
+#![tactic(auto)]
+
+ghost use Rattle.std.specs.Prelude.{◌≤◌};
+
+mod static_signer;
+mod telling;
+mod wanted;
+mod zone;
+mod zones;
+
+use std::alloc::{AllocError, Global};
+use std::io::Write;
+use std::process::ExitCode;
+use std::{env, io};
+use telling::tell;
+use wanted::{Wanted, wanted_by};
+use zone::Zone;
+use zone_server::{Stop, serve_frames};
+use zones::{load_zones, served};
+
+const USAGE: &[u8] = b"usage: zoned [--check] [--limits] FILE.. | ORIGIN=FILE..\n";
+
+fn main(rt: HostRuntime) -> ExitCode {
+    let alloc = rt.alloc();
+    let args = match env::args(&rt) {
+        Ok(words) => words.skip(1).collect::<Vec<String>>(alloc),
+        // Words that are no text are wrong arguments, as no words are.
+        Err(e) if e.kind() == io::ErrorKind::InvalidData => Ok(Vec::new(alloc)),
+        Err(_) => Err(AllocError),
+    };
+    let mut fault = rt.stderr();
+    let Ok(args) = args else {
+        return ExitCode::from(tell(&mut fault, b"out of memory\n"));
+    };
+    let status = match wanted_by(alloc, args.as_slice()) {
+        Ok(Some(wanted)) => run(&rt, alloc, &wanted),
+        Ok(None) => tell(&mut fault, USAGE),
+        Err(_) => tell(&mut fault, b"out of memory\n"),
+    };
+    ExitCode::from(status)
+}
+
+/// Loads the zones and serves them, and gives the status of the program: 0 at the end of the input, and 2 where the zones can't be
+/// loaded, or a read or a write fails.
+fn run(rt: &HostRuntime, alloc: Global, wanted: &Wanted<'_>) -> u8
+    ensures { result ≤ 2 }
+{
+    let mut fault = rt.stderr();
+    let Some(zones) = load_zones(rt, alloc, wanted, &mut fault) else {
+        return 2;
+    };
+    let Ok(served) = served(alloc, zones.as_slice()) else {
+        return tell(&mut fault, b"out of memory\n");
+    };
+    if wanted.is_check {
+        return match write_origins(&mut io::writer(rt), zones.as_slice()) {
+            Ok(()) => 0,
+            Err(_) => tell(&mut fault, b"write failed\n"),
+        };
+    }
+    let (mut input, mut output) = (rt.reader(), io::writer(rt));
+    match serve_frames(
+        alloc,
+        served.as_slice(),
+        wanted.mode,
+        &mut input,
+        &mut output,
+    ) {
+        Ok(()) => 0,
+        Err(Stop::Memory) => tell(&mut fault, b"out of memory\n"),
+        Err(Stop::Read(_)) => tell(&mut fault, b"read failed\n"),
+        Err(Stop::Write(_)) => tell(&mut fault, b"write failed\n"),
+    }
+}
+
+/// Writes the origins of zones, a line each.
+fn write_origins<W: Write>(output: &mut W, zones: &[Zone]) -> io::Result<()> {
+    for zone in zones {
+        write!(output, "{}\n", zone.origin)?;
+    }
+    output.flush()
+}

@@ -1,0 +1,144 @@
+//! The zones of files, with what is told of each.
+ghost use Rattle.std.specs.Prelude.{IfSome};
+ghost use Rattle.zone_map.specs.Zones.{IsZone};
+
+use crate::static_signer::StaticSigner;
+use crate::telling::{tell, tell_at};
+use crate::wanted::{Wanted, WantedZone};
+use crate::zone::{Zone, load_records, zone_of, zone_origin};
+use std::alloc::{AllocError, Global};
+use std::fs;
+use std::io::{Read, Write};
+use zone_file::{FaultText, InputError, PlacedRecord, read_zone};
+use zone_loading::{LoadFault, Loaded};
+use zone_program::Sha1Hash;
+use zone_proto::{Name, ProtoError};
+use zone_response::ServedZone;
+
+/// Loads the zones that are wanted. None where one can't be loaded; why is told.
+pub fn load_zones<E: Write>(
+    rt: &HostRuntime,
+    alloc: Global,
+    wanted: &Wanted<'_>,
+    fault: &mut E,
+) -> Option<Vec<Zone>> {
+    let mut zones = Vec::new(alloc);
+    for file in wanted.zones.iter() {
+        let zone = load_file(rt, alloc, file, fault)?;
+        if zones.push(zone).is_err() {
+            tell(fault, b"out of memory\n");
+            return None;
+        }
+    }
+    Some(zones)
+}
+
+/// Loads the zone of a file.
+fn load_file<E: Write>(
+    rt: &HostRuntime,
+    alloc: Global,
+    wanted: &WantedZone<'_>,
+    fault: &mut E,
+) -> Option<Zone> {
+    let Ok(mut input) = fs::open(rt, wanted.file) else {
+        let _ = write!(fault, "{}: the file can't be read\n", wanted.file);
+        return None;
+    };
+    let records = read_records(alloc, wanted, &mut input, fault)?;
+    let loaded = loaded_of(alloc, wanted, records, fault)?;
+    for warning in loaded.warnings.iter() {
+        tell_at(fault, wanted.file, warning.place(), warning);
+    }
+    let Loaded {
+        origin,
+        records,
+        ..
+    } = loaded;
+    match zone_of(alloc, origin, records) {
+        Ok(zone) => Some(zone),
+        Err(_) => {
+            tell(fault, b"out of memory\n");
+            None
+        }
+    }
+}
+
+/// Reads the records of a file.
+fn read_records<R: Read, E: Write>(
+    alloc: Global,
+    wanted: &WantedZone<'_>,
+    input: &mut R,
+    fault: &mut E,
+) -> Option<Vec<PlacedRecord>> {
+    let first = first_origin(alloc, wanted).map_err(|_| InputError::Memory);
+    match first.and_then(|origin| read_zone(alloc, origin, input)) {
+        Ok(records) => Some(records),
+        Err(InputError::Memory) => {
+            tell(fault, b"out of memory\n");
+            None
+        }
+        Err(InputError::Input(_)) => {
+            let _ = write!(fault, "{}: the file can't be read\n", wanted.file);
+            None
+        }
+        Err(InputError::Fault(found)) => {
+            let told = FaultText {
+                file: wanted.file,
+                fault: &found,
+            };
+            let _ = write!(fault, "{told}\n");
+            None
+        }
+    }
+}
+
+/// The origin that a file begins with: the one that is named, or the root.
+fn first_origin(alloc: Global, wanted: &WantedZone<'_>) -> Result<Name, ProtoError> {
+    match &wanted.origin {
+        Some(origin) => origin.clone(),
+        None => Ok(Name::root(alloc)),
+    }
+}
+
+/// Makes the zone of the records of a file.
+fn loaded_of<E: Write>(
+    alloc: Global,
+    wanted: &WantedZone<'_>,
+    records: Vec<PlacedRecord>,
+    fault: &mut E,
+) -> Option<Loaded>
+    ensures { IfSome result (λ loaded. IsZone loaded.records) }
+{
+    let Ok(origin) = zone_origin(alloc, &wanted.origin, records.as_slice()) else {
+        tell(fault, b"out of memory\n");
+        return None;
+    };
+    match load_records(alloc, origin, records) {
+        Ok(loaded) => Some(loaded),
+        Err(LoadFault::Memory) => {
+            tell(fault, b"out of memory\n");
+            None
+        }
+        Err(found) => {
+            tell_at(fault, wanted.file, found.place(), &found);
+            None
+        }
+    }
+}
+
+/// The zones as they are served.
+pub fn served(
+    alloc: Global,
+    zones: &[Zone],
+) -> Result<Vec<ServedZone<'_, StaticSigner, Sha1Hash>>, AllocError> {
+    let mut served = Vec::with_capacity(alloc, zones.len())?;
+    for zone in zones {
+        served.push(ServedZone {
+            origin: &zone.origin,
+            inner: &zone.inner,
+            nx_proof_kind: zone.nx_proof_kind.as_ref(),
+            hash: &Sha1Hash,
+        })?;
+    }
+    Ok(served)
+}

@@ -1,0 +1,143 @@
+#!/usr/bin/env python3
+"""front.py PORT PROGRAM WORD..: answers DNS over UDP and TCP on 127.0.0.1 and ::1, by a program that answers frames.
+
+The program is started once, as `zoned --limits ZONE..`. Each query goes to its standard input behind two octets that say how long
+the response may be (65535 where it came by TCP) and two octets of length; each response comes from its standard output behind two
+octets of length. Each query is handed on under an identifier of the front's own, so that a response finds its client, whatever
+identifiers clients choose and whatever isn't answered. The front reads of a message no more than its header's first three octets.
+"""
+import asyncio
+import signal
+import struct
+import sys
+
+# Octets: what a datagram on loopback may have; the program sends fewer where the client takes fewer.
+DATAGRAM = 4096
+# What says that a query came by TCP.
+STREAM = 65535
+# How many queries may wait for the program; where more come by UDP they are dropped, as a network drops them.
+WAITING = 32768
+# Seconds: how long a TCP connection may be idle (RFC 7766 section 6.2.3), and how long answers are waited for once it is half closed.
+IDLE, LINGER = 10, 5
+# Octets: what a TCP client may leave unread before its connection is closed.
+UNREAD = 1 << 20
+
+
+class Program:
+    """The program, and who waits for which of its responses."""
+
+    def __init__(self):
+        self.waiting, self.last = {}, 0
+
+    async def start(self, words):
+        pipe = asyncio.subprocess.PIPE
+        # (a session of its own: Ctrl-C ends the front, and the end of its input then ends the program)
+        self.process = await asyncio.create_subprocess_exec(*words, stdin=pipe, stdout=pipe, start_new_session=True)
+
+    def ask(self, message, limit, give):
+        """Hands a message on, and tells whether a response will come: none does to what has no header, or is a response."""
+        if len(message) < 12 or message[2] & 0x80 or len(self.waiting) >= WAITING:
+            return False
+        self.last = (self.last + 1) % 65536
+        while self.last in self.waiting:
+            self.last = (self.last + 1) % 65536
+        self.waiting[self.last] = (message[:2], give)
+        self.process.stdin.write(struct.pack("!HHH", limit, len(message), self.last) + message[2:])
+        return True
+
+    async def read(self):
+        """Gives each response to its client, until the program ends."""
+        try:
+            while True:
+                (length,) = struct.unpack("!H", await self.process.stdout.readexactly(2))
+                response = await self.process.stdout.readexactly(length)
+                own, give = self.waiting.pop(struct.unpack_from("!H", response)[0])
+                give(own + response[2:])
+        except asyncio.IncompleteReadError:
+            return await self.process.wait()
+
+    async def end(self):
+        self.process.stdin.close()
+        await self.process.wait()
+
+
+class Datagrams(asyncio.DatagramProtocol):
+    def __init__(self, program):
+        self.program = program
+
+    def connection_made(self, transport):
+        self.transport = transport
+
+    def datagram_received(self, message, client):
+        self.program.ask(message, DATAGRAM, lambda response: self.transport.sendto(response, client))
+
+
+class Connection:
+    """A TCP connection, over which several queries may come before the first response (RFC 7766 section 6.2.1.1)."""
+
+    def __init__(self, program, reader, writer):
+        self.program, self.reader, self.writer = program, reader, writer
+        self.open, self.answered = 0, asyncio.Event()
+
+    def give(self, response):
+        self.open -= 1
+        self.answered.set()
+        if self.writer.transport.get_write_buffer_size() > UNREAD:
+            self.writer.transport.abort()
+        elif not self.writer.is_closing():
+            self.writer.write(struct.pack("!H", len(response)) + response)
+
+    async def message(self):
+        (length,) = struct.unpack("!H", await self.reader.readexactly(2))
+        return await self.reader.readexactly(length)
+
+    async def serve(self):
+        try:
+            while True:
+                message = await asyncio.wait_for(self.message(), IDLE)
+                self.open += self.program.ask(message, STREAM, self.give)
+                await self.writer.drain()
+        except (asyncio.IncompleteReadError, asyncio.TimeoutError, ConnectionError):
+            pass
+        # What was asked before the client closed its half is still answered (RFC 7766 section 6.2.4).
+        try:
+            while self.open:
+                self.answered.clear()
+                await asyncio.wait_for(self.answered.wait(), LINGER)
+            await self.writer.drain()
+        except (asyncio.TimeoutError, ConnectionError):
+            pass
+        self.writer.close()
+
+
+async def main(port, words):
+    program, loop, stop = Program(), asyncio.get_running_loop(), asyncio.Event()
+    for number in (signal.SIGINT, signal.SIGTERM):
+        loop.add_signal_handler(number, stop.set)
+    await program.start(words)
+    serve = lambda reader, writer: Connection(program, reader, writer).serve()
+    listening = []
+    for host in ("127.0.0.1", "::1"):
+        try:
+            await asyncio.start_server(serve, host, port)
+            await loop.create_datagram_endpoint(lambda: Datagrams(program), (host, port))
+            listening.append(host)
+        except OSError as error:
+            print(f"front.py: {host} port {port}: {error.strerror}", file=sys.stderr)
+    if not listening:
+        await program.end()
+        return 1
+    print(f"front.py: listening on {' and '.join(listening)}, port {port}, UDP and TCP", file=sys.stderr, flush=True)
+    reading, stopped = loop.create_task(program.read()), loop.create_task(stop.wait())
+    await asyncio.wait((reading, stopped), return_when=asyncio.FIRST_COMPLETED)
+    if reading.done():
+        print(f"front.py: {words[0]} ended with the status {reading.result()}", file=sys.stderr)
+        return 1
+    await program.end()
+    return 0
+
+
+if __name__ == "__main__":
+    if len(sys.argv) < 3 or not sys.argv[1].isdecimal():
+        sys.exit(__doc__)
+    sys.exit(asyncio.run(main(int(sys.argv[1]), sys.argv[2:])))
