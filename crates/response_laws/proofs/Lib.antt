@@ -1,0 +1,19 @@
+pub mod Told
+pub mod Turned
+pub mod Stepped
+pub mod Leads
+pub mod LastNames
+pub mod NsecSets
+pub mod Answers
+pub mod Authorities
+pub mod DenialTypes
+pub mod Parts
+pub mod Said
+pub mod BareNames
+pub mod ToldNames
+pub mod Signatures
+pub mod Summed
+pub mod Proved
+pub mod Responses
+mod SayingExamples
+mod MetPremises

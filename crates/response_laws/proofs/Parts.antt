@@ -1,0 +1,224 @@
+-- What a response is made of, where it is more than a code
+use Rattle.std.proofs.Common.{◌≡◌, ℕ, Bool, true, false, cond, not, ◌||◌, List, [], ◌∷◌, ◌++◌, map, refl, sym, ap, ◌∙◌, subst, true≢false, ◌⊎◌, inl, inr, append_assoc}
+use Rattle.std.specs.Prelude.{Option, Some, None, Result, Ok, Err, min, fold, option_and_then, option_to_list, MatchOption, MatchResult, ◌==◌}
+use Rattle.std.specs.Bool.{MatchBool}
+use Rattle.std.proofs.lemmas.List.{append-nil}
+use Rattle.zone_proto.specs.declared.error.ProtoError.{ProtoError}
+use Rattle.zone_proto.specs.declared.nx_proof_kind.NxProofKind.TheVariants as kind
+use Rattle.zone_proto.specs.declared.response_code.ResponseCode.{ResponseCode}
+use Rattle.zone_proto.specs.declared.response_code.ResponseCode.TheVariants as code
+use Rattle.zone_proto.specs.Names.{Name, lower, is_at_or_above}
+use Rattle.zone_proto.specs.Sets.{RRset}
+use Rattle.zone_proto.specs.Types.{IN, SOA, NSEC}
+use Rattle.zone_proto.proofs.Members.{In, In-from_append, In-append_left, In-append_right}
+use Rattle.zone_map.specs.Upserts.{is_denial_type}
+use Rattle.zone_map.specs.Zones.{Sets, set_at, IsZone}
+use Rattle.zone_denial.specs.Nsec3Denial.{result_and_then}
+use Rattle.zone_denial.specs.NsecDenial.{closest_nsec}
+use Rattle.zone_response.specs.declared.response.Part.TheVariants as part
+use Rattle.zone_response.specs.Denials.{star_proof, star_proof_by, denial, denial_by, end_proof, together, with_star_proof, proofs, sent_proof}
+use Rattle.zone_response.specs.Paths.{Path, path}
+use Rattle.zone_response.specs.Queries.{Zone, Query, inquiry}
+use Rattle.zone_response.specs.QueryTypes.{is_no_data}
+use Rattle.zone_response.specs.Responses.{bare, code_at, negative_ttl, ds_at, end_sets, fails, refusal, IsResponse, IsSearched, IsResponseAlong, IsProvenResponse, IsResponseBy}
+use Rattle.zone_response.specs.Sections.{Sections, sent}
+use Rattle.zone_response.specs.Steps.{End, referred, missing}
+use Rattle.response_laws.specs.Sayings.{LastName, by_code}
+use Rattle.response_laws.proofs.DenialTypes.{proofs_are_denials}
+use Rattle.response_laws.proofs.NsecSets.{AreOwnersNsec, all_of, owners_of_all, kept_in_all, more_in_all, closest_sets, closest_owners, is_closest}
+
+-- the path of a query
+abbrev pub path_of : Zone → Query → Path
+path_of z q = path (inquiry z q) q.name
+
+-- the names of which a response says something: those for which a star answered; the name without the set that is asked for, and the star that was asked for it; and a child without DS
+abbrev pub told_at : Option RRset → End → List Name
+told_at ds (missing x star there) = x ∷ option_to_list star
+told_at None (referred c) = lower c.owner ∷ []
+told_at (Some ds) (referred c) = []
+told_at ds _ = []
+
+abbrev pub told_names : Zone → Query → End → List Name
+told_names z q e = (path_of z q).made ++ told_at (ds_at z.sets e) e
+
+-- a set that proves something, as it goes out
+abbrev pub as_proof : ℕ → RRset → RRset
+as_proof ttl s = sent part.Signed (min s.ttl ttl) s
+
+-- the parts of a response
+pub record IsMadeOf (z : Zone) (q : Query) (r : Sections) : Type 0 where
+  pub soa : RRset
+  pub stands : set_at z.sets z.origin SOA ≡ Some soa
+  pub passes : fails (path_of z q).end ≡ false
+  pub code : r.code ≡ code_at (path_of z q).end
+  pub answers : r.answers ≡ (path_of z q).answers
+  -- the sets of denial; where NSEC denies they are the zone's, and with DNSSEC the closest ones of these names are among them
+  pub proofs : List RRset
+  pub authorities : r.authorities ≡ end_sets (ds_at z.sets (path_of z q).end) q.signed soa (path_of z q).end ++ map (as_proof (negative_ttl soa)) proofs
+  pub denials : (s : RRset) → In s proofs → is_denial_type s.record_type ≡ true
+  pub owners : z.nx_proof_kind ≡ Some kind.Nsec → AreOwnersNsec z.sets proofs
+  pub tells : z.nx_proof_kind ≡ Some kind.Nsec → q.signed ≡ true → (x : Name) (s : RRset) → In x (told_names z q (path_of z q).end) → closest_nsec z.sets x ≡ Some s → In s proofs
+
+-- a response is a code that says nothing of a name, or made of these parts
+pub data HowAnswered (z : Zone) (q : Query) (r : Sections) : Type 0 where
+  by_code_alone : (c : ResponseCode) → r ≡ bare c → ((last : LastName) (sets : List RRset) → by_code q.record_type c last sets ≡ None) → HowAnswered z q r
+  by_parts : IsMadeOf z q r → HowAnswered z q r
+
+refusal_silent : (z : Zone) (q : Query) (c : ResponseCode) → refusal z.origin q ≡ Some c → (last : LastName) (sets : List RRset) → by_code q.record_type c last sets ≡ None
+refusal_silent z q c e last sets =
+    silent_at code.Refused refl (not (q.class == IN) || not (is_at_or_above z.origin q.name)) (cond (is_no_data q.record_type) (Some code.NotImp) None)
+    (silent_at code.NotImp refl (is_no_data q.record_type) None (λ p. absurd cc)) e
+  where
+    same : (a b : ResponseCode) → Some a ≡ Some b → a ≡ b
+    same a b e = cc
+
+    -- one test after the other
+    silent_at : (k : ResponseCode) → by_code q.record_type k last sets ≡ None → (b : Bool) (o : Option ResponseCode) → (o ≡ Some c → by_code q.record_type c last sets ≡ None) → cond b (Some k) o ≡ Some c → by_code q.record_type c last sets ≡ None
+    silent_at k h true o more p = ap (λ c. by_code q.record_type c last sets) (sym (same k c p)) ∙ h
+    silent_at k h false o more p = more p
+
+-- ---- the sets of the proofs, where a zone denies by NSEC
+
+-- they are the zone's, and the closest ones of these names are among them
+pub record AreProofs (m : Sets) (names : List Name) (found : Result (List RRset) ProtoError) : Type 0 where
+  pub sets : List RRset
+  pub all : found ≡ Ok sets
+  pub owners : AreOwnersNsec m sets
+  pub tells : (x : Name) (s : RRset) → In x names → closest_nsec m x ≡ Some s → In s sets
+
+module _ (z : Zone) (zone : IsZone z.sets) (nsec : z.nx_proof_kind ≡ Some kind.Nsec) where
+  abbrev m : Sets
+  m = z.sets
+
+  star_proof_is : (x : Name) → star_proof z x ≡ Ok (closest_sets m zone x)
+  star_proof_is x = ap (λ k. star_proof_by z k x) nsec
+
+  denial_is : (x : Name) (star : Option Name) → denial z x star ≡ Ok (closest_sets m zone x ++ option_to_list (option_and_then (closest_nsec m) star))
+  denial_is x star = ap (λ k. denial_by z k x star) nsec
+
+  -- those of the names for which a star answered, behind others
+  stars_from : (made before : List Name) (sets : List RRset) → AreOwnersNsec m sets → ((x : Name) (s : RRset) → In x before → closest_nsec m x ≡ Some s → In s sets)
+      → AreProofs m (before ++ made) (fold (with_star_proof z) (Ok sets) made)
+  stars_from [] before sets h k = record { sets = sets; all = refl; owners = h; tells = λ x s i. k x s (subst (In x) (append-nil before) i) }
+  stars_from (y ∷ made) before sets h k =
+      subst (λ (names : List Name). AreProofs m names (fold (with_star_proof z) (Ok sets) (y ∷ made))) (append_assoc before (y ∷ []) made)
+      (subst (λ (start : Result (List RRset) ProtoError). AreProofs m ((before ++ y ∷ []) ++ made) (fold (with_star_proof z) start made)) (sym (ap (together (Ok sets)) (star_proof_is y)))
+      (stars_from made (before ++ y ∷ []) (all_of m zone sets (closest_sets m zone y)) (owners_of_all m zone sets (closest_sets m zone y) h (closest_owners m zone y)) told))
+    where
+      told : (x : Name) (s : RRset) → In x (before ++ y ∷ []) → closest_nsec m x ≡ Some s → In s (all_of m zone sets (closest_sets m zone y))
+      told x s i e = by (In-from_append x before (y ∷ []) i)
+        where
+          by : In x before ⊎ In x (y ∷ []) → In s (all_of m zone sets (closest_sets m zone y))
+          by (inl u) = kept_in_all m zone sets (closest_sets m zone y) s (k x s u e)
+          by (inr (inl q)) = more_in_all m zone sets (closest_sets m zone y) s h (closest_owners m zone y) (is_closest m zone y s (ap (closest_nsec m) q ∙ e))
+          by (inr (inr u)) = absurd u
+
+  -- those of what the end says
+  none_proved : AreProofs m [] (Ok [])
+  none_proved = record { sets = []; all = refl; owners = λ s i. absurd i; tells = λ x s i. absurd i }
+
+  denied : (x : Name) (star : Option Name) → AreProofs m (x ∷ option_to_list star) (denial z x star)
+  denied x star = record {
+    sets = closest_sets m zone x ++ option_to_list (option_and_then (closest_nsec m) star);
+    all = denial_is x star;
+    owners = λ s i. either s star (In-from_append s (closest_sets m zone x) (option_to_list (option_and_then (closest_nsec m) star)) i);
+    tells = λ y s i e. told star y s i e;
+  }
+    where
+      either : (s : RRset) (star : Option Name) → In s (closest_sets m zone x) ⊎ In s (option_to_list (option_and_then (closest_nsec m) star)) → set_at m (lower s.owner) NSEC ≡ Some s
+      either s star (inl i) = closest_owners m zone x s i
+      either s (Some w) (inr i) = closest_owners m zone w s i
+      either s None (inr i) = absurd i
+
+      told : (star : Option Name) (y : Name) (s : RRset) → In y (x ∷ option_to_list star) → closest_nsec m y ≡ Some s → In s (closest_sets m zone x ++ option_to_list (option_and_then (closest_nsec m) star))
+      told star y s (inl q) e = In-append_left s (closest_sets m zone x) (option_to_list (option_and_then (closest_nsec m) star)) (is_closest m zone x s (ap (closest_nsec m) q ∙ e))
+      told (Some w) y s (inr (inl q)) e = In-append_right s (closest_sets m zone x) (closest_sets m zone w) (is_closest m zone w s (ap (closest_nsec m) q ∙ e))
+      told (Some w) y s (inr (inr i)) e = absurd i
+      told None y s (inr i) e = absurd i
+
+  ends_proved : (ds : Option RRset) (e : End) → AreProofs m (told_at ds e) (end_proof z ds e)
+  ends_proved ds (missing x star there) = denied x star
+  ends_proved None (referred c) = denied (lower c.owner) None
+  ends_proved (Some s) (referred c) = none_proved
+  ends_proved ds _ = none_proved
+
+  pub proofs_are : (ds : Option RRset) (made : List Name) (e : End) → AreProofs m (made ++ told_at ds e) (proofs z ds made e)
+  proofs_are ds made e =
+      let stars = stars_from made [] [] (λ s i. absurd i) (λ x s i. absurd i) in
+      let end = ends_proved ds e in
+      record {
+        sets = all_of m zone stars.sets end.sets;
+        all = λ i. together (stars.all i) (end.all i);
+        owners = owners_of_all m zone stars.sets end.sets stars.owners end.owners;
+        tells = λ x s i c. by stars end x s c (In-from_append x made (told_at ds e) i);
+      }
+    where
+      by : (stars : AreProofs m made (fold (with_star_proof z) (Ok []) made)) (end : AreProofs m (told_at ds e) (end_proof z ds e)) (x : Name) (s : RRset) → closest_nsec m x ≡ Some s
+          → In x made ⊎ In x (told_at ds e) → In s (all_of m zone stars.sets end.sets)
+      by stars end x s c (inl i) = kept_in_all m zone stars.sets end.sets s (stars.tells x s i c)
+      by stars end x s c (inr i) = more_in_all m zone stars.sets end.sets s stars.owners end.owners (end.tells x s i c)
+
+abbrev same_result : Result (List RRset) ProtoError → Result (List RRset) ProtoError → Type 0
+same_result a b = a ≡ b
+
+-- of a search that doesn't fail
+module _ (z : Zone) (q : Query) (r : Sections) (zone : IsZone z.sets) (soa : RRset) (e : set_at z.sets z.origin SOA ≡ Some soa) where
+  abbrev p : Path
+  p = path (inquiry z q) q.name
+
+  abbrev ds : Option RRset
+  ds = ds_at z.sets p.end
+
+  made_by : (signed : Bool) → q.signed ≡ signed → fails p.end ≡ false → (found : Result (List RRset) ProtoError) → proofs z ds p.made p.end ≡ found
+      → MatchResult (result_and_then (λ sets. Ok (end_sets ds q.signed soa p.end ++ map (sent_proof (negative_ttl soa)) sets)) (cond signed found (Ok []))) (λ all. IsResponseBy (inquiry z q) p all r) (λ refusal. r ≡ bare code.ServFail)
+      → HowAnswered z q r
+  made_by true f passes (Ok sets) g is =
+      by_parts
+      (record {
+        soa = soa;
+        stands = e;
+        passes = passes;
+        code = is.code;
+        answers = is.answers;
+        proofs = sets;
+        authorities = is.authorities;
+        denials = proofs_are_denials z zone ds p.made p.end sets g;
+        owners = λ n. let found = proofs_are z zone n ds p.made p.end in subst (AreOwnersNsec z.sets) (same found.sets (sym found.all ∙ g)) found.owners;
+        tells = λ n k x s i c. let found = proofs_are z zone n ds p.made p.end in subst (In s) (same found.sets (sym found.all ∙ g)) (found.tells x s i c);
+      })
+    where
+      same : (a : List RRset) → same_result (Ok a) (Ok sets) → a ≡ sets
+      same a e = cc
+  made_by true f passes (Err why) g is = by_code_alone code.ServFail is (λ last sets. refl)
+  made_by false f passes found g is =
+      by_parts
+      (record {
+        soa = soa;
+        stands = e;
+        passes = passes;
+        code = is.code;
+        answers = is.answers;
+        proofs = [];
+        authorities = is.authorities;
+        denials = λ s i. absurd i;
+        owners = λ n s i. absurd i;
+        tells = λ n k. absurd (true≢false (sym k ∙ f));
+      })
+
+  pub made_of : fails p.end ≡ false → IsProvenResponse z (inquiry z q) soa p r → HowAnswered z q r
+  made_of passes is = made_by q.signed refl passes (proofs z ds p.made p.end) refl is
+
+pub how_answered : (z : Zone) (q : Query) (r : Sections) → IsZone z.sets → IsResponse z q r → HowAnswered z q r
+how_answered z q r zone = by (refusal z.origin q) refl
+  where
+    along : (soa : RRset) → set_at z.sets z.origin SOA ≡ Some soa → (b : Bool) → fails (path (inquiry z q) q.name).end ≡ b → MatchBool b (r ≡ bare code.ServFail) (IsProvenResponse z (inquiry z q) soa (path (inquiry z q) q.name) r) → HowAnswered z q r
+    along soa e true f is = by_code_alone code.ServFail is (λ last sets. refl)
+    along soa e false f is = made_of z q r zone soa e f is
+
+    found : (o : Option RRset) → set_at z.sets z.origin SOA ≡ o → MatchOption o (r ≡ bare code.ServFail) (λ soa. IsResponseAlong z (inquiry z q) soa (path (inquiry z q) q.name) r) → HowAnswered z q r
+    found None e is = by_code_alone code.ServFail is (λ last sets. refl)
+    found (Some soa) e is = along soa e (fails (path (inquiry z q) q.name).end) refl is
+
+    by : (o : Option ResponseCode) → refusal z.origin q ≡ o → MatchOption o (IsSearched z (inquiry z q) q.name r) (λ c. r ≡ bare c) → HowAnswered z q r
+    by (Some c) e is = by_code_alone c is (refusal_silent z q c e)
+    by None e is = found (set_at z.sets z.origin SOA) refl is

@@ -1,0 +1,354 @@
+-- What a response says is proved, case by case
+use Rattle.std.proofs.Common.{◌≡◌, ℕ, Bool, true, false, cond, ◌||◌, List, ◌++◌, map, refl, sym, ap, ◌∙◌, subst, true≢false, ◌⊎◌, inl, inr, eqb-true, IsFalse}
+use Rattle.std.specs.Prelude.{Option, Some, None, option_to_list, is_some, ◌==◌}
+use Rattle.std.specs.List.{Contains}
+use Rattle.zone_proto.specs.Names.{Name, lower, star_under, is_wildcard}
+use Rattle.zone_proto.specs.Sets.{RRset}
+use Rattle.zone_proto.specs.Types.{NS, SOA, DS, NSEC}
+use Rattle.zone_proto.proofs.Members.{or_left, or_right, In, In-Contains, Contains-In, In-append_left, In-append_right}
+use Rattle.zone_map.specs.Wildcards.{exists, renamed, asked_star_exists}
+use Rattle.zone_map.specs.Zones.{Sets, set_at, owns, owns_at_or_below}
+use Rattle.zone_denial.specs.NsecDenial.{nsec_encloser}
+use Rattle.zone_inner.specs.Replies.{name_exists, nx_domain}
+use Rattle.zone_validation.specs.Judgement.{nsec_proof}
+use Rattle.zone_validation.specs.NsecProofs.{proves_name_error, proves_no_data, proves_empty_non_terminal, proves_wildcard_no_data, proves_empty_answer, proves_unsigned_delegation}
+use Rattle.zone_acceptance.specs.Judged.{AreOfZone, IsJudged}
+use Rattle.zone_acceptance.specs.Soundness.{IsUnflattened, IsWithoutData, IsUnsignedDelegation, IsSound}
+use Rattle.zone_acceptance.proofs.ShownEnclosers.{judged_star}
+use Rattle.zone_acceptance.proofs.Soundness.{there_from, present, empty_without_data, records_sound}
+use Rattle.zone_acceptance.proofs.Stars.{exists_is}
+use Rattle.zone_response.specs.declared.response.Part.{Part}
+use Rattle.zone_response.specs.declared.response.Part.TheVariants as part
+use Rattle.zone_response.specs.Queries.{Zone, Query, inquiry}
+use Rattle.zone_response.specs.Responses.{negative_ttl, child_ds, ds_at, end_sets}
+use Rattle.zone_response.specs.Sections.{Sections, sent, as_it_is}
+use Rattle.zone_response.specs.Sources.{star_of}
+use Rattle.zone_response.specs.Steps.{End, referred, missing}
+use Rattle.response_laws.specs.ProvedSayings.{DeniesByNsec, shown, IsSentSet, IsStarSet, IsAnswerPart, authority_part, HasAuthority, IsShowable, HasSoa, IsProvedError, IsEmptyProof, IsProvedEmpty, IsProvedUnsigned, IsProvedReferral}
+use Rattle.response_laws.specs.Sayings.{Saying, data_of, name_error, no_data, referral, saying, name_of}
+use Rattle.response_laws.proofs.Answers.{IsMadeSet, path_answers}
+use Rattle.response_laws.proofs.BareNames.{flat, not_any, bare_direct, beside_soa}
+use Rattle.response_laws.proofs.LastNames.{IsBare, IsMissing, bare, bare_star, starless, gone}
+use Rattle.response_laws.proofs.Parts.{path_of, told_at, as_proof, IsMadeOf}
+use Rattle.response_laws.proofs.Said.{Said, says_nothing, says_data, says_referral, says_missing, said, referred_stands}
+use Rattle.response_laws.proofs.Stepped.{IsUnturned}
+use Rattle.response_laws.proofs.Summed.{sum_of_error, sum_of_delegation, sum_of_empty}
+use Rattle.response_laws.proofs.Told.{IsTold, over, error_proved, answer_proved, bare as told_bare, bare_by, star_bare_by, delegation_proved}
+use Rattle.response_laws.proofs.ToldNames.{judged_unturned, IsCut, judged_cut, unowned, star_is, authorities_are, tells, authority_is, shown_of_zone}
+
+-- what is said is said once
+same_saying : (v w : Saying) (o : Option Saying) → o ≡ Some v → o ≡ Some w → v ≡ w
+same_saying v w o e f = by v w (sym e ∙ f)
+  where
+    by : (v w : Saying) → Some v ≡ Some w → v ≡ w
+    by v w e = cc
+
+same_name : (a b : Name) → Some a ≡ Some b → a ≡ b
+same_name a b e = cc
+
+module _ (z : Zone) (q : Query) (r : Sections) (d : DeniesByNsec z) (signed : q.signed ≡ true) (h : IsMadeOf z q r) where
+  abbrev o : Name
+  o = z.origin
+
+  abbrev m : Sets
+  m = z.sets
+
+  abbrev t : ℕ
+  t = q.record_type
+
+  abbrev ends : End
+  ends = (path_of z q).end
+
+  -- the authority section, for an end
+  abbrev all : End → List RRset
+  all e = end_sets (ds_at m e) true h.soa e ++ map (as_proof (negative_ttl h.soa)) h.proofs
+
+  -- ---- the sets
+
+  pub authorities_proved : (s : RRset) → Contains r.authorities s → IsSentSet z.sets (authority_part s) s
+  authorities_proved s c = authority_is z q r d signed h (referred_stands z d.circle.zone q r h) s (Contains-In s r.authorities c)
+
+  pub records_proved : AreOfZone z.sets (shown r)
+  records_proved = shown_of_zone z q r d signed h (referred_stands z d.circle.zone q r h)
+
+  pub sound_proved : (x : Name) → IsJudged z.origin z.sets x → IsSound z.origin z.sets x (shown r)
+  sound_proved x j = records_sound o m (shown r) x j records_proved
+
+  pub answers_proved : (s : RRset) → Contains r.answers s → (p : Part) × IsAnswerPart q.record_type p × (IsSentSet z.sets p s ⊎ IsStarSet z.origin z.sets (shown r) p s)
+  answers_proved s c =
+      let a = path_answers (inquiry z q) signed q.name s (subst (In s) h.answers (Contains-In s r.answers c)) in
+      (a.part', a.goes_out, by a.part' a.set)
+    where
+      by : (p : Part) → IsSentSet m p s ⊎ ((y : Name) × In y (path_of z q).made × IsMadeSet (inquiry z q) y p s) → IsSentSet m p s ⊎ IsStarSet o m (shown r) p s
+      by p (inl k) = inl k
+      by p (inr (y, i, k)) =
+          let j = judged_unturned z q d y k.made.unturned in
+          let e = star_is z d y j k.made.absent in
+          let star : k.star ≡ star_under (nsec_encloser o m y) = same_name k.star (star_under (nsec_encloser o m y)) (sym k.made.star ∙ e.1) in
+          inr
+          (record {
+            name = y;
+            encloser = nsec_encloser o m y;
+            record_type = k.record_type;
+            stored = k.stored;
+            stands = ap (λ n. set_at m n k.record_type) (sym star) ∙ k.stands;
+            ttl = k.ttl;
+            sent = k.sent ∙ ap (λ n. sent p k.ttl (renamed true n y k.stored)) star;
+            proved =
+                answer_proved o m y j (shown r) (tells z q r d signed h y j (In-append_left y (path_of z q).made (told_at (ds_at m ends) ends) i)) (unowned z d y k.made.absent)
+                (nsec_encloser o m y) e.0;
+          })
+
+  -- ---- of whom something is said
+
+  pub judged_proved : (w : Saying) → saying q r ≡ Some w → IsJudged z.origin z.sets (name_of w)
+  judged_proved w e = by (said z d.circle.zone q r h)
+    where
+      of : (v : Saying) → saying q r ≡ Some v → IsJudged o m (name_of v) → IsJudged o m (name_of w)
+      of v f j = subst (λ u. IsJudged o m (name_of u)) (same_saying v w (saying q r) f e) j
+
+      either : (there : Bool) (y : Name) → IsJudged o m y → IsJudged o m (name_of (cond there (no_data y) (name_error y)))
+      either true y j = j
+      either false y j = j
+
+      by : Said z q r → IsJudged o m (name_of w)
+      by (says_nothing f) = let p : None ≡ Some w = sym f ∙ e in absurd cc
+      by (says_data y f u) = of (data_of y) f (judged_unturned z q d y u)
+      by (says_referral y c f g u) = of (referral (lower c.owner)) f (judged_cut z q d y c u).judged
+      by (says_missing y star there f g u k) = of (cond there (no_data y) (name_error y)) f (either there y (judged_unturned z q d y u))
+
+  -- ---- a name without data
+
+  module _ (x : Name) (star : Option Name) (there : Bool) (end : (path_of z q).end ≡ missing x star there) (u : IsUnturned (inquiry z q) x) where
+    abbrev j : IsJudged o m x
+    j = judged_unturned z q d x u
+
+    -- the SOA stands in the authority section
+    pub soa_shown : HasSoa z r
+    soa_shown = record {
+      stored = h.soa;
+      stands = h.stands;
+      among =
+          In-Contains (sent part.Signed (negative_ttl h.soa) h.soa) r.authorities
+          (subst (In (sent part.Signed (negative_ttl h.soa) h.soa)) (sym (authorities_are z q r d signed h ∙ ap all end)) (inl refl));
+    }
+
+    -- it is told of, and so is the star that is asked for it
+    told_itself : IsTold o m j.zone (shown r) x
+    told_itself = tells z q r d signed h x j (In-append_right x (path_of z q).made (told_at (ds_at m ends) ends) (subst (λ e. In x (told_at (ds_at m e) e)) (sym end) (inl refl)))
+
+    told_star : (w : Name) → star ≡ Some w → (k : IsJudged o m w) → IsTold o m k.zone (shown r) w
+    told_star w e k =
+        tells z q r d signed h w k
+        (In-append_right w (path_of z q).made (told_at (ds_at m ends) ends)
+        (subst (λ e. In w (told_at (ds_at m e) e)) (sym (end ∙ ap (λ s. missing x s there) e)) (inr (inl refl))))
+
+    -- the star is that of the circle's encloser
+    star_of_circle : (w : Name) → exists m x ≡ false → star_of m x ≡ Some w → w ≡ star_under (nsec_encloser o m x)
+    star_of_circle w absent e = same_name w (star_under (nsec_encloser o m x)) (sym e ∙ (star_is z d x j absent).1)
+
+    pub error_shown : there ≡ false → IsMissing (inquiry z q) x star there → proves_name_error z.origin (shown r) x ≡ true
+    error_shown gone' (bare e f g b) = absurd (true≢false (sym e ∙ gone'))
+    error_shown gone' (bare_star w e f absent g k b) = absurd (true≢false (sym e ∙ gone'))
+    error_shown gone' (starless e absent f) = let p : None ≡ Some (star_under (nsec_encloser o m x)) = sym f ∙ (star_is z d x j absent).1 in absurd cc
+    error_shown gone' (gone w e f absent g k) =
+        let none = unowned z d x absent in
+        let up = over o m x j (shown r) told_itself none in
+        let same = star_of_circle w absent g in
+        let k' = judged_star o m x j up in
+        error_proved o m x j (shown r) told_itself none k'.zone (told_star (star_under (nsec_encloser o m x)) (f ∙ ap Some same) k')
+        (unowned z d (star_under (nsec_encloser o m x)) (ap (exists m) (sym same) ∙ k))
+
+    -- it is there without data, as its own record or the one before it shows, or the star's
+    data BareBy : Type 0 where
+      by_own : IsUnflattened m x t → proves_no_data o (shown r) x t ≡ true → BareBy
+      by_empty : proves_empty_non_terminal o (shown r) x ≡ true → BareBy
+      by_star : IsUnflattened m (star_under (nsec_encloser o m x)) t → proves_wildcard_no_data o (shown r) x t ≡ true → BareBy
+
+    bare_shown : there ≡ true → IsShowable o m x t → IsMissing (inquiry z q) x star there → BareBy
+    bare_shown so s (bare e f there' b) =
+        by
+        (bare_by o m x j (shown r) told_itself (sym (exists_is o m d.circle d.one_kind x) ∙ there') t s.no_signature (not_any m x t b NSEC)
+        (λ one. bare_direct m x t b d.one_kind s.no_signature one o j (beside_soa (inquiry z q) x u d.unreferred)) s.no_apex)
+      where
+        by : (proves_no_data o (shown r) x t ≡ true) ⊎ (proves_empty_non_terminal o (shown r) x ≡ true) → BareBy
+        by (inl p) = by_own (flat m x t b) p
+        by (inr p) = by_empty p
+    bare_shown so s (bare_star w e f absent g there' b) =
+        let none = unowned z d x absent in
+        let same = star_of_circle w absent g in
+        let k = judged_star o m x j (over o m x j (shown r) told_itself none) in
+        let c : IsBare m star' t = subst (λ n. IsBare m n t) same b in
+        by_star (flat m star' t c)
+        (star_bare_by o m x j (shown r) told_itself none t
+        (told_bare o m star' k (shown r) (told_star star' (f ∙ ap Some same) k) (sym (exists_is o m d.circle d.one_kind star') ∙ ap (exists m) (sym same) ∙ there') t s.no_signature (not_any m star' t c NSEC)
+        (λ one. bare_direct m star' t c d.one_kind s.no_signature one o k (λ other ns. absurd (true≢false (sym ns ∙ s.no_star_cut absent)))) (s.no_star_apex absent)))
+      where
+        star' : Name
+        star' = star_under (nsec_encloser o m x)
+    bare_shown so s (starless e absent f) = absurd (true≢false (sym so ∙ e))
+    bare_shown so s (gone w e f absent g k) = absurd (true≢false (sym so ∙ e))
+
+    empty_from : BareBy → proves_empty_answer z.origin (shown r) x t ≡ true
+    empty_from (by_own g p) = or_left (proves_no_data o (shown r) x t || proves_empty_non_terminal o (shown r) x) (proves_wildcard_no_data o (shown r) x t) (or_left (proves_no_data o (shown r) x t) (proves_empty_non_terminal o (shown r) x) p)
+    empty_from (by_empty p) = or_left (proves_no_data o (shown r) x t || proves_empty_non_terminal o (shown r) x) (proves_wildcard_no_data o (shown r) x t) (or_right (proves_no_data o (shown r) x t) (proves_empty_non_terminal o (shown r) x) p)
+    empty_from (by_star g p) = or_right (proves_no_data o (shown r) x t || proves_empty_non_terminal o (shown r) x) (proves_wildcard_no_data o (shown r) x t) p
+
+    none_from : IsFalse (is_wildcard x) → BareBy → IsWithoutData z.origin z.sets x t
+    none_from plain (by_own g p) = (sound_proved x j).data' t g p
+    none_from plain (by_empty p) = empty_without_data o m x j ((sound_proved x j).empty p) t
+    none_from plain (by_star g p) = ((sound_proved x j).wildcard_data t plain g p).none
+
+    -- it is no name error
+    no_error : IsWithoutData o m x t → proves_name_error o (shown r) x ≡ false
+    no_error w = by (proves_name_error o (shown r) x) refl
+      where
+        by : (b : Bool) → proves_name_error o (shown r) x ≡ b → b ≡ false
+        by false p = refl
+        by true p = let e : nx_domain ≡ name_exists = sym ((sound_proved x j).error p).denied ∙ w.there in absurd cc
+
+    -- a zone cut without DS has data of no other type, and refers
+    is_digest : proves_unsigned_delegation o (shown r) x ≡ true → t ≡ DS
+    is_digest p = by (t == DS) refl
+      where
+        cut : IsUnsignedDelegation o m x
+        cut = (sound_proved x j).delegation p
+
+        by : (b : Bool) → (t == DS) ≡ b → t ≡ DS
+        by true e = eqb-true t DS e
+        by false e = absurd (true≢false (sym (beside_soa (inquiry z q) x u d.unreferred e cut.delegated) ∙ cut.no_apex))
+
+    told_from : IsFalse (is_wildcard x) → BareBy → IsEmptyProof t (nsec_proof z.origin (shown r) x t)
+    told_from plain k = sum_of_empty o (shown r) x t (no_error (none_from plain k)) is_digest (empty_from k)
+
+    pub empty_shown : there ≡ true → IsMissing (inquiry z q) x star there → IsProvedEmpty z r x t
+    empty_shown so k = record {
+      soa = soa_shown;
+      proved = λ s. empty_from (bare_shown so s k);
+      told = λ s plain. told_from plain (bare_shown so s k);
+      none = λ s plain. none_from plain (bare_shown so s k);
+    }
+
+  -- ---- what is said
+
+  -- the name of a negative response is that where the search ends
+  pub record IsMissingName (x : Name) (there : Bool) : Type 0 where
+    pub star : Option Name
+    pub end : (path_of z q).end ≡ missing x star there
+    pub unturned : IsUnturned (inquiry z q) x
+    pub how : IsMissing (inquiry z q) x star there
+
+  missing_said : (there : Bool) (x : Name) → saying q r ≡ Some (cond there (no_data x) (name_error x)) → IsMissingName x there
+  missing_said there x e = by (said z d.circle.zone q r h)
+    where
+      negative : Saying
+      negative = cond there (no_data x) (name_error x)
+
+      same : (v : Saying) → saying q r ≡ Some v → v ≡ negative
+      same v f = same_saying v negative (saying q r) f e
+
+      no_answer : (there : Bool) (y : Name) → data_of y ≡ cond there (no_data x) (name_error x) → ⊥
+      no_answer true y f = cc
+      no_answer false y f = cc
+
+      no_referral : (there : Bool) (y : Name) → referral y ≡ cond there (no_data x) (name_error x) → ⊥
+      no_referral true y f = cc
+      no_referral false y f = cc
+
+      both : (a b : Bool) (y : Name) → cond a (no_data y) (name_error y) ≡ cond b (no_data x) (name_error x) → (a ≡ b) × (y ≡ x)
+      both true true y f = (refl, cc)
+      both false false y f = (refl, cc)
+      both true false y f = absurd cc
+      both false true y f = absurd cc
+
+      by : Said z q r → IsMissingName x there
+      by (says_nothing f) = let p : None ≡ Some negative = sym f ∙ e in absurd cc
+      by (says_data y f u) = absurd (no_answer there y (same (data_of y) f))
+      by (says_referral y c f g u) = absurd (no_referral there (lower c.owner) (same (referral (lower c.owner)) f))
+      by (says_missing y star a f g u k) =
+          let s = both a there y (same (cond a (no_data y) (name_error y)) f) in
+          record {
+            star = star;
+            end = g ∙ (λ i. missing (s.1 i) star (s.0 i));
+            unturned = subst (IsUnturned (inquiry z q)) s.1 u;
+            how = subst (λ n. IsMissing (inquiry z q) n star there) s.1 (subst (IsMissing (inquiry z q) y star) s.0 k);
+          }
+
+  pub error_said : (x : Name) → saying q r ≡ Some (name_error x) → IsProvedError z r x
+  error_said x e =
+      let k = missing_said false x e in
+      let p = error_shown x k.star false k.end k.unturned refl k.how in
+      record {
+        soa = soa_shown x k.star false k.end k.unturned;
+        proved = p;
+        told = λ u. sum_of_error o (shown r) x u p;
+        none = (sound_proved x (judged_unturned z q d x k.unturned)).error p;
+      }
+
+  pub empty_said : (x : Name) → saying q r ≡ Some (no_data x) → IsProvedEmpty z r x q.record_type
+  empty_said x e = let k = missing_said true x e in empty_shown x k.star true k.end k.unturned refl k.how
+
+  -- a zone cut is no name error
+  unsigned_child : (c : Name) → IsJudged o m c → owns m c NS ≡ true → proves_unsigned_delegation z.origin (shown r) c ≡ true → IsProvedUnsigned z r c
+  unsigned_child c k ns p = record {
+    proved = p;
+    told = λ u. sum_of_delegation o (shown r) c u (by (proves_name_error o (shown r) c) refl) p;
+    none = (sound_proved c k).delegation p;
+  }
+    where
+      by : (b : Bool) → proves_name_error o (shown r) c ≡ b → b ≡ false
+      by false e = refl
+      by true e =
+          let w : nx_domain ≡ name_exists = sym ((sound_proved c k).error e).denied ∙ present o m c (or_left (owns_at_or_below m c) (asked_star_exists m c) (there_from m c NS ns)) in
+          absurd cc
+
+  pub referral_said : (c : Name) → saying q r ≡ Some (referral c) → IsProvedReferral z r c
+  referral_said c e = by (said z d.circle.zone q r h)
+    where
+      same : (v : Saying) → saying q r ≡ Some v → v ≡ referral c
+      same v f = same_saying v (referral c) (saying q r) f e
+
+      of_cut : (y : Name) (s : RRset) → ends ≡ referred s → IsCut z s → IsProvedReferral z r (lower s.owner)
+      of_cut y s g cut = record {
+        servers = record { stored = s; stands = cut.stands; among = In-Contains (as_it_is part.Records s) r.authorities (among (as_it_is part.Records s) (inl refl)) };
+        keys = λ no_apex. keys no_apex (child_ds m s) refl;
+      }
+        where
+          among : (v : RRset) → In v (all (referred s)) → In v r.authorities
+          among v i = subst (In v) (sym (authorities_are z q r d signed h ∙ ap all g)) i
+
+          keys : owns m (lower s.owner) SOA ≡ false → (ds : Option RRset) → child_ds m s ≡ ds → HasAuthority z r part.Signed (lower s.owner) DS ⊎ IsProvedUnsigned z r (lower s.owner)
+          keys no_apex (Some v) f =
+              inl
+              (record {
+                stored = v;
+                stands = f;
+                among =
+                    In-Contains (as_it_is part.Signed v) r.authorities
+                    (among (as_it_is part.Signed v)
+                    (inr
+                    (In-append_left (as_it_is part.Signed v) (map (as_it_is part.Signed) (option_to_list (child_ds m s))) (map (as_proof (negative_ttl h.soa)) h.proofs)
+                    (subst (λ d. In (as_it_is part.Signed v) (map (as_it_is part.Signed) (option_to_list d))) (sym f) (inl refl)))));
+              })
+          keys no_apex None f = inr (unsigned_child (lower s.owner) cut.judged (ap is_some cut.stands) proved)
+            where
+              proved : proves_unsigned_delegation o (shown r) (lower s.owner) ≡ true
+              proved =
+                  delegation_proved o m (lower s.owner) cut.judged (shown r)
+                  (tells z q r d signed h (lower s.owner) cut.judged
+                  (In-append_right (lower s.owner) (path_of z q).made (told_at (ds_at m ends) ends)
+                  (subst (λ e. In (lower s.owner) (told_at (ds_at m e) e)) (sym g) (subst (λ d. In (lower s.owner) (told_at d (referred s))) (sym f) (inl refl)))))
+                  (ap is_some cut.stands) (ap is_some f) no_apex
+
+      by : Said z q r → IsProvedReferral z r c
+      by (says_nothing f) = let p : None ≡ Some (referral c) = sym f ∙ e in absurd cc
+      by (says_data y f u) = let p : data_of y ≡ referral c = same (data_of y) f in absurd cc
+      by (says_referral y s f g u) = subst (IsProvedReferral z r) (child (lower s.owner) (same (referral (lower s.owner)) f)) (of_cut y s g (judged_cut z q d y s u))
+        where
+          child : (n : Name) → referral n ≡ referral c → n ≡ c
+          child n e = cc
+      by (says_missing y star there f g u k) = absurd (neither there (same (cond there (no_data y) (name_error y)) f))
+        where
+          neither : (there : Bool) → cond there (no_data y) (name_error y) ≡ referral c → ⊥
+          neither true e = cc
+          neither false e = cc

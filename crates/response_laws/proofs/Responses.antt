@@ -1,0 +1,54 @@
+-- Each response says how its search ends, and proves what it says
+use Rattle.std.proofs.Common.{◌≡◌, [], sym, ap, ◌∙◌, subst, inl, inr}
+use Rattle.std.specs.Prelude.{None}
+use Rattle.zone_proto.specs.declared.response_code.ResponseCode.{ResponseCode}
+use Rattle.zone_proto.proofs.Members.{Contains-In}
+use Rattle.zone_acceptance.proofs.Soundness.{records_sound}
+use Rattle.zone_response.specs.Queries.{Zone, Query}
+use Rattle.zone_response.specs.Responses.{bare}
+use Rattle.zone_response.specs.Sections.{Sections}
+use Rattle.response_laws.specs.ProvedSayings.{DeniesByNsec, ProvesWhatItSays, ResponseProvesWhatItSays}
+use Rattle.response_laws.specs.Sayings.{last_name, saying, SaysHowItEnds, ResponseSaysHowItEnds}
+use Rattle.response_laws.proofs.Parts.{HowAnswered, by_code_alone, by_parts, how_answered}
+use Rattle.response_laws.proofs.Proved.{authorities_proved, answers_proved, records_proved, sound_proved, judged_proved, error_said, empty_said, referral_said}
+use Rattle.response_laws.proofs.Said.{says_end}
+use Rattle.response_laws.proofs.Signatures.{signed_in_authority}
+
+pub response_says_how_it_ends : ResponseSaysHowItEnds
+response_says_how_it_ends z q r zone is = by (how_answered z q r zone is)
+  where
+    by : HowAnswered z q r → SaysHowItEnds z q r
+    by (by_code_alone c e silent) =
+        inl (e ∙ ap bare (sym (ap (λ (s : Sections). s.code) e)), ap (saying q) e ∙ silent (last_name q.record_type q.name []) [])
+    by (by_parts h) = inr (says_end z zone q r h)
+
+-- a code alone shows nothing and says nothing
+code_alone : (z : Zone) (q : Query) → DeniesByNsec z → (c : ResponseCode) → saying q (bare c) ≡ None → ProvesWhatItSays z q (bare c)
+code_alone z q d c silent = record {
+  authorities = λ s i. absurd (Contains-In s [] i);
+  answers = λ s i. absurd (Contains-In s [] i);
+  signatures = λ t other all s i. absurd (Contains-In s [] i);
+  records = λ r i. absurd (Contains-In r [] i);
+  sound = λ x j. records_sound z.origin z.sets [] x j (λ r i. absurd (Contains-In r [] i));
+  judged = λ w e. let p = sym silent ∙ e in absurd cc;
+  error = λ x e. let p = sym silent ∙ e in absurd cc;
+  empty = λ x e. let p = sym silent ∙ e in absurd cc;
+  delegation = λ x e. let p = sym silent ∙ e in absurd cc;
+}
+
+pub response_proves_what_it_says : ResponseProvesWhatItSays
+response_proves_what_it_says z q r d signed is = by (how_answered z q r d.circle.zone is)
+  where
+    by : HowAnswered z q r → ProvesWhatItSays z q r
+    by (by_code_alone c e silent) = subst (ProvesWhatItSays z q) (sym e) (code_alone z q d c (silent (last_name q.record_type q.name []) []))
+    by (by_parts h) = record {
+      authorities = authorities_proved z q r d signed h;
+      answers = answers_proved z q r d signed h;
+      signatures = λ t other all s i. signed_in_authority z d.circle.zone t other all s (authorities_proved z q r d signed h s i);
+      records = records_proved z q r d signed h;
+      sound = sound_proved z q r d signed h;
+      judged = judged_proved z q r d signed h;
+      error = error_said z q r d signed h;
+      empty = empty_said z q r d signed h;
+      delegation = referral_said z q r d signed h;
+    }

@@ -1,0 +1,246 @@
+-- What responses of small zones say and prove, computed from the definitions. Each zone has besides an SOA at its origin, and its NSEC sets, no more than is shown
+use Rattle.std.proofs.Common.{◌≡◌, ℕ, true, false, List, [], ◌∷◌, map, refl}
+use Rattle.std.specs.Prelude.{codes, Some, None, pos}
+use Rattle.zone_proto.specs.declared.nx_proof_kind.NxProofKind.TheVariants as kind
+use Rattle.zone_proto.specs.declared.rdata.RData.TheVariants as V
+use Rattle.zone_proto.specs.declared.response_code.ResponseCode.{ResponseCode}
+use Rattle.zone_proto.specs.declared.response_code.ResponseCode.TheVariants as code
+use Rattle.zone_proto.specs.declared.rr_key.RrKey.{RrKey}
+use Rattle.zone_proto.specs.Names.{Name, star_under}
+use Rattle.zone_proto.specs.Sets.{RRset}
+use Rattle.zone_proto.specs.Types.{A, NS, CNAME, SOA, MX, DS, RRSIG, NSEC3, IN}
+use Rattle.zone_map.specs.Wildcards.{renamed}
+use Rattle.zone_map.specs.Zones.{Sets}
+use Rattle.zone_denial.specs.NsecSets.{nsec_set}
+use Rattle.zone_denial.specs.Nsec3Circle.{nsec3_data}
+use Rattle.zone_denial.proofs.Examples.NsecExamples.{origin, at_origin, record_with, entry, address, start, linked}
+use Rattle.zone_denial.proofs.Examples.Nsec3Examples.{parameters}
+use Rattle.zone_validation.specs.NsecProofs.{proves_name_error, proves_empty_answer, proves_wildcard_answer, proves_unsigned_delegation}
+use Rattle.zone_response.specs.declared.response.Part.TheVariants as part
+use Rattle.zone_response.specs.Paths.{path}
+use Rattle.zone_response.specs.Queries.{Zone, Query}
+use Rattle.zone_response.specs.Responses.{IsResponse}
+use Rattle.zone_response.specs.Sections.{Sections, sent, as_it_is}
+use Rattle.response_laws.specs.ProvedSayings.{shown, is_signed_by}
+use Rattle.response_laws.specs.Sayings.{data_of, name_error, no_data, referral, saying}
+
+abbrev pub zone : Sets → Zone
+zone m = record { origin = origin; sets = linked m; nx_proof_kind = Some kind.Nsec; digest_of = λ algorithm salt n iterations. None }
+
+-- a query with DNSSEC
+abbrev pub asked : Name → ℕ → Query
+asked n t = record { name = n; record_type = t; class = IN; signed = true }
+
+-- ---- sections
+
+-- the NSEC set of an owner, with the TTL of a negative response
+abbrev pub proof : Sets → Name → RRset
+proof m n = sent part.Signed 60 (nsec_set origin m 300 7 n)
+
+abbrev pub sections : ResponseCode → List RRset → List RRset → Sections
+sections c answers authorities = record { code = c; authoritative = true; answers = answers; authorities = authorities; additionals = []; glue = []; left_at = None }
+
+-- a negative response, with the NSEC sets of these owners
+abbrev pub negative : Sets → ResponseCode → List Name → Sections
+negative m c owners = sections c [] (sent part.Signed 60 start.1 ∷ map (proof m) owners)
+
+abbrev a : Name
+a = at_origin (codes "a")
+
+abbrev pub b : Name
+b = at_origin (codes "b")
+
+abbrev star : Name
+star = star_under origin
+
+abbrev server : Name
+server = codes "ns" ∷ b
+
+abbrev alias : Name → RrKey × RRset
+alias target = entry a CNAME (V.CNAME target)
+
+abbrev servers : Name → RrKey × RRset
+servers n = entry n NS (V.NS (codes "org" ∷ []))
+
+-- ---- negative responses
+
+abbrev host : Sets
+host = start ∷ address a ∷ []
+
+-- a name error
+of_missing : IsResponse (zone host) (asked b A) (negative host code.NXDomain (a ∷ origin ∷ []))
+unfolding path
+of_missing = record { code = refl; authoritative = refl; answers = refl; authorities = refl; additionals = refl; glue = refl; left_at = refl }
+
+missing_says : saying (asked b A) (negative host code.NXDomain (a ∷ origin ∷ [])) ≡ Some (name_error b)
+missing_says = refl
+
+missing_proved : proves_name_error origin (shown (negative host code.NXDomain (a ∷ origin ∷ []))) b ≡ true
+missing_proved = refl
+
+-- no data
+of_other_type : IsResponse (zone host) (asked a MX) (negative host code.NoError (a ∷ []))
+unfolding path
+of_other_type = record { code = refl; authoritative = refl; answers = refl; authorities = refl; additionals = refl; glue = refl; left_at = refl }
+
+other_type_says : saying (asked a MX) (negative host code.NoError (a ∷ [])) ≡ Some (no_data a)
+other_type_says = refl
+
+other_type_proved : proves_empty_answer origin (shown (negative host code.NoError (a ∷ []))) a MX ≡ true
+other_type_proved = refl
+
+-- the code of an alias is that of its target, of which the response speaks (RFC 6604 section 3)
+abbrev aliased : Sets
+aliased = start ∷ alias b ∷ []
+
+abbrev behind_alias : Sections
+behind_alias = sections code.NXDomain ((alias b).1 ∷ []) (sent part.Signed 60 start.1 ∷ proof aliased a ∷ proof aliased origin ∷ [])
+
+of_alias : IsResponse (zone aliased) (asked a A) behind_alias
+unfolding path
+of_alias = record { code = refl; authoritative = refl; answers = refl; authorities = refl; additionals = refl; glue = refl; left_at = refl }
+
+alias_says : saying (asked a A) behind_alias ≡ Some (name_error b)
+alias_says = refl
+
+alias_proved : proves_name_error origin (shown behind_alias) b ≡ true
+alias_proved = refl
+
+-- where the alias itself is asked for, it is the answer
+alias_itself : saying (asked a CNAME) (sections code.NoError ((alias b).1 ∷ []) []) ≡ Some (data_of a)
+alias_itself = refl
+
+-- of a name outside the zone nothing is said
+abbrev leaving : Sets
+leaving = start ∷ alias (codes "org" ∷ []) ∷ []
+
+of_leaving : IsResponse (zone leaving) (asked a A) (record (sections code.NoError ((alias (codes "org" ∷ [])).1 ∷ []) []) { left_at = Some (codes "org" ∷ []) })
+unfolding path
+of_leaving = record { code = refl; authoritative = refl; answers = refl; authorities = refl; additionals = refl; glue = refl; left_at = refl }
+
+leaving_says : saying (asked a A) (record (sections code.NoError ((alias (codes "org" ∷ [])).1 ∷ []) []) { left_at = Some (codes "org" ∷ []) }) ≡ None
+leaving_says = refl
+
+-- ---- a star
+
+abbrev starred : Sets
+starred = start ∷ address star ∷ []
+
+abbrev from_star : Sections
+from_star = sections code.NoError (renamed true star b (address star).1 ∷ []) (proof starred star ∷ [])
+
+of_star : IsResponse (zone starred) (asked b A) from_star
+unfolding path
+of_star = record { code = refl; authoritative = refl; answers = refl; authorities = refl; additionals = refl; glue = refl; left_at = refl }
+
+star_says : saying (asked b A) from_star ≡ Some (data_of b)
+star_says = refl
+
+star_proved : proves_wildcard_answer origin (shown from_star) b origin ≡ true
+star_proved = refl
+
+of_star_without_data : IsResponse (zone starred) (asked b MX) (negative starred code.NoError (star ∷ []))
+unfolding path
+of_star_without_data = record { code = refl; authoritative = refl; answers = refl; authorities = refl; additionals = refl; glue = refl; left_at = refl }
+
+star_without_data_says : saying (asked b MX) (negative starred code.NoError (star ∷ [])) ≡ Some (no_data b)
+star_without_data_says = refl
+
+star_without_data_proved : proves_empty_answer origin (shown (negative starred code.NoError (star ∷ []))) b MX ≡ true
+star_without_data_proved = refl
+
+-- ---- a referral
+
+abbrev divided : Sets
+divided = start ∷ servers b ∷ []
+
+abbrev to_child : Sections
+to_child = record (sections code.NoError [] (as_it_is part.Records (servers b).1 ∷ proof divided b ∷ [])) { authoritative = false }
+
+of_child : IsResponse (zone divided) (asked server A) to_child
+unfolding path
+of_child = record { code = refl; authoritative = refl; answers = refl; authorities = refl; additionals = refl; glue = refl; left_at = refl }
+
+child_says : saying (asked server A) to_child ≡ Some (referral b)
+child_says = refl
+
+child_proved : proves_unsigned_delegation origin (shown to_child) b ≡ true
+child_proved = refl
+
+-- ---- signatures
+
+-- the address of a with a signature
+abbrev signed_host : Name → ℕ → RRset
+signed_host signer labels = record (address a).1 {
+  signatures =
+      record_with a (V.RRSIG (record { type_covered = record { 0 = A }; algorithm = 253; num_labels = labels; original_ttl = 60; expiration = 86400; inception = 0; key_tag = 1; signer_name = signer; signature = [] })) ∷ [];
+}
+
+by_zone : is_signed_by origin (signed_host origin 2) ≡ true
+by_zone = refl
+
+-- another signer
+by_other : is_signed_by origin (signed_host a 2) ≡ false
+by_other = refl
+
+-- a label less: the set was made from a star
+of_made_set : is_signed_by origin (signed_host origin 1) ≡ false
+of_made_set = refl
+
+-- and a star itself has one label that doesn't count
+of_star_itself : is_signed_by origin (record (signed_host origin 1) { owner = star }) ≡ true
+of_star_itself = refl
+
+-- ---- where nothing is proved
+
+-- RRSIG of a set without signatures: each name on the circle owns RRSIG, as it seems to a validator
+of_no_signature : IsResponse (zone host) (asked a RRSIG) (negative host code.NoError (a ∷ []))
+unfolding path
+of_no_signature = record { code = refl; authoritative = refl; answers = refl; authorities = refl; additionals = refl; glue = refl; left_at = refl }
+
+no_signature_unproved : proves_empty_answer origin (shown (negative host code.NoError (a ∷ []))) a RRSIG ≡ false
+no_signature_unproved = refl
+
+-- DS of the origin, which is the parent's
+of_no_digest : IsResponse (zone host) (asked origin DS) (negative host code.NoError (origin ∷ []))
+unfolding path
+of_no_digest = record { code = refl; authoritative = refl; answers = refl; authorities = refl; additionals = refl; glue = refl; left_at = refl }
+
+no_digest_unproved : proves_empty_answer origin (shown (negative host code.NoError (origin ∷ []))) origin DS ≡ false
+no_digest_unproved = refl
+
+-- a star that is a delegation (RFC 4592 section 4.2)
+abbrev star_divided : Sets
+star_divided = start ∷ servers star ∷ []
+
+of_star_cut : IsResponse (zone star_divided) (asked b A) (negative star_divided code.NoError (star ∷ []))
+unfolding path
+of_star_cut = record { code = refl; authoritative = refl; answers = refl; authorities = refl; additionals = refl; glue = refl; left_at = refl }
+
+star_cut_unproved : proves_empty_answer origin (shown (negative star_divided code.NoError (star ∷ []))) b A ≡ false
+star_cut_unproved = refl
+
+-- a child that stands in the zone with its SOA
+abbrev with_child : Sets
+with_child = start ∷ servers b ∷ entry b SOA (V.SOA (record { mname = b; rname = b; serial = 7; refresh = pos 7200; retry = pos 600; expire = pos 86400; minimum = 300 })) ∷ []
+
+abbrev to_inner_child : Sections
+to_inner_child = record (sections code.NoError [] (as_it_is part.Records (servers b).1 ∷ proof with_child b ∷ [])) { authoritative = false }
+
+of_inner_child : IsResponse (zone with_child) (asked server A) to_inner_child
+unfolding path
+of_inner_child = record { code = refl; authoritative = refl; answers = refl; authorities = refl; additionals = refl; glue = refl; left_at = refl }
+
+inner_child_unproved : proves_unsigned_delegation origin (shown to_inner_child) b ≡ false
+inner_child_unproved = refl
+
+-- a star that owns NSEC3 alone, which is on the circle, and doesn't exist for a search
+abbrev foreign : Sets
+foreign = start ∷ entry star NSEC3 (V.NSEC3 (nsec3_data parameters [] [])) ∷ []
+
+of_foreign_star : IsResponse (zone foreign) (asked b A) (negative foreign code.NXDomain (star ∷ []))
+unfolding path
+of_foreign_star = record { code = refl; authoritative = refl; answers = refl; authorities = refl; additionals = refl; glue = refl; left_at = refl }
+
+foreign_star_unproved : proves_name_error origin (shown (negative foreign code.NXDomain (star ∷ []))) b ≡ false
+foreign_star_unproved = refl

@@ -1,0 +1,76 @@
+-- What one step of a search comes to
+use Rattle.std.proofs.Common.{◌≡◌, ℕ, Bool, true, false, cond, refl, ap, ◌∙◌}
+use Rattle.std.specs.Prelude.{Option, Some, None}
+use Rattle.zone_proto.specs.Names.{Name, is_at_or_above}
+use Rattle.zone_proto.specs.Sets.{RRset}
+use Rattle.zone_proto.specs.Types.{CNAME}
+use Rattle.zone_map.specs.Wildcards.{exists}
+use Rattle.zone_map.specs.Zones.{Sets, set_at}
+use Rattle.zone_response.specs.Nodes.{own, alias, stand_in, nothing, asked_set, stand_in_set, first_of, at_node}
+use Rattle.zone_response.specs.Queries.{Inquiry}
+use Rattle.zone_response.specs.Sources.{star_of}
+use Rattle.zone_response.specs.Steps.{outside, referred, missing, failed, at_end, step_at, star_step, turned_step, step}
+use Rattle.zone_response.specs.Turns.{Turn, cut, renaming, turn}
+
+-- what a name has for a type
+pub data NodeOf (m : Sets) (a : Name) (t : ℕ) : Type 0 where
+  has_set : (s : RRset) → asked_set m a t ≡ Some s → at_node m a t ≡ own s → NodeOf m a t
+  has_alias : (s : RRset) → asked_set m a t ≡ None → set_at m a CNAME ≡ Some s → at_node m a t ≡ alias s → NodeOf m a t
+  has_stand_in : (s : RRset) → at_node m a t ≡ stand_in s → NodeOf m a t
+  has_nothing : asked_set m a t ≡ None → set_at m a CNAME ≡ None → stand_in_set m a t ≡ None → at_node m a t ≡ nothing → NodeOf m a t
+
+pub node_of : (m : Sets) (a : Name) (t : ℕ) → NodeOf m a t
+node_of m a t = by (asked_set m a t) refl (set_at m a CNAME) refl (stand_in_set m a t) refl
+  where
+    by : (o : Option RRset) → asked_set m a t ≡ o → (c : Option RRset) → set_at m a CNAME ≡ c → (p : Option RRset) → stand_in_set m a t ≡ p → NodeOf m a t
+    by (Some s) e c f p g = has_set s e (ap (λ o. first_of o (set_at m a CNAME) (stand_in_set m a t)) e)
+    by None e (Some s) f p g = has_alias s e f (λ i. first_of (e i) (f i) (stand_in_set m a t))
+    by None e None f (Some s) g = has_stand_in s (λ i. first_of (e i) (f i) (g i))
+    by None e None f None g = has_nothing e f g (λ i. first_of (e i) (f i) (g i))
+
+-- a name of the zone on the way down to which nothing turns
+pub record IsUnturned (q : Inquiry) (x : Name) : Type 0 where
+  pub inside : is_at_or_above q.origin x ≡ true
+  pub unturned : turn q.origin q.sets x q.record_type ≡ None
+
+-- where a name stands, and the step from there
+pub data StepOf (q : Inquiry) (x : Name) : Type 0 where
+  leaves : is_at_or_above q.origin x ≡ false → step q x ≡ at_end (outside x) → StepOf q x
+  refers : (s : RRset) → is_at_or_above q.origin x ≡ true → turn q.origin q.sets x q.record_type ≡ Some (cut s) → step q x ≡ at_end (referred s) → StepOf q x
+  fails : step q x ≡ at_end failed → StepOf q x
+  at_name : IsUnturned q x → exists q.sets x ≡ true → step q x ≡ step_at q None x x → StepOf q x
+  no_star : IsUnturned q x → exists q.sets x ≡ false → star_of q.sets x ≡ None → step q x ≡ at_end (missing x None false) → StepOf q x
+  at_star : (star : Name) → IsUnturned q x → exists q.sets x ≡ false → star_of q.sets x ≡ Some star → exists q.sets star ≡ true → step q x ≡ step_at q (Some star) x star → StepOf q x
+  star_gone : (star : Name) → IsUnturned q x → exists q.sets x ≡ false → star_of q.sets x ≡ Some star → exists q.sets star ≡ false → step q x ≡ at_end (missing x (Some star) false) → StepOf q x
+
+module _ (q : Inquiry) (x : Name) where
+  abbrev the_turn : Option Turn
+  the_turn = turn q.origin q.sets x q.record_type
+
+  by_star : (inside : is_at_or_above q.origin x ≡ true) → the_turn ≡ None → step q x ≡ star_step q x (star_of q.sets x) → exists q.sets x ≡ false → (o : Option Name) → star_of q.sets x ≡ o → StepOf q x
+  by_star inside e step_is absent None f = no_star (record { inside = inside; unturned = e }) absent f (step_is ∙ ap (star_step q x) f)
+  by_star inside e step_is absent (Some star) f = by (exists q.sets star) refl
+    where
+      by : (b : Bool) → exists q.sets star ≡ b → StepOf q x
+      by true g =
+          at_star star (record { inside = inside; unturned = e }) absent f g
+          (step_is ∙ ap (star_step q x) f ∙ ap (λ b. cond b (step_at q (Some star) x star) (at_end (missing x (Some star) false))) g)
+      by false g =
+          star_gone star (record { inside = inside; unturned = e }) absent f g
+          (step_is ∙ ap (star_step q x) f ∙ ap (λ b. cond b (step_at q (Some star) x star) (at_end (missing x (Some star) false))) g)
+
+  by_turn : (inside : is_at_or_above q.origin x ≡ true) → step q x ≡ turned_step q x the_turn → (o : Option Turn) → the_turn ≡ o → StepOf q x
+  by_turn inside step_is (Some (cut s)) e = refers s inside e (step_is ∙ ap (turned_step q x) e)
+  by_turn inside step_is (Some (renaming s)) e = fails (step_is ∙ ap (turned_step q x) e)
+  by_turn inside step_is None e = by (exists q.sets x) refl
+    where
+      by : (b : Bool) → exists q.sets x ≡ b → StepOf q x
+      by true f = at_name (record { inside = inside; unturned = e }) f (step_is ∙ ap (turned_step q x) e ∙ ap (λ b. cond b (step_at q None x x) (star_step q x (star_of q.sets x))) f)
+      by false f = by_star inside e (step_is ∙ ap (turned_step q x) e ∙ ap (λ b. cond b (step_at q None x x) (star_step q x (star_of q.sets x))) f) f (star_of q.sets x) refl
+
+  pub step_of : StepOf q x
+  step_of = by (is_at_or_above q.origin x) refl
+    where
+      by : (b : Bool) → is_at_or_above q.origin x ≡ b → StepOf q x
+      by true e = by_turn e (ap (λ b. cond b (turned_step q x the_turn) (at_end (outside x))) e) the_turn refl
+      by false e = leaves e (ap (λ b. cond b (turned_step q x the_turn) (at_end (outside x))) e)

@@ -1,0 +1,111 @@
+-- What a response says to who asked, read in the response alone (RFC 2308 section 2)
+use Rattle.std.specs.Prelude.{◌≡◌, ℕ, Bool, ◌&&◌, ◌||◌, not, ◌⊎◌, cond, List, [], ◌∷◌, ◌==◌, Option, Some, None, find, option_and_then}
+use Rattle.std.specs.List.{list_any}
+use Rattle.std.specs.Option.{option_map_or}
+use Rattle.zone_proto.specs.declared.response_code.ResponseCode.{ResponseCode}
+use Rattle.zone_proto.specs.declared.response_code.ResponseCode.TheVariants as code
+use Rattle.zone_proto.specs.Names.{Name, lower, same_name, is_at_or_above}
+use Rattle.zone_proto.specs.Sets.{RRset}
+use Rattle.zone_proto.specs.Types.{NS, CNAME, SOA, RRSIG, ANY}
+use Rattle.zone_map.specs.Chains.{cname_target}
+use Rattle.zone_map.specs.Zones.{IsZone}
+use Rattle.zone_response.specs.Paths.{path}
+use Rattle.zone_response.specs.Queries.{Zone, Query, inquiry}
+use Rattle.zone_response.specs.Responses.{bare, IsResponse}
+use Rattle.zone_response.specs.Sections.{Sections}
+use Rattle.zone_response.specs.Steps.{End, complete, referred, missing}
+
+pub data Saying : Type 0 where
+  -- these are the data of this name
+  data_of : Name → Saying
+  -- there is no such name (RFC 2308 section 2.1)
+  name_error : Name → Saying
+  -- the name is there, and has no data of the type that is asked for (RFC 2308 section 2.2)
+  no_data : Name → Saying
+  -- the name and those below it are another zone's (RFC 1034 section 4.3.2 step 3b)
+  referral : Name → Saying
+
+-- ---- the answer section
+
+-- an alias isn't followed where its own type is asked for, or any (RFC 1034 section 3.6.2, RFC 8482 section 4.1)
+abbrev pub asks_alias : ℕ → Bool
+asks_alias t = (t == CNAME) || (t == ANY)
+
+-- the name that a set leads on to from x, for a question of t: the target of an alias that x owns
+abbrev pub leads_to : ℕ → Name → RRset → Option Name
+leads_to t x s = cond (asks_alias t || not (same_name s.owner x)) None (cname_target s)
+
+-- the last name of an answer section, with the sets that stand behind the aliases to it
+pub record LastName : Type 0 where
+  pub name : Name
+  pub sets : List RRset
+
+-- along the aliases from x on
+abbrev pub last_name : ℕ → Name → List RRset → LastName
+last_name t x [] = record { name = x; sets = [] }
+last_name t x (s ∷ sets) = option_map_or (λ target. last_name t target sets) (leads_to t x s) (record { name = x; sets = s ∷ sets })
+
+-- ---- the authority section
+
+-- a set of type t
+abbrev pub is_of : ℕ → RRset → Bool
+is_of t s = s.record_type == t
+
+-- the servers of a name at x or above it are asked next
+abbrev pub referral_to : Name → RRset → Option Saying
+referral_to x s = cond (is_at_or_above (lower s.owner) (lower x)) (Some (referral (lower s.owner))) None
+
+-- without an answer, an SOA tells that x has no data, and NS without SOA which other zone is to be asked (RFC 2308 section 2.2)
+abbrev pub unanswered : Name → List RRset → Option Saying
+unanswered x authorities = cond (list_any (is_of SOA) authorities) (Some (no_data x)) (option_and_then (referral_to x) (find (is_of NS) authorities))
+
+-- ---- by the code
+
+-- x owns a set, and it is of type t, where t isn't a question of any type or of signatures
+abbrev pub is_answer : ℕ → Name → RRset → Bool
+is_answer t x s = same_name s.owner x && (is_of t s || (t == ANY) || (t == RRSIG))
+
+-- without error: one set is the answer
+abbrev pub without_error : ℕ → Name → List RRset → List RRset → Option Saying
+without_error t x [] authorities = unanswered x authorities
+without_error t x (s ∷ []) authorities = cond (is_answer t x s) (Some (data_of x)) None
+without_error t x (s ∷ (r ∷ sets)) authorities = None
+
+-- with a name error, there is none
+abbrev pub with_name_error : Name → List RRset → Option Saying
+with_name_error x [] = Some (name_error x)
+with_name_error x (s ∷ sets) = None
+
+-- any other code says nothing of a name
+abbrev pub by_code : ℕ → ResponseCode → LastName → List RRset → Option Saying
+by_code t code.NoError last authorities = without_error t last.name last.sets authorities
+by_code t code.NXDomain last authorities = with_name_error last.name last.sets
+by_code t _ last authorities = None
+
+-- what a response says to a query; nothing, where it has another form
+abbrev pub saying : Query → Sections → Option Saying
+saying q r = by_code q.record_type r.code (last_name q.record_type q.name r.answers) r.authorities
+
+-- the name of which something is said
+abbrev pub name_of : Saying → Name
+name_of (data_of x) = x
+name_of (name_error x) = x
+name_of (no_data x) = x
+name_of (referral x) = x
+
+-- ---- what is to be said
+
+-- what is said where a search ends: of a chain that leaves the zone, or isn't followed any farther, nothing
+abbrev pub SaysEnd : End → Option Saying → Type 0
+SaysEnd complete w = (x : Name) × (w ≡ Some (data_of x))
+SaysEnd (referred c) w = w ≡ Some (referral (lower c.owner))
+SaysEnd (missing x star there) w = w ≡ Some (cond there (no_data x) (name_error x))
+SaysEnd _ w = w ≡ None
+
+-- a response says nothing by its code alone, or it says how its search ends
+abbrev pub SaysHowItEnds : Zone → Query → Sections → Type 0
+SaysHowItEnds z q r = ((r ≡ bare r.code) × (saying q r ≡ None)) ⊎ SaysEnd (path (inquiry z q) q.name).end (saying q r)
+
+-- so it is of each response of each zone, signed or not
+abbrev pub ResponseSaysHowItEnds : Type 0
+ResponseSaysHowItEnds = (z : Zone) (q : Query) (r : Sections) → IsZone z.sets → IsResponse z q r → SaysHowItEnds z q r

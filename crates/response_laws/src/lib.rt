@@ -1,0 +1,5 @@
+//! What a whole response proves to who asked: the responses of `zone_response`, laid beside the judgement of `zone_validation`,
+//! which knows no zone.
+#![tactic(auto)]
+
+pub mod laws;

@@ -1,0 +1,3 @@
+pub mod OneZone
+pub mod ReadAnswers
+pub mod ShownRecords

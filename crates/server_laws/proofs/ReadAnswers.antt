@@ -1,0 +1,104 @@
+-- What a message that wasn't cut has of the sections that it was written of
+use Rattle.std.proofs.Common.{◌≡◌, ℕ, ◌%◌, ◌&&◌, Bool, true, false, not, List, [], ◌∷◌, ◌++◌, map, refl, sym, ap, subst, ◌∙◌, true≢false, inl, inr}
+use Rattle.std.specs.Prelude.{◌⊎◌, Option, Some, None}
+use Rattle.std.specs.List.{flat_map}
+use Rattle.zone_proto.specs.declared.record.Record.{Record}
+use Rattle.zone_proto.specs.declared.response_code.ResponseCode.TheVariants as code
+use Rattle.zone_proto.specs.Sets.{RRset}
+use Rattle.zone_message.specs.declared.query.Query.{Query as ReadQuery}
+use Rattle.zone_message.specs.Messages.{Parts, message_of}
+use Rattle.zone_validation.specs.NsecRecords.{nsec_records}
+use Rattle.zone_response.specs.Queries.{Zone}
+use Rattle.zone_response.specs.Responses.{bare, IsResponse}
+use Rattle.zone_response.specs.Sections.{Sections}
+use Rattle.zone_wire.specs.declared.response.Group.{Group}
+use Rattle.zone_wire.specs.Responses.{records_of, all_records, if_whole, IsSection}
+use Rattle.zone_server.specs.Answers.{asked_of, code_number, records_sent, AreSets, IsAnswerTo, IsResponseTo, IsSent, GoesOut, Says}
+use Rattle.zone_server.specs.Limits.{limit_for}
+use Rattle.response_laws.specs.ProvedSayings.{ProvesWhatItSays}
+use Rattle.response_laws.proofs.Responses.{response_proves_what_it_says}
+use Rattle.server_laws.specs.ProvedAnswers.{ProvesInMessage, IsFailure, AnswerProvesWhatItSays}
+use Rattle.server_laws.proofs.OneZone.{one_answers}
+use Rattle.server_laws.proofs.ShownRecords.{shown_in_sets}
+
+-- groups that are sets have their records
+joined : {A B : Type 0} (f : A → List Record) (g : B → List Record) (xs : List A) (ys : List B) → map f xs ≡ map g ys → flat_map f xs ≡ flat_map g ys
+joined f g [] [] e = refl
+joined f g [] (y ∷ ys) e = absurd cc
+joined f g (x ∷ xs) [] e = absurd cc
+joined f g (x ∷ xs) (y ∷ ys) e =
+    let first : f x ≡ g y = cc in
+    let others : map f xs ≡ map g ys = cc in
+    (λ i. first i ++ joined f g xs ys others i)
+
+of_groups : (gs : List Group) (ss : List RRset) → AreSets gs ss → all_records gs ≡ flat_map records_sent ss
+of_groups = joined records_of records_sent
+
+-- a section that is whole has all its records
+whole : (room : ℕ) (old new : List ℕ) (gs : List Group) (kept : List Record) (b : Bool) → b ≡ true → IsSection room old new gs kept b → kept ≡ all_records gs
+whole room old new gs kept true e h = h.0
+whole room old new gs kept false e h = absurd (true≢false (sym e))
+
+all_true : (a b c : Bool) → false ≡ not (a && (b && c)) → (a ≡ true) × (b ≡ true)
+all_true true true c e = (refl, refl)
+all_true true false c e = absurd (true≢false (sym e))
+all_true false b c e = absurd (true≢false (sym e))
+
+-- what a message has that was written of sections and wasn't cut
+pub record HasSections (s : Sections) (m : Parts) : Type 0 where
+  pub code : m.header.response_code ≡ code_number s.code % 16
+  pub authoritative : m.header.authoritative ≡ s.authoritative
+  pub answers : m.answers ≡ flat_map records_sent s.answers
+  pub authorities : m.authorities ≡ flat_map records_sent s.authorities
+
+some_same : {A : Type 0} (x y : A) → Some x ≡ Some y → x ≡ y
+some_same x y e = cc
+
+has_sections : (limit : ℕ) (q : ReadQuery) (s : Sections) (octets : List ℕ) (m : Parts) → IsSent limit q s octets → message_of octets ≡ Some m
+    → m.header.truncated ≡ false → HasSections s m
+has_sections limit q s octets m sent reads uncut =
+    let w = sent.written in
+    let r = sent.response in
+    let is = some_same m _ (sym reads ∙ w.reads) in
+    let trues = all_true w.body.answers_whole w.body.authorities_whole w.body.glue_whole
+    (sym uncut ∙ ap (λ (x : Parts). x.header.truncated) is ∙ w.body.truncated_is) in
+    record {
+      code = ap (λ (x : Parts). x.header.response_code) is ∙ ap (λ n. n % 16) sent.means.code;
+      authoritative = ap (λ (x : Parts). x.header.authoritative) is ∙ sent.means.authoritative;
+      answers = ap (λ (x : Parts). x.answers) is
+          ∙ whole _ _ _ r.answers.now w.answers w.body.answers_whole trues.0 w.body.answers_are
+          ∙ of_groups r.answers.now s.answers sent.means.answers;
+      authorities = ap (λ (x : Parts). x.authorities) is
+          ∙ whole _ _ _ (if_whole w.body.answers_whole r.authorities.now) w.authorities w.body.authorities_whole trues.1 w.body.authorities_are
+          ∙ ap (λ b. all_records (if_whole b r.authorities.now)) trues.0
+          ∙ of_groups r.authorities.now s.authorities sent.means.authorities;
+    }
+
+-- ---- what goes out proves what is said, or is a failure
+
+proved : (limit : ℕ) (q : ReadQuery) (z : Zone) (s : Sections) (octets : List ℕ) (m : Parts) → IsResponse z (asked_of q) s → ProvesWhatItSays z (asked_of q) s
+    → GoesOut limit q s octets → message_of octets ≡ Some m → m.header.truncated ≡ false → ProvesInMessage z q m ⊎ IsFailure z q m
+proved limit q z s octets m says p (inl sent) reads uncut =
+    let has = has_sections limit q s octets m sent reads uncut in
+    inl (record {
+      said = s;
+      proved = p;
+      code = has.code;
+      authoritative = has.authoritative;
+      answers = has.answers;
+      authorities = has.authorities;
+      shown = ap nsec_records has.authorities ∙ shown_in_sets z.sets s p.authorities;
+    })
+proved limit q z s octets m says p (inr (unsendable, sent)) reads uncut =
+    let has = has_sections limit q (bare code.ServFail) octets m sent reads uncut in
+    inr (record { said = s; says = says; unsendable = unsendable; code = has.code; answers = has.answers; authorities = has.authorities })
+
+said : (z : Zone) (o : Option Zone) (q : ReadQuery) (s : Sections) → Some z ≡ o → Says o (asked_of q) s → IsResponse z (asked_of q) s
+said z (Some y) q s e h = subst (λ (x : Zone). IsResponse x (asked_of q) s) (sym (some_same z y e)) h
+said z None q s e h = absurd cc
+
+pub answer_proves : AnswerProvesWhatItSays
+answer_proves zs t message octets q z m asked is answering denies signed reads uncut =
+    let r : IsResponseTo zs (limit_for t q.extension) q octets = subst (λ x. IsAnswerTo zs t x octets) asked is in
+    let answered : IsResponse z (asked_of q) r.said = said z r.zone q r.said (one_answers zs _ _ (Some z) r.zone answering r.answering) r.says in
+    proved (limit_for t q.extension) q z r.said octets m answered (response_proves_what_it_says z (asked_of q) r.said denies signed answered) r.goes_out reads uncut

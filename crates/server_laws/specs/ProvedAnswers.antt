@@ -1,0 +1,47 @@
+-- What a message proves to a validator that answers a query
+use Rattle.std.specs.Prelude.{◌≡◌, ℕ, false, ◌⊎◌, ◌%◌, List, [], Option, Some, Ok, IsTrue}
+use Rattle.std.specs.List.{flat_map}
+use Rattle.zone_proto.specs.declared.response_code.ResponseCode.TheVariants as code
+use Rattle.zone_proto.specs.Names.{Name}
+use Rattle.zone_message.specs.declared.query.Query.{Query as ReadQuery}
+use Rattle.zone_message.specs.Messages.{Parts, message_of}
+use Rattle.zone_message.specs.Queries.{query_of}
+use Rattle.zone_validation.specs.NsecRecords.{nsec_records}
+use Rattle.zone_response.specs.Queries.{Zone}
+use Rattle.zone_response.specs.Responses.{IsResponse}
+use Rattle.zone_response.specs.Sections.{Sections}
+use Rattle.zone_server.specs.declared.transport.Transport.{Transport}
+use Rattle.zone_server.specs.Answers.{asked_of, code_number, records_sent, AreUnsendable, IsAnswer}
+use Rattle.zone_server.specs.ServedZones.{IsAnswering}
+use Rattle.response_laws.specs.ProvedSayings.{DeniesByNsec, ProvesWhatItSays, shown}
+
+-- a zone answers for a name and a type, and no other does
+abbrev pub OneZoneAnswers : Type 0
+OneZoneAnswers = (zs : List Zone) (x : Name) (t : ℕ) (a b : Option Zone) → IsAnswering zs x t a → IsAnswering zs x t b → a ≡ b
+
+-- a message has the sections of what a zone says to a query, and they prove it; the lower four bits of the code stand in its header (RFC 6891 section 6.1.3)
+pub record ProvesInMessage (z : Zone) (q : ReadQuery) (m : Parts) : Type 0 where
+  pub said : Sections
+  pub proved : ProvesWhatItSays z (asked_of q) said
+  pub code : m.header.response_code ≡ code_number said.code % 16
+  pub authoritative : m.header.authoritative ≡ said.authoritative
+  pub answers : m.answers ≡ flat_map records_sent said.answers
+  pub authorities : m.authorities ≡ flat_map records_sent said.authorities
+  -- the NSEC records that a validator reads in it are those by which it is proved
+  pub shown : nsec_records m.authorities ≡ shown said
+
+-- no message has what the zone says, so the server has failed, and says nothing else (RFC 1035 section 4.1.1)
+pub record IsFailure (z : Zone) (q : ReadQuery) (m : Parts) : Type 0 where
+  pub said : Sections
+  pub says : IsResponse z (asked_of q) said
+  pub unsendable : AreUnsendable said
+  pub code : m.header.response_code ≡ code_number code.ServFail
+  pub answers : m.answers ≡ []
+  pub authorities : m.authorities ≡ []
+
+-- so does each answer that wasn't cut to a query with DNSSEC that such a zone answers
+abbrev pub AnswerProvesWhatItSays : Type 0
+AnswerProvesWhatItSays = (zs : List Zone) (t : Transport) (message octets : List ℕ) (q : ReadQuery) (z : Zone) (m : Parts)
+    → query_of message ≡ Ok q → IsAnswer zs t message octets → IsAnswering zs (asked_of q).name (asked_of q).record_type (Some z)
+    → DeniesByNsec z → IsTrue (asked_of q).signed → message_of octets ≡ Some m → m.header.truncated ≡ false
+    → ProvesInMessage z q m ⊎ IsFailure z q m

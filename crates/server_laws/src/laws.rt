@@ -1,0 +1,17 @@
+//! Laws of the answers to messages. Each is an empty function whose contract is the law, so a program has no need to call one.
+//!
+//! They are of queries with DNSSEC for names that a zone answers which denies by NSEC, as `response_laws` has it, and of answers that
+//! weren't cut: where TC is set, nothing is promised of what was left.
+ghost use Rattle.server_laws.specs.ProvedAnswers.{AnswerProvesWhatItSays, OneZoneAnswers};
+
+/// For each name and type, one zone of a server answers, or none does.
+pub fn one_zone_answers()
+    ensures { OneZoneAnswers }
+{}
+
+/// An answer without TC reads back as the message of what the zone says: with its code, its answer section and its authority section,
+/// record by record. What it says is proved to a validator by the NSEC records that stand in the authority section of the message
+/// (`ProvesWhatItSays` of `response_laws`). Only where a record of the zone has data that no octets are, the message is SERVFAIL alone.
+pub fn answers_prove_what_they_say()
+    ensures { AnswerProvesWhatItSays }
+{}
