@@ -4,11 +4,8 @@ use crate::read_zones::Head;
 use crate::signers::RowSigner;
 use std::alloc::Global;
 use std::collections::BTreeMap;
-use std::mem;
 use zone_handler::LookupOptions;
-use zone_proto::{
-    LowerName, Message, Name, Query, RData, Record, RecordSet, RecordType, RrKey, Rrsigs, SoaRecord,
-};
+use zone_proto::{LowerName, Name, Query, RData, Record, RecordSet, RecordType, RrKey};
 use zone_text::TextError;
 
 /// Record sets by their keys.
@@ -27,16 +24,10 @@ pub struct Arguments {
     pub records: Vec<Record>,
     pub data: Vec<RData>,
     pub queries: Vec<Query>,
-    pub sections: Message,
     pub is_flagged: bool,
     pub head: Head,
     pub signer: Option<RowSigner>,
-    pub rrsigs: Option<Rrsigs>,
-    pub soa: Option<Box<SoaRecord>>,
     pub sets: Sets,
-    pub list: Vec<RecordSet>,
-    pub set: Option<RecordSet>,
-    pub kept: Option<RecordSet>,
 }
 
 impl Arguments {
@@ -52,16 +43,10 @@ impl Arguments {
             records: Vec::new(alloc),
             data: Vec::new(alloc),
             queries: Vec::new(alloc),
-            sections: no_sections(alloc),
             is_flagged: false,
             head: Head::new(alloc),
             signer: None,
-            rrsigs: None,
-            soa: None,
             sets: BTreeMap::new(alloc),
-            list: Vec::new(alloc),
-            set: None,
-            kept: None,
         }
     }
 
@@ -111,11 +96,6 @@ impl Arguments {
         }
     }
 
-    /// All octets that were read.
-    pub fn take_labels(&mut self) -> Vec<Vec<u8>> {
-        mem::replace(&mut self.octets, Vec::new(self.alloc))
-    }
-
     pub fn take_record(&mut self) -> Record {
         match self.records.pop() {
             Some(record) => record,
@@ -127,30 +107,11 @@ impl Arguments {
         self.data.pop().unwrap_or(RData::A([0, 0, 0, 0]))
     }
 
-    /// The response whose sections were read.
-    pub fn take_sections(&mut self) -> Message {
-        mem::replace(&mut self.sections, no_sections(self.alloc))
-    }
-
-    /// The sets that were collected, in the order of their keys.
-    pub fn take_list(&mut self) -> Vec<RecordSet> {
-        mem::replace(&mut self.list, Vec::new(self.alloc))
-    }
-
     /// Whether signatures are wanted: they are where the flag stood.
     pub fn options(&self) -> LookupOptions {
         LookupOptions {
             dnssec_ok: self.is_flagged,
         }
-    }
-}
-
-/// A response without records.
-fn no_sections(alloc: Global) -> Message {
-    Message {
-        answers: Vec::new(alloc),
-        authorities: Vec::new(alloc),
-        additionals: Vec::new(alloc),
     }
 }
 

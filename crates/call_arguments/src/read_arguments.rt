@@ -1,15 +1,13 @@
 //! Reads what a call is passed, by the form of the call.
 
-use crate::arguments::{Arguments, boxed, push};
+use crate::arguments::{Arguments, push};
 use crate::forms::{Form, find_form};
 use crate::held::Held;
-use crate::read_records::{read_any_data, read_any_record, read_label, read_octets};
+use crate::read_records::{read_any_data, read_any_record, read_octets};
 use crate::read_zones::{read_digests, read_head, read_number, read_signer};
 use std::alloc::Global;
 use std::str;
-use zone_proto::{
-    DNSClass, LowerName, Name, Query, Record, RecordSet, RecordType, RrKey, Rrsigs, SOA, SoaRecord,
-};
+use zone_proto::{DNSClass, LowerName, Query, RecordSet, RrKey};
 use zone_text::{TextError, Words, read_name, read_type};
 
 /// Reads a call: its form, and what it is passed. That is lent, so that no early exit has to drop it.
@@ -28,14 +26,6 @@ pub fn read_call(
     for kind in form.kinds.split(' ') {
         match kind {
             "SETS" => copy_sets(held, arguments)?,
-            "LIST" => copy_list(held, arguments)?,
-            "SET" => arguments.set = copied(&held.set)?,
-            "KEPT" => arguments.kept = copied(&held.kept)?,
-            "RRSIGS" => gather_rrsigs(alloc, arguments)?,
-            "SOA" => arguments.soa = Some(boxed(alloc, root_soa(alloc))?),
-            "ANSWER" | "AUTHORITY" | "ADDITIONAL" => {
-                read_section(alloc, kind, &mut words, arguments)?;
-            }
             kind => read_argument(alloc, kind, &mut words, arguments)?,
         }
     }
@@ -56,7 +46,6 @@ fn read_argument(
         "TYPE" => push(&mut arguments.types, read_type(words)?)?,
         "NUMBER" => push(&mut arguments.numbers, read_number(words)?)?,
         "OCTETS" => push(&mut arguments.octets, read_octets(alloc, words)?)?,
-        "LABELS" => read_labels(alloc, words, arguments)?,
         "RECORD" => push(&mut arguments.records, read_any_record(alloc, words)?)?,
         "DATA" => {
             let record_type = read_type(words)?;
@@ -73,7 +62,6 @@ fn read_argument(
         "WORD" => arguments.text = String::from_str(alloc, take_text(words)?)?,
         "TTL" => arguments.is_flagged = read_is_ttl(words)?,
         "DNSSEC" => arguments.is_flagged = words.take_flag(b"dnssec")?,
-        "SIGNED" => arguments.is_flagged = words.take_flag(b"signed")?,
         word => read_this_word(words, word)?,
     }
     Ok(())
@@ -103,21 +91,6 @@ fn read_is_ttl(words: &mut Words<'_>) -> Result<bool, TextError> {
         "serial" => Ok(false),
         _ => Err(TextError::BadText),
     }
-}
-
-/// Reads the octets that are left of a row.
-fn read_labels(
-    alloc: Global,
-    words: &mut Words<'_>,
-    arguments: &mut Arguments,
-) -> Result<(), TextError> {
-    for _ in 0..u64::MAX {
-        match words.take() {
-            Some(word) => push(&mut arguments.octets, read_label(alloc, word)?)?,
-            None => break,
-        }
-    }
-    Ok(())
 }
 
 /// Reads how many questions there are, and the questions, of class IN.
@@ -160,69 +133,6 @@ fn read_questions(
     Ok(())
 }
 
-/// Reads a record of a section of a response.
-fn read_section(
-    alloc: Global,
-    kind: &str,
-    words: &mut Words<'_>,
-    arguments: &mut Arguments,
-) -> Result<(), TextError> {
-    let record = read_any_record(alloc, words)?;
-    let sections = &mut arguments.sections;
-    match kind {
-        "ANSWER" => push(&mut sections.answers, record)?,
-        "AUTHORITY" => push(&mut sections.authorities, record)?,
-        _ => push(&mut sections.additionals, record)?,
-    }
-    Ok(())
-}
-
-/// Makes a list of signatures of the records.
-fn gather_rrsigs(alloc: Global, arguments: &mut Arguments) -> Result<(), TextError> {
-    let mut rrsigs = Rrsigs::with_capacity(alloc, 2)?;
-    let second = arguments.take_record();
-    push_rrsig(&mut rrsigs, arguments.take_record())?;
-    push_rrsig(&mut rrsigs, second)?;
-    arguments.rrsigs = Some(rrsigs);
-    Ok(())
-}
-
-fn push_rrsig(rrsigs: &mut Rrsigs, record: Record) -> Result<(), TextError> {
-    if record.record_type() != RecordType::RRSIG {
-        return Err(TextError::BadText);
-    }
-    Ok(rrsigs.push(record)?)
-}
-
-/// An SOA record of the root.
-fn root_soa(alloc: Global) -> SoaRecord {
-    SoaRecord {
-        name: Name::root(alloc),
-        dns_class: DNSClass::IN,
-        ttl: 60,
-        soa: SOA {
-            mname: Name::root(alloc),
-            rname: Name::root(alloc),
-            serial: 1,
-            refresh: 2,
-            retry: 3,
-            expire: 4,
-            minimum: 5,
-        },
-    }
-}
-
-/// A copy of a set, if there is one.
-fn copied(set: &Option<RecordSet>) -> Result<Option<RecordSet>, TextError> {
-    match set {
-        Some(set) => match set.clone() {
-            Ok(copy) => Ok(Some(copy)),
-            Err(error) => Err(TextError::from(error)),
-        },
-        None => Ok(None),
-    }
-}
-
 /// Copies the sets that were collected, under their keys.
 fn copy_sets(held: &Held, arguments: &mut Arguments) -> Result<(), TextError> {
     for (key, set) in &held.collected {
@@ -240,15 +150,4 @@ fn copy_set(key: &RrKey, set: &RecordSet, arguments: &mut Arguments) -> Result<(
         },
         Err(error) => Err(TextError::from(error)),
     }
-}
-
-/// Copies the sets that were collected, in the order of their keys.
-fn copy_list(held: &Held, arguments: &mut Arguments) -> Result<(), TextError> {
-    for (_, set) in &held.collected {
-        match set.clone() {
-            Ok(copy) => push(&mut arguments.list, copy)?,
-            Err(error) => return Err(TextError::from(error)),
-        }
-    }
-    Ok(())
 }

@@ -1,7 +1,14 @@
 //! Rows: calls and the answers that are wanted.
 
-use crate::answer::answer;
+use crate::reading::read_answer;
+use crate::writing::written_answer;
 use std::alloc::{AllocError, Global};
+
+/// How many rooms are tried before a call has to succeed.
+pub const ROOMS: usize = 400;
+
+/// How many octets more each room has.
+pub const STEP: usize = 16;
 
 /// Makes the calls of all rows. The report counts the rows, and has a line for each with another answer.
 pub fn report(alloc: Global, text: &str) -> Result<String, AllocError> {
@@ -24,7 +31,7 @@ fn make_rows(alloc: Global, text: &str, faults: &mut String) -> Result<(usize, u
     Ok((rows, wrong))
 }
 
-/// Whether a row has the answer that is wanted. If not, a line is added to the faults.
+/// Whether a row has the answer that is wanted, spaces aside. If not, a line is added to the faults.
 fn answers(
     alloc: Global,
     call: &str,
@@ -32,9 +39,35 @@ fn answers(
     faults: &mut String,
 ) -> Result<bool, AllocError> {
     let got = answer(alloc, call)?;
-    if got.as_str() == wanted {
+    let (told, asked) = (
+        without_spaces(alloc, got.as_str())?,
+        without_spaces(alloc, wanted)?,
+    );
+    if told.as_slice() == asked.as_slice() {
         return Ok(true);
     }
     write!(faults, "\n  WRONG {call} => {got}, and not {wanted}")?;
     Ok(false)
+}
+
+/// The answer to a call.
+fn answer(alloc: Global, call: &str) -> Result<String, AllocError> {
+    let Some((verb, words)) = call.split_once(" ") else {
+        return format!(in alloc; "a row that can't be read");
+    };
+    match verb {
+        "write" | "length" | "limits" | "scarce" => written_answer(alloc, verb, words),
+        _ => read_answer(alloc, verb, words),
+    }
+}
+
+/// The octets of a text but for its spaces.
+pub fn without_spaces(alloc: Global, text: &str) -> Result<Vec<u8>, AllocError> {
+    let mut octets = Vec::new(alloc);
+    for octet in text.bytes() {
+        if octet != b' ' {
+            octets.push(octet)?;
+        }
+    }
+    Ok(octets)
 }

@@ -141,15 +141,15 @@ impl ZoneHandler for Parked {
 
 /// Makes a call of a handler that exists and owns nothing.
 pub fn make_parked_call(out: &mut String, verb: &str, arguments: &mut Arguments) -> Written {
-    let mut parked = Parked::new(arguments.alloc);
+    let parked = Parked::new(arguments.alloc);
     let verb = verb.strip_prefix("parked ").unwrap_or(verb);
-    make_handler_call(out, &mut parked, verb, arguments)
+    make_handler_call(out, &parked, verb, arguments)
 }
 
 /// Makes a call of any handler.
 pub fn make_handler_call<Z: ZoneHandler>(
     out: &mut String,
-    zone: &mut Z,
+    zone: &Z,
     verb: &str,
     arguments: &mut Arguments,
 ) -> Written {
@@ -168,9 +168,7 @@ pub fn make_handler_call<Z: ZoneHandler>(
             let step = step_of(arguments.text.as_str());
             write_flow(out, &consulted(zone, &take_query(arguments), step))
         }
-        "update" => write_update(out, zone, &take_request(arguments)),
         "is" => write_itself(out, zone),
-        "kind" => write_denial_kind(out, zone),
         "deny" => {
             let name = arguments.take_lower();
             write_flow(out, &denied(zone, &name, arguments.options()))
@@ -280,23 +278,6 @@ fn write_itself<Z: ZoneHandler>(out: &mut String, zone: &Z) -> Written {
     write!(out, "{} {:?} ", zone.origin(), zone.zone_type())?;
     write!(out, "{:?}, validates: ", zone.axfr_policy())?;
     write_holds(out, zone.can_validate_dnssec())
-}
-
-/// Writes how any zone denies, as the type of the sets that deny.
-fn write_denial_kind<Z: ZoneHandler>(out: &mut String, zone: &Z) -> Written {
-    match zone.nx_proof_kind() {
-        None => write!(out, "nothing"),
-        Some(NxProofKind::Nsec) => write!(out, "NSEC 47"),
-        Some(NxProofKind::Nsec3 { .. }) => write!(out, "NSEC3 50"),
-    }
-}
-
-/// Writes what any zone answers to an update.
-fn write_update<Z: ZoneHandler>(out: &mut String, zone: &mut Z, request: &Request) -> Written {
-    match zone.update(request, 5).0 {
-        Ok(taken) => write_holds(out, taken),
-        Err(code) => write!(out, "error: {code}"),
-    }
 }
 
 /// The step that a word stands for.

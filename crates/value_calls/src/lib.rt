@@ -2,7 +2,6 @@
 //! through its trait. What they answer is written as text into room that is there from the start.
 #![tactic(auto)]
 
-mod answers;
 mod handlers;
 mod hashes;
 mod iterators;

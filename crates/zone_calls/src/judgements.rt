@@ -85,12 +85,11 @@ fn first_records<'z>(zone: &'z Zone, other: &'z Record) -> [&'z Record; 8] {
 fn record_at<'z>(zone: &'z Zone, place: usize, other: &'z Record) -> &'z Record {
     let mut left = place;
     for (_, set) in zone.records() {
-        for record in set.records_without_rrsigs() {
-            if left == 0 {
-                return record;
-            }
-            left = left.saturating_sub(1);
+        let records = set.as_slice();
+        if let Some(record) = records.get(left) {
+            return record;
         }
+        left = left.saturating_sub(records.len());
     }
     other
 }

@@ -17,31 +17,14 @@ pub fn make_search_call(
 ) -> Written {
     let name = arguments.take_lower();
     match verb {
-        "counts" => write_counts(out, arguments.alloc),
         "any" => match state.zone.inner().replace_any(&name) {
             Ok(chosen) => write!(out, "{chosen} {}", chosen.0),
             Err(error) => write!(out, "error: {error}"),
         },
         "search" => search(out, state, &name, arguments),
         "chase" => chase(out, state, &name, arguments),
-        "made" => write_made(out, arguments.set.take()),
         _ => add(out, state, &name, arguments),
     }
-}
-
-/// Writes how counts and a map by itself begin.
-fn write_counts(out: &mut String, alloc: Global) -> Written {
-    let map: InnerInMemory<RowSigner> = InnerInMemory::new(alloc);
-    let mut reads = Reads::new();
-    reads.add_one();
-    let by_default = Searches::default().count();
-    write!(out, "{} read, {by_default} by default, ", reads.count())?;
-    write!(
-        out,
-        "{} sets, {} signers",
-        map.as_map().len(),
-        map.signers().len()
-    )
 }
 
 /// Searches for a set, which has to be counted, and copies what is found.
@@ -105,17 +88,5 @@ fn add(out: &mut String, state: &State, name: &LowerName, arguments: &mut Argume
         Ok(Some(sets)) => write_chain(out, searches.count(), sets.as_slice()),
         Ok(None) => write!(out, "{} searched, None", searches.count()),
         Err(error) => write!(out, "error: {error}"),
-    }
-}
-
-/// Writes the current set as one that a search made, which is lent, and then handed out.
-fn write_made(out: &mut String, set: Option<RecordSet>) -> Written {
-    match set {
-        Some(set) => {
-            let found = Found::Made(set);
-            let lent = both(write_set(out, found.set()), write!(out, " | "));
-            both(lent, write_made_set(out, found.into_set()))
-        }
-        None => write!(out, "no current set"),
     }
 }

@@ -2,18 +2,11 @@
 
 use crate::state::State;
 use call_arguments::{Arguments, Head, RowSigner};
-use std::alloc::Global;
 use std::collections::BTreeMap;
 use std::mem;
-use value_calls::{
-    Written, Zone, write_about, write_done, write_holds, write_set_handed_out, write_set_if_any,
-    write_whether, write_zone,
-};
-use zone_handler::{
-    AuthLookup, DnssecZoneHandler, KeyError, LookupControlFlow, LookupOptions, SecureError,
-    ZoneHandler,
-};
-use zone_proto::{DNSClass, LowerName, ProtoError, Record, RecordSet, RecordType, RrKey, Signer};
+use value_calls::{Written, Zone, write_about, write_set_handed_out, write_whether, write_zone};
+use zone_handler::{DnssecZoneHandler, KeyError, LookupOptions, SecureError};
+use zone_proto::{DNSClass, LowerName, Record, RecordType, Signer};
 use zone_store::{InMemoryZoneHandler, InnerInMemory, PutRefused, Searches};
 
 /// Makes a call on the zone.
@@ -27,32 +20,19 @@ pub fn make_zone_call(
         "empty" | "make" => replace_zone(out, state, verb, arguments),
         "put" => put(out, state),
         "map" => make_map(out, arguments),
-        "remove many" => remove_many(out, state, arguments.take_number()),
-        "about" | "dump" | "get" | "signers" => look_at(out, &state.zone, verb, arguments),
+        "about" | "dump" | "signers" => look_at(out, &state.zone, verb),
         "key" | "key mut" => add_key(out, &mut state.zone, verb, arguments),
         "secure" | "secure mut" => secure(out, &mut state.zone, verb, arguments.take_number()),
-        "signer" => ask_signer(out, state, arguments),
         verb => change(out, &mut state.zone, verb, arguments),
     }
 }
 
 /// Makes a call that only looks at the zone.
-fn look_at(out: &mut String, zone: &Zone, verb: &str, arguments: &mut Arguments) -> Written {
+fn look_at(out: &mut String, zone: &Zone, verb: &str) -> Written {
     match verb {
         "about" => write_about(out, zone),
         "dump" => write_zone(out, zone),
-        "signers" => {
-            write!(out, "{}", zone.secure_keys().len())?;
-            if zone.inner().signers().len() != zone.secure_keys().len() {
-                write!(out, " and others")?;
-            }
-            Ok(())
-        }
-        _ => {
-            let found = zone.inner().get(&arguments.take_key());
-            write!(out, "{} sets, ", zone.inner().as_map().len())?;
-            write_set_if_any(out, Ok::<Option<&RecordSet>, ProtoError>(found))
-        }
+        _ => write!(out, "{}", zone.secure_keys().len()),
     }
 }
 
@@ -115,51 +95,6 @@ fn put(out: &mut String, state: &mut State) -> Written {
             }
         },
         None => write!(out, "no current set"),
-    }
-}
-
-/// Looks up and takes out the address of each of so many names below the origin: how many answered with one record, and how
-/// many sets are left.
-fn remove_many(out: &mut String, state: &mut State, count: u64) -> Written {
-    let mut answered = 0u64;
-    let alloc = state.zone.origin().alloc();
-    for number in 0..count {
-        if is_answered_and_removed(alloc, &mut state.zone, number).unwrap_or(false) {
-            answered = answered.saturating_add(1);
-        }
-    }
-    write!(
-        out,
-        "{answered} answered, {} sets left",
-        state.zone.records().len()
-    )
-}
-
-fn is_answered_and_removed(
-    alloc: Global,
-    zone: &mut Zone,
-    number: u64,
-) -> Result<bool, ProtoError> {
-    let name = address_owner(alloc, zone, number)?;
-    let options = LookupOptions::default();
-    let is_there = is_one_record(zone.lookup(&name, RecordType::A, None, options, 0));
-    let is_removed = zone.remove_set(&RrKey::new(name, RecordType::A)).is_some();
-    Ok(is_there && is_removed)
-}
-
-fn address_owner(alloc: Global, zone: &Zone, number: u64) -> Result<LowerName, ProtoError> {
-    let label = format!(in alloc; "n{number}")?;
-    zone.origin().prepend_label(label.as_bytes())
-}
-
-/// Whether a step has one record.
-fn is_one_record(step: LookupControlFlow<AuthLookup>) -> bool {
-    match step.map_result() {
-        Some(Ok(answer)) => {
-            let mut records = answer.iter();
-            records.next().is_some() && records.next().is_none()
-        }
-        _ => false,
     }
 }
 
@@ -246,32 +181,4 @@ fn secure_any<S: Signer, Z: DnssecZoneHandler<S>>(zone: &mut Z, now: u64) -> Res
     ensures { Z.secures zone.old now result zone.new }
 {
     zone.secure_zone(now)
-}
-
-/// Writes the flags of a signer's key, and the tag of its signature of the current set at a moment.
-fn ask_signer(out: &mut String, state: &State, arguments: &mut Arguments) -> Written {
-    let now = arguments.take_number();
-    match (&state.held.set, &arguments.signer) {
-        (Some(set), Some(signer)) => write_flags_and_tag(out, signer, set, now),
-        _ => write!(out, "no current set"),
-    }
-}
-
-/// The same of any signer.
-fn write_flags_and_tag<S: Signer>(
-    out: &mut String,
-    signer: &S,
-    set: &RecordSet,
-    now: u64,
-) -> Written {
-    match signer.dnskey() {
-        Ok(Some(key)) => write!(out, "flags {}, ", key.flags)?,
-        Ok(None) => write!(out, "no key, ")?,
-        Err(error) => write!(out, "error: {error}, ")?,
-    }
-    match signer.sign(set, DNSClass::IN, now) {
-        Ok(Some(rrsig)) => write!(out, "tag {}", rrsig.key_tag),
-        Ok(None) => write!(out, "no signature"),
-        Err(error) => write!(out, "error: {error}"),
-    }
 }

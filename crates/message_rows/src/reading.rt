@@ -1,5 +1,6 @@
-//! The answer to a call.
+//! Messages that are read.
 
+use crate::rows::{ROOMS, STEP, without_spaces};
 use crate::text::{message_text, query_text};
 use scarce::Scarcity;
 use std::alloc::{AllocError, Global};
@@ -7,17 +8,8 @@ use zone_message::{MessageError, ReadError, plain_data_of, read_message, read_qu
 use zone_proto::{ProtoError, RecordType};
 use zone_text::{DataText, read_hex};
 
-/// How many rooms are tried before a call has to succeed.
-const ROOMS: usize = 400;
-
-/// How many octets more each room has.
-const STEP: usize = 16;
-
-/// The answer to a call.
-pub fn answer(alloc: Global, call: &str) -> Result<String, AllocError> {
-    let Some((verb, words)) = call.split_once(" ") else {
-        return format!(in alloc; "a row that can't be read");
-    };
+/// The answer to a call that reads octets.
+pub fn read_answer(alloc: Global, verb: &str, words: &str) -> Result<String, AllocError> {
     match verb {
         "data" => data_answer(alloc, words),
         "fronts" => fronts_answer(alloc, words),
@@ -37,12 +29,7 @@ fn reading_answer(alloc: Global, kind: &str, hex: &str) -> Result<String, AllocE
 
 /// The octets that hex writes, in which spaces are passed over.
 fn octets_of(alloc: Global, hex: &str) -> Result<Option<Vec<u8>>, AllocError> {
-    let mut digits = Vec::new(alloc);
-    for octet in hex.bytes() {
-        if octet != b' ' {
-            digits.push(octet)?;
-        }
-    }
+    let digits = without_spaces(alloc, hex)?;
     read_hex(alloc, digits.as_slice())
 }
 

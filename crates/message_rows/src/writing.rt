@@ -1,23 +1,15 @@
-//! The answer to a call.
+//! Responses that are written.
 
 use crate::limits::limits_answer;
 use crate::meant::{Meant, read_meant, response_of, sections_of};
+use crate::rows::{ROOMS, STEP};
 use scarce::Scarcity;
 use std::alloc::{AllocError, Global};
 use zone_text::{HexText, TextError};
 use zone_wire::{Response, WriteError, write_response};
 
-/// How many rooms are tried before a call has to succeed.
-const ROOMS: usize = 400;
-
-/// How many octets more each room has.
-const STEP: usize = 16;
-
-/// The answer to a call.
-pub fn answer(alloc: Global, call: &str) -> Result<String, AllocError> {
-    let Some((verb, words)) = call.split_once(" ") else {
-        return format!(in alloc; "a row that can't be read");
-    };
+/// The answer to a call that writes a response.
+pub fn written_answer(alloc: Global, verb: &str, words: &str) -> Result<String, AllocError> {
     match read_meant(alloc, words) {
         Ok(meant) => answer_of(alloc, verb, &meant),
         Err(TextError::BadText) => format!(in alloc; "a row that can't be read"),
@@ -32,8 +24,7 @@ fn answer_of(alloc: Global, verb: &str, meant: &Meant) -> Result<String, AllocEr
     match verb {
         "write" | "length" => write_answer(alloc, verb, &response, meant.limit),
         "limits" => limits_answer(alloc, &response, meant.limit),
-        "refusals" => refusals_answer(alloc, &response, meant.limit),
-        _ => format!(in alloc; "no such call"),
+        _ => scarce_answer(alloc, &response, meant.limit),
     }
 }
 
@@ -56,7 +47,7 @@ fn write_answer(
 }
 
 /// Whether writing a response was refused memory, and whether it was written then.
-fn refusals_answer(
+fn scarce_answer(
     alloc: Global,
     response: &Response<'_, '_>,
     limit: u16,
