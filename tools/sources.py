@@ -8,7 +8,8 @@ TOP = os.path.dirname(os.path.dirname(os.path.realpath(__file__)))
 
 
 def read(path):
-    with open(f"{TOP}/{path}", encoding="utf-8") as it:
+    # (what a program reads and writes may be octets)
+    with open(f"{TOP}/{path}", encoding="utf-8", errors="replace") as it:
         return it.read()
 
 

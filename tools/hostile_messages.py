@@ -1,0 +1,139 @@
+#!/usr/bin/env python3
+"""Hands zoned messages that no client should send, a million unless another count is named: random octets, queries of which some octets
+are turned, and fronts of good queries, each with a limit of its own. Every answer has to come in order, under the identifier of
+its message, with its opcode, RD and CD, within its limit, and to what has a header and is no response alone. It is no part of the gate.
+
+  tools/hostile_messages.py [COUNT [SEED]]
+
+Prints how long it took, in a process that also makes and checks the messages, and how much memory the program had at its most, for a
+tenth of them and for all: the two figures of memory should be alike. The status is 1 where an answer isn't as it has to be.
+"""
+import importlib.machinery
+import importlib.util
+import random
+import struct
+import subprocess
+import sys
+import tempfile
+import time
+
+sys.dont_write_bytecode = True
+
+from sources import TOP
+
+ZONE = f"example.com.={TOP}/examples/zones/example.zone"
+NAMES = ["example.com.", "www.example.com.", "no.example.com.", "a.b.sub.example.com.", "com.", "*.example.com.", "x" * 63 + ".example.com."]
+TYPES = ["A", "NS", "SOA", "MX", "AAAA", "DS", "RRSIG", "NSEC", "DNSKEY", "ANY", "CNAME", "TXT"]
+LIMITS = [0, 1, 511, 512, 513, 1231, 1232, 1400, 4096, 65534, 65535]
+
+# How many messages are handed over before their answers are read.
+TOGETHER = 200
+
+
+def frames_tool():
+    """The tool that makes messages of words."""
+    loader = importlib.machinery.SourceFileLoader("frames", f"{TOP}/tools/frames")
+    tool = importlib.util.module_from_spec(importlib.util.spec_from_loader("frames", loader))
+    loader.exec_module(tool)
+    return tool
+
+
+frames = frames_tool()
+
+
+def good():
+    """The octets of a query as clients send them."""
+    words = [random.choice(NAMES), random.choice(TYPES), f"id={random.randrange(65536)}"]
+    words += [it for it in ("rd", "ad", "cd") if random.random() < 0.3]
+    if random.random() < 0.6:
+        words += [f"edns={random.choice([0, 512, 1232, 4096, 65535])}", *(["do"] if random.random() < 0.5 else [])]
+    return frames.query(words)
+
+
+def turned(octets):
+    """Octets of which some are others, or gone, or more."""
+    octets = bytearray(octets)
+    for _ in range(random.randint(1, 4)):
+        at = random.randrange(len(octets) + 1)
+        how = random.random()
+        if how < 0.6 and at < len(octets):
+            octets[at] = random.choice([0, 1, 63, 64, 192, 255, random.randrange(256)])
+        elif how < 0.8:
+            del octets[at : at + random.randint(1, 8)]
+        else:
+            octets[at:at] = random.randbytes(random.randint(1, 8))
+    return bytes(octets)
+
+
+def messages():
+    """Messages without end."""
+    while True:
+        kind = random.random()
+        if kind < 0.3:
+            yield random.randbytes(random.choice([0, 1, 11, 12, 13, 17, 29, 64, 512]))
+        elif kind < 0.8:
+            yield turned(good())
+        else:
+            octets = good()
+            yield octets[: random.randrange(len(octets) + 1)]
+
+
+def fault(message, limit, response):
+    """What is wrong with a response, if anything is."""
+    if len(response) < 12 or len(response) > max(limit, 512):
+        return f"{len(response)} octets"
+    (number, flags), (own_number, own_flags) = struct.unpack_from("!HH", message), struct.unpack_from("!HH", response)
+    if number != own_number:
+        return "another identifier"
+    if not own_flags & 0x8000 or (flags ^ own_flags) & 0x7910:
+        return f"flags {own_flags:04x} to {flags:04x}"
+    return None
+
+
+def is_answered(message):
+    return len(message) >= 12 and not message[2] & 0x80
+
+
+def tried(program, count):
+    """Hands over so many messages: what was wrong, and how many octets of memory the program had at its most."""
+    source, left, wrong = messages(), count, []
+    with tempfile.TemporaryFile() as faults:
+        pipe = subprocess.PIPE
+        served = subprocess.Popen([program, "--limits", ZONE], stdin=pipe, stdout=pipe, stderr=faults)
+        while left > 0 and not wrong:
+            some = [(next(source), random.choice(LIMITS)) for _ in range(min(left, TOGETHER))]
+            left -= len(some)
+            served.stdin.write(b"".join(struct.pack("!HH", limit, len(it)) + it for it, limit in some))
+            served.stdin.flush()
+            for message, limit in some:
+                if is_answered(message):
+                    (length,) = struct.unpack("!H", served.stdout.read(2))
+                    told = fault(message, limit, served.stdout.read(length))
+                    wrong += [f"{told}: {message.hex()} within {limit}"] if told else []
+        with open(f"/proc/{served.pid}/status", encoding="ascii") as it:
+            most = next(int(line.split()[1]) for line in it if line.startswith("VmHWM:"))
+        served.stdin.close()
+        wrong += ["more is answered"] if served.stdout.read() else []
+        wrong += [f"status {served.returncode}"] if served.wait() else []
+    return wrong, most
+
+
+def main(count="1000000", seed="1"):
+    path = subprocess.run([f"{TOP}/tools/program", "path", "zoned"], stdout=subprocess.PIPE, text=True)
+    if path.returncode:
+        return path.returncode
+    random.seed(int(seed))
+    for some in (int(count) // 10, int(count)):
+        began = time.monotonic()
+        wrong, most = tried(path.stdout.strip(), some)
+        print(f"{some} messages: {time.monotonic() - began:.1f} s, {most} kilobytes")
+        if wrong:
+            print(*wrong[:5], sep="\n")
+            return 1
+    return 0
+
+
+if __name__ == "__main__":
+    if len(sys.argv) > 3:
+        sys.exit(__doc__)
+    sys.exit(main(*sys.argv[1:]))

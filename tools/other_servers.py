@@ -1,0 +1,276 @@
+#!/usr/bin/env python3
+"""Compares what zoned answers with what NSD answers, section by section, on random zones and queries that are made here: zones without
+signatures, with NSEC, and with NSEC3, with opt-out and without; each question is asked with DNSSEC and without. Where a tool isn't
+there, what needs it is left out, and a line says so. It is no part of the gate.
+
+  tools/other_servers.py [SEED [ROUNDS]]
+
+A round has twelve zones. The tools are Debian's packages nsd and bind9-utils. The status is 1 where an answer differs otherwise than by
+what a server may choose:
+
+- NSD puts the zone's NS set and its servers' addresses beside positive answers, which RFC 2181 section 5 leaves to the server.
+- NSD puts addresses that a wildcard gives a host beside an answer or a referral, now and then under the wildcard's own name. RFC 4592
+  has wildcards answer queries, and asks for none beside them.
+- NSD writes an alias twice that a wildcard leads back to itself.
+- NSD puts one more NSEC3 set beside the one that matches a name that begins with `*` and has no data, or an alias's target that does, as if a
+  wildcard had answered for it. RFC 5155 section 7.2.3 asks for the one that matches.
+- Below an empty name that opt-out leaves out NSD takes that name for the encloser, though no NSEC3 set matches it, where zoned takes the
+  closest provable one (RFC 5155 section 7.2.1). So the NSEC3 sets of zones with opt-out aren't compared.
+"""
+import collections
+import importlib.machinery
+import importlib.util
+import os
+import random
+import shutil
+import socket
+import struct
+import subprocess
+import sys
+import tempfile
+import time
+
+sys.dont_write_bytecode = True
+
+from sources import TOP
+
+SERVER = """server:
+ username: ""
+ zonesdir: "{folder}"
+ database: ""
+ pidfile: ""
+ zonelistfile: "{folder}/list"
+ xfrdfile: "{folder}/xfrd"
+ xfrdir: "{folder}"
+ port: {port}
+ ip-address: 127.0.0.1
+ rrl-ratelimit: 0
+remote-control:
+ control-enable: no
+"""
+
+# How zones are signed, one after the other: not at all, with NSEC, and with NSEC3.
+SIGNING = [None, [], ["-3", "aabbccdd", "-H", "2"], ["-3", "-", "-H", "0", "-A"]]
+
+# Seconds in which a server has to listen.
+LISTENS = 10
+
+
+def frames_tool():
+    """The tool that makes messages of words, and words of messages."""
+    loader = importlib.machinery.SourceFileLoader("frames", f"{TOP}/tools/frames")
+    tool = importlib.util.module_from_spec(importlib.util.spec_from_loader("frames", loader))
+    loader.exec_module(tool)
+    tool.TYPES.update(SRV=33)
+    return tool
+
+
+frames = frames_tool()
+
+
+def found(tool):
+    """Where a tool is, in the folders of the system's own tools too."""
+    return shutil.which(tool, path=f"{os.environ.get('PATH', '')}:/usr/sbin:/sbin")
+
+
+# ---- zones
+
+
+def random_name(origin):
+    labels = [random.choice("abcd") for _ in range(random.choice([1, 1, 2, 2, 3]))]
+    if random.random() < 0.25:
+        labels[0] = "*"
+    return ".".join(labels) + "." + origin
+
+
+def random_records(origin, owned, signed):
+    """One or a few records of one name; none where a CNAME would stand beside another."""
+    owner, kind = random_name(origin), random.choice(["A", "A", "AAAA", "TXT", "MX", "CNAME", "CNAME", "NS", "NS", "SRV"])
+    if owned.get(owner) == {"CNAME"} or kind == "CNAME" and owner in owned or kind == "NS" and "*" in owner:
+        return []
+    owned.setdefault(owner, set()).add(kind)
+    target = random.choice([random_name(origin), random_name(origin), owner if "*" in owner else f"ns.{owner}", "out.side."])
+    address = f"192.0.2.{random.randint(1, 250)}"
+    data = {"A": address, "AAAA": f"2001:db8::{random.randint(1, 999):x}", "TXT": '"t"', "MX": f"10 {target}", "SRV": f"1 2 3 {target}"}
+    records = [(owner, kind, data.get(kind, target))]
+    if kind == "NS" and random.random() < 0.7 and owned.get(f"ns.{owner}") != {"CNAME"}:
+        owned.setdefault(f"ns.{owner}", set()).add("A")
+        records.append((f"ns.{owner}", "A", address))
+    if kind == "NS" and signed and random.random() < 0.4:
+        records.append((owner, "DS", "12345 13 2 " + "00" * 32))
+    return records
+
+
+def random_zone(origin, signed):
+    owned = {}
+    records = [(origin, "SOA", f"ns.{origin} h.{origin} 1 7200 900 1209600 300"), (origin, "NS", f"ns.{origin}")]
+    records += [(origin, "NS", random_name(origin)), (f"ns.{origin}", "A", "192.0.2.1")]
+    for _ in range(random.randint(8, 22)):
+        records += random_records(origin, owned, signed)
+    return list(dict.fromkeys(records))
+
+
+def written(folder, origin, records, signing):
+    """The name of the file of a zone, signed where there are words for dnssec-signzone."""
+    path, ttls = f"{folder}/{origin}zone", {}
+    with open(path, "w", encoding="ascii") as it:
+        for owner, kind, data in records:
+            it.write(f"{owner} {ttls.setdefault((owner, kind), random.choice([300, 3600]))} IN {kind} {data}\n")
+    if signing is not None:
+        for flag in (["-f", "KSK"], []):
+            words = [found("dnssec-keygen"), "-q", "-a", "ECDSAP256SHA256", *flag, origin]
+            subprocess.run(words, cwd=folder, check=True, capture_output=True)
+        words = [found("dnssec-signzone"), "-P", "-S", "-K", ".", *signing, "-o", origin, path]
+        subprocess.run(words, cwd=folder, check=True, capture_output=True)
+    return path if signing is None else path + ".signed"
+
+
+# ---- questions and answers
+
+
+def queries(origin, records):
+    """Names that stand in a zone, are named there, stand above these, or below, each with each type, with DNSSEC and without."""
+    names = {owner for owner, _, _ in records} | {data.split()[-1] for _, kind, data in records if kind in ("NS", "CNAME", "MX", "SRV")}
+    names |= {name.split(".", 1)[1] for name in names if name != origin}
+    names |= {f"{random.choice('abcdx')}.{name}" for name in sorted(names)}
+    for name in sorted(name for name in names if name.endswith(origin)):
+        for kind in ("A", "AAAA", "NS", "MX", "TXT", "CNAME", "DS", "SRV"):
+            yield name, kind, []
+            yield name, kind, ["edns=4096", "do"]
+
+
+def received(read):
+    """The message that stands behind its length."""
+    (length,) = struct.unpack("!H", read(2))
+    return read(length)
+
+
+def sections(message):
+    """Code and flags, and the records of each section, sorted."""
+    parts, section = {"ANSWER": [], "AUTHORITY": [], "ADDITIONAL": []}, None
+    for line in frames.message_lines(message):
+        if line.endswith(" SECTION:"):
+            section = line.split()[1]
+        elif section in parts:
+            parts[section].append(line.lower())
+    return (message[2] & 6, message[3] & 15), {section: sorted(lines) for section, lines in parts.items()}
+
+
+def without_servers(origin, ours, theirs):
+    """The sections of NSD without the zone's servers beside a positive answer, and their addresses."""
+    servers = [line for line in theirs["AUTHORITY"] if line.startswith(f"{origin} ") and line.split()[3] in ("ns", "rrsig")]
+    servers = [line for line in servers if line.split()[3] == "ns" or line.split()[6].startswith("0002")]
+    if not theirs["ANSWER"] or not servers or any(line in ours["AUTHORITY"] for line in servers):
+        return theirs
+    names = {line.split()[4] for line in servers if line.split()[3] == "ns"}
+    additional = [line for line in theirs["ADDITIONAL"] if line in ours["ADDITIONAL"] or line.split()[0] not in names]
+    authority = [line for line in theirs["AUTHORITY"] if line not in servers]
+    return {"ANSWER": theirs["ANSWER"], "AUTHORITY": authority, "ADDITIONAL": additional}
+
+
+def without_hashed(parts):
+    """Sections without NSEC3 sets."""
+    hashed = {line.split()[0] for line in parts["AUTHORITY"] if line.split()[3] == "nsec3"}
+    return parts | {"AUTHORITY": [line for line in parts["AUTHORITY"] if line.split()[0] not in hashed]}
+
+
+def without_choices(origin, records, name, ours, theirs):
+    """The sections of NSD without what the head of this file tells of."""
+    owners = {owner for owner, kind, _ in records if kind in ("A", "AAAA") and not owner.startswith("*.")}
+    theirs = without_servers(origin, ours, theirs)
+    additional = [line for line in theirs["ADDITIONAL"] if line in ours["ADDITIONAL"] or line.split()[0] in owners]
+    names = [name, *(line.split()[4] for line in ours["ANSWER"] if line.split()[3] == "cname")]
+    asked = without_hashed(theirs) if any(it.startswith("*.") for it in names) else theirs
+    authority = [line for line in theirs["AUTHORITY"] if line in ours["AUTHORITY"] or line in asked["AUTHORITY"]]
+    return {"ANSWER": sorted(set(theirs["ANSWER"])), "AUTHORITY": authority, "ADDITIONAL": additional}
+
+
+def compare(zones, opted_out, zoned, stream):
+    """How many questions were asked, and those that are answered differently, by what differs. Some zones have opt-out."""
+    differing, asked, read = collections.defaultdict(list), 0, stream.makefile("rb").read
+    for origin, records in zones.items():
+        for name, kind, words in queries(origin, records):
+            message = frames.query([name, kind, *words])
+            zoned.stdin.write(struct.pack("!HH", 65535, len(message)) + message)
+            zoned.stdin.flush()
+            stream.sendall(struct.pack("!H", len(message)) + message)
+            (our_head, ours), (their_head, theirs) = sections(received(zoned.stdout.read)), sections(received(read))
+            theirs = without_choices(origin, records, name, ours, theirs)
+            if origin in opted_out:
+                ours, theirs = without_hashed(ours), without_hashed(theirs)
+            parts = [section for section in ours if ours[section] != theirs[section]] + ["header"] * (our_head != their_head)
+            asked += 1
+            if parts:
+                sides = (("only zoned:", ours, theirs), ("only NSD:", theirs, ours))
+                only = [f"{who} {line[:90]}" for it in ours for who, one, other in sides for line in one[it] if line not in other[it]]
+                differing[" ".join(parts)].append(f"{name} {kind} {' '.join(words)}: {only}")
+    return asked, differing
+
+
+def connected(port):
+    """A connection to a server that begins to listen."""
+    for _ in range(10 * LISTENS):
+        try:
+            return socket.create_connection(("127.0.0.1", port))
+        except ConnectionRefusedError:
+            time.sleep(0.1)
+    sys.exit("other_servers: NSD doesn't listen")
+
+
+def free_port():
+    with socket.socket() as it:
+        it.bind(("127.0.0.1", 0))
+        return it.getsockname()[1]
+
+
+def compared(folder, zoned, signing):
+    """A round: how many questions were asked, and those that are answered differently."""
+    port = free_port()
+    configuration, words = SERVER.format(folder=folder, port=port), []
+    ways = [SIGNING[number % len(SIGNING)] if signing else None for number in range(12)]
+    zones = {f"z{number}.test.": random_zone(f"z{number}.test.", way is not None) for number, way in enumerate(ways)}
+    for (origin, records), way in zip(zones.items(), ways):
+        path = written(folder, origin, records, way)
+        configuration += f'zone:\n name: "{origin}"\n zonefile: "{path}"\n'
+        words.append(f"{origin}={path}")
+    with open(f"{folder}/nsd.conf", "w", encoding="ascii") as it:
+        it.write(configuration)
+    pipe = subprocess.PIPE
+    theirs = subprocess.Popen([found("nsd"), "-d", "-c", f"{folder}/nsd.conf"], stderr=subprocess.DEVNULL)
+    ours = subprocess.Popen([zoned, "--limits", *words], stdin=pipe, stdout=pipe)
+    try:
+        with connected(port) as stream:
+            return compare(zones, {origin for origin, way in zip(zones, ways) if "-A" in (way or [])}, ours, stream)
+    finally:
+        ours.stdin.close()
+        theirs.terminate()
+        theirs.wait()
+        ours.wait()
+
+
+def main(seed="1", rounds="1"):
+    if not found("nsd"):
+        print("other_servers: nsd isn't there, so nothing is compared")
+        return 0
+    signing = bool(found("dnssec-keygen") and found("dnssec-signzone"))
+    if not signing:
+        print("other_servers: dnssec-keygen and dnssec-signzone aren't there, so no zone is signed")
+    path = subprocess.run([f"{TOP}/tools/program", "path", "zoned"], stdout=subprocess.PIPE, text=True)
+    if path.returncode:
+        return path.returncode
+    random.seed(int(seed))
+    differs = False
+    for _ in range(int(rounds)):
+        with tempfile.TemporaryDirectory() as folder:
+            asked, differing = compared(folder, path.stdout.strip(), signing)
+        print(f"{asked} questions, {sum(map(len, differing.values()))} answered differently")
+        for parts, examples in differing.items():
+            differs = True
+            print(len(examples), parts, *examples[:2], sep="\n    ")
+    return 1 if differs else 0
+
+
+if __name__ == "__main__":
+    if len(sys.argv) > 3:
+        sys.exit(__doc__)
+    sys.exit(main(*sys.argv[1:]))
