@@ -73,6 +73,14 @@ def found(tool):
     return shutil.which(tool, path=f"{os.environ.get('PATH', '')}:/usr/sbin:/sbin")
 
 
+def zoned_path():
+    """The path of zoned; where there is none, tools/program has said why, and all ends."""
+    path = subprocess.run([f"{TOP}/tools/program", "path", "zoned"], stdout=subprocess.PIPE, text=True)
+    if path.returncode:
+        sys.exit(path.returncode)
+    return path.stdout.strip()
+
+
 # ---- zones
 
 
@@ -255,14 +263,11 @@ def main(seed="1", rounds="1"):
     signing = bool(found("dnssec-keygen") and found("dnssec-signzone"))
     if not signing:
         print("other_servers: dnssec-keygen and dnssec-signzone aren't there, so no zone is signed")
-    path = subprocess.run([f"{TOP}/tools/program", "path", "zoned"], stdout=subprocess.PIPE, text=True)
-    if path.returncode:
-        return path.returncode
+    path, differs = zoned_path(), False
     random.seed(int(seed))
-    differs = False
     for _ in range(int(rounds)):
         with tempfile.TemporaryDirectory() as folder:
-            asked, differing = compared(folder, path.stdout.strip(), signing)
+            asked, differing = compared(folder, path, signing)
         print(f"{asked} questions, {sum(map(len, differing.values()))} answered differently")
         for parts, examples in differing.items():
             differs = True

@@ -23,7 +23,7 @@ import tempfile
 
 sys.dont_write_bytecode = True
 
-from other_servers import SIGNING, TOP, connected, found, frames, free_port, queries, random_zone, received, sections, written
+from other_servers import SIGNING, TOP, connected, found, frames, free_port, queries, random_zone, received, sections, written, zoned_path
 
 RESOLVER = """server:
  username: ""
@@ -143,14 +143,11 @@ def main(seed="1", rounds="1"):
     if missing:
         print(f"validating_resolver: {', '.join(missing)}: not there, so nothing is asked")
         return 0
-    path = subprocess.run([f"{TOP}/tools/program", "path", "zoned"], stdout=subprocess.PIPE, text=True)
-    if path.returncode:
-        return path.returncode
+    path, differs = zoned_path(), False
     random.seed(int(seed))
-    differs = False
     for _ in range(int(rounds)):
         with tempfile.TemporaryDirectory() as folder:
-            count, secure, differing = looked_at(folder, path.stdout.strip())
+            count, secure, differing = looked_at(folder, path)
         print(f"{count} responses, {secure} of them secure, {len(differing)} answered otherwise", *differing[:5], sep="\n    ")
         differs = differs or bool(differing)
     return 1 if differs else 0
