@@ -1,21 +1,29 @@
 #!/usr/bin/env python3
-"""Compares what zoned answers with what NSD answers, section by section, on random zones and queries that are made here: zones without
-signatures, with NSEC, and with NSEC3, with opt-out and without; each question is asked with DNSSEC and without. Where a tool isn't
-there, what needs it is left out, and a line says so. It is no part of the gate.
+"""Compares what zoned answers with what NSD, Knot DNS and BIND answer, section by section, on random zones and queries that are made
+here: zones without signatures, with NSEC, and with NSEC3, with opt-out and without; each question is asked with DNSSEC and without.
+Where a tool isn't there, what needs it is left out, and a line says so. It is no part of the gate.
 
   tools/other_servers.py [SEED [ROUNDS]]
 
-A round has twelve zones. The tools are Debian's packages nsd and bind9-utils. The status is 1 where an answer differs otherwise than by
-what a server may choose:
+A round has twelve zones, of which BIND gets those that named-checkzone passes: it refuses hosts of an NS set that have no address. The
+tools are Debian's packages nsd, knot, bind9 and bind9-utils. The status is 1 where an answer differs otherwise than by what a server may
+choose:
 
 - NSD puts the zone's NS set and its servers' addresses beside positive answers, which RFC 2181 section 5 leaves to the server.
 - NSD puts addresses that a wildcard gives a host beside an answer or a referral, now and then under the wildcard's own name. RFC 4592
   has wildcards answer queries, and asks for none beside them.
 - NSD writes an alias twice that a wildcard leads back to itself.
-- NSD puts one more NSEC3 set beside the one that matches a name that begins with `*` and has no data, or an alias's target that does, as if a
-  wildcard had answered for it. RFC 5155 section 7.2.3 asks for the one that matches.
+- Knot puts addresses at a cut and below it beside answers that name such a host. They are glue, which RFC 1034 section 4.2.1 has for
+  referrals.
+- For a name that begins with `*` and has no data, and an alias's target that does, NSD sends one NSEC3 set more than the one that RFC 5155
+  section 7.2.3 asks for, as if a wildcard had answered; where a wildcard does answer for such a name, Knot leaves out the sets that deny
+  the name itself (section 7.2.5 and RFC 4035 section 3.1.3.4). So NSEC and NSEC3 sets aren't compared there.
 - Below an empty name that opt-out leaves out NSD takes that name for the encloser, though no NSEC3 set matches it, where zoned takes the
   closest provable one (RFC 5155 section 7.2.1). So the NSEC3 sets of zones with opt-out aren't compared.
+- BIND now and then leaves out the addresses of a referral's servers that don't stand at or below the cut, and glue beside answers, so
+  these aren't compared with it. It answers aliases that lead round in a circle by SERVFAIL.
+- Where such a name isn't there and a wildcard stands above the empty one, no NSEC3 sets prove that; Knot sends a code alone then, with
+  DNSSEC. So that isn't compared.
 """
 import collections
 import importlib.machinery
@@ -34,7 +42,7 @@ sys.dont_write_bytecode = True
 
 from sources import TOP
 
-SERVER = """server:
+NSD = """server:
  username: ""
  zonesdir: "{folder}"
  database: ""
@@ -48,6 +56,39 @@ SERVER = """server:
 remote-control:
  control-enable: no
 """
+
+KNOT = """server:
+ listen: 127.0.0.1@{port}
+ rundir: "{folder}"
+ pidfile: "{folder}/pid"
+database:
+ storage: "{folder}"
+log:
+ - target: "{folder}/log"
+   any: error
+zone:
+"""
+
+BIND = """options {{
+ directory "{folder}";
+ listen-on port {port} {{ 127.0.0.1; }};
+ listen-on-v6 {{ none; }};
+ recursion no;
+ pid-file none;
+ session-keyfile "{folder}/key";
+ notify no;
+ check-names primary ignore;
+ minimal-responses no;
+}};
+controls {{ }};
+"""
+
+# How each server is started, and what its configuration says of itself and of each zone.
+SERVERS = {
+    "nsd": (["-d", "-c"], NSD, 'zone:\n name: "{origin}"\n zonefile: "{path}"\n'),
+    "knotd": (["-c"], KNOT, ' - domain: "{origin}"\n   file: "{path}"\n   zonefile-load: whole\n   semantic-checks: off\n'),
+    "named": (["-g", "-c"], BIND, 'zone "{origin}" {{ type primary; file "{path}"; check-integrity no; }};\n'),
+}
 
 # How zones are signed, one after the other: not at all, with NSEC, and with NSEC3.
 SIGNING = [None, [], ["-3", "aabbccdd", "-H", "2"], ["-3", "-", "-H", "0", "-A"]]
@@ -165,7 +206,7 @@ def sections(message):
 
 
 def without_servers(origin, ours, theirs):
-    """The sections of NSD without the zone's servers beside a positive answer, and their addresses."""
+    """The sections of another server without the zone's servers beside a positive answer, and their addresses."""
     servers = [line for line in theirs["AUTHORITY"] if line.startswith(f"{origin} ") and line.split()[3] in ("ns", "rrsig")]
     servers = [line for line in servers if line.split()[3] == "ns" or line.split()[6].startswith("0002")]
     if not theirs["ANSWER"] or not servers or any(line in ours["AUTHORITY"] for line in servers):
@@ -176,25 +217,69 @@ def without_servers(origin, ours, theirs):
     return {"ANSWER": theirs["ANSWER"], "AUTHORITY": authority, "ADDITIONAL": additional}
 
 
-def without_hashed(parts):
-    """Sections without NSEC3 sets."""
-    hashed = {line.split()[0] for line in parts["AUTHORITY"] if line.split()[3] == "nsec3"}
-    return parts | {"AUTHORITY": [line for line in parts["AUTHORITY"] if line.split()[0] not in hashed]}
+def without_denials(parts, types):
+    """Sections without the sets of these types in the authority section, and without their signatures."""
+    covered = tuple(f"{frames.TYPES[word]:04x}" for word in types)
+    kept = [line for line in parts["AUTHORITY"] if line.split()[3].upper() not in types]
+    return parts | {"AUTHORITY": [line for line in kept if line.split()[3] != "rrsig" or not line.split()[6].startswith(covered)]}
 
 
-def without_choices(origin, records, name, ours, theirs):
-    """The sections of NSD without what the head of this file tells of."""
+def has_no_proof(name, code, records):
+    """Whether a name error may be one that opt-out leaves without a proof: the name stands below a wildcard's parent."""
+    return code == 3 and any(owner.startswith("*.") and name.endswith(owner[1:]) for owner, _, _ in records)
+
+
+def without_glue(origin, records, ours, theirs):
+    """The sections of one server without addresses at and below cuts beside an answer, which the other doesn't have there."""
+    cuts = [owner for owner, kind, _ in records if kind == "NS" and owner != origin]
+    glue = [line for line in theirs["ADDITIONAL"] if any(f".{line.split()[0]}".endswith(f".{cut}") for cut in cuts)]
+    additional = [line for line in theirs["ADDITIONAL"] if line in ours["ADDITIONAL"] or line not in glue]
+    return theirs | {"ADDITIONAL": additional} if theirs["ANSWER"] else theirs
+
+
+def without_choices(origin, records, ours, theirs):
+    """The sections of another server without what the head of this file tells of, but for NSEC3 sets."""
     owners = {owner for owner, kind, _ in records if kind in ("A", "AAAA") and not owner.startswith("*.")}
-    theirs = without_servers(origin, ours, theirs)
+    theirs = without_glue(origin, records, ours, without_servers(origin, ours, theirs))
     additional = [line for line in theirs["ADDITIONAL"] if line in ours["ADDITIONAL"] or line.split()[0] in owners]
-    names = [name, *(line.split()[4] for line in ours["ANSWER"] if line.split()[3] == "cname")]
-    asked = without_hashed(theirs) if any(it.startswith("*.") for it in names) else theirs
-    authority = [line for line in theirs["AUTHORITY"] if line in ours["AUTHORITY"] or line in asked["AUTHORITY"]]
-    return {"ANSWER": sorted(set(theirs["ANSWER"])), "AUTHORITY": authority, "ADDITIONAL": additional}
+    return {"ANSWER": sorted(set(theirs["ANSWER"])), "AUTHORITY": theirs["AUTHORITY"], "ADDITIONAL": additional}
 
 
-def compare(zones, opted_out, zoned, stream):
-    """How many questions were asked, and those that are answered differently, by what differs. Some zones have opt-out."""
+def leads_round(ours):
+    """Whether the aliases of an answer lead round in a circle."""
+    aliases = {line.split()[0]: line.split()[4] for line in ours["ANSWER"] if line.split()[3] == "cname"}
+    return bool(aliases) and set(aliases.values()) <= set(aliases)
+
+
+def without_hosts_beside(ours):
+    """The sections of a referral without addresses that don't stand at or below the cut."""
+    cuts = [f".{line.split()[0]}" for line in ours["AUTHORITY"] if line.split()[3] == "ns"]
+    below = [line for line in ours["ADDITIONAL"] if f".{line.split()[0]}".endswith(tuple(cuts))]
+    return ours | {"ADDITIONAL": below} if cuts and not ours["ANSWER"] else ours
+
+
+def asks_for_star(name, ours):
+    """Whether the name that is asked for, or an alias's target, begins with `*`."""
+    return any(it.startswith("*.") for it in (name, *(line.split()[4] for line in ours["ANSWER"] if line.split()[3] == "cname")))
+
+
+def is_left_out(server, name, words, head, ours, records, has_opt_out):
+    """Whether a question is one that the head of this file leaves out."""
+    return has_opt_out and "do" in words and has_no_proof(name, head[1], records) or server == "named" and leads_round(ours)
+
+
+def compared_sections(server, origin, records, name, ours, theirs, has_opt_out):
+    """The sections of both servers without what they may choose."""
+    theirs = without_choices(origin, records, ours, theirs)
+    if server == "named":
+        ours, theirs = without_hosts_beside(ours), without_hosts_beside(theirs)
+        ours = without_glue(origin, records, theirs, ours)
+    types = ["NSEC", "NSEC3"] if asks_for_star(name, ours) else ["NSEC3"] if has_opt_out else []
+    return without_denials(ours, types), without_denials(theirs, types)
+
+
+def compare(server, zones, opted_out, zoned, stream):
+    """How many questions a server was asked too, and those that are answered differently, by what differs. Some zones have opt-out."""
     differing, asked, read = collections.defaultdict(list), 0, stream.makefile("rb").read
     for origin, records in zones.items():
         for name, kind, words in queries(origin, records):
@@ -203,13 +288,13 @@ def compare(zones, opted_out, zoned, stream):
             zoned.stdin.flush()
             stream.sendall(struct.pack("!H", len(message)) + message)
             (our_head, ours), (their_head, theirs) = sections(received(zoned.stdout.read)), sections(received(read))
-            theirs = without_choices(origin, records, name, ours, theirs)
-            if origin in opted_out:
-                ours, theirs = without_hashed(ours), without_hashed(theirs)
+            if is_left_out(server, name, words, our_head, ours, records, origin in opted_out):
+                continue
+            ours, theirs = compared_sections(server, origin, records, name, ours, theirs, origin in opted_out)
             parts = [section for section in ours if ours[section] != theirs[section]] + ["header"] * (our_head != their_head)
             asked += 1
             if parts:
-                sides = (("only zoned:", ours, theirs), ("only NSD:", theirs, ours))
+                sides = (("only zoned:", ours, theirs), (f"only {server}:", theirs, ours))
                 only = [f"{who} {line[:90]}" for it in ours for who, one, other in sides for line in one[it] if line not in other[it]]
                 differing[" ".join(parts)].append(f"{name} {kind} {' '.join(words)}: {only}")
     return asked, differing
@@ -222,7 +307,7 @@ def connected(port):
             return socket.create_connection(("127.0.0.1", port))
         except ConnectionRefusedError:
             time.sleep(0.1)
-    sys.exit("other_servers: NSD doesn't listen")
+    sys.exit(f"other_servers: nothing listens on port {port}")
 
 
 def free_port():
@@ -231,24 +316,25 @@ def free_port():
         return it.getsockname()[1]
 
 
-def compared(folder, zoned, signing):
-    """A round: how many questions were asked, and those that are answered differently."""
+def is_taken(server, origin, path):
+    """Whether a server loads a zone: BIND looks closer at what stands in it."""
+    words = [found("named-checkzone"), "-k", "ignore", "-i", "none", origin, path]
+    return server != "named" or subprocess.run(words, stdout=subprocess.DEVNULL).returncode == 0
+
+
+def compared(server, folder, files, zones, opted_out, zoned):
+    """How many questions a server was asked, and those that it answers otherwise than zoned does from the same files."""
     port = free_port()
-    configuration, words = SERVER.format(folder=folder, port=port), []
-    ways = [SIGNING[number % len(SIGNING)] if signing else None for number in range(12)]
-    zones = {f"z{number}.test.": random_zone(f"z{number}.test.", way is not None) for number, way in enumerate(ways)}
-    for (origin, records), way in zip(zones.items(), ways):
-        path = written(folder, origin, records, way)
-        configuration += f'zone:\n name: "{origin}"\n zonefile: "{path}"\n'
-        words.append(f"{origin}={path}")
-    with open(f"{folder}/nsd.conf", "w", encoding="ascii") as it:
-        it.write(configuration)
-    pipe = subprocess.PIPE
-    theirs = subprocess.Popen([found("nsd"), "-d", "-c", f"{folder}/nsd.conf"], stderr=subprocess.DEVNULL)
-    ours = subprocess.Popen([zoned, "--limits", *words], stdin=pipe, stdout=pipe)
+    flags, configuration, zone = SERVERS[server]
+    with open(f"{folder}/{server}.conf", "w", encoding="ascii") as it:
+        it.write(configuration.format(folder=folder, port=port))
+        it.writelines(zone.format(origin=origin, path=path) for origin, path in files.items())
+    theirs = subprocess.Popen([found(server), *flags, f"{folder}/{server}.conf"], stdout=subprocess.DEVNULL, stderr=subprocess.DEVNULL)
+    words = [f"{origin}={path}" for origin, path in files.items()]
+    ours = subprocess.Popen([zoned, "--limits", *words], stdin=subprocess.PIPE, stdout=subprocess.PIPE)
     try:
         with connected(port) as stream:
-            return compare(zones, {origin for origin, way in zip(zones, ways) if "-A" in (way or [])}, ours, stream)
+            return compare(server, zones, opted_out, ours, stream)
     finally:
         ours.stdin.close()
         theirs.terminate()
@@ -256,22 +342,32 @@ def compared(folder, zoned, signing):
         ours.wait()
 
 
+def tell(server, asked, differing):
+    print(f"{server}: {asked} questions, {sum(map(len, differing.values()))} answered differently", flush=True)
+    for parts, examples in differing.items():
+        print(len(examples), parts, *examples[:2], sep="\n    ")
+
+
 def main(seed="1", rounds="1"):
-    if not found("nsd"):
-        print("other_servers: nsd isn't there, so nothing is compared")
-        return 0
+    servers = [server for server in SERVERS if found(server) and (server != "named" or found("named-checkzone"))]
+    for server in SERVERS.keys() - set(servers):
+        print(f"other_servers: {server} isn't there, so nothing is compared with it")
     signing = bool(found("dnssec-keygen") and found("dnssec-signzone"))
     if not signing:
         print("other_servers: dnssec-keygen and dnssec-signzone aren't there, so no zone is signed")
     path, differs = zoned_path(), False
     random.seed(int(seed))
     for _ in range(int(rounds)):
+        ways = {f"z{number}.test.": SIGNING[number % len(SIGNING)] if signing else None for number in range(12)}
+        zones = {origin: random_zone(origin, way is not None) for origin, way in ways.items()}
+        opted_out = {origin for origin, way in ways.items() if "-A" in (way or [])}
         with tempfile.TemporaryDirectory() as folder:
-            asked, differing = compared(folder, path, signing)
-        print(f"{asked} questions, {sum(map(len, differing.values()))} answered differently")
-        for parts, examples in differing.items():
-            differs = True
-            print(len(examples), parts, *examples[:2], sep="\n    ")
+            files = {origin: written(folder, origin, records, ways[origin]) for origin, records in zones.items()}
+            for server in servers:
+                taken = {origin: path for origin, path in files.items() if is_taken(server, origin, path)}
+                asked, differing = compared(server, folder, taken, {origin: zones[origin] for origin in taken}, opted_out, path)
+                tell(server, asked, differing)
+                differs = differs or bool(differing)
     return 1 if differs else 0
 
 

@@ -12,7 +12,7 @@ These questions are left out:
 - those that lead out of the zone, to a zone cut or round in a circle, as no server is there that could answer them;
 - with opt-out, those for names that aren't there below an empty name that no NSEC3 set matches, where a wildcard stands above that. RFC
   5155 has no proof of such a name error: the wildcard would have to be denied. What BIND sends of it Unbound finds bogus as well;
-- those that a wildcard answers under a name that itself begins with `*`: Unbound takes that name for the wildcard's own, where delv doesn't.
+- those that a wildcard answers under a name that itself begins with `*`, which Unbound takes for the wildcard's own; delv doesn't.
 """
 import random
 import socket
@@ -23,7 +23,8 @@ import tempfile
 
 sys.dont_write_bytecode = True
 
-from other_servers import SIGNING, TOP, connected, found, frames, free_port, queries, random_zone, received, sections, written, zoned_path
+import other_servers
+from other_servers import SIGNING, TOP, connected, found, frames, free_port, queries, received, sections
 
 RESOLVER = """server:
  username: ""
@@ -65,11 +66,6 @@ def is_whole(name, kind, parts):
     return kind.lower() in kinds or any(word == "soa" for word, _ in types_and_owners(parts["AUTHORITY"]))
 
 
-def has_no_proof(name, code, opted_out, records):
-    """Whether a name error may be one that opt-out leaves without a proof."""
-    return opted_out and code == 3 and any(owner.startswith("*.") and name.endswith(owner[1:]) for owner, _, _ in records)
-
-
 def is_made_as_a_star(records, parts):
     """Whether a wildcard answers under a name that begins with `*`."""
     owners = {owner for owner, _, _ in records}
@@ -77,7 +73,8 @@ def is_made_as_a_star(records, parts):
 
 
 def is_left_out(name, kind, code, parts, opted_out, records):
-    return not is_whole(name, kind, parts) or has_no_proof(name, code, opted_out, records) or is_made_as_a_star(records, parts)
+    has_no_proof = opted_out and other_servers.has_no_proof(name, code, records)
+    return has_no_proof or not is_whole(name, kind, parts) or is_made_as_a_star(records, parts)
 
 
 def data(lines):
@@ -117,10 +114,11 @@ def configured(folder, zones, port, served):
 def looked_at(folder, zoned):
     """A round: how many responses were looked at, how many were secure, and what Unbound answers otherwise."""
     ways = {f"z{number}.test.": WAYS[number % len(WAYS)] for number in range(ZONES)}
-    zones = {origin: random_zone(origin, True) for origin in ways}
-    words = [f"{origin}={written(folder, origin, records, ways[origin])}" for origin, records in zones.items()]
+    zones = {origin: other_servers.random_zone(origin, True) for origin in ways}
+    words = [f"{origin}={other_servers.written(folder, origin, records, ways[origin])}" for origin, records in zones.items()]
     served, port = free_port(), free_port()
-    front = subprocess.Popen([sys.executable, f"{TOP}/examples/serving/front.py", str(served), zoned, "--limits", *words], stderr=subprocess.DEVNULL)
+    command = [sys.executable, f"{TOP}/examples/serving/front.py", str(served), zoned, "--limits", *words]
+    front = subprocess.Popen(command, stderr=subprocess.DEVNULL)
     command = [found("unbound"), "-d", "-c", configured(folder, zones, port, served)]
     resolver = subprocess.Popen(command, stderr=subprocess.DEVNULL)
     try:
@@ -143,7 +141,7 @@ def main(seed="1", rounds="1"):
     if missing:
         print(f"validating_resolver: {', '.join(missing)}: not there, so nothing is asked")
         return 0
-    path, differs = zoned_path(), False
+    path, differs = other_servers.zoned_path(), False
     random.seed(int(seed))
     for _ in range(int(rounds)):
         with tempfile.TemporaryDirectory() as folder:
