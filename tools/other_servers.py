@@ -122,6 +122,11 @@ def zoned_path():
     return path.stdout.strip()
 
 
+def started(main, usage):
+    """Calls main with the words of the command, a seed and a number of rounds or fewer, and ends with its status."""
+    sys.exit(usage if len(sys.argv) > 3 else main(*sys.argv[1:]))
+
+
 # ---- zones
 
 
@@ -372,6 +377,4 @@ def main(seed="1", rounds="1"):
 
 
 if __name__ == "__main__":
-    if len(sys.argv) > 3:
-        sys.exit(__doc__)
-    sys.exit(main(*sys.argv[1:]))
+    started(main, __doc__)

@@ -152,6 +152,4 @@ def main(seed="1", rounds="1"):
 
 
 if __name__ == "__main__":
-    if len(sys.argv) > 3:
-        sys.exit(__doc__)
-    sys.exit(main(*sys.argv[1:]))
+    other_servers.started(main, __doc__)
