@@ -8,7 +8,7 @@ use Rattle.zone_proto.specs.HashedOwners.{owner_or_refusal}
 use Rattle.zone_proto.specs.Names.{Name, lower, IsAbove, star_under, is_at_or_above}
 use Rattle.zone_proto.specs.Sets.{RRset}
 use Rattle.zone_proto.specs.Types.{NS, NSEC3, NSEC3PARAM}
-use Rattle.zone_proto.proofs.Members.{In, Contains-In}
+use Rattle.zone_proto.proofs.Members.{In, In-Contains, Contains-In}
 use Rattle.zone_proto.proofs.Names.NameTree.{is_at_or_above_sound}
 use Rattle.zone_map.specs.Wildcards.{exists, renamed, closest_encloser as found_encloser}
 use Rattle.zone_map.specs.Zones.{Sets, set_at, owns, types_at, IsZone}
@@ -19,7 +19,7 @@ use Rattle.zone_denial.specs.Nsec3Names.{is_unsigned_delegation, nsec3_names}
 use Rattle.zone_denial.proofs.Hashed.Nsec3AskedStar.{exists_on_circle}
 use Rattle.zone_denial.proofs.Hashed.Nsec3Covers.{IsCover}
 use Rattle.zone_denial.proofs.Hashed.Nsec3Enclosers.{is_named, IsEnclosed}
-use Rattle.zone_validation.specs.Nsec3Proofs.{proves_wildcard_answer}
+use Rattle.zone_validation.specs.Nsec3Proofs.{proves_no_data, proves_wildcard_answer}
 use Rattle.zone_validation.specs.Nsec3Records.{Nsec3Record, read_nsec3}
 use Rattle.zone_acceptance.specs.Nsec3Judged.{read_nsec3_sets, AreNsec3OfZone, IsNsec3Judged}
 use Rattle.zone_acceptance.specs.Nsec3Soundness.{IsNsec3Sound, IsOptOutSound}
@@ -33,10 +33,11 @@ use Rattle.zone_response.specs.Responses.{negative_ttl, ds_at, end_sets}
 use Rattle.zone_response.specs.Sections.{Sections, sent}
 use Rattle.zone_response.specs.Sources.{star_of}
 use Rattle.zone_response.specs.Steps.{End}
-use Rattle.response_laws.specs.HashedSayings.{zone_hash, DeniesByNsec3, HashesApart, IsReached, shown_nsec3, may_leave_out, IsHashedStarSet}
+use Rattle.response_laws.specs.HashedSayings.{zone_hash, DeniesByNsec3, HashesApart, IsReached, shown_nsec3, may_leave_out, IsHashedStarSet, IsLacking}
 use Rattle.response_laws.specs.ProvedSayings.{IsSentSet, IsAnswerPart, authority_part}
 use Rattle.response_laws.specs.Sayings.{Saying, data_of, name_error, no_data, referral, saying, name_of}
 use Rattle.response_laws.proofs.Answers.{IsMadeSet, path_answers}
+use Rattle.response_laws.proofs.HashedLacks.{lacking, lacking_named}
 use Rattle.response_laws.proofs.HashedNames.{absent_off, encloser_agrees, encloser_of_star}
 use Rattle.response_laws.proofs.HashedParts.{AreHashedProofs, hashed_proofs}
 use Rattle.response_laws.proofs.HashedTold.{IsHashedName, below, enclosed, answer_proved}
@@ -110,6 +111,11 @@ module _ (z : Zone) (parameters : Nsec3Parameters) (q : Query) (r : Sections) (d
 
   pub opt_out_sound_proved : (x : Name) → HashesApart z parameters x → IsOptOutSound z.origin z.sets (zone_hash z parameters) parameters.opt_out x (shown_nsec3 r)
   opt_out_sound_proved x apart = nsec3_opt_out_sound o m hash parameters rs x d.circle apart records_proved
+
+  pub data_sound_proved : (x : Name) (t : ℕ) → HashesApart z parameters x → proves_no_data z.origin (zone_hash z parameters) (shown_nsec3 r) x t ≡ true → IsLacking z parameters x t
+  data_sound_proved x u apart p =
+      let k = lacking o m hash parameters rs records_proved d.circle x apart u p in
+      record { on_circle = In-Contains x names (lacking_named o m hash parameters rs records_proved d.circle x apart u p); none = k.0; no_alias = k.1 }
 
   -- what a denial shows is shown
   pub shown_of : (own : List RRset) → ((s : RRset) → In s own → In s h.proofs) → (n : Nsec3Record) → In n (read_nsec3_sets own) → In n (shown_nsec3 r)
@@ -216,12 +222,10 @@ module _ (z : Zone) (parameters : Nsec3Parameters) (q : Query) (r : Sections) (d
       let a = path_answers (inquiry z q) signed q.name s (subst (In s) h.answers (Contains-In s r.answers c)) in
       (a.part', a.goes_out, by a.part' a.set)
     where
-      by : (p : Part) → IsSentSet m p s ⊎ ((y : Name) × In y (path_of z q).made × IsMadeSet (inquiry z q) y p s) → IsSentSet m p s ⊎ IsHashedStarSet z parameters (shown_nsec3 r) p s
-      by p (inl k) = inl k
-      by p (inr (y, i, k)) =
+      of_star : (p : Part) (y : Name) → In y (path_of z q).made → IsMadeSet (inquiry z q) y p s → IsHashedStarSet z parameters (shown_nsec3 r) p s
+      of_star p y i k =
           let w = asked_star y k.star k.made.star in
-          inr
-          (record {
+          record {
             name = y;
             encloser = w.encloser;
             record_type = k.record_type;
@@ -230,4 +234,8 @@ module _ (z : Zone) (parameters : Nsec3Parameters) (q : Query) (r : Sections) (d
             ttl = k.ttl;
             sent = k.sent ∙ ap (λ n. sent p k.ttl (renamed true n y k.stored)) (sym w.is);
             proved = star_proved y w.encloser i (reached_unturned z q d.no_dname y k.made.unturned) k.made.absent w.found;
-          })
+          }
+
+      by : (p : Part) → IsSentSet m p s ⊎ ((y : Name) × In y (path_of z q).made × IsMadeSet (inquiry z q) y p s) → IsSentSet m p s ⊎ IsHashedStarSet z parameters (shown_nsec3 r) p s
+      by p (inl k) = inl k
+      by p (inr (y, i, k)) = inr (of_star p y i k)

@@ -23,6 +23,7 @@ pub mod HashedParts
 pub mod HashedShown
 pub mod HashedTypes
 pub mod HashedTold
+pub mod HashedLacks
 pub mod HashedSummed
 pub mod HashedProved
 pub mod HashedDenied

@@ -1,9 +1,11 @@
 -- Each response says how its search ends, and proves what it says
-use Rattle.std.proofs.Common.{◌≡◌, [], sym, ap, ◌∙◌, subst, inl, inr}
+use Rattle.std.proofs.Common.{◌≡◌, ℕ, true, false, [], sym, ap, ◌∙◌, subst, true≢false, inl, inr}
 use Rattle.std.specs.Prelude.{None}
 use Rattle.zone_proto.specs.declared.rdata.denial.NSEC3PARAM.{NSEC3PARAM as Nsec3Parameters}
 use Rattle.zone_proto.specs.declared.response_code.ResponseCode.{ResponseCode}
-use Rattle.zone_proto.proofs.Members.{Contains-In}
+use Rattle.zone_proto.specs.Names.{Name, is_at_or_above}
+use Rattle.zone_proto.proofs.Members.{Contains-In, and_right}
+use Rattle.zone_validation.specs.Nsec3Proofs.{proves_no_data}
 use Rattle.zone_acceptance.proofs.Nsec3LeftOut.{nsec3_opt_out_sound}
 use Rattle.zone_acceptance.proofs.Nsec3Soundness.{nsec3_records_sound}
 use Rattle.zone_acceptance.proofs.Soundness.{records_sound}
@@ -70,12 +72,17 @@ hashed_code_alone z parameters q d c silent = record {
   signatures = λ t other all s i. absurd (Contains-In s [] i);
   records = λ r i. absurd (Contains-In r [] i);
   sound = λ x j. nsec3_records_sound z.origin z.sets (zone_hash z parameters) parameters [] x j (λ r i. absurd (Contains-In r [] i));
+  data_sound = λ x t apart p. absurd (no_data x t p);
   opt_out_sound = λ x apart. nsec3_opt_out_sound z.origin z.sets (zone_hash z parameters) parameters [] x d.circle apart (λ r i. absurd (Contains-In r [] i));
   reached = λ w e. let p = sym silent ∙ e in absurd cc;
   error = λ x e. let p = sym silent ∙ e in absurd cc;
   empty = λ x e. let p = sym silent ∙ e in absurd cc;
   delegation = λ x e. let p = sym silent ∙ e in absurd cc;
 }
+  where
+    -- no record denies nothing
+    no_data : (x : Name) (t : ℕ) → proves_no_data z.origin (zone_hash z parameters) [] x t ≡ true → ⊥
+    no_data x t p = true≢false (sym (and_right (is_at_or_above z.origin x) false p))
 
 pub response_proves_by_hashes : ResponseProvesByHashes
 response_proves_by_hashes z parameters q r d signed is = by (how_answered z q r d.circle.zone is)
@@ -88,6 +95,7 @@ response_proves_by_hashes z parameters q r d signed is = by (how_answered z q r 
       signatures = λ t other all s i. signed_in_authority z d.circle.zone t other all s (hashed.authorities_proved z parameters q r d signed h s i);
       records = hashed.records_proved z parameters q r d signed h;
       sound = hashed.sound_proved z parameters q r d signed h;
+      data_sound = hashed.data_sound_proved z parameters q r d signed h;
       opt_out_sound = hashed.opt_out_sound_proved z parameters q r d signed h;
       reached = hashed.reached_proved z parameters q r d signed h;
       error = denied.error_said z parameters q r d signed h;

@@ -5,7 +5,7 @@ use Rattle.zone_proto.specs.declared.nx_proof_kind.NxProofKind.TheVariants as ki
 use Rattle.zone_proto.specs.declared.rdata.denial.NSEC3PARAM.{NSEC3PARAM as Nsec3Parameters}
 use Rattle.zone_proto.specs.Names.{Name, is_at_or_above, IsAbove, star_under, is_wildcard}
 use Rattle.zone_proto.specs.Sets.{RRset}
-use Rattle.zone_proto.specs.Types.{NS, SOA, DS, RRSIG, NSEC, NSEC3}
+use Rattle.zone_proto.specs.Types.{NS, CNAME, SOA, DS, RRSIG, NSEC, NSEC3}
 use Rattle.zone_map.specs.Wildcards.{exists, renamed}
 use Rattle.zone_map.specs.Zones.{Sets, set_at, owns}
 use Rattle.zone_denial.specs.Authority.{is_below_cut}
@@ -17,7 +17,7 @@ use Rattle.zone_validation.specs.declared.proof.Proof.{Proof}
 use Rattle.zone_validation.specs.declared.proof.Proof.TheVariants.{NameError, UnsignedDelegation, WildcardNoData}
 use Rattle.zone_validation.specs.Judgement.{nsec3_proof}
 use Rattle.zone_validation.specs.NsecProofs.{DNAME}
-use Rattle.zone_validation.specs.Nsec3Proofs.{proves_name_error, proves_empty_answer, proves_wildcard_answer, proves_unsigned_delegation}
+use Rattle.zone_validation.specs.Nsec3Proofs.{proves_name_error, proves_no_data, proves_empty_answer, proves_wildcard_answer, proves_unsigned_delegation}
 use Rattle.zone_validation.specs.Nsec3Records.{Nsec3Record}
 use Rattle.zone_acceptance.specs.Judged.{Unreferred, is_parents_ds}
 use Rattle.zone_acceptance.specs.Nsec3Judged.{read_nsec3_sets, AreNsec3OfZone, IsNsec3Judged}
@@ -115,6 +115,12 @@ IsInsecure (Some (WildcardNoData opted_out)) = opted_out ≡ true
 IsInsecure (Some UnsignedDelegation) = Unit {0}
 IsInsecure _ = ⊥
 
+-- what no data by its own record says of a name, with opt-out too: it has an NSEC3 set, and owns neither a set of the type nor an alias
+pub record IsLacking (z : Zone) (parameters : Nsec3Parameters) (x : Name) (t : ℕ) : Type 0 where
+  pub on_circle : IsCircleName z.origin z.sets parameters.opt_out x
+  pub none : t ≢ NSEC3 → IsFalse (owns z.sets x t)
+  pub no_alias : IsFalse (owns z.sets x CNAME)
+
 -- a name has no data of a type, and that is proved (RFC 5155 sections 7.2.3 to 7.2.5). Where opt-out leaves the name out, what is proved of it is insecure
 pub record IsHashedEmpty (z : Zone) (parameters : Nsec3Parameters) (r : Sections) (x : Name) (t : ℕ) : Type 0 where
   pub soa : HasSoa z r
@@ -149,6 +155,7 @@ pub record ProvesByHashes (z : Zone) (parameters : Nsec3Parameters) (q : Query) 
   pub records : AreNsec3OfZone z.sets (shown_nsec3 r)
   pub sound : (x : Name) → IsNsec3Judged z.origin z.sets (zone_hash z parameters) parameters x → IsNsec3Sound z.origin z.sets (zone_hash z parameters) parameters.opt_out x (shown_nsec3 r)
   pub opt_out_sound : (x : Name) → HashesApart z parameters x → IsOptOutSound z.origin z.sets (zone_hash z parameters) parameters.opt_out x (shown_nsec3 r)
+  pub data_sound : (x : Name) (t : ℕ) → HashesApart z parameters x → IsTrue (proves_no_data z.origin (zone_hash z parameters) (shown_nsec3 r) x t) → IsLacking z parameters x t
   -- what is said is said of a name that neither a cut nor a DNAME stands above, and proved
   pub reached : (w : Saying) → saying q r ≡ Some w → IsReached z.origin z.sets (name_of w)
   pub error : (x : Name) → saying q r ≡ Some (name_error x) → HashesApart z parameters x → IsHashedError z parameters r x
