@@ -14,6 +14,7 @@ use Rattle.zone_map.specs.Zones.{Sets, owns, IsZone}
 use Rattle.zone_denial.specs.Nsec3Names.{nsec3_names}
 use Rattle.zone_denial.proofs.Chain.NsecBelow.{above_through}
 use Rattle.zone_denial.proofs.Hashed.Nsec3Enclosers.{is_named, named_in, IsEnclosed}
+use Rattle.zone_validation.specs.declared.proof.Proof.TheVariants.{UnsignedDelegation}
 use Rattle.zone_validation.specs.Judgement.{nsec3_proof}
 use Rattle.zone_validation.specs.Nsec3Proofs.{is_covered, proves_name_error, proves_no_data, proves_opted_out, proves_wildcard_no_data, proves_empty_answer, shows_unsigned_delegation}
 use Rattle.zone_validation.specs.Nsec3Records.{Nsec3Record}
@@ -36,7 +37,7 @@ use Rattle.response_laws.proofs.HashedDenied.{lack, encloser_shown, unhanded, Is
 use Rattle.response_laws.proofs.HashedNames.{encloser_in, encloser_above, uncut_star}
 use Rattle.response_laws.proofs.HashedProved.{records_proved, sound_proved, shown_of, hashed_name, judged_name, there_on}
 use Rattle.response_laws.proofs.HashedShown.{IsEncloserShown, own_matched, encloser_matched}
-use Rattle.response_laws.proofs.HashedSummed.{sum_of_own, sum_of_star, sum_of_left_out}
+use Rattle.response_laws.proofs.HashedSummed.{sum_of_own, sum_of_star, sum_of_left_out, sum_of_digest}
 use Rattle.response_laws.proofs.HashedTold.{IsHashedName, away, below, enclosed, no_encloser, own_denied, no_own_data, no_own_delegation, opted_out_is, no_error, star_denied}
 use Rattle.response_laws.proofs.HashedTypes.{own_denies}
 use Rattle.response_laws.proofs.LastNames.{IsBare, IsMissing, bare, bare_star, starless, gone}
@@ -189,6 +190,11 @@ module _ (z : Zone) (parameters : Nsec3Parameters) (q : Query) (r : Sections) (d
         (star_data_by s absent a c out e has source on own b))) refl)
     told_by s (by_opt_out opts out p) = inr (opts, λ i. away j x out (Contains-In x names i))
 
+    unsigned_by : IsBareBy → HasNoHashedSet z parameters x → t ≡ DS → nsec3_proof o hash rs x t ≡ Some UnsignedDelegation
+    unsigned_by (by_own on shown b) none e = absurd (no_own none on)
+    unsigned_by (by_star all_in absent a c out i has source on shown b) (opts, none) e = absurd (true≢false (sym opts ∙ all_in))
+    unsigned_by (by_opt_out opts out p) none e = ap (nsec3_proof o hash rs x) e ∙ sum_of_digest o hash rs x (unhanded z parameters q r d signed h x u apart) p
+
     insecure_by : IsBareBy → HasNoHashedSet z parameters x → IsInsecure (nsec3_proof o hash rs x t) × IsLeftOut o m parameters.opt_out x
     insecure_by (by_own on shown b) none = absurd (no_own none on)
     insecure_by (by_star all_in absent a c out e has source on shown b) (opts, none) = absurd (true≢false (sym opts ∙ all_in))
@@ -219,6 +225,7 @@ module _ (z : Zone) (parameters : Nsec3Parameters) (q : Query) (r : Sections) (d
         soa = soa_shown z q r zone signed h x s.star true s.end;
         proved = λ can. proved_by x s.unturned apart can b;
         told = λ can. told_by x s.unturned apart can b;
+        unsigned = unsigned_by x s.unturned apart b;
         insecure = insecure_by x s.unturned apart b;
         none = λ can. none_by x s.unturned apart can b;
       }

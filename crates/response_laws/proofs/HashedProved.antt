@@ -19,8 +19,10 @@ use Rattle.zone_denial.specs.Nsec3Names.{is_unsigned_delegation, nsec3_names}
 use Rattle.zone_denial.proofs.Hashed.Nsec3AskedStar.{exists_on_circle}
 use Rattle.zone_denial.proofs.Hashed.Nsec3Covers.{IsCover}
 use Rattle.zone_denial.proofs.Hashed.Nsec3Enclosers.{is_named, IsEnclosed}
+use Rattle.zone_validation.specs.Judgement.{nsec3_proof}
 use Rattle.zone_validation.specs.Nsec3Proofs.{proves_no_data, proves_wildcard_answer}
 use Rattle.zone_validation.specs.Nsec3Records.{Nsec3Record, read_nsec3}
+use Rattle.zone_acceptance.specs.Nsec3Calls.{told}
 use Rattle.zone_acceptance.specs.Nsec3Judged.{read_nsec3_sets, AreNsec3OfZone, IsNsec3Judged}
 use Rattle.zone_acceptance.specs.Nsec3Soundness.{IsNsec3Sound, IsOptOutSound}
 use Rattle.zone_acceptance.proofs.Nsec3LeftOut.{nsec3_opt_out_sound}
@@ -33,10 +35,11 @@ use Rattle.zone_response.specs.Responses.{negative_ttl, ds_at, end_sets}
 use Rattle.zone_response.specs.Sections.{Sections, sent}
 use Rattle.zone_response.specs.Sources.{star_of}
 use Rattle.zone_response.specs.Steps.{End}
-use Rattle.response_laws.specs.HashedSayings.{zone_hash, DeniesByNsec3, HashesApart, IsReached, shown_nsec3, may_leave_out, IsHashedStarSet, IsLacking}
+use Rattle.response_laws.specs.HashedSayings.{zone_hash, DeniesByNsec3, HashesApart, IsReached, shown_nsec3, may_leave_out, IsHashedStarSet, IsLacking, shown_records}
 use Rattle.response_laws.specs.ProvedSayings.{IsSentSet, IsAnswerPart, authority_part}
 use Rattle.response_laws.specs.Sayings.{Saying, data_of, name_error, no_data, referral, saying, name_of}
 use Rattle.response_laws.proofs.Answers.{IsMadeSet, path_answers}
+use Rattle.response_laws.proofs.HashedCalls.{told_is}
 use Rattle.response_laws.proofs.HashedLacks.{lacking, lacking_named}
 use Rattle.response_laws.proofs.HashedNames.{absent_off, encloser_agrees, encloser_of_star}
 use Rattle.response_laws.proofs.HashedParts.{AreHashedProofs, hashed_proofs}
@@ -111,6 +114,9 @@ module _ (z : Zone) (parameters : Nsec3Parameters) (q : Query) (r : Sections) (d
 
   pub opt_out_sound_proved : (x : Name) → HashesApart z parameters x → IsOptOutSound z.origin z.sets (zone_hash z parameters) parameters.opt_out x (shown_nsec3 r)
   opt_out_sound_proved x apart = nsec3_opt_out_sound o m hash parameters rs x d.circle apart records_proved
+
+  pub parameters_found_proved : (x : Name) (t : ℕ) → HashesApart z parameters x → told z.digest_of z.origin (shown_records r) x t ≡ nsec3_proof z.origin (zone_hash z parameters) (shown_nsec3 r) x t
+  parameters_found_proved x u apart = told_is m zone o z.digest_of parameters d.circle r.authorities authority_is x u apart
 
   pub data_sound_proved : (x : Name) (t : ℕ) → HashesApart z parameters x → proves_no_data z.origin (zone_hash z parameters) (shown_nsec3 r) x t ≡ true → IsLacking z parameters x t
   data_sound_proved x u apart p =

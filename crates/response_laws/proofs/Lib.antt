@@ -25,6 +25,7 @@ pub mod HashedTypes
 pub mod HashedTold
 pub mod HashedLacks
 pub mod HashedSummed
+pub mod HashedCalls
 pub mod HashedProved
 pub mod HashedDenied
 pub mod HashedEmpty

@@ -6,6 +6,7 @@ use Rattle.zone_proto.specs.declared.response_code.ResponseCode.{ResponseCode}
 use Rattle.zone_proto.specs.Names.{Name, is_at_or_above}
 use Rattle.zone_proto.proofs.Members.{Contains-In, and_right}
 use Rattle.zone_validation.specs.Nsec3Proofs.{proves_no_data}
+use Rattle.zone_acceptance.proofs.Nsec3Calls.{nsec3_parameters_found}
 use Rattle.zone_acceptance.proofs.Nsec3LeftOut.{nsec3_opt_out_sound}
 use Rattle.zone_acceptance.proofs.Nsec3Soundness.{nsec3_records_sound}
 use Rattle.zone_acceptance.proofs.Soundness.{records_sound}
@@ -72,6 +73,7 @@ hashed_code_alone z parameters q d c silent = record {
   signatures = λ t other all s i. absurd (Contains-In s [] i);
   records = λ r i. absurd (Contains-In r [] i);
   sound = λ x j. nsec3_records_sound z.origin z.sets (zone_hash z parameters) parameters [] x j (λ r i. absurd (Contains-In r [] i));
+  parameters_found = λ x t apart. nsec3_parameters_found z.origin z.sets z.digest_of parameters [] x t d.circle apart (λ v c. absurd (Contains-In v [] c));
   data_sound = λ x t apart p. absurd (no_data x t p);
   opt_out_sound = λ x apart. nsec3_opt_out_sound z.origin z.sets (zone_hash z parameters) parameters [] x d.circle apart (λ r i. absurd (Contains-In r [] i));
   reached = λ w e. let p = sym silent ∙ e in absurd cc;
@@ -95,6 +97,7 @@ response_proves_by_hashes z parameters q r d signed is = by (how_answered z q r 
       signatures = λ t other all s i. signed_in_authority z d.circle.zone t other all s (hashed.authorities_proved z parameters q r d signed h s i);
       records = hashed.records_proved z parameters q r d signed h;
       sound = hashed.sound_proved z parameters q r d signed h;
+      parameters_found = hashed.parameters_found_proved z parameters q r d signed h;
       data_sound = hashed.data_sound_proved z parameters q r d signed h;
       opt_out_sound = hashed.opt_out_sound_proved z parameters q r d signed h;
       reached = hashed.reached_proved z parameters q r d signed h;

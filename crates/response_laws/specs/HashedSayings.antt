@@ -1,8 +1,9 @@
 -- What a response of a zone that denies by NSEC3 proves to a validator, with opt-out and without
-use Rattle.std.specs.Prelude.{◌≡◌, ◌≢◌, ℕ, Bool, ◌⊎◌, ◌&&◌, cond, List, Option, Some, ◌==◌, IsTrue, IsFalse, true}
+use Rattle.std.specs.Prelude.{◌≡◌, ◌≢◌, ℕ, Bool, ◌⊎◌, ◌&&◌, cond, List, flat_map, Option, Some, ◌==◌, IsTrue, IsFalse, true}
 use Rattle.std.specs.List.{Contains}
 use Rattle.zone_proto.specs.declared.nx_proof_kind.NxProofKind.TheVariants as kind
 use Rattle.zone_proto.specs.declared.rdata.denial.NSEC3PARAM.{NSEC3PARAM as Nsec3Parameters}
+use Rattle.zone_proto.specs.declared.record.Record.{Record}
 use Rattle.zone_proto.specs.Names.{Name, is_at_or_above, IsAbove, star_under, is_wildcard}
 use Rattle.zone_proto.specs.Sets.{RRset}
 use Rattle.zone_proto.specs.Types.{NS, CNAME, SOA, DS, RRSIG, NSEC, NSEC3}
@@ -20,6 +21,7 @@ use Rattle.zone_validation.specs.NsecProofs.{DNAME}
 use Rattle.zone_validation.specs.Nsec3Proofs.{proves_name_error, proves_no_data, proves_empty_answer, proves_wildcard_answer, proves_unsigned_delegation}
 use Rattle.zone_validation.specs.Nsec3Records.{Nsec3Record}
 use Rattle.zone_acceptance.specs.Judged.{Unreferred, is_parents_ds}
+use Rattle.zone_acceptance.specs.Nsec3Calls.{told}
 use Rattle.zone_acceptance.specs.Nsec3Judged.{read_nsec3_sets, AreNsec3OfZone, IsNsec3Judged}
 use Rattle.zone_acceptance.specs.Nsec3Soundness.{IsNsec3Sound, IsLeftOut, IsOptOutSound}
 use Rattle.zone_acceptance.specs.Soundness.{IsNoName, IsWithoutData, IsUnsignedDelegation}
@@ -61,6 +63,10 @@ pub record IsReached (origin : Name) (m : Sets) (x : Name) : Type 0 where
 -- the NSEC3 records that a validator reads in the authority section
 abbrev pub shown_nsec3 : Sections → List Nsec3Record
 shown_nsec3 r = read_nsec3_sets r.authorities
+
+-- and all records of that section
+abbrev pub shown_records : Sections → List Record
+shown_records r = flat_map (λ s. s.records) r.authorities
 
 -- opt-out leaves n out if it owns nothing but NS (RFC 5155 section 6)
 abbrev pub may_leave_out : Bool → Sets → Name → Bool
@@ -121,11 +127,12 @@ pub record IsLacking (z : Zone) (parameters : Nsec3Parameters) (x : Name) (t : �
   pub none : t ≢ NSEC3 → IsFalse (owns z.sets x t)
   pub no_alias : IsFalse (owns z.sets x CNAME)
 
--- a name has no data of a type, and that is proved (RFC 5155 sections 7.2.3 to 7.2.5). Where opt-out leaves the name out, what is proved of it is insecure
+-- a name has no data of a type, and that is proved (RFC 5155 sections 7.2.3 to 7.2.5). Where opt-out leaves the name out, what is proved of it is insecure, and of DS that it may be an unsigned delegation
 pub record IsHashedEmpty (z : Zone) (parameters : Nsec3Parameters) (r : Sections) (x : Name) (t : ℕ) : Type 0 where
   pub soa : HasSoa z r
   pub proved : IsHashedShowable z.origin z.sets x t → IsTrue (proves_empty_answer z.origin (zone_hash z parameters) (shown_nsec3 r) x t)
   pub told : IsHashedShowable z.origin z.sets x t → IsEmptyProof t (nsec3_proof z.origin (zone_hash z parameters) (shown_nsec3 r) x t) ⊎ HasNoHashedSet z parameters x
+  pub unsigned : HasNoHashedSet z parameters x → t ≡ DS → nsec3_proof z.origin (zone_hash z parameters) (shown_nsec3 r) x t ≡ Some UnsignedDelegation
   pub insecure : HasNoHashedSet z parameters x → IsInsecure (nsec3_proof z.origin (zone_hash z parameters) (shown_nsec3 r) x t) × IsLeftOut z.origin z.sets parameters.opt_out x
   pub none : IsHashedShowable z.origin z.sets x t → IsFalse parameters.opt_out → IsFalse (is_wildcard x) → IsFalse (owns z.sets x NSEC3) → IsWithoutData z.origin z.sets x t
 
@@ -156,6 +163,8 @@ pub record ProvesByHashes (z : Zone) (parameters : Nsec3Parameters) (q : Query) 
   pub sound : (x : Name) → IsNsec3Judged z.origin z.sets (zone_hash z parameters) parameters x → IsNsec3Sound z.origin z.sets (zone_hash z parameters) parameters.opt_out x (shown_nsec3 r)
   pub opt_out_sound : (x : Name) → HashesApart z parameters x → IsOptOutSound z.origin z.sets (zone_hash z parameters) parameters.opt_out x (shown_nsec3 r)
   pub data_sound : (x : Name) (t : ℕ) → HashesApart z parameters x → IsTrue (proves_no_data z.origin (zone_hash z parameters) (shown_nsec3 r) x t) → IsLacking z parameters x t
+  -- a validator finds the zone's parameters in what stands there: what it tells by these records is what they prove by the zone's hash
+  pub parameters_found : (x : Name) (t : ℕ) → HashesApart z parameters x → told z.digest_of z.origin (shown_records r) x t ≡ nsec3_proof z.origin (zone_hash z parameters) (shown_nsec3 r) x t
   -- what is said is said of a name that neither a cut nor a DNAME stands above, and proved
   pub reached : (w : Saying) → saying q r ≡ Some w → IsReached z.origin z.sets (name_of w)
   pub error : (x : Name) → saying q r ≡ Some (name_error x) → HashesApart z parameters x → IsHashedError z parameters r x
