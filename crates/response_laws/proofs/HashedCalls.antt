@@ -1,5 +1,5 @@
 -- A validator finds the zone's parameters in the records of a section, which have other TTLs than those of the zone's sets
-use Rattle.std.proofs.Common.{◌≡◌, ℕ, Bool, true, false, cond, List, [], ◌∷◌, ◌++◌, map, refl, sym, ap, ◌∙◌, subst, ◌⊎◌, inl, inr}
+use Rattle.std.proofs.Common.{◌≡◌, ℕ, Bool, true, false, cond, List, [], ◌∷◌, ◌++◌, map, refl, sym, ap, ◌∙◌, ◌⊎◌, inl, inr}
 use Rattle.std.specs.Prelude.{Option, Some, None, find, filter, filter_map, flat_map, is_some, option_map, option_and_then}
 use Rattle.std.specs.List.{Contains, cons_option, list_any}
 use Rattle.std.specs.Option.{option_map_or}
@@ -15,9 +15,8 @@ use Rattle.zone_proto.specs.Types.{NSEC3}
 use Rattle.zone_proto.proofs.Members.{In, In-Contains, Contains-In, In-from_append}
 use Rattle.zone_map.specs.Zones.{Sets, set_at, IsZone}
 use Rattle.zone_denial.specs.Nsec3Zones.{IsNsec3Zone, IsHashed, TellsApart, hash_with}
-use Rattle.zone_validation.specs.declared.proof.Proof.{Proof}
 use Rattle.zone_validation.specs.Judgement.{nsec3_proof}
-use Rattle.zone_validation.specs.Nsec3Parameters.{zone_data, has_parameters, nsec3_datas, digest_by, is_known, is_other}
+use Rattle.zone_validation.specs.Nsec3Parameters.{zone_data, has_parameters, digest_by, is_known, is_other}
 use Rattle.zone_validation.specs.Nsec3Records.{nsec3_data, nsec3_record, read_nsec3}
 use Rattle.zone_acceptance.specs.Nsec3Calls.{StandInNsec3Sets, told}
 use Rattle.zone_acceptance.specs.Nsec3Judged.{read_nsec3_sets}
