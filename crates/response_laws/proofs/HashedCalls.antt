@@ -16,7 +16,7 @@ use Rattle.zone_proto.proofs.Members.{In, In-Contains, Contains-In, In-from_appe
 use Rattle.zone_map.specs.Zones.{Sets, set_at, IsZone}
 use Rattle.zone_denial.specs.Nsec3Zones.{IsNsec3Zone, IsHashed, TellsApart, hash_with}
 use Rattle.zone_validation.specs.Judgement.{nsec3_proof}
-use Rattle.zone_validation.specs.Nsec3Parameters.{zone_data, has_parameters, digest_by, is_known, is_other}
+use Rattle.zone_validation.specs.Nsec3Parameters.{zone_data, has_parameters, records_with, nsec3_datas, digest_by, is_known, is_other}
 use Rattle.zone_validation.specs.Nsec3Records.{nsec3_data, nsec3_record, read_nsec3}
 use Rattle.zone_acceptance.specs.Nsec3Calls.{StandInNsec3Sets, told}
 use Rattle.zone_acceptance.specs.Nsec3Judged.{read_nsec3_sets}
@@ -50,13 +50,16 @@ kept_untimed passes h (v ∷ rs) =
     by true more = ap (cons_option (read_nsec3 v)) more
     by false more = more
 
--- so what a validator tells by them is the same
-told_untimed : (digest_of : ℕ → List ℕ → Name → ℕ → Option (List ℕ)) (origin : Name) (rs : List Record) (x : Name) (t : ℕ) → told digest_of origin (untimed rs) x t ≡ told digest_of origin rs x t
-told_untimed digest_of origin rs x t =
-    λ i. option_map_or (λ p. nsec3_proof origin (digest_by digest_of p) (kept_untimed (has_parameters origin p) (λ v. refl) rs i) x t) (common (read_untimed (zone_data origin) (λ v. refl) rs i)) None
+-- what a validator tells by records it tells by others of which it reads the same
+pub same_told : (digest_of : ℕ → List ℕ → Name → ℕ → Option (List ℕ)) (origin : Name) (rs others : List Record) → nsec3_datas origin rs ≡ nsec3_datas origin others
+    → ((p : Nsec3Data) → records_with origin p rs ≡ records_with origin p others) → (x : Name) (t : ℕ) → told digest_of origin rs x t ≡ told digest_of origin others x t
+same_told digest_of origin rs others datas kept x t = λ i. option_map_or (λ p. nsec3_proof origin (digest_by digest_of p) (kept p i) x t) (common (datas i)) None
   where
     common : List Nsec3Data → Option Nsec3Data
     common ds = option_and_then (λ p. cond (list_any (is_other digest_of origin x p) ds) None (Some p)) (find (is_known digest_of origin x) ds)
+
+told_untimed : (digest_of : ℕ → List ℕ → Name → ℕ → Option (List ℕ)) (origin : Name) (rs : List Record) (x : Name) (t : ℕ) → told digest_of origin (untimed rs) x t ≡ told digest_of origin rs x t
+told_untimed digest_of origin rs = same_told digest_of origin (untimed rs) rs (read_untimed (zone_data origin) (λ v. refl) rs) (λ p. kept_untimed (has_parameters origin p) (λ v. refl) rs)
 
 -- ---- the records of a section as they are stored
 

@@ -58,6 +58,10 @@ pub record IsReached (origin : Name) (m : Sets) (x : Name) : Type 0 where
   pub uncut : IsFalse (is_below_cut origin m x)
   pub no_dname : (a : Name) → IsAbove a x → IsFalse (owns m a DNAME)
 
+-- what a validator tells by records of a name and a type, which has the zone's hash, and finds the parameters in the records
+abbrev pub told_by : Zone → List Record → Name → ℕ → Option Proof
+told_by z rs x t = told z.digest_of z.origin rs x t
+
 -- ---- the sets of a response
 
 -- the NSEC3 records that a validator reads in the authority section
@@ -164,7 +168,7 @@ pub record ProvesByHashes (z : Zone) (parameters : Nsec3Parameters) (q : Query) 
   pub opt_out_sound : (x : Name) → HashesApart z parameters x → IsOptOutSound z.origin z.sets (zone_hash z parameters) parameters.opt_out x (shown_nsec3 r)
   pub data_sound : (x : Name) (t : ℕ) → HashesApart z parameters x → IsTrue (proves_no_data z.origin (zone_hash z parameters) (shown_nsec3 r) x t) → IsLacking z parameters x t
   -- a validator finds the zone's parameters in what stands there: what it tells by these records is what they prove by the zone's hash
-  pub parameters_found : (x : Name) (t : ℕ) → HashesApart z parameters x → told z.digest_of z.origin (shown_records r) x t ≡ nsec3_proof z.origin (zone_hash z parameters) (shown_nsec3 r) x t
+  pub parameters_found : (x : Name) (t : ℕ) → HashesApart z parameters x → told_by z (shown_records r) x t ≡ nsec3_proof z.origin (zone_hash z parameters) (shown_nsec3 r) x t
   -- what is said is said of a name that neither a cut nor a DNAME stands above, and proved
   pub reached : (w : Saying) → saying q r ≡ Some w → IsReached z.origin z.sets (name_of w)
   pub error : (x : Name) → saying q r ≡ Some (name_error x) → HashesApart z parameters x → IsHashedError z parameters r x

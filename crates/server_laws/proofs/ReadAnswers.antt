@@ -16,15 +16,16 @@ use Rattle.zone_response.specs.Sections.{Sections}
 use Rattle.zone_wire.specs.declared.response.Group.{Group}
 use Rattle.zone_wire.specs.Responses.{records_of, all_records, if_whole, IsSection}
 use Rattle.zone_server.specs.declared.transport.Transport.{Transport}
-use Rattle.zone_server.specs.Answers.{asked_of, code_number, records_sent, AreSets, IsAnswer, IsAnswerTo, IsResponseTo, IsSent, GoesOut, Says}
+use Rattle.zone_server.specs.Answers.{asked_of, records_sent, AreSets, IsAnswer, IsAnswerTo, IsResponseTo, IsSent, GoesOut, Says}
 use Rattle.zone_server.specs.Limits.{limit_for}
 use Rattle.zone_server.specs.ServedZones.{IsAnswering}
-use Rattle.response_laws.specs.HashedSayings.{ProvesByHashes}
+use Rattle.response_laws.specs.HashedSayings.{told_by, ProvesByHashes}
 use Rattle.response_laws.specs.ProvedSayings.{ProvesWhatItSays}
 use Rattle.response_laws.proofs.Responses.{response_proves_what_it_says, response_proves_by_hashes}
 use Rattle.server_laws.specs.ProvedAnswers.{HasSections, ProvesInMessage, ProvesByHashesInMessage, IsFailure, AnswerProvesWhatItSays, AnswerProvesByHashes}
 use Rattle.server_laws.proofs.OneZone.{one_answers}
 use Rattle.server_laws.proofs.ShownRecords.{nsec_unsigned, nsec3_unsigned, shown_in_sets}
+use Rattle.server_laws.proofs.ToldRecords.{told_sent}
 
 -- groups that are sets have their records
 joined : {A B : Type 0} (f : A → List Record) (g : B → List Record) (xs : List A) (ys : List B) → map f xs ≡ map g ys → flat_map f xs ≡ flat_map g ys
@@ -122,5 +123,14 @@ answer_proves_by_hashes zs t message octets q z parameters m asked is answering 
     p = response_proves_by_hashes z parameters (asked_of q) said'.sections denies signed said'.says
 
     by : HasSections said'.sections m ⊎ IsFailure z q m → ProvesByHashesInMessage z parameters q m ⊎ IsFailure z q m
-    by (inl has) = inl (record { said = said'.sections; proved = p; sections = has; shown = ap nsec3_records has.authorities ∙ shown_in_sets read_nsec3 nsec3_unsigned z.sets said'.sections p.authorities })
+    by (inl has) =
+        inl
+        (record {
+          said = said'.sections;
+          proved = p;
+          sections = has;
+          shown = ap nsec3_records has.authorities ∙ shown_in_sets read_nsec3 nsec3_unsigned z.sets said'.sections p.authorities;
+          parameters_found = λ x u apart.
+              ap (λ rs. told_by z rs x u) has.authorities ∙ told_sent z said'.sections p.authorities x u ∙ p.parameters_found x u apart;
+        })
     by (inr failure) = inr failure
