@@ -1,64 +1,21 @@
--- The sets of an authority section are the zone's, and so are the NSEC records that a validator reads there
-use Rattle.std.proofs.Common.{◌≡◌, ℕ, true, false, cond, List, ◌++◌, map, refl, sym, ap, ◌∙◌, subst, inl, inr}
-use Rattle.std.specs.Prelude.{Option, Some, None, min, flat_map, option_map, option_to_list, ◌==◌}
-use Rattle.std.specs.List.{Contains}
-use Rattle.std.proofs.lemmas.List.Elements.{All-contains}
-use Rattle.zone_proto.specs.declared.rdata.RData.{RData}
-use Rattle.zone_proto.specs.declared.rdata.RData.TheVariants as V
-use Rattle.zone_proto.specs.declared.record.Record.{Record}
-use Rattle.zone_proto.specs.Data.{type_of}
+-- The sets of an authority section are the zone's
+use Rattle.std.proofs.Common.{◌≡◌, ℕ, true, false, cond, List, map, refl, sym, ap, ◌∙◌, subst, inl, inr}
+use Rattle.std.specs.Prelude.{Option, Some, None, min, option_to_list, ◌==◌}
 use Rattle.zone_proto.specs.Names.{Name, lower}
 use Rattle.zone_proto.specs.Sets.{RRset}
-use Rattle.zone_proto.specs.Types.{NS, SOA, DS, NSEC}
-use Rattle.zone_proto.proofs.Members.{In, In-Contains, Contains-In, In-map, In-from_map, In-filter_map, In-from_filter_map, In-flat_map, In-from_flat_map, In-append_right}
+use Rattle.zone_proto.specs.Types.{NS, SOA, DS}
+use Rattle.zone_proto.proofs.Members.{In, In-from_map}
 use Rattle.zone_map.specs.Zones.{Sets, set_at, IsZone}
-use Rattle.zone_validation.specs.NsecRecords.{NsecRecord, nsec_data, nsec_record, read_nsec, nsec_records}
-use Rattle.zone_acceptance.specs.Judged.{read, AreOfZone}
 use Rattle.zone_response.specs.declared.response.Part.{Part}
 use Rattle.zone_response.specs.declared.response.Part.TheVariants as part
 use Rattle.zone_response.specs.Responses.{negative_ttl, child_ds, ds_at, end_sets}
-use Rattle.zone_response.specs.Sections.{with_ttl, sent, as_it_is}
+use Rattle.zone_response.specs.Sections.{sent, as_it_is}
 use Rattle.zone_response.specs.Steps.{End, complete, referred, missing, outside, unfollowed, failed}
 use Rattle.response_laws.specs.ProvedSayings.{IsSentSet, authority_part}
-use Rattle.response_laws.proofs.NsecSets.{AreOwnersNsec}
+use Rattle.response_laws.proofs.OwnerSets.{AreOwners}
 use Rattle.response_laws.proofs.Parts.{as_proof}
 
--- ---- what a validator reads
-
-of_nsec_type : (d : RData) (n : Name) (r : NsecRecord) → option_map (nsec_record n) (nsec_data d) ≡ Some r → type_of d ≡ NSEC
-of_nsec_type (V.NSEC a) n r e = refl
-of_nsec_type d n r e = absurd cc
-
 module _ (m : Sets) (zone : IsZone m) where
-  -- an NSEC record of a set that went out is one of the zone's set, which is of type NSEC
-  module _ (s : RRset) (p : Part) (set : IsSentSet m p s) (r : NsecRecord) where
-    stored_record : (v : Record) → In v s.records → read_nsec v ≡ Some r → (w : Record) × In w set.stored.records × (read_nsec w ≡ Some r)
-    stored_record v i e = by p (subst (λ (u : RRset). In v u.records) set.sent i)
-      where
-        with : In v (map (with_ttl set.ttl) set.stored.records) → (w : Record) × In w set.stored.records × (read_nsec w ≡ Some r)
-        with j = let w = In-from_map (with_ttl set.ttl) v set.stored.records j in (w.0, w.1, ap read_nsec w.2 ∙ e)
-
-        by : (p : Part) → In v (sent p set.ttl set.stored).records → (w : Record) × In w set.stored.records × (read_nsec w ≡ Some r)
-        by part.Records j = with j
-        by part.Signed j = with j
-        by part.Signatures j = absurd j
-
-    read_stored : (v : Record) → In v s.records → read_nsec v ≡ Some r → (o : Name) × (u : RRset) × (set_at m o NSEC ≡ Some u) × Contains (nsec_records u.records) r
-    read_stored v i e =
-        let w = stored_record v i e in
-        let stored = zone.stored set.name set.record_type set.stored set.stands in
-        let type' : set.record_type ≡ NSEC =
-        sym stored.record_type
-        ∙ sym (All-contains (λ (v : Record). type_of v.rdata ≡ set.stored.record_type) set.stored.records w.0 stored.set.types (In-Contains w.0 set.stored.records w.1))
-        ∙ of_nsec_type w.0.rdata w.0.name r w.2 in
-        (set.name, set.stored, ap (set_at m set.name) (sym type') ∙ set.stands, In-Contains r (nsec_records set.stored.records) (In-filter_map read_nsec w.0 r set.stored.records w.1 w.2))
-
-  pub read_of_zone : (sets : List RRset) → ((s : RRset) → In s sets → IsSentSet m (authority_part s) s) → AreOfZone m (read sets)
-  read_of_zone sets h r c =
-      let v = In-from_filter_map read_nsec r (flat_map (λ (s : RRset). s.records) sets) (Contains-In r (read sets) c) in
-      let s = In-from_flat_map (λ (s : RRset). s.records) v.0 sets v.1 in
-      read_stored s.0 (authority_part s.0) (h s.0 s.1) r v.0 s.2 v.2
-
   -- ---- the sets
 
   sent_set : (p : Part) (n : Name) (t ttl : ℕ) (stored : RRset) → set_at m n t ≡ Some stored → authority_part (sent p ttl stored) ≡ p → IsSentSet m (authority_part (sent p ttl stored)) (sent p ttl stored)
@@ -73,20 +30,12 @@ module _ (m : Sets) (zone : IsZone m) where
   servers_set : (n : Name) (stored : RRset) → set_at m n NS ≡ Some stored → IsSentSet m (authority_part (as_it_is part.Records stored)) (as_it_is part.Records stored)
   servers_set n stored e = sent_set part.Records n NS stored.ttl stored e (ap (λ b. cond b part.Records part.Signed) (ap (λ u. u == NS) (zone.stored n NS stored e).record_type))
 
-  -- ---- the NSEC sets
+  -- ---- the sets of denial
 
-  pub proof_is : (ttl : ℕ) (proofs : List RRset) → AreOwnersNsec m proofs → (s : RRset) → In s (map (as_proof ttl) proofs) → IsSentSet m (authority_part s) s
-  proof_is ttl proofs owners s i =
+  pub proof_is : (t : ℕ) → (t == NS) ≡ false → (ttl : ℕ) (proofs : List RRset) → AreOwners t m proofs → (s : RRset) → In s (map (as_proof ttl) proofs) → IsSentSet m (authority_part s) s
+  proof_is t other ttl proofs owners s i =
       let r = In-from_map (as_proof ttl) s proofs i in
-      subst (λ (v : RRset). IsSentSet m (authority_part v) v) r.2 (signed_set (lower r.0.owner) NSEC (min r.0.ttl ttl) r.0 (owners r.0 r.1) refl)
-
-  -- what is read in a set of the zone is read in it as it goes out
-  pub read_proof : (ttl : ℕ) (proofs : List RRset) (s : RRset) (r : NsecRecord) → In s proofs → In r (nsec_records s.records) → (front : List RRset) → In r (read (front ++ map (as_proof ttl) proofs))
-  read_proof ttl proofs s r i j front =
-      let v = In-from_filter_map read_nsec r s.records j in
-      In-filter_map read_nsec (with_ttl (min s.ttl ttl) v.0) r (flat_map (λ (s : RRset). s.records) (front ++ map (as_proof ttl) proofs))
-      (In-flat_map (λ (s : RRset). s.records) (as_proof ttl s) (with_ttl (min s.ttl ttl) v.0) (front ++ map (as_proof ttl) proofs)
-      (In-append_right (as_proof ttl s) front (map (as_proof ttl) proofs) (In-map (as_proof ttl) s proofs i)) (In-map (with_ttl (min s.ttl ttl)) v.0 s.records v.1)) v.2
+      subst (λ (v : RRset). IsSentSet m (authority_part v) v) r.2 (signed_set (lower r.0.owner) t (min r.0.ttl ttl) r.0 (owners r.0 r.1) other)
 
   -- ---- what stands before them
 

@@ -29,21 +29,25 @@ module _ (m : Sets) (a : Name) (t : ℕ) (bare : IsBare m a t) where
   pub not_any : (u : ℕ) → owns m a u ≡ true → t ≢ ANY
   not_any u k e = any_answered m a u k (sym (ap (asked_set m a) e) ∙ bare.asked)
 
-module _ (m : Sets) (a : Name) (t : ℕ) (bare : IsBare m a t) (one_kind : OwnsNone m NSEC3) (unsigned : t ≢ RRSIG) (one : t ≢ ANY) where
-  type_unowned : owns m a t ≡ false
-  type_unowned = by (t == NSEC3) refl
+  -- nor does it own the type, NSEC3 aside
+  pub bare_unowned : t ≢ RRSIG → t ≢ ANY → (t == NSEC3) ≡ false → owns m a t ≡ false
+  bare_unowned unsigned one e =
+      ap is_some
+      (lost (set_at m a t)
+      (sym (λ i. cond (e i) None (option_and_then (λ s. cond (differs t RRSIG unsigned i) (cond (is_signed s) (Some s) None) (Some s)) (set_at m a (cond (differs t ANY one i || differs t RRSIG unsigned i) (any_type m a) t))))
+      ∙ bare.asked))
     where
       lost : (o : Option RRset) → option_and_then (λ s. Some s) o ≡ None → o ≡ None
       lost None e = refl
       lost (Some s) e = absurd cc
 
+module _ (m : Sets) (a : Name) (t : ℕ) (bare : IsBare m a t) (one_kind : OwnsNone m NSEC3) (unsigned : t ≢ RRSIG) (one : t ≢ ANY) where
+  type_unowned : owns m a t ≡ false
+  type_unowned = by (t == NSEC3) refl
+    where
       by : (b : Bool) → (t == NSEC3) ≡ b → owns m a t ≡ false
       by true e = ap (owns m a) (eqb-true t NSEC3 e) ∙ one_kind a
-      by false e =
-          ap is_some
-          (lost (set_at m a t)
-          (sym (λ i. cond (e i) None (option_and_then (λ s. cond (differs t RRSIG unsigned i) (cond (is_signed s) (Some s) None) (Some s)) (set_at m a (cond (differs t ANY one i || differs t RRSIG unsigned i) (any_type m a) t))))
-          ∙ bare.asked))
+      by false e = bare_unowned m a t bare unsigned one e
 
   -- where NS stands there beside SOA alone, but where DS is asked
   pub bare_direct : (origin : Name) → IsJudged origin m a → ((t == DS) ≡ false → owns m a NS ≡ true → owns m a SOA ≡ true) → direct m a t ≡ None

@@ -1,103 +1,37 @@
 -- What proves something in a response are sets of denial
-use Rattle.std.proofs.Common.{◌≡◌, Bool, true, false, cond, List, [], ◌∷◌, ◌++◌, refl, ap, subst, ◌⊎◌, inl, inr}
-use Rattle.std.specs.Prelude.{Option, Some, None, Result, Ok, Err, fold, filter_map, option_and_then, option_to_list}
+use Rattle.std.proofs.Common.{◌≡◌, Bool, true, false, cond, List, [], ◌∷◌, ◌++◌, refl, ap, subst, inl, inr}
+use Rattle.std.specs.Prelude.{Option, Some, None, Result, Ok, Err, fold, option_and_then, option_to_list}
 use Rattle.std.specs.List.{list_any}
 use Rattle.zone_proto.specs.declared.error.ProtoError.{ProtoError}
 use Rattle.zone_proto.specs.declared.nx_proof_kind.NxProofKind.{NxProofKind}
 use Rattle.zone_proto.specs.declared.nx_proof_kind.NxProofKind.TheVariants as kind
-use Rattle.zone_proto.specs.Names.{Name, lower, base_name}
+use Rattle.zone_proto.specs.Names.{Name, lower}
 use Rattle.zone_proto.specs.Sets.{RRset}
 use Rattle.zone_proto.specs.Types.{NSEC, NSEC3}
-use Rattle.zone_proto.proofs.Members.{In, In-from_filter_map, In-from_append}
+use Rattle.zone_proto.proofs.Members.{In}
 use Rattle.zone_map.specs.Upserts.{is_denial_type}
 use Rattle.zone_map.specs.Zones.{Sets, set_at, IsZone}
-use Rattle.zone_denial.specs.Nsec3Denial.{result_and_then, nsec3_denying_owners, nsec3_denial}
 use Rattle.zone_denial.specs.NsecDenial.{closest_nsec}
 use Rattle.zone_inner.specs.Runs.{with_new}
 use Rattle.zone_response.specs.Denials.{same_owner, hashed_owner_of, star_proof, star_proof_by, denial, denial_by, end_proof, together, with_star_proof, proofs}
-use Rattle.zone_response.specs.HashedDenials.{or_else, matching, nearest_matching, encloser_proof, own_or_enclosed, lack_proof}
 use Rattle.zone_response.specs.Queries.{Zone}
 use Rattle.zone_response.specs.Steps.{End, referred, missing}
+use Rattle.response_laws.proofs.HashedSets.{Gives, each_of_both, of_denial, of_lack}
 use Rattle.response_laws.proofs.NsecSets.{closest_sets, closest_owners}
 
 -- each set is one of denial
 abbrev pub AreDenials : List RRset → Type 0
 AreDenials sets = (s : RRset) → In s sets → is_denial_type s.record_type ≡ true
 
--- if there is a value, it is so
-abbrev Gives : {X : Type 0} → (X → Type 0) → Result X ProtoError → Type 0
-Gives P (Ok x) = P x
-Gives P (Err e) = Unit {0}
-
-gives_then : {X Y : Type 0} (P : X → Type 0) (Q : Y → Type 0) (f : X → Result Y ProtoError) (r : Result X ProtoError) → Gives P r → ((x : X) → P x → Gives Q (f x)) → Gives Q (result_and_then f r)
-gives_then P Q f (Ok x) h k = k x h
-gives_then P Q f (Err e) h k = tt
-
 denials_of_both : (sets more : List RRset) → AreDenials sets → AreDenials more → AreDenials (sets ++ more)
-denials_of_both sets more h k s i = by (In-from_append s sets more i)
-  where
-    by : In s sets ⊎ In s more → is_denial_type s.record_type ≡ true
-    by (inl u) = h s u
-    by (inr u) = k s u
-
-module _ (m : Sets) (zone : IsZone m) where
-  nsec3_set : (o : Name) (s : RRset) → set_at m o NSEC3 ≡ Some s → is_denial_type s.record_type ≡ true
-  nsec3_set o s e = ap is_denial_type (zone.stored o NSEC3 s e).record_type
-
-  -- a set that may be there
-  abbrev IsDenial : Option RRset → Type 0
-  IsDenial o = AreDenials (option_to_list o)
-
-  may_be : (h : Name) → IsDenial (set_at m h NSEC3)
-  may_be h = by (set_at m h NSEC3) refl
-    where
-      by : (o : Option RRset) → set_at m h NSEC3 ≡ o → IsDenial o
-      by (Some s) e r (inl q) = subst (λ v. is_denial_type v.record_type ≡ true) q (nsec3_set h s e)
-      by (Some s) e r (inr i) = absurd i
-      by None e r i = absurd i
-
-  module _ (hashed : Name → Result Name ProtoError) where
-    of_denial : (wildcard : Bool) (x : Name) → Gives AreDenials (nsec3_denial m hashed wildcard x)
-    of_denial wildcard x =
-        gives_then (λ owners. Unit {0}) AreDenials (λ owners. Ok (filter_map (λ o. set_at m o NSEC3) owners)) (nsec3_denying_owners m hashed wildcard x) (any (nsec3_denying_owners m hashed wildcard x))
-        (λ owners k s i. let o = In-from_filter_map (λ o. set_at m o NSEC3) s owners i in nsec3_set o.0 s o.2)
-      where
-        any : (r : Result (List Name) ProtoError) → Gives (λ owners. Unit {0}) r
-        any (Ok x) = tt
-        any (Err e) = tt
-
-    of_matching : (x : Name) → Gives IsDenial (matching m hashed x)
-    of_matching x = by (hashed x)
-      where
-        by : (r : Result Name ProtoError) → Gives IsDenial (result_and_then (λ h. Ok (set_at m h NSEC3)) r)
-        by (Ok h) = may_be h
-        by (Err e) = tt
-
-    of_nearest : (x : Name) → Gives IsDenial (nearest_matching m hashed x)
-    of_nearest [] = λ s i. absurd i
-    of_nearest (l ∷ a) = gives_then IsDenial IsDenial (λ s. or_else s (nearest_matching m hashed a)) (matching m hashed (l ∷ a)) (of_matching (l ∷ a)) (by (of_nearest a))
-      where
-        by : Gives IsDenial (nearest_matching m hashed a) → (o : Option RRset) → IsDenial o → Gives IsDenial (or_else o (nearest_matching m hashed a))
-        by rest (Some s) h = h
-        by rest None h = rest
-
-    of_encloser : (x : Name) → Gives AreDenials (encloser_proof m hashed x)
-    of_encloser x =
-        gives_then AreDenials AreDenials (λ cover. result_and_then (λ encloser. Ok (cover ++ option_to_list encloser)) (nearest_matching m hashed (base_name x))) (nsec3_denial m hashed true x) (of_denial true x)
-        (λ cover h. gives_then IsDenial AreDenials (λ encloser. Ok (cover ++ option_to_list encloser)) (nearest_matching m hashed (base_name x)) (of_nearest (base_name x))
-        (λ encloser k. denials_of_both cover (option_to_list encloser) h k))
-
-    of_lack : (x : Name) (star : Option Name) → Gives AreDenials (lack_proof m hashed x star)
-    of_lack x (Some star) = of_denial false x
-    of_lack x None = gives_then IsDenial AreDenials (own_or_enclosed m hashed x) (matching m hashed x) (of_matching x) by
-      where
-        by : (o : Option RRset) → IsDenial o → Gives AreDenials (own_or_enclosed m hashed x o)
-        by (Some s) h = h
-        by None h = of_encloser x
+denials_of_both = each_of_both (λ s. is_denial_type s.record_type ≡ true)
 
 module _ (z : Zone) (zone : IsZone z.sets) where
   abbrev m : Sets
   m = z.sets
+
+  nsec3_set : (o : Name) (s : RRset) → set_at z.sets o NSEC3 ≡ Some s → is_denial_type s.record_type ≡ true
+  nsec3_set o s e = ap is_denial_type (zone.stored o NSEC3 s e).record_type
 
   of_closest : (x : Name) → AreDenials (closest_sets m zone x)
   of_closest x s i = ap is_denial_type (zone.stored (lower s.owner) NSEC s (closest_owners m zone x s i)).record_type
@@ -108,7 +42,7 @@ module _ (z : Zone) (zone : IsZone z.sets) where
       by : (k : Option NxProofKind) → Gives AreDenials (star_proof_by z k x)
       by None = of_closest x
       by (Some kind.Nsec) = of_closest x
-      by (Some (kind.Nsec3 algorithm salt iterations opt_out)) = of_denial m zone (hashed_owner_of z algorithm salt iterations) true x
+      by (Some (kind.Nsec3 algorithm salt iterations opt_out)) = of_denial (λ s. is_denial_type s.record_type ≡ true) m nsec3_set (hashed_owner_of z algorithm salt iterations) true x
 
   denied : (x : Name) (star : Option Name) → Gives AreDenials (denial z x star)
   denied x star = by z.nx_proof_kind
@@ -120,7 +54,7 @@ module _ (z : Zone) (zone : IsZone z.sets) where
       by : (k : Option NxProofKind) → Gives AreDenials (denial_by z k x star)
       by None = denials_of_both (closest_sets m zone x) (option_to_list (option_and_then (closest_nsec m) star)) (of_closest x) (at_star star)
       by (Some kind.Nsec) = denials_of_both (closest_sets m zone x) (option_to_list (option_and_then (closest_nsec m) star)) (of_closest x) (at_star star)
-      by (Some (kind.Nsec3 algorithm salt iterations opt_out)) = of_lack m zone (hashed_owner_of z algorithm salt iterations) x star
+      by (Some (kind.Nsec3 algorithm salt iterations opt_out)) = of_lack (λ s. is_denial_type s.record_type ≡ true) m nsec3_set (hashed_owner_of z algorithm salt iterations) x star
 
   of_end : (ds : Option RRset) (e : End) → Gives AreDenials (end_proof z ds e)
   of_end ds (missing x star there) = denied x star

@@ -3,17 +3,35 @@ pub mod Turned
 pub mod Stepped
 pub mod Leads
 pub mod LastNames
+pub mod OwnerSets
 pub mod NsecSets
+pub mod HashedSets
 pub mod Answers
 pub mod Authorities
 pub mod DenialTypes
 pub mod Parts
+pub mod ReadSets
 pub mod Said
 pub mod BareNames
+pub mod SaidNames
 pub mod ToldNames
 pub mod Signatures
 pub mod Summed
 pub mod Proved
+pub mod HashedNames
+pub mod HashedParts
+pub mod HashedShown
+pub mod HashedTypes
+pub mod HashedTold
+pub mod HashedLacks
+pub mod HashedSummed
+pub mod HashedCalls
+pub mod HashedProved
+pub mod HashedDenied
+pub mod HashedEmpty
+pub mod HashedReferrals
 pub mod Responses
 mod SayingExamples
 mod MetPremises
+mod HashedExamples
+mod HashedMetPremises

@@ -36,7 +36,7 @@ key_stored = record { named = name_by_tests origin refl refl; owner = refl; reco
 nsec_stored : IsStoredAt origin NSEC bare_set
 nsec_stored = record { named = name_by_tests origin refl refl; owner = refl; record_type = refl; filled = λ e. cc; set = IsSet-alone origin NSEC _ refl refl }
 
-bare_zone : IsZone bare
+pub bare_zone : IsZone bare
 bare_zone = IsZone-put (start ∷ []) (key origin DNSKEY) public_key.1 (IsZone-put [] (key origin SOA) start.1 IsZone-none soa_stored) key_stored
 
 linked_zone : IsZone (linked bare)

@@ -25,7 +25,8 @@ use Rattle.zone_response.specs.Sections.{Sections, sent}
 use Rattle.zone_response.specs.Steps.{End, referred, missing}
 use Rattle.response_laws.specs.Sayings.{LastName, by_code}
 use Rattle.response_laws.proofs.DenialTypes.{proofs_are_denials}
-use Rattle.response_laws.proofs.NsecSets.{AreOwnersNsec, all_of, owners_of_all, kept_in_all, more_in_all, closest_sets, closest_owners, is_closest}
+use Rattle.response_laws.proofs.NsecSets.{AreOwnersNsec, closest_sets, closest_owners, is_closest}
+use Rattle.response_laws.proofs.OwnerSets.{all_of, owners_of_all, kept_in_all, more_in_all}
 
 -- the path of a query
 abbrev pub path_of : Zone → Query → Path
@@ -45,6 +46,10 @@ told_names z q e = (path_of z q).made ++ told_at (ds_at z.sets e) e
 abbrev pub as_proof : ℕ → RRset → RRset
 as_proof ttl s = sent part.Signed (min s.ttl ttl) s
 
+-- these sets prove what a search says
+abbrev pub ProofsOf : Zone → Path → List RRset → Type 0
+ProofsOf z p sets = proofs z (ds_at z.sets p.end) p.made p.end ≡ Ok sets
+
 -- the parts of a response
 pub record IsMadeOf (z : Zone) (q : Query) (r : Sections) : Type 0 where
   pub soa : RRset
@@ -52,10 +57,11 @@ pub record IsMadeOf (z : Zone) (q : Query) (r : Sections) : Type 0 where
   pub passes : fails (path_of z q).end ≡ false
   pub code : r.code ≡ code_at (path_of z q).end
   pub answers : r.answers ≡ (path_of z q).answers
-  -- the sets of denial; where NSEC denies they are the zone's, and with DNSSEC the closest ones of these names are among them
+  -- the sets of denial, with DNSSEC those that prove what is said; where NSEC denies they are the zone's, and the closest ones of these names are among them
   pub proofs : List RRset
   pub authorities : r.authorities ≡ end_sets (ds_at z.sets (path_of z q).end) q.signed soa (path_of z q).end ++ map (as_proof (negative_ttl soa)) proofs
   pub denials : (s : RRset) → In s proofs → is_denial_type s.record_type ≡ true
+  pub given : q.signed ≡ true → ProofsOf z (path_of z q) proofs
   pub owners : z.nx_proof_kind ≡ Some kind.Nsec → AreOwnersNsec z.sets proofs
   pub tells : z.nx_proof_kind ≡ Some kind.Nsec → q.signed ≡ true → (x : Name) (s : RRset) → In x (told_names z q (path_of z q).end) → closest_nsec z.sets x ≡ Some s → In s proofs
 
@@ -103,14 +109,14 @@ module _ (z : Zone) (zone : IsZone z.sets) (nsec : z.nx_proof_kind ≡ Some kind
   stars_from (y ∷ made) before sets h k =
       subst (λ (names : List Name). AreProofs m names (fold (with_star_proof z) (Ok sets) (y ∷ made))) (append_assoc before (y ∷ []) made)
       (subst (λ (start : Result (List RRset) ProtoError). AreProofs m ((before ++ y ∷ []) ++ made) (fold (with_star_proof z) start made)) (sym (ap (together (Ok sets)) (star_proof_is y)))
-      (stars_from made (before ++ y ∷ []) (all_of m zone sets (closest_sets m zone y)) (owners_of_all m zone sets (closest_sets m zone y) h (closest_owners m zone y)) told))
+      (stars_from made (before ++ y ∷ []) (all_of sets (closest_sets m zone y)) (owners_of_all NSEC m sets (closest_sets m zone y) h (closest_owners m zone y)) told))
     where
-      told : (x : Name) (s : RRset) → In x (before ++ y ∷ []) → closest_nsec m x ≡ Some s → In s (all_of m zone sets (closest_sets m zone y))
+      told : (x : Name) (s : RRset) → In x (before ++ y ∷ []) → closest_nsec m x ≡ Some s → In s (all_of sets (closest_sets m zone y))
       told x s i e = by (In-from_append x before (y ∷ []) i)
         where
-          by : In x before ⊎ In x (y ∷ []) → In s (all_of m zone sets (closest_sets m zone y))
-          by (inl u) = kept_in_all m zone sets (closest_sets m zone y) s (k x s u e)
-          by (inr (inl q)) = more_in_all m zone sets (closest_sets m zone y) s h (closest_owners m zone y) (is_closest m zone y s (ap (closest_nsec m) q ∙ e))
+          by : In x before ⊎ In x (y ∷ []) → In s (all_of sets (closest_sets m zone y))
+          by (inl u) = kept_in_all NSEC m sets (closest_sets m zone y) s (k x s u e)
+          by (inr (inl q)) = more_in_all NSEC m sets (closest_sets m zone y) s h (closest_owners m zone y) (is_closest m zone y s (ap (closest_nsec m) q ∙ e))
           by (inr (inr u)) = absurd u
 
   -- those of what the end says
@@ -147,16 +153,16 @@ module _ (z : Zone) (zone : IsZone z.sets) (nsec : z.nx_proof_kind ≡ Some kind
       let stars = stars_from made [] [] (λ s i. absurd i) (λ x s i. absurd i) in
       let end = ends_proved ds e in
       record {
-        sets = all_of m zone stars.sets end.sets;
+        sets = all_of stars.sets end.sets;
         all = λ i. together (stars.all i) (end.all i);
-        owners = owners_of_all m zone stars.sets end.sets stars.owners end.owners;
+        owners = owners_of_all NSEC m stars.sets end.sets stars.owners end.owners;
         tells = λ x s i c. by stars end x s c (In-from_append x made (told_at ds e) i);
       }
     where
       by : (stars : AreProofs m made (fold (with_star_proof z) (Ok []) made)) (end : AreProofs m (told_at ds e) (end_proof z ds e)) (x : Name) (s : RRset) → closest_nsec m x ≡ Some s
-          → In x made ⊎ In x (told_at ds e) → In s (all_of m zone stars.sets end.sets)
-      by stars end x s c (inl i) = kept_in_all m zone stars.sets end.sets s (stars.tells x s i c)
-      by stars end x s c (inr i) = more_in_all m zone stars.sets end.sets s stars.owners end.owners (end.tells x s i c)
+          → In x made ⊎ In x (told_at ds e) → In s (all_of stars.sets end.sets)
+      by stars end x s c (inl i) = kept_in_all NSEC m stars.sets end.sets s (stars.tells x s i c)
+      by stars end x s c (inr i) = more_in_all NSEC m stars.sets end.sets s stars.owners end.owners (end.tells x s i c)
 
 abbrev same_result : Result (List RRset) ProtoError → Result (List RRset) ProtoError → Type 0
 same_result a b = a ≡ b
@@ -183,6 +189,7 @@ module _ (z : Zone) (q : Query) (r : Sections) (zone : IsZone z.sets) (soa : RRs
         proofs = sets;
         authorities = is.authorities;
         denials = proofs_are_denials z zone ds p.made p.end sets g;
+        given = λ k. g;
         owners = λ n. let found = proofs_are z zone n ds p.made p.end in subst (AreOwnersNsec z.sets) (same found.sets (sym found.all ∙ g)) found.owners;
         tells = λ n k x s i c. let found = proofs_are z zone n ds p.made p.end in subst (In s) (same found.sets (sym found.all ∙ g)) (found.tells x s i c);
       })
@@ -201,6 +208,7 @@ module _ (z : Zone) (q : Query) (r : Sections) (zone : IsZone z.sets) (soa : RRs
         proofs = [];
         authorities = is.authorities;
         denials = λ s i. absurd i;
+        given = λ k. absurd (true≢false (sym k ∙ f));
         owners = λ n s i. absurd i;
         tells = λ n k. absurd (true≢false (sym k ∙ f));
       })

@@ -1,13 +1,13 @@
 -- What a response says is proved, case by case
-use Rattle.std.proofs.Common.{◌≡◌, ℕ, Bool, true, false, cond, ◌||◌, List, ◌++◌, map, refl, sym, ap, ◌∙◌, subst, true≢false, ◌⊎◌, inl, inr, eqb-true, IsFalse}
-use Rattle.std.specs.Prelude.{Option, Some, None, option_to_list, is_some, ◌==◌}
+use Rattle.std.proofs.Common.{◌≡◌, ℕ, Bool, true, false, cond, ◌||◌, refl, sym, ap, ◌∙◌, subst, true≢false, ◌⊎◌, inl, inr, eqb-true, IsFalse}
+use Rattle.std.specs.Prelude.{Option, Some, None, is_some, ◌==◌}
 use Rattle.std.specs.List.{Contains}
 use Rattle.zone_proto.specs.Names.{Name, lower, star_under, is_wildcard}
 use Rattle.zone_proto.specs.Sets.{RRset}
 use Rattle.zone_proto.specs.Types.{NS, SOA, DS, NSEC}
-use Rattle.zone_proto.proofs.Members.{or_left, or_right, In, In-Contains, Contains-In, In-append_left, In-append_right}
+use Rattle.zone_proto.proofs.Members.{or_left, or_right, In, Contains-In, In-append_left, In-append_right}
 use Rattle.zone_map.specs.Wildcards.{exists, renamed, asked_star_exists}
-use Rattle.zone_map.specs.Zones.{Sets, set_at, owns, owns_at_or_below}
+use Rattle.zone_map.specs.Zones.{Sets, set_at, owns, owns_at_or_below, IsZone}
 use Rattle.zone_denial.specs.NsecDenial.{nsec_encloser}
 use Rattle.zone_inner.specs.Replies.{name_exists, nx_domain}
 use Rattle.zone_validation.specs.Judgement.{nsec_proof}
@@ -20,28 +20,22 @@ use Rattle.zone_acceptance.proofs.Stars.{exists_is}
 use Rattle.zone_response.specs.declared.response.Part.{Part}
 use Rattle.zone_response.specs.declared.response.Part.TheVariants as part
 use Rattle.zone_response.specs.Queries.{Zone, Query, inquiry}
-use Rattle.zone_response.specs.Responses.{negative_ttl, child_ds, ds_at, end_sets}
-use Rattle.zone_response.specs.Sections.{Sections, sent, as_it_is}
+use Rattle.zone_response.specs.Responses.{child_ds, ds_at}
+use Rattle.zone_response.specs.Sections.{Sections, sent}
 use Rattle.zone_response.specs.Sources.{star_of}
 use Rattle.zone_response.specs.Steps.{End, referred, missing}
-use Rattle.response_laws.specs.ProvedSayings.{DeniesByNsec, shown, IsSentSet, IsStarSet, IsAnswerPart, authority_part, HasAuthority, IsShowable, HasSoa, IsProvedError, IsEmptyProof, IsProvedEmpty, IsProvedUnsigned, IsProvedReferral}
+use Rattle.response_laws.specs.ProvedSayings.{DeniesByNsec, shown, IsSentSet, IsStarSet, IsAnswerPart, authority_part, HasAuthority, IsShowable, IsProvedError, IsEmptyProof, IsProvedEmpty, IsProvedUnsigned, IsProvedReferral}
 use Rattle.response_laws.specs.Sayings.{Saying, data_of, name_error, no_data, referral, saying, name_of}
 use Rattle.response_laws.proofs.Answers.{IsMadeSet, path_answers}
 use Rattle.response_laws.proofs.BareNames.{flat, not_any, bare_direct, beside_soa}
 use Rattle.response_laws.proofs.LastNames.{IsBare, IsMissing, bare, bare_star, starless, gone}
-use Rattle.response_laws.proofs.Parts.{path_of, told_at, as_proof, IsMadeOf}
-use Rattle.response_laws.proofs.Said.{Said, says_nothing, says_data, says_referral, says_missing, said, referred_stands}
+use Rattle.response_laws.proofs.Parts.{path_of, told_at, IsMadeOf}
+use Rattle.response_laws.proofs.Said.{Said, says_nothing, says_data, says_referral, says_missing, said}
+use Rattle.response_laws.proofs.SaidNames.{same_saying, soa_shown, missing_said, IsReferralTo, referral_of}
 use Rattle.response_laws.proofs.Stepped.{IsUnturned}
 use Rattle.response_laws.proofs.Summed.{sum_of_error, sum_of_delegation, sum_of_empty}
 use Rattle.response_laws.proofs.Told.{IsTold, over, error_proved, answer_proved, bare as told_bare, bare_by, star_bare_by, delegation_proved}
-use Rattle.response_laws.proofs.ToldNames.{judged_unturned, IsCut, judged_cut, unowned, star_is, authorities_are, tells, authority_is, shown_of_zone}
-
--- what is said is said once
-same_saying : (v w : Saying) (o : Option Saying) → o ≡ Some v → o ≡ Some w → v ≡ w
-same_saying v w o e f = by v w (sym e ∙ f)
-  where
-    by : (v w : Saying) → Some v ≡ Some w → v ≡ w
-    by v w e = cc
+use Rattle.response_laws.proofs.ToldNames.{judged_unturned, judged_cut, unowned, star_is, tells, authority_is, shown_of_zone}
 
 same_name : (a b : Name) → Some a ≡ Some b → a ≡ b
 same_name a b e = cc
@@ -56,20 +50,19 @@ module _ (z : Zone) (q : Query) (r : Sections) (d : DeniesByNsec z) (signed : q.
   abbrev t : ℕ
   t = q.record_type
 
+  abbrev zone : IsZone z.sets
+  zone = d.circle.zone
+
   abbrev ends : End
   ends = (path_of z q).end
-
-  -- the authority section, for an end
-  abbrev all : End → List RRset
-  all e = end_sets (ds_at m e) true h.soa e ++ map (as_proof (negative_ttl h.soa)) h.proofs
 
   -- ---- the sets
 
   pub authorities_proved : (s : RRset) → Contains r.authorities s → IsSentSet z.sets (authority_part s) s
-  authorities_proved s c = authority_is z q r d signed h (referred_stands z d.circle.zone q r h) s (Contains-In s r.authorities c)
+  authorities_proved s c = authority_is z q r d signed h s (Contains-In s r.authorities c)
 
   pub records_proved : AreOfZone z.sets (shown r)
-  records_proved = shown_of_zone z q r d signed h (referred_stands z d.circle.zone q r h)
+  records_proved = shown_of_zone z q r d signed h
 
   pub sound_proved : (x : Name) → IsJudged z.origin z.sets x → IsSound z.origin z.sets x (shown r)
   sound_proved x j = records_sound o m (shown r) x j records_proved
@@ -114,7 +107,7 @@ module _ (z : Zone) (q : Query) (r : Sections) (d : DeniesByNsec z) (signed : q.
       by : Said z q r → IsJudged o m (name_of w)
       by (says_nothing f) = let p : None ≡ Some w = sym f ∙ e in absurd cc
       by (says_data y f u) = of (data_of y) f (judged_unturned z q d y u)
-      by (says_referral y c f g u) = of (referral (lower c.owner)) f (judged_cut z q d y c u).judged
+      by (says_referral y c f g u) = of (referral (lower c.owner)) f (judged_cut z q d y c u).1
       by (says_missing y star there f g u k) = of (cond there (no_data y) (name_error y)) f (either there y (judged_unturned z q d y u))
 
   -- ---- a name without data
@@ -122,16 +115,6 @@ module _ (z : Zone) (q : Query) (r : Sections) (d : DeniesByNsec z) (signed : q.
   module _ (x : Name) (star : Option Name) (there : Bool) (end : (path_of z q).end ≡ missing x star there) (u : IsUnturned (inquiry z q) x) where
     abbrev j : IsJudged o m x
     j = judged_unturned z q d x u
-
-    -- the SOA stands in the authority section
-    pub soa_shown : HasSoa z r
-    soa_shown = record {
-      stored = h.soa;
-      stands = h.stands;
-      among =
-          In-Contains (sent part.Signed (negative_ttl h.soa) h.soa) r.authorities
-          (subst (In (sent part.Signed (negative_ttl h.soa) h.soa)) (sym (authorities_are z q r d signed h ∙ ap all end)) (inl refl));
-    }
 
     -- it is told of, and so is the star that is asked for it
     told_itself : IsTold o m j.zone (shown r) x
@@ -223,7 +206,7 @@ module _ (z : Zone) (q : Query) (r : Sections) (d : DeniesByNsec z) (signed : q.
 
     pub empty_shown : there ≡ true → IsMissing (inquiry z q) x star there → IsProvedEmpty z r x t
     empty_shown so k = record {
-      soa = soa_shown;
+      soa = soa_shown z q r zone signed h x star there end;
       proved = λ s. empty_from (bare_shown so s k);
       told = λ s plain. told_from plain (bare_shown so s k);
       none = λ s plain. none_from plain (bare_shown so s k);
@@ -231,62 +214,19 @@ module _ (z : Zone) (q : Query) (r : Sections) (d : DeniesByNsec z) (signed : q.
 
   -- ---- what is said
 
-  -- the name of a negative response is that where the search ends
-  pub record IsMissingName (x : Name) (there : Bool) : Type 0 where
-    pub star : Option Name
-    pub end : (path_of z q).end ≡ missing x star there
-    pub unturned : IsUnturned (inquiry z q) x
-    pub how : IsMissing (inquiry z q) x star there
-
-  missing_said : (there : Bool) (x : Name) → saying q r ≡ Some (cond there (no_data x) (name_error x)) → IsMissingName x there
-  missing_said there x e = by (said z d.circle.zone q r h)
-    where
-      negative : Saying
-      negative = cond there (no_data x) (name_error x)
-
-      same : (v : Saying) → saying q r ≡ Some v → v ≡ negative
-      same v f = same_saying v negative (saying q r) f e
-
-      no_answer : (there : Bool) (y : Name) → data_of y ≡ cond there (no_data x) (name_error x) → ⊥
-      no_answer true y f = cc
-      no_answer false y f = cc
-
-      no_referral : (there : Bool) (y : Name) → referral y ≡ cond there (no_data x) (name_error x) → ⊥
-      no_referral true y f = cc
-      no_referral false y f = cc
-
-      both : (a b : Bool) (y : Name) → cond a (no_data y) (name_error y) ≡ cond b (no_data x) (name_error x) → (a ≡ b) × (y ≡ x)
-      both true true y f = (refl, cc)
-      both false false y f = (refl, cc)
-      both true false y f = absurd cc
-      both false true y f = absurd cc
-
-      by : Said z q r → IsMissingName x there
-      by (says_nothing f) = let p : None ≡ Some negative = sym f ∙ e in absurd cc
-      by (says_data y f u) = absurd (no_answer there y (same (data_of y) f))
-      by (says_referral y c f g u) = absurd (no_referral there (lower c.owner) (same (referral (lower c.owner)) f))
-      by (says_missing y star a f g u k) =
-          let s = both a there y (same (cond a (no_data y) (name_error y)) f) in
-          record {
-            star = star;
-            end = g ∙ (λ i. missing (s.1 i) star (s.0 i));
-            unturned = subst (IsUnturned (inquiry z q)) s.1 u;
-            how = subst (λ n. IsMissing (inquiry z q) n star there) s.1 (subst (IsMissing (inquiry z q) y star) s.0 k);
-          }
-
   pub error_said : (x : Name) → saying q r ≡ Some (name_error x) → IsProvedError z r x
   error_said x e =
-      let k = missing_said false x e in
+      let k = missing_said z q r zone signed h false x e in
       let p = error_shown x k.star false k.end k.unturned refl k.how in
       record {
-        soa = soa_shown x k.star false k.end k.unturned;
+        soa = soa_shown z q r zone signed h x k.star false k.end;
         proved = p;
         told = λ u. sum_of_error o (shown r) x u p;
         none = (sound_proved x (judged_unturned z q d x k.unturned)).error p;
       }
 
   pub empty_said : (x : Name) → saying q r ≡ Some (no_data x) → IsProvedEmpty z r x q.record_type
-  empty_said x e = let k = missing_said true x e in empty_shown x k.star true k.end k.unturned refl k.how
+  empty_said x e = let k = missing_said z q r zone signed h true x e in empty_shown x k.star true k.end k.unturned refl k.how
 
   -- a zone cut is no name error
   unsigned_child : (c : Name) → IsJudged o m c → owns m c NS ≡ true → proves_unsigned_delegation z.origin (shown r) c ≡ true → IsProvedUnsigned z r c
@@ -303,52 +243,25 @@ module _ (z : Zone) (q : Query) (r : Sections) (d : DeniesByNsec z) (signed : q.
           absurd cc
 
   pub referral_said : (c : Name) → saying q r ≡ Some (referral c) → IsProvedReferral z r c
-  referral_said c e = by (said z d.circle.zone q r h)
+  referral_said c e = subst (IsProvedReferral z r) k.child (record { servers = k.servers cut.0; keys = λ no_apex. keys no_apex k.keys })
     where
-      same : (v : Saying) → saying q r ≡ Some v → v ≡ referral c
-      same v f = same_saying v (referral c) (saying q r) f e
+      k : IsReferralTo z q r zone signed h c
+      k = referral_of z q r zone signed h c e
 
-      of_cut : (y : Name) (s : RRset) → ends ≡ referred s → IsCut z s → IsProvedReferral z r (lower s.owner)
-      of_cut y s g cut = record {
-        servers = record { stored = s; stands = cut.stands; among = In-Contains (as_it_is part.Records s) r.authorities (among (as_it_is part.Records s) (inl refl)) };
-        keys = λ no_apex. keys no_apex (child_ds m s) refl;
-      }
-        where
-          among : (v : RRset) → In v (all (referred s)) → In v r.authorities
-          among v i = subst (In v) (sym (authorities_are z q r d signed h ∙ ap all g)) i
+      own : Name
+      own = lower k.set.owner
 
-          keys : owns m (lower s.owner) SOA ≡ false → (ds : Option RRset) → child_ds m s ≡ ds → HasAuthority z r part.Signed (lower s.owner) DS ⊎ IsProvedUnsigned z r (lower s.owner)
-          keys no_apex (Some v) f =
-              inl
-              (record {
-                stored = v;
-                stands = f;
-                among =
-                    In-Contains (as_it_is part.Signed v) r.authorities
-                    (among (as_it_is part.Signed v)
-                    (inr
-                    (In-append_left (as_it_is part.Signed v) (map (as_it_is part.Signed) (option_to_list (child_ds m s))) (map (as_proof (negative_ttl h.soa)) h.proofs)
-                    (subst (λ d. In (as_it_is part.Signed v) (map (as_it_is part.Signed) (option_to_list d))) (sym f) (inl refl)))));
-              })
-          keys no_apex None f = inr (unsigned_child (lower s.owner) cut.judged (ap is_some cut.stands) proved)
-            where
-              proved : proves_unsigned_delegation o (shown r) (lower s.owner) ≡ true
-              proved =
-                  delegation_proved o m (lower s.owner) cut.judged (shown r)
-                  (tells z q r d signed h (lower s.owner) cut.judged
-                  (In-append_right (lower s.owner) (path_of z q).made (told_at (ds_at m ends) ends)
-                  (subst (λ e. In (lower s.owner) (told_at (ds_at m e) e)) (sym g) (subst (λ d. In (lower s.owner) (told_at d (referred s))) (sym f) (inl refl)))))
-                  (ap is_some cut.stands) (ap is_some f) no_apex
+      cut : (set_at m (lower k.set.owner) NS ≡ Some k.set) × IsJudged o m (lower k.set.owner)
+      cut = judged_cut z q d k.last k.set k.refers
 
-      by : Said z q r → IsProvedReferral z r c
-      by (says_nothing f) = let p : None ≡ Some (referral c) = sym f ∙ e in absurd cc
-      by (says_data y f u) = let p : data_of y ≡ referral c = same (data_of y) f in absurd cc
-      by (says_referral y s f g u) = subst (IsProvedReferral z r) (child (lower s.owner) (same (referral (lower s.owner)) f)) (of_cut y s g (judged_cut z q d y s u))
-        where
-          child : (n : Name) → referral n ≡ referral c → n ≡ c
-          child n e = cc
-      by (says_missing y star there f g u k) = absurd (neither there (same (cond there (no_data y) (name_error y)) f))
-        where
-          neither : (there : Bool) → cond there (no_data y) (name_error y) ≡ referral c → ⊥
-          neither true e = cc
-          neither false e = cc
+      proved : child_ds m k.set ≡ None → owns m own SOA ≡ false → proves_unsigned_delegation o (shown r) own ≡ true
+      proved f no_apex =
+          delegation_proved o m own cut.1 (shown r)
+          (tells z q r d signed h own cut.1
+          (In-append_right own (path_of z q).made (told_at (ds_at m ends) ends)
+          (subst (λ e. In own (told_at (ds_at m e) e)) (sym k.end) (subst (λ d. In own (told_at d (referred k.set))) (sym f) (inl refl)))))
+          (ap is_some cut.0) (ap is_some f) no_apex
+
+      keys : owns m own SOA ≡ false → HasAuthority z r part.Signed own DS ⊎ (child_ds m k.set ≡ None) → HasAuthority z r part.Signed own DS ⊎ IsProvedUnsigned z r own
+      keys no_apex (inl ds) = inl ds
+      keys no_apex (inr f) = inr (unsigned_child own cut.1 (ap is_some cut.0) (proved f no_apex))

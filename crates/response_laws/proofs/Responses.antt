@@ -1,14 +1,25 @@
 -- Each response says how its search ends, and proves what it says
-use Rattle.std.proofs.Common.{◌≡◌, [], sym, ap, ◌∙◌, subst, inl, inr}
+use Rattle.std.proofs.Common.{◌≡◌, ℕ, true, false, [], sym, ap, ◌∙◌, subst, true≢false, inl, inr}
 use Rattle.std.specs.Prelude.{None}
+use Rattle.zone_proto.specs.declared.rdata.denial.NSEC3PARAM.{NSEC3PARAM as Nsec3Parameters}
 use Rattle.zone_proto.specs.declared.response_code.ResponseCode.{ResponseCode}
-use Rattle.zone_proto.proofs.Members.{Contains-In}
+use Rattle.zone_proto.specs.Names.{Name, is_at_or_above}
+use Rattle.zone_proto.proofs.Members.{Contains-In, and_right}
+use Rattle.zone_validation.specs.Nsec3Proofs.{proves_no_data}
+use Rattle.zone_acceptance.proofs.Nsec3Calls.{nsec3_parameters_found}
+use Rattle.zone_acceptance.proofs.Nsec3LeftOut.{nsec3_opt_out_sound}
+use Rattle.zone_acceptance.proofs.Nsec3Soundness.{nsec3_records_sound}
 use Rattle.zone_acceptance.proofs.Soundness.{records_sound}
 use Rattle.zone_response.specs.Queries.{Zone, Query}
 use Rattle.zone_response.specs.Responses.{bare}
 use Rattle.zone_response.specs.Sections.{Sections}
+use Rattle.response_laws.specs.HashedSayings.{zone_hash, DeniesByNsec3, ProvesByHashes, ResponseProvesByHashes}
 use Rattle.response_laws.specs.ProvedSayings.{DeniesByNsec, ProvesWhatItSays, ResponseProvesWhatItSays}
 use Rattle.response_laws.specs.Sayings.{last_name, saying, SaysHowItEnds, ResponseSaysHowItEnds}
+use Rattle.response_laws.proofs.HashedDenied as denied
+use Rattle.response_laws.proofs.HashedEmpty as empty
+use Rattle.response_laws.proofs.HashedProved as hashed
+use Rattle.response_laws.proofs.HashedReferrals as referred
 use Rattle.response_laws.proofs.Parts.{HowAnswered, by_code_alone, by_parts, how_answered}
 use Rattle.response_laws.proofs.Proved.{authorities_proved, answers_proved, records_proved, sound_proved, judged_proved, error_said, empty_said, referral_said}
 use Rattle.response_laws.proofs.Said.{says_end}
@@ -51,4 +62,46 @@ response_proves_what_it_says z q r d signed is = by (how_answered z q r d.circle
       error = error_said z q r d signed h;
       empty = empty_said z q r d signed h;
       delegation = referral_said z q r d signed h;
+    }
+
+-- ---- where NSEC3 denies
+
+hashed_code_alone : (z : Zone) (parameters : Nsec3Parameters) (q : Query) → DeniesByNsec3 z parameters → (c : ResponseCode) → saying q (bare c) ≡ None → ProvesByHashes z parameters q (bare c)
+hashed_code_alone z parameters q d c silent = record {
+  authorities = λ s i. absurd (Contains-In s [] i);
+  answers = λ s i. absurd (Contains-In s [] i);
+  signatures = λ t other all s i. absurd (Contains-In s [] i);
+  records = λ r i. absurd (Contains-In r [] i);
+  sound = λ x j. nsec3_records_sound z.origin z.sets (zone_hash z parameters) parameters [] x j (λ r i. absurd (Contains-In r [] i));
+  parameters_found = λ x t apart. nsec3_parameters_found z.origin z.sets z.digest_of parameters [] x t d.circle apart (λ v c. absurd (Contains-In v [] c));
+  data_sound = λ x t apart p. absurd (no_data x t p);
+  opt_out_sound = λ x apart. nsec3_opt_out_sound z.origin z.sets (zone_hash z parameters) parameters [] x d.circle apart (λ r i. absurd (Contains-In r [] i));
+  reached = λ w e. let p = sym silent ∙ e in absurd cc;
+  error = λ x e. let p = sym silent ∙ e in absurd cc;
+  empty = λ x e. let p = sym silent ∙ e in absurd cc;
+  delegation = λ x e. let p = sym silent ∙ e in absurd cc;
+}
+  where
+    -- no record denies nothing
+    no_data : (x : Name) (t : ℕ) → proves_no_data z.origin (zone_hash z parameters) [] x t ≡ true → ⊥
+    no_data x t p = true≢false (sym (and_right (is_at_or_above z.origin x) false p))
+
+pub response_proves_by_hashes : ResponseProvesByHashes
+response_proves_by_hashes z parameters q r d signed is = by (how_answered z q r d.circle.zone is)
+  where
+    by : HowAnswered z q r → ProvesByHashes z parameters q r
+    by (by_code_alone c e silent) = subst (ProvesByHashes z parameters q) (sym e) (hashed_code_alone z parameters q d c (silent (last_name q.record_type q.name []) []))
+    by (by_parts h) = record {
+      authorities = hashed.authorities_proved z parameters q r d signed h;
+      answers = hashed.answers_proved z parameters q r d signed h;
+      signatures = λ t other all s i. signed_in_authority z d.circle.zone t other all s (hashed.authorities_proved z parameters q r d signed h s i);
+      records = hashed.records_proved z parameters q r d signed h;
+      sound = hashed.sound_proved z parameters q r d signed h;
+      parameters_found = hashed.parameters_found_proved z parameters q r d signed h;
+      data_sound = hashed.data_sound_proved z parameters q r d signed h;
+      opt_out_sound = hashed.opt_out_sound_proved z parameters q r d signed h;
+      reached = hashed.reached_proved z parameters q r d signed h;
+      error = denied.error_said z parameters q r d signed h;
+      empty = empty.empty_said z parameters q r d signed h;
+      delegation = referred.referral_said z parameters q r d signed h;
     }

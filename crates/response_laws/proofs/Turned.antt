@@ -1,4 +1,4 @@
--- A name that nothing turns on the way down to it is one that a validator judges
+-- A name that nothing turns on the way down to it is one above which neither a cut nor a DNAME stands
 use Rattle.std.proofs.Common.{◌≡◌, ℕ, Bool, true, false, cond, ◌&&◌, ◌||◌, [], ◌∷◌, ◌++◌, drop, refl, sym, ap, ◌∙◌, true≢false, ◌⊎◌, inl, inr}
 use Rattle.std.specs.Prelude.{Option, Some, None, option_map, is_some, ◌==◌}
 use Rattle.std.specs.Option.{option_or}
@@ -15,11 +15,10 @@ use Rattle.zone_denial.specs.Authority.{is_below_cut}
 use Rattle.zone_denial.proofs.Chain.NsecBelow.{above_at, comparable}
 use Rattle.zone_denial.proofs.Names.LongestAncestors.{above_above}
 use Rattle.zone_validation.specs.NsecProofs.{DNAME}
-use Rattle.zone_acceptance.specs.Judged.{IsJudged}
 use Rattle.zone_acceptance.proofs.OwnTypes.{neither}
 use Rattle.zone_response.specs.Queries.{Zone}
 use Rattle.zone_response.specs.Turns.{Turn, cut, renaming, cut_at, dname_at, turn_at, turn_down_to, turn}
-use Rattle.response_laws.specs.ProvedSayings.{DeniesByNsec}
+use Rattle.response_laws.specs.HashedSayings.{IsReached}
 
 -- ---- the way down to a name
 
@@ -106,7 +105,7 @@ module _ (origin : Name) (m : Sets) (x : Name) (t : ℕ) where
       by true i q = (i, asked (name_eq a origin || (name_eq a x && (t == DS))) (of_cut (cut_at origin m x t a) (dname_at m x a) q))
       by false i q = absurd cc
 
--- ---- judged names
+-- ---- names that are reached
 
 lower_above : (b y x : Name) → IsAbove b y → IsAtOrAbove y x → IsAbove b x
 lower_above b y x u v = by (above_cases y x v)
@@ -122,7 +121,7 @@ not_above b x u = by (name_eq b x) refl
     by false e = refl
     by true e = absurd (irrefl name_order x (ap (λ n. name_cmp n x) (sym ((name_eq-Decides b x).0 e)) ∙ above_is_less b x u))
 
-module _ (z : Zone) (d : DeniesByNsec z) (x : Name) (t : ℕ) (y : Name) (up : IsAtOrAbove y x) (inside : is_at_or_above z.origin y ≡ true) (none : (b : Name) → IsAbove b y → turn_at z.origin z.sets x t b ≡ None) where
+module _ (z : Zone) (no_dname_above : (a : Name) → IsAbove a z.origin → owns z.sets a DNAME ≡ false) (x : Name) (t : ℕ) (y : Name) (up : IsAtOrAbove y x) (inside : is_at_or_above z.origin y ≡ true) (none : (b : Name) → IsAbove b y → turn_at z.origin z.sets x t b ≡ None) where
   no_servers : (b : Name) → IsAbove b y → is_at_or_above z.origin b ≡ true → name_eq b z.origin ≡ false → owns z.sets b NS ≡ false
   no_servers b u i other =
       ap is_some
@@ -133,11 +132,8 @@ module _ (z : Zone) (d : DeniesByNsec z) (x : Name) (t : ℕ) (y : Name) (up : I
   no_renaming_at b u i =
       ap is_some (sym (ap (λ c. cond c None (set_at z.sets b DNAME)) (not_above b x (lower_above b y x u up))) ∙ (silent_at z.origin z.sets x t b i (none b u)).1)
 
-  pub judged : IsJudged z.origin z.sets y
-  judged = record {
-    zone = d.circle;
-    one_kind = d.one_kind;
-    unreferred = d.unreferred;
+  pub reached : IsReached z.origin z.sets y
+  reached = record {
     inside = inside;
     uncut = uncut (is_below_cut z.origin z.sets y) refl;
     no_dname = λ a u. no_dname a u (comparable_with a u);
@@ -173,4 +169,4 @@ module _ (z : Zone) (d : DeniesByNsec z) (x : Name) (t : ℕ) (y : Name) (up : I
         where
           by : (a ≡ z.origin) ⊎ IsAbove a z.origin → owns z.sets a DNAME ≡ false
           by (inl e) = no_renaming_at a u (is_at_or_above_complete z.origin a ([], e))
-          by (inr w) = d.no_dname a w
+          by (inr w) = no_dname_above a w

@@ -2,7 +2,8 @@
 //! program has no need to call one.
 //!
 //! What a response says is read in the response alone: the data of a name, a name error, no data, or a referral (`saying`); and so are
-//! the NSEC records by which it proves that. Signatures are taken as verified.
+//! the NSEC or NSEC3 records by which it proves that. Signatures are taken as verified.
+ghost use Rattle.response_laws.specs.HashedSayings.{ResponseProvesByHashes};
 ghost use Rattle.response_laws.specs.ProvedSayings.{ResponseProvesWhatItSays};
 ghost use Rattle.response_laws.specs.Sayings.{ResponseSaysHowItEnds};
 
@@ -25,4 +26,22 @@ pub fn responses_say_how_they_end()
 /// NSEC set there is the child's.
 pub fn responses_prove_what_they_say()
     ensures { ResponseProvesWhatItSays }
+{}
+
+/// Each response to a query with DNSSEC proves what it says, from a zone that denies by NSEC3, with opt-out or without: its NSEC3 sets
+/// are a circle, as they are once it is secured, its origin isn't the root, it has no NSEC sets, and nothing at its origin or above it
+/// refers elsewhere (`DeniesByNsec3`). All NSEC3 records in its authority section together prove a name error of the name of which it
+/// says so (RFC 5155 section 7.2.2), no data of a type (sections 7.2.3 to 7.2.5), a delegation without DS where a referral has no DS
+/// set (section 7.2.7), and that a star may answer where one did (section 7.2.6); and they prove nothing of any name but what is so
+/// (`ProvesByHashes`). Each is so of names for which the hash tells the names apart that a denial of them hashes (`HashesApart`).
+///
+/// With opt-out what is proved of a name that has no NSEC3 set says less, and is insecure (section 9.2): what is there is an unsigned
+/// delegation that is left out, or stands below a zone cut (`IsLeftOut`). One name error has no proof then: that of a name below an
+/// empty name that is left out, where a star stands above it (`HasErrorProof`); nor has the answer of a star that owns nothing but NS
+/// and is left out.
+///
+/// No data are proved of the types that `IsHashedShowable` has, as by NSEC: not of RRSIG, of DS of an apex, or where the star that is
+/// asked for the name owns NS.
+pub fn hashed_responses_prove_what_they_say()
+    ensures { ResponseProvesByHashes }
 {}

@@ -1,3 +1,4 @@
 pub mod OneZone
-pub mod ReadAnswers
 pub mod ShownRecords
+pub mod ToldRecords
+pub mod ReadAnswers

@@ -1,25 +1,31 @@
 -- What a message that wasn't cut has of the sections that it was written of
 use Rattle.std.proofs.Common.{◌≡◌, ℕ, ◌%◌, ◌&&◌, Bool, true, false, not, List, [], ◌∷◌, ◌++◌, map, refl, sym, ap, subst, ◌∙◌, true≢false, inl, inr}
-use Rattle.std.specs.Prelude.{◌⊎◌, Option, Some, None}
+use Rattle.std.specs.Prelude.{◌⊎◌, Option, Some, None, Ok}
 use Rattle.std.specs.List.{flat_map}
 use Rattle.zone_proto.specs.declared.record.Record.{Record}
 use Rattle.zone_proto.specs.declared.response_code.ResponseCode.TheVariants as code
 use Rattle.zone_proto.specs.Sets.{RRset}
 use Rattle.zone_message.specs.declared.query.Query.{Query as ReadQuery}
 use Rattle.zone_message.specs.Messages.{Parts, message_of}
-use Rattle.zone_validation.specs.NsecRecords.{nsec_records}
+use Rattle.zone_message.specs.Queries.{query_of}
+use Rattle.zone_validation.specs.NsecRecords.{read_nsec, nsec_records}
+use Rattle.zone_validation.specs.Nsec3Records.{read_nsec3, nsec3_records}
 use Rattle.zone_response.specs.Queries.{Zone}
 use Rattle.zone_response.specs.Responses.{bare, IsResponse}
 use Rattle.zone_response.specs.Sections.{Sections}
 use Rattle.zone_wire.specs.declared.response.Group.{Group}
 use Rattle.zone_wire.specs.Responses.{records_of, all_records, if_whole, IsSection}
-use Rattle.zone_server.specs.Answers.{asked_of, code_number, records_sent, AreSets, IsAnswerTo, IsResponseTo, IsSent, GoesOut, Says}
+use Rattle.zone_server.specs.declared.transport.Transport.{Transport}
+use Rattle.zone_server.specs.Answers.{asked_of, records_sent, AreSets, IsAnswer, IsAnswerTo, IsResponseTo, IsSent, GoesOut, Says}
 use Rattle.zone_server.specs.Limits.{limit_for}
+use Rattle.zone_server.specs.ServedZones.{IsAnswering}
+use Rattle.response_laws.specs.HashedSayings.{told_by, ProvesByHashes}
 use Rattle.response_laws.specs.ProvedSayings.{ProvesWhatItSays}
-use Rattle.response_laws.proofs.Responses.{response_proves_what_it_says}
-use Rattle.server_laws.specs.ProvedAnswers.{ProvesInMessage, IsFailure, AnswerProvesWhatItSays}
+use Rattle.response_laws.proofs.Responses.{response_proves_what_it_says, response_proves_by_hashes}
+use Rattle.server_laws.specs.ProvedAnswers.{HasSections, ProvesInMessage, ProvesByHashesInMessage, IsFailure, AnswerProvesWhatItSays, AnswerProvesByHashes}
 use Rattle.server_laws.proofs.OneZone.{one_answers}
-use Rattle.server_laws.proofs.ShownRecords.{shown_in_sets}
+use Rattle.server_laws.proofs.ShownRecords.{nsec_unsigned, nsec3_unsigned, shown_in_sets}
+use Rattle.server_laws.proofs.ToldRecords.{told_sent}
 
 -- groups that are sets have their records
 joined : {A B : Type 0} (f : A → List Record) (g : B → List Record) (xs : List A) (ys : List B) → map f xs ≡ map g ys → flat_map f xs ≡ flat_map g ys
@@ -43,13 +49,6 @@ all_true : (a b c : Bool) → false ≡ not (a && (b && c)) → (a ≡ true) × 
 all_true true true c e = (refl, refl)
 all_true true false c e = absurd (true≢false (sym e))
 all_true false b c e = absurd (true≢false (sym e))
-
--- what a message has that was written of sections and wasn't cut
-pub record HasSections (s : Sections) (m : Parts) : Type 0 where
-  pub code : m.header.response_code ≡ code_number s.code % 16
-  pub authoritative : m.header.authoritative ≡ s.authoritative
-  pub answers : m.answers ≡ flat_map records_sent s.answers
-  pub authorities : m.authorities ≡ flat_map records_sent s.authorities
 
 some_same : {A : Type 0} (x y : A) → Some x ≡ Some y → x ≡ y
 some_same x y e = cc
@@ -76,20 +75,11 @@ has_sections limit q s octets m sent reads uncut =
 
 -- ---- what goes out proves what is said, or is a failure
 
-proved : (limit : ℕ) (q : ReadQuery) (z : Zone) (s : Sections) (octets : List ℕ) (m : Parts) → IsResponse z (asked_of q) s → ProvesWhatItSays z (asked_of q) s
-    → GoesOut limit q s octets → message_of octets ≡ Some m → m.header.truncated ≡ false → ProvesInMessage z q m ⊎ IsFailure z q m
-proved limit q z s octets m says p (inl sent) reads uncut =
-    let has = has_sections limit q s octets m sent reads uncut in
-    inl (record {
-      said = s;
-      proved = p;
-      code = has.code;
-      authoritative = has.authoritative;
-      answers = has.answers;
-      authorities = has.authorities;
-      shown = ap nsec_records has.authorities ∙ shown_in_sets z.sets s p.authorities;
-    })
-proved limit q z s octets m says p (inr (unsendable, sent)) reads uncut =
+-- it has the sections of what is said, or is a failure
+went_out : (limit : ℕ) (q : ReadQuery) (z : Zone) (s : Sections) (octets : List ℕ) (m : Parts) → IsResponse z (asked_of q) s → GoesOut limit q s octets → message_of octets ≡ Some m → m.header.truncated ≡ false
+    → HasSections s m ⊎ IsFailure z q m
+went_out limit q z s octets m says (inl sent) reads uncut = inl (has_sections limit q s octets m sent reads uncut)
+went_out limit q z s octets m says (inr (unsendable, sent)) reads uncut =
     let has = has_sections limit q (bare code.ServFail) octets m sent reads uncut in
     inr (record { said = s; says = says; unsendable = unsendable; code = has.code; answers = has.answers; authorities = has.authorities })
 
@@ -97,8 +87,50 @@ said : (z : Zone) (o : Option Zone) (q : ReadQuery) (s : Sections) → Some z �
 said z (Some y) q s e h = subst (λ (x : Zone). IsResponse x (asked_of q) s) (sym (some_same z y e)) h
 said z None q s e h = absurd cc
 
-pub answer_proves : AnswerProvesWhatItSays
-answer_proves zs t message octets q z m asked is answering denies signed reads uncut =
+-- what a zone says to a query that it answers, and that it went out
+record IsSaid (z : Zone) (q : ReadQuery) (m : Parts) : Type 0 where
+  pub sections : Sections
+  pub says : IsResponse z (asked_of q) sections
+  pub went_out : HasSections sections m ⊎ IsFailure z q m
+
+said_by : (zs : List Zone) (t : Transport) (message octets : List ℕ) (q : ReadQuery) (z : Zone) (m : Parts) → query_of message ≡ Ok q → IsAnswer zs t message octets
+    → IsAnswering zs (asked_of q).name (asked_of q).record_type (Some z) → message_of octets ≡ Some m → m.header.truncated ≡ false → IsSaid z q m
+said_by zs t message octets q z m asked is answering reads uncut =
     let r : IsResponseTo zs (limit_for t q.extension) q octets = subst (λ x. IsAnswerTo zs t x octets) asked is in
     let answered : IsResponse z (asked_of q) r.said = said z r.zone q r.said (one_answers zs _ _ (Some z) r.zone answering r.answering) r.says in
-    proved (limit_for t q.extension) q z r.said octets m answered (response_proves_what_it_says z (asked_of q) r.said denies signed answered) r.goes_out reads uncut
+    record { sections = r.said; says = answered; went_out = went_out (limit_for t q.extension) q z r.said octets m answered r.goes_out reads uncut }
+
+pub answer_proves : AnswerProvesWhatItSays
+answer_proves zs t message octets q z m asked is answering denies signed reads uncut = by said'.went_out
+  where
+    said' : IsSaid z q m
+    said' = said_by zs t message octets q z m asked is answering reads uncut
+
+    p : ProvesWhatItSays z (asked_of q) said'.sections
+    p = response_proves_what_it_says z (asked_of q) said'.sections denies signed said'.says
+
+    by : HasSections said'.sections m ⊎ IsFailure z q m → ProvesInMessage z q m ⊎ IsFailure z q m
+    by (inl has) = inl (record { said = said'.sections; proved = p; sections = has; shown = ap nsec_records has.authorities ∙ shown_in_sets read_nsec nsec_unsigned z.sets said'.sections p.authorities })
+    by (inr failure) = inr failure
+
+pub answer_proves_by_hashes : AnswerProvesByHashes
+answer_proves_by_hashes zs t message octets q z parameters m asked is answering denies signed reads uncut = by said'.went_out
+  where
+    said' : IsSaid z q m
+    said' = said_by zs t message octets q z m asked is answering reads uncut
+
+    p : ProvesByHashes z parameters (asked_of q) said'.sections
+    p = response_proves_by_hashes z parameters (asked_of q) said'.sections denies signed said'.says
+
+    by : HasSections said'.sections m ⊎ IsFailure z q m → ProvesByHashesInMessage z parameters q m ⊎ IsFailure z q m
+    by (inl has) =
+        inl
+        (record {
+          said = said'.sections;
+          proved = p;
+          sections = has;
+          shown = ap nsec3_records has.authorities ∙ shown_in_sets read_nsec3 nsec3_unsigned z.sets said'.sections p.authorities;
+          parameters_found = λ x u apart.
+              ap (λ rs. told_by z rs x u) has.authorities ∙ told_sent z said'.sections p.authorities x u ∙ p.parameters_found x u apart;
+        })
+    by (inr failure) = inr failure

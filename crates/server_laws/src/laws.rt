@@ -1,8 +1,8 @@
 //! Laws of the answers to messages. Each is an empty function whose contract is the law, so a program has no need to call one.
 //!
-//! They are of queries with DNSSEC for names that a zone answers which denies by NSEC, as `response_laws` has it, and of answers that
-//! weren't cut: where TC is set, nothing is promised of what was left.
-ghost use Rattle.server_laws.specs.ProvedAnswers.{AnswerProvesWhatItSays, OneZoneAnswers};
+//! They are of queries with DNSSEC for names that a zone answers which denies by NSEC or by NSEC3, as `response_laws` has it, and of
+//! answers that weren't cut: where TC is set, nothing is promised of what was left.
+ghost use Rattle.server_laws.specs.ProvedAnswers.{AnswerProvesByHashes, AnswerProvesWhatItSays, OneZoneAnswers};
 
 /// For each name and type, one zone of a server answers, or none does.
 pub fn one_zone_answers()
@@ -10,8 +10,14 @@ pub fn one_zone_answers()
 {}
 
 /// An answer without TC reads back as the message of what the zone says: with its code, its answer section and its authority section,
-/// record by record. What it says is proved to a validator by the NSEC records that stand in the authority section of the message
+/// record by record. From a zone that denies by NSEC what it says is proved to a validator by the NSEC records that stand in the authority section of the message
 /// (`ProvesWhatItSays` of `response_laws`). Only where a record of the zone has data that no octets are, the message is SERVFAIL alone.
 pub fn answers_prove_what_they_say()
     ensures { AnswerProvesWhatItSays }
+{}
+
+/// The same of an answer from a zone that denies by NSEC3, with opt-out or without: what it says is proved by the NSEC3 records that
+/// stand in the authority section of the message (`ProvesByHashes` of `response_laws`).
+pub fn hashed_answers_prove_what_they_say()
+    ensures { AnswerProvesByHashes }
 {}

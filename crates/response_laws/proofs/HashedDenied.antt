@@ -1,0 +1,203 @@
+-- What the NSEC3 records of a response show of a name that doesn't exist, and that they prove a name error
+use Rattle.std.proofs.Common.{◌≡◌, ℕ, Bool, true, false, ◌||◌, List, refl, sym, ap, ◌∙◌, subst, true≢false}
+use Rattle.std.specs.Prelude.{Option, Some, None, Result, Ok, option_map}
+use Rattle.zone_proto.specs.declared.error.ProtoError.{ProtoError}
+use Rattle.zone_proto.specs.declared.rdata.denial.NSEC3PARAM.{NSEC3PARAM as Nsec3Parameters}
+use Rattle.zone_proto.specs.HashedOwners.{owner_or_refusal}
+use Rattle.zone_proto.specs.Names.{Name, star_under}
+use Rattle.zone_proto.specs.Sets.{RRset}
+use Rattle.zone_proto.specs.Types.{NSEC3PARAM}
+use Rattle.zone_proto.proofs.Members.{In, or_left, or_right}
+use Rattle.zone_map.specs.Wildcards.{exists}
+use Rattle.zone_map.specs.Zones.{Sets, owns, IsZone}
+use Rattle.zone_denial.specs.Nsec3Denial.{nsec3_denial}
+use Rattle.zone_denial.specs.Nsec3Names.{nsec3_names}
+use Rattle.zone_denial.proofs.Hashed.Nsec3Covers.{IsCover}
+use Rattle.zone_denial.proofs.Hashed.Nsec3Enclosers.{is_named, IsEnclosed}
+use Rattle.zone_denial.proofs.Names.LongestAncestors.{longest_above}
+use Rattle.zone_validation.specs.Nsec3Proofs.{is_handed_on, proves_name_error, proves_opted_out, proves_wildcard_no_data}
+use Rattle.zone_validation.specs.Nsec3Records.{Nsec3Record}
+use Rattle.zone_acceptance.specs.Nsec3Judged.{read_nsec3_sets, AreNsec3OfZone}
+use Rattle.zone_acceptance.proofs.Nsec3LeftOut.{nsec3_absence_sound}
+use Rattle.zone_acceptance.proofs.Nsec3Readings.{record_of}
+use Rattle.zone_acceptance.proofs.Nsec3Shown.{IsShown, enclosing_shown}
+use Rattle.zone_response.specs.Denials.{proofs}
+use Rattle.zone_response.specs.HashedDenials.{lack_proof}
+use Rattle.zone_response.specs.Queries.{Zone, Query, inquiry}
+use Rattle.zone_response.specs.Responses.{ds_at}
+use Rattle.zone_response.specs.Sections.{Sections}
+use Rattle.zone_response.specs.Sources.{star_of}
+use Rattle.zone_response.specs.Steps.{missing}
+use Rattle.response_laws.specs.HashedSayings.{zone_hash, DeniesByNsec3, HashesApart, IsReached, shown_nsec3, HasErrorProof, IsHashedError}
+use Rattle.response_laws.specs.Sayings.{name_error, saying}
+use Rattle.response_laws.proofs.HashedNames.{origin_there, encloser_agrees}
+use Rattle.response_laws.proofs.HashedParts.{of_missing}
+use Rattle.response_laws.proofs.HashedProved.{records_proved, sound_proved, shown_of, hashed_name, judged_name, asked_star, off}
+use Rattle.response_laws.proofs.HashedShown.{IsEncloserShown}
+use Rattle.response_laws.proofs.HashedSummed.{sum_of_error}
+use Rattle.response_laws.proofs.HashedTold.{IsHashedName, away, below, enclosed, not_handed, opted_out_is, error_proved}
+use Rattle.response_laws.proofs.LastNames.{IsMissing, bare, bare_star, starless, gone}
+use Rattle.response_laws.proofs.Parts.{path_of, IsMadeOf}
+use Rattle.response_laws.proofs.SaidNames.{reached_unturned, soa_shown, IsMissingName, missing_said}
+use Rattle.response_laws.proofs.Stepped.{IsUnturned}
+
+module _ (z : Zone) (parameters : Nsec3Parameters) (q : Query) (r : Sections) (d : DeniesByNsec3 z parameters) (signed : q.signed ≡ true) (h : IsMadeOf z q r) where
+  abbrev o : Name
+  o = z.origin
+
+  abbrev m : Sets
+  m = z.sets
+
+  abbrev t : ℕ
+  t = q.record_type
+
+  abbrev hash : Name → Option (List ℕ)
+  hash = zone_hash z parameters
+
+  abbrev hashed : Name → Result Name ProtoError
+  hashed n = owner_or_refusal o (hash n)
+
+  abbrev names : List Name
+  names = nsec3_names o m parameters.opt_out
+
+  abbrev on_circle : Name → Bool
+  on_circle = is_named o m parameters.opt_out
+
+  abbrev zone : IsZone z.sets
+  zone = d.circle.zone
+
+  abbrev announced : owns z.sets z.origin NSEC3PARAM ≡ true
+  announced = d.circle.circle.announced
+
+  abbrev rs : List Nsec3Record
+  rs = shown_nsec3 r
+
+  -- the sets that prove what is said of a name without what is asked for
+  pub lack : (x : Name) (star : Option Name) (there : Bool) → (path_of z q).end ≡ missing x star there → (own : List RRset) × (lack_proof z.sets (λ n. owner_or_refusal z.origin (zone_hash z parameters n)) x star ≡ Ok own) × ((s : RRset) → In s own → In s h.proofs)
+  lack x star there end =
+      of_missing z zone parameters d.kind (path_of z q).made x star there h.proofs (subst (λ e. proofs z (ds_at m e) (path_of z q).made e ≡ Ok h.proofs) end (h.given signed))
+
+  module _ (x : Name) (u : IsUnturned (inquiry z q) x) (apart : HashesApart z parameters x) where
+    abbrev k : IsReached o m x
+    k = reached_unturned z q d.no_dname x u
+
+    abbrev j : IsHashedName o m hash parameters x
+    j = hashed_name z parameters q r d signed h x k apart
+
+    abbrev of_zone : AreNsec3OfZone m rs
+    of_zone = records_proved z parameters q r d signed h
+
+    pub unhanded : is_handed_on z.origin (zone_hash z parameters) (shown_nsec3 r) x ≡ false
+    unhanded = not_handed j rs of_zone
+
+    shown_there : (own : List RRset) → ((s : RRset) → In s own → In s h.proofs) → (n : Nsec3Record) → In n (read_nsec3_sets own) → In n rs
+    shown_there = shown_of z parameters q r d signed h
+
+    pub encloser_shown : (own : List RRset) → ((s : RRset) → In s own → In s h.proofs) → (a c : Name) → IsEncloserShown j.zone j.apart a c (read_nsec3_sets own) → IsEncloserShown j.zone j.apart a c rs
+    encloser_shown own among a c s = record {
+      encloser = shown_there own among (record_of j.zone j.apart a) s.encloser;
+      cover = s.cover;
+      is_cover = s.is_cover;
+      has_cover = shown_there own among (record_of j.zone j.apart s.cover) s.has_cover;
+    }
+
+    -- ---- a name that doesn't exist
+
+    -- its closest encloser proof is there, and what is told of the star under the encloser, which without opt-out is the star w that is asked for it
+    pub record IsAbsentShown (w : Name) : Type 0 where
+      pub off_circle : on_circle x ≡ false
+      pub encloser : Name
+      pub closer : Name
+      pub is : IsEnclosed o m parameters.opt_out x encloser closer
+      pub shown : IsEncloserShown j.zone j.apart encloser closer rs
+      pub star_on : In (star_under encloser) names → In (record_of j.zone j.apart (star_under encloser)) rs
+      pub star_off : (In (star_under encloser) names → ⊥) → (c : Name) × IsCover j.zone j.apart (star_under encloser) c × In (record_of j.zone j.apart c) rs
+      pub agrees : parameters.opt_out ≡ false → star_under encloser ≡ w
+
+    pub absent_shown : (w : Name) (there : Bool) → (path_of z q).end ≡ missing x (Some w) there → exists z.sets x ≡ false → star_of z.sets x ≡ Some w → IsAbsentShown w
+    absent_shown w there end absent source = record {
+      off_circle = away_x;
+      encloser = n.0;
+      closer = n.1;
+      is = n.2;
+      shown = encloser_shown own.0 own.2 n.0 n.1 (record { encloser = told.encloser; cover = told.cover; is_cover = told.is_cover; has_cover = told.has_cover });
+      star_on = λ i. shown_there own.0 own.2 (record_of j.zone j.apart (star_under n.0)) (told.star_on i);
+      star_off = λ out. let c = told.star_off out in (c.0, c.1, shown_there own.0 own.2 (record_of j.zone j.apart c.0) c.2);
+      agrees = λ all_in.
+          let s = asked_star z parameters q r d signed h x w source in
+          ap star_under (encloser_agrees o m parameters.opt_out announced d.one_kind x (below j away_x) n.0 n.2.is_encloser s.encloser s.found all_in k.uncut) ∙ s.is;
+    }
+      where
+        away_x : on_circle x ≡ false
+        away_x = off z parameters q r d signed h x absent
+
+        n : (a : Name) × (c : Name) × IsEnclosed o m parameters.opt_out x a c
+        n = enclosed j away_x
+
+        own : (own : List RRset) × (nsec3_denial m hashed false x ≡ Ok own) × ((s : RRset) → In s own → In s h.proofs)
+        own = lack x (Some w) there end
+
+        told : IsShown j.zone j.apart n.0 n.1 (read_nsec3_sets own.0)
+        told = enclosing_shown j.zone j.apart (away j x away_x) n.0 n.1 n.2 own.0 own.1
+
+    -- ---- a name error
+
+    module _ (w : Name) (s : IsAbsentShown w) where
+      pub out_is : proves_opted_out z.origin (zone_hash z parameters) (shown_nsec3 r) x ≡ parameters.opt_out
+      out_is = opted_out_is j rs of_zone s.off_circle s.encloser s.closer s.is s.shown
+
+      star_error : exists m (star_under s.encloser) ≡ false → proves_name_error o hash rs x ≡ true
+      star_error none =
+          let c = s.star_off (away j (star_under s.encloser) (off z parameters q r d signed h (star_under s.encloser) none)) in
+          error_proved j rs of_zone s.off_circle s.encloser s.closer s.is s.shown c.0 c.1 c.2
+
+      error_shown : exists m w ≡ false → HasErrorProof z parameters x → proves_name_error o hash rs x ≡ true
+      error_shown none has = by parameters.opt_out refl
+        where
+          by : (b : Bool) → parameters.opt_out ≡ b → proves_name_error o hash rs x ≡ true
+          by true f = star_error (has f s.encloser s.is.is_encloser)
+          by false f = star_error (ap (exists m) (s.agrees f) ∙ none)
+
+      -- what is there is left out
+      out_by : (b : Bool) → parameters.opt_out ≡ b → exists m w ≡ false → proves_name_error o hash rs x || proves_opted_out o hash rs x || proves_wildcard_no_data o hash rs x t ≡ true
+      out_by b f none =
+          or_left (proves_name_error o hash rs x || proves_opted_out o hash rs x) (proves_wildcard_no_data o hash rs x t) (by b f)
+        where
+          by : (b : Bool) → parameters.opt_out ≡ b → proves_name_error o hash rs x || proves_opted_out o hash rs x ≡ true
+          by true f = or_right (proves_name_error o hash rs x) (proves_opted_out o hash rs x) (out_is ∙ f)
+          by false f = or_left (proves_name_error o hash rs x) (proves_opted_out o hash rs x) (error_shown none (λ e. absurd (true≢false (sym e ∙ f))))
+
+      error_told : (there : Bool) → (path_of z q).end ≡ missing x (Some w) there → exists m w ≡ false → IsHashedError z parameters r x
+      error_told there end none = record {
+        soa = soa_shown z q r zone signed h x (Some w) there end;
+        proved = error_shown none;
+        told = λ has u. sum_of_error o hash rs x u unhanded parameters.opt_out out_is (error_shown none has);
+        left_out = nsec3_absence_sound o m hash parameters rs x t d.circle apart of_zone (out_by parameters.opt_out refl none);
+        none = λ all_in unhashed.
+            (sound_proved z parameters q r d signed h x (judged_name z parameters q r d signed h x k apart all_in unhashed)).error (error_shown none (λ f. absurd (true≢false (sym f ∙ all_in))));
+      }
+
+  -- ---- what is said
+
+  pub error_said : (x : Name) → saying q r ≡ Some (name_error x) → HashesApart z parameters x → IsHashedError z parameters r x
+  error_said x e apart = by (missing_said z q r zone signed h false x e)
+    where
+      -- a name below the origin has a star
+      has_star : (x : Name) → IsUnturned (inquiry z q) x → HashesApart z parameters x → exists m x ≡ false → star_of m x ≡ None → ⊥
+      has_star x u apart absent f =
+          let j = hashed_name z parameters q r d signed h x (reached_unturned z q d.no_dname x u) apart in
+          let e = longest_above (exists m) x o (below j (off z parameters q r d signed h x absent)) (origin_there o m parameters.opt_out announced d.one_kind) in
+          let p : None ≡ Some (star_under e.0) = sym f ∙ ap (option_map star_under) e.1.found in
+          cc
+
+      at_star : (w : Name) → (path_of z q).end ≡ missing x (Some w) false → exists m x ≡ false → star_of m x ≡ Some w → exists m w ≡ false → IsUnturned (inquiry z q) x → IsHashedError z parameters r x
+      at_star w end absent source none u = error_told x u apart w (absent_shown x u apart w false end absent source) false end none
+
+      of : (star : Option Name) → (path_of z q).end ≡ missing x star false → IsUnturned (inquiry z q) x → IsMissing (inquiry z q) x star false → IsHashedError z parameters r x
+      of star end u (bare e f g b) = absurd (true≢false (sym e))
+      of star end u (bare_star w e f absent g there b) = absurd (true≢false (sym e))
+      of star end u (starless e absent f) = absurd (has_star x u apart absent f)
+      of star end u (gone w e f absent g none) = at_star w (end ∙ ap (λ s. missing x s false) f) absent g none u
+
+      by : IsMissingName z q r zone signed h x false → IsHashedError z parameters r x
+      by s = of s.star s.end s.unturned s.how

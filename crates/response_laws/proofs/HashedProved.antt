@@ -1,0 +1,247 @@
+-- What a response has of NSEC3 records, and that they prove that a star may answer
+use Rattle.std.proofs.Common.{◌≡◌, ℕ, Bool, true, false, cond, not, ◌&&◌, ◌||◌, List, [], ◌∷◌, refl, sym, ap, ◌∙◌, subst, true≢false, ◌⊎◌, inl, inr}
+use Rattle.std.specs.Prelude.{Option, Some, None, Result, Ok, option_map, ◌==◌}
+use Rattle.std.specs.List.{Contains, list_all}
+use Rattle.zone_proto.specs.declared.error.ProtoError.{ProtoError}
+use Rattle.zone_proto.specs.declared.rdata.denial.NSEC3PARAM.{NSEC3PARAM as Nsec3Parameters}
+use Rattle.zone_proto.specs.HashedOwners.{owner_or_refusal}
+use Rattle.zone_proto.specs.Names.{Name, lower, IsAbove, star_under, is_at_or_above}
+use Rattle.zone_proto.specs.Sets.{RRset}
+use Rattle.zone_proto.specs.Types.{NS, NSEC3, NSEC3PARAM}
+use Rattle.zone_proto.proofs.Members.{In, In-Contains, Contains-In}
+use Rattle.zone_proto.proofs.Names.NameTree.{is_at_or_above_sound}
+use Rattle.zone_map.specs.Wildcards.{exists, renamed, closest_encloser as found_encloser}
+use Rattle.zone_map.specs.Zones.{Sets, set_at, owns, types_at, IsZone}
+use Rattle.zone_map.proofs.Owned.{type_owned}
+use Rattle.zone_denial.specs.Authority.{is_below_cut}
+use Rattle.zone_denial.specs.Nsec3Denial.{closest_encloser, nsec3_denial}
+use Rattle.zone_denial.specs.Nsec3Names.{is_unsigned_delegation, nsec3_names}
+use Rattle.zone_denial.proofs.Hashed.Nsec3AskedStar.{exists_on_circle}
+use Rattle.zone_denial.proofs.Hashed.Nsec3Covers.{IsCover}
+use Rattle.zone_denial.proofs.Hashed.Nsec3Enclosers.{is_named, IsEnclosed}
+use Rattle.zone_validation.specs.Judgement.{nsec3_proof}
+use Rattle.zone_validation.specs.Nsec3Proofs.{proves_no_data, proves_wildcard_answer}
+use Rattle.zone_validation.specs.Nsec3Records.{Nsec3Record, read_nsec3}
+use Rattle.zone_acceptance.specs.Nsec3Calls.{told}
+use Rattle.zone_acceptance.specs.Nsec3Judged.{read_nsec3_sets, AreNsec3OfZone, IsNsec3Judged}
+use Rattle.zone_acceptance.specs.Nsec3Soundness.{IsNsec3Sound, IsOptOutSound}
+use Rattle.zone_acceptance.proofs.Nsec3LeftOut.{nsec3_opt_out_sound}
+use Rattle.zone_acceptance.proofs.Nsec3Readings.{from_read, record_of}
+use Rattle.zone_acceptance.proofs.Nsec3Shown.{closer_shown}
+use Rattle.zone_acceptance.proofs.Nsec3Soundness.{nsec3_records_sound}
+use Rattle.zone_response.specs.declared.response.Part.{Part}
+use Rattle.zone_response.specs.Queries.{Zone, Query, inquiry}
+use Rattle.zone_response.specs.Responses.{negative_ttl, ds_at, end_sets}
+use Rattle.zone_response.specs.Sections.{Sections, sent}
+use Rattle.zone_response.specs.Sources.{star_of}
+use Rattle.zone_response.specs.Steps.{End}
+use Rattle.response_laws.specs.HashedSayings.{zone_hash, DeniesByNsec3, HashesApart, IsReached, shown_nsec3, may_leave_out, IsHashedStarSet, IsLacking, shown_records}
+use Rattle.response_laws.specs.ProvedSayings.{IsSentSet, IsAnswerPart, authority_part}
+use Rattle.response_laws.specs.Sayings.{Saying, data_of, name_error, no_data, referral, saying, name_of}
+use Rattle.response_laws.proofs.Answers.{IsMadeSet, path_answers}
+use Rattle.response_laws.proofs.HashedCalls.{told_is}
+use Rattle.response_laws.proofs.HashedLacks.{lacking, lacking_named}
+use Rattle.response_laws.proofs.HashedNames.{absent_off, encloser_agrees, encloser_of_star}
+use Rattle.response_laws.proofs.HashedParts.{AreHashedProofs, hashed_proofs}
+use Rattle.response_laws.proofs.HashedTold.{IsHashedName, below, enclosed, answer_proved}
+use Rattle.response_laws.proofs.Parts.{path_of, IsMadeOf}
+use Rattle.response_laws.proofs.ReadSets.{nsec3_reader, read_of_zone, read_proof}
+use Rattle.response_laws.proofs.Said.{Said, says_nothing, says_data, says_referral, says_missing, said}
+use Rattle.response_laws.proofs.SaidNames.{same_saying, reached_unturned, reached_cut, authorities_are, authority_of}
+
+-- one for which a test fails
+some_fails : {A : Type 0} (p : A → Bool) (xs : List A) → list_all p xs ≡ false → (x : A) × In x xs × (p x ≡ false)
+some_fails p [] e = absurd (true≢false e)
+some_fails p (x ∷ xs) e = by (p x) refl (some_fails p xs) e
+  where
+    by : (b : Bool) → p x ≡ b → (list_all p xs ≡ false → (y : _) × In y xs × (p y ≡ false)) → b && list_all p xs ≡ false → (y : _) × In y (x ∷ xs) × (p y ≡ false)
+    by false f rest q = (x, inl refl, f)
+    by true f rest q = let y = rest q in (y.0, inr y.1, y.2)
+
+same_name : (a b : Name) → Some a ≡ Some b → a ≡ b
+same_name a b e = cc
+
+module _ (z : Zone) (parameters : Nsec3Parameters) (q : Query) (r : Sections) (d : DeniesByNsec3 z parameters) (signed : q.signed ≡ true) (h : IsMadeOf z q r) where
+  abbrev o : Name
+  o = z.origin
+
+  abbrev m : Sets
+  m = z.sets
+
+  abbrev t : ℕ
+  t = q.record_type
+
+  abbrev hash : Name → Option (List ℕ)
+  hash = zone_hash z parameters
+
+  abbrev hashed : Name → Result Name ProtoError
+  hashed n = owner_or_refusal o (hash n)
+
+  abbrev names : List Name
+  names = nsec3_names o m parameters.opt_out
+
+  abbrev on_circle : Name → Bool
+  on_circle = is_named o m parameters.opt_out
+
+  abbrev zone : IsZone z.sets
+  zone = d.circle.zone
+
+  abbrev announced : owns z.sets z.origin NSEC3PARAM ≡ true
+  announced = d.circle.circle.announced
+
+  abbrev ends : End
+  ends = (path_of z q).end
+
+  abbrev rs : List Nsec3Record
+  rs = shown_nsec3 r
+
+  pub all : AreHashedProofs z d.circle.zone parameters d.kind (ds_at z.sets (path_of z q).end) (path_of z q).made (path_of z q).end h.proofs
+  all = hashed_proofs z zone parameters d.kind (ds_at m ends) (path_of z q).made ends h.proofs (h.given signed)
+
+  -- ---- the sets
+
+  authority_is : (s : RRset) → In s r.authorities → IsSentSet z.sets (authority_part s) s
+  authority_is = authority_of z q r zone signed h NSEC3 refl all.owners
+
+  pub authorities_proved : (s : RRset) → Contains r.authorities s → IsSentSet z.sets (authority_part s) s
+  authorities_proved s c = authority_is s (Contains-In s r.authorities c)
+
+  pub records_proved : AreNsec3OfZone z.sets (shown_nsec3 r)
+  records_proved = read_of_zone read_nsec3 NSEC3 nsec3_reader m zone r.authorities authority_is
+
+  pub sound_proved : (x : Name) → IsNsec3Judged z.origin z.sets (zone_hash z parameters) parameters x → IsNsec3Sound z.origin z.sets (zone_hash z parameters) parameters.opt_out x (shown_nsec3 r)
+  sound_proved x j = nsec3_records_sound o m hash parameters rs x j records_proved
+
+  pub opt_out_sound_proved : (x : Name) → HashesApart z parameters x → IsOptOutSound z.origin z.sets (zone_hash z parameters) parameters.opt_out x (shown_nsec3 r)
+  opt_out_sound_proved x apart = nsec3_opt_out_sound o m hash parameters rs x d.circle apart records_proved
+
+  pub parameters_found_proved : (x : Name) (t : ℕ) → HashesApart z parameters x → told z.digest_of z.origin (shown_records r) x t ≡ nsec3_proof z.origin (zone_hash z parameters) (shown_nsec3 r) x t
+  parameters_found_proved x u apart = told_is m zone o z.digest_of parameters d.circle r.authorities authority_is x u apart
+
+  pub data_sound_proved : (x : Name) (t : ℕ) → HashesApart z parameters x → proves_no_data z.origin (zone_hash z parameters) (shown_nsec3 r) x t ≡ true → IsLacking z parameters x t
+  data_sound_proved x u apart p =
+      let k = lacking o m hash parameters rs records_proved d.circle x apart u p in
+      record { on_circle = In-Contains x names (lacking_named o m hash parameters rs records_proved d.circle x apart u p); none = k.0; no_alias = k.1 }
+
+  -- what a denial shows is shown
+  pub shown_of : (own : List RRset) → ((s : RRset) → In s own → In s h.proofs) → (n : Nsec3Record) → In n (read_nsec3_sets own) → In n (shown_nsec3 r)
+  shown_of own among n i =
+      let s = from_read own n i in
+      subst (λ (sets : List RRset). In n (read_nsec3_sets sets)) (sym (authorities_are z q r zone signed h))
+      (read_proof read_nsec3 NSEC3 nsec3_reader (negative_ttl h.soa) h.proofs s.0 n (among s.0 s.1) s.2 (end_sets (ds_at m ends) true h.soa ends))
+
+  pub hashed_name : (x : Name) → IsReached z.origin z.sets x → HashesApart z parameters x → IsHashedName z.origin z.sets (zone_hash z parameters) parameters x
+  hashed_name x k apart = record { zone = d.circle; one_kind = d.one_kind; unreferred = d.unreferred; reached = k; apart = apart }
+
+  pub judged_name : (x : Name) → IsReached z.origin z.sets x → HashesApart z parameters x → parameters.opt_out ≡ false → owns z.sets x NSEC3 ≡ false → IsNsec3Judged z.origin z.sets (zone_hash z parameters) parameters x
+  judged_name x k apart all_in none = record {
+    zone = d.circle;
+    all_in = all_in;
+    one_kind = d.one_kind;
+    apart = apart;
+    inside = k.inside;
+    uncut = k.uncut;
+    no_dname = k.no_dname;
+    unreferred = d.unreferred;
+    no_hashed_owner = none;
+  }
+
+  -- ---- of whom something is said
+
+  pub reached_proved : (w : Saying) → saying q r ≡ Some w → IsReached z.origin z.sets (name_of w)
+  reached_proved w e = by (said z zone q r h)
+    where
+      of : (v : Saying) → saying q r ≡ Some v → IsReached o m (name_of v) → IsReached o m (name_of w)
+      of v f k = subst (λ u. IsReached o m (name_of u)) (same_saying v w (saying q r) f e) k
+
+      either : (there : Bool) (y : Name) → IsReached o m y → IsReached o m (name_of (cond there (no_data y) (name_error y)))
+      either true y k = k
+      either false y k = k
+
+      by : Said z q r → IsReached o m (name_of w)
+      by (says_nothing f) = let p : None ≡ Some w = sym f ∙ e in absurd cc
+      by (says_data y f u) = of (data_of y) f (reached_unturned z q d.no_dname y u)
+      by (says_referral y c f g u) = of (referral (lower c.owner)) f (reached_cut z q d.no_dname zone y c u).reached
+      by (says_missing y star there f g u k) = of (cond there (no_data y) (name_error y)) f (either there y (reached_unturned z q d.no_dname y u))
+
+  -- ---- the star that is asked for a name
+
+  pub record IsAsked (x w : Name) : Type 0 where
+    pub encloser : Name
+    pub found : found_encloser z.sets x ≡ Some encloser
+    pub is : star_under encloser ≡ w
+
+  pub asked_star : (x w : Name) → star_of z.sets x ≡ Some w → IsAsked x w
+  asked_star x w e = by (found_encloser m x) refl e
+    where
+      by : (p : Option Name) → found_encloser m x ≡ p → option_map star_under p ≡ Some w → IsAsked x w
+      by None f g = absurd cc
+      by (Some a) f g = record { encloser = a; found = f; is = same_name (star_under a) w g }
+
+  -- without opt-out a name that exists is on the circle
+  pub there_on : (x : Name) → is_at_or_above z.origin x ≡ true → is_below_cut z.origin z.sets x ≡ false → parameters.opt_out ≡ false → exists z.sets x ≡ true → is_named z.origin z.sets parameters.opt_out x ≡ true
+  there_on x inside uncut all_in e = sym (exists_on_circle o m parameters.opt_out announced all_in d.one_kind x (is_at_or_above_sound o x inside) uncut) ∙ e
+
+  pub off : (x : Name) → exists z.sets x ≡ false → is_named z.origin z.sets parameters.opt_out x ≡ false
+  off x absent = absent_off o m parameters.opt_out announced d.one_kind x absent
+
+  -- ---- an answer of a star
+
+  kept_encloser : (x : Name) → IsReached o m x → IsAbove o x → (a e : Name) → closest_encloser o m parameters.opt_out x ≡ Some a → found_encloser m x ≡ Some e → may_leave_out parameters.opt_out m (star_under e) ≡ false → a ≡ e
+  kept_encloser x k over a e is there = by parameters.opt_out refl
+    where
+      other : (b c : Bool) → b || c ≡ false → (b ≡ false) × (c ≡ false)
+      other false false g = (refl, refl)
+      other false true g = absurd (true≢false g)
+      other true c g = absurd (true≢false g)
+
+      by : (b : Bool) → parameters.opt_out ≡ b → b && is_unsigned_delegation m (star_under e) ≡ false → a ≡ e
+      by false f kept = encloser_agrees o m parameters.opt_out announced d.one_kind x over a is e there f k.uncut
+      by true f kept =
+          let u = some_fails (λ t. (t == NS) || (t == NSEC3)) (types_at m (star_under e)) kept in
+          encloser_of_star o m parameters.opt_out announced d.one_kind x over a is e there k.uncut u.0 (type_owned m (star_under e) u.0 u.1)
+          (ap not (other (u.0 == NS) (u.0 == NSEC3) u.2).1) (ap (λ b. b && is_unsigned_delegation m (star_under e)) f ∙ kept)
+
+  star_proved : (y e : Name) → In y (path_of z q).made → IsReached o m y → exists m y ≡ false → found_encloser m y ≡ Some e → HashesApart z parameters y → may_leave_out parameters.opt_out m (star_under e) ≡ false
+      → proves_wildcard_answer o hash rs y e ≡ true
+  star_proved y e i k absent there apart kept =
+      subst (λ a. proves_wildcard_answer o hash rs y a ≡ true) (kept_encloser y k (below j away_y) n.0 e n.2.is_encloser there kept)
+      (answer_proved j rs records_proved away_y n.0 n.1 n.2 c.0 c.1 (shown_of s.0 s.2 (record_of j.zone j.apart c.0) c.2))
+    where
+      j : IsHashedName o m hash parameters y
+      j = hashed_name y k apart
+
+      away_y : on_circle y ≡ false
+      away_y = off y absent
+
+      n : (a : Name) × (c : Name) × IsEnclosed o m parameters.opt_out y a c
+      n = enclosed j away_y
+
+      s : (own : List RRset) × (nsec3_denial m hashed true y ≡ Ok own) × ((s : RRset) → In s own → In s h.proofs)
+      s = all.stars y i
+
+      c : (k : Name) × IsCover j.zone j.apart n.1 k × In (record_of j.zone j.apart k) (read_nsec3_sets s.0)
+      c = closer_shown j.zone j.apart n.0 n.1 n.2 s.0 s.1
+
+  pub answers_proved : (s : RRset) → Contains r.answers s → (p : Part) × IsAnswerPart q.record_type p × (IsSentSet z.sets p s ⊎ IsHashedStarSet z parameters (shown_nsec3 r) p s)
+  answers_proved s c =
+      let a = path_answers (inquiry z q) signed q.name s (subst (In s) h.answers (Contains-In s r.answers c)) in
+      (a.part', a.goes_out, by a.part' a.set)
+    where
+      of_star : (p : Part) (y : Name) → In y (path_of z q).made → IsMadeSet (inquiry z q) y p s → IsHashedStarSet z parameters (shown_nsec3 r) p s
+      of_star p y i k =
+          let w = asked_star y k.star k.made.star in
+          record {
+            name = y;
+            encloser = w.encloser;
+            record_type = k.record_type;
+            stored = k.stored;
+            stands = ap (λ n. set_at m n k.record_type) w.is ∙ k.stands;
+            ttl = k.ttl;
+            sent = k.sent ∙ ap (λ n. sent p k.ttl (renamed true n y k.stored)) (sym w.is);
+            proved = star_proved y w.encloser i (reached_unturned z q d.no_dname y k.made.unturned) k.made.absent w.found;
+          }
+
+      by : (p : Part) → IsSentSet m p s ⊎ ((y : Name) × In y (path_of z q).made × IsMadeSet (inquiry z q) y p s) → IsSentSet m p s ⊎ IsHashedStarSet z parameters (shown_nsec3 r) p s
+      by p (inl k) = inl k
+      by p (inr (y, i, k)) = inr (of_star p y i k)

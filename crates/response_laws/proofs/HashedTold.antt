@@ -1,0 +1,294 @@
+-- What NSEC3 records of a zone prove of a name, where those of its denial are among them
+use Rattle.std.proofs.Common.{◌≡◌, ℕ, Bool, true, false, not, ◌&&◌, ◌||◌, List, [], ◌∷◌, refl, sym, ap, ◌∙◌, subst, true≢false, ◌⊎◌, inl, inr, arith}
+use Rattle.std.specs.Prelude.{Option, Some, find}
+use Rattle.std.specs.List.{list_any}
+use Rattle.std.specs.Option.{option_map_or}
+use Rattle.zone_proto.specs.declared.rdata.denial.NSEC3PARAM.{NSEC3PARAM as Nsec3Parameters}
+use Rattle.zone_proto.specs.Names.{Name, is_above, is_at_or_above, IsAtOrAbove, IsAbove, star_under, suffixes, proper_ancestors}
+use Rattle.zone_proto.specs.Types.{NS, SOA, DS, NSEC}
+use Rattle.zone_proto.proofs.Members.{In, In-Contains, In-from_any, any_from_In, and_left, and_right, not_true}
+use Rattle.zone_proto.proofs.Names.NameTree.{above_test, at_or_above_from_suffix, is_at_or_above_sound, is_at_or_above_complete}
+use Rattle.zone_proto.proofs.Names.Tree.{above_cases}
+use Rattle.zone_map.specs.Zones.{Sets, owns, owners}
+use Rattle.zone_map.proofs.Owned.{owner_in}
+use Rattle.zone_denial.specs.Nsec3Names.{nsec3_names}
+use Rattle.zone_denial.specs.Nsec3Zones.{IsNsec3Zone, IsHashed, TellsApart}
+use Rattle.zone_denial.specs.StarLaws.{OwnsNone}
+use Rattle.zone_denial.proofs.Chain.NsecBelow.{above_at}
+use Rattle.zone_denial.proofs.Hashed.Nsec3Covers.{IsCover}
+use Rattle.zone_denial.proofs.Hashed.Nsec3Enclosers.{is_named, named_in, in_named, origin_in, IsEnclosed, enclosed_off}
+use Rattle.zone_denial.proofs.Hashed.Nsec3Encloses.{star_hashed}
+use Rattle.zone_denial.proofs.Names.LongestAncestors.{IsLongestAbove, longest_is, longest_above, others_above, above_shorter}
+use Rattle.zone_validation.specs.Encloser.{next_closer}
+use Rattle.zone_validation.specs.NsecProofs.{DNAME}
+use Rattle.zone_validation.specs.Nsec3Proofs.{matches, covers, lists, is_of_encloser, is_of_unsigned, denies_type, is_matched, is_encloser, is_handing_on, is_denied, is_covered, is_handed_on, shown_encloser, encloser_and, proves_name_error, proves_no_data, proves_opted_out, proves_wildcard_no_data, proves_wildcard_answer, shows_unsigned_delegation}
+use Rattle.zone_validation.specs.Nsec3Records.{Nsec3Record}
+use Rattle.zone_acceptance.specs.Judged.{Unreferred}
+use Rattle.zone_acceptance.specs.Nsec3Judged.{AreNsec3OfZone}
+use Rattle.zone_acceptance.proofs.Nsec3Judging.{owned_listed, listed_owned, unlisted}
+use Rattle.zone_acceptance.proofs.Nsec3Matches.{covers_is, unmatched, matches_itself, matched_by}
+use Rattle.zone_acceptance.proofs.Nsec3Proved.{sides, ancestor_named, self_hashed, uncovered, matching}
+use Rattle.zone_acceptance.proofs.Nsec3Readings.{record_of, of_name}
+use Rattle.zone_acceptance.proofs.Nsec3Soundness.{not_opted_out}
+use Rattle.zone_acceptance.proofs.Tests.{refuted, right_false}
+use Rattle.response_laws.specs.HashedSayings.{IsReached}
+use Rattle.response_laws.proofs.HashedShown.{IsEncloserShown}
+
+-- a name of a zone that NSEC3 denies, which nothing refers elsewhere, and whose hash tells the names of a denial apart
+pub record IsHashedName (origin : Name) (m : Sets) (hash : Name → Option (List ℕ)) (parameters : Nsec3Parameters) (x : Name) : Type 0 where
+  pub zone : IsNsec3Zone origin m hash parameters
+  pub one_kind : OwnsNone m NSEC
+  pub unreferred : Unreferred origin m
+  pub reached : IsReached origin m x
+  pub apart : TellsApart (IsHashed origin m parameters.opt_out x) hash
+
+module _ {origin : Name} {m : Sets} {hash : Name → Option (List ℕ)} {parameters : Nsec3Parameters} {x : Name} (j : IsHashedName origin m hash parameters x) where
+  abbrev names : List Name
+  names = nsec3_names origin m parameters.opt_out
+
+  abbrev on_circle : Name → Bool
+  on_circle = is_named origin m parameters.opt_out
+
+  pub inside : IsAtOrAbove origin x
+  inside = is_at_or_above_sound origin x j.reached.inside
+
+  pub away : (n : Name) → is_named origin m parameters.opt_out n ≡ false → In n (nsec3_names origin m parameters.opt_out) → ⊥
+  away n off i = true≢false (sym (in_named origin m parameters.opt_out n i) ∙ off)
+
+  pub below : is_named origin m parameters.opt_out x ≡ false → IsAbove origin x
+  below off = by (above_cases origin x inside)
+    where
+      by : (origin ≡ x) ⊎ IsAbove origin x → IsAbove origin x
+      by (inl e) = absurd (away x off (subst (λ n. In n names) e (origin_in origin m parameters.opt_out)))
+      by (inr u) = u
+
+  pub enclosed : is_named origin m parameters.opt_out x ≡ false → (a : Name) × (c : Name) × IsEnclosed origin m parameters.opt_out x a c
+  enclosed off = enclosed_off origin m parameters.opt_out x j.reached.inside (away x off)
+
+  -- the record of an ancestor is of no name that hands on what is below it
+  of_encloser : (a : Name) → IsAtOrAbove origin a → IsAbove a x → is_of_encloser (record_of j.zone j.apart a) ≡ true
+  of_encloser a u v = λ i. not (unlisted j.zone j.apart a DNAME (λ e. omega (arith, e)) (λ e. omega (arith, e)) (j.reached.no_dname a v) i) && delegates (lists r NS) refl i
+    where
+      r : Nsec3Record
+      r = record_of j.zone j.apart a
+
+      apex : owns m a NS ≡ true → (origin ≡ a) ⊎ IsAbove origin a → owns m a SOA ≡ true
+      apex k (inl e) = j.unreferred a ([], e) k
+      apex k (inr w) = absurd (true≢false (sym (any_from_In (λ c. is_above origin c && is_above c x) a (owners m NS) (owner_in m a NS k) (λ i. (above_test origin a).1 w i && (above_test a x).1 v i)) ∙ j.reached.uncut))
+
+      delegates : (b : Bool) → lists r NS ≡ b → not b || lists r SOA ≡ true
+      delegates false e = refl
+      delegates true e =
+          owned_listed j.zone j.apart a SOA (apex (listed_owned j.zone j.apart a NS (λ e. omega (arith, e)) (λ e. omega (arith, e)) e) (above_cases origin a u)) (λ e. omega (arith, e))
+
+  -- ---- of records of the zone
+
+  module _ (rs : List Nsec3Record) (of_zone : AreNsec3OfZone m rs) where
+    of_names : (r : Nsec3Record) → In r rs → (n : Name) × In n names × (r ≡ record_of j.zone j.apart n)
+    of_names = of_name j.zone j.apart rs of_zone
+
+    -- an ancestor of x in the zone is hashed
+    ancestor_hashed : (a : Name) → IsAtOrAbove origin a → IsAbove a x → IsHashed origin m parameters.opt_out x a
+    ancestor_hashed a u v = by (on_circle x) refl
+      where
+        upper : (y : Name) → In y names → IsAtOrAbove a y → (origin ≡ a) ⊎ IsAbove origin a → IsHashed origin m parameters.opt_out x a
+        upper y i w (inl e) = inl (In-Contains a names (subst (λ n. In n names) e (origin_in origin m parameters.opt_out)))
+        upper y i w (inr o) = inl (In-Contains a names (ancestor_named origin m parameters.opt_out a y i w o))
+
+        by : (b : Bool) → on_circle x ≡ b → IsHashed origin m parameters.opt_out x a
+        by true on = upper x (named_in origin m parameters.opt_out x on) (above_at a x v) (above_cases origin a u)
+        by false off = of (sides x a n.0 (above_at a x v) n.2.above)
+          where
+            n : (a : Name) × (c : Name) × IsEnclosed origin m parameters.opt_out x a c
+            n = enclosed off
+
+            of : IsAbove a n.0 ⊎ ((a ≡ n.0) ⊎ IsAbove n.0 a) → IsHashed origin m parameters.opt_out x a
+            of (inl w) = upper n.0 n.2.on (above_at a n.0 w) (above_cases origin a u)
+            of (inr (inl e)) = inl (In-Contains a names (subst (λ y. In y names) (sym e) n.2.on))
+            of (inr (inr w)) = inr (n.0, n.2.is_encloser, inl (above_at a x v, above_at n.0 a w))
+
+    -- nothing hands x on
+    pub not_handed : is_handed_on origin hash rs x ≡ false
+    not_handed = refuted (is_handed_on origin hash rs x) (λ e. of (In-from_any (λ a. is_at_or_above origin a && is_handing_on origin hash rs a) (proper_ancestors x) e))
+      where
+        ancestor : (y a : Name) → In a (proper_ancestors y) → IsAbove a y
+        ancestor [] a i = absurd i
+        ancestor (l ∷ ls) a i = let u = at_or_above_from_suffix ls a (In-Contains a (suffixes ls) i) in (l, u.0, ap (λ (n : Name). l ∷ n) u.1)
+
+        of : (a : Name) × In a (proper_ancestors x) × (is_at_or_above origin a && is_handing_on origin hash rs a ≡ true) → ⊥
+        of (a, i, p) =
+            true≢false
+            (sym (of_encloser a u v)
+            ∙ ap is_of_encloser (sym (matching j.zone j.apart rs of_names a (ancestor_hashed a u v) r.0 r.1 (and_left (matches origin hash r.0 a) (not (is_of_encloser r.0)) r.2)).1)
+            ∙ not_true (is_of_encloser r.0) (and_right (matches origin hash r.0 a) (not (is_of_encloser r.0)) r.2))
+          where
+            u : IsAtOrAbove origin a
+            u = is_at_or_above_sound origin a (and_left (is_at_or_above origin a) (is_handing_on origin hash rs a) p)
+
+            v : IsAbove a x
+            v = ancestor x a i
+
+            r : (r : Nsec3Record) × In r rs × (matches origin hash r a && not (is_of_encloser r) ≡ true)
+            r = In-from_any (λ r. matches origin hash r a && not (is_of_encloser r)) rs (and_right (is_at_or_above origin a) (is_handing_on origin hash rs a) p)
+
+    -- a name of the circle isn't covered
+    pub not_covered : (n : Name) → In n (nsec3_names origin m parameters.opt_out) → is_covered origin hash rs n ≡ false
+    not_covered n i = refuted (is_covered origin hash rs n) (λ e. uncovered j.zone j.apart rs of_names n e i)
+
+    -- ---- of a name on the circle, where its own record is among them
+
+    module _ (on : In x (nsec3_names origin m parameters.opt_out)) (own : In (record_of j.zone j.apart x) rs) where
+      itself_matched : is_matched origin hash rs x ≡ true
+      itself_matched = matched_by j.zone j.apart rs x on own
+
+      -- no closest encloser proof stands
+      pub no_encloser : (cover : Nsec3Record → Bool) (rest : Name → Bool) → encloser_and origin hash rs cover x rest ≡ false
+      no_encloser cover rest = (λ i. is_above origin x && not (itself_matched i) && option_map_or proved (shown_encloser origin hash rs x) false) ∙ by (is_above origin x) (option_map_or proved (shown_encloser origin hash rs x) false)
+        where
+          proved : Name → Bool
+          proved e = is_encloser origin hash rs e && option_map_or (λ c. list_any (λ r. covers origin hash r c && cover r) rs) (next_closer x e) false && rest e
+
+          by : (a b : Bool) → a && not true && b ≡ false
+          by true b = refl
+          by false b = refl
+
+      pub own_denied : (t : ℕ) → denies_type origin (record_of j.zone j.apart x) x t ≡ true → proves_no_data origin hash rs x t ≡ true
+      own_denied t p = λ i. j.reached.inside i && any_from_In (λ r. matches origin hash r x && denies_type origin r x t) (record_of j.zone j.apart x) rs own (λ i. matches_itself j.zone j.apart x on i && p i) i
+
+      pub own_delegates : IsAbove origin x → owns m x NS ≡ true → owns m x DS ≡ false → owns m x SOA ≡ false → shows_unsigned_delegation origin hash rs x ≡ true
+      own_delegates over ns ds soa =
+          λ i. (above_test origin x).1 over i
+          && any_from_In (λ r. matches origin hash r x && is_of_unsigned r) (record_of j.zone j.apart x) rs own
+          (λ i. matches_itself j.zone j.apart x on i
+          && (owned_listed j.zone j.apart x NS ns (λ e. omega (arith, e)) i && not (unlisted j.zone j.apart x DS (λ e. omega (arith, e)) (λ e. omega (arith, e)) ds i)
+          && not (unlisted j.zone j.apart x SOA (λ e. omega (arith, e)) (λ e. omega (arith, e)) soa i))) i
+
+    -- ---- of a name off the circle
+
+    module _ (off : is_named origin m parameters.opt_out x ≡ false) where
+      itself_hashed : IsHashed origin m parameters.opt_out x x
+      itself_hashed = self_hashed origin m parameters.opt_out x inside
+
+      itself_unmatched : is_matched origin hash rs x ≡ false
+      itself_unmatched = unmatched j.zone j.apart rs of_names x itself_hashed (away x off)
+
+      -- no record is its own
+      none_own : (test : Nsec3Record → Bool) → list_any (λ r. matches origin hash r x && test r) rs ≡ false
+      none_own test =
+          refuted (list_any (λ r. matches origin hash r x && test r) rs)
+          (λ e. let r = In-from_any (λ r. matches origin hash r x && test r) rs e in
+          true≢false (sym (any_from_In (λ r. matches origin hash r x) r.0 rs r.1 (and_left (matches origin hash r.0 x) (test r.0) r.2)) ∙ itself_unmatched))
+
+      pub no_own_data : (t : ℕ) → proves_no_data origin hash rs x t ≡ false
+      no_own_data t = right_false (is_at_or_above origin x) (is_denied origin hash rs x t) (none_own (λ r. denies_type origin r x t))
+
+      pub no_own_delegation : shows_unsigned_delegation origin hash rs x ≡ false
+      no_own_delegation = right_false (is_above origin x) (list_any (λ r. matches origin hash r x && is_of_unsigned r) rs) (none_own is_of_unsigned)
+
+    -- where its closest encloser proof is among them
+    module _ (off : is_named origin m parameters.opt_out x ≡ false) (a c : Name) (e : IsEnclosed origin m parameters.opt_out x a c) (has : IsEncloserShown j.zone j.apart a c rs) where
+      over : IsAbove origin x
+      over = below off
+
+      longest : IsLongestAbove on_circle x a
+      longest = longest_is on_circle x a e.is_encloser
+
+      encloser_inside : IsAtOrAbove origin a
+      encloser_inside = others_above on_circle x a origin longest over (in_named origin m parameters.opt_out origin (origin_in origin m parameters.opt_out))
+
+      hashed_between : (n : Name) → IsAtOrAbove n x → IsAtOrAbove a n → IsHashed origin m parameters.opt_out x n
+      hashed_between n u v = inr (a, e.is_encloser, inl (u, v))
+
+      abbrev shows : Name → Bool
+      shows n = is_at_or_above origin n && is_matched origin hash rs n
+
+      shown_is : shown_encloser origin hash rs x ≡ Some a
+      shown_is = found (above_cases a b.0 (others_above shows x b.0 a b.1 longest.above a_shown))
+        where
+          a_shown : shows a ≡ true
+          a_shown = λ i. is_at_or_above_complete origin a encloser_inside i && matched_by j.zone j.apart rs a e.on has.encloser i
+
+          b : (b : Name) × IsLongestAbove shows x b
+          b = longest_above shows x a longest.above a_shown
+
+          found : (a ≡ b.0) ⊎ IsAbove a b.0 → find shows (proper_ancestors x) ≡ Some a
+          found (inl q) = b.1.found ∙ ap Some (sym q)
+          found (inr u) =
+              let gone = longest.longest b.0 b.1.above (above_shorter a b.0 u) in
+              absurd
+              (true≢false
+              (sym (and_right (is_at_or_above origin b.0) (is_matched origin hash rs b.0) b.1.passes)
+              ∙ unmatched j.zone j.apart rs of_names b.0 (hashed_between b.0 (above_at b.0 x b.1.above) (above_at a b.0 u)) (away b.0 gone)))
+
+      module _ (cover : Nsec3Record → Bool) (rest : Name → Bool) where
+        abbrev proved : Name → Bool
+        proved e = is_encloser origin hash rs e && option_map_or (λ c. list_any (λ r. covers origin hash r c && cover r) rs) (next_closer x e) false && rest e
+
+        proof_is : encloser_and origin hash rs cover x rest ≡ proved a
+        proof_is =
+            (λ i. (above_test origin x).1 over i && not (itself_unmatched off i) && option_map_or proved (shown_is i) false)
+
+        -- it stands where the cover and the encloser pass
+        pub encloser_proved : cover (record_of j.zone j.apart has.cover) ≡ true → rest a ≡ true → encloser_and origin hash rs cover x rest ≡ true
+        encloser_proved k t = proof_is ∙ (λ i. matched i && (ap (λ o. option_map_or covered o false) e.is_closer ∙ one_covers) i && t i)
+          where
+            covered : Name → Bool
+            covered c = list_any (λ r. covers origin hash r c && cover r) rs
+
+            matched : is_encloser origin hash rs a ≡ true
+            matched =
+                any_from_In (λ r. matches origin hash r a && is_of_encloser r) (record_of j.zone j.apart a) rs has.encloser
+                (λ i. matches_itself j.zone j.apart a e.on i && of_encloser a encloser_inside longest.above i)
+
+            one_covers : covered c ≡ true
+            one_covers =
+                any_from_In (λ r. covers origin hash r c && cover r) (record_of j.zone j.apart has.cover) rs has.has_cover
+                (λ i. (covers_is j.zone j.apart has.cover c has.is_cover.on (hashed_between c e.closer_at e.closer_below) ∙ has.is_cover.covered) i && k i)
+
+        -- and nothing is proved where the encloser doesn't
+        pub encloser_refuted : rest a ≡ false → encloser_and origin hash rs cover x rest ≡ false
+        encloser_refuted t =
+            proof_is
+            ∙ right_false (is_encloser origin hash rs a && option_map_or (λ c. list_any (λ r. covers origin hash r c && cover r) rs) (next_closer x a) false) (rest a) t
+
+      -- opt-out may leave the name out, exactly in a zone with opt-out
+      pub opted_out_is : proves_opted_out origin hash rs x ≡ parameters.opt_out
+      opted_out_is = by parameters.opt_out refl
+        where
+          by : (b : Bool) → parameters.opt_out ≡ b → proves_opted_out origin hash rs x ≡ b
+          by true o = encloser_proved (λ r. r.opt_out) (λ e. true) o refl
+          by false o = not_opted_out j.zone o j.apart rs of_zone
+
+      -- the star of the encloser is covered, or matched
+      pub error_proved : (k : Name) → IsCover j.zone j.apart (star_under a) k → In (record_of j.zone j.apart k) rs → proves_name_error origin hash rs x ≡ true
+      error_proved k is i =
+          encloser_proved (λ r. true) (λ b. is_covered origin hash rs (star_under b)) refl
+          (any_from_In (λ r. covers origin hash r (star_under a)) (record_of j.zone j.apart k) rs i
+          (covers_is j.zone j.apart k (star_under a) is.on (star_hashed j.zone j.apart a c e) ∙ is.covered))
+
+      pub no_error : In (star_under a) (nsec3_names origin m parameters.opt_out) → proves_name_error origin hash rs x ≡ false
+      no_error i = encloser_refuted (λ r. true) (λ b. is_covered origin hash rs (star_under b)) (not_covered (star_under a) i)
+
+      pub star_denied : (t : ℕ) → In (star_under a) (nsec3_names origin m parameters.opt_out) → In (record_of j.zone j.apart (star_under a)) rs → denies_type origin (record_of j.zone j.apart (star_under a)) (star_under a) t ≡ true
+          → proves_wildcard_no_data origin hash rs x t ≡ true
+      star_denied t on i p =
+          encloser_proved (λ r. true) (λ b. is_denied origin hash rs (star_under b) t) refl
+          (any_from_In (λ r. matches origin hash r (star_under a) && denies_type origin r (star_under a) t) (record_of j.zone j.apart (star_under a)) rs i
+          (λ i. matches_itself j.zone j.apart (star_under a) on i && p i))
+
+    -- where what covers its next closer name is among them
+    pub answer_proved : is_named origin m parameters.opt_out x ≡ false → (a c : Name) → IsEnclosed origin m parameters.opt_out x a c → (k : Name) → IsCover j.zone j.apart c k → In (record_of j.zone j.apart k) rs
+        → proves_wildcard_answer origin hash rs x a ≡ true
+    answer_proved off a c e k is i =
+        λ n. is_at_or_above_complete origin a encloser_in n && (above_test a x).1 longest.above n && (ap (λ o. option_map_or (is_covered origin hash rs) o false) e.is_closer ∙ covered) n
+      where
+        longest : IsLongestAbove on_circle x a
+        longest = longest_is on_circle x a e.is_encloser
+
+        encloser_in : IsAtOrAbove origin a
+        encloser_in = others_above on_circle x a origin longest (below off) (in_named origin m parameters.opt_out origin (origin_in origin m parameters.opt_out))
+
+        covered : is_covered origin hash rs c ≡ true
+        covered =
+            any_from_In (λ r. covers origin hash r c) (record_of j.zone j.apart k) rs i
+            (covers_is j.zone j.apart k c is.on (inr (a, e.is_encloser, inl (e.closer_at, e.closer_below))) ∙ is.covered)

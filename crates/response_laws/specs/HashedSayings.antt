@@ -1,0 +1,181 @@
+-- What a response of a zone that denies by NSEC3 proves to a validator, with opt-out and without
+use Rattle.std.specs.Prelude.{◌≡◌, ◌≢◌, ℕ, Bool, ◌⊎◌, ◌&&◌, cond, List, flat_map, Option, Some, ◌==◌, IsTrue, IsFalse, true}
+use Rattle.std.specs.List.{Contains}
+use Rattle.zone_proto.specs.declared.nx_proof_kind.NxProofKind.TheVariants as kind
+use Rattle.zone_proto.specs.declared.rdata.denial.NSEC3PARAM.{NSEC3PARAM as Nsec3Parameters}
+use Rattle.zone_proto.specs.declared.record.Record.{Record}
+use Rattle.zone_proto.specs.Names.{Name, is_at_or_above, IsAbove, star_under, is_wildcard}
+use Rattle.zone_proto.specs.Sets.{RRset}
+use Rattle.zone_proto.specs.Types.{NS, CNAME, SOA, DS, RRSIG, NSEC, NSEC3}
+use Rattle.zone_map.specs.Wildcards.{exists, renamed}
+use Rattle.zone_map.specs.Zones.{Sets, set_at, owns}
+use Rattle.zone_denial.specs.Authority.{is_below_cut}
+use Rattle.zone_denial.specs.Nsec3Denial.{closest_encloser}
+use Rattle.zone_denial.specs.Nsec3Names.{is_unsigned_delegation}
+use Rattle.zone_denial.specs.Nsec3Zones.{hash_with, IsNsec3Zone, IsCircleName, IsHashed, TellsApart}
+use Rattle.zone_denial.specs.StarLaws.{OwnsNone}
+use Rattle.zone_validation.specs.declared.proof.Proof.{Proof}
+use Rattle.zone_validation.specs.declared.proof.Proof.TheVariants.{NameError, UnsignedDelegation, WildcardNoData}
+use Rattle.zone_validation.specs.Judgement.{nsec3_proof}
+use Rattle.zone_validation.specs.NsecProofs.{DNAME}
+use Rattle.zone_validation.specs.Nsec3Proofs.{proves_name_error, proves_no_data, proves_empty_answer, proves_wildcard_answer, proves_unsigned_delegation}
+use Rattle.zone_validation.specs.Nsec3Records.{Nsec3Record}
+use Rattle.zone_acceptance.specs.Judged.{Unreferred, is_parents_ds}
+use Rattle.zone_acceptance.specs.Nsec3Calls.{told}
+use Rattle.zone_acceptance.specs.Nsec3Judged.{read_nsec3_sets, AreNsec3OfZone, IsNsec3Judged}
+use Rattle.zone_acceptance.specs.Nsec3Soundness.{IsNsec3Sound, IsLeftOut, IsOptOutSound}
+use Rattle.zone_acceptance.specs.Soundness.{IsNoName, IsWithoutData, IsUnsignedDelegation}
+use Rattle.zone_response.specs.declared.response.Part.{Part}
+use Rattle.zone_response.specs.declared.response.Part.TheVariants as part
+use Rattle.zone_response.specs.Queries.{Zone, Query}
+use Rattle.zone_response.specs.Responses.{IsResponse}
+use Rattle.zone_response.specs.Sections.{Sections, sent}
+use Rattle.zone_response.specs.Sources.{star_of}
+use Rattle.response_laws.specs.ProvedSayings.{IsSentSet, IsAnswerPart, authority_part, is_signed_by, AreSigned, HasAuthority, HasSoa, IsEmptyProof}
+use Rattle.response_laws.specs.Sayings.{Saying, name_error, no_data, referral, saying, name_of}
+
+-- ---- the zone
+
+-- the hash of a zone with these parameters
+abbrev pub zone_hash : Zone → Nsec3Parameters → Name → Option (List ℕ)
+zone_hash z parameters = hash_with z.digest_of parameters
+
+-- a zone that denies by NSEC3 alone, with these parameters, as it is once it is secured, above whose origin nothing refers elsewhere
+pub record DeniesByNsec3 (z : Zone) (parameters : Nsec3Parameters) : Type 0 where
+  pub kind : z.nx_proof_kind ≡ Some (kind.Nsec3 parameters.algorithm parameters.salt parameters.iterations parameters.opt_out)
+  pub circle : IsNsec3Zone z.origin z.sets (zone_hash z parameters) parameters
+  pub one_kind : OwnsNone z.sets NSEC
+  pub unreferred : Unreferred z.origin z.sets
+  pub no_dname : (a : Name) → IsAbove a z.origin → IsFalse (owns z.sets a DNAME)
+
+-- the hash tells apart the names that a denial of x hashes, and those of the circle
+abbrev pub HashesApart : Zone → Nsec3Parameters → Name → Type 0
+HashesApart z parameters x = TellsApart (IsHashed z.origin z.sets parameters.opt_out x) (zone_hash z parameters)
+
+-- a name of the zone above which neither a zone cut nor a DNAME stands
+pub record IsReached (origin : Name) (m : Sets) (x : Name) : Type 0 where
+  pub inside : IsTrue (is_at_or_above origin x)
+  pub uncut : IsFalse (is_below_cut origin m x)
+  pub no_dname : (a : Name) → IsAbove a x → IsFalse (owns m a DNAME)
+
+-- what a validator tells by records of a name and a type, which has the zone's hash, and finds the parameters in the records
+abbrev pub told_by : Zone → List Record → Name → ℕ → Option Proof
+told_by z rs x t = told z.digest_of z.origin rs x t
+
+-- ---- the sets of a response
+
+-- the NSEC3 records that a validator reads in the authority section
+abbrev pub shown_nsec3 : Sections → List Nsec3Record
+shown_nsec3 r = read_nsec3_sets r.authorities
+
+-- and all records of that section
+abbrev pub shown_records : Sections → List Record
+shown_records r = flat_map (λ s. s.records) r.authorities
+
+-- opt-out leaves n out if it owns nothing but NS (RFC 5155 section 6)
+abbrev pub may_leave_out : Bool → Sets → Name → Bool
+may_leave_out opt_out m n = opt_out && is_unsigned_delegation m n
+
+-- the zone's set of a star under another name, which may answer for it, as the records rs prove unless opt-out leaves the star out (RFC 5155 section 7.2.6)
+pub record IsHashedStarSet (z : Zone) (parameters : Nsec3Parameters) (rs : List Nsec3Record) (p : Part) (s : RRset) : Type 0 where
+  pub name : Name
+  pub encloser : Name
+  pub record_type : ℕ
+  pub stored : RRset
+  pub stands : set_at z.sets (star_under encloser) record_type ≡ Some stored
+  pub ttl : ℕ
+  pub sent : s ≡ sent p ttl (renamed true (star_under encloser) name stored)
+  pub proved : HashesApart z parameters name → IsFalse (may_leave_out parameters.opt_out z.sets (star_under encloser)) → IsTrue (proves_wildcard_answer z.origin (zone_hash z parameters) rs name encloser)
+
+-- ---- a name error
+
+-- the standard has a proof of a name error: with opt-out only where no star exists under the closest encloser that has an NSEC3 set, since that star is to be denied (RFC 5155 section 7.2.2). One may stand there above an empty name that opt-out leaves out
+abbrev pub HasErrorProof : Zone → Nsec3Parameters → Name → Type 0
+HasErrorProof z parameters x = IsTrue parameters.opt_out → (e : Name) → closest_encloser z.origin z.sets parameters.opt_out x ≡ Some e → IsFalse (exists z.sets (star_under e))
+
+-- what the records of a name error sum up to. With opt-out it is insecure (RFC 5155 section 9.2), and of DS no more than that the name may be an unsigned delegation (section 8.6)
+abbrev pub error_proof : Bool → ℕ → Proof
+error_proof opt_out t = cond (t == DS && opt_out) UnsignedDelegation (NameError opt_out)
+
+-- there is no such name, and that is proved (RFC 5155 section 7.2.2). With opt-out no more is proved of it than that what is there is left out
+pub record IsHashedError (z : Zone) (parameters : Nsec3Parameters) (r : Sections) (x : Name) : Type 0 where
+  pub soa : HasSoa z r
+  pub proved : HasErrorProof z parameters x → IsTrue (proves_name_error z.origin (zone_hash z parameters) (shown_nsec3 r) x)
+  pub told : HasErrorProof z parameters x → (t : ℕ) → nsec3_proof z.origin (zone_hash z parameters) (shown_nsec3 r) x t ≡ Some (error_proof parameters.opt_out t)
+  pub left_out : IsLeftOut z.origin z.sets parameters.opt_out x
+  pub none : IsFalse parameters.opt_out → IsFalse (owns z.sets x NSEC3) → IsNoName z.origin z.sets x
+
+-- ---- no data
+
+-- a type whose absence at x can be shown, as `IsShowable` has it for NSEC
+pub record IsHashedShowable (origin : Name) (m : Sets) (x : Name) (t : ℕ) : Type 0 where
+  pub no_signature : t ≢ RRSIG
+  pub no_apex : t ≡ DS → IsFalse (is_parents_ds origin m x)
+  pub no_star_apex : IsFalse (exists m x) → t ≡ DS → (w : Name) → star_of m x ≡ Some w → IsFalse (is_parents_ds origin m w)
+  pub no_star_cut : IsFalse (exists m x) → (w : Name) → star_of m x ≡ Some w → IsFalse (owns m w NS)
+
+-- opt-out leaves x out: it has no NSEC3 set
+abbrev pub HasNoHashedSet : Zone → Nsec3Parameters → Name → Type 0
+HasNoHashedSet z parameters x = IsTrue parameters.opt_out × (IsCircleName z.origin z.sets parameters.opt_out x → ⊥)
+
+-- what may not be taken as secure (RFC 5155 section 9.2)
+abbrev pub IsInsecure : Option Proof → Type 0
+IsInsecure (Some (NameError opted_out)) = opted_out ≡ true
+IsInsecure (Some (WildcardNoData opted_out)) = opted_out ≡ true
+IsInsecure (Some UnsignedDelegation) = Unit {0}
+IsInsecure _ = ⊥
+
+-- what no data by its own record says of a name, with opt-out too: it has an NSEC3 set, and owns neither a set of the type nor an alias
+pub record IsLacking (z : Zone) (parameters : Nsec3Parameters) (x : Name) (t : ℕ) : Type 0 where
+  pub on_circle : IsCircleName z.origin z.sets parameters.opt_out x
+  pub none : t ≢ NSEC3 → IsFalse (owns z.sets x t)
+  pub no_alias : IsFalse (owns z.sets x CNAME)
+
+-- a name has no data of a type, and that is proved (RFC 5155 sections 7.2.3 to 7.2.5). Where opt-out leaves the name out, what is proved of it is insecure, and of DS that it may be an unsigned delegation
+pub record IsHashedEmpty (z : Zone) (parameters : Nsec3Parameters) (r : Sections) (x : Name) (t : ℕ) : Type 0 where
+  pub soa : HasSoa z r
+  pub proved : IsHashedShowable z.origin z.sets x t → IsTrue (proves_empty_answer z.origin (zone_hash z parameters) (shown_nsec3 r) x t)
+  pub told : IsHashedShowable z.origin z.sets x t → IsEmptyProof t (nsec3_proof z.origin (zone_hash z parameters) (shown_nsec3 r) x t) ⊎ HasNoHashedSet z parameters x
+  pub unsigned : HasNoHashedSet z parameters x → t ≡ DS → nsec3_proof z.origin (zone_hash z parameters) (shown_nsec3 r) x t ≡ Some UnsignedDelegation
+  pub insecure : HasNoHashedSet z parameters x → IsInsecure (nsec3_proof z.origin (zone_hash z parameters) (shown_nsec3 r) x t) × IsLeftOut z.origin z.sets parameters.opt_out x
+  pub none : IsHashedShowable z.origin z.sets x t → IsFalse parameters.opt_out → IsFalse (is_wildcard x) → IsFalse (owns z.sets x NSEC3) → IsWithoutData z.origin z.sets x t
+
+-- ---- a referral
+
+-- a zone cut has no DS, and that is proved, by its own record or as one that opt-out leaves out (RFC 5155 sections 7.2.7 and 8.9)
+pub record IsHashedUnsigned (z : Zone) (parameters : Nsec3Parameters) (r : Sections) (c : Name) : Type 0 where
+  pub proved : IsTrue (proves_unsigned_delegation z.origin (zone_hash z parameters) (shown_nsec3 r) c)
+  pub told : nsec3_proof z.origin (zone_hash z parameters) (shown_nsec3 r) c DS ≡ Some UnsignedDelegation
+  pub none : IsUnsignedDelegation z.origin z.sets c
+
+-- the name's servers are told, and what is proved of its keys, as `IsProvedReferral` has it for NSEC
+pub record IsHashedReferral (z : Zone) (parameters : Nsec3Parameters) (r : Sections) (c : Name) : Type 0 where
+  pub servers : HasAuthority z r part.Records c NS
+  pub keys : IsFalse (owns z.sets c SOA) → HasAuthority z r part.Signed c DS ⊎ IsHashedUnsigned z parameters r c
+
+-- ---- all of it
+
+-- what is said of a name is proved where the hash tells the names apart that a denial of it hashes
+pub record ProvesByHashes (z : Zone) (parameters : Nsec3Parameters) (q : Query) (r : Sections) : Type 0 where
+  -- each set is the zone's
+  pub authorities : (s : RRset) → Contains r.authorities s → IsSentSet z.sets (authority_part s) s
+  pub answers : (s : RRset) → Contains r.answers s → (p : Part) × IsAnswerPart q.record_type p × (IsSentSet z.sets p s ⊎ IsHashedStarSet z parameters (shown_nsec3 r) p s)
+  -- where each set of a type is signed by the zone, NS aside, so is each of these
+  pub signatures : (t : ℕ) → t ≢ NS → AreSigned z t → (s : RRset) → Contains r.authorities s → s.record_type ≡ t → IsTrue (is_signed_by z.origin s)
+  -- each NSEC3 record shown is the zone's, and they prove nothing of any name but what is so; with opt-out as far as that goes
+  pub records : AreNsec3OfZone z.sets (shown_nsec3 r)
+  pub sound : (x : Name) → IsNsec3Judged z.origin z.sets (zone_hash z parameters) parameters x → IsNsec3Sound z.origin z.sets (zone_hash z parameters) parameters.opt_out x (shown_nsec3 r)
+  pub opt_out_sound : (x : Name) → HashesApart z parameters x → IsOptOutSound z.origin z.sets (zone_hash z parameters) parameters.opt_out x (shown_nsec3 r)
+  pub data_sound : (x : Name) (t : ℕ) → HashesApart z parameters x → IsTrue (proves_no_data z.origin (zone_hash z parameters) (shown_nsec3 r) x t) → IsLacking z parameters x t
+  -- a validator finds the zone's parameters in what stands there: what it tells by these records is what they prove by the zone's hash
+  pub parameters_found : (x : Name) (t : ℕ) → HashesApart z parameters x → told_by z (shown_records r) x t ≡ nsec3_proof z.origin (zone_hash z parameters) (shown_nsec3 r) x t
+  -- what is said is said of a name that neither a cut nor a DNAME stands above, and proved
+  pub reached : (w : Saying) → saying q r ≡ Some w → IsReached z.origin z.sets (name_of w)
+  pub error : (x : Name) → saying q r ≡ Some (name_error x) → HashesApart z parameters x → IsHashedError z parameters r x
+  pub empty : (x : Name) → saying q r ≡ Some (no_data x) → HashesApart z parameters x → IsHashedEmpty z parameters r x q.record_type
+  pub delegation : (c : Name) → saying q r ≡ Some (referral c) → HashesApart z parameters c → IsHashedReferral z parameters r c
+
+-- ---- each response to a query with DNSSEC
+
+abbrev pub ResponseProvesByHashes : Type 0
+ResponseProvesByHashes = (z : Zone) (parameters : Nsec3Parameters) (q : Query) (r : Sections) → DeniesByNsec3 z parameters → IsTrue q.signed → IsResponse z q r → ProvesByHashes z parameters q r
