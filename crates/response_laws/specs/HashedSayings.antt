@@ -58,7 +58,7 @@ pub record IsReached (origin : Name) (m : Sets) (x : Name) : Type 0 where
   pub uncut : IsFalse (is_below_cut origin m x)
   pub no_dname : (a : Name) → IsAbove a x → IsFalse (owns m a DNAME)
 
--- what a validator tells by records of a name and a type, which has the zone's hash, and finds the parameters in the records
+-- what a validator that has the hash of a zone tells by records of a name and a type: it finds the parameters in the records
 abbrev pub told_by : Zone → List Record → Name → ℕ → Option Proof
 told_by z rs x t = told z.digest_of z.origin rs x t
 
@@ -68,7 +68,11 @@ told_by z rs x t = told z.digest_of z.origin rs x t
 abbrev pub shown_nsec3 : Sections → List Nsec3Record
 shown_nsec3 r = read_nsec3_sets r.authorities
 
--- and all records of that section
+-- what they sum up to, of a name and a type, by the hash of the zone
+abbrev pub proof_in : Zone → Nsec3Parameters → Sections → Name → ℕ → Option Proof
+proof_in z parameters r x t = nsec3_proof z.origin (zone_hash z parameters) (shown_nsec3 r) x t
+
+-- all records of that section
 abbrev pub shown_records : Sections → List Record
 shown_records r = flat_map (λ s. s.records) r.authorities
 
@@ -89,7 +93,7 @@ pub record IsHashedStarSet (z : Zone) (parameters : Nsec3Parameters) (rs : List 
 
 -- ---- a name error
 
--- the standard has a proof of a name error: with opt-out only where no star exists under the closest encloser that has an NSEC3 set, since that star is to be denied (RFC 5155 section 7.2.2). One may stand there above an empty name that opt-out leaves out
+-- the standard has a proof of a name error of x: always without opt-out, and with it only where no star exists under the closest encloser that has an NSEC3 set, since that star is to be denied (RFC 5155 section 7.2.2). Above an empty name that opt-out leaves out one may stand
 abbrev pub HasErrorProof : Zone → Nsec3Parameters → Name → Type 0
 HasErrorProof z parameters x = IsTrue parameters.opt_out → (e : Name) → closest_encloser z.origin z.sets parameters.opt_out x ≡ Some e → IsFalse (exists z.sets (star_under e))
 
@@ -101,13 +105,13 @@ error_proof opt_out t = cond (t == DS && opt_out) UnsignedDelegation (NameError 
 pub record IsHashedError (z : Zone) (parameters : Nsec3Parameters) (r : Sections) (x : Name) : Type 0 where
   pub soa : HasSoa z r
   pub proved : HasErrorProof z parameters x → IsTrue (proves_name_error z.origin (zone_hash z parameters) (shown_nsec3 r) x)
-  pub told : HasErrorProof z parameters x → (t : ℕ) → nsec3_proof z.origin (zone_hash z parameters) (shown_nsec3 r) x t ≡ Some (error_proof parameters.opt_out t)
+  pub told : HasErrorProof z parameters x → (t : ℕ) → proof_in z parameters r x t ≡ Some (error_proof parameters.opt_out t)
   pub left_out : IsLeftOut z.origin z.sets parameters.opt_out x
   pub none : IsFalse parameters.opt_out → IsFalse (owns z.sets x NSEC3) → IsNoName z.origin z.sets x
 
 -- ---- no data
 
--- a type whose absence at x can be shown, as `IsShowable` has it for NSEC
+-- a type whose absence at x can be shown, as `IsShowable` has it for NSEC: neither RRSIG, nor DS where the parent denies it; and where x doesn't exist, the same of the star that is asked for it, which is no delegation either
 pub record IsHashedShowable (origin : Name) (m : Sets) (x : Name) (t : ℕ) : Type 0 where
   pub no_signature : t ≢ RRSIG
   pub no_apex : t ≡ DS → IsFalse (is_parents_ds origin m x)
@@ -135,9 +139,9 @@ pub record IsLacking (z : Zone) (parameters : Nsec3Parameters) (x : Name) (t : �
 pub record IsHashedEmpty (z : Zone) (parameters : Nsec3Parameters) (r : Sections) (x : Name) (t : ℕ) : Type 0 where
   pub soa : HasSoa z r
   pub proved : IsHashedShowable z.origin z.sets x t → IsTrue (proves_empty_answer z.origin (zone_hash z parameters) (shown_nsec3 r) x t)
-  pub told : IsHashedShowable z.origin z.sets x t → IsEmptyProof t (nsec3_proof z.origin (zone_hash z parameters) (shown_nsec3 r) x t) ⊎ HasNoHashedSet z parameters x
-  pub unsigned : HasNoHashedSet z parameters x → t ≡ DS → nsec3_proof z.origin (zone_hash z parameters) (shown_nsec3 r) x t ≡ Some UnsignedDelegation
-  pub insecure : HasNoHashedSet z parameters x → IsInsecure (nsec3_proof z.origin (zone_hash z parameters) (shown_nsec3 r) x t) × IsLeftOut z.origin z.sets parameters.opt_out x
+  pub told : IsHashedShowable z.origin z.sets x t → IsEmptyProof t (proof_in z parameters r x t) ⊎ HasNoHashedSet z parameters x
+  pub unsigned : HasNoHashedSet z parameters x → t ≡ DS → proof_in z parameters r x t ≡ Some UnsignedDelegation
+  pub insecure : HasNoHashedSet z parameters x → IsInsecure (proof_in z parameters r x t) × IsLeftOut z.origin z.sets parameters.opt_out x
   pub none : IsHashedShowable z.origin z.sets x t → IsFalse parameters.opt_out → IsFalse (is_wildcard x) → IsFalse (owns z.sets x NSEC3) → IsWithoutData z.origin z.sets x t
 
 -- ---- a referral
@@ -145,7 +149,7 @@ pub record IsHashedEmpty (z : Zone) (parameters : Nsec3Parameters) (r : Sections
 -- a zone cut has no DS, and that is proved, by its own record or as one that opt-out leaves out (RFC 5155 sections 7.2.7 and 8.9)
 pub record IsHashedUnsigned (z : Zone) (parameters : Nsec3Parameters) (r : Sections) (c : Name) : Type 0 where
   pub proved : IsTrue (proves_unsigned_delegation z.origin (zone_hash z parameters) (shown_nsec3 r) c)
-  pub told : nsec3_proof z.origin (zone_hash z parameters) (shown_nsec3 r) c DS ≡ Some UnsignedDelegation
+  pub told : proof_in z parameters r c DS ≡ Some UnsignedDelegation
   pub none : IsUnsignedDelegation z.origin z.sets c
 
 -- the name's servers are told, and what is proved of its keys, as `IsProvedReferral` has it for NSEC
@@ -168,7 +172,7 @@ pub record ProvesByHashes (z : Zone) (parameters : Nsec3Parameters) (q : Query) 
   pub opt_out_sound : (x : Name) → HashesApart z parameters x → IsOptOutSound z.origin z.sets (zone_hash z parameters) parameters.opt_out x (shown_nsec3 r)
   pub data_sound : (x : Name) (t : ℕ) → HashesApart z parameters x → IsTrue (proves_no_data z.origin (zone_hash z parameters) (shown_nsec3 r) x t) → IsLacking z parameters x t
   -- a validator finds the zone's parameters in what stands there: what it tells by these records is what they prove by the zone's hash
-  pub parameters_found : (x : Name) (t : ℕ) → HashesApart z parameters x → told_by z (shown_records r) x t ≡ nsec3_proof z.origin (zone_hash z parameters) (shown_nsec3 r) x t
+  pub parameters_found : (x : Name) (t : ℕ) → HashesApart z parameters x → told_by z (shown_records r) x t ≡ proof_in z parameters r x t
   -- what is said is said of a name that neither a cut nor a DNAME stands above, and proved
   pub reached : (w : Saying) → saying q r ≡ Some w → IsReached z.origin z.sets (name_of w)
   pub error : (x : Name) → saying q r ≡ Some (name_error x) → HashesApart z parameters x → IsHashedError z parameters r x

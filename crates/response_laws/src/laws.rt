@@ -40,8 +40,8 @@ pub fn responses_prove_what_they_say()
 /// empty name that is left out, where a star stands above it (`HasErrorProof`); nor has the answer of a star that owns nothing but NS
 /// and is left out.
 ///
-/// No data are proved of the types that `IsHashedShowable` has, as by NSEC: not of RRSIG, of DS of an apex, or where the star that is
-/// asked for the name owns NS.
+/// That there are no data is proved as by NSEC: of every type but RRSIG, and DS of an apex; and of a name that doesn't exist where the
+/// star that is asked for it owns no NS (`IsHashedShowable`). A validator finds the parameters in the records (`told_by`).
 pub fn hashed_responses_prove_what_they_say()
     ensures { ResponseProvesByHashes }
 {}

@@ -7,7 +7,6 @@ use Rattle.zone_proto.specs.Names.{Name}
 use Rattle.zone_message.specs.declared.query.Query.{Query as ReadQuery}
 use Rattle.zone_message.specs.Messages.{Parts, message_of}
 use Rattle.zone_message.specs.Queries.{query_of}
-use Rattle.zone_validation.specs.Judgement.{nsec3_proof}
 use Rattle.zone_validation.specs.NsecRecords.{nsec_records}
 use Rattle.zone_validation.specs.Nsec3Records.{nsec3_records}
 use Rattle.zone_response.specs.Queries.{Zone}
@@ -16,7 +15,7 @@ use Rattle.zone_response.specs.Sections.{Sections}
 use Rattle.zone_server.specs.declared.transport.Transport.{Transport}
 use Rattle.zone_server.specs.Answers.{asked_of, code_number, records_sent, AreUnsendable, IsAnswer}
 use Rattle.zone_server.specs.ServedZones.{IsAnswering}
-use Rattle.response_laws.specs.HashedSayings.{zone_hash, DeniesByNsec3, HashesApart, told_by, ProvesByHashes, shown_nsec3}
+use Rattle.response_laws.specs.HashedSayings.{DeniesByNsec3, HashesApart, told_by, shown_nsec3, proof_in, ProvesByHashes}
 use Rattle.response_laws.specs.ProvedSayings.{DeniesByNsec, ProvesWhatItSays, shown}
 
 -- a zone answers for a name and a type, and no other does
@@ -45,7 +44,7 @@ pub record ProvesByHashesInMessage (z : Zone) (parameters : Nsec3Parameters) (q 
   pub sections : HasSections said m
   pub shown : nsec3_records m.authorities ≡ shown_nsec3 said
   -- and it finds the zone's parameters in them
-  pub parameters_found : (x : Name) (t : ℕ) → HashesApart z parameters x → told_by z m.authorities x t ≡ nsec3_proof z.origin (zone_hash z parameters) (shown_nsec3 said) x t
+  pub parameters_found : (x : Name) (t : ℕ) → HashesApart z parameters x → told_by z m.authorities x t ≡ proof_in z parameters said x t
 
 -- no message has what the zone says, so the server has failed, and says nothing else (RFC 1035 section 4.1.1)
 pub record IsFailure (z : Zone) (q : ReadQuery) (m : Parts) : Type 0 where
