@@ -15,5 +15,11 @@ pub mod Signatures
 pub mod Summed
 pub mod Proved
 pub mod Responses
+pub mod AgreementNames
+pub mod AgreementSteps
+pub mod AgreementPaths
+pub mod Agreement
 mod SayingExamples
 mod MetPremises
+mod AgreementMet
+mod AgreementExamples

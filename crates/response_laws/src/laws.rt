@@ -3,6 +3,7 @@
 //!
 //! What a response says is read in the response alone: the data of a name, a name error, no data, or a referral (`saying`); and so are
 //! the NSEC records by which it proves that. Signatures are taken as verified.
+ghost use Rattle.response_laws.specs.Agreement.{ResponsesAgree};
 ghost use Rattle.response_laws.specs.ProvedSayings.{ResponseProvesWhatItSays};
 ghost use Rattle.response_laws.specs.Sayings.{ResponseSaysHowItEnds};
 
@@ -25,4 +26,18 @@ pub fn responses_say_how_they_end()
 /// NSEC set there is the child's.
 pub fn responses_prove_what_they_say()
     ensures { ResponseProvesWhatItSays }
+{}
+
+/// The answer section of a response has the sets that a lookup answers with, as they go out, whatever signs the sets that the lookup
+/// makes. Where the search ends at a name of the zone without a set, at the queried one or at the one to which a chain of aliases leads
+/// on, the code is that of the lookup's negative answer for this name (RFC 6604 section 3); else there is no error (`Agrees`).
+///
+/// So it is where the rules of both are the same, with DNSSEC and without it. The zone has an SOA and no sets outside it, its origin
+/// isn't a star, and a CNAME stands alone (`IsOrdinaryZone`). The query is of class IN, for one type of data other than NSEC and NSEC3
+/// (`IsOrdinaryType`), and for a name of the zone. On the way down to each name of the zone that is searched stands no zone cut and no
+/// DNAME, and if it doesn't exist, it is no star and asks none that is a delegation (`IsOrdinary`); and no ANAME stands in for its
+/// addresses (`NoStandIn`). Each name that is hashed for the proofs has a hashed owner (`IsProvable`). A name that owns sets of denial
+/// alone, as NSEC3, is told by the code of a name error, where a lookup may say that it exists (RFC 5155 section 7.2.8).
+pub fn responses_agree_with_lookups()
+    ensures { ResponsesAgree }
 {}
