@@ -19,6 +19,7 @@ pub mod AgreementNames
 pub mod AgreementSteps
 pub mod AgreementPaths
 pub mod Agreement
+pub mod AgreementProofs
 mod SayingExamples
 mod MetPremises
 mod AgreementMet

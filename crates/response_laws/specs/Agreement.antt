@@ -1,7 +1,9 @@
 -- Where the answers of a response are those of a lookup
-use Rattle.std.specs.Prelude.{◌≡◌, ◌≢◌, ℕ, cond, List, [], ◌∷◌, ◌++◌, map, Option, Some, None, option_to_list, IsOk, IsTrue, IsFalse}
+use Rattle.std.specs.Prelude.{◌≡◌, ◌≢◌, ℕ, cond, List, [], ◌∷◌, ◌++◌, map, Option, Some, None, option_to_list, IsOk, IsTrue, IsFalse, ⊤}
 use Rattle.std.specs.List.{Contains}
 use Rattle.std.specs.Option.{option_map_or}
+use Rattle.zone_proto.specs.declared.nx_proof_kind.NxProofKind.{NxProofKind}
+use Rattle.zone_proto.specs.declared.nx_proof_kind.NxProofKind.TheVariants as kind
 use Rattle.zone_proto.specs.declared.record.Record.{Record}
 use Rattle.zone_proto.specs.declared.response_code.ResponseCode.{ResponseCode}
 use Rattle.zone_proto.specs.declared.response_code.ResponseCode.TheVariants as code
@@ -14,6 +16,7 @@ use Rattle.zone_map.specs.Wildcards.{exists, found}
 use Rattle.zone_map.specs.Zones.{Sets, owns, owns_at_or_below, IsZone}
 use Rattle.zone_inner.specs.Flattening.{stands_for_addresses}
 use Rattle.zone_inner.specs.Replies.{NegativeAnswer, name_exists, nx_domain, refused, negative_answer, Answers, one_set, chained, Reply, negative, answered, is_followed, IsReply}
+use Rattle.zone_response.specs.Denials.{hashed_owner_of}
 use Rattle.zone_response.specs.Paths.{Path, path}
 use Rattle.zone_response.specs.Queries.{Zone, Query, Inquiry, inquiry}
 use Rattle.zone_response.specs.QueryTypes.{is_no_data}
@@ -124,3 +127,14 @@ abbrev pub ResponsesAgree : Type 0
 ResponsesAgree =
     (sign : RRset → List Record) (z : Zone) (q : Query) (r : Sections) (reply : Reply) → IsOrdinaryZone z.origin z.sets → IsOrdinaryQuery z q → IsProvable z q (path (inquiry z q) q.name)
     → IsResponse z q r → IsReply sign z.origin z.sets q.signed q.name q.record_type reply → Agrees z q r reply
+
+-- ---- what is provable
+
+-- where a zone denies by hashed names, each name has a hashed owner (RFC 5155 sections 3 and 5)
+abbrev pub HasHashedOwners : Zone → Option NxProofKind → Type 0
+HasHashedOwners z (Some (kind.Nsec3 algorithm salt iterations opt_out)) = (x : Name) → IsOk (hashed_owner_of z algorithm salt iterations x)
+HasHashedOwners z _ = ⊤
+
+-- then whatever a path says is provable, and without DNSSEC nothing needs to be proved
+abbrev pub ProvableByOwners : Type 0
+ProvableByOwners = (z : Zone) (q : Query) (p : Path) → (IsTrue q.signed → HasHashedOwners z z.nx_proof_kind) → IsProvable z q p

@@ -3,7 +3,7 @@
 //!
 //! What a response says is read in the response alone: the data of a name, a name error, no data, or a referral (`saying`); and so are
 //! the NSEC records by which it proves that. Signatures are taken as verified.
-ghost use Rattle.response_laws.specs.Agreement.{ResponsesAgree};
+ghost use Rattle.response_laws.specs.Agreement.{ProvableByOwners, ResponsesAgree};
 ghost use Rattle.response_laws.specs.ProvedSayings.{ResponseProvesWhatItSays};
 ghost use Rattle.response_laws.specs.Sayings.{ResponseSaysHowItEnds};
 
@@ -36,8 +36,10 @@ pub fn responses_prove_what_they_say()
 /// isn't a star, and a CNAME stands alone (`IsOrdinaryZone`). The query is of class IN, for one type of data other than NSEC and NSEC3
 /// (`IsOrdinaryType`), and for a name of the zone. On the way down to each name of the zone that is searched stands no zone cut and no
 /// DNAME, and if it doesn't exist, it is no star and asks none that is a delegation (`IsOrdinary`); and no ANAME stands in for its
-/// addresses (`NoStandIn`). Each name that is hashed for the proofs has a hashed owner (`IsProvable`). A name that owns sets of denial
-/// alone, as NSEC3, is told by the code of a name error, where a lookup may say that it exists (RFC 5155 section 7.2.8).
+/// addresses (`NoStandIn`). What the response says is provable (`IsProvable`), as it is without DNSSEC, and in each zone that doesn't
+/// deny by hashed names or in which each name has a hashed owner. A name that owns sets of denial alone, as NSEC3, is told by the code
+/// of a name error, where a lookup may say that it exists (RFC 5155 section 7.2.8).
 pub fn responses_agree_with_lookups()
-    ensures { ResponsesAgree }
+    ensures agreement { ResponsesAgree }
+    ensures provable { ProvableByOwners }
 {}
