@@ -20,7 +20,7 @@ pub mod AgreementSteps
 pub mod AgreementPaths
 pub mod Agreement
 pub mod AgreementProofs
-mod SayingExamples
-mod MetPremises
 mod AgreementMet
 mod AgreementExamples
+mod SayingExamples
+mod MetPremises

@@ -1,3 +1,3 @@
+pub mod Agreement
 pub mod Sayings
 pub mod ProvedSayings
-pub mod Agreement
