@@ -154,6 +154,15 @@ denial_answered : IsResponse (zone (alias a b ∷ denial ∷ [])) (asked a NSEC)
 unfolding path
 denial_answered = record { code = refl; authoritative = refl; answers = refl; authorities = refl; additionals = refl; glue = refl; left_at = refl }
 
+-- ---- an NSEC set alone: a name that owns nothing else doesn't exist
+
+lone_found : looked_up (denial ∷ []) a NSEC ≡ Some denial.1
+lone_found = refl
+
+lone_denied : IsResponse (zone (denial ∷ [])) (asked a NSEC) (negative code.NXDomain)
+unfolding path
+lone_denied = record { code = refl; authoritative = refl; answers = refl; authorities = refl; additionals = refl; glue = refl; left_at = refl }
+
 -- ---- the owner of an NSEC3 set (RFC 5155 section 7.2.8)
 
 abbrev hashed : RrKey × RRset

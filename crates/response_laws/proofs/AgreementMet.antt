@@ -129,22 +129,22 @@ abbrev asked : Name → Query
 asked n = record { name = n; record_type = A; class = IN; signed = false }
 
 is_ordinary_type : IsOrdinaryType A
-is_ordinary_type = record { searched = refl; one = λ e. other_type A 255 refl refl e; no_signature = λ e. other_type A 46 refl refl e; no_denial = refl }
+is_ordinary_type = record { searched = refl; one = λ e. other_type A 255 refl refl e; no_signature = λ e. other_type A 46 refl refl e; no_hashed = λ e. other_type A 50 refl refl e }
 
 abbrev inquired : Name → Inquiry
 inquired n = inquiry zone (asked n)
 
 ordinary_a : IsOrdinary (inquired a) a
-ordinary_a = record { unturned = refl; unstarred = λ k. refl; uncut_star = λ w e. absurd cc }
+ordinary_a = record { unturned = refl; unstarred = λ k. refl; uncut_star = λ w e. absurd cc; nsec = λ e. absurd (other_type A 47 refl refl e) }
 
 ordinary_c : IsOrdinary (inquired c) c
-ordinary_c = record { unturned = refl; unstarred = λ k. refl; uncut_star = λ w e. absurd cc }
+ordinary_c = record { unturned = refl; unstarred = λ k. refl; uncut_star = λ w e. absurd cc; nsec = λ e. absurd (other_type A 47 refl refl e) }
 
 ordinary_made : IsOrdinary (inquired a) made
-ordinary_made = record { unturned = refl; unstarred = λ k. refl; uncut_star = λ w e. let same : star ≡ w = cc in ap (λ n. owns sets n NS) (sym same) }
+ordinary_made = record { unturned = refl; unstarred = λ k. refl; uncut_star = λ w e. let same : star ≡ w = cc in ap (λ n. owns sets n NS) (sym same); nsec = λ e. absurd (other_type A 47 refl refl e) }
 
 ordinary_gone : (n : Name) → IsOrdinary (inquired n) gone
-ordinary_gone n = record { unturned = refl; unstarred = λ k. refl; uncut_star = λ w e. let same : star_under origin ≡ w = cc in ap (λ n. owns sets n NS) (sym same) }
+ordinary_gone n = record { unturned = refl; unstarred = λ k. refl; uncut_star = λ w e. let same : star_under origin ≡ w = cc in ap (λ n. owns sets n NS) (sym same); nsec = λ e. absurd (other_type A 47 refl refl e) }
 
 -- behind a stands the set of the star under the name
 abbrev made_set : RRset

@@ -64,22 +64,17 @@ module _ (m : Sets) (n : Name) where
 
   module _ (t : ℕ) where
     -- the set of the type
-    pub exact_own : CnamesStandAlone m → is_denial_type t ≡ false → (s : RRset) → set_at m n t ≡ Some s → exact m n t ≡ Some s
-    exact_own alone plain s e = by (t == CNAME) refl (owns m n CNAME) refl
+    pub exact_own : ((t == CNAME) ≡ false → owns m n CNAME ≡ false) → (s : RRset) → set_at m n t ≡ Some s → exact m n t ≡ Some s
+    exact_own beside s e = by (t == CNAME) refl
       where
         other : (b : Bool) → is_address t ≡ b → (c : Bool) → from (of_types b true false c t) ≡ Some s
         other false f c = e
         other true f true = ap (option_and_then (set_at m n)) (first_of_addresses t f) ∙ e
         other true f false = e
 
-        by : (b : Bool) → (t == CNAME) ≡ b → (c : Bool) → owns m n CNAME ≡ c → exact m n t ≡ Some s
-        by true f c g = subst (λ u. set_at m n u ≡ Some s → exact m n u ≡ Some s) (sym (eqb-true t CNAME f)) (exact_alias_itself s) e
-        by false f true g = absurd (clash (alone.alone n t g (ap is_some e)))
-          where
-            clash : (t ≡ CNAME) ⊎ (is_denial_type t ≡ true) → ⊥
-            clash (inl p) = true≢false (sym (ap (λ u. u == CNAME) p) ∙ f)
-            clash (inr p) = true≢false (sym p ∙ plain)
-        by false f false g = exact_is t ∙ (λ i. from (of_types (is_address t) (is_some (e i)) (g i) (owns m n ANAME) t)) ∙ other (is_address t) refl (owns m n ANAME)
+        by : (b : Bool) → (t == CNAME) ≡ b → exact m n t ≡ Some s
+        by true f = subst (λ u. set_at m n u ≡ Some s → exact m n u ≡ Some s) (sym (eqb-true t CNAME f)) (exact_alias_itself s) e
+        by false f = exact_is t ∙ (λ i. from (of_types (is_address t) (is_some (e i)) (beside f i) (owns m n ANAME) t)) ∙ other (is_address t) refl (owns m n ANAME)
 
     -- without it, the alias
     pub exact_alias : CnamesStandAlone m → (s : RRset) → set_at m n t ≡ None → set_at m n CNAME ≡ Some s → exact m n t ≡ Some s
@@ -110,9 +105,9 @@ module _ (m : Sets) (n : Name) where
         by true a = ap (λ c. from (cond c (ANAME ∷ []) [])) (flat a)
 
     -- so it is where the name doesn't exist
-    pub exact_absent : is_denial_type t ≡ false → exists m n ≡ false → exact m n t ≡ None
-    exact_absent plain absent =
-        exact_nothing (no_set (set_at m n t) (owned t plain)) (no_set (set_at m n CNAME) (owned CNAME refl)) (λ a. owned ANAME refl)
+    pub exact_absent : owns m n t ≡ false → exists m n ≡ false → exact m n t ≡ None
+    exact_absent unowned absent =
+        exact_nothing (no_set (set_at m n t) unowned) (no_set (set_at m n CNAME) (owned CNAME refl)) (λ a. owned ANAME refl)
       where
         no_set : (o : Option RRset) → is_some o ≡ false → o ≡ None
         no_set None k = refl
@@ -147,10 +142,10 @@ module _ (m : Sets) (signed : Bool) (n : Name) (t : ℕ) (unreferred : referral 
       ∙ or_none (direct m n t) ∙ direct_is
 
   -- at a name that doesn't, by its star
-  pub found_by_star : is_denial_type t ≡ false → exists m n ≡ false → is_wildcard n ≡ false
+  pub found_by_star : owns m n t ≡ false → exists m n ≡ false → is_wildcard n ≡ false
       → found m signed n t ≡ option_and_then (λ s. option_map (renamed signed s n) (direct m s t)) (option_map star_under (closest_encloser m n))
-  found_by_star plain absent unstarred =
-      ap (λ o. option_or o (wildcard m signed n t)) (direct_is ∙ exact_absent m n t plain absent)
+  found_by_star unowned absent unstarred =
+      ap (λ o. option_or o (wildcard m signed n t)) (direct_is ∙ exact_absent m n t unowned absent)
       ∙ ap (option_and_then (λ s. option_map (renamed signed s n) (direct m s t))) (star_asked m n absent unstarred)
 
 -- ---- outside a zone nothing is found

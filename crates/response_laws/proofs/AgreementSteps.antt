@@ -11,8 +11,10 @@ use Rattle.zone_proto.proofs.Names.Tree.{above_cases}
 use Rattle.zone_map.specs.AnyTypes.{any_type}
 use Rattle.zone_map.specs.Chains.{cname_target}
 use Rattle.zone_map.specs.Direct.{is_delegated, is_delegated_for, is_address, referral, exact, direct}
+use Rattle.zone_map.specs.Upserts.{is_denial_type}
 use Rattle.zone_map.specs.Wildcards.{exists, closest_encloser, renamed, found}
 use Rattle.zone_map.specs.Zones.{Sets, set_at, owns}
+use Rattle.zone_map.proofs.ExistingNames.{owner_exists}
 use Rattle.zone_denial.proofs.Chain.NsecBelow.{above_at}
 use Rattle.zone_denial.proofs.Names.LongestAncestors.{above_above, longest_is}
 use Rattle.zone_inner.specs.Flattening.{stands_for_addresses}
@@ -23,6 +25,7 @@ use Rattle.zone_response.specs.declared.response.Part.TheVariants as part
 use Rattle.zone_response.specs.Nodes.{AtNode, own, alias, nothing, asked_set, stand_in_set, first_of, at_node}
 use Rattle.zone_response.specs.Queries.{Inquiry}
 use Rattle.zone_response.specs.Sections.{as_it_is, part_for, is_signed}
+use Rattle.zone_response.specs.Sources
 use Rattle.zone_response.specs.Sources.{star_of, is_there}
 use Rattle.zone_response.specs.Steps.{complete, missing, outside, ends, Step, at_end, made_by, made_names, after_alias, keeps, node_step, step_at, star_step, name_step, turned_step, step}
 use Rattle.response_laws.specs.Agreement.{IsOrdinaryZone, IsOrdinaryType, IsOrdinary, NoStandIn}
@@ -49,9 +52,9 @@ right_false : (b : Bool) → b || false ≡ b
 right_false true = refl
 right_false false = refl
 
-neither_left : (a b : Bool) → a || b ≡ false → b ≡ false
-neither_left true b e = absurd (true≢false e)
-neither_left false b e = e
+first_of_either : (a b : Bool) → b ≡ false → a || b ≡ true → a ≡ true
+first_of_either true b f e = refl
+first_of_either false b f e = absurd (true≢false (sym e ∙ f))
 
 never_both : (b : Bool) → b && not b ≡ false
 never_both true = refl
@@ -75,12 +78,12 @@ module _ (q : Inquiry) (zone : IsOrdinaryZone q.origin q.sets) (plain : IsOrdina
 
   asked : (a : Name) → asked_set m a t ≡ set_at m a t
   asked a =
-      (λ i. cond (neither_left (t == NSEC) (t == NSEC3) plain.no_denial i) None
+      (λ i. cond (differs t NSEC3 plain.no_hashed i) None
       (option_and_then (λ s. cond (signature i) (cond (is_signed s) (Some s) None) (Some s)) (set_at m a (cond (differs t ANY plain.one i || signature i) (any_type m a) t))))
       ∙ kept (set_at m a t)
 
-  finds_at : (a : Name) → FindsAt m a t
-  finds_at a = by (set_at m a t) refl (set_at m a CNAME) refl (is_address t) refl (set_at m a ANAME) refl
+  finds_at : (a : Name) → (owns m a t ≡ true → (t == CNAME) ≡ false → owns m a CNAME ≡ false) → FindsAt m a t
+  finds_at a beside = by (set_at m a t) refl (set_at m a CNAME) refl (is_address t) refl (set_at m a ANAME) refl
     where
       other_type : (s : RRset) → set_at m a t ≡ None → set_at m a CNAME ≡ Some s → (b : Bool) → (t == CNAME) ≡ b → b ≡ false
       other_type s e f false g = refl
@@ -91,7 +94,7 @@ module _ (q : Inquiry) (zone : IsOrdinaryZone q.origin q.sets) (plain : IsOrdina
 
       by : (o : Option RRset) → set_at m a t ≡ o → (c : Option RRset) → set_at m a CNAME ≡ c → (b : Bool) → is_address t ≡ b → (p : Option RRset) → set_at m a ANAME ≡ p → FindsAt m a t
       by (Some s) e c f b g p h =
-          at_own s (ap (λ o. first_of o (set_at m a CNAME) (stand_in_set m a t)) (asked a ∙ e)) (exact_own m a t zone.cnames plain.no_denial s e)
+          at_own s (ap (λ o. first_of o (set_at m a CNAME) (stand_in_set m a t)) (asked a ∙ e)) (exact_own m a t (beside (ap is_some e)) s e)
           (zone.zone.stored a t s e).record_type (no_target a t s (zone.zone.stored a t s e))
       by None e (Some s) f b g p h =
           at_alias s (λ i. first_of ((asked a ∙ e) i) (f i) (stand_in_set m a t)) (exact_alias m a t zone.cnames s e f) (zone.zone.stored a CNAME s f).record_type
@@ -102,6 +105,37 @@ module _ (q : Inquiry) (zone : IsOrdinaryZone q.origin q.sets) (plain : IsOrdina
       by None e None f false g p h = at_nothing (bare e f (ap (λ b. cond b (set_at m a ANAME) None) g)) (exact_nothing m a t e f (λ k. absurd (true≢false (sym k ∙ g))))
 
   module _ (x : Name) (inside : is_at_or_above q.origin x ≡ true) (ordinary : IsOrdinary q x) where
+    -- ---- NSEC is no exception there
+
+    -- the name itself, or the star that is asked for it
+    abbrev IsAsked : Name → Type 0
+    IsAsked a = (a ≡ x) ⊎ (Sources.asked_star m x ≡ Some a)
+
+    is_nsec : is_denial_type t ≡ true → t ≡ NSEC
+    is_nsec e = eqb-true t NSEC (first_of_either (t == NSEC) (t == NSEC3) (differs t NSEC3 plain.no_hashed) e)
+
+    owns_nsec : (a : Name) → IsAsked a → owns m a t ≡ true → is_denial_type t ≡ true → (exists m a ≡ true) × (owns m a CNAME ≡ false)
+    owns_nsec a at k e = ordinary.nsec (is_nsec e) a at (ap (owns m a) (sym (is_nsec e)) ∙ k)
+
+    beside : (a : Name) → IsAsked a → owns m a t ≡ true → (t == CNAME) ≡ false → owns m a CNAME ≡ false
+    beside a at k other = by (owns m a CNAME) refl
+      where
+        of : owns m a CNAME ≡ true → (t ≡ CNAME) ⊎ (is_denial_type t ≡ true) → ⊥
+        of e (inl p) = true≢false (sym (ap (λ u. u == CNAME) p) ∙ other)
+        of e (inr d) = true≢false (sym e ∙ (owns_nsec a at k d).1)
+
+        by : (b : Bool) → owns m a CNAME ≡ b → b ≡ false
+        by false e = refl
+        by true e = absurd (of e (zone.cnames.alone a t e k))
+
+    unowned : (a : Name) → IsAsked a → exists m a ≡ false → owns m a t ≡ false
+    unowned a at absent = by (owns m a t) refl (is_denial_type t) refl
+      where
+        by : (b : Bool) → owns m a t ≡ b → (d : Bool) → is_denial_type t ≡ d → b ≡ false
+        by false k d e = refl
+        by true k false e = absurd (true≢false (sym (owner_exists m a t k (ap not e)) ∙ absent))
+        by true k true e = absurd (true≢false (sym (owns_nsec a at k e).0 ∙ absent))
+
     -- ---- nothing refers it
 
     -- what owns NS at it or above it owns SOA too, but itself where DS is asked
@@ -173,27 +207,27 @@ module _ (q : Inquiry) (zone : IsOrdinaryZone q.origin q.sets) (plain : IsOrdina
       of_target (Some w) s = made_target q.signed (Some w) x s
 
       -- by what the name itself has, or its star
-      at_a_node : (star : Option Name) (a : Name) → step q x ≡ step_at q star x a → found m q.signed x t ≡ option_map (of star) (exact m a t) → is_there m x ≡ true → StepAsFound q x
-      at_a_node star a is finds there = by (finds_at a)
+      at_a_node : (star : Option Name) (a : Name) → IsAsked a → step q x ≡ step_at q star x a → found m q.signed x t ≡ option_map (of star) (exact m a t) → is_there m x ≡ true → StepAsFound q x
+      at_a_node star a at is finds there = by (finds_at a (beside a at))
         where
-          at : AtNode → Step
-          at = node_step q.signed t star x
+          stepped : AtNode → Step
+          stepped = node_step q.signed t star x
 
           by : FindsAt m a t → StepAsFound q x
           by (at_own s n e k target) =
               answers_by (of star s) (made_names star x) (finds ∙ ap (option_map (of star)) e)
               (ap (λ u. (u == CNAME) && not (t == CNAME)) (of_type star s ∙ k) ∙ never_both (t == CNAME))
               (λ other. of_target star s ∙ target other)
-              (is ∙ ap at n ∙ (λ i. record { answers = as_it_is (cond (signature i) part.Signatures (part_for q.signed)) (made_as star s i) ∷ []; made = made_names star x; next = ends complete }))
+              (is ∙ ap stepped n ∙ (λ i. record { answers = as_it_is (cond (signature i) part.Signatures (part_for q.signed)) (made_as star s i) ∷ []; made = made_names star x; next = ends complete }))
           by (at_alias s n e k other) =
               leads_by (of star s) (made_names star x) (finds ∙ ap (option_map (of star)) e)
               (λ i. ((of_type star s ∙ k) i == CNAME) && not (other i)) other
-              (is ∙ ap at n ∙ (λ i. record { answers = as_it_is (part_for q.signed) (made_as star s i) ∷ []; made = made_names star x; next = after_alias (sym (of_target star s) i) }))
+              (is ∙ ap stepped n ∙ (λ i. record { answers = as_it_is (part_for q.signed) (made_as star s i) ∷ []; made = made_names star x; next = after_alias (sym (of_target star s) i) }))
           by (at_stand_in s e k) =
               absurd
               (true≢false
               (sym k ∙ ap (λ u. (u == ANAME) && is_address t) (sym (of_type star s)) ∙ addresses (of star s) (finds ∙ ap (option_map (of star)) e)))
-          by (at_nothing n e) = lacks star (finds ∙ ap (option_map (of star)) e) (is ∙ ap at n ∙ (λ i. at_end (missing x star (sym there i))))
+          by (at_nothing n e) = lacks star (finds ∙ ap (option_map (of star)) e) (is ∙ ap stepped n ∙ (λ i. at_end (missing x star (sym there i))))
 
       unchanged : (o : Option RRset) → o ≡ option_map (of None) o
       unchanged None = refl
@@ -201,13 +235,13 @@ module _ (q : Inquiry) (zone : IsOrdinaryZone q.origin q.sets) (plain : IsOrdina
 
       existing : exists m x ≡ true → StepAsFound q x
       existing e =
-          at_a_node None x (named_step ∙ ap (λ b. cond b (step_at q None x x) (star_step q x (star_of m x))) e)
+          at_a_node None x (inl refl) (named_step ∙ ap (λ b. cond b (step_at q None x x) (star_step q x (star_of m x))) e)
           (found_there m q.signed x t unreferred (unasked m x e) ∙ unchanged (exact m x t))
           (ap (λ b. b || option_map_or (exists m) (star_of m x) false) e)
 
       -- by the encloser of a name that doesn't exist
       absent : exists m x ≡ false → (o : Option Name) → closest_encloser m x ≡ o → StepAsFound q x
-      absent e o f = by o f (found_by_star m q.signed x t unreferred plain.no_denial e (ordinary.unstarred e) ∙ ap (λ o. from (option_map star_under o)) f)
+      absent e o f = by o f (found_by_star m q.signed x t unreferred (unowned x (inl refl) e) e (ordinary.unstarred e) ∙ ap (λ o. from (option_map star_under o)) f)
           (named_step ∙ (λ i. cond (e i) (step_at q None x x) (star_step q x (option_map star_under (f i)))))
           (λ i. e i || option_map_or (exists m) (option_map star_under (f i)) false)
         where
@@ -215,15 +249,18 @@ module _ (q : Inquiry) (zone : IsOrdinaryZone q.origin q.sets) (plain : IsOrdina
           from star = option_and_then (λ s. option_map (renamed q.signed s x) (direct m s t)) star
 
           starred : (a : Name) → closest_encloser m x ≡ Some a → found m q.signed x t ≡ from (Some (star_under a)) → step q x ≡ star_step q x (Some (star_under a)) → is_there m x ≡ exists m (star_under a) → (b : Bool) → exists m (star_under a) ≡ b → StepAsFound q x
-          starred a f finds is there b g = cases b g (finds ∙ ap (option_map (renamed q.signed w x)) (direct_is m q.signed w t (star_unreferred a (longest_is (exists m) x a f).above (ordinary.uncut_star w (λ i. cond (e i) None (option_map star_under (f i)))))))
+          starred a f finds is there b g = cases b g (finds ∙ ap (option_map (renamed q.signed w x)) (direct_is m q.signed w t (star_unreferred a (longest_is (exists m) x a f).above (ordinary.uncut_star w is_asked))))
             where
               w : Name
               w = star_under a
 
+              is_asked : Sources.asked_star m x ≡ Some (star_under a)
+              is_asked = λ i. cond (e i) None (option_map star_under (f i))
+
               cases : (b : Bool) → exists m w ≡ b → found m q.signed x t ≡ option_map (renamed q.signed w x) (exact m w t) → StepAsFound q x
-              cases true g finds = at_a_node (Some w) w (is ∙ ap (λ b. cond b (step_at q (Some w) x w) (at_end (missing x (Some w) false))) g) finds (there ∙ g)
+              cases true g finds = at_a_node (Some w) w (inr is_asked) (is ∙ ap (λ b. cond b (step_at q (Some w) x w) (at_end (missing x (Some w) false))) g) finds (there ∙ g)
               cases false g finds =
-                  lacks (Some w) (finds ∙ ap (option_map (renamed q.signed w x)) (exact_absent m w t plain.no_denial g))
+                  lacks (Some w) (finds ∙ ap (option_map (renamed q.signed w x)) (exact_absent m w t (unowned w (inr is_asked) g) g))
                   (is ∙ ap (λ b. cond b (step_at q (Some w) x w) (at_end (missing x (Some w) false))) g ∙ (λ i. at_end (missing x (Some w) (sym (there ∙ g) i))))
 
           by : (o : Option Name) → closest_encloser m x ≡ o → found m q.signed x t ≡ from (option_map star_under o) → step q x ≡ star_step q x (option_map star_under o)

@@ -1,5 +1,5 @@
 -- Where the answers of a response are those of a lookup
-use Rattle.std.specs.Prelude.{◌≡◌, ◌≢◌, ℕ, cond, List, [], ◌∷◌, ◌++◌, map, Option, Some, None, option_to_list, IsOk, IsTrue, IsFalse, ⊤}
+use Rattle.std.specs.Prelude.{◌≡◌, ◌≢◌, ◌⊎◌, ℕ, cond, List, [], ◌∷◌, ◌++◌, map, Option, Some, None, option_to_list, IsOk, IsTrue, IsFalse, ⊤}
 use Rattle.std.specs.List.{Contains}
 use Rattle.std.specs.Option.{option_map_or}
 use Rattle.zone_proto.specs.declared.nx_proof_kind.NxProofKind.{NxProofKind}
@@ -9,9 +9,9 @@ use Rattle.zone_proto.specs.declared.response_code.ResponseCode.{ResponseCode}
 use Rattle.zone_proto.specs.declared.response_code.ResponseCode.TheVariants as code
 use Rattle.zone_proto.specs.Names.{Name, is_at_or_above, is_wildcard}
 use Rattle.zone_proto.specs.Sets.{RRset}
-use Rattle.zone_proto.specs.Types.{NS, SOA, RRSIG, ANY, IN}
+use Rattle.zone_proto.specs.Types.{NS, CNAME, SOA, RRSIG, NSEC, NSEC3, ANY, IN}
 use Rattle.zone_map.specs.Chains.{chain_links, last_target, leads_on}
-use Rattle.zone_map.specs.Upserts.{is_denial_type, CnamesStandAlone}
+use Rattle.zone_map.specs.Upserts.{CnamesStandAlone}
 use Rattle.zone_map.specs.Wildcards.{exists, found}
 use Rattle.zone_map.specs.Zones.{Sets, owns, owns_at_or_below, IsZone}
 use Rattle.zone_inner.specs.Flattening.{stands_for_addresses}
@@ -35,18 +35,19 @@ pub record IsOrdinaryZone (origin : Name) (m : Sets) : Type 0 where
   pub inside : (n : Name) (t : ℕ) → IsTrue (owns m n t) → IsTrue (is_at_or_above origin n)
   pub cnames : CnamesStandAlone m
 
--- one type of data: for ANY and RRSIG a response chooses a type (RFC 8482 section 4.1), it answers NSEC beside an alias (RFC 4035 section 2.5), and no name of the zone owns NSEC3 (RFC 5155 section 7.2.8)
+-- one type of data: for ANY and RRSIG a response chooses a type (RFC 8482 section 4.1), and no name of the zone owns NSEC3 (RFC 5155 section 7.2.8)
 pub record IsOrdinaryType (t : ℕ) : Type 0 where
   pub searched : IsFalse (is_no_data t)
   pub one : t ≢ ANY
   pub no_signature : t ≢ RRSIG
-  pub no_denial : IsFalse (is_denial_type t)
+  pub no_hashed : t ≢ NSEC3
 
--- nothing turns the search on the way down to a name; and if it doesn't exist, it doesn't begin with `*` (RFC 4592 section 3.3), and the star that is asked for it owns no NS (section 4.2)
+-- nothing turns the search on the way down to a name; and if it doesn't exist, it doesn't begin with `*` (RFC 4592 section 3.3), and the star that is asked for it owns no NS (section 4.2). Where NSEC is asked for, the one of the two that owns it exists and is no alias (RFC 4035 section 2.5)
 pub record IsOrdinary (q : Inquiry) (x : Name) : Type 0 where
   pub unturned : turn q.origin q.sets x q.record_type ≡ None
   pub unstarred : IsFalse (exists q.sets x) → IsFalse (is_wildcard x)
   pub uncut_star : (w : Name) → asked_star q.sets x ≡ Some w → IsFalse (owns q.sets w NS)
+  pub nsec : q.record_type ≡ NSEC → (a : Name) → (a ≡ x) ⊎ (asked_star q.sets x ≡ Some a) → IsTrue (owns q.sets a NSEC) → IsTrue (exists q.sets a) × IsFalse (owns q.sets a CNAME)
 
 -- no ANAME set stands in for the addresses of a name
 abbrev pub NoStandIn : Inquiry → Name → Type 0

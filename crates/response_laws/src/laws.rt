@@ -19,12 +19,12 @@ pub fn responses_say_how_they_end()
 /// on, the code is that of the lookup's negative answer for this name (RFC 6604 section 3); else there is no error (`Agrees`).
 ///
 /// So it is where the rules of both are the same, with DNSSEC and without it. The zone has an SOA and no sets outside it, its origin
-/// isn't a star, and a CNAME stands alone (`IsOrdinaryZone`). The query is of class IN, for one type of data other than NSEC and NSEC3
+/// isn't a star, and a CNAME stands alone (`IsOrdinaryZone`). The query is of class IN, for one type of data other than NSEC3
 /// (`IsOrdinaryType`), and for a name of the zone. On the way down to each name of the zone that is searched stands no zone cut and no
-/// DNAME, and if it doesn't exist, it is no star and asks none that is a delegation (`IsOrdinary`); and no ANAME stands in for its
-/// addresses (`NoStandIn`). What the response says is provable (`IsProvable`), as it is without DNSSEC, and in each zone that doesn't
-/// deny by hashed names or in which each name has a hashed owner. A name that owns sets of denial alone, as NSEC3, is told by the code
-/// of a name error, where a lookup may say that it exists (RFC 5155 section 7.2.8).
+/// DNAME; and if the name doesn't exist, it is no star and asks none that is a delegation (`IsOrdinary`, which has a condition for
+/// NSEC besides). No ANAME stands in for its addresses (`NoStandIn`). What the response says is provable (`IsProvable`), as it is
+/// without DNSSEC, and in each zone that doesn't deny by hashed names or in which each name has a hashed owner. A name that owns sets
+/// of denial alone, as NSEC3, is told by the code of a name error, where a lookup may say that it exists (RFC 5155 section 7.2.8).
 pub fn responses_agree_with_lookups()
     ensures agreement { ResponsesAgree }
     ensures provable { ProvableByOwners }
