@@ -45,7 +45,7 @@ sent_target : (signed : Bool) (s : RRset) → cname_target (as_it_is (part_for s
 sent_target true s = target_with_ttl s.ttl s.records
 sent_target false s = target_with_ttl s.ttl s.records
 
-made_target : (keep : Bool) (star : Option Name) (x : Name) (s : RRset) → cname_target (made_by keep star x s) ≡ cname_target s
+pub made_target : (keep : Bool) (star : Option Name) (x : Name) (s : RRset) → cname_target (made_by keep star x s) ≡ cname_target s
 made_target keep None x s = refl
 made_target keep (Some star) x s = target_under x s.ttl s.records
 
@@ -68,7 +68,7 @@ not_alias : (d : RData) → (type_of d == CNAME) ≡ false → alias_target d �
 not_alias (V.CNAME n) e = absurd (true≢false e)
 not_alias d e = refl
 
-no_target : (a : Name) (t : ℕ) (s : RRset) → IsStoredAt a t s → (t == CNAME) ≡ false → cname_target s ≡ None
+pub no_target : (a : Name) (t : ℕ) (s : RRset) → IsStoredAt a t s → (t == CNAME) ≡ false → cname_target s ≡ None
 no_target a t s stored other = by s.records stored.set.types
   where
     by : (rs : List Record) → All (λ (r : Record). type_of r.rdata ≡ s.record_type) rs → first_target rs ≡ None

@@ -31,6 +31,13 @@ pub mod HashedDenied
 pub mod HashedEmpty
 pub mod HashedReferrals
 pub mod Responses
+pub mod AgreementNames
+pub mod AgreementSteps
+pub mod AgreementPaths
+pub mod Agreement
+pub mod AgreementProofs
+mod AgreementMet
+mod AgreementExamples
 mod SayingExamples
 mod MetPremises
 mod HashedExamples

@@ -1,3 +1,4 @@
+pub mod Agreement
 pub mod Sayings
 pub mod ProvedSayings
 pub mod HashedSayings

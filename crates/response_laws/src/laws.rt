@@ -1,17 +1,34 @@
-//! Laws of what a response says, and of what it proves to a validator. Each is an empty function whose contract is the law, so a
-//! program has no need to call one.
+//! Laws of what a response says, of what a lookup says beside it, and of what it proves to a validator. Each is an empty function
+//! whose contract is the law, so a program has no need to call one.
 //!
 //! What a response says is read in the response alone: the data of a name, a name error, no data, or a referral (`saying`); and so are
 //! the NSEC or NSEC3 records by which it proves that. Signatures are taken as verified.
 ghost use Rattle.response_laws.specs.HashedSayings.{ResponseProvesByHashes};
 ghost use Rattle.response_laws.specs.ProvedSayings.{ResponseProvesWhatItSays};
 ghost use Rattle.response_laws.specs.Sayings.{ResponseSaysHowItEnds};
+ghost use Rattle.response_laws.specs.Agreement.{ProvableByOwners, ResponsesAgree};
 
 /// Each response of each zone says how its search ends: where with the set that is asked for, that these are the data; at a zone cut,
 /// a referral to it; at a name without the set, a name error or no data (RFC 2308 section 2). It says nothing of a chain of aliases
 /// that leaves the zone or isn't followed any farther, and nothing by a code alone.
 pub fn responses_say_how_they_end()
     ensures { ResponseSaysHowItEnds }
+{}
+
+/// The answer section of a response has the sets that a lookup answers with, as they go out, whatever signs the sets that the lookup
+/// makes. Where the search ends at a name of the zone without a set, at the queried one or at the one to which a chain of aliases leads
+/// on, the code is that of the lookup's negative answer for this name (RFC 6604 section 3); else there is no error (`Agrees`).
+///
+/// So it is where the rules of both are the same, with DNSSEC and without it. The zone has an SOA and no sets outside it, its origin
+/// isn't a star, and a CNAME stands alone (`IsOrdinaryZone`). The query is of class IN, for one type of data other than NSEC3
+/// (`IsOrdinaryType`), and for a name of the zone. On the way down to each name of the zone that is searched stands no zone cut and no
+/// DNAME; and if the name doesn't exist, it is no star and asks none that is a delegation (`IsOrdinary`, which has a condition for
+/// NSEC besides). No ANAME stands in for its addresses (`NoStandIn`). What the response says is provable (`IsProvable`), as it is
+/// without DNSSEC, and in each zone that doesn't deny by hashed names or in which each name has a hashed owner. A name that owns sets
+/// of denial alone, as NSEC3, is told by the code of a name error, where a lookup may say that it exists (RFC 5155 section 7.2.8).
+pub fn responses_agree_with_lookups()
+    ensures agreement { ResponsesAgree }
+    ensures provable { ProvableByOwners }
 {}
 
 /// Each response to a query with DNSSEC proves what it says, from a zone that denies by NSEC: its NSEC sets are a circle that the origin

@@ -1,0 +1,187 @@
+-- The answers of a response are those of a lookup
+use Rattle.std.proofs.Common.{◌≡◌, Bool, true, false, cond, not, ◌||◌, List, ◌++◌, map, refl, sym, ap, ◌∙◌, subst, true≢false}
+use Rattle.std.specs.Prelude.{Option, Some, None, option_map, MatchOption, MatchResult, Result, Ok, Err, IsOk, ◌==◌}
+use Rattle.std.specs.Bool.{MatchBool}
+use Rattle.std.specs.Option.{option_map_or}
+use Rattle.zone_proto.specs.declared.error.ProtoError.{ProtoError}
+use Rattle.zone_proto.specs.declared.record.Record.{Record}
+use Rattle.zone_proto.specs.declared.response_code.ResponseCode.{ResponseCode}
+use Rattle.zone_proto.specs.declared.response_code.ResponseCode.TheVariants as code
+use Rattle.zone_proto.specs.Names.{Name, is_at_or_above, is_wildcard, star_under}
+use Rattle.zone_proto.specs.Sets.{RRset}
+use Rattle.zone_proto.specs.Types.{IN, SOA, ANY}
+use Rattle.zone_proto.proofs.Members.{In, In-Contains}
+use Rattle.zone_map.specs.Chains.{chain}
+use Rattle.zone_map.specs.Wildcards.{exists, closest_encloser, asked_star_exists, found}
+use Rattle.zone_map.specs.Zones.{Sets, owns_at_or_below}
+use Rattle.zone_map.proofs.ExistingNames.{absent_where_unowned, owned_where_existing}
+use Rattle.zone_map.proofs.Owned.{set_of}
+use Rattle.zone_denial.specs.Nsec3Denial.{result_and_then}
+use Rattle.zone_inner.specs.Flattening.{stands_for_addresses, alone, beside, flattened, last_set}
+use Rattle.zone_inner.specs.Replies.{NegativeAnswer, name_exists, nx_domain, refused, absent, is_present, negative_answer, Answers, one_set, chained, Reply, negative, answered, is_followed, answer_sets, answer_section, IsAnswer, IsReplyFor}
+use Rattle.zone_acceptance.proofs.OwnTypes.{differs}
+use Rattle.zone_acceptance.proofs.Soundness.{searched_by}
+use Rattle.zone_response.specs.Denials.{sent_proof}
+use Rattle.zone_response.specs.Paths.{Path, path}
+use Rattle.zone_response.specs.Queries.{Zone, Query, inquiry}
+use Rattle.zone_response.specs.Responses.{bare, negative_ttl, ds_at, end_sets, proof_sets, fails, refusal, IsResponse, IsSearched, IsResponseAlong, IsProvenResponse, IsResponseBy}
+use Rattle.zone_response.specs.Sections.{Sections, as_it_is, part_for}
+use Rattle.zone_response.specs.Sources.{is_there}
+use Rattle.response_laws.specs.Agreement.{IsOrdinaryZone, IsOrdinaryQuery, IsProvable, unfound_name, searched_names, sets_of, answer_sets_of, code_of, IsNoDenialOwner, Agrees, ResponsesAgree}
+use Rattle.response_laws.proofs.AgreementNames.{star_asked}
+use Rattle.response_laws.proofs.AgreementPaths.{IsAlike, PathAnswers, answers_alone, answers_along, answers_none, PathEnds, itself, unfound_by, unfound_searched, path_answers_as_found}
+
+-- ---- whether a name is there
+
+module _ (m : Sets) (x : Name) (unstarred : exists m x ≡ false → is_wildcard x ≡ false) where
+  -- a lookup says the same where neither the name nor one below it owns sets of denial alone
+  star_there : exists m x ≡ false → asked_star_exists m x ≡ is_there m x
+  star_there e = ap (λ o. option_map_or (exists m) o false) (star_asked m x e (unstarred e)) ∙ sym (ap (λ b. b || option_map_or (exists m) (option_map star_under (closest_encloser m x)) false) e)
+
+  there_alike : IsNoDenialOwner m x → is_present m x ≡ is_there m x
+  there_alike owner = by (exists m x) refl
+    where
+      unowned : exists m x ≡ false → (b : Bool) → owns_at_or_below m x ≡ b → b ≡ false
+      unowned e false f = refl
+      unowned e true f = absurd (true≢false (sym (owner f) ∙ e))
+
+      by : (b : Bool) → exists m x ≡ b → is_present m x ≡ is_there m x
+      by true e =
+          ap (λ b. b || asked_star_exists m x) (owned_where_existing x m e)
+          ∙ sym (ap (λ b. b || option_map_or (exists m) (option_map star_under (closest_encloser m x)) false) e)
+      by false e = ap (λ b. b || asked_star_exists m x) (unowned e (owns_at_or_below m x) refl) ∙ star_there e
+
+  -- where a lookup says that there is no such name, there is none
+  gone : is_present m x ≡ false → is_there m x ≡ false
+  gone e = by (owns_at_or_below m x) refl e
+    where
+      by : (b : Bool) → owns_at_or_below m x ≡ b → b || asked_star_exists m x ≡ false → is_there m x ≡ false
+      by true f g = absurd (true≢false g)
+      by false f g = sym (star_there (absent_where_unowned x m f)) ∙ g
+
+-- ---- the response
+
+module _ (z : Zone) (q : Query) (r : Sections) (zone : IsOrdinaryZone z.origin z.sets) (query : IsOrdinaryQuery z q) (provable : IsProvable z q (path (inquiry z q) q.name)) (is : IsResponse z q r) where
+  abbrev p : Path
+  p = path (inquiry z q) q.name
+
+  unrefused : refusal z.origin q ≡ None
+  unrefused = λ i.
+      cond (not (ap (λ c. c == IN) query.class i) || not (query.inside i)) (Some code.Refused) (cond (query.record_type.searched i) (Some code.NotImp) None)
+
+  abbrev soa : RRset
+  soa = (set_of z.sets z.origin SOA zone.soa).0
+
+  along : IsResponseAlong z (inquiry z q) (set_of z.sets z.origin SOA zone.soa).0 p r
+  along =
+      subst (λ (o : Option RRset). MatchOption o (r ≡ bare code.ServFail) (λ soa. IsResponseAlong z (inquiry z q) soa p r)) (set_of z.sets z.origin SOA zone.soa).1
+      (subst (λ (o : Option ResponseCode). MatchOption o (IsSearched z (inquiry z q) q.name r) (λ c. r ≡ bare c)) unrefused is)
+
+  by_path : fails p.end ≡ false → (sets : List RRset) × IsResponseBy (inquiry z q) p sets r
+  by_path passes =
+      of (proof_sets z (ds_at z.sets p.end) q.signed p.made p.end) provable
+      (subst (λ (b : Bool). MatchBool b (r ≡ bare code.ServFail) (IsProvenResponse z (inquiry z q) soa p r)) passes along)
+    where
+      of : (proofs : Result (List RRset) ProtoError) → IsOk proofs
+          → MatchResult (result_and_then (λ sets. Ok (end_sets (ds_at z.sets p.end) q.signed soa p.end ++ map (sent_proof (negative_ttl soa)) sets)) proofs) (λ sets. IsResponseBy (inquiry z q) p sets r) (λ refusal. r ≡ bare code.ServFail)
+          → (sets : List RRset) × IsResponseBy (inquiry z q) p sets r
+      of (Ok sets) ok h = (end_sets (ds_at z.sets p.end) q.signed soa p.end ++ map (sent_proof (negative_ttl soa)) sets, h)
+      of (Err e) ok h = absurd cc
+
+  -- ---- beside the reply
+
+  abbrev x : Name
+  x = q.name
+
+  abbrev m : Sets
+  m = z.sets
+
+  alike : (y : Name) → In y (searched_names (inquiry z q) q.name) → IsAlike (inquiry z q) y
+  alike y i inside = let c = In-Contains y (searched_names (inquiry z q) q.name) i in (query.names y c inside, query.addresses y c)
+
+  as_found : PathAnswers (inquiry z q) q.name × PathEnds (inquiry z q) q.name
+  as_found = path_answers_as_found (inquiry z q) zone query.record_type q.name query.inside alike
+
+  response : (sets : List RRset) × IsResponseBy (inquiry z q) p sets r
+  response = by_path as_found.1.passes
+
+  -- a name of the zone without a set
+  unstarred : (y : Name) → unfound_name (inquiry z q) q.name ≡ Some y → is_at_or_above z.origin y ≡ true → exists z.sets y ≡ false → is_wildcard y ≡ false
+  unstarred y u inside = (alike y (unfound_searched (inquiry z q) zone query.record_type q.name query.inside alike y u) inside).0.unstarred
+
+  coded : (y : Name) → unfound_name (inquiry z q) q.name ≡ Some y → is_at_or_above z.origin y ≡ true → r.code ≡ cond (is_there z.sets y) code.NoError code.NXDomain
+  coded y u inside = response.1.code ∙ as_found.1.unfound y u inside
+
+  agrees : (reply : Reply) → r.answers ≡ map (as_it_is (part_for q.signed)) (answer_sets_of reply)
+      → ((d : NegativeAnswer) → reply ≡ negative d → (unfound_name (inquiry z q) q.name ≡ Some q.name) × (d ≡ negative_answer z.origin z.sets q.name)) → Agrees z q r reply
+  agrees reply answers denied = record {
+    answers = answers;
+    denied = denied;
+    unfound = λ y u inside owner. coded y u inside ∙ by_there y inside owner (unstarred y u inside) (is_there m y) refl;
+    name_error = λ y u e. let inside = within y e in coded y u inside ∙ ap (λ b. cond b code.NoError code.NXDomain) (gone m y (unstarred y u inside) (lost y (is_present m y) refl e));
+    no_error = λ out. response.1.code ∙ as_found.1.others out;
+  }
+    where
+      lost : (y : Name) (b : Bool) → is_present m y ≡ b → negative_answer z.origin m y ≡ nx_domain → b ≡ false
+      lost y false f e = refl
+      lost y true f e = let p : name_exists ≡ nx_domain = sym (ap (λ b. cond b name_exists (absent z.origin y)) f) ∙ e in absurd cc
+
+      within : (y : Name) → negative_answer z.origin m y ≡ nx_domain → is_at_or_above z.origin y ≡ true
+      within y e = by (is_present m y) (is_at_or_above z.origin y) refl e
+        where
+          by : (b c : Bool) → is_at_or_above z.origin y ≡ c → cond b name_exists (cond c nx_domain refused) ≡ nx_domain → c ≡ true
+          by true c f e = absurd cc
+          by false true f e = refl
+          by false false f e = absurd cc
+
+      by_there : (y : Name) → is_at_or_above z.origin y ≡ true → IsNoDenialOwner m y → (exists m y ≡ false → is_wildcard y ≡ false) → (b : Bool) → is_there m y ≡ b
+          → cond (is_there m y) code.NoError code.NXDomain ≡ code_of (negative_answer z.origin m y)
+      by_there y inside owner plain true f =
+          ap (λ b. cond b code.NoError code.NXDomain) f
+          ∙ sym (ap (λ b. code_of (cond b name_exists (absent z.origin y))) (there_alike m y plain owner ∙ f))
+      by_there y inside owner plain false f =
+          ap (λ b. cond b code.NoError code.NXDomain) f
+          ∙ sym (λ i. code_of (cond ((there_alike m y plain owner ∙ f) i) name_exists (cond (inside i) nx_domain refused)))
+
+  module _ (sign : RRset → List Record) (reply : Reply) where
+    -- a set that stands for no addresses isn't flattened
+    stays : (s : RRset) (last : Option RRset) → stands_for_addresses q.record_type s ≡ false → alone sign q.record_type s last ≡ s
+    stays s None e = refl
+    stays s (Some l) e = ap (λ b. cond b (flattened sign s q.record_type l) s) e
+
+    section : (s : RRset) (more : List RRset) (b : Bool) → is_followed q.record_type s ≡ b
+        → answer_section sign m q.signed x q.record_type s more ≡ cond b (chained (chain m q.signed x s q.record_type)) (one_set (alone sign q.record_type s (last_set more)))
+    section s more b e = ap (λ b. cond b (chained (chain m q.signed x s q.record_type)) (one_set (alone sign q.record_type s (last_set more)))) e
+
+    says : (o : Option RRset) → found m q.signed x q.record_type ≡ o → IsReplyFor sign z.origin m q.signed x q.record_type reply
+        → MatchOption o (reply ≡ negative (negative_answer z.origin m x)) (λ s. IsAnswer sign m q.signed x q.record_type s reply)
+    says o e h = subst (λ (o : Option RRset). MatchOption o (reply ≡ negative (negative_answer z.origin m x)) (λ s. IsAnswer sign m q.signed x q.record_type s reply)) e h
+
+    -- a reply with sets
+    with_sets : (answers : Answers) (s : RRset) → (a : IsAnswer sign m q.signed x q.record_type s reply) → answer_section sign m q.signed x q.record_type s a.more ≡ answers
+        → r.answers ≡ map (as_it_is (part_for q.signed)) (sets_of answers) → Agrees z q r reply
+    with_sets answers s a is same =
+        let more = beside q.record_type (last_set (answer_sets m q.signed x q.record_type s)) a.more in
+        subst (Agrees z q r) (sym (a.sections ∙ ap (λ w. answered w (beside q.record_type (last_set (answer_sets m q.signed x q.record_type s)) a.more)) is))
+        (agrees (answered answers (beside q.record_type (last_set (answer_sets m q.signed x q.record_type s)) a.more)) same (λ d e. absurd cc))
+
+    by_answers : IsReplyFor sign z.origin m q.signed x q.record_type reply → PathAnswers (inquiry z q) q.name → Agrees z q r reply
+    by_answers h (answers_alone s e f answers) =
+        let a = says (Some s) e h in
+        with_sets (one_set s) s a (section s a.more false f ∙ ap one_set (stays s (last_set a.more) (query.addresses x (In-Contains x (searched_names (inquiry z q) q.name) (itself (inquiry z q) zone query.record_type q.name query.inside alike)) s e)))
+        (response.1.answers ∙ answers)
+    by_answers h (answers_along s e f answers) =
+        let a = says (Some s) e h in
+        with_sets (chained (chain m q.signed x s q.record_type)) s a (section s a.more true f) (response.1.answers ∙ answers)
+    by_answers h (answers_none e answers) =
+        subst (Agrees z q r) (sym (says None e h))
+        (agrees (negative (negative_answer z.origin m x)) (response.1.answers ∙ answers) (λ d e'. (unfound_by (inquiry z q) zone query.record_type q.name query.inside alike None e, same (negative_answer z.origin m x) d e')))
+      where
+        same : (d c : NegativeAnswer) → negative d ≡ negative c → c ≡ d
+        same d c e = cc
+
+pub responses_agree : ResponsesAgree
+responses_agree sign z q r reply zone query provable is says =
+    by_answers z q r zone query provable is sign reply
+    (subst (λ t. IsReplyFor sign z.origin z.sets q.signed q.name t reply) (searched_by z.sets q.name q.record_type (differs q.record_type ANY query.record_type.one)) says)
+    (as_found z q r zone query provable is).0

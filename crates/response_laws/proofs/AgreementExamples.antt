@@ -1,0 +1,192 @@
+-- Where a response isn't what a lookup says, each with the smallest zone, computed from the definitions. Each zone has besides an SOA at its origin no more than is shown
+use Rattle.std.proofs.Common.{◌≡◌, ℕ, true, false, List, [], ◌∷◌, refl}
+use Rattle.std.specs.Prelude.{codes, Option, Some, None, pos}
+use Rattle.zone_proto.specs.declared.rdata.RData.TheVariants as V
+use Rattle.zone_proto.specs.declared.response_code.ResponseCode.{ResponseCode}
+use Rattle.zone_proto.specs.declared.response_code.ResponseCode.TheVariants as code
+use Rattle.zone_proto.specs.declared.rr_key.RrKey.{RrKey}
+use Rattle.zone_proto.specs.Names.{Name, star_under}
+use Rattle.zone_proto.specs.Sets.{RRset}
+use Rattle.zone_proto.specs.Types.{A, NS, CNAME, SOA, MX, NSEC, NSEC3, IN}
+use Rattle.zone_map.specs.Wildcards.{renamed, found}
+use Rattle.zone_map.specs.Zones.{Sets}
+use Rattle.zone_denial.proofs.Examples.NsecExamples.{origin, at_origin, entry, address, start}
+use Rattle.zone_denial.specs.Nsec3Circle.{nsec3_data}
+use Rattle.zone_denial.proofs.Examples.Nsec3Examples.{parameters}
+use Rattle.zone_inner.specs.Replies.{name_exists, nx_domain, negative_answer}
+use Rattle.zone_response.specs.declared.response.Part.TheVariants as part
+use Rattle.zone_response.specs.Paths.{path}
+use Rattle.zone_response.specs.Queries.{Zone, Query}
+use Rattle.zone_response.specs.Responses.{bare, IsResponse}
+use Rattle.zone_response.specs.Sections.{Sections, sent}
+
+-- an unsigned zone, and a query without DNSSEC
+abbrev zone_at : Name → Sets → Zone
+zone_at o m = record { origin = o; sets = m; nx_proof_kind = None; digest_of = λ algorithm salt n iterations. None }
+
+abbrev zone : Sets → Zone
+zone m = zone_at origin (start ∷ m)
+
+abbrev asked : Name → ℕ → Query
+asked n t = record { name = n; record_type = t; class = IN; signed = false }
+
+abbrev answer : List RRset → Sections
+answer sets = record { code = code.NoError; authoritative = true; answers = sets; authorities = []; additionals = []; glue = []; left_at = None }
+
+abbrev negative : ResponseCode → Sections
+negative c = record (answer []) { code = c; authorities = sent part.Records 60 start.1 ∷ [] }
+
+-- what a lookup finds
+abbrev looked_up : Sets → Name → ℕ → Option RRset
+looked_up m n t = found (start ∷ m) false n t
+
+abbrev a : Name
+a = at_origin (codes "a")
+
+abbrev b : Name
+b = at_origin (codes "b")
+
+abbrev below_b : Name
+below_b = codes "x" ∷ b
+
+abbrev star : Name
+star = star_under origin
+
+abbrev other : Name
+other = codes "b" ∷ codes "other" ∷ []
+
+abbrev servers : Name → RrKey × RRset
+servers n = entry n NS (V.NS (codes "org" ∷ []))
+
+abbrev alias : Name → Name → RrKey × RRset
+alias n target = entry n CNAME (V.CNAME target)
+
+-- ---- a zone cut: a lookup answers with its NS set, and a response refers
+
+cut_found : looked_up (servers b ∷ []) below_b A ≡ Some (servers b).1
+cut_found = refl
+
+cut_refers : IsResponse (zone (servers b ∷ [])) (asked below_b A) (record (answer []) { authoritative = false; authorities = (servers b).1 ∷ [] })
+unfolding path
+cut_refers = record { code = refl; authoritative = refl; answers = refl; authorities = refl; additionals = refl; glue = refl; left_at = refl }
+
+-- ---- the apex of another zone within the zone: a lookup answers below it, and a response refers
+
+abbrev inner : Sets
+inner = servers b ∷ entry b SOA (V.SOA (record { mname = b; rname = b; serial = 7; refresh = pos 7200; retry = pos 600; expire = pos 86400; minimum = 300 })) ∷ address below_b ∷ []
+
+inner_found : looked_up inner below_b A ≡ Some (address below_b).1
+inner_found = refl
+
+inner_refers : IsResponse (zone inner) (asked below_b A) (record (answer []) { authoritative = false; authorities = (servers b).1 ∷ [] })
+unfolding path
+inner_refers = record { code = refl; authoritative = refl; answers = refl; authorities = refl; additionals = refl; glue = refl; left_at = refl }
+
+-- ---- a name that begins with `*` (RFC 4592 section 3.3)
+
+abbrev other_star : Name
+other_star = star_under (at_origin (codes "q"))
+
+starred_unfound : looked_up (address star ∷ []) other_star A ≡ None
+starred_unfound = refl
+
+starred_answered : IsResponse (zone (address star ∷ [])) (asked other_star A) (answer (renamed false star other_star (address star).1 ∷ []))
+unfolding path
+starred_answered = record { code = refl; authoritative = refl; answers = refl; authorities = refl; additionals = refl; glue = refl; left_at = refl }
+
+-- ---- a star that is a delegation (RFC 4592 section 4.2)
+
+star_cut_found : looked_up (servers star ∷ []) b A ≡ Some (renamed false star b (servers star).1)
+star_cut_found = refl
+
+star_cut_denied : IsResponse (zone (servers star ∷ [])) (asked b A) (negative code.NoError)
+unfolding path
+star_cut_denied = record { code = refl; authoritative = refl; answers = refl; authorities = refl; additionals = refl; glue = refl; left_at = refl }
+
+-- ---- a set outside the zone
+
+outside_found : looked_up (alias a other ∷ address other ∷ []) other A ≡ Some (address other).1
+outside_found = refl
+
+outside_left : IsResponse (zone (alias a other ∷ address other ∷ [])) (asked a A) (record (answer ((alias a other).1 ∷ [])) { left_at = Some other })
+unfolding path
+outside_left = record { code = refl; authoritative = refl; answers = refl; authorities = refl; additionals = refl; glue = refl; left_at = refl }
+
+-- ---- an origin that begins with `*`: a lookup asks it for a name that isn't below it
+
+abbrev apex : RrKey × RRset
+apex = entry star SOA (V.SOA (record { mname = origin; rname = origin; serial = 7; refresh = pos 7200; retry = pos 600; expire = pos 86400; minimum = 300 }))
+
+abbrev below_apex : Name
+below_apex = codes "a" ∷ star
+
+abbrev star_zone : Sets
+star_zone = apex ∷ address star ∷ alias below_apex b ∷ []
+
+star_origin_found : found star_zone false b A ≡ Some (renamed false star b (address star).1)
+star_origin_found = refl
+
+star_origin_left : IsResponse (zone_at star star_zone) (asked below_apex A) (record (answer ((alias below_apex b).1 ∷ [])) { left_at = Some b })
+unfolding path
+star_origin_left = record { code = refl; authoritative = refl; answers = refl; authorities = refl; additionals = refl; glue = refl; left_at = refl }
+
+-- ---- a CNAME beside another type (RFC 1034 section 3.6.2)
+
+abbrev exchange : RrKey × RRset
+exchange = entry a MX (V.MX (record { preference = 10; exchange = codes "org" ∷ [] }))
+
+beside_found : looked_up (alias a b ∷ exchange ∷ []) a MX ≡ Some (alias a b).1
+beside_found = refl
+
+beside_answered : IsResponse (zone (alias a b ∷ exchange ∷ [])) (asked a MX) (answer (exchange.1 ∷ []))
+unfolding path
+beside_answered = record { code = refl; authoritative = refl; answers = refl; authorities = refl; additionals = refl; glue = refl; left_at = refl }
+
+-- ---- NSEC beside a CNAME (RFC 4035 section 2.5)
+
+abbrev denial : RrKey × RRset
+denial = entry a NSEC (V.NSEC (record { next_domain_name = origin; types = [] }))
+
+denial_found : looked_up (alias a b ∷ denial ∷ []) a NSEC ≡ Some (alias a b).1
+denial_found = refl
+
+denial_answered : IsResponse (zone (alias a b ∷ denial ∷ [])) (asked a NSEC) (answer (denial.1 ∷ []))
+unfolding path
+denial_answered = record { code = refl; authoritative = refl; answers = refl; authorities = refl; additionals = refl; glue = refl; left_at = refl }
+
+-- ---- an NSEC set alone: a name that owns nothing else doesn't exist
+
+lone_found : looked_up (denial ∷ []) a NSEC ≡ Some denial.1
+lone_found = refl
+
+lone_denied : IsResponse (zone (denial ∷ [])) (asked a NSEC) (negative code.NXDomain)
+unfolding path
+lone_denied = record { code = refl; authoritative = refl; answers = refl; authorities = refl; additionals = refl; glue = refl; left_at = refl }
+
+-- ---- the owner of an NSEC3 set (RFC 5155 section 7.2.8)
+
+abbrev hashed : RrKey × RRset
+hashed = entry a NSEC3 (V.NSEC3 (nsec3_data parameters [] []))
+
+hashed_found : looked_up (hashed ∷ []) a NSEC3 ≡ Some hashed.1
+hashed_found = refl
+
+hashed_denied : IsResponse (zone (hashed ∷ [])) (asked a NSEC3) (negative code.NXDomain)
+unfolding path
+hashed_denied = record { code = refl; authoritative = refl; answers = refl; authorities = refl; additionals = refl; glue = refl; left_at = refl }
+
+hashed_exists : negative_answer origin (start ∷ hashed ∷ []) a ≡ name_exists
+hashed_exists = refl
+
+hashed_is_error : IsResponse (zone (hashed ∷ [])) (asked a A) (negative code.NXDomain)
+unfolding path
+hashed_is_error = record { code = refl; authoritative = refl; answers = refl; authorities = refl; additionals = refl; glue = refl; left_at = refl }
+
+-- ---- no SOA
+
+without_soa_denied : negative_answer origin [] a ≡ nx_domain
+without_soa_denied = refl
+
+without_soa_fails : IsResponse (zone_at origin []) (asked a A) (bare code.ServFail)
+unfolding path
+without_soa_fails = refl
