@@ -1,2 +1,3 @@
+pub mod NewNames
 pub mod Sayings
 pub mod ProvedSayings
