@@ -1,19 +1,19 @@
 -- The DNAME sets of an answer section are the zone's, and the CNAME that one makes leads on
 use Rattle.std.proofs.Common.{◌≡◌, ℕ, Bool, true, false, cond, ◌&&◌, ◌||◌, not, List, [], ◌∷◌, ◌++◌, map, refl, sym, ap, ◌∙◌, subst, true≢false, ◌⊎◌, inl, inr, eqb-true}
-use Rattle.std.specs.Prelude.{Option, Some, None, nat_lt, ◌==◌}
+use Rattle.std.specs.Prelude.{Some, None, nat_lt, ◌==◌}
 use Rattle.std.specs.List.{list_any}
 use Rattle.std.specs.Option.{option_map_or}
 use Rattle.std.proofs.lemmas.List.{map-append}
 use Rattle.zone_proto.specs.declared.record.Record.{Record}
 use Rattle.zone_proto.specs.NameLaws.{caseless_eq_equiv}
-use Rattle.zone_proto.specs.Names.{Name, name_cmp, lower_label, lower, name_eq, same_name, is_above, IsAtOrAbove, IsAbove, wire_length}
+use Rattle.zone_proto.specs.Names.{Name, name_cmp, lower_label, lower, name_eq, same_name, is_above, IsAbove, wire_length}
 use Rattle.zone_proto.specs.Sets.{RRset}
 use Rattle.zone_proto.proofs.Members.{In, In-from_any, In-from_append, In-append_left, In-append_right, and_left, and_right}
 use Rattle.zone_proto.proofs.Names.Lower.{lower-lower}
 use Rattle.zone_proto.proofs.Names.NameTree.{name_eq-Decides, above_test}
 use Rattle.zone_proto.proofs.Names.Tree.{name_order, above_cases}
 use Rattle.zone_proto.proofs.Ordering.KeyOrder.{equal_of}
-use Rattle.zone_map.specs.Zones.{Sets, set_at, IsZone}
+use Rattle.zone_map.specs.Zones.{set_at, IsZone}
 use Rattle.zone_response.specs.declared.response.Part.TheVariants as part
 use Rattle.zone_response.specs.Queries.{Inquiry}
 use Rattle.zone_response.specs.Renamings.{only_target, dname_target, unless_long, made_alias}
