@@ -2,7 +2,7 @@
 use Rattle.std.proofs.Common.{◌≡◌, ℕ, Bool, true, false, cond, ◌||◌, List, ◌++◌, map, refl, sym, ap, ◌∙◌, subst, true≢false, ◌⊎◌, inl, inr, eqb-true, IsFalse}
 use Rattle.std.specs.Prelude.{Option, Some, None, option_to_list, is_some, ◌==◌}
 use Rattle.std.specs.List.{Contains}
-use Rattle.zone_proto.specs.Names.{Name, lower, star_under, is_wildcard}
+use Rattle.zone_proto.specs.Names.{Name, lower, IsAbove, star_under, is_wildcard}
 use Rattle.zone_proto.specs.Sets.{RRset}
 use Rattle.zone_proto.specs.Types.{NS, SOA, DS, NSEC}
 use Rattle.zone_proto.proofs.Members.{or_left, or_right, In, In-Contains, Contains-In, In-append_left, In-append_right}
@@ -21,14 +21,17 @@ use Rattle.zone_response.specs.declared.response.Part.{Part}
 use Rattle.zone_response.specs.declared.response.Part.TheVariants as part
 use Rattle.zone_response.specs.Queries.{Zone, Query, inquiry}
 use Rattle.zone_response.specs.Responses.{negative_ttl, child_ds, ds_at, end_sets}
-use Rattle.zone_response.specs.Sections.{Sections, sent, as_it_is}
+use Rattle.zone_response.specs.Renamings.{in_place_of, made_alias}
+use Rattle.zone_response.specs.Sections.{Sections, sent, as_it_is, part_for}
 use Rattle.zone_response.specs.Sources.{star_of}
 use Rattle.zone_response.specs.Steps.{End, referred, missing}
-use Rattle.response_laws.specs.ProvedSayings.{DeniesByNsec, shown, IsSentSet, IsStarSet, IsAnswerPart, authority_part, HasAuthority, IsShowable, HasSoa, IsProvedError, IsEmptyProof, IsProvedEmpty, IsProvedUnsigned, IsProvedReferral}
-use Rattle.response_laws.specs.Sayings.{Saying, data_of, name_error, no_data, referral, saying, name_of}
-use Rattle.response_laws.proofs.Answers.{IsMadeSet, path_answers}
+use Rattle.zone_response.specs.Turns.{DNAME}
+use Rattle.response_laws.specs.ProvedSayings.{DeniesByNsec, shown, IsSentSet, IsStarSet, IsMadeAlias, IsAliasData, IsAnswerPart, authority_part, HasAuthority, IsShowable, HasSoa, IsProvedError, IsEmptyProof, IsProvedEmpty, IsProvedUnsigned, IsProvedReferral}
+use Rattle.response_laws.specs.Sayings.{Saying, data_of, name_error, no_data, referral, last_name, saying, name_of}
+use Rattle.response_laws.proofs.Answers.{IsFound, IsAnswer, IsMadeSet, path_answers}
 use Rattle.response_laws.proofs.BareNames.{flat, not_any, bare_direct, beside_soa}
-use Rattle.response_laws.proofs.LastNames.{IsBare, IsMissing, bare, bare_star, starless, gone}
+use Rattle.response_laws.proofs.Dnames.{sent_dname_target}
+use Rattle.response_laws.proofs.LastNames.{IsBare, IsMissing, IsAliasAsked, bare, bare_star, starless, gone}
 use Rattle.response_laws.proofs.Parts.{path_of, told_at, as_proof, IsMadeOf}
 use Rattle.response_laws.proofs.Said.{Said, says_nothing, says_data, says_referral, says_missing, said, referred_stands}
 use Rattle.response_laws.proofs.Stepped.{IsUnturned}
@@ -74,10 +77,9 @@ module _ (z : Zone) (q : Query) (r : Sections) (d : DeniesByNsec z) (signed : q.
   pub sound_proved : (x : Name) → IsJudged z.origin z.sets x → IsSound z.origin z.sets x (shown r)
   sound_proved x j = records_sound o m (shown r) x j records_proved
 
-  pub answers_proved : (s : RRset) → Contains r.answers s → (p : Part) × IsAnswerPart q.record_type p × (IsSentSet z.sets p s ⊎ IsStarSet z.origin z.sets (shown r) p s)
-  answers_proved s c =
-      let a = path_answers (inquiry z q) signed q.name s (subst (In s) h.answers (Contains-In s r.answers c)) in
-      (a.part', a.goes_out, by a.part' a.set)
+  -- of those that are found
+  found_proved : (s : RRset) → IsFound (inquiry z q) (path_of z q).made s → (p : Part) × IsAnswerPart q.record_type p × (IsSentSet z.sets p s ⊎ IsStarSet z.origin z.sets (shown r) p s)
+  found_proved s a = (a.part', a.goes_out, by a.part' a.set)
     where
       by : (p : Part) → IsSentSet m p s ⊎ ((y : Name) × In y (path_of z q).made × IsMadeSet (inquiry z q) y p s) → IsSentSet m p s ⊎ IsStarSet o m (shown r) p s
       by p (inl k) = inl k
@@ -99,21 +101,52 @@ module _ (z : Zone) (q : Query) (r : Sections) (d : DeniesByNsec z) (signed : q.
                 (nsec_encloser o m y) e.0;
           })
 
+  pub answers_proved : (s : RRset) → Contains r.answers s → ((p : Part) × IsAnswerPart q.record_type p × (IsSentSet z.sets p s ⊎ IsStarSet z.origin z.sets (shown r) p s)) ⊎ IsMadeAlias z.sets r.answers s
+  answers_proved s c = by (path_answers (inquiry z q) d.circle.zone signed q.name s (subst (In s) h.answers (Contains-In s r.answers c)))
+    where
+      by : IsAnswer (inquiry z q) (path_of z q).made (path_of z q).answers s
+          → ((p : Part) × IsAnswerPart q.record_type p × (IsSentSet z.sets p s ⊎ IsStarSet z.origin z.sets (shown r) p s)) ⊎ IsMadeAlias z.sets r.answers s
+      by (inl a) = inl (found_proved s a)
+      by (inr a) = inr (subst (λ all. IsMadeAlias m all s) (sym h.answers) a)
+
   -- ---- of whom something is said
 
-  pub judged_proved : (w : Saying) → saying q r ≡ Some w → IsJudged z.origin z.sets (name_of w)
+  -- an alias by a DNAME, which was asked for
+  alias_proved : (y : Name) (sets : List RRset) (w : Saying) → w ≡ data_of y → last_name t q.name (path_of z q).answers ≡ record { name = y; sets = sets } → IsAliasAsked (inquiry z q) (path_of z q).answers y sets
+      → IsAliasData z q r w
+  alias_proved y sets w e g a = record {
+    name = y;
+    says = e;
+    asked = a.asked;
+    alias = made_alias a.dname y (in_place_of a.dname.owner a.target y);
+    answer = ap (last_name t q.name) h.answers ∙ g ∙ ap (λ sets. record { name = y; sets = sets }) a.alone;
+    made = record {
+      dname = as_it_is part.Signed a.dname;
+      among = In-Contains (as_it_is part.Signed a.dname) r.answers (subst (In (as_it_is part.Signed a.dname)) (sym h.answers) (subst (λ b. In (as_it_is (part_for b) a.dname) (path_of z q).answers) signed a.among));
+      record_type = a.above.type';
+      stands = record { name = a.above.name; record_type = DNAME; stored = a.dname; stands = a.above.stands; ttl = a.dname.ttl; sent = refl };
+      target = a.target;
+      told = sent_dname_target a.dname ∙ a.told;
+      name = y;
+      below = subst (λ k. IsAbove k y) (sym a.above.owner) a.above.above;
+      made = refl;
+    };
+  }
+
+  pub judged_proved : (w : Saying) → saying q r ≡ Some w → IsJudged z.origin z.sets (name_of w) ⊎ IsAliasData z q r w
   judged_proved w e = by (said z d.circle.zone q r h)
     where
-      of : (v : Saying) → saying q r ≡ Some v → IsJudged o m (name_of v) → IsJudged o m (name_of w)
-      of v f j = subst (λ u. IsJudged o m (name_of u)) (same_saying v w (saying q r) f e) j
+      of : (v : Saying) → saying q r ≡ Some v → IsJudged o m (name_of v) → IsJudged z.origin z.sets (name_of w) ⊎ IsAliasData z q r w
+      of v f j = inl (subst (λ u. IsJudged o m (name_of u)) (same_saying v w (saying q r) f e) j)
 
       either : (there : Bool) (y : Name) → IsJudged o m y → IsJudged o m (name_of (cond there (no_data y) (name_error y)))
       either true y j = j
       either false y j = j
 
-      by : Said z q r → IsJudged o m (name_of w)
+      by : Said z q r → IsJudged z.origin z.sets (name_of w) ⊎ IsAliasData z q r w
       by (says_nothing f) = let p : None ≡ Some w = sym f ∙ e in absurd cc
-      by (says_data y f u) = of (data_of y) f (judged_unturned z q d y u)
+      by (says_data y sets f g (inl u)) = of (data_of y) f (judged_unturned z q d y u)
+      by (says_data y sets f g (inr a)) = inr (alias_proved y sets w (same_saying w (data_of y) (saying q r) e f) g a)
       by (says_referral y c f g u) = of (referral (lower c.owner)) f (judged_cut z q d y c u).judged
       by (says_missing y star there f g u k) = of (cond there (no_data y) (name_error y)) f (either there y (judged_unturned z q d y u))
 
@@ -263,7 +296,7 @@ module _ (z : Zone) (q : Query) (r : Sections) (d : DeniesByNsec z) (signed : q.
 
       by : Said z q r → IsMissingName x there
       by (says_nothing f) = let p : None ≡ Some negative = sym f ∙ e in absurd cc
-      by (says_data y f u) = absurd (no_answer there y (same (data_of y) f))
+      by (says_data y sets f g u) = absurd (no_answer there y (same (data_of y) f))
       by (says_referral y c f g u) = absurd (no_referral there (lower c.owner) (same (referral (lower c.owner)) f))
       by (says_missing y star a f g u k) =
           let s = both a there y (same (cond a (no_data y) (name_error y)) f) in
@@ -342,7 +375,7 @@ module _ (z : Zone) (q : Query) (r : Sections) (d : DeniesByNsec z) (signed : q.
 
       by : Said z q r → IsProvedReferral z r c
       by (says_nothing f) = let p : None ≡ Some (referral c) = sym f ∙ e in absurd cc
-      by (says_data y f u) = let p : data_of y ≡ referral c = same (data_of y) f in absurd cc
+      by (says_data y sets f g u) = let p : data_of y ≡ referral c = same (data_of y) f in absurd cc
       by (says_referral y s f g u) = subst (IsProvedReferral z r) (child (lower s.owner) (same (referral (lower s.owner)) f)) (of_cut y s g (judged_cut z q d y s u))
         where
           child : (n : Name) → referral n ≡ referral c → n ≡ c

@@ -1,3 +1,4 @@
 pub mod Agreement
+pub mod NewNames
 pub mod Sayings
 pub mod ProvedSayings
