@@ -1,5 +1,5 @@
-//! Laws of what a response says, of what a lookup says beside it, and of what it proves to a validator. Each is an empty function
-//! whose contract is the law, so a program has no need to call one.
+//! Laws of what a response says, of what a lookup says beside it, and of what it proves to a validator; and of the names that a DNAME
+//! gives. Each is an empty function whose contract is the law, so a program has no need to call one.
 //!
 //! What a response says is read in the response alone: the data of a name, a name error, no data, or a referral (`saying`); and so are
 //! the NSEC or NSEC3 records by which it proves that. Signatures are taken as verified.
