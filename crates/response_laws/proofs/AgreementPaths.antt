@@ -123,31 +123,31 @@ module _ (q : Inquiry) (zone : IsOrdinaryZone q.origin q.sets) (plain : IsOrdina
   come k seen x es fs p r e f h = subst (λ es. Comes q k seen x es p) (sym e) (subst (Comes q k seen x fs) (sym f) h)
 
   -- the path from x on, by its step
-  abbrev stepped : (Name → Path) → Step → Path
-  stepped search s = behind s.answers s.made (searched search s.next)
+  abbrev stepped : (List RRset → Name → Path) → Step → Path
+  stepped search s = behind s.answers s.made (searched (search s.answers) s.next)
 
-  along : (t == CNAME) ≡ false → (k : ℕ) (seen : List Name) (x : Name) → AreAlike q k seen x (rest k seen (Some x)) → Comes q k seen x (rest k seen (Some x)) (path_from q k seen x)
-  along other zero seen x alike = record { answers = refl; passes = refl; unfound = λ y u i. absurd (omega (arith, u.0)); others = λ out. refl }
-  along other (suc k) seen x alike = by (along other k (seen ++ x ∷ [])) (list_any (name_eq x) seen) refl
+  along : (t == CNAME) ≡ false → (k : ℕ) (seen : List Name) (before : List RRset) (x : Name) → AreAlike q k seen x (rest k seen (Some x)) → Comes q k seen x (rest k seen (Some x)) (path_from q k seen before x)
+  along other zero seen before x alike = record { answers = refl; passes = refl; unfound = λ y u i. absurd (omega (arith, u.0)); others = λ out. refl }
+  along other (suc k) seen before x alike = by (along other k (seen ++ x ∷ [])) (list_any (name_eq x) seen) refl
     where
       Goes : Type 0
-      Goes = (y : Name) → AreAlike q k (seen ++ x ∷ []) y (rest k (seen ++ x ∷ []) (Some y)) → Comes q k (seen ++ x ∷ []) y (rest k (seen ++ x ∷ []) (Some y)) (path_from q k (seen ++ x ∷ []) y)
+      Goes = (behind : List RRset) (y : Name) → AreAlike q k (seen ++ x ∷ []) y (rest k (seen ++ x ∷ []) (Some y)) → Comes q k (seen ++ x ∷ []) y (rest k (seen ++ x ∷ []) (Some y)) (path_from q k (seen ++ x ∷ []) behind y)
 
       Here : Type 0
-      Here = Comes q (suc k) seen x (rest (suc k) seen (Some x)) (path_from q (suc k) seen x)
+      Here = Comes q (suc k) seen x (rest (suc k) seen (Some x)) (path_from q (suc k) seen before x)
 
       -- by the sets that are left, and the path
-      of : (fs : List (Name × RRset)) (p : Path) → rest (suc k) seen (Some x) ≡ fs → path_from q (suc k) seen x ≡ p → Comes q (suc k) seen x fs p → Here
-      of fs p = come (suc k) seen x (rest (suc k) seen (Some x)) fs (path_from q (suc k) seen x) p
+      of : (fs : List (Name × RRset)) (p : Path) → rest (suc k) seen (Some x) ≡ fs → path_from q (suc k) seen before x ≡ p → Comes q (suc k) seen x fs p → Here
+      of fs p = come (suc k) seen x (rest (suc k) seen (Some x)) fs (path_from q (suc k) seen before x) p
 
-      is : (b : Bool) → list_any (name_eq x) seen ≡ b → path_from q (suc k) seen x ≡ cond b (ended unfollowed) (stepped (path_from q k (seen ++ x ∷ [])) (step q x))
-      is b e = ap (λ b. cond b (ended unfollowed) (stepped (path_from q k (seen ++ x ∷ [])) (step q x))) e
+      is : (b : Bool) → list_any (name_eq x) seen ≡ b → path_from q (suc k) seen before x ≡ cond b (ended unfollowed) (stepped (λ more. path_from q k (seen ++ x ∷ []) (before ++ more)) (step q before x))
+      is b e = ap (λ b. cond b (ended unfollowed) (stepped (λ more. path_from q k (seen ++ x ∷ []) (before ++ more)) (step q before x))) e
 
-      by_its : (s : Step) → list_any (name_eq x) seen ≡ false → step q x ≡ s → path_from q (suc k) seen x ≡ stepped (path_from q k (seen ++ x ∷ [])) s
-      by_its s e f = is false e ∙ ap (stepped (path_from q k (seen ++ x ∷ []))) f
+      by_its : (s : Step) → list_any (name_eq x) seen ≡ false → step q before x ≡ s → path_from q (suc k) seen before x ≡ stepped (λ more. path_from q k (seen ++ x ∷ []) (before ++ more)) s
+      by_its s e f = is false e ∙ ap (stepped (λ more. path_from q k (seen ++ x ∷ []) (before ++ more))) f
 
       leading : Goes → (s : RRset) (made : List Name) → list_any (name_eq x) seen ≡ false → found m q.signed x t ≡ Some s → (o : Option Name) → cname_target s ≡ o
-          → step q x ≡ record { answers = as_it_is (part_for q.signed) s ∷ []; made = made; next = after_alias o } → Here
+          → step q before x ≡ record { answers = as_it_is (part_for q.signed) s ∷ []; made = made; next = after_alias o } → Here
       leading goes s made e f None g n =
           of ((x, s) ∷ []) (behind (as_it_is (part_for q.signed) s ∷ []) made (ended complete))
           (rest_more m q.signed t (suc k) k seen (Some x) x s refl refl e f ∙ ap (λ es. (x, s) ∷ es) (rest_none m q.signed t k (seen ++ x ∷ []) (cname_target s) g))
@@ -155,15 +155,15 @@ module _ (q : Inquiry) (zone : IsOrdinaryZone q.origin q.sets) (plain : IsOrdina
       leading goes s made e f (Some y) g n =
           let more : rest (suc k) seen (Some x) ≡ (x, s) ∷ rest k (seen ++ x ∷ []) (Some y) =
           rest_more m q.signed t (suc k) k seen (Some x) x s refl refl e f ∙ ap (λ o. (x, s) ∷ rest k (seen ++ x ∷ []) o) g in
-          of ((x, s) ∷ rest k (seen ++ x ∷ []) (Some y)) (behind (as_it_is (part_for q.signed) s ∷ []) made (path_from q k (seen ++ x ∷ []) y)) more
+          of ((x, s) ∷ rest k (seen ++ x ∷ []) (Some y)) (behind (as_it_is (part_for q.signed) s ∷ []) made (path_from q k (seen ++ x ∷ []) (before ++ as_it_is (part_for q.signed) s ∷ []) y)) more
           (by_its (record { answers = as_it_is (part_for q.signed) s ∷ []; made = made; next = after_alias (Some y) }) e n)
-          (one_more k seen x y s g made (rest k (seen ++ x ∷ []) (Some y)) (path_from q k (seen ++ x ∷ []) y)
-          (goes y (later_alike k seen x y s g (rest k (seen ++ x ∷ []) (Some y)) (subst (AreAlike q (suc k) seen x) more alike))))
+          (one_more k seen x y s g made (rest k (seen ++ x ∷ []) (Some y)) (path_from q k (seen ++ x ∷ []) (before ++ as_it_is (part_for q.signed) s ∷ []) y)
+          (goes (before ++ as_it_is (part_for q.signed) s ∷ []) y (later_alike k seen x y s g (rest k (seen ++ x ∷ []) (Some y)) (subst (AreAlike q (suc k) seen x) more alike))))
 
-      bare : (end : End) → list_any (name_eq x) seen ≡ false → found m q.signed x t ≡ None → step q x ≡ at_end end → Comes q (suc k) seen x [] (ended end) → Here
+      bare : (end : End) → list_any (name_eq x) seen ≡ false → found m q.signed x t ≡ None → step q before x ≡ at_end end → Comes q (suc k) seen x [] (ended end) → Here
       bare end e f n h = of [] (ended end) (rest_unfound m q.signed t (suc k) seen (Some x) x refl f) (by_its (at_end end) e n) h
 
-      at_x : Goes → list_any (name_eq x) seen ≡ false → is_at_or_above q.origin x ≡ true → StepAsFound q x → Here
+      at_x : Goes → list_any (name_eq x) seen ≡ false → is_at_or_above q.origin x ≡ true → StepAsFound q before x → Here
       at_x goes e i (answers_by s made f followed no_target n) =
           of ((x, s) ∷ []) (behind (as_it_is (part_for q.signed) s ∷ []) made (ended complete))
           (rest_more m q.signed t (suc k) k seen (Some x) x s refl refl e f ∙ ap (λ es. (x, s) ∷ es) (rest_none m q.signed t k (seen ++ x ∷ []) (cname_target s) (no_target other)))
@@ -179,10 +179,10 @@ module _ (q : Inquiry) (zone : IsOrdinaryZone q.origin q.sets) (plain : IsOrdina
           })
 
       from_x : Goes → list_any (name_eq x) seen ≡ false → (b : Bool) → is_at_or_above q.origin x ≡ b → Here
-      from_x goes e true i = let alike_x = first_alike k seen x e alike i in at_x goes e i (step_as_found q zone plain x i alike_x.0 alike_x.1)
+      from_x goes e true i = let alike_x = first_alike k seen x e alike i in at_x goes e i (step_as_found q zone plain x i alike_x.0 alike_x.1 before)
       from_x goes e false i =
           bare (outside x) e (found_outside q.origin m zone.inside zone.unstarred q.signed x t i)
-          (ap (λ b. cond b (turned_step q x (turn q.origin m x t)) (at_end (outside x))) i)
+          (ap (λ b. cond b (turned_step q before x (turn q.origin m x t)) (at_end (outside x))) i)
           (record {
             answers = refl;
             passes = refl;
@@ -211,11 +211,11 @@ pub record PathEnds (q : Inquiry) (x : Name) : Type 0 where
   pub unfound : (y : Name) → unfound_name q x ≡ Some y → is_at_or_above q.origin y ≡ true → code_at (path q x).end ≡ cond (is_there q.sets y) code.NoError code.NXDomain
   pub others : ((y : Name) → unfound_name q x ≡ Some y → is_at_or_above q.origin y ≡ false) → code_at (path q x).end ≡ code.NoError
 
-path_step : (q : Inquiry) (x : Name) → path q x ≡ behind (step q x).answers (step q x).made (searched (path_from q 7 (x ∷ [])) (step q x).next)
+path_step : (q : Inquiry) (x : Name) → path q x ≡ behind (step q [] x).answers (step q [] x).made (searched (path_from q 7 (x ∷ []) (step q [] x).answers) (step q [] x).next)
 unfolding path
 path_step q x = refl
 
-path_from_first : (q : Inquiry) (x : Name) → path q x ≡ path_from q 8 [] x
+path_from_first : (q : Inquiry) (x : Name) → path q x ≡ path_from q 8 [] [] x
 unfolding path
 path_from_first q x = refl
 
@@ -317,18 +317,18 @@ module _ (q : Inquiry) (zone : IsOrdinaryZone q.origin q.sets) (plain : IsOrdina
   chained : (s : RRset) → found_is (Some s) → is_followed q.record_type s ≡ true → (q.record_type == CNAME) ≡ false → Comes q 8 [] x (links s) (path q x)
   chained s e f other =
       let same : rest_of q.sets q.signed q.record_type 8 [] (Some x) ≡ links s = rest_more q.sets q.signed q.record_type 8 7 [] (Some x) x s refl refl refl e ∙ sym (begins s) in
-      come q zone plain 8 [] x (links s) (rest_of q.sets q.signed q.record_type 8 [] (Some x)) (path q x) (path_from q 8 [] x) (sym same) (path_from_first q x)
-      (along q zone plain other 8 [] x (subst (AreAlike q 8 [] x) (sym same) (links_alike s e f)))
+      come q zone plain 8 [] x (links s) (rest_of q.sets q.signed q.record_type 8 [] (Some x)) (path q x) (path_from q 8 [] [] x) (sym same) (path_from_first q x)
+      (along q zone plain other 8 [] [] x (subst (AreAlike q 8 [] x) (sym same) (links_alike s e f)))
 
   -- ---- so it is of the path
 
-  is : (s : Step) → step q x ≡ s → path q x ≡ behind s.answers s.made (searched (path_from q 7 (x ∷ [])) s.next)
-  is s e = path_step q x ∙ ap (λ s. behind s.answers s.made (searched (path_from q 7 (x ∷ [])) s.next)) e
+  is : (s : Step) → step q [] x ≡ s → path q x ≡ behind s.answers s.made (searched (path_from q 7 (x ∷ []) s.answers) s.next)
+  is s e = path_step q x ∙ ap (λ s. behind s.answers s.made (searched (path_from q 7 (x ∷ []) s.answers) s.next)) e
 
   pub path_answers_as_found : PathAnswers q x × PathEnds q x
-  path_answers_as_found = by (step_as_found q zone plain x inside (alike x itself inside).0 (alike x itself inside).1)
+  path_answers_as_found = by (step_as_found q zone plain x inside (alike x itself inside).0 (alike x itself inside).1 [])
     where
-      by : StepAsFound q x → PathAnswers q x × PathEnds q x
+      by : StepAsFound q [] x → PathAnswers q x × PathEnds q x
       by (answers_by s made e f no_target n) =
           let p : path q x ≡ behind (as_it_is (part_for q.signed) s ∷ []) made (ended complete) = is (record { answers = as_it_is (part_for q.signed) s ∷ []; made = made; next = ends complete }) n in (
             answers_alone s e f (ap (λ (p : Path). p.answers) p),

@@ -34,12 +34,12 @@ use Rattle.response_laws.proofs.Leads.{no_target, made_target}
 use Rattle.response_laws.proofs.Turned.{unturned, silent_at, not_above}
 
 -- the step of a name, by what is found for it
-pub data StepAsFound (q : Inquiry) (x : Name) : Type 0 where
+pub data StepAsFound (q : Inquiry) (before : List RRset) (x : Name) : Type 0 where
   answers_by : (s : RRset) (made : List Name) → found q.sets q.signed x q.record_type ≡ Some s → is_followed q.record_type s ≡ false → ((q.record_type == CNAME) ≡ false → cname_target s ≡ None)
-      → step q x ≡ record { answers = as_it_is (part_for q.signed) s ∷ []; made = made; next = ends complete } → StepAsFound q x
+      → step q before x ≡ record { answers = as_it_is (part_for q.signed) s ∷ []; made = made; next = ends complete } → StepAsFound q before x
   leads_by : (s : RRset) (made : List Name) → found q.sets q.signed x q.record_type ≡ Some s → is_followed q.record_type s ≡ true → (q.record_type == CNAME) ≡ false
-      → step q x ≡ record { answers = as_it_is (part_for q.signed) s ∷ []; made = made; next = after_alias (cname_target s) } → StepAsFound q x
-  lacks : (star : Option Name) → found q.sets q.signed x q.record_type ≡ None → step q x ≡ at_end (missing x star (is_there q.sets x)) → StepAsFound q x
+      → step q before x ≡ record { answers = as_it_is (part_for q.signed) s ∷ []; made = made; next = after_alias (cname_target s) } → StepAsFound q before x
+  lacks : (star : Option Name) → found q.sets q.signed x q.record_type ≡ None → step q before x ≡ at_end (missing x star (is_there q.sets x)) → StepAsFound q before x
 
 -- what is found at a name itself
 data FindsAt (m : Sets) (a : Name) (t : ℕ) : Type 0 where
@@ -185,9 +185,9 @@ module _ (q : Inquiry) (zone : IsOrdinaryZone q.origin q.sets) (plain : IsOrdina
 
     -- ---- the step
 
-    module _ (addresses : NoStandIn q x) where
-      named_step : step q x ≡ name_step q x
-      named_step = (λ i. cond (inside i) (turned_step q x (ordinary.unturned i)) (at_end (outside x)))
+    module _ (addresses : NoStandIn q x) (before : List RRset) where
+      named_step : step q before x ≡ name_step q x
+      named_step = (λ i. cond (inside i) (turned_step q before x (ordinary.unturned i)) (at_end (outside x)))
 
       -- a set as it is found for x
       abbrev of : Option Name → RRset → RRset
@@ -207,13 +207,13 @@ module _ (q : Inquiry) (zone : IsOrdinaryZone q.origin q.sets) (plain : IsOrdina
       of_target (Some w) s = made_target q.signed (Some w) x s
 
       -- by what the name itself has, or its star
-      at_a_node : (star : Option Name) (a : Name) → IsAsked a → step q x ≡ step_at q star x a → found m q.signed x t ≡ option_map (of star) (exact m a t) → is_there m x ≡ true → StepAsFound q x
+      at_a_node : (star : Option Name) (a : Name) → IsAsked a → step q before x ≡ step_at q star x a → found m q.signed x t ≡ option_map (of star) (exact m a t) → is_there m x ≡ true → StepAsFound q before x
       at_a_node star a at is finds there = by (finds_at a (beside a at))
         where
           stepped : AtNode → Step
           stepped = node_step q.signed t star x
 
-          by : FindsAt m a t → StepAsFound q x
+          by : FindsAt m a t → StepAsFound q before x
           by (at_own s n e k target) =
               answers_by (of star s) (made_names star x) (finds ∙ ap (option_map (of star)) e)
               (ap (λ u. (u == CNAME) && not (t == CNAME)) (of_type star s ∙ k) ∙ never_both (t == CNAME))
@@ -233,14 +233,14 @@ module _ (q : Inquiry) (zone : IsOrdinaryZone q.origin q.sets) (plain : IsOrdina
       unchanged None = refl
       unchanged (Some s) = refl
 
-      existing : exists m x ≡ true → StepAsFound q x
+      existing : exists m x ≡ true → StepAsFound q before x
       existing e =
           at_a_node None x (inl refl) (named_step ∙ ap (λ b. cond b (step_at q None x x) (star_step q x (star_of m x))) e)
           (found_there m q.signed x t unreferred (unasked m x e) ∙ unchanged (exact m x t))
           (ap (λ b. b || option_map_or (exists m) (star_of m x) false) e)
 
       -- by the encloser of a name that doesn't exist
-      absent : exists m x ≡ false → (o : Option Name) → closest_encloser m x ≡ o → StepAsFound q x
+      absent : exists m x ≡ false → (o : Option Name) → closest_encloser m x ≡ o → StepAsFound q before x
       absent e o f = by o f (found_by_star m q.signed x t unreferred (unowned x (inl refl) e) e (ordinary.unstarred e) ∙ ap (λ o. from (option_map star_under o)) f)
           (named_step ∙ (λ i. cond (e i) (step_at q None x x) (star_step q x (option_map star_under (f i)))))
           (λ i. e i || option_map_or (exists m) (option_map star_under (f i)) false)
@@ -248,7 +248,7 @@ module _ (q : Inquiry) (zone : IsOrdinaryZone q.origin q.sets) (plain : IsOrdina
           from : Option Name → Option RRset
           from star = option_and_then (λ s. option_map (renamed q.signed s x) (direct m s t)) star
 
-          starred : (a : Name) → closest_encloser m x ≡ Some a → found m q.signed x t ≡ from (Some (star_under a)) → step q x ≡ star_step q x (Some (star_under a)) → is_there m x ≡ exists m (star_under a) → (b : Bool) → exists m (star_under a) ≡ b → StepAsFound q x
+          starred : (a : Name) → closest_encloser m x ≡ Some a → found m q.signed x t ≡ from (Some (star_under a)) → step q before x ≡ star_step q x (Some (star_under a)) → is_there m x ≡ exists m (star_under a) → (b : Bool) → exists m (star_under a) ≡ b → StepAsFound q before x
           starred a f finds is there b g = cases b g (finds ∙ ap (option_map (renamed q.signed w x)) (direct_is m q.signed w t (star_unreferred a (longest_is (exists m) x a f).above (ordinary.uncut_star w is_asked))))
             where
               w : Name
@@ -257,20 +257,20 @@ module _ (q : Inquiry) (zone : IsOrdinaryZone q.origin q.sets) (plain : IsOrdina
               is_asked : Sources.asked_star m x ≡ Some (star_under a)
               is_asked = λ i. cond (e i) None (option_map star_under (f i))
 
-              cases : (b : Bool) → exists m w ≡ b → found m q.signed x t ≡ option_map (renamed q.signed w x) (exact m w t) → StepAsFound q x
+              cases : (b : Bool) → exists m w ≡ b → found m q.signed x t ≡ option_map (renamed q.signed w x) (exact m w t) → StepAsFound q before x
               cases true g finds = at_a_node (Some w) w (inr is_asked) (is ∙ ap (λ b. cond b (step_at q (Some w) x w) (at_end (missing x (Some w) false))) g) finds (there ∙ g)
               cases false g finds =
                   lacks (Some w) (finds ∙ ap (option_map (renamed q.signed w x)) (exact_absent m w t (unowned w (inr is_asked) g) g))
                   (is ∙ ap (λ b. cond b (step_at q (Some w) x w) (at_end (missing x (Some w) false))) g ∙ (λ i. at_end (missing x (Some w) (sym (there ∙ g) i))))
 
-          by : (o : Option Name) → closest_encloser m x ≡ o → found m q.signed x t ≡ from (option_map star_under o) → step q x ≡ star_step q x (option_map star_under o)
-              → is_there m x ≡ option_map_or (exists m) (option_map star_under o) false → StepAsFound q x
+          by : (o : Option Name) → closest_encloser m x ≡ o → found m q.signed x t ≡ from (option_map star_under o) → step q before x ≡ star_step q x (option_map star_under o)
+              → is_there m x ≡ option_map_or (exists m) (option_map star_under o) false → StepAsFound q before x
           by None f finds is there = lacks None finds (is ∙ (λ i. at_end (missing x None (sym there i))))
           by (Some a) f finds is there = starred a f finds is there (exists m (star_under a)) refl
 
-      pub step_as_found : StepAsFound q x
+      pub step_as_found : StepAsFound q before x
       step_as_found = by (exists m x) refl
         where
-          by : (b : Bool) → exists m x ≡ b → StepAsFound q x
+          by : (b : Bool) → exists m x ≡ b → StepAsFound q before x
           by true e = existing e
           by false e = absent e (closest_encloser m x) refl

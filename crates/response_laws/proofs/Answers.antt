@@ -1,24 +1,28 @@
--- The sets of an answer section are the zone's own, or those of a star
-use Rattle.std.proofs.Common.{◌≡◌, ℕ, zero, suc, Bool, true, false, cond, List, [], ◌∷◌, ◌++◌, refl, sym, ap, ◌∙◌, subst, ◌⊎◌, inl, inr, eqb-true}
+-- The sets of an answer section are the zone's own, those of a star, or a CNAME that a DNAME set makes
+use Rattle.std.proofs.Common.{◌≡◌, ℕ, zero, suc, Bool, true, false, cond, List, [], ◌∷◌, ◌++◌, refl, sym, ap, ◌∙◌, subst, ◌⊎◌, inl, inr, eqb-true, append_assoc}
 use Rattle.std.specs.Prelude.{Option, Some, None, ◌==◌, ◌||◌}
 use Rattle.std.specs.List.{list_any}
-use Rattle.zone_proto.specs.Names.{Name, name_eq}
+use Rattle.zone_proto.specs.Names.{Name, name_eq, IsAbove}
 use Rattle.zone_proto.specs.Sets.{RRset}
 use Rattle.zone_proto.specs.Types.{CNAME, RRSIG}
-use Rattle.zone_proto.proofs.Members.{In, In-from_append, In-append_left, In-append_right}
+use Rattle.zone_proto.proofs.Members.{In, In-Contains, Contains-In, In-from_append, In-append_left, In-append_right}
 use Rattle.zone_map.specs.Wildcards.{exists, renamed}
-use Rattle.zone_map.specs.Zones.{Sets, set_at}
+use Rattle.zone_map.specs.Zones.{Sets, set_at, IsZone}
 use Rattle.zone_response.specs.declared.response.Part.{Part}
 use Rattle.zone_response.specs.declared.response.Part.TheVariants as part
 use Rattle.zone_response.specs.Nodes.{AtNode, chosen_type}
 use Rattle.zone_response.specs.Paths.{Path, ended, behind, searched, path_from, path}
 use Rattle.zone_response.specs.Queries.{Inquiry}
-use Rattle.zone_response.specs.Sections.{sent, part_for}
+use Rattle.zone_response.specs.Renamings.{dname_target, in_place_of, unless_long, made_alias}
+use Rattle.zone_response.specs.Sections.{sent, as_it_is, part_for, unless_among}
 use Rattle.zone_response.specs.Sources.{star_of}
-use Rattle.zone_response.specs.Steps.{referred, missing, outside, unfollowed, failed, Next, on, ends, Step, at_end, made_by, made_names, keeps, own_part, node_step, step_at, step}
-use Rattle.response_laws.specs.ProvedSayings.{IsSentSet, IsAnswerPart}
+use Rattle.zone_response.specs.Steps.{referred, missing, outside, unfollowed, failed, Next, on, ends, Step, at_end, made_by, made_names, keeps, own_part, node_step, new_name_step, step_at, step}
+use Rattle.zone_response.specs.Turns.{DNAME}
+use Rattle.response_laws.specs.ProvedSayings.{IsSentSet, IsMadeAlias, IsAnswerPart}
+use Rattle.response_laws.proofs.Dnames.{sent_dname_target, short_is, sent_dname, AreDnames, IsAboveBy, turned_by, stands_among, in_unless}
+use Rattle.response_laws.proofs.LastNames.{dnames_on}
 use Rattle.response_laws.proofs.Leads.{asked_stands}
-use Rattle.response_laws.proofs.Stepped.{NodeOf, has_set, has_alias, has_stand_in, has_nothing, node_of, IsUnturned, StepOf, leaves, refers, fails, at_name, no_star, at_star, star_gone, step_of}
+use Rattle.response_laws.proofs.Stepped.{NodeOf, has_set, has_alias, has_stand_in, has_nothing, node_of, IsUnturned, StepOf, leaves, refers, fails, new_name, at_name, no_star, at_star, star_gone, step_of}
 
 -- a name that doesn't exist, for which its star answers
 pub record IsMade (q : Inquiry) (y w : Name) : Type 0 where
@@ -36,21 +40,41 @@ pub record IsMadeSet (q : Inquiry) (y : Name) (p : Part) (s : RRset) : Type 0 wh
   pub ttl : ℕ
   pub sent : s ≡ sent p ttl (renamed true star y stored)
 
--- a set that answers, where stars answered for these names
-pub record IsAnswer (q : Inquiry) (made : List Name) (s : RRset) : Type 0 where
+-- a set that is found, where stars answered for these names
+pub record IsFound (q : Inquiry) (made : List Name) (s : RRset) : Type 0 where
   pub part' : Part
   pub goes_out : IsAnswerPart q.record_type part'
   pub set : IsSentSet q.sets part' s ⊎ ((y : Name) × In y made × IsMadeSet q y part' s)
 
+-- a set that answers: it is found, or made by a DNAME set that stands in the section
+abbrev pub IsAnswer : Inquiry → List Name → List RRset → RRset → Type 0
+IsAnswer q made all s = IsFound q made s ⊎ IsMadeAlias q.sets all s
+
 -- among more names
-among_more : (q : Inquiry) (made more : List Name) (s : RRset) → ((y : Name) → In y made → In y more) → IsAnswer q made s → IsAnswer q more s
+among_more : (q : Inquiry) (made more : List Name) (s : RRset) → ((y : Name) → In y made → In y more) → IsFound q made s → IsFound q more s
 among_more q made more s more_of a = record { part' = a.part'; goes_out = a.goes_out; set = by a.set }
   where
     by : IsSentSet q.sets a.part' s ⊎ ((y : Name) × In y made × IsMadeSet q y a.part' s) → IsSentSet q.sets a.part' s ⊎ ((y : Name) × In y more × IsMadeSet q y a.part' s)
     by (inl h) = inl h
     by (inr (y, i, h)) = inr (y, more_of y i, h)
 
-module _ (q : Inquiry) (signed : q.signed ≡ true) where
+-- in a longer section
+in_longer : (q : Inquiry) (made : List Name) (all more : List RRset) (s : RRset) → IsAnswer q made all s → IsAnswer q made (all ++ more) s
+in_longer q made all more s (inl h) = inl h
+in_longer q made all more s (inr a) =
+    inr (record {
+      dname = a.dname;
+      among = In-Contains a.dname (all ++ more) (In-append_left a.dname all more (Contains-In a.dname all a.among));
+      record_type = a.record_type;
+      stands = a.stands;
+      target = a.target;
+      told = a.told;
+      name = a.name;
+      below = a.below;
+      made = a.made;
+    })
+
+module _ (q : Inquiry) (zone : IsZone q.sets) (signed : q.signed ≡ true) where
   abbrev t : ℕ
   t = q.record_type
 
@@ -68,7 +92,7 @@ module _ (q : Inquiry) (signed : q.signed ≡ true) where
 
   -- a set as it is found for x, at the name or at its star
   found_answer : (star : Option Name) (x a : Name) → (star ≡ None → a ≡ x) → ((w : Name) → star ≡ Some w → (a ≡ w) × IsMade q x w) → (u : ℕ) (s : RRset) → set_at m a u ≡ Some s
-      → (p : Part) → IsAnswerPart t p → IsAnswer q (made_names star x) (sent p (made_by (keeps q.signed t) star x s).ttl (made_by (keeps q.signed t) star x s))
+      → (p : Part) → IsAnswerPart t p → IsFound q (made_names star x) (sent p (made_by (keeps q.signed t) star x s).ttl (made_by (keeps q.signed t) star x s))
   found_answer None x a here of u s e p g = record { part' = p; goes_out = g; set = inl (record { name = a; record_type = u; stored = s; stands = e; ttl = s.ttl; sent = refl }) }
   found_answer (Some w) x a here of u s e p g =
       let made = of w refl in
@@ -91,17 +115,17 @@ module _ (q : Inquiry) (signed : q.signed ≡ true) where
       }
 
   node_answers : (star : Option Name) (x a : Name) → (star ≡ None → a ≡ x) → ((w : Name) → star ≡ Some w → (a ≡ w) × IsMade q x w) → (s : RRset) → In s (step_at q star x a).answers
-      → IsAnswer q (step_at q star x a).made s
+      → IsFound q (step_at q star x a).made s
   node_answers star x a here of s = by (node_of m a t)
     where
       at : AtNode → Step
       at = node_step q.signed t star x
 
       HasAnswers : Step → Type 0
-      HasAnswers v = In s v.answers → IsAnswer q v.made s
+      HasAnswers v = In s v.answers → IsFound q v.made s
 
-      only : (made : List Name) (r : RRset) → IsAnswer q made r → In s (r ∷ []) → IsAnswer q made s
-      only made r h (inl e) = subst (IsAnswer q made) e h
+      only : (made : List Name) (r : RRset) → IsFound q made r → In s (r ∷ []) → IsFound q made s
+      only made r h (inl e) = subst (IsFound q made) e h
       only made r h (inr i) = absurd i
 
       by : NodeOf m a t → HasAnswers (step_at q star x a)
@@ -116,22 +140,61 @@ module _ (q : Inquiry) (signed : q.signed ≡ true) where
       by (has_stand_in r e) = subst (λ n. HasAnswers (at n)) (sym e) (λ i. absurd i)
       by (has_nothing e f g h) = subst (λ n. HasAnswers (at n)) (sym h) (λ i. absurd i)
 
-  step_answers : (x : Name) (s : RRset) → In s (step q x).answers → IsAnswer q (step q x).made s
-  step_answers x s = by (step_of q x)
+  -- below a DNAME
+  module _ (before : List RRset) (dnames : AreDnames q before) (x : Name) (v : RRset) (target : Name) (a : IsAboveBy q x v) (told : dname_target v ≡ Some target) where
+    abbrev sets : List RRset
+    sets = unless_among before (sent_dname q v)
+
+    dname_answers : (all : List RRset) (s : RRset) → In s sets → IsAnswer q [] all s
+    dname_answers all s i =
+        inl (record {
+          part' = part.Signed;
+          goes_out = inl refl;
+          set = inl (record { name = a.name; record_type = DNAME; stored = v; stands = a.stands; ttl = v.ttl; sent = in_unless q before (sent_dname q v) s i ∙ ap (λ b. as_it_is (part_for b) v) signed });
+        })
+
+    new_name_answers : (o : Option Name) → unless_long (in_place_of v.owner target x) ≡ o → (s : RRset) → In s (new_name_step q.signed t before x v o).answers
+        → IsAnswer q (new_name_step q.signed t before x v o).made (before ++ (new_name_step q.signed t before x v o).answers) s
+    new_name_answers None e s i = dname_answers (before ++ sets) s i
+    new_name_answers (Some n) e s i = by (In-from_append s sets (made_alias v x n ∷ []) i)
+      where
+        alias : made_alias v x n ≡ s → IsMadeAlias m (before ++ (sets ++ made_alias v x n ∷ [])) s
+        alias same = record {
+          dname = as_it_is part.Signed v;
+          among =
+              In-Contains (as_it_is part.Signed v) (before ++ (sets ++ made_alias v x n ∷ []))
+              (subst (λ b. In (as_it_is (part_for b) v) (before ++ (sets ++ made_alias v x n ∷ []))) signed (stands_among q zone before (made_alias v x n ∷ []) x v dnames a));
+          record_type = a.type';
+          stands = record { name = a.name; record_type = DNAME; stored = v; stands = a.stands; ttl = v.ttl; sent = refl };
+          target = target;
+          told = sent_dname_target v ∙ told;
+          name = x;
+          below = subst (λ k. IsAbove k x) (sym a.owner) a.above;
+          made = sym same ∙ ap (made_alias v x) (short_is (in_place_of v.owner target x) n e);
+        }
+
+        by : In s sets ⊎ In s (made_alias v x n ∷ []) → IsAnswer q [] (before ++ (sets ++ made_alias v x n ∷ [])) s
+        by (inl k) = dname_answers (before ++ (sets ++ made_alias v x n ∷ [])) s k
+        by (inr (inl same)) = inr (alias same)
+        by (inr (inr k)) = absurd k
+
+  step_answers : (before : List RRset) → AreDnames q before → (x : Name) (s : RRset) → In s (step q before x).answers → IsAnswer q (step q before x).made (before ++ (step q before x).answers) s
+  step_answers before dnames x s = by (step_of q before x)
     where
       HasAnswers : Step → Type 0
-      HasAnswers v = In s v.answers → IsAnswer q v.made s
+      HasAnswers v = In s v.answers → IsAnswer q v.made (before ++ v.answers) s
 
-      of : (v : Step) → step q x ≡ v → HasAnswers v → HasAnswers (step q x)
+      of : (v : Step) → step q before x ≡ v → HasAnswers v → HasAnswers (step q before x)
       of v e h = subst HasAnswers (sym e) h
 
-      by : StepOf q x → HasAnswers (step q x)
+      by : StepOf q before x → HasAnswers (step q before x)
       by (leaves i e) = of (at_end (outside x)) e (λ i. absurd i)
       by (refers r i f e) = of (at_end (referred r)) e (λ i. absurd i)
       by (fails e) = of (at_end failed) e (λ i. absurd i)
-      by (at_name u there e) = of (step_at q None x x) e (node_answers None x x (λ k. refl) (λ w k. absurd cc) s)
+      by (new_name v target o f told g e) = of (new_name_step q.signed t before x v o) e (new_name_answers before dnames x v target (turned_by q zone x v f) told o g s)
+      by (at_name u there e) = of (step_at q None x x) e (λ i. inl (node_answers None x x (λ k. refl) (λ w k. absurd cc) s i))
       by (no_star u absent f e) = of (at_end (missing x None false)) e (λ i. absurd i)
-      by (at_star w u absent f g e) = of (step_at q (Some w) x w) e (node_answers (Some w) x w (λ k. absurd cc) (λ v k. (same w v k, subst (IsMade q x) (same w v k) (record { unturned = u; absent = absent; star = f }))) s)
+      by (at_star w u absent f g e) = of (step_at q (Some w) x w) e (λ i. inl (node_answers (Some w) x w (λ k. absurd cc) (λ v k. (same w v k, subst (IsMade q x) (same w v k) (record { unturned = u; absent = absent; star = f }))) s i))
         where
           same : (a b : Name) → Some a ≡ Some b → a ≡ b
           same a b e = cc
@@ -139,29 +202,45 @@ module _ (q : Inquiry) (signed : q.signed ≡ true) where
 
   -- ---- the path
 
-  answers_from : (k : ℕ) (seen : List Name) (x : Name) (s : RRset) → In s (path_from q k seen x).answers → IsAnswer q (path_from q k seen x).made s
-  answers_from zero seen x s = λ i. absurd i
-  answers_from (suc k) seen x s = by (answers_from k (seen ++ x ∷ [])) (list_any (name_eq x) seen)
+  -- the sets of a path answer in the section that they stand in, behind others
+  abbrev Answer : List RRset → Path → Type 0
+  Answer before p = (s : RRset) → In s p.answers → IsAnswer q p.made (before ++ p.answers) s
+
+  answers_from : (k : ℕ) (seen : List Name) (before : List RRset) → AreDnames q before → (x : Name) → Answer before (path_from q k seen before x)
+  answers_from zero seen before dnames x = λ s i. absurd i
+  answers_from (suc k) seen before dnames x = by (answers_from k (seen ++ x ∷ []) (before ++ answers)) (list_any (name_eq x) seen)
     where
-      rest : Path
-      rest = searched (path_from q k (seen ++ x ∷ [])) (step q x).next
+      answers : List RRset
+      answers = (step q before x).answers
 
-      HasAnswers : Path → Type 0
-      HasAnswers p = In s p.answers → IsAnswer q p.made s
+      made : List Name
+      made = (step q before x).made
 
-      later : ((y : Name) (s : RRset) → In s (path_from q k (seen ++ x ∷ []) y).answers → IsAnswer q (path_from q k (seen ++ x ∷ []) y).made s) → (n : Next) → HasAnswers (searched (path_from q k (seen ++ x ∷ [])) n)
-      later from (on y) = from y s
-      later from (ends e) = λ i. absurd i
+      rest : Next → Path
+      rest = searched (path_from q k (seen ++ x ∷ []) (before ++ answers))
 
-      either : HasAnswers rest → In s (step q x).answers ⊎ In s rest.answers → IsAnswer q ((step q x).made ++ rest.made) s
-      either h (inl i) = among_more q (step q x).made ((step q x).made ++ rest.made) s (λ y. In-append_left y (step q x).made rest.made) (step_answers x s i)
-      either h (inr i) = among_more q rest.made ((step q x).made ++ rest.made) s (λ y. In-append_right y (step q x).made rest.made) (h i)
+      From : Type 0
+      From = AreDnames q (before ++ answers) → (y : Name) → Answer (before ++ answers) (path_from q k (seen ++ x ∷ []) (before ++ answers) y)
 
-      by : ((y : Name) (s : RRset) → In s (path_from q k (seen ++ x ∷ []) y).answers → IsAnswer q (path_from q k (seen ++ x ∷ []) y).made s) → (b : Bool)
-          → HasAnswers (cond b (ended unfollowed) (behind (step q x).answers (step q x).made rest))
-      by from true = λ i. absurd i
-      by from false = λ i. either (later from (step q x).next) (In-from_append s (step q x).answers rest.answers i)
+      later : From → (n : Next) → (step q before x).next ≡ n → Answer (before ++ answers) (rest n)
+      later from (on y) e = from (dnames_on q zone before dnames x y e) y
+      later from (ends e) f = λ s i. absurd i
 
-  pub path_answers : (x : Name) (s : RRset) → In s (path q x).answers → IsAnswer q (path q x).made s
+      either : (p : Path) → Answer (before ++ answers) p → Answer before (behind answers made p)
+      either p h s i = subst (λ all. IsAnswer q (made ++ p.made) all s) (append_assoc before answers p.answers) (of (In-from_append s answers p.answers i))
+        where
+          more_made : (more : List Name) → ((y : Name) → In y more → In y (made ++ p.made)) → IsAnswer q more ((before ++ answers) ++ p.answers) s → IsAnswer q (made ++ p.made) ((before ++ answers) ++ p.answers) s
+          more_made more all (inl f) = inl (among_more q more (made ++ p.made) s all f)
+          more_made more all (inr a) = inr a
+
+          of : In s answers ⊎ In s p.answers → IsAnswer q (made ++ p.made) ((before ++ answers) ++ p.answers) s
+          of (inl u) = more_made made (λ y. In-append_left y made p.made) (in_longer q made (before ++ answers) p.answers s (step_answers before dnames x s u))
+          of (inr u) = more_made p.made (λ y. In-append_right y made p.made) (h s u)
+
+      by : From → (b : Bool) → Answer before (cond b (ended unfollowed) (behind answers made (rest (step q before x).next)))
+      by from true = λ s i. absurd i
+      by from false = either (rest (step q before x).next) (later from (step q before x).next refl)
+
+  pub path_answers : (x : Name) (s : RRset) → In s (path q x).answers → IsAnswer q (path q x).made (path q x).answers s
   unfolding path
-  path_answers x s = answers_from 8 [] x s
+  path_answers x = answers_from 8 [] [] (λ r i. absurd i) x

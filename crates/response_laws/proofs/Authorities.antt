@@ -10,7 +10,7 @@ use Rattle.zone_response.specs.declared.response.Part.{Part}
 use Rattle.zone_response.specs.declared.response.Part.TheVariants as part
 use Rattle.zone_response.specs.Responses.{negative_ttl, child_ds, ds_at, end_sets}
 use Rattle.zone_response.specs.Sections.{sent, as_it_is}
-use Rattle.zone_response.specs.Steps.{End, complete, referred, missing, outside, unfollowed, failed}
+use Rattle.zone_response.specs.Steps.{End, complete, referred, missing, outside, unfollowed, too_long, failed}
 use Rattle.response_laws.specs.ProvedSayings.{IsSentSet, authority_part}
 use Rattle.response_laws.proofs.OwnerSets.{AreOwners}
 use Rattle.response_laws.proofs.Parts.{as_proof}
@@ -54,4 +54,5 @@ module _ (m : Sets) (zone : IsZone m) where
   front_is origin soa complete stands cut s i = absurd i
   front_is origin soa (outside x) stands cut s i = absurd i
   front_is origin soa unfollowed stands cut s i = absurd i
+  front_is origin soa too_long stands cut s i = absurd i
   front_is origin soa failed stands cut s i = absurd i

@@ -36,9 +36,9 @@ use Rattle.zone_response.specs.Sections.{Sections, sent}
 use Rattle.zone_response.specs.Sources.{star_of}
 use Rattle.zone_response.specs.Steps.{End}
 use Rattle.response_laws.specs.HashedSayings.{zone_hash, DeniesByNsec3, HashesApart, IsReached, shown_nsec3, may_leave_out, IsHashedStarSet, IsLacking, shown_records}
-use Rattle.response_laws.specs.ProvedSayings.{IsSentSet, IsAnswerPart, authority_part}
+use Rattle.response_laws.specs.ProvedSayings.{IsSentSet, IsMadeAlias, IsAliasData, IsAnswerPart, authority_part}
 use Rattle.response_laws.specs.Sayings.{Saying, data_of, name_error, no_data, referral, saying, name_of}
-use Rattle.response_laws.proofs.Answers.{IsMadeSet, path_answers}
+use Rattle.response_laws.proofs.Answers.{IsFound, IsAnswer, IsMadeSet, path_answers}
 use Rattle.response_laws.proofs.HashedCalls.{told_is}
 use Rattle.response_laws.proofs.HashedLacks.{lacking, lacking_named}
 use Rattle.response_laws.proofs.HashedNames.{absent_off, encloser_agrees, encloser_of_star}
@@ -47,7 +47,7 @@ use Rattle.response_laws.proofs.HashedTold.{IsHashedName, below, enclosed, answe
 use Rattle.response_laws.proofs.Parts.{path_of, IsMadeOf}
 use Rattle.response_laws.proofs.ReadSets.{nsec3_reader, read_of_zone, read_proof}
 use Rattle.response_laws.proofs.Said.{Said, says_nothing, says_data, says_referral, says_missing, said}
-use Rattle.response_laws.proofs.SaidNames.{same_saying, reached_unturned, reached_cut, authorities_are, authority_of}
+use Rattle.response_laws.proofs.SaidNames.{same_saying, reached_unturned, reached_cut, authorities_are, authority_of, alias_said}
 
 -- one for which a test fails
 some_fails : {A : Type 0} (p : A → Bool) (xs : List A) → list_all p xs ≡ false → (x : A) × In x xs × (p x ≡ false)
@@ -148,19 +148,20 @@ module _ (z : Zone) (parameters : Nsec3Parameters) (q : Query) (r : Sections) (d
 
   -- ---- of whom something is said
 
-  pub reached_proved : (w : Saying) → saying q r ≡ Some w → IsReached z.origin z.sets (name_of w)
+  pub reached_proved : (w : Saying) → saying q r ≡ Some w → IsReached z.origin z.sets (name_of w) ⊎ IsAliasData z q r w
   reached_proved w e = by (said z zone q r h)
     where
-      of : (v : Saying) → saying q r ≡ Some v → IsReached o m (name_of v) → IsReached o m (name_of w)
-      of v f k = subst (λ u. IsReached o m (name_of u)) (same_saying v w (saying q r) f e) k
+      of : (v : Saying) → saying q r ≡ Some v → IsReached o m (name_of v) → IsReached z.origin z.sets (name_of w) ⊎ IsAliasData z q r w
+      of v f k = inl (subst (λ u. IsReached o m (name_of u)) (same_saying v w (saying q r) f e) k)
 
       either : (there : Bool) (y : Name) → IsReached o m y → IsReached o m (name_of (cond there (no_data y) (name_error y)))
       either true y k = k
       either false y k = k
 
-      by : Said z q r → IsReached o m (name_of w)
+      by : Said z q r → IsReached z.origin z.sets (name_of w) ⊎ IsAliasData z q r w
       by (says_nothing f) = let p : None ≡ Some w = sym f ∙ e in absurd cc
-      by (says_data y f u) = of (data_of y) f (reached_unturned z q d.no_dname y u)
+      by (says_data y sets f g (inl u)) = of (data_of y) f (reached_unturned z q d.no_dname y u)
+      by (says_data y sets f g (inr a)) = inr (alias_said z q r zone signed h y sets w (same_saying w (data_of y) (saying q r) e f) g a)
       by (says_referral y c f g u) = of (referral (lower c.owner)) f (reached_cut z q d.no_dname zone y c u).reached
       by (says_missing y star there f g u k) = of (cond there (no_data y) (name_error y)) f (either there y (reached_unturned z q d.no_dname y u))
 
@@ -223,10 +224,9 @@ module _ (z : Zone) (parameters : Nsec3Parameters) (q : Query) (r : Sections) (d
       c : (k : Name) × IsCover j.zone j.apart n.1 k × In (record_of j.zone j.apart k) (read_nsec3_sets s.0)
       c = closer_shown j.zone j.apart n.0 n.1 n.2 s.0 s.1
 
-  pub answers_proved : (s : RRset) → Contains r.answers s → (p : Part) × IsAnswerPart q.record_type p × (IsSentSet z.sets p s ⊎ IsHashedStarSet z parameters (shown_nsec3 r) p s)
-  answers_proved s c =
-      let a = path_answers (inquiry z q) signed q.name s (subst (In s) h.answers (Contains-In s r.answers c)) in
-      (a.part', a.goes_out, by a.part' a.set)
+  -- of those that are found
+  found_proved : (s : RRset) → IsFound (inquiry z q) (path_of z q).made s → (p : Part) × IsAnswerPart q.record_type p × (IsSentSet z.sets p s ⊎ IsHashedStarSet z parameters (shown_nsec3 r) p s)
+  found_proved s a = (a.part', a.goes_out, by a.part' a.set)
     where
       of_star : (p : Part) (y : Name) → In y (path_of z q).made → IsMadeSet (inquiry z q) y p s → IsHashedStarSet z parameters (shown_nsec3 r) p s
       of_star p y i k =
@@ -245,3 +245,12 @@ module _ (z : Zone) (parameters : Nsec3Parameters) (q : Query) (r : Sections) (d
       by : (p : Part) → IsSentSet m p s ⊎ ((y : Name) × In y (path_of z q).made × IsMadeSet (inquiry z q) y p s) → IsSentSet m p s ⊎ IsHashedStarSet z parameters (shown_nsec3 r) p s
       by p (inl k) = inl k
       by p (inr (y, i, k)) = inr (of_star p y i k)
+
+  pub answers_proved : (s : RRset) → Contains r.answers s
+      → ((p : Part) × IsAnswerPart q.record_type p × (IsSentSet z.sets p s ⊎ IsHashedStarSet z parameters (shown_nsec3 r) p s)) ⊎ IsMadeAlias z.sets r.answers s
+  answers_proved s c = by (path_answers (inquiry z q) zone signed q.name s (subst (In s) h.answers (Contains-In s r.answers c)))
+    where
+      by : IsAnswer (inquiry z q) (path_of z q).made (path_of z q).answers s
+          → ((p : Part) × IsAnswerPart q.record_type p × (IsSentSet z.sets p s ⊎ IsHashedStarSet z parameters (shown_nsec3 r) p s)) ⊎ IsMadeAlias z.sets r.answers s
+      by (inl a) = inl (found_proved s a)
+      by (inr a) = inr (subst (λ all. IsMadeAlias m all s) (sym h.answers) a)

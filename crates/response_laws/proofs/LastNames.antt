@@ -1,25 +1,29 @@
 -- The last name of a path is that to which its answers lead, and how the search ends there
-use Rattle.std.proofs.Common.{◌≡◌, ℕ, zero, suc, Bool, true, false, cond, List, [], ◌∷◌, ◌++◌, refl, sym, ap, ◌∙◌, subst}
-use Rattle.std.specs.Prelude.{Option, Some, None}
+use Rattle.std.proofs.Common.{◌≡◌, ℕ, zero, suc, Bool, true, false, cond, ◌&&◌, ◌||◌, List, [], ◌∷◌, ◌++◌, refl, sym, ap, ◌∙◌, subst, ◌⊎◌, inl, inr, true≢false, eqb-true, eq-eqb, arith, append_assoc}
+use Rattle.std.specs.Prelude.{Option, Some, None, ◌==◌}
 use Rattle.std.specs.List.{list_any}
 use Rattle.std.specs.Option.{option_map_or}
 use Rattle.std.proofs.lemmas.List.{append-nil}
-use Rattle.zone_proto.specs.Names.{Name, name_eq, is_at_or_above}
+use Rattle.zone_proto.specs.NameLaws.{caseless_eq_equiv}
+use Rattle.zone_proto.specs.Names.{Name, lower, name_eq, is_at_or_above}
 use Rattle.zone_proto.specs.Sets.{RRset}
-use Rattle.zone_proto.specs.Types.{CNAME}
+use Rattle.zone_proto.specs.Types.{CNAME, RRSIG, ANY}
+use Rattle.zone_proto.proofs.Members.{In}
 use Rattle.zone_map.specs.Chains.{cname_target}
 use Rattle.zone_map.specs.Wildcards.{exists}
 use Rattle.zone_map.specs.Zones.{Sets, set_at, IsZone}
-use Rattle.zone_response.specs.Nodes.{AtNode, own, alias, stand_in, nothing, asked_set, stand_in_set, at_node}
+use Rattle.zone_response.specs.Nodes.{AtNode, own, alias, stand_in, nothing, chosen_type, asked_set, stand_in_set, at_node}
 use Rattle.zone_response.specs.Paths.{Path, ended, behind, searched, path_from, path}
 use Rattle.zone_response.specs.Queries.{Inquiry}
-use Rattle.zone_response.specs.Sections.{as_it_is, part_for}
+use Rattle.zone_response.specs.Renamings.{dname_target, in_place_of, unless_long, made_alias}
+use Rattle.zone_response.specs.Sections.{as_it_is, part_for, unless_among}
 use Rattle.zone_response.specs.Sources.{star_of}
-use Rattle.zone_response.specs.Steps.{End, complete, referred, missing, outside, unfollowed, failed, on, ends, Step, at_end, made_by, after_alias, keeps, own_part, node_step, step_at, step}
-use Rattle.zone_response.specs.Turns.{cut, turn}
-use Rattle.response_laws.specs.Sayings.{leads_to, last_name, is_answer}
-use Rattle.response_laws.proofs.Leads.{has_target, alias_leads, own_leads, own_answers}
-use Rattle.response_laws.proofs.Stepped.{NodeOf, has_set, has_alias, has_stand_in, has_nothing, node_of, IsUnturned, StepOf, leaves, refers, fails, at_name, no_star, at_star, star_gone, step_of}
+use Rattle.zone_response.specs.Steps.{End, complete, referred, missing, outside, unfollowed, too_long, failed, Next, on, ends, Step, at_end, made_by, after_alias, keeps, own_part, node_step, new_name_step, step_at, step}
+use Rattle.zone_response.specs.Turns.{DNAME, cut, turn}
+use Rattle.response_laws.specs.Sayings.{asks_alias, renames, leads_to, last_name, is_answer}
+use Rattle.response_laws.proofs.Dnames.{sent_dname, short_is, AreDnames, both_dnames, IsAboveBy, turned_by, stands_among, in_unless, passed, alias_leads as dname_leads, alias_stays}
+use Rattle.response_laws.proofs.Leads.{sent_type, made_type, has_target, asked_stands, found_stays, alias_leads, own_leads, own_answers}
+use Rattle.response_laws.proofs.Stepped.{NodeOf, has_set, has_alias, has_stand_in, has_nothing, node_of, IsUnturned, StepOf, leaves, refers, fails, new_name, at_name, no_star, at_star, star_gone, step_of}
 
 -- ---- how a search ends at a name
 
@@ -42,37 +46,58 @@ pub record IsAnswered (q : Inquiry) (x : Name) (answers : List RRset) : Type 0 w
   pub alone : answers ≡ set ∷ []
   pub answers_it : is_answer q.record_type x set ≡ true
 
+-- the answer is the CNAME that was asked for, and that a DNAME set makes which stands in the whole section
+pub record IsAliasAsked (q : Inquiry) (all : List RRset) (x : Name) (answers : List RRset) : Type 0 where
+  pub dname : RRset
+  pub above : IsAboveBy q x dname
+  pub target : Name
+  pub told : dname_target dname ≡ Some target
+  pub among : In (sent_dname q dname) all
+  pub asked : asks_alias q.record_type ≡ true
+  pub alone : answers ≡ made_alias dname x (in_place_of dname.owner target x) ∷ []
+
 pub record IsReferred (q : Inquiry) (x : Name) (s : RRset) : Type 0 where
   pub inside : is_at_or_above q.origin x ≡ true
   pub turned : turn q.origin q.sets x q.record_type ≡ Some (cut s)
 
--- what an end tells of the name where the search ends
-abbrev pub EndOf : Inquiry → Name → List RRset → End → Type 0
-EndOf q x answers complete = IsUnturned q x × IsAnswered q x answers
-EndOf q x answers (referred s) = IsReferred q x s × (answers ≡ [])
-EndOf q x answers (missing y star there) = IsUnturned q x × IsMissing q x star there × (y ≡ x) × (answers ≡ [])
-EndOf q x answers (outside y) = answers ≡ []
-EndOf q x answers unfollowed = ⊥
-EndOf q x answers failed = Unit {0}
+-- what an end tells of the name where the search ends, where all these sets stand in the section
+abbrev pub EndOf : Inquiry → List RRset → Name → List RRset → End → Type 0
+EndOf q all x answers complete = IsAnswered q x answers × (IsUnturned q x ⊎ IsAliasAsked q all x answers)
+EndOf q all x answers (referred s) = IsReferred q x s × (answers ≡ [])
+EndOf q all x answers (missing y star there) = IsUnturned q x × IsMissing q x star there × (y ≡ x) × (answers ≡ [])
+EndOf q all x answers (outside y) = answers ≡ []
+EndOf q all x answers unfollowed = ⊥
+EndOf q all x answers too_long = Unit {0}
+EndOf q all x answers failed = Unit {0}
 
 -- ---- one step
 
--- a step leads on by its set, or ends
-pub data StepEnd (q : Inquiry) (x : Name) (s : Step) : Type 0 where
-  goes_on : (target : Name) (r : RRset) → s.answers ≡ r ∷ [] → leads_to q.record_type x r ≡ Some target → s.next ≡ on target → StepEnd q x s
-  comes_to : (e : End) → s.next ≡ ends e → last_name q.record_type x s.answers ≡ record { name = x; sets = s.answers } → EndOf q x s.answers e → StepEnd q x s
+-- behind these sets, a step leads on by its sets, or ends
+pub data StepEnd (q : Inquiry) (before : List RRset) (x : Name) (s : Step) : Type 0 where
+  goes_on : (target : Name) → ((rest : List RRset) → last_name q.record_type x (s.answers ++ rest) ≡ last_name q.record_type target rest) → AreDnames q s.answers → s.next ≡ on target → StepEnd q before x s
+  comes_to : (e : End) (sets : List RRset) → s.next ≡ ends e → last_name q.record_type x s.answers ≡ record { name = x; sets = sets } → EndOf q (before ++ s.answers) x sets e → StepEnd q before x s
 
--- a set that leads nowhere is the last
-last_alone : (t : ℕ) (x : Name) (r : RRset) → leads_to t x r ≡ None → last_name t x (r ∷ []) ≡ record { name = x; sets = r ∷ [] }
-last_alone t x r e = ap (λ o. option_map_or (λ target. last_name t target []) o (record { name = x; sets = r ∷ [] })) e
+-- a set that isn't of a name above x is looked at
+module _ (t : ℕ) (x : Name) (r : RRset) (rest : List RRset) (stays : renames x r ≡ false) where
+  led : (target : Name) → leads_to t x r ≡ Some target → last_name t x (r ∷ rest) ≡ last_name t target rest
+  led target e = λ i. cond (stays i) (last_name t x rest) (option_map_or (λ n. last_name t n rest) (e i) (record { name = x; sets = r ∷ rest }))
+
+  -- and if it leads nowhere, it is the last
+  last_here : leads_to t x r ≡ None → last_name t x (r ∷ rest) ≡ record { name = x; sets = r ∷ rest }
+  last_here e = λ i. cond (stays i) (last_name t x rest) (option_map_or (λ n. last_name t n rest) (e i) (record { name = x; sets = r ∷ rest }))
 
 module _ (q : Inquiry) (zone : IsZone q.sets) where
   abbrev t : ℕ
   t = q.record_type
 
+  -- a CNAME is no DNAME
+  alias_no_dname : (r : RRset) → r.record_type ≡ CNAME → AreDnames q (r ∷ [])
+  alias_no_dname r e v (inl same) d = let both : CNAME ≡ DNAME = sym e ∙ ap (λ (v : RRset). v.record_type) same ∙ d in absurd (omega (arith, both))
+  alias_no_dname r e v (inr i) d = absurd i
+
   -- at a name, for x
-  node_end : (star : Option Name) (x a : Name) → (star ≡ None → a ≡ x) → IsUnturned q x → (IsBare q.sets a q.record_type → IsMissing q x star true) → StepEnd q x (step_at q star x a)
-  node_end star x a here u missing_as = by (node_of q.sets a t)
+  node_end : (before : List RRset) (star : Option Name) (x a : Name) → (star ≡ None → a ≡ x) → IsUnturned q x → (IsBare q.sets a q.record_type → IsMissing q x star true) → StepEnd q before x (step_at q star x a)
+  node_end before star x a here u missing_as = by (node_of q.sets a t)
     where
       m : Sets
       m = q.sets
@@ -80,69 +105,136 @@ module _ (q : Inquiry) (zone : IsZone q.sets) where
       at : AtNode → Step
       at = node_step q.signed t star x
 
-      of : (n : AtNode) → at_node m a t ≡ n → StepEnd q x (at n) → StepEnd q x (step_at q star x a)
-      of n e h = subst (λ n. StepEnd q x (at n)) (sym e) h
+      of : (n : AtNode) → at_node m a t ≡ n → StepEnd q before x (at n) → StepEnd q before x (step_at q star x a)
+      of n e h = subst (λ n. StepEnd q before x (at n)) (sym e) h
 
-      aliased : (s : RRset) → asked_set m a t ≡ None → set_at m a CNAME ≡ Some s → (o : Option Name) → cname_target s ≡ o → StepEnd q x (at (alias s))
+      aliased : (s : RRset) → asked_set m a t ≡ None → set_at m a CNAME ≡ Some s → (o : Option Name) → cname_target s ≡ o → StepEnd q before x (at (alias s))
       aliased s e f (Some target) g =
-          goes_on target (as_it_is (part_for q.signed) (made_by (keeps q.signed t) star x s)) refl
-          (alias_leads m zone.stored q.signed t (keeps q.signed t) star x a here s e f ∙ g) (ap after_alias g)
+          let r = as_it_is (part_for q.signed) (made_by (keeps q.signed t) star x s) in
+          goes_on target
+          (λ rest. led t x r rest (found_stays m zone.stored q.signed t (keeps q.signed t) star x a here s (part_for q.signed) CNAME f) target
+          (alias_leads m zone.stored q.signed t (keeps q.signed t) star x a here s e f ∙ g))
+          (alias_no_dname r (sent_type (part_for q.signed) (made_by (keeps q.signed t) star x s).ttl (made_by (keeps q.signed t) star x s) ∙ made_type (keeps q.signed t) star x s ∙ (zone.stored a CNAME s f).record_type))
+          (ap after_alias g)
       aliased s e f None g = let n = has_target a s (zone.stored a CNAME s f) in let p : None ≡ Some n.0 = sym g ∙ n.1 in absurd cc
 
-      by : NodeOf m a t → StepEnd q x (step_at q star x a)
+      by : NodeOf m a t → StepEnd q before x (step_at q star x a)
       by (has_set s e f) =
+          let r = as_it_is (own_part q.signed t) (made_by (keeps q.signed t) star x s) in
           of (own s) f
-          (comes_to complete refl (last_alone t x (as_it_is (own_part q.signed t) (made_by (keeps q.signed t) star x s)) (own_leads m zone.stored q.signed t (keeps q.signed t) star x a here s e))
-          (u, record { set = as_it_is (own_part q.signed t) (made_by (keeps q.signed t) star x s); alone = refl; answers_it = own_answers m zone.stored q.signed t (keeps q.signed t) star x a here s e }))
+          (comes_to complete (r ∷ []) refl
+          (last_here t x r [] (found_stays m zone.stored q.signed t (keeps q.signed t) star x a here s (own_part q.signed t) (chosen_type m a t) (asked_stands m a t s e)) (own_leads m zone.stored q.signed t (keeps q.signed t) star x a here s e))
+          (record { set = r; alone = refl; answers_it = own_answers m zone.stored q.signed t (keeps q.signed t) star x a here s e }, inl u))
       by (has_alias s e f g) = of (alias s) g (aliased s e f (cname_target s) refl)
-      by (has_stand_in s e) = of (stand_in s) e (comes_to failed refl refl tt)
-      by (has_nothing e f g h) = of nothing h (comes_to (missing x star true) refl refl (u, missing_as (record { asked = e; alias = f; stand_in = g }), refl, refl))
+      by (has_stand_in s e) = of (stand_in s) e (comes_to failed [] refl refl tt)
+      by (has_nothing e f g h) = of nothing h (comes_to (missing x star true) [] refl refl (u, missing_as (record { asked = e; alias = f; stand_in = g }), refl, refl))
 
-  pub step_end : (x : Name) → StepEnd q x (step q x)
-  step_end x = by (step_of q x)
+  -- below a DNAME
+  module _ (before : List RRset) (dnames : AreDnames q before) (x : Name) (s : RRset) (target : Name) (a : IsAboveBy q x s) (told : dname_target s ≡ Some target) where
+    abbrev sets : List RRset
+    sets = unless_among before (sent_dname q s)
+
+    are_dnames : AreDnames q sets
+    are_dnames r i e = record { name = a.name; stored = s; stands = a.stands; sent = in_unless q before (sent_dname q s) r i }
+
+    new_name_end : (o : Option Name) → unless_long (in_place_of s.owner target x) ≡ o → StepEnd q before x (new_name_step q.signed t before x s o)
+    new_name_end None e = comes_to too_long [] refl (ap (last_name t x) (sym (append-nil sets)) ∙ passed q x s a before []) tt
+    new_name_end (Some n) e = by (asks_alias t) refl
+      where
+        r : RRset
+        r = made_alias s x n
+
+        same : n ≡ in_place_of s.owner target x
+        same = short_is (in_place_of s.owner target x) n e
+
+        answered : asks_alias t ≡ true → is_answer t x r ≡ true
+        answered k = λ i. caseless_eq_equiv.refl x i && of_type (t == CNAME) refl (t == ANY) k i
+          where
+            any_or : (b c : Bool) → b || true || c ≡ true
+            any_or true c = refl
+            any_or false c = refl
+
+            of_type : (b : Bool) → (t == CNAME) ≡ b → (c : Bool) → b || c ≡ true → (CNAME == t) || c || (t == RRSIG) ≡ true
+            of_type true f c k = ap (λ b. b || c || (t == RRSIG)) (eq-eqb CNAME t (sym (eqb-true t CNAME f)))
+            of_type false f true k = any_or (CNAME == t) (t == RRSIG)
+            of_type false f false k = absurd (true≢false (sym k))
+
+        by : (b : Bool) → asks_alias t ≡ b → StepEnd q before x (record { answers = sets ++ r ∷ []; made = []; next = cond b (ends complete) (on (lower n)) })
+        by true k =
+            comes_to complete (r ∷ []) refl (passed q x s a before (r ∷ []) ∙ last_here t x r [] refl (alias_stays q x n s k)) (
+              record { set = r; alone = refl; answers_it = answered k },
+              inr
+                  (record {
+                    dname = s;
+                    above = a;
+                    target = target;
+                    told = told;
+                    among = stands_among q zone before (r ∷ []) x s dnames a;
+                    asked = k;
+                    alone = ap (λ n. made_alias s x n ∷ []) same;
+                  }),
+            )
+        by false k =
+            goes_on (lower n)
+            (λ rest. ap (last_name t x) (append_assoc sets (r ∷ []) rest) ∙ passed q x s a before (r ∷ rest) ∙ led t x r rest refl (lower n) (dname_leads q x n s k))
+            (both_dnames q sets (r ∷ []) are_dnames (alias_no_dname r refl)) refl
+
+  pub step_end : (before : List RRset) → AreDnames q before → (x : Name) → StepEnd q before x (step q before x)
+  step_end before dnames x = by (step_of q before x)
     where
-      of : (s : Step) → step q x ≡ s → StepEnd q x s → StepEnd q x (step q x)
-      of s e h = subst (StepEnd q x) (sym e) h
+      of : (s : Step) → step q before x ≡ s → StepEnd q before x s → StepEnd q before x (step q before x)
+      of s e h = subst (StepEnd q before x) (sym e) h
 
-      by : StepOf q x → StepEnd q x (step q x)
-      by (leaves i e) = of (at_end (outside x)) e (comes_to (outside x) refl refl refl)
-      by (refers s i f e) = of (at_end (referred s)) e (comes_to (referred s) refl refl (record { inside = i; turned = f }, refl))
-      by (fails e) = of (at_end failed) e (comes_to failed refl refl tt)
-      by (at_name u there e) = of (step_at q None x x) e (node_end None x x (λ k. refl) u (λ b. bare refl refl there b))
-      by (no_star u absent f e) = of (at_end (missing x None false)) e (comes_to (missing x None false) refl refl (u, starless refl absent f, refl, refl))
-      by (at_star w u absent f g e) = of (step_at q (Some w) x w) e (node_end (Some w) x w (λ k. cc) u (λ b. bare_star w refl refl absent f g b))
-      by (star_gone w u absent f g e) = of (at_end (missing x (Some w) false)) e (comes_to (missing x (Some w) false) refl refl (u, gone w refl refl absent f g, refl, refl))
+      by : StepOf q before x → StepEnd q before x (step q before x)
+      by (leaves i e) = of (at_end (outside x)) e (comes_to (outside x) [] refl refl refl)
+      by (refers s i f e) = of (at_end (referred s)) e (comes_to (referred s) [] refl refl (record { inside = i; turned = f }, refl))
+      by (fails e) = of (at_end failed) e (comes_to failed [] refl refl tt)
+      by (new_name s target o f told g e) = of (new_name_step q.signed t before x s o) e (new_name_end before dnames x s target (turned_by q zone x s f) told o g)
+      by (at_name u there e) = of (step_at q None x x) e (node_end before None x x (λ k. refl) u (λ b. bare refl refl there b))
+      by (no_star u absent f e) = of (at_end (missing x None false)) e (comes_to (missing x None false) [] refl refl (u, starless refl absent f, refl, refl))
+      by (at_star w u absent f g e) = of (step_at q (Some w) x w) e (node_end before (Some w) x w (λ k. cc) u (λ b. bare_star w refl refl absent f g b))
+      by (star_gone w u absent f g e) = of (at_end (missing x (Some w) false)) e (comes_to (missing x (Some w) false) [] refl refl (u, gone w refl refl absent f g, refl, refl))
+
+  -- where a step goes on, the DNAME sets behind it are the zone's
+  pub dnames_on : (before : List RRset) → AreDnames q before → (x y : Name) → (step q before x).next ≡ on y → AreDnames q (before ++ (step q before x).answers)
+  dnames_on before dnames x y n = by (step_end before dnames x)
+    where
+      by : StepEnd q before x (step q before x) → AreDnames q (before ++ (step q before x).answers)
+      by (goes_on target l d f) = both_dnames q before (step q before x).answers dnames d
+      by (comes_to e sets f l h) = let p : ends e ≡ on y = sym f ∙ n in absurd cc
 
   -- ---- the path
 
-  -- a path stops at a name behind an alias that isn't followed, or it arrives at one
-  pub data PathEnd (x : Name) (p : Path) : Type 0 where
-    stops : (y : Name) → p.end ≡ unfollowed → last_name t x p.answers ≡ record { name = y; sets = [] } → PathEnd x p
-    arrives : (y : Name) (sets : List RRset) (e : End) → p.end ≡ e → last_name t x p.answers ≡ record { name = y; sets = sets } → EndOf q y sets e → PathEnd x p
+  -- behind these sets, a path stops at a name behind an alias that isn't followed, or it arrives at one
+  pub data PathEnd (before : List RRset) (x : Name) (p : Path) : Type 0 where
+    stops : (y : Name) → p.end ≡ unfollowed → last_name t x p.answers ≡ record { name = y; sets = [] } → PathEnd before x p
+    arrives : (y : Name) (sets : List RRset) (e : End) → p.end ≡ e → last_name t x p.answers ≡ record { name = y; sets = sets } → EndOf q (before ++ p.answers) y sets e → PathEnd before x p
 
-  led : (x target : Name) (r : RRset) (rest : List RRset) → leads_to t x r ≡ Some target → last_name t x (r ∷ rest) ≡ last_name t target rest
-  led x target r rest e = ap (λ o. option_map_or (λ n. last_name t n rest) o (record { name = x; sets = r ∷ rest })) e
+  behind_step : (before : List RRset) (x target : Name) (answers : List RRset) (made : List Name) (p : Path) → ((rest : List RRset) → last_name t x (answers ++ rest) ≡ last_name t target rest)
+      → PathEnd (before ++ answers) target p → PathEnd before x (behind answers made p)
+  behind_step before x target answers made p e (stops y f g) = stops y f (e p.answers ∙ g)
+  behind_step before x target answers made p e (arrives y sets w f g h) = arrives y sets w f (e p.answers ∙ g) (subst (λ all. EndOf q all y sets w) (append_assoc before answers p.answers) h)
 
-  behind_one : (x target : Name) (r : RRset) (made : List Name) (p : Path) → leads_to t x r ≡ Some target → PathEnd target p → PathEnd x (behind (r ∷ []) made p)
-  behind_one x target r made p e (stops y f g) = stops y f (led x target r p.answers e ∙ g)
-  behind_one x target r made p e (arrives y sets w f g h) = arrives y sets w f (led x target r p.answers e ∙ g) h
-
-  pub path_end_from : (k : ℕ) (seen : List Name) (x : Name) → PathEnd x (path_from q k seen x)
-  path_end_from zero seen x = stops x refl refl
-  path_end_from (suc k) seen x = by (path_end_from k (seen ++ x ∷ [])) (list_any (name_eq x) seen) (step_end x)
+  pub path_end_from : (k : ℕ) (seen : List Name) (before : List RRset) → AreDnames q before → (x : Name) → PathEnd before x (path_from q k seen before x)
+  path_end_from zero seen before dnames x = stops x refl refl
+  path_end_from (suc k) seen before dnames x = by (path_end_from k (seen ++ x ∷ []) (before ++ answers)) (list_any (name_eq x) seen) (step_end before dnames x)
     where
-      whole : Path
-      whole = behind (step q x).answers (step q x).made (searched (path_from q k (seen ++ x ∷ [])) (step q x).next)
+      answers : List RRset
+      answers = (step q before x).answers
 
-      by : ((y : Name) → PathEnd y (path_from q k (seen ++ x ∷ []) y)) → (b : Bool) → StepEnd q x (step q x) → PathEnd x (cond b (ended unfollowed) whole)
+      whole : Next → Path
+      whole n = behind answers (step q before x).made (searched (path_from q k (seen ++ x ∷ []) (before ++ answers)) n)
+
+      by : (AreDnames q (before ++ answers) → (y : Name) → PathEnd (before ++ answers) y (path_from q k (seen ++ x ∷ []) (before ++ answers) y)) → (b : Bool) → StepEnd q before x (step q before x)
+          → PathEnd before x (cond b (ended unfollowed) (whole (step q before x).next))
       by rest true s = stops x refl refl
-      by rest false (goes_on target r a l n) =
-          subst (PathEnd x) (λ i. behind (sym a i) (step q x).made (searched (path_from q k (seen ++ x ∷ [])) (sym n i)))
-          (behind_one x target r (step q x).made (path_from q k (seen ++ x ∷ []) target) l (rest target))
-      by rest false (comes_to e n l h) =
-          subst (PathEnd x) (λ i. behind (step q x).answers (step q x).made (searched (path_from q k (seen ++ x ∷ [])) (sym n i)))
-          (arrives x (step q x).answers e refl (ap (last_name t x) (append-nil (step q x).answers) ∙ l) h)
+      by rest false (goes_on target l d n) =
+          subst (λ n. PathEnd before x (whole n)) (sym n)
+          (behind_step before x target answers (step q before x).made (path_from q k (seen ++ x ∷ []) (before ++ answers) target) l (rest (both_dnames q before answers dnames d) target))
+      by rest false (comes_to e sets n l h) =
+          subst (λ n. PathEnd before x (whole n)) (sym n)
+          (arrives x sets e refl (ap (last_name t x) (append-nil answers) ∙ l) (subst (λ (a : List RRset). EndOf q (before ++ a) x sets e) (sym (append-nil answers)) h))
 
-  pub path_end : (x : Name) → PathEnd x (path q x)
+  pub path_end : (x : Name) → PathEnd [] x (path q x)
   unfolding path
-  path_end x = path_end_from 8 [] x
+  path_end x = path_end_from 8 [] [] (λ r i. absurd i) x

@@ -9,14 +9,17 @@ use Rattle.zone_proto.specs.declared.rdata.RData.{RData}
 use Rattle.zone_proto.specs.declared.rdata.RData.TheVariants as V
 use Rattle.zone_proto.specs.declared.record.Record.{Record}
 use Rattle.zone_proto.specs.Data.{type_of}
-use Rattle.zone_proto.specs.Names.{Name, lower, same_name}
+use Rattle.zone_proto.specs.Names.{Name, name_cmp, lower, same_name, is_above}
 use Rattle.zone_proto.specs.NameLaws.{caseless_eq_equiv}
 use Rattle.zone_proto.specs.Order.{least}
 use Rattle.zone_proto.specs.Sets.{RRset, record_under}
 use Rattle.zone_proto.specs.Types.{A, CNAME, RRSIG, NSEC3, ANY, has_own_case}
 use Rattle.zone_proto.proofs.Members.{In-from_filter}
 use Rattle.zone_proto.proofs.Names.Lower.{lower-lower}
-use Rattle.zone_proto.proofs.Ordering.Orders.{number_order, has_greatest, greatest_is}
+use Rattle.zone_proto.proofs.Names.NameTree.{above_test, above_is_less}
+use Rattle.zone_proto.proofs.Names.Tree.{name_order}
+use Rattle.zone_proto.proofs.Ordering.KeyOrder.{equal_of}
+use Rattle.zone_proto.proofs.Ordering.Orders.{irrefl, number_order, has_greatest, greatest_is}
 use Rattle.zone_map.specs.AnyTypes.{preferred_types, any_type}
 use Rattle.zone_map.specs.Chains.{alias_target, first_target, cname_target}
 use Rattle.zone_map.specs.Direct.{least_owned}
@@ -29,7 +32,8 @@ use Rattle.zone_response.specs.declared.response.Part.TheVariants as part
 use Rattle.zone_response.specs.Nodes.{chosen_type, if_signed, asked_set}
 use Rattle.zone_response.specs.Sections.{with_ttl, sent, as_it_is, part_for, is_signed}
 use Rattle.zone_response.specs.Steps.{made_by, own_part}
-use Rattle.response_laws.specs.Sayings.{asks_alias, leads_to, is_of, is_answer}
+use Rattle.zone_response.specs.Turns.{DNAME}
+use Rattle.response_laws.specs.Sayings.{asks_alias, leads_to, is_of, renames, is_answer}
 
 -- ---- the target of an alias, as it goes out
 
@@ -49,7 +53,7 @@ pub made_target : (keep : Bool) (star : Option Name) (x : Name) (s : RRset) → 
 made_target keep None x s = refl
 made_target keep (Some star) x s = target_under x s.ttl s.records
 
-sent_owner : (p : Part) (ttl : ℕ) (s : RRset) → (sent p ttl s).owner ≡ s.owner
+pub sent_owner : (p : Part) (ttl : ℕ) (s : RRset) → (sent p ttl s).owner ≡ s.owner
 sent_owner part.Records ttl s = refl
 sent_owner part.Signed ttl s = refl
 sent_owner part.Signatures ttl s = refl
@@ -59,9 +63,18 @@ sent_type part.Records ttl s = refl
 sent_type part.Signed ttl s = refl
 sent_type part.Signatures ttl s = refl
 
-made_type : (keep : Bool) (star : Option Name) (x : Name) (s : RRset) → (made_by keep star x s).record_type ≡ s.record_type
+pub made_type : (keep : Bool) (star : Option Name) (x : Name) (s : RRset) → (made_by keep star x s).record_type ≡ s.record_type
 made_type keep None x s = refl
 made_type keep (Some star) x s = refl
+
+-- no name is above one that is the same
+not_above : (n x : Name) → same_name n x ≡ true → is_above (lower n) (lower x) ≡ false
+not_above n x h =
+    ap (λ k. is_above k (lower x)) (name_order.exact (lower n) (lower x) (equal_of (name_cmp (lower n) (lower x)) h)) ∙ by (is_above (lower x) (lower x)) refl
+  where
+    by : (b : Bool) → is_above (lower x) (lower x) ≡ b → b ≡ false
+    by false e = refl
+    by true e = absurd (irrefl name_order (lower x) (above_is_less (lower x) (lower x) ((above_test (lower x) (lower x)).0 e)))
 
 -- a set of another type has none
 not_alias : (d : RData) → (type_of d == CNAME) ≡ false → alias_target d ≡ None
@@ -146,6 +159,19 @@ module _ (m : Sets) (stored : (a : Name) (t : ℕ) (s : RRset) → set_at m a t 
   found_owner keep (Some star) x a s here e = caseless_eq_equiv.refl x
 
   module _ (keep : Bool) (star : Option Name) (x a : Name) (here : star ≡ None → a ≡ x) (s : RRset) where
+    -- it isn't of a name above x
+    pub found_stays : (p : Part) (u : ℕ) → set_at m a u ≡ Some s → renames x (as_it_is p (made_by keep star x s)) ≡ false
+    found_stays p u e =
+        ap (λ (n : Name). is_of DNAME (as_it_is p own) && is_above (lower n) (lower x)) (sent_owner p own.ttl own)
+        ∙ right_false (is_of DNAME (as_it_is p own)) (is_above (lower own.owner) (lower x)) (not_above own.owner x (found_owner keep star x a s here (stored a u s e).owner))
+      where
+        own : RRset
+        own = made_by keep star x s
+
+        right_false : (b c : Bool) → c ≡ false → b && c ≡ false
+        right_false true c f = f
+        right_false false c f = refl
+
     -- an alias leads to its target
     pub alias_leads : asked_set m a t ≡ None → set_at m a CNAME ≡ Some s → leads_to t x (as_it_is (part_for signed) (made_by keep star x s)) ≡ cname_target s
     alias_leads none alias =

@@ -2,6 +2,7 @@ pub mod Told
 pub mod Turned
 pub mod Stepped
 pub mod Leads
+pub mod Dnames
 pub mod LastNames
 pub mod OwnerSets
 pub mod NsecSets

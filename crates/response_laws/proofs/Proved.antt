@@ -24,14 +24,14 @@ use Rattle.zone_response.specs.Responses.{child_ds, ds_at}
 use Rattle.zone_response.specs.Sections.{Sections, sent}
 use Rattle.zone_response.specs.Sources.{star_of}
 use Rattle.zone_response.specs.Steps.{End, referred, missing}
-use Rattle.response_laws.specs.ProvedSayings.{DeniesByNsec, shown, IsSentSet, IsStarSet, IsAnswerPart, authority_part, HasAuthority, IsShowable, IsProvedError, IsEmptyProof, IsProvedEmpty, IsProvedUnsigned, IsProvedReferral}
+use Rattle.response_laws.specs.ProvedSayings.{DeniesByNsec, shown, IsSentSet, IsStarSet, IsMadeAlias, IsAliasData, IsAnswerPart, authority_part, HasAuthority, IsShowable, IsProvedError, IsEmptyProof, IsProvedEmpty, IsProvedUnsigned, IsProvedReferral}
 use Rattle.response_laws.specs.Sayings.{Saying, data_of, name_error, no_data, referral, saying, name_of}
-use Rattle.response_laws.proofs.Answers.{IsMadeSet, path_answers}
+use Rattle.response_laws.proofs.Answers.{IsFound, IsAnswer, IsMadeSet, path_answers}
 use Rattle.response_laws.proofs.BareNames.{flat, not_any, bare_direct, beside_soa}
 use Rattle.response_laws.proofs.LastNames.{IsBare, IsMissing, bare, bare_star, starless, gone}
 use Rattle.response_laws.proofs.Parts.{path_of, told_at, IsMadeOf}
 use Rattle.response_laws.proofs.Said.{Said, says_nothing, says_data, says_referral, says_missing, said}
-use Rattle.response_laws.proofs.SaidNames.{same_saying, soa_shown, missing_said, IsReferralTo, referral_of}
+use Rattle.response_laws.proofs.SaidNames.{same_saying, soa_shown, missing_said, alias_said, IsReferralTo, referral_of}
 use Rattle.response_laws.proofs.Stepped.{IsUnturned}
 use Rattle.response_laws.proofs.Summed.{sum_of_error, sum_of_delegation, sum_of_empty}
 use Rattle.response_laws.proofs.Told.{IsTold, over, error_proved, answer_proved, bare as told_bare, bare_by, star_bare_by, delegation_proved}
@@ -67,10 +67,9 @@ module _ (z : Zone) (q : Query) (r : Sections) (d : DeniesByNsec z) (signed : q.
   pub sound_proved : (x : Name) → IsJudged z.origin z.sets x → IsSound z.origin z.sets x (shown r)
   sound_proved x j = records_sound o m (shown r) x j records_proved
 
-  pub answers_proved : (s : RRset) → Contains r.answers s → (p : Part) × IsAnswerPart q.record_type p × (IsSentSet z.sets p s ⊎ IsStarSet z.origin z.sets (shown r) p s)
-  answers_proved s c =
-      let a = path_answers (inquiry z q) signed q.name s (subst (In s) h.answers (Contains-In s r.answers c)) in
-      (a.part', a.goes_out, by a.part' a.set)
+  -- of those that are found
+  found_proved : (s : RRset) → IsFound (inquiry z q) (path_of z q).made s → (p : Part) × IsAnswerPart q.record_type p × (IsSentSet z.sets p s ⊎ IsStarSet z.origin z.sets (shown r) p s)
+  found_proved s a = (a.part', a.goes_out, by a.part' a.set)
     where
       by : (p : Part) → IsSentSet m p s ⊎ ((y : Name) × In y (path_of z q).made × IsMadeSet (inquiry z q) y p s) → IsSentSet m p s ⊎ IsStarSet o m (shown r) p s
       by p (inl k) = inl k
@@ -92,21 +91,30 @@ module _ (z : Zone) (q : Query) (r : Sections) (d : DeniesByNsec z) (signed : q.
                 (nsec_encloser o m y) e.0;
           })
 
+  pub answers_proved : (s : RRset) → Contains r.answers s → ((p : Part) × IsAnswerPart q.record_type p × (IsSentSet z.sets p s ⊎ IsStarSet z.origin z.sets (shown r) p s)) ⊎ IsMadeAlias z.sets r.answers s
+  answers_proved s c = by (path_answers (inquiry z q) d.circle.zone signed q.name s (subst (In s) h.answers (Contains-In s r.answers c)))
+    where
+      by : IsAnswer (inquiry z q) (path_of z q).made (path_of z q).answers s
+          → ((p : Part) × IsAnswerPart q.record_type p × (IsSentSet z.sets p s ⊎ IsStarSet z.origin z.sets (shown r) p s)) ⊎ IsMadeAlias z.sets r.answers s
+      by (inl a) = inl (found_proved s a)
+      by (inr a) = inr (subst (λ all. IsMadeAlias m all s) (sym h.answers) a)
+
   -- ---- of whom something is said
 
-  pub judged_proved : (w : Saying) → saying q r ≡ Some w → IsJudged z.origin z.sets (name_of w)
+  pub judged_proved : (w : Saying) → saying q r ≡ Some w → IsJudged z.origin z.sets (name_of w) ⊎ IsAliasData z q r w
   judged_proved w e = by (said z d.circle.zone q r h)
     where
-      of : (v : Saying) → saying q r ≡ Some v → IsJudged o m (name_of v) → IsJudged o m (name_of w)
-      of v f j = subst (λ u. IsJudged o m (name_of u)) (same_saying v w (saying q r) f e) j
+      of : (v : Saying) → saying q r ≡ Some v → IsJudged o m (name_of v) → IsJudged z.origin z.sets (name_of w) ⊎ IsAliasData z q r w
+      of v f j = inl (subst (λ u. IsJudged o m (name_of u)) (same_saying v w (saying q r) f e) j)
 
       either : (there : Bool) (y : Name) → IsJudged o m y → IsJudged o m (name_of (cond there (no_data y) (name_error y)))
       either true y j = j
       either false y j = j
 
-      by : Said z q r → IsJudged o m (name_of w)
+      by : Said z q r → IsJudged z.origin z.sets (name_of w) ⊎ IsAliasData z q r w
       by (says_nothing f) = let p : None ≡ Some w = sym f ∙ e in absurd cc
-      by (says_data y f u) = of (data_of y) f (judged_unturned z q d y u)
+      by (says_data y sets f g (inl u)) = of (data_of y) f (judged_unturned z q d y u)
+      by (says_data y sets f g (inr a)) = inr (alias_said z q r zone signed h y sets w (same_saying w (data_of y) (saying q r) e f) g a)
       by (says_referral y c f g u) = of (referral (lower c.owner)) f (judged_cut z q d y c u).1
       by (says_missing y star there f g u k) = of (cond there (no_data y) (name_error y)) f (either there y (judged_unturned z q d y u))
 

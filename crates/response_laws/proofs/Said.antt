@@ -17,11 +17,11 @@ use Rattle.zone_response.specs.Paths.{path}
 use Rattle.zone_response.specs.Queries.{Zone, Query, Inquiry, inquiry}
 use Rattle.zone_response.specs.Responses.{code_at, negative_ttl, child_ds, ds_at, end_sets, fails}
 use Rattle.zone_response.specs.Sections.{Sections, as_it_is, part_for}
-use Rattle.zone_response.specs.Steps.{End, complete, referred, missing, outside, unfollowed, failed}
+use Rattle.zone_response.specs.Steps.{End, complete, referred, missing, outside, unfollowed, too_long, failed}
 use Rattle.zone_response.specs.Turns.{cut}
 use Rattle.response_laws.specs.Sayings.{data_of, name_error, no_data, referral, is_of, last_name, referral_to, unanswered, without_error, with_name_error, by_code, saying, SaysEnd}
 use Rattle.response_laws.proofs.Leads.{sent_type}
-use Rattle.response_laws.proofs.LastNames.{IsMissing, IsReferred, EndOf, PathEnd, stops, arrives, path_end}
+use Rattle.response_laws.proofs.LastNames.{IsMissing, IsAliasAsked, IsReferred, EndOf, PathEnd, stops, arrives, path_end}
 use Rattle.response_laws.proofs.Parts.{path_of, as_proof, IsMadeOf}
 use Rattle.response_laws.proofs.Stepped.{IsUnturned}
 use Rattle.response_laws.proofs.Turned.{turned_first, cut_set}
@@ -29,7 +29,8 @@ use Rattle.response_laws.proofs.Turned.{turned_first, cut_set}
 -- what is said, and the end from which it comes
 pub data Said (z : Zone) (q : Query) (r : Sections) : Type 0 where
   says_nothing : saying q r ≡ None → Said z q r
-  says_data : (y : Name) → saying q r ≡ Some (data_of y) → IsUnturned (inquiry z q) y → Said z q r
+  says_data : (y : Name) (sets : List RRset) → saying q r ≡ Some (data_of y) → last_name q.record_type q.name (path_of z q).answers ≡ record { name = y; sets = sets }
+      → IsUnturned (inquiry z q) y ⊎ IsAliasAsked (inquiry z q) (path_of z q).answers y sets → Said z q r
   says_referral : (y : Name) (c : RRset) → saying q r ≡ Some (referral (lower c.owner)) → (path_of z q).end ≡ referred c → IsReferred (inquiry z q) y c → Said z q r
   says_missing : (y : Name) (star : Option Name) (there : Bool) → saying q r ≡ Some (cond there (no_data y) (name_error y)) → (path_of z q).end ≡ missing y star there → IsUnturned (inquiry z q) y
       → IsMissing (inquiry z q) y star there → Said z q r
@@ -123,8 +124,8 @@ module _ (z : Zone) (zone : IsZone z.sets) (q : Query) (r : Sections) (h : IsMad
   SaysAt y (missing x star there) = saying q r ≡ Some (cond there (no_data y) (name_error y))
   SaysAt y _ = saying q r ≡ None
 
-  says_at : (y : Name) (sets : List RRset) (e : End) → ends ≡ e → last_name t q.name (path_of z q).answers ≡ record { name = y; sets = sets } → EndOf (inquiry z q) y sets e → SaysAt y e
-  says_at y sets complete f g (u, a) =
+  says_at : (y : Name) (sets : List RRset) (e : End) → ends ≡ e → last_name t q.name (path_of z q).answers ≡ record { name = y; sets = sets } → EndOf (inquiry z q) (path_of z q).answers y sets e → SaysAt y e
+  says_at y sets complete f g (a, u) =
       saying_is y sets complete f g ∙ ap (λ s. without_error t y s (all complete)) a.alone ∙ ap (λ b. cond b (Some (data_of y)) None) a.answers_it
   says_at y sets (referred c) f g (u, a) =
       let n = cut_stands (inquiry z q) y c u in
@@ -134,6 +135,7 @@ module _ (z : Zone) (zone : IsZone z.sets) (q : Query) (r : Sections) (h : IsMad
   says_at y sets (missing x star false) f g (u, m, e, a) = saying_is y sets (missing x star false) f g ∙ ap (with_name_error y) a
   says_at y sets (outside x) f g a = saying_is y sets (outside x) f g ∙ ap (λ s. without_error t y s (all (outside x))) a ∙ silent y
   says_at y sets unfollowed f g a = absurd a
+  says_at y sets too_long f g a = saying_is y sets too_long f g
   says_at y sets failed f g a = absurd (true≢false (sym (ap fails f) ∙ h.passes))
 
   stops_silent : (y : Name) → ends ≡ unfollowed → last_name t q.name (path_of z q).answers ≡ record { name = y; sets = [] } → saying q r ≡ None
@@ -142,33 +144,35 @@ module _ (z : Zone) (zone : IsZone z.sets) (q : Query) (r : Sections) (h : IsMad
   pub said : Said z q r
   said = by (path_end (inquiry z q) zone q.name)
     where
-      of : (y : Name) (sets : List RRset) (e : End) → ends ≡ e → SaysAt y e → EndOf (inquiry z q) y sets e → Said z q r
-      of y sets complete f s (u, a) = says_data y s u
-      of y sets (referred c) f s (u, a) = says_referral y c s f u
-      of y sets (missing x star there) f s (u, m, e, a) = says_missing y star there s (f ∙ ap (λ n. missing n star there) e) u m
-      of y sets (outside x) f s a = says_nothing s
-      of y sets unfollowed f s a = says_nothing s
-      of y sets failed f s a = says_nothing s
+      of : (y : Name) (sets : List RRset) (e : End) → ends ≡ e → last_name t q.name (path_of z q).answers ≡ record { name = y; sets = sets } → SaysAt y e → EndOf (inquiry z q) (path_of z q).answers y sets e → Said z q r
+      of y sets complete f g s (a, u) = says_data y sets s g u
+      of y sets (referred c) f g s (u, a) = says_referral y c s f u
+      of y sets (missing x star there) f g s (u, m, e, a) = says_missing y star there s (f ∙ ap (λ n. missing n star there) e) u m
+      of y sets (outside x) f g s a = says_nothing s
+      of y sets unfollowed f g s a = says_nothing s
+      of y sets too_long f g s a = says_nothing s
+      of y sets failed f g s a = says_nothing s
 
-      by : PathEnd (inquiry z q) zone q.name (path_of z q) → Said z q r
+      by : PathEnd (inquiry z q) zone [] q.name (path_of z q) → Said z q r
       by (stops y f g) = says_nothing (stops_silent y f g)
-      by (arrives y sets e f g a) = of y sets e f (says_at y sets e f g a) a
+      by (arrives y sets e f g a) = of y sets e f g (says_at y sets e f g a) a
 
   pub says_end : SaysEnd (path (inquiry z q) q.name).end (saying q r)
   says_end = by (path_end (inquiry z q) zone q.name)
     where
-      of : (y : Name) (sets : List RRset) (e : End) → SaysAt y e → EndOf (inquiry z q) y sets e → SaysEnd e (saying q r)
+      of : (y : Name) (sets : List RRset) (e : End) → SaysAt y e → EndOf (inquiry z q) (path_of z q).answers y sets e → SaysEnd e (saying q r)
       of y sets complete s a = (y, s)
       of y sets (referred c) s a = s
       of y sets (missing x star there) s (u, m, e, a) = s ∙ ap (λ n. Some (cond there (no_data n) (name_error n))) (sym e)
       of y sets (outside x) s a = s
       of y sets unfollowed s a = s
+      of y sets too_long s a = s
       of y sets failed s a = s
 
       to : (e : End) → ends ≡ e → SaysEnd e (saying q r) → SaysEnd ends (saying q r)
       to e f s = subst (λ e. SaysEnd e (saying q r)) (sym f) s
 
-      by : PathEnd (inquiry z q) zone q.name (path_of z q) → SaysEnd ends (saying q r)
+      by : PathEnd (inquiry z q) zone [] q.name (path_of z q) → SaysEnd ends (saying q r)
       by (stops y f g) = to unfollowed f (stops_silent y f g)
       by (arrives y sets e f g a) = to e f (of y sets e (says_at y sets e f g a) a)
 
@@ -176,7 +180,7 @@ module _ (z : Zone) (zone : IsZone z.sets) (q : Query) (r : Sections) (h : IsMad
   pub referred_stands : (c : RRset) → ends ≡ referred c → (n : Name) × (set_at z.sets n NS ≡ Some c)
   referred_stands c e = by (path_end (inquiry z q) zone q.name)
     where
-      of : (y : Name) (sets : List RRset) (w : End) → w ≡ referred c → EndOf (inquiry z q) y sets w → (n : Name) × (set_at z.sets n NS ≡ Some c)
+      of : (y : Name) (sets : List RRset) (w : End) → w ≡ referred c → EndOf (inquiry z q) (path_of z q).answers y sets w → (n : Name) × (set_at z.sets n NS ≡ Some c)
       of y sets (referred s) f (u, a) = let n = cut_stands (inquiry z q) y s u in (n.0, n.1 ∙ same s f)
         where
           same : (s : RRset) → referred s ≡ referred c → Some s ≡ Some c
@@ -185,8 +189,9 @@ module _ (z : Zone) (zone : IsZone z.sets) (q : Query) (r : Sections) (h : IsMad
       of y sets (missing x star there) f a = absurd cc
       of y sets (outside x) f a = absurd cc
       of y sets unfollowed f a = absurd a
+      of y sets too_long f a = absurd cc
       of y sets failed f a = absurd cc
 
-      by : PathEnd (inquiry z q) zone q.name (path_of z q) → (n : Name) × (set_at z.sets n NS ≡ Some c)
+      by : PathEnd (inquiry z q) zone [] q.name (path_of z q) → (n : Name) × (set_at z.sets n NS ≡ Some c)
       by (stops y f g) = let p : unfollowed ≡ referred c = sym f ∙ e in absurd cc
       by (arrives y sets w f g a) = of y sets w (sym f ∙ e) a

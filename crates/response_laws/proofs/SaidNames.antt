@@ -11,14 +11,16 @@ use Rattle.zone_validation.specs.NsecProofs.{DNAME}
 use Rattle.zone_response.specs.declared.response.Part.TheVariants as part
 use Rattle.zone_response.specs.Queries.{Zone, Query, inquiry}
 use Rattle.zone_response.specs.Responses.{negative_ttl, child_ds, ds_at, end_sets}
-use Rattle.zone_response.specs.Sections.{Sections, sent, as_it_is}
+use Rattle.zone_response.specs.Renamings.{in_place_of, made_alias}
+use Rattle.zone_response.specs.Sections.{Sections, sent, as_it_is, part_for}
 use Rattle.zone_response.specs.Steps.{End, referred, missing}
 use Rattle.zone_response.specs.Turns.{cut}
 use Rattle.response_laws.specs.HashedSayings.{IsReached}
-use Rattle.response_laws.specs.ProvedSayings.{IsSentSet, authority_part, HasAuthority, HasSoa}
-use Rattle.response_laws.specs.Sayings.{Saying, data_of, name_error, no_data, referral, saying}
+use Rattle.response_laws.specs.ProvedSayings.{IsSentSet, IsAliasData, authority_part, HasAuthority, HasSoa}
+use Rattle.response_laws.specs.Sayings.{Saying, data_of, name_error, no_data, referral, last_name, saying}
 use Rattle.response_laws.proofs.Authorities.{proof_is, front_is}
-use Rattle.response_laws.proofs.LastNames.{IsMissing, IsReferred}
+use Rattle.response_laws.proofs.Dnames.{sent_dname_target}
+use Rattle.response_laws.proofs.LastNames.{IsMissing, IsAliasAsked, IsReferred}
 use Rattle.response_laws.proofs.OwnerSets.{AreOwners}
 use Rattle.response_laws.proofs.Parts.{path_of, as_proof, IsMadeOf}
 use Rattle.response_laws.proofs.Said.{Said, says_nothing, says_data, says_referral, says_missing, said, referred_stands}
@@ -119,7 +121,7 @@ module _ (z : Zone) (q : Query) (r : Sections) (zone : IsZone z.sets) (signed : 
 
       by : Said z q r → IsMissingName x there
       by (says_nothing f) = let p : None ≡ Some negative = sym f ∙ e in absurd cc
-      by (says_data y f u) = absurd (no_answer there y (same (data_of y) f))
+      by (says_data y sets f g u) = absurd (no_answer there y (same (data_of y) f))
       by (says_referral y c f g u) = absurd (no_referral there (lower c.owner) (same (referral (lower c.owner)) f))
       by (says_missing y star a f g u k) =
           let s = both a there y (same (cond a (no_data y) (name_error y)) f) in
@@ -129,6 +131,30 @@ module _ (z : Zone) (q : Query) (r : Sections) (zone : IsZone z.sets) (signed : 
             unturned = subst (IsUnturned (inquiry z q)) s.1 u;
             how = subst (λ n. IsMissing (inquiry z q) n star there) s.1 (subst (IsMissing (inquiry z q) y star) s.0 k);
           }
+
+  -- ---- an alias by a DNAME
+
+  -- the CNAME was asked for, and the DNAME set that makes it stands in the answer section
+  pub alias_said : (y : Name) (sets : List RRset) (w : Saying) → w ≡ data_of y → last_name q.record_type q.name (path_of z q).answers ≡ record { name = y; sets = sets }
+      → IsAliasAsked (inquiry z q) (path_of z q).answers y sets → IsAliasData z q r w
+  alias_said y sets w e g a = record {
+    name = y;
+    says = e;
+    asked = a.asked;
+    alias = made_alias a.dname y (in_place_of a.dname.owner a.target y);
+    answer = ap (last_name q.record_type q.name) h.answers ∙ g ∙ ap (λ sets. record { name = y; sets = sets }) a.alone;
+    made = record {
+      dname = as_it_is part.Signed a.dname;
+      among = In-Contains (as_it_is part.Signed a.dname) r.answers (subst (In (as_it_is part.Signed a.dname)) (sym h.answers) (subst (λ b. In (as_it_is (part_for b) a.dname) (path_of z q).answers) signed a.among));
+      record_type = a.above.type';
+      stands = record { name = a.above.name; record_type = DNAME; stored = a.dname; stands = a.above.stands; ttl = a.dname.ttl; sent = refl };
+      target = a.target;
+      told = sent_dname_target a.dname ∙ a.told;
+      name = y;
+      below = subst (λ k. IsAbove k y) (sym a.above.owner) a.above.above;
+      made = refl;
+    };
+  }
 
   -- ---- a referral
 
@@ -169,7 +195,7 @@ module _ (z : Zone) (q : Query) (r : Sections) (zone : IsZone z.sets) (signed : 
 
       by : Said z q r → IsReferralTo c
       by (says_nothing f) = let p : None ≡ Some (referral c) = sym f ∙ e in absurd cc
-      by (says_data y f u) = let p : data_of y ≡ referral c = same (data_of y) f in absurd cc
+      by (says_data y sets f g u) = let p : data_of y ≡ referral c = same (data_of y) f in absurd cc
       by (says_referral y s f g u) = record {
         last = y;
         set = s;

@@ -1,12 +1,12 @@
 -- What responses of small zones say and prove, computed from the definitions. Each zone has besides an SOA at its origin, and its NSEC sets, no more than is shown
-use Rattle.std.proofs.Common.{◌≡◌, ℕ, true, false, List, [], ◌∷◌, map, refl}
+use Rattle.std.proofs.Common.{◌≡◌, ℕ, true, false, List, [], ◌∷◌, ◌++◌, map, refl}
 use Rattle.std.specs.Prelude.{codes, Some, None, pos}
 use Rattle.zone_proto.specs.declared.nx_proof_kind.NxProofKind.TheVariants as kind
 use Rattle.zone_proto.specs.declared.rdata.RData.TheVariants as V
 use Rattle.zone_proto.specs.declared.response_code.ResponseCode.{ResponseCode}
 use Rattle.zone_proto.specs.declared.response_code.ResponseCode.TheVariants as code
 use Rattle.zone_proto.specs.declared.rr_key.RrKey.{RrKey}
-use Rattle.zone_proto.specs.Names.{Name, star_under}
+use Rattle.zone_proto.specs.Names.{Name, wire_form, star_under}
 use Rattle.zone_proto.specs.Sets.{RRset}
 use Rattle.zone_proto.specs.Types.{A, NS, CNAME, SOA, MX, DS, RRSIG, NSEC3, IN}
 use Rattle.zone_map.specs.Wildcards.{renamed}
@@ -19,8 +19,10 @@ use Rattle.zone_validation.specs.NsecProofs.{proves_name_error, proves_empty_ans
 use Rattle.zone_response.specs.declared.response.Part.TheVariants as part
 use Rattle.zone_response.specs.Paths.{path}
 use Rattle.zone_response.specs.Queries.{Zone, Query}
+use Rattle.zone_response.specs.Renamings.{made_alias}
 use Rattle.zone_response.specs.Responses.{IsResponse}
 use Rattle.zone_response.specs.Sections.{Sections, sent, as_it_is}
+use Rattle.zone_response.specs.Turns.{DNAME}
 use Rattle.response_laws.specs.ProvedSayings.{shown, is_signed_by}
 use Rattle.response_laws.specs.Sayings.{data_of, name_error, no_data, referral, saying}
 
@@ -120,6 +122,53 @@ of_leaving = record { code = refl; authoritative = refl; answers = refl; authori
 
 leaving_says : saying (asked a A) (record (sections code.NoError ((alias (codes "org" ∷ [])).1 ∷ []) []) { left_at = Some (codes "org" ∷ []) }) ≡ None
 leaving_says = refl
+
+-- ---- below a DNAME
+
+abbrev renaming : RrKey × RRset
+renaming = entry b DNAME (V.Other (record { record_type = record { 0 = DNAME }; octets = wire_form a; other = refl }))
+
+abbrev under_a : List ℕ → Name
+under_a label = label ∷ a
+
+abbrev under_b : List ℕ → Name
+under_b label = label ∷ b
+
+abbrev renamed_names : Sets
+renamed_names = start ∷ renaming ∷ address (under_a (codes "x")) ∷ []
+
+-- the DNAME set of b, and the CNAME that it makes
+abbrev new_name : List ℕ → List RRset
+new_name label = renaming.1 ∷ made_alias renaming.1 (under_b label) (under_a label) ∷ []
+
+of_new_name : IsResponse (zone renamed_names) (asked (under_b (codes "x")) A) (sections code.NoError (new_name (codes "x") ++ (address (under_a (codes "x"))).1 ∷ []) [])
+unfolding path
+of_new_name = record { code = refl; authoritative = refl; answers = refl; authorities = refl; additionals = refl; glue = refl; left_at = refl }
+
+new_name_says : saying (asked (under_b (codes "x")) A) (sections code.NoError (new_name (codes "x") ++ (address (under_a (codes "x"))).1 ∷ []) []) ≡ Some (data_of (under_a (codes "x")))
+new_name_says = refl
+
+-- what is denied is denied of the new name
+abbrev no_new_name : Sections
+no_new_name = record (negative renamed_names code.NXDomain (under_a (codes "x") ∷ origin ∷ [])) { answers = new_name (codes "y") }
+
+of_no_new_name : IsResponse (zone renamed_names) (asked (under_b (codes "y")) A) no_new_name
+unfolding path
+of_no_new_name = record { code = refl; authoritative = refl; answers = refl; authorities = refl; additionals = refl; glue = refl; left_at = refl }
+
+no_new_name_says : saying (asked (under_b (codes "y")) A) no_new_name ≡ Some (name_error (under_a (codes "y")))
+no_new_name_says = refl
+
+no_new_name_proved : proves_name_error origin (shown no_new_name) (under_a (codes "y")) ≡ true
+no_new_name_proved = refl
+
+-- where the CNAME is asked for, it is the answer
+of_new_alias : IsResponse (zone renamed_names) (asked (under_b (codes "x")) CNAME) (sections code.NoError (new_name (codes "x")) [])
+unfolding path
+of_new_alias = record { code = refl; authoritative = refl; answers = refl; authorities = refl; additionals = refl; glue = refl; left_at = refl }
+
+new_alias_says : saying (asked (under_b (codes "x")) CNAME) (sections code.NoError (new_name (codes "x")) []) ≡ Some (data_of (under_b (codes "x")))
+new_alias_says = refl
 
 -- ---- a star
 

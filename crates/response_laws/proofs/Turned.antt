@@ -105,6 +105,23 @@ module _ (origin : Name) (m : Sets) (x : Name) (t : ℕ) where
       by true i q = (i, asked (name_eq a origin || (name_eq a x && (t == DS))) (of_cut (cut_at origin m x t a) (dname_at m x a) q))
       by false i q = absurd cc
 
+  -- the DNAME set of a name above x
+  pub renaming_set : (a : Name) (s : RRset) → turn_at origin m x t a ≡ Some (renaming s) → (name_eq a x ≡ false) × (set_at m a DNAME ≡ Some s)
+  renaming_set a s e = by (is_at_or_above origin a) e
+    where
+      of_renaming : (o d : Option RRset) → option_or (option_map cut o) (option_map renaming d) ≡ Some (renaming s) → d ≡ Some s
+      of_renaming (Some v) d q = absurd cc
+      of_renaming None (Some v) q = cc
+      of_renaming None None q = absurd cc
+
+      asked : (b : Bool) → name_eq a x ≡ b → cond b None (set_at m a DNAME) ≡ Some s → (name_eq a x ≡ false) × (set_at m a DNAME ≡ Some s)
+      asked true f q = absurd cc
+      asked false f q = (f, q)
+
+      by : (b : Bool) → cond b (said_at a) None ≡ Some (renaming s) → (name_eq a x ≡ false) × (set_at m a DNAME ≡ Some s)
+      by true q = asked (name_eq a x) refl (of_renaming (cut_at origin m x t a) (dname_at m x a) q)
+      by false q = absurd cc
+
 -- ---- names that are reached
 
 lower_above : (b y x : Name) → IsAbove b y → IsAtOrAbove y x → IsAbove b x

@@ -31,7 +31,7 @@ use Rattle.zone_response.specs.Queries.{Zone, Query}
 use Rattle.zone_response.specs.Responses.{IsResponse}
 use Rattle.zone_response.specs.Sections.{Sections, sent}
 use Rattle.zone_response.specs.Sources.{star_of}
-use Rattle.response_laws.specs.ProvedSayings.{IsSentSet, IsAnswerPart, authority_part, is_signed_by, AreSigned, HasAuthority, HasSoa, IsEmptyProof}
+use Rattle.response_laws.specs.ProvedSayings.{IsSentSet, IsMadeAlias, IsAliasData, IsAnswerPart, authority_part, is_signed_by, AreSigned, HasAuthority, HasSoa, IsEmptyProof}
 use Rattle.response_laws.specs.Sayings.{Saying, name_error, no_data, referral, saying, name_of}
 
 -- ---- the zone
@@ -161,9 +161,10 @@ pub record IsHashedReferral (z : Zone) (parameters : Nsec3Parameters) (r : Secti
 
 -- what is said of a name is proved where the hash tells the names apart that a denial of it hashes
 pub record ProvesByHashes (z : Zone) (parameters : Nsec3Parameters) (q : Query) (r : Sections) : Type 0 where
-  -- each set is the zone's
+  -- each set is the zone's, but for a CNAME that a DNAME set makes
   pub authorities : (s : RRset) → Contains r.authorities s → IsSentSet z.sets (authority_part s) s
-  pub answers : (s : RRset) → Contains r.answers s → (p : Part) × IsAnswerPart q.record_type p × (IsSentSet z.sets p s ⊎ IsHashedStarSet z parameters (shown_nsec3 r) p s)
+  pub answers : (s : RRset) → Contains r.answers s
+      → ((p : Part) × IsAnswerPart q.record_type p × (IsSentSet z.sets p s ⊎ IsHashedStarSet z parameters (shown_nsec3 r) p s)) ⊎ IsMadeAlias z.sets r.answers s
   -- where each set of a type is signed by the zone, NS aside, so is each of these
   pub signatures : (t : ℕ) → t ≢ NS → AreSigned z t → (s : RRset) → Contains r.authorities s → s.record_type ≡ t → IsTrue (is_signed_by z.origin s)
   -- each NSEC3 record shown is the zone's, and they prove nothing of any name but what is so; with opt-out as far as that goes
@@ -173,8 +174,8 @@ pub record ProvesByHashes (z : Zone) (parameters : Nsec3Parameters) (q : Query) 
   pub data_sound : (x : Name) (t : ℕ) → HashesApart z parameters x → IsTrue (proves_no_data z.origin (zone_hash z parameters) (shown_nsec3 r) x t) → IsLacking z parameters x t
   -- a validator finds the zone's parameters in what stands there: what it tells by these records is what they prove by the zone's hash
   pub parameters_found : (x : Name) (t : ℕ) → HashesApart z parameters x → told_by z (shown_records r) x t ≡ proof_in z parameters r x t
-  -- what is said is said of a name that neither a cut nor a DNAME stands above, and proved
-  pub reached : (w : Saying) → saying q r ≡ Some w → IsReached z.origin z.sets (name_of w)
+  -- what is said is said of a name that neither a cut nor a DNAME stands above, but for an alias by a DNAME that was asked for; and proved
+  pub reached : (w : Saying) → saying q r ≡ Some w → IsReached z.origin z.sets (name_of w) ⊎ IsAliasData z q r w
   pub error : (x : Name) → saying q r ≡ Some (name_error x) → HashesApart z parameters x → IsHashedError z parameters r x
   pub empty : (x : Name) → saying q r ≡ Some (no_data x) → HashesApart z parameters x → IsHashedEmpty z parameters r x q.record_type
   pub delegation : (c : Name) → saying q r ≡ Some (referral c) → HashesApart z parameters c → IsHashedReferral z parameters r c

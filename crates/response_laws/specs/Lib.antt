@@ -1,4 +1,5 @@
 pub mod Agreement
+pub mod NewNames
 pub mod Sayings
 pub mod ProvedSayings
 pub mod HashedSayings

@@ -1,5 +1,5 @@
 -- What a response of a zone that denies by NSEC proves to a validator
-use Rattle.std.specs.Prelude.{◌≡◌, ◌≢◌, ℕ, Bool, true, false, ◌⊎◌, cond, ◌==◌, List, Option, Some, IsTrue, IsFalse, ◌&&◌, length}
+use Rattle.std.specs.Prelude.{◌≡◌, ◌≢◌, ℕ, Bool, true, false, ◌⊎◌, cond, ◌==◌, List, [], ◌∷◌, Option, Some, IsTrue, IsFalse, ◌&&◌, length}
 use Rattle.std.specs.List.{Contains, list_any}
 use Rattle.zone_proto.specs.declared.nx_proof_kind.NxProofKind.TheVariants as kind
 use Rattle.zone_proto.specs.declared.rdata.RData.{RData}
@@ -23,9 +23,10 @@ use Rattle.zone_acceptance.specs.Soundness.{IsNoName, IsWithoutData, IsUnsignedD
 use Rattle.zone_response.specs.declared.response.Part.{Part}
 use Rattle.zone_response.specs.declared.response.Part.TheVariants as part
 use Rattle.zone_response.specs.Queries.{Zone, Query}
+use Rattle.zone_response.specs.Renamings.{dname_target, in_place_of, made_alias}
 use Rattle.zone_response.specs.Responses.{negative_ttl, IsResponse}
 use Rattle.zone_response.specs.Sections.{Sections, sent, as_it_is}
-use Rattle.response_laws.specs.Sayings.{Saying, name_error, no_data, referral, saying, name_of}
+use Rattle.response_laws.specs.Sayings.{Saying, data_of, name_error, no_data, referral, asks_alias, last_name, saying, name_of}
 
 -- ---- the zone
 
@@ -62,6 +63,18 @@ pub record IsStarSet (origin : Name) (m : Sets) (rs : List NsecRecord) (p : Part
   pub ttl : ℕ
   pub sent : s ≡ sent p ttl (renamed true (star_under encloser) name stored)
   pub proved : IsTrue (proves_wildcard_answer origin rs name encloser)
+
+-- the CNAME that a DNAME set of the section makes for a name below its owner: a validator makes it anew from that set, which is the zone's and goes out signed (RFC 6672 section 5.3.1)
+pub record IsMadeAlias (m : Sets) (answers : List RRset) (s : RRset) : Type 0 where
+  pub dname : RRset
+  pub among : Contains answers dname
+  pub record_type : dname.record_type ≡ DNAME
+  pub stands : IsSentSet m part.Signed dname
+  pub target : Name
+  pub told : dname_target dname ≡ Some target
+  pub name : Name
+  pub below : IsAbove (lower dname.owner) name
+  pub made : s ≡ made_alias dname name (in_place_of dname.owner target name)
 
 -- a set of the answer section goes out signed, or where RRSIG is asked for as its signatures alone
 abbrev pub IsAnswerPart : ℕ → Part → Type 0
@@ -143,19 +156,29 @@ pub record IsProvedReferral (z : Zone) (r : Sections) (c : Name) : Type 0 where
   pub servers : HasAuthority z r part.Records c NS
   pub keys : IsFalse (owns z.sets c SOA) → HasAuthority z r part.Signed c DS ⊎ IsProvedUnsigned z r c
 
+-- the data of a name that are an alias by a DNAME, which was asked for: the name is below the DNAME, where no record of denial tells of it
+pub record IsAliasData (z : Zone) (q : Query) (r : Sections) (w : Saying) : Type 0 where
+  pub name : Name
+  pub says : w ≡ data_of name
+  pub asked : IsTrue (asks_alias q.record_type)
+  pub alias : RRset
+  pub answer : last_name q.record_type q.name r.answers ≡ record { name = name; sets = alias ∷ [] }
+  pub made : IsMadeAlias z.sets r.answers alias
+
 -- ---- all of it
 
 pub record ProvesWhatItSays (z : Zone) (q : Query) (r : Sections) : Type 0 where
-  -- each set is the zone's
+  -- each set is the zone's, but for a CNAME that a DNAME set makes
   pub authorities : (s : RRset) → Contains r.authorities s → IsSentSet z.sets (authority_part s) s
-  pub answers : (s : RRset) → Contains r.answers s → (p : Part) × IsAnswerPart q.record_type p × (IsSentSet z.sets p s ⊎ IsStarSet z.origin z.sets (shown r) p s)
+  pub answers : (s : RRset) → Contains r.answers s
+      → ((p : Part) × IsAnswerPart q.record_type p × (IsSentSet z.sets p s ⊎ IsStarSet z.origin z.sets (shown r) p s)) ⊎ IsMadeAlias z.sets r.answers s
   -- where each set of a type is signed by the zone, NS aside, so is each of these
   pub signatures : (t : ℕ) → t ≢ NS → AreSigned z t → (s : RRset) → Contains r.authorities s → s.record_type ≡ t → IsTrue (is_signed_by z.origin s)
   -- each NSEC record shown is the zone's, and they prove nothing of any name but what is so
   pub records : AreOfZone z.sets (shown r)
   pub sound : (x : Name) → IsJudged z.origin z.sets x → IsSound z.origin z.sets x (shown r)
-  -- what is said is said of a name that is judged, and proved
-  pub judged : (w : Saying) → saying q r ≡ Some w → IsJudged z.origin z.sets (name_of w)
+  -- what is said is said of a name that is judged, but for an alias by a DNAME that was asked for; and proved
+  pub judged : (w : Saying) → saying q r ≡ Some w → IsJudged z.origin z.sets (name_of w) ⊎ IsAliasData z q r w
   pub error : (x : Name) → saying q r ≡ Some (name_error x) → IsProvedError z r x
   pub empty : (x : Name) → saying q r ≡ Some (no_data x) → IsProvedEmpty z r x q.record_type
   pub delegation : (c : Name) → saying q r ≡ Some (referral c) → IsProvedReferral z r c

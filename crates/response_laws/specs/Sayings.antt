@@ -4,7 +4,7 @@ use Rattle.std.specs.List.{list_any}
 use Rattle.std.specs.Option.{option_map_or}
 use Rattle.zone_proto.specs.declared.response_code.ResponseCode.{ResponseCode}
 use Rattle.zone_proto.specs.declared.response_code.ResponseCode.TheVariants as code
-use Rattle.zone_proto.specs.Names.{Name, lower, same_name, is_at_or_above}
+use Rattle.zone_proto.specs.Names.{Name, lower, same_name, is_above, is_at_or_above}
 use Rattle.zone_proto.specs.Sets.{RRset}
 use Rattle.zone_proto.specs.Types.{NS, CNAME, SOA, RRSIG, ANY}
 use Rattle.zone_map.specs.Chains.{cname_target}
@@ -14,6 +14,7 @@ use Rattle.zone_response.specs.Queries.{Zone, Query, inquiry}
 use Rattle.zone_response.specs.Responses.{bare, IsResponse}
 use Rattle.zone_response.specs.Sections.{Sections}
 use Rattle.zone_response.specs.Steps.{End, complete, referred, missing}
+use Rattle.zone_response.specs.Turns.{DNAME}
 
 pub data Saying : Type 0 where
   -- these are the data of this name
@@ -25,6 +26,10 @@ pub data Saying : Type 0 where
   -- the name and those below it are another zone's (RFC 1034 section 4.3.2 step 3b)
   referral : Name → Saying
 
+-- a set of type t
+abbrev pub is_of : ℕ → RRset → Bool
+is_of t s = s.record_type == t
+
 -- ---- the answer section
 
 -- an alias isn't followed where its own type is asked for, or any (RFC 1034 section 3.6.2, RFC 8482 section 4.1)
@@ -35,21 +40,21 @@ asks_alias t = (t == CNAME) || (t == ANY)
 abbrev pub leads_to : ℕ → Name → RRset → Option Name
 leads_to t x s = cond (asks_alias t || not (same_name s.owner x)) None (cname_target s)
 
+-- a DNAME set of a name above x, behind which stands the CNAME that it makes for x (RFC 6672 section 3.2)
+abbrev pub renames : Name → RRset → Bool
+renames x s = is_of DNAME s && is_above (lower s.owner) (lower x)
+
 -- the last name of an answer section, with the sets that stand behind the aliases to it
 pub record LastName : Type 0 where
   pub name : Name
   pub sets : List RRset
 
--- along the aliases from x on
+-- along the aliases from x on, DNAME sets above the names passed over
 abbrev pub last_name : ℕ → Name → List RRset → LastName
 last_name t x [] = record { name = x; sets = [] }
-last_name t x (s ∷ sets) = option_map_or (λ target. last_name t target sets) (leads_to t x s) (record { name = x; sets = s ∷ sets })
+last_name t x (s ∷ sets) = cond (renames x s) (last_name t x sets) (option_map_or (λ target. last_name t target sets) (leads_to t x s) (record { name = x; sets = s ∷ sets }))
 
 -- ---- the authority section
-
--- a set of type t
-abbrev pub is_of : ℕ → RRset → Bool
-is_of t s = s.record_type == t
 
 -- the servers of a name at x or above it are asked next
 abbrev pub referral_to : Name → RRset → Option Saying
@@ -95,7 +100,7 @@ name_of (referral x) = x
 
 -- ---- what is to be said
 
--- what is said where a search ends: of a chain that leaves the zone, or isn't followed any farther, nothing
+-- what is said where a search ends: of a chain that leaves the zone, isn't followed any farther, or comes to a name that a DNAME makes too long, nothing
 abbrev pub SaysEnd : End → Option Saying → Type 0
 SaysEnd complete w = (x : Name) × (w ≡ Some (data_of x))
 SaysEnd (referred c) w = w ≡ Some (referral (lower c.owner))

@@ -3,6 +3,7 @@ pub mod StarWalk
 pub mod TurnWalk
 pub mod NodeCases
 pub mod StepCases
+pub mod NewNames
 pub mod PathSteps
 pub mod HostFacts
 pub mod SetLists

@@ -15,40 +15,44 @@ behind_end : (a : List RRset) (n : List Name) (e : End) → behind a n (ended e)
 behind_end a n e = λ i. record { answers = append-nil a i; made = append-nil n i; end = e }
 
 module _ (q : Inquiry) where
-  seen_again : (k j : ℕ) (seen : List Name) (x : Name) → k ≡ suc j → list_any (name_eq x) seen ≡ true → path_from q k seen x ≡ ended unfollowed
-  seen_again k j seen x e h = ap (λ i. path_from q i seen x) e ∙ ap (λ b. cond b (ended unfollowed) (behind (step q x).answers (step q x).made (searched (path_from q j (seen ++ x ∷ [])) (step q x).next))) h
+  seen_again : (k j : ℕ) (seen : List Name) (a : List RRset) (x : Name) → k ≡ suc j → list_any (name_eq x) seen ≡ true → path_from q k seen a x ≡ ended unfollowed
+  seen_again k j seen a x e h =
+      ap (λ i. path_from q i seen a x) e
+      ∙ ap (λ b. cond b (ended unfollowed) (behind (step q a x).answers (step q a x).made (searched (path_from q j (seen ++ x ∷ []) (a ++ (step q a x).answers)) (step q a x).next))) h
 
-  unseen : (k j : ℕ) (seen : List Name) (x : Name) → k ≡ suc j → list_any (name_eq x) seen ≡ false
-      → path_from q k seen x ≡ behind (step q x).answers (step q x).made (searched (path_from q j (seen ++ x ∷ [])) (step q x).next)
-  unseen k j seen x e h = ap (λ i. path_from q i seen x) e ∙ ap (λ b. cond b (ended unfollowed) (behind (step q x).answers (step q x).made (searched (path_from q j (seen ++ x ∷ [])) (step q x).next))) h
+  unseen : (k j : ℕ) (seen : List Name) (a : List RRset) (x : Name) → k ≡ suc j → list_any (name_eq x) seen ≡ false
+      → path_from q k seen a x ≡ behind (step q a x).answers (step q a x).made (searched (path_from q j (seen ++ x ∷ []) (a ++ (step q a x).answers)) (step q a x).next)
+  unseen k j seen a x e h =
+      ap (λ i. path_from q i seen a x) e
+      ∙ ap (λ b. cond b (ended unfollowed) (behind (step q a x).answers (step q a x).made (searched (path_from q j (seen ++ x ∷ []) (a ++ (step q a x).answers)) (step q a x).next))) h
 
-  pub begins : (a : List RRset) (o : List Name) (k : ℕ) (seen : List Name) (n x : Name) → a ≡ [] → o ≡ [] → k ≡ 8 → seen ≡ [] → x ≡ n → behind a o (path_from q k seen x) ≡ path q n
+  pub begins : (a : List RRset) (o : List Name) (k : ℕ) (seen : List Name) (n x : Name) → a ≡ [] → o ≡ [] → k ≡ 8 → seen ≡ [] → x ≡ n → behind a o (path_from q k seen a x) ≡ path q n
   unfolding path
-  begins a o k seen n x sets names all none e = λ i. behind (sets i) (names i) (path_from q (all i) (none i) (e i))
+  begins a o k seen n x sets names all none e = λ i. behind (sets i) (names i) (path_from q (all i) (none i) (sets i) (e i))
 
   -- what is left of a path, behind the sets and the names so far, is the whole
-  module _ (whole : Path) (a : List RRset) (n : List Name) (k : ℕ) (seen : List Name) (x : Name) (left : behind a n (path_from q k seen x) ≡ whole) where
-    ended_here : path_from q k seen x ≡ ended unfollowed → record { answers = a; made = n; end = unfollowed } ≡ whole
+  module _ (whole : Path) (a : List RRset) (n : List Name) (k : ℕ) (seen : List Name) (x : Name) (left : behind a n (path_from q k seen a x) ≡ whole) where
+    ended_here : path_from q k seen a x ≡ ended unfollowed → record { answers = a; made = n; end = unfollowed } ≡ whole
     ended_here e = sym (behind_end a n unfollowed) ∙ sym (ap (behind a n) e) ∙ left
 
     pub none_left : k ≡ 0 → record { answers = a; made = n; end = unfollowed } ≡ whole
-    none_left e = ended_here (ap (λ i. path_from q i seen x) e)
+    none_left e = ended_here (ap (λ i. path_from q i seen a x) e)
 
     module _ (j : ℕ) (more : k ≡ suc j) where
       pub known : list_any (name_eq x) seen ≡ true → record { answers = a; made = n; end = unfollowed } ≡ whole
-      known h = ended_here (seen_again k j seen x more h)
+      known h = ended_here (seen_again k j seen a x more h)
 
-      module _ (new : list_any (name_eq x) seen ≡ false) (b : List RRset) (o : List Name) (sets : b ≡ a ++ (step q x).answers) (names : o ≡ n ++ (step q x).made) where
-        stepped : behind b o (searched (path_from q j (seen ++ x ∷ [])) (step q x).next) ≡ whole
+      module _ (new : list_any (name_eq x) seen ≡ false) (b : List RRset) (o : List Name) (sets : b ≡ a ++ (step q a x).answers) (names : o ≡ n ++ (step q a x).made) where
+        stepped : behind b o (searched (path_from q j (seen ++ x ∷ []) b) (step q a x).next) ≡ whole
         stepped =
-            (λ i. behind (sets i) (names i) (searched (path_from q j (seen ++ x ∷ [])) (step q x).next))
-            ∙ behind_both a (step q x).answers n (step q x).made (searched (path_from q j (seen ++ x ∷ [])) (step q x).next)
-            ∙ sym (ap (behind a n) (unseen k j seen x more new)) ∙ left
+            (λ i. behind (sets i) (names i) (searched (path_from q j (seen ++ x ∷ []) (sets i)) (step q a x).next))
+            ∙ behind_both a (step q a x).answers n (step q a x).made (searched (path_from q j (seen ++ x ∷ []) (a ++ (step q a x).answers)) (step q a x).next)
+            ∙ sym (ap (behind a n) (unseen k j seen a x more new)) ∙ left
 
-        pub goes_on : (target : Name) (also : List Name) → on target ≡ (step q x).next → also ≡ seen ++ x ∷ [] → behind b o (path_from q j also target) ≡ whole
+        pub goes_on : (target : Name) (also : List Name) → on target ≡ (step q a x).next → also ≡ seen ++ x ∷ [] → behind b o (path_from q j also b target) ≡ whole
         goes_on target also next e =
-            ap (λ s. behind b o (path_from q j s target)) e
-            ∙ ap (λ w. behind b o (searched (path_from q j (seen ++ x ∷ [])) w)) next ∙ stepped
+            ap (λ s. behind b o (path_from q j s b target)) e
+            ∙ ap (λ w. behind b o (searched (path_from q j (seen ++ x ∷ []) b) w)) next ∙ stepped
 
-        pub comes_to : (e : End) → ends e ≡ (step q x).next → record { answers = b; made = o; end = e } ≡ whole
-        comes_to e next = sym (behind_end b o e) ∙ ap (λ w. behind b o (searched (path_from q j (seen ++ x ∷ [])) w)) next ∙ stepped
+        pub comes_to : (e : End) → ends e ≡ (step q a x).next → record { answers = b; made = o; end = e } ≡ whole
+        comes_to e next = sym (behind_end b o e) ∙ ap (λ w. behind b o (searched (path_from q j (seen ++ x ∷ []) b) w)) next ∙ stepped

@@ -1,5 +1,5 @@
 -- Lists of sets that are lent or go out
-use Rattle.std.proofs.Common.{Bor, ◌≡◌, ◌||◌, ◌-◌, Bool, true, false, cond, List, [], ◌∷◌, ◌++◌, map, length, refl, sym, ap, ◌∙◌, append_assoc}
+use Rattle.std.proofs.Common.{Bor, ◌≡◌, ℕ, zero, suc, ◌||◌, ◌-◌, ◌<◌, Bool, true, false, cond, List, [], ◌∷◌, ◌++◌, map, length, get_or, refl, sym, ap, ◌∙◌, append_assoc, arith}
 use Rattle.std.specs.Prelude.{Option, Some, None, slice_get, option_map, option_to_list}
 use Rattle.std.specs.List.{list_any, cons_option}
 use Rattle.std.proofs.lemmas.List.{length-map, map-append}
@@ -10,7 +10,7 @@ use Rattle.zone_inner.specs.Flattening.{last_set}
 use Rattle.zone_inner.specs.Runs.{with_new}
 use Rattle.zone_response.specs.declared.response.Sent.{Sent}
 use Rattle.zone_response.specs.Denials.{same_owner}
-use Rattle.zone_response.specs.Sections.{sent_set}
+use Rattle.zone_response.specs.Sections.{is_alike, sent_set}
 
 -- ---- sets that are lent, by their owners
 
@@ -46,3 +46,14 @@ both_sent f xs ys zs a b e g =
     by None (Some y) = refl
     by (Some x) None = refl
     by (Some x) (Some y) = refl
+
+-- ---- sets of one owner and type
+
+any_or : (b : Bool) → b || true ≡ true
+any_or true = refl
+any_or false = refl
+
+pub alike_among : (s : RRset) (sets : List Sent) (i : ℕ) (item : Sent) → i < length sets → item ≡ get_or sets i item → is_alike s (sent_set item) ≡ true → list_any (is_alike s) (map sent_set sets) ≡ true
+alike_among s [] i item lt e h = absurd (omega (arith, lt))
+alike_among s (x ∷ sets) zero item lt e h = ap (λ b. b || list_any (is_alike s) (map sent_set sets)) (ap (λ (y : Sent). is_alike s (sent_set y)) (sym e) ∙ h)
+alike_among s (x ∷ sets) (suc i) item lt e h = ap (λ b. is_alike s (sent_set x) || b) (alike_among s sets i item (omega (arith, lt)) e h) ∙ any_or (is_alike s (sent_set x))

@@ -1,8 +1,9 @@
 -- Which step a name gives, case by case
-use Rattle.std.proofs.Common.{◌≡◌, true, false, cond, sym, ap, ◌∙◌, subst}
+use Rattle.std.proofs.Common.{◌≡◌, true, false, cond, List, sym, ap, ◌∙◌, subst}
 use Rattle.std.specs.Prelude.{Option, Some, None, Result, IfOk}
 use Rattle.std.proofs.lemmas.List.{append-nil}
 use Rattle.zone_proto.specs.Names.{Name, is_at_or_above}
+use Rattle.zone_proto.specs.Sets.{RRset}
 use Rattle.zone_map.specs.Wildcards.{exists}
 use Rattle.zone_response.specs.declared.steps.Next.{Next as KeptNext}
 use Rattle.zone_response.specs.declared.steps.SoFar.{SoFar}
@@ -27,13 +28,14 @@ same_step result before after s t e h = subst (λ u. IfOk result (λ next. Takes
 -- ---- the step of a name
 
 module _ (q : Inquiry) (x : Name) where
-  pub outside_step : is_at_or_above q.origin x ≡ false → step q x ≡ at_end (outside x)
-  outside_step h = ap (λ b. cond b (turned_step q x (turn q.origin q.sets x q.record_type)) (at_end (outside x))) h
+  module _ (before : List RRset) where
+    pub outside_step : is_at_or_above q.origin x ≡ false → step q before x ≡ at_end (outside x)
+    outside_step h = ap (λ b. cond b (turned_step q before x (turn q.origin q.sets x q.record_type)) (at_end (outside x))) h
 
-  pub inside_step : (o : Option Turn) → is_at_or_above q.origin x ≡ true → o ≡ turn q.origin q.sets x q.record_type → step q x ≡ turned_step q x o
-  inside_step o h e =
-      ap (λ b. cond b (turned_step q x (turn q.origin q.sets x q.record_type)) (at_end (outside x))) h
-      ∙ ap (turned_step q x) (sym e)
+    pub inside_step : (o : Option Turn) → is_at_or_above q.origin x ≡ true → o ≡ turn q.origin q.sets x q.record_type → step q before x ≡ turned_step q before x o
+    inside_step o h e =
+        ap (λ b. cond b (turned_step q before x (turn q.origin q.sets x q.record_type)) (at_end (outside x))) h
+        ∙ ap (turned_step q before x) (sym e)
 
   at_a : (star : Option Name) (a : Name) (node : AtNode) → node ≡ at_node q.sets a q.record_type → step_at q star x a ≡ node_step q.signed q.record_type star x node
   at_a star a node e = ap (node_step q.signed q.record_type star x) (sym e)

@@ -1,4 +1,4 @@
--- The path of a query: its name, and the names that its aliases lead on to (RFC 1034 section 4.3.2 step 3a)
+-- The path of a query: its name, and the names that its aliases and DNAMEs lead on to (RFC 1034 section 4.3.2 step 3a, RFC 6672 section 3.2)
 use Rattle.std.specs.Prelude.{ℕ, zero, suc, cond, List, [], ◌∷◌, ◌++◌}
 use Rattle.std.specs.List.{list_any}
 use Rattle.zone_proto.specs.Names.{Name, name_eq}
@@ -27,15 +27,15 @@ searched search (on x) = search x
 searched search (ends e) = ended e
 
 module _ (q : Inquiry) where
-  -- the path from x on, of k names at most; a name that was searched isn't searched again
-  abbrev pub path_from : ℕ → List Name → Name → Path
-  path_from zero seen x = ended unfollowed
-  path_from (suc k) seen x = cond (list_any (name_eq x) seen) (ended unfollowed)
-      (behind (step q x).answers (step q x).made (searched (path_from k (seen ++ x ∷ [])) (step q x).next))
+  -- the path from x on, of k names at most, behind these sets; a name that was searched isn't searched again
+  abbrev pub path_from : ℕ → List Name → List RRset → Name → Path
+  path_from zero seen before x = ended unfollowed
+  path_from (suc k) seen before x = cond (list_any (name_eq x) seen) (ended unfollowed)
+      (behind (step q before x).answers (step q before x).made (searched (path_from k (seen ++ x ∷ []) (before ++ (step q before x).answers)) (step q before x).next))
 
   -- a chain has 8 names at most
   unfoldable pub path : Name → Path
-  path = path_from 8 []
+  path = path_from 8 [] []
 
 -- as the program keeps it
 abbrev pub path_of : KeptPath → Path

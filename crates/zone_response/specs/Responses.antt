@@ -19,7 +19,7 @@ use Rattle.zone_response.specs.Paths.{Path, path}
 use Rattle.zone_response.specs.Queries.{Zone, Query, Inquiry, inquiry}
 use Rattle.zone_response.specs.QueryTypes.{is_no_data}
 use Rattle.zone_response.specs.Sections.{Sections, sent, as_it_is, part_for}
-use Rattle.zone_response.specs.Steps.{End, complete, referred, missing, outside, failed}
+use Rattle.zone_response.specs.Steps.{End, complete, referred, missing, outside, too_long, failed}
 
 -- ---- the parts
 
@@ -27,9 +27,14 @@ use Rattle.zone_response.specs.Steps.{End, complete, referred, missing, outside,
 abbrev pub bare : ResponseCode → Sections
 bare c = record { code = c; authoritative = false; answers = []; authorities = []; additionals = []; glue = []; left_at = None }
 
--- the code is that of the last name of a chain (RFC 6604 section 3): a name error where neither the name nor the star exists that is asked for it (RFC 2308 section 2.1)
+-- YXDOMAIN: a name exists that shouldn't (RFC 2136 section 2.2)
+abbrev pub yx_domain : ResponseCode
+yx_domain = code.Other 6
+
+-- the code is that of the last name of a chain (RFC 6604 section 3): a name error where neither the name nor the star exists that is asked for it (RFC 2308 section 2.1), and YXDOMAIN where a DNAME gives it a name that is too long (RFC 6672 section 2.2)
 abbrev pub code_at : End → ResponseCode
 code_at (missing x star there) = cond there code.NoError code.NXDomain
+code_at too_long = yx_domain
 code_at _ = code.NoError
 
 -- the server is no authority for what it only refers; behind an alias of its own zone it is one for the first name (RFC 1035 section 4.1.1)
@@ -103,7 +108,7 @@ pub record IsResponseBy (q : Inquiry) (p : Path) (sets : List RRset) (r : Sectio
 abbrev pub IsProvenResponse : Zone → Inquiry → RRset → Path → Sections → Type 0
 IsProvenResponse z q soa p r = MatchResult (authority_sets z q.signed soa p.made p.end) (λ sets. IsResponseBy q p sets r) (λ refusal. r ≡ bare code.ServFail)
 
--- a search fails at what this server doesn't answer: at a DNAME, and where an ANAME stands in for addresses
+-- a search fails at what this server doesn't answer: at a DNAME set without a target, and where an ANAME stands in for addresses
 abbrev pub fails : End → Bool
 fails failed = true
 fails _ = false

@@ -1,5 +1,5 @@
 -- A response by its sections: what goes out, as sets of records
-use Rattle.std.specs.Prelude.{ℕ, Bool, false, cond, List, [], filter, map, ◌==◌, Option}
+use Rattle.std.specs.Prelude.{ℕ, Bool, false, ◌&&◌, cond, List, [], ◌∷◌, filter, map, ◌==◌, Option}
 use Rattle.std.specs.List.{list_any}
 use Rattle.std.specs.declared.alloc.Global.{Global}
 use Rattle.std.specs.declared.vec.Vec.{Vec}
@@ -7,7 +7,7 @@ use Rattle.zone_proto.specs.declared.rdata.RData.{RData}
 use Rattle.zone_proto.specs.declared.rdata.RData.TheVariants as V
 use Rattle.zone_proto.specs.declared.record.Record.{Record}
 use Rattle.zone_proto.specs.declared.response_code.ResponseCode.{ResponseCode}
-use Rattle.zone_proto.specs.Names.{Name}
+use Rattle.zone_proto.specs.Names.{Name, same_name}
 use Rattle.zone_proto.specs.Sets.{RRset}
 use Rattle.zone_inner.specs.FoundSets.{found_set}
 use Rattle.zone_response.specs.declared.response.Part.{Part}
@@ -57,6 +57,14 @@ as_it_is p s = sent p s.ttl s
 -- signatures go with the records where the query asks for DNSSEC (RFC 4035 section 3.1.1)
 abbrev pub part_for : Bool → Part
 part_for signed = cond signed part.Signed part.Records
+
+-- sets of one owner and type
+abbrev pub is_alike : RRset → RRset → Bool
+is_alike s r = (r.record_type == s.record_type) && same_name r.owner s.owner
+
+-- a set, unless one alike is among others: a set stands once in a section (RFC 2181 section 5)
+abbrev pub unless_among : List RRset → RRset → List RRset
+unless_among sets s = cond (list_any (is_alike s) sets) [] (s ∷ [])
 
 -- ---- as the program keeps it
 

@@ -1,8 +1,8 @@
 -- One step of a search: what a name of a chain is answered with (RFC 1034 section 4.3.2 step 3)
 use Rattle.std.specs.Prelude.{◌≡◌, ℕ, Bool, true, false, ◌||◌, cond, List, [], ◌∷◌, ◌++◌, ◌==◌, Option, Some, None}
-use Rattle.zone_proto.specs.Names.{Name, is_at_or_above}
+use Rattle.zone_proto.specs.Names.{Name, lower, is_at_or_above}
 use Rattle.zone_proto.specs.Sets.{RRset}
-use Rattle.zone_proto.specs.Types.{RRSIG}
+use Rattle.zone_proto.specs.Types.{CNAME, RRSIG, ANY}
 use Rattle.zone_map.specs.Chains.{cname_target}
 use Rattle.zone_map.specs.Wildcards.{exists, renamed}
 use Rattle.zone_response.specs.declared.response.Part.{Part}
@@ -14,7 +14,8 @@ use Rattle.zone_response.specs.declared.steps.Next.TheVariants as kept_next
 use Rattle.zone_response.specs.declared.steps.SoFar.{SoFar}
 use Rattle.zone_response.specs.Queries.{Inquiry}
 use Rattle.zone_response.specs.Nodes.{AtNode, own, alias, stand_in, nothing, at_node}
-use Rattle.zone_response.specs.Sections.{as_it_is, part_for, sent_sets}
+use Rattle.zone_response.specs.Renamings.{dname_target, in_place_of, unless_long, made_alias}
+use Rattle.zone_response.specs.Sections.{as_it_is, part_for, unless_among, sent_sets}
 use Rattle.zone_response.specs.Sources.{star_of}
 use Rattle.zone_response.specs.Turns.{Turn, cut, renaming, turn}
 
@@ -30,6 +31,8 @@ pub data End : Type 0 where
   outside : Name → End
   -- at an alias that isn't followed any farther
   unfollowed : End
+  -- at a name to which a DNAME gives a name that is too long
+  too_long : End
   -- at what this server doesn't answer
   failed : End
 
@@ -79,6 +82,28 @@ module _ (signed : Bool) (t : ℕ) where
   node_step star x (stand_in s) = at_end failed
   node_step star x nothing = at_end (missing x star true)
 
+-- ---- below a DNAME
+
+-- the search goes on at the new name, unless the query asks for CNAME, or for any type: then the CNAME is the answer, as it is of an alias of the zone
+abbrev pub after_renaming : ℕ → Name → Next
+after_renaming t n = cond ((t == CNAME) || (t == ANY)) (ends complete) (on (lower n))
+
+-- behind these sets, for a query of t that asks for DNSSEC or not
+module _ (signed : Bool) (t : ℕ) (before : List RRset) (x : Name) (s : RRset) where
+  -- the DNAME set goes out, with its signatures where the query asks for DNSSEC (RFC 6672 section 5.3.1)
+  abbrev pub dname_sets : List RRset
+  dname_sets = unless_among before (as_it_is (part_for signed) s)
+
+  -- behind it stands the CNAME that it makes; of a new name that is too long nothing is told (RFC 6672 section 3.2)
+  abbrev pub new_name_step : Option Name → Step
+  new_name_step (Some n) = record { answers = dname_sets ++ made_alias s x n ∷ []; made = []; next = after_renaming t n }
+  new_name_step None = record { answers = dname_sets; made = []; next = ends too_long }
+
+  -- by its target; a set that has none isn't answered
+  abbrev pub target_step : Option Name → Step
+  target_step (Some target) = new_name_step (unless_long (in_place_of s.owner target x))
+  target_step None = at_end failed
+
 module _ (q : Inquiry) where
   -- by what a name has, for x
   abbrev pub step_at : Option Name → Name → Name → Step
@@ -93,14 +118,15 @@ module _ (q : Inquiry) where
   abbrev pub name_step : Name → Step
   name_step x = cond (exists q.sets x) (step_at None x x) (star_step x (star_of q.sets x))
 
-  -- a cut refers (RFC 1034 section 4.3.2 step 3b)
-  abbrev pub turned_step : Name → Option Turn → Step
-  turned_step x None = name_step x
-  turned_step x (Some (cut s)) = at_end (referred s)
-  turned_step x (Some (renaming s)) = at_end failed
+  -- a cut refers (RFC 1034 section 4.3.2 step 3b), and a DNAME gives the name another (RFC 6672 section 3.2)
+  abbrev pub turned_step : List RRset → Name → Option Turn → Step
+  turned_step before x None = name_step x
+  turned_step before x (Some (cut s)) = at_end (referred s)
+  turned_step before x (Some (renaming s)) = target_step q.signed q.record_type before x s (dname_target s)
 
-  abbrev pub step : Name → Step
-  step x = cond (is_at_or_above q.origin x) (turned_step x (turn q.origin q.sets x q.record_type)) (at_end (outside x))
+  -- the step from x, behind these sets of the answer section
+  abbrev pub step : List RRset → Name → Step
+  step before x = cond (is_at_or_above q.origin x) (turned_step before x (turn q.origin q.sets x q.record_type)) (at_end (outside x))
 
 -- ---- as the program keeps it
 
@@ -110,6 +136,7 @@ end_of (kept_end.Referred s) = referred s.now
 end_of (kept_end.Missing x) = missing x.name x.star x.is_there
 end_of (kept_end.Outside x) = outside x
 end_of kept_end.Unfollowed = unfollowed
+end_of kept_end.TooLong = too_long
 end_of kept_end.Failed = failed
 
 abbrev pub next_of : KeptNext → Next

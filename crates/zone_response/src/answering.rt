@@ -23,7 +23,7 @@ use zone_proto::{
 
 /// The response of a zone to a question, with signatures and the NSEC or NSEC3 sets that prove it
 /// where `options` ask for DNSSEC (RFC 1034 section 4.3.2). Refused by `Memory` alone. Its sets are lent out of the zone, but
-/// for those that a wildcard gives the name.
+/// for those that a wildcard gives the name, and the CNAME that a DNAME makes.
 ///
 /// - Of another class than IN, and outside the zone, the code is `Refused`; of a type that no record has, ANY aside, `NotImp`;
 ///   and of a zone without SOA, `ServFail`.
@@ -31,11 +31,15 @@ use zone_proto::{
 ///   cut itself (RFC 4035 section 3.1.4.1). A name that exists is answered by its own sets, and else the star under its closest
 ///   encloser answers, if that exists (RFC 4592 section 3.3.1); a name that begins with `*` is a name like others.
 /// - For ANY one set is chosen (RFC 8482 section 4.1), and for RRSIG the signatures of that set go out.
+/// - Below a DNAME the answer has that set and the CNAME that it makes of the name, with its TTL and without signatures, and the
+///   search goes on at the CNAME's target (RFC 6672 section 3.2), but for a query of CNAME or ANY. Where that name would have
+///   more than 255 octets, the code is YXDOMAIN, `Other(6)`; and `ServFail` where the set has several records (section 2.4), or
+///   its octets are the wire form of no name.
 /// - An alias is followed as long as its target is a name of the zone that wasn't searched, up to 8 names.
 /// - With DNSSEC, the authority section has the NSEC sets (RFC 4035 section 3.1.3) or NSEC3 sets (RFC 5155 section 7.2), each
 ///   once, that prove a name error, absent data, an unsigned child, and each answer of a wildcard. Where the zone denies by NSEC3
 ///   and its hash has no digest of a name that is hashed for this, or one that makes no owner name, the code is `ServFail`.
-/// - A DNAME above the name and an ANAME that stands in for addresses give `ServFail`: these aren't answered yet.
+/// - An ANAME that stands in for addresses gives `ServFail`: it isn't answered yet.
 pub fn respond<'z, S: Signer, H: Nsec3Hash>(
     zone: ServedZone<'z, S, H>,
     question: Question<'_>,

@@ -1,10 +1,9 @@
 //! The whole response of an authoritative server, by its sections (RFC 1034 section 4.3.2): code, AA, the answer section with
-//! chains of aliases, referrals with their DS sets and glue, the SOA of a negative response, the NSEC or NSEC3 sets that prove
-//! what is said, and the additional section.
+//! chains of aliases and what a DNAME makes of a name below it (RFC 6672), referrals with their DS sets and glue, the SOA of a
+//! negative response, the NSEC or NSEC3 sets that prove what is said, and the additional section.
 //!
-//! Zones without DNSSEC are answered whole, and so are zones that deny by NSEC, and by NSEC3 with and without opt-out. Two things
-//! aren't answered yet, and give `ServFail`: a name below the owner of a DNAME, and addresses of a name for which an ANAME stands
-//! in. A user of these needs another server.
+//! Zones without DNSSEC are answered whole, and so are zones that deny by NSEC, and by NSEC3 with and without opt-out. One thing
+//! isn't answered yet, and gives `ServFail`: addresses of a name for which an ANAME stands in. A user of these needs another server.
 //!
 //! Contracts see a response as its code and its sections, each a list of record sets as they go out.
 #![tactic(auto)]
@@ -19,6 +18,7 @@ mod nodes;
 mod paths;
 mod query_types;
 mod question;
+mod renamings;
 mod response;
 mod sections;
 mod sources;

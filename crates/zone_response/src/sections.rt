@@ -19,6 +19,9 @@ use zone_proto::{
     LowerName, Nsec3Hash, ProtoError, RecordSet, RecordType, ResponseCode, RrKey, Signer,
 };
 
+// The code of a name that a DNAME makes too long (RFC 6672 section 2.2).
+const YXDOMAIN: ResponseCode = ResponseCode::Other(6);
+
 /// Whether a search fails at what this server doesn't answer.
 pub(crate) fn fails(end: &End<'_>) -> bool
     ensures { result ≡ fails (end_of end.now) }
@@ -35,6 +38,7 @@ pub(crate) fn code_at(end: &End<'_>) -> ResponseCode
 {
     match end {
         End::Missing(missing) if !missing.is_there => ResponseCode::NXDomain,
+        End::TooLong => YXDOMAIN,
         _ => ResponseCode::NoError,
     }
 }

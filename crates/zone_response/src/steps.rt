@@ -5,11 +5,13 @@ ghost use Rattle.zone_inner.specs.FoundSets.{found_set};
 ghost use Rattle.zone_response.specs.Nodes.{node_of};
 ghost use Rattle.zone_response.specs.Sections.{as_it_is, sent_sets, part_for};
 ghost use Rattle.zone_response.specs.Queries.{inquiry_of};
-ghost use Rattle.zone_response.specs.Steps.{step, name_step, star_step, node_step, keeps, made_by, made_names, own_part, after_alias, missing as missing_at, ends, next_of, Takes};
+ghost use Rattle.zone_response.specs.Renamings.{dname_target};
+ghost use Rattle.zone_response.specs.Steps.{step, target_step, new_name_step, after_renaming, name_step, star_step, node_step, keeps, made_by, made_names, own_part, after_alias, missing as missing_at, ends, next_of, Takes};
 
-use crate::lists::{push, send};
+use crate::lists::{push, send, send_made, send_unless_among};
 use crate::names::is_at_or_above;
 use crate::nodes::{Node, at_node};
+use crate::renamings::{dname_target, in_place_of, made_alias};
 use crate::response::{Part, Sent};
 use crate::sources::star_of;
 use crate::turns::{Turning, turn};
@@ -52,6 +54,8 @@ pub(crate) enum End<'z> {
     Outside(LowerName),
     /// At an alias that isn't followed any farther.
     Unfollowed,
+    /// At a name to which a DNAME gives a name that is too long.
+    TooLong,
     /// At what this server doesn't answer.
     Failed,
 }
@@ -82,7 +86,8 @@ pub(crate) fn step<'z, S: Signer>(
     so_far: &mut SoFar<'z>,
 ) -> Result<Next<'z>, LookupError>
     ensures ok { IfOk result
-        (λ next. Takes (step (inquiry_of asked.entry inner.now.records) name.now)
+        (λ next. Takes
+        (step (inquiry_of asked.entry inner.now.records) (sent_sets so_far.old.answers) name.now)
         so_far.old so_far.new next) }
     ensures err { IsOkUnless result LookupError.Memory }
 {
@@ -91,9 +96,64 @@ pub(crate) fn step<'z, S: Signer>(
     }
     match turn(inner, asked.origin, name, asked.record_type)? {
         Some(Turning::Cut(cut)) => Ok(Next::Ends(End::Referred(cut))),
-        Some(Turning::Renaming(_)) => Ok(Next::Ends(End::Failed)),
+        Some(Turning::Renaming(dname)) => target_step(dname, name, asked, so_far),
         None => name_step(inner, asked, name, so_far),
     }
+}
+
+/// The step from a name below the owner of a DNAME set.
+fn target_step<'z>(
+    dname: &'z RecordSet,
+    name: &LowerName,
+    asked: Asked<'_>,
+    so_far: &mut SoFar<'z>,
+) -> Result<Next<'z>, LookupError>
+    ensures ok { IfOk result
+        (λ next. Takes
+        (target_step asked.entry.signed asked.entry.record_type.0
+        (sent_sets so_far.old.answers) name.now dname.now (dname_target dname.now)) so_far.old
+        so_far.new next) }
+    ensures err { IsOkUnless result LookupError.Memory }
+{
+    let Some(target) = dname_target(dname)? else {
+        return Ok(Next::Ends(End::Failed));
+    };
+    let new = in_place_of(dname.name(), &target, name)?;
+    Ok(new_name_step(dname, name, new, asked, so_far)?)
+}
+
+/// The step from a name below the owner of a DNAME set by its new name, none if that is too long.
+fn new_name_step<'z>(
+    dname: &'z RecordSet,
+    name: &LowerName,
+    new: Option<Name>,
+    asked: Asked<'_>,
+    so_far: &mut SoFar<'z>,
+) -> Result<Next<'z>, ProtoError>
+    ensures ok { IfOk result
+        (λ next. Takes
+        (new_name_step asked.entry.signed asked.entry.record_type.0
+        (sent_sets so_far.old.answers) name.now dname.now new) so_far.old so_far.new next) }
+    ensures err { IsOkUnless result ProtoError.Memory }
+{
+    send_unless_among(&mut so_far.answers, dname, part_for(asked.signed))?;
+    let Some(new) = new else {
+        return Ok(Next::Ends(End::TooLong));
+    };
+    let next = after_renaming(asked.record_type, &new)?;
+    send_made(&mut so_far.answers, made_alias(dname, name, new)?)?;
+    Ok(next)
+}
+
+/// What comes behind the CNAME of a new name.
+fn after_renaming<'z>(record_type: RecordType, new: &Name) -> Result<Next<'z>, ProtoError>
+    ensures ok { IfOk result (λ next. next_of next ≡ after_renaming record_type.0 new.now) }
+    ensures err { IsOkUnless result ProtoError.Memory }
+{
+    if record_type == RecordType::CNAME || record_type == RecordType::ANY {
+        return Ok(Next::Ends(End::Complete));
+    }
+    Ok(Next::On(LowerName::new(new)?))
 }
 
 /// The step from a name that no cut and no DNAME stands above.

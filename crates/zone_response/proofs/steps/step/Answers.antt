@@ -2,8 +2,10 @@ use Rattle.std.proofs.Common.{◌≡◌, true, refl, sym, ap, ◌∙◌}
 use Rattle.std.specs.Prelude.{Some, None, option_map}
 use Rattle.zone_proto.specs.Names.{is_at_or_above}
 use Rattle.zone_response.specs.Queries.{inquiry_of}
-use Rattle.zone_response.specs.Steps.{outside, referred, ends, step, name_step}
-use Rattle.zone_response.specs.Turns.{cut, turn_of}
+use Rattle.zone_response.specs.Renamings.{dname_target}
+use Rattle.zone_response.specs.Sections.{sent_sets}
+use Rattle.zone_response.specs.Steps.{outside, referred, ends, step, target_step, name_step}
+use Rattle.zone_response.specs.Turns.{cut, renaming, turn_of}
 use Rattle.zone_response.proofs.StepCases.{at_its_end, same_step, outside_step, inside_step}
 use Rattle.zone_response.proofs.steps.step.Goals as goal
 
@@ -11,22 +13,35 @@ pub returns-then-not-is_at_or_above-clause-ok : goal.returns-then-not-is_at_or_a
 returns-then-not-is_at_or_above-clause-ok g c =
     let q = inquiry_of c.args.asked c.args.inner.now.records in
     let x = c.args.name.now in
-    at_its_end (step q x) (outside x) c.args.so_far.now _ (outside_step q x (sym c.is_at_or_above.ensures ∙ c.if-not-is_at_or_above.true))
+    let before = sent_sets c.args.so_far.now.answers in
+    at_its_end (step q before x) (outside x) c.args.so_far.now _ (outside_step q x before (sym c.is_at_or_above.ensures ∙ c.if-not-is_at_or_above.true))
     (ap (λ y. ends (outside y)) c.in_ok-clone.ensures.copy.ok)
 
 pub returns-in-Some-Cut-clause-ok : goal.returns-in-Some-Cut-clause-ok
 returns-in-Some-Cut-clause-ok g c =
     let q = inquiry_of c.args.asked c.args.inner.now.records in
     let x = c.args.name.now in
+    let before = sent_sets c.args.so_far.now.answers in
     let inside : is_at_or_above q.origin x ≡ true = sym c.is_at_or_above.ensures ∙ c.if-not-is_at_or_above.false in
     let s = c.in-Some-Cut.cut.now in
-    at_its_end (step q x) (referred s) c.args.so_far.now _
-    (inside_step q x (Some (cut s)) inside (ap (λ t. Some (turn_of t)) (sym c.in-Some-Cut.field-0-is) ∙ ap (option_map turn_of) (sym c.in-Some-Cut.is) ∙ c.in_ok-cut.ensures.ok)) refl
+    at_its_end (step q before x) (referred s) c.args.so_far.now _
+    (inside_step q x before (Some (cut s)) inside (ap (λ t. Some (turn_of t)) (sym c.in-Some-Cut.field-0-is) ∙ ap (option_map turn_of) (sym c.in-Some-Cut.is) ∙ c.in_ok-cut.ensures.ok)) refl
 
 pub returns-in-None-clause-ok : goal.returns-in-None-clause-ok
 returns-in-None-clause-ok g c =
     let q = inquiry_of c.args.asked c.args.inner.now.records in
     let x = c.args.name.now in
+    let before = sent_sets c.args.so_far.now.answers in
     let inside : is_at_or_above q.origin x ≡ true = sym c.is_at_or_above.ensures ∙ c.if-not-is_at_or_above.false in
-    same_step c.name_step.result c.args.so_far.now c.name_step.new.so_far (step q x) (name_step q x)
-    (inside_step q x None inside (ap (option_map turn_of) (sym c.in-None.is) ∙ c.in_ok-cut.ensures.ok)) c.name_step.ensures.ok
+    same_step c.name_step.result c.args.so_far.now c.name_step.new.so_far (step q before x) (name_step q x)
+    (inside_step q x before None inside (ap (option_map turn_of) (sym c.in-None.is) ∙ c.in_ok-cut.ensures.ok)) c.name_step.ensures.ok
+
+pub returns-in-Some-Renaming-clause-ok : goal.returns-in-Some-Renaming-clause-ok
+returns-in-Some-Renaming-clause-ok g c =
+    let q = inquiry_of c.args.asked c.args.inner.now.records in
+    let x = c.args.name.now in
+    let before = sent_sets c.args.so_far.now.answers in
+    let inside : is_at_or_above q.origin x ≡ true = sym c.is_at_or_above.ensures ∙ c.if-not-is_at_or_above.false in
+    let s = c.in-Some-Renaming.dname.now in
+    same_step c.target_step.result c.args.so_far.now c.target_step.new.so_far (step q before x) (target_step q.signed q.record_type before x s (dname_target s))
+    (inside_step q x before (Some (renaming s)) inside (ap (λ t. Some (turn_of t)) (sym c.in-Some-Renaming.field-0-is) ∙ ap (option_map turn_of) (sym c.in-Some-Renaming.is) ∙ c.in_ok-cut.ensures.ok)) c.target_step.ensures.ok
