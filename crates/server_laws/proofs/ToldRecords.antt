@@ -2,7 +2,6 @@
 use Rattle.std.proofs.Common.{◌≡◌, ℕ, Bool, true, false, cond, List, [], ◌∷◌, refl, ap, ◌∙◌, sym, true≢false}
 use Rattle.std.specs.Prelude.{Option, Some, None, filter, filter_map, option_and_then}
 use Rattle.std.specs.List.{Contains, cons_option, flat_map}
-use Rattle.zone_proto.specs.declared.rdata.RData.{RData}
 use Rattle.zone_proto.specs.declared.rdata.RData.TheVariants as V
 use Rattle.zone_proto.specs.declared.rdata.denial.NSEC3.{NSEC3 as Nsec3Data}
 use Rattle.zone_proto.specs.declared.record.Record.{Record}
