@@ -29,3 +29,4 @@ pub mod BodyParts
 pub mod OptBack
 pub mod HelpSteps
 pub mod RecordParts
+pub mod Fronts

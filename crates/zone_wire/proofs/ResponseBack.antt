@@ -27,6 +27,10 @@ helpful_all room old new (g ∷ gs) kept (inl (mid, others, is, all, h)) =
     subst (AppendsAll strict_record_of old new) (sym is) (then_all old mid new (records_of g) others all (helpful_all room mid new gs others h))
 helpful_all room old new (g ∷ gs) kept (inr (over, h)) = helpful_all room old new gs kept h
 
+-- the octets that the header will have
+pub blank_length : (cleared blank zeros : List ℕ) → cleared ≡ [] → blank ≡ cleared ++ zeros → length zeros ≡ 12 → length blank ≡ 12
+blank_length cleared blank zeros e f n = omega (arith, n, ap length e, ap length f, length-append cleared zeros)
+
 pub response_back : (limit : ℕ) (r : Response) (blank start end all octets : List ℕ) (answers authorities additionals : List Record) (truncated : Bool)
     (a b c : ℕ) → length blank ≡ 12 → Appends question_of blank start r.query.now.question
     → IsBody (limit - opt_length r) r start end answers authorities additionals truncated → AppendsAll strict_record_of end all (opt_of r)

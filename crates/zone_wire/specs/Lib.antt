@@ -6,4 +6,5 @@ pub mod DataText
 pub mod HeaderText
 pub mod Responses
 pub mod Outcomes
+pub mod Fronts
 pub mod Checks

@@ -69,7 +69,7 @@ fn count_if(written: bool, group: &Group<'_>) -> usize
 }
 
 /// How many records a group has.
-fn count_of(group: &Group<'_>) -> usize
+pub(crate) fn count_of(group: &Group<'_>) -> usize
     ensures { result ≡ length group.now.records.now + length group.now.signatures.now }
 {
     group.records.len() + group.signatures.len()

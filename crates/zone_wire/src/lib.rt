@@ -8,6 +8,7 @@ mod body_writer;
 mod data_writer;
 mod denial_writer;
 mod error;
+mod front_writer;
 mod group_writer;
 mod hints;
 mod known_names;
@@ -20,5 +21,6 @@ mod type_map;
 mod writable;
 
 pub use error::WriteError;
+pub use front_writer::write_front;
 pub use response::{Group, Response};
 pub use response_writer::write_response;

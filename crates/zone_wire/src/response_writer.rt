@@ -52,13 +52,13 @@ pub fn write_response(
 }
 
 /// The greatest response code, of twelve bits (RFC 6891 section 6.1.3).
-const GREATEST_CODE: u16 = 4095;
+pub(crate) const GREATEST_CODE: u16 = 4095;
 
 /// How many octets an OPT record without options has (RFC 6891 section 6.1.2).
-const OPT_OCTETS: usize = 11;
+pub(crate) const OPT_OCTETS: usize = 11;
 
 /// How many OPT records a response has: one if the query has one.
-fn opt_count(response: &Response<'_, '_>) -> usize
+pub(crate) fn opt_count(response: &Response<'_, '_>) -> usize
     ensures value { result ≡ length (opt_of response.now) }
     ensures small { result ≤ 1 }
 {
@@ -111,7 +111,7 @@ fn compose(
 }
 
 /// The offsets of the labels of a question, which stands behind the header.
-fn hints_of(alloc: Global, question: &Question) -> Result<Hints, AllocError> {
+pub(crate) fn hints_of(alloc: Global, question: &Question) -> Result<Hints, AllocError> {
     let mut hints = Hints::new(alloc);
     let whole = Cut {
         labels: question.name.num_labels(),
@@ -122,7 +122,7 @@ fn hints_of(alloc: Global, question: &Question) -> Result<Hints, AllocError> {
 }
 
 /// Appends a question, whose name has no pointers.
-fn push_question(out: &mut Vec<u8>, question: &Question) -> Result<(), AllocError>
+pub(crate) fn push_question(out: &mut Vec<u8>, question: &Question) -> Result<(), AllocError>
     ensures read { OnOk result (Appends question_of out.old.items out.new.items question.now) }
     ensures length { OnOk result (length out.new.items
         ≡ length out.old.items + (wire_length question.now.name + 4)) }
@@ -134,7 +134,7 @@ fn push_question(out: &mut Vec<u8>, question: &Question) -> Result<(), AllocErro
 }
 
 /// Appends the OPT record, if the query has one.
-fn push_opt(out: &mut Vec<u8>, response: &Response<'_, '_>) -> Result<(), AllocError>
+pub(crate) fn push_opt(out: &mut Vec<u8>, response: &Response<'_, '_>) -> Result<(), AllocError>
     ensures read { OnOk result (AppendsAll strict_record_of out.old.items out.new.items
         (opt_of response.now)) }
     ensures length { OnOk result (length out.new.items
@@ -203,7 +203,7 @@ fn low_flags(response: &Response<'_, '_>) -> u8
 }
 
 /// Puts the header in the place of the first twelve octets.
-fn put_header(out: &mut Vec<u8>, response: &Response<'_, '_>, counts: Counts)
+pub(crate) fn put_header(out: &mut Vec<u8>, response: &Response<'_, '_>, counts: Counts)
     requires long { 12 ≤ length out.old.items }
     requires answers { counts.answers < 65536 }
     requires authorities { counts.authorities < 65536 }

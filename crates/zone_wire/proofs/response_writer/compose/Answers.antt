@@ -1,16 +1,12 @@
-use Rattle.std.proofs.Common.{ℕ, ◌≡◌, ◌+◌, ◌-◌, ◌*◌, List, [], ◌++◌, length, refl, ap, subst, arith, rules}
+use Rattle.std.proofs.Common.{◌≡◌, ◌+◌, ◌-◌, ◌*◌, length, refl, ap, subst, arith, rules}
 use Rattle.std.proofs.lemmas.List.{length-append}
 use Rattle.zone_wire.specs.Outcomes.{IsBodyPut, records_in}
 use Rattle.zone_wire.specs.Responses.{opt_of}
 use Rattle.zone_proto.specs.Names.{wire_length}
 use Rattle.zone_wire.proofs.BodyParts.{body_small}
 use Rattle.zone_wire.proofs.Failures.{body_fails, unfit}
-use Rattle.zone_wire.proofs.ResponseBack.{response_back}
+use Rattle.zone_wire.proofs.ResponseBack.{blank_length, response_back}
 use Rattle.zone_wire.proofs.response_writer.compose.Goals as goal
-
--- the octets that the header will have
-blank_length : (cleared blank zeros : List ℕ) → cleared ≡ [] → blank ≡ cleared ++ zeros → length zeros ≡ 12 → length blank ≡ 12
-blank_length cleared blank zeros e f n = omega (arith, n, ap length e, ap length f, length-append cleared zeros)
 
 pub returns-then-limit-least-clause-err : goal.returns-then-limit-least-clause-err
 returns-then-limit-least-clause-err c =
