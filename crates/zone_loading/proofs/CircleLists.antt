@@ -1,23 +1,18 @@
 -- Lists of types that are compared with wanted ones are compared with those of the circle
 use Rattle.std.proofs.Common.{◌≡◌, ◌==◌, ◌&&◌, ℕ, Bool, true, false, not, cond, length, List, [], ◌∷◌, map, refl, sym, ap, ◌∙◌, eqb-true, eq-eqb, true≢false}
 use Rattle.std.specs.Prelude.{Option, Some, None, option_map, is_some, filter, unwrap_or}
-use Rattle.std.specs.List.{AllByRecursion, filter_map, cons_option}
-use Rattle.std.specs.List.Sorted.{IsStrictlySortedBy}
-use Rattle.std.specs.Map.{lookup, keys_of}
 use Rattle.std.specs.Option.{option_map_or}
 use Rattle.zone_proto.specs.declared.rdata.denial.NSEC.{NSEC as NsecData}
 use Rattle.zone_proto.specs.declared.record.Record.{Record}
 use Rattle.zone_proto.specs.declared.record_type.RecordType.{RecordType}
-use Rattle.zone_proto.specs.declared.rr_key.RrKey.{RrKey}
 use Rattle.zone_proto.specs.Data.{same_types}
-use Rattle.zone_proto.specs.Keys.{key, key_cmp, key_eq}
 use Rattle.zone_proto.specs.Names.{Name, lower, name_cmp, same_name}
 use Rattle.zone_proto.specs.Order.{is_before, least}
 use Rattle.zone_proto.specs.Sets.{RRset}
 use Rattle.zone_proto.specs.Types.{NSEC}
 use Rattle.zone_proto.proofs.Members.{In-from_filter}
 use Rattle.zone_proto.proofs.Names.Tree.{name_order}
-use Rattle.zone_proto.proofs.Ordering.KeyOrder.{key_same, equal_of}
+use Rattle.zone_proto.proofs.Ordering.KeyOrder.{equal_of}
 use Rattle.zone_proto.proofs.Ordering.Orders.{greatest_is}
 use Rattle.zone_map.specs.Standing.{renumbered, standing_at}
 use Rattle.zone_map.specs.Zones.{IsZone, Sets, set_at, owners, names_of}
@@ -29,10 +24,10 @@ use Rattle.zone_denial.specs.NsecSets.{HasNsecSets, nsec_set, nsec_set_at}
 use Rattle.zone_denial.specs.TypeLists.{nsec_types}
 use Rattle.zone_denial.proofs.Chain.NsecSecured.{secured_is_circle}
 use Rattle.zone_denial.proofs.InOrder.{flipped}
-use Rattle.zone_loading.specs.declared.circle.Difference.TheVariants.{Several, Next}
+use Rattle.zone_loading.specs.declared.difference.Difference.TheVariants.{Several, Next}
 use Rattle.zone_loading.specs.Circles.{says_next, lists_types, set_difference, difference_of, nsec_difference, has_other_types}
-use Rattle.zone_loading.specs.Comparing.{has_other_list, same_list}
-use Rattle.zone_loading.proofs.KeysFound.{entries_found}
+use Rattle.zone_loading.specs.Comparing.{lists_between, lists_others, records_at}
+use Rattle.zone_loading.proofs.SetsCompared.{none_told}
 
 -- ---- lists of types
 
@@ -139,83 +134,22 @@ module _ (origin : Name) (m : Sets) (closed : (n : Name) → nsec_difference ori
 
   -- ---- the lists that are told
 
-  module _ (wanted : Sets) (made : (n : Name) (t : ℕ) → set_at wanted n t ≡ nsec_set_at origin m 0 0 n t) where
-    -- what is told of a set of NSEC that stands
-    told : (n : Name) (s : RRset) → set_at m n NSEC ≡ Some s → has_other_list wanted (key n NSEC) s ≡ not (lists_types (nsec_types m n) s)
-    told n s e =
-        ap (λ (o : Option RRset). option_map_or (λ (x : RRset). not (same_list s x)) o false) (made n NSEC)
-        ∙ ap (λ b. option_map_or (λ (x : RRset). not (same_list s x)) (cond b (Some (nsec_set origin m 0 0 n)) None) false) (on_circle n s e)
+  -- they are those of the circle
+  pub lists_same : (wanted : Sets) → ((n : Name) (t : ℕ) → set_at wanted n t ≡ nsec_set_at origin m 0 0 n t) → (n : Name) → lists_between NSEC m wanted n ≡ has_other_types origin m n
+  lists_same wanted made n =
+      ap (λ (o : Option RRset). lists_others NSEC (records_at m n NSEC) (option_map (λ (s : RRset). s.records) o)) (made n NSEC)
+      ∙ by (set_at m n NSEC) refl
+    where
+      by : (s : Option RRset) → set_at m n NSEC ≡ s
+          → lists_others NSEC (option_map (λ (x : RRset). x.records) s) (option_map (λ (x : RRset). x.records) (nsec_set_at origin m 0 0 n NSEC))
+          ≡ option_map_or (λ (x : RRset). not (lists_types (nsec_types m n) x)) s false
+      by None e = refl
+      by (Some x) e = ap (λ b. lists_others NSEC (Some x.records) (option_map (λ (x : RRset). x.records) (cond b (Some (nsec_set origin m 0 0 n)) None))) (on_circle n x e)
 
-    -- where none is told, the lists are right
-    untold : (es : Sets) → filter_map (λ (e : RrKey × RRset). cond (has_other_list wanted e.0 e.1) (Some e.0.name) None) es ≡ []
-        → (k : RrKey) (s : RRset) → lookup (key_eq k) es ≡ Some s → has_other_list wanted k s ≡ false
-    untold [] h k s f = absurd cc
-    untold (e ∷ es) h k s f = by (key_eq k e.0) refl f (untold es (later (has_other_list wanted e.0 e.1) h) k s)
-      where
-        rest : List Name
-        rest = filter_map (λ (e : RrKey × RRset). cond (has_other_list wanted e.0 e.1) (Some e.0.name) None) es
-
-        later : (b : Bool) → cons_option (cond b (Some e.0.name) None) rest ≡ [] → rest ≡ []
-        later true q = absurd cc
-        later false q = q
-
-        here : (b : Bool) → cons_option (cond b (Some e.0.name) None) rest ≡ [] → b ≡ false
-        here true q = absurd cc
-        here false q = refl
-
-        by : (b : Bool) → key_eq k e.0 ≡ b → cond b (Some e.1) (lookup (key_eq k) es) ≡ Some s → (lookup (key_eq k) es ≡ Some s → has_other_list wanted k s ≡ false) → has_other_list wanted k s ≡ false
-        by true g f more =
-            let same : e.1 ≡ s = cc in
-            ap (λ (j : RrKey). has_other_list wanted j s) (key_same k e.0 g) ∙ ap (has_other_list wanted e.0) (sym same) ∙ here (has_other_list wanted e.0 e.1) h
-        by false g f more = more f
-
-    pub circle_where_untold : IsZone m → lower origin ≡ origin → filter_map (λ (e : RrKey × RRset). cond (has_other_list wanted e.0 e.1) (Some e.0.name) None) m ≡ [] → IsNsecCircle origin m
-    circle_where_untold zone low h = closed_is_circle zone low (λ n s e. not_false (lists_types (nsec_types m n) s) (sym (told n s e) ∙ untold m h (key n NSEC) s e))
-
-    -- the names that are told are those of the definition
-    flip : (t : ℕ) (b : Bool) → (t == NSEC) ≡ b → (NSEC == t) ≡ b
-    flip t true e = ap (λ x. NSEC == x) (eqb-true t NSEC e)
-    flip t false e = by (NSEC == t) refl
-      where
-        by : (b : Bool) → (NSEC == t) ≡ b → b ≡ false
-        by false q = refl
-        by true q = absurd (true≢false (ap (λ x. x == NSEC) (eqb-true NSEC t q) ∙ e))
-
-    here_told : (e : RrKey × RRset) → lookup (key_eq e.0) m ≡ Some e.1 → (e.0.record_type.0 == NSEC) ≡ true → has_other_list wanted e.0 e.1 ≡ has_other_types origin m e.0.name
-    here_told e f t =
-        let same : e.0 ≡ key e.0.name NSEC = ap (λ u. key e.0.name u) (eqb-true e.0.record_type.0 NSEC t) in
-        let stands : set_at m e.0.name NSEC ≡ Some e.1 = ap (λ (k : RrKey). lookup (key_eq k) m) (sym same) ∙ f in
-        ap (λ (k : RrKey). has_other_list wanted k e.1) same ∙ told e.0.name e.1 stands
-        ∙ sym (ap (λ (o : Option RRset). option_map_or (λ (s : RRset). not (lists_types (nsec_types m e.0.name) s)) o false) stands)
-
-    told_list : (es : Sets) → AllByRecursion (λ (e : RrKey × RRset). lookup (key_eq e.0) m ≡ Some e.1) es
-        → filter_map (λ (e : RrKey × RRset). cond (has_other_list wanted e.0 e.1) (Some e.0.name) None) es ≡ filter (has_other_types origin m) (owners es NSEC)
-    told_list [] found = refl
-    told_list (e ∷ es) found = by (e.0.record_type.0 == NSEC) refl (told_list es found.1)
-      where
-        rest : List Name
-        rest = filter_map (λ (e : RrKey × RRset). cond (has_other_list wanted e.0 e.1) (Some e.0.name) None) es
-
-        one : (b : Bool) → cons_option (cond b (Some e.0.name) None) rest ≡ cond b (e.0.name ∷ rest) rest
-        one true = refl
-        one false = refl
-
-        by : (b : Bool) → (e.0.record_type.0 == NSEC) ≡ b → rest ≡ filter (has_other_types origin m) (owners es NSEC)
-            → cons_option (cond (has_other_list wanted e.0 e.1) (Some e.0.name) None) rest
-            ≡ filter (has_other_types origin m) (cons_option (cond (NSEC == e.0.record_type.0) (Some e.0.name) None) (owners es NSEC))
-        by true t h =
-            one (has_other_list wanted e.0 e.1)
-            ∙ ap (λ b. cond b (e.0.name ∷ rest) rest) (here_told e found.0 t)
-            ∙ ap (λ (ns : List Name). cond (has_other_types origin m e.0.name) (e.0.name ∷ ns) ns) h
-            ∙ sym (ap (λ b. filter (has_other_types origin m) (cons_option (cond b (Some e.0.name) None) (owners es NSEC))) (flip e.0.record_type.0 true t))
-        by false t h =
-            ap (λ b. cons_option (cond (cond b (option_map_or (λ (x : RRset). not (same_list e.1 x)) (set_at wanted e.0.name e.0.record_type.0) false) false) (Some e.0.name) None) rest) t
-            ∙ h
-            ∙ sym (ap (λ b. filter (has_other_types origin m) (cons_option (cond b (Some e.0.name) None) (owners es NSEC))) (flip e.0.record_type.0 false t))
-
-    pub told_names : IsStrictlySortedBy key_cmp (keys_of m)
-        → filter_map (λ (e : RrKey × RRset). cond (has_other_list wanted e.0 e.1) (Some e.0.name) None) m ≡ filter (has_other_types origin m) (owners m NSEC)
-    told_names sorted = told_list m (entries_found m sorted)
+  pub circle_where_untold : IsZone m → lower origin ≡ origin → filter (has_other_types origin m) (owners m NSEC) ≡ [] → IsNsecCircle origin m
+  circle_where_untold zone low h =
+      closed_is_circle zone low (λ n s e. not_false (lists_types (nsec_types m n) s)
+      (sym (ap (λ (o : Option RRset). option_map_or (λ (x : RRset). not (lists_types (nsec_types m n) x)) o false) e) ∙ none_told (has_other_types origin m) m NSEC h n (ap is_some e)))
 
 -- ---- sets that are those of the circle as they stand
 
@@ -245,9 +179,9 @@ module _ (origin : Name) (m : Sets) (stand : (n : Name) (t : ℕ) → standing_a
           ∙ ap not (types_itself (nsec_types m n))
       by false (Some x) h = absurd cc
 
-  none_told : (ns : List Name) → [] ≡ filter (has_other_types origin m) ns
-  none_told [] = refl
-  none_told (n ∷ ns) = none_told ns ∙ sym (ap (λ b. cond b (n ∷ filter (has_other_types origin m) ns) (filter (has_other_types origin m) ns)) (right_lists n))
+  no_others : (ns : List Name) → [] ≡ filter (has_other_types origin m) ns
+  no_others [] = refl
+  no_others (n ∷ ns) = no_others ns ∙ sym (ap (λ b. cond b (n ∷ filter (has_other_types origin m) ns) (filter (has_other_types origin m) ns)) (right_lists n))
 
   pub standing_lists : [] ≡ filter (has_other_types origin m) (owners m NSEC)
-  standing_lists = none_told (owners m NSEC)
+  standing_lists = no_others (owners m NSEC)

@@ -1,20 +1,17 @@
 -- How the NSEC sets of a zone differ from the circle of its names
-use Rattle.std.specs.Prelude.{◌≡◌, ℕ, Bool, true, false, not, cond, length, ◌==◌, List, map, Option, Some, None}
+use Rattle.std.specs.Prelude.{ℕ, Bool, true, false, not, cond, length, ◌==◌, List, map, Option, Some, None}
 use Rattle.std.specs.Option.{option_map_or}
-use Rattle.std.specs.declared.cmp.Ordering.TheVariants.{Less}
 use Rattle.zone_proto.specs.declared.rdata.denial.NSEC.{NSEC as NsecData}
 use Rattle.zone_proto.specs.Data.{same_types}
-use Rattle.zone_proto.specs.Names.{Name, name_cmp, same_name}
+use Rattle.zone_proto.specs.Names.{Name, same_name}
 use Rattle.zone_proto.specs.Sets.{RRset}
 use Rattle.zone_proto.specs.Types.{NSEC}
 use Rattle.zone_map.specs.Zones.{Sets, set_at}
 use Rattle.zone_denial.specs.Authority.{is_authoritative}
 use Rattle.zone_denial.specs.NsecCircle.{first_nsec, nsec_next}
 use Rattle.zone_denial.specs.TypeLists.{nsec_types}
-use Rattle.zone_loading.specs.declared.circle.Difference.{Difference}
-use Rattle.zone_loading.specs.declared.circle.Difference.TheVariants.{Missing, Surplus, Several, Next}
-use Rattle.zone_loading.specs.declared.circle.OpenCircle.{OpenCircle}
-use Rattle.zone_loading.specs.declared.circle.OpenCircle.TheVariants.{At}
+use Rattle.zone_loading.specs.declared.difference.Difference.{Difference}
+use Rattle.zone_loading.specs.declared.difference.Difference.TheVariants.{Missing, Surplus, Several, Next}
 
 -- the NSEC data of a set say that a name comes next, the case of letters aside
 abbrev pub says_next : Name → RRset → Bool
@@ -43,11 +40,3 @@ module _ (origin : Name) (m : Sets) where
   -- it lists other types than the circle has for the name: those that it owns, NSEC and RRSIG (RFC 4034 section 4.1.2)
   abbrev pub has_other_types : Name → Bool
   has_other_types n = option_map_or (λ (s : RRset). not (lists_types (nsec_types m n) s)) (set_at m n NSEC) false
-
-  -- a refusal tells the first name at which they differ, and how
-  pub record IsFirstDifference (e : OpenCircle) : Type 0 where
-    pub name : Name
-    pub difference : Difference
-    pub told : e ≡ At name difference
-    pub here : nsec_difference name ≡ Some difference
-    pub before : (q : Name) → name_cmp q name ≡ Less → nsec_difference q ≡ None

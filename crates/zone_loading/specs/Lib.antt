@@ -4,4 +4,6 @@ pub mod Sets
 pub mod Faults
 pub mod GroupFaults
 pub mod Circles
+pub mod Nsec3Differences
 pub mod Comparing
+pub mod Nsec3Circles

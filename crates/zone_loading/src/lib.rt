@@ -6,15 +6,21 @@
 
 mod checks;
 mod circle;
+mod comparing;
+mod difference;
 mod fault;
 mod given;
 mod groups;
 mod loading;
+mod nsec3_circle;
+mod nsec3_parameters;
 mod sets;
 mod warning;
 
-pub use circle::{Difference, NsecCircle, OpenCircle, closed_nsec_circle};
+pub use circle::{NsecCircle, OpenCircle, closed_nsec_circle};
+pub use difference::Difference;
 pub use fault::LoadFault;
 pub use given::{GivenRecord, RecordAt};
 pub use loading::{Loaded, load};
+pub use nsec3_circle::{Nsec3Circle, closed_nsec3_circle};
 pub use warning::LoadWarning;

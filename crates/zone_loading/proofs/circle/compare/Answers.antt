@@ -1,54 +1,52 @@
-use Rattle.std.proofs.Common.{◌≡◌, ℕ, sym, ap, ◌∙◌, inr}
-use Rattle.std.specs.Prelude.{Some, None}
+use Rattle.std.proofs.Common.{◌≡◌, ℕ, sym, ◌∙◌, subst, inl, inr, ◌⊎◌}
+use Rattle.std.specs.Prelude.{Option, None, Result, Ok, Err, IfErr, IsErrAnd}
 use Rattle.zone_proto.specs.Names.{Name}
-use Rattle.zone_map.specs.Zones.{set_at}
+use Rattle.zone_proto.specs.Types.{NSEC}
+use Rattle.zone_map.specs.Zones.{Sets, owners, set_at}
 use Rattle.zone_denial.specs.NsecSets.{nsec_set_at}
-use Rattle.zone_loading.specs.declared.circle.OpenCircle.TheVariants.{At}
-use Rattle.zone_loading.specs.Comparing.{first_by, lesser_of, missing_difference, standing_difference}
-use Rattle.zone_loading.specs.Circles.{nsec_difference}
-use Rattle.zone_loading.proofs.CircleLists.{told_names, circle_where_untold}
-use Rattle.zone_loading.proofs.CirclesCompared.{differs_at, same_before, all_same}
+use Rattle.zone_loading.specs.declared.circle.OpenCircle.{OpenCircle}
+use Rattle.zone_loading.specs.declared.circle.OpenCircle.TheVariants.{Memory}
+use Rattle.zone_loading.specs.declared.difference.Difference.{Difference}
+use Rattle.zone_loading.specs.Circles.{has_other_types, nsec_difference}
+use Rattle.zone_loading.specs.Comparing.{IsFirstDifference, difference_between, lists_between}
+use Rattle.zone_loading.proofs.CircleLists.{circle_where_untold, lists_same}
+use Rattle.zone_loading.proofs.CirclesCompared.{differences_same}
+use Rattle.zone_loading.proofs.SetsCompared.{filtered_same, first_by_same}
 use Rattle.zone_loading.proofs.circle.compare.Goals as goal
 
-pub returns-in-Some-clause-open : goal.returns-in-Some-clause-open
-returns-in-Some-clause-open c =
-    let origin : Name = c.args.origin.now in
-    let m = c.args.records.now in
-    let wanted = c.in_ok-wanted.wanted in
-    let made : (n : Name) (t : ℕ) → set_at wanted n t ≡ nsec_set_at origin m 0 0 n t = λ n t. c.in_ok-wanted.ensures.ok n t ∙ c.requires n t in
-    let found : lesser_of (first_by (standing_difference wanted) m) (first_by (missing_difference m) wanted) ≡ Some (c.in-Some.key.now, c.in-Some.difference) = sym c.in-Some.ensures.first in
-    inr (record {
-      name = c.in-Some.key.now.name;
-      difference = c.in-Some.difference;
-      told = ap (λ (n : Name). At n c.in-Some.difference) (c.from.ensures ∙ c.in_ok-clone-in-Some.ensures.copy.ok);
-      here = differs_at origin m wanted made c.first_difference.ensures.zone.ordered c.first_difference.ensures.wanted.ordered (c.in-Some.key.now, c.in-Some.difference) found;
-      before = same_before origin m wanted made c.first_difference.ensures.zone.ordered c.first_difference.ensures.wanted.ordered (c.in-Some.key.now, c.in-Some.difference) found;
-    })
+-- a refusal that is handed on is what it was
+handed_on : {T : Type 0} (r : Result T OpenCircle) (P : OpenCircle → Type 0) (e : OpenCircle) → IsErrAnd r (λ f. f ≡ e) → P e → IfErr r P
+handed_on (Ok x) P e h p = absurd h
+handed_on (Err f) P e h p = subst P (sym h) p
 
-pub returns-clause-closed : goal.returns-clause-closed
-returns-clause-closed c =
+first_or_memory : (f g : Name → Option Difference) → ((n : Name) → f n ≡ g n) → (e : OpenCircle) → (e ≡ Memory) ⊎ IsFirstDifference NSEC f e → (e ≡ Memory) ⊎ IsFirstDifference NSEC g e
+first_or_memory f g same e (inl h) = inl h
+first_or_memory f g same e (inr h) = inr (first_by_same NSEC f g same e h)
+
+pub returns-in_err-other_lists-clause-open : goal.returns-in_err-other_lists-clause-open
+returns-in_err-other_lists-clause-open c =
     let origin : Name = c.args.origin.now in
-    let m = c.args.records.now in
-    let wanted = c.in_ok-wanted.wanted in
+    let m : Sets = c.args.records.now in
+    let wanted : Sets = c.in_ok-wanted.wanted in
     let made : (n : Name) (t : ℕ) → set_at wanted n t ≡ nsec_set_at origin m 0 0 n t = λ n t. c.in_ok-wanted.ensures.ok n t ∙ c.requires n t in
-    all_same origin m wanted made c.first_difference.ensures.zone.ordered c.first_difference.ensures.wanted.ordered (sym c.in-None.ensures.first)
+    handed_on c.from_residual-in_err-other_lists.result (λ e. (e ≡ Memory) ⊎ IsFirstDifference NSEC (nsec_difference origin m) e) c.in_err-other_lists.field-0.0 c.from_residual-in_err-other_lists.ensures.1
+    (first_or_memory (difference_between NSEC m wanted) (nsec_difference origin m) (differences_same origin m wanted made) c.in_err-other_lists.field-0.0 c.in_err-other_lists.ensures.first)
 
 pub returns-clause-lists : goal.returns-clause-lists
 returns-clause-lists c =
     let origin : Name = c.args.origin.now in
-    let m = c.args.records.now in
-    let wanted = c.in_ok-wanted.wanted in
+    let m : Sets = c.args.records.now in
+    let wanted : Sets = c.in_ok-wanted.wanted in
     let made : (n : Name) (t : ℕ) → set_at wanted n t ≡ nsec_set_at origin m 0 0 n t = λ n t. c.in_ok-wanted.ensures.ok n t ∙ c.requires n t in
-    let closed : (n : Name) → nsec_difference origin m n ≡ None =
-    all_same origin m wanted made c.first_difference.ensures.zone.ordered c.first_difference.ensures.wanted.ordered (sym c.in-None.ensures.first) in
-    c.in_ok-other_lists-in-None.ensures.ok ∙ told_names origin m closed wanted made c.first_difference.ensures.zone.ordered
+    let closed : (n : Name) → nsec_difference origin m n ≡ None = λ n. sym (differences_same origin m wanted made n) ∙ c.in_ok-other_lists.ensures.same n in
+    c.in_ok-other_lists.ensures.lists
+    ∙ filtered_same (lists_between NSEC m wanted) (has_other_types origin m) (lists_same origin m closed wanted made) (owners m NSEC)
 
 pub returns-clause-circle : goal.returns-clause-circle
-returns-clause-circle c =
+returns-clause-circle c = λ zone low none.
     let origin : Name = c.args.origin.now in
-    let m = c.args.records.now in
-    let wanted = c.in_ok-wanted.wanted in
+    let m : Sets = c.args.records.now in
+    let wanted : Sets = c.in_ok-wanted.wanted in
     let made : (n : Name) (t : ℕ) → set_at wanted n t ≡ nsec_set_at origin m 0 0 n t = λ n t. c.in_ok-wanted.ensures.ok n t ∙ c.requires n t in
-    let closed : (n : Name) → nsec_difference origin m n ≡ None =
-    all_same origin m wanted made c.first_difference.ensures.zone.ordered c.first_difference.ensures.wanted.ordered (sym c.in-None.ensures.first) in
-    λ zone low none. circle_where_untold origin m closed wanted made zone low (sym c.in_ok-other_lists-in-None.ensures.ok ∙ none)
+    let closed : (n : Name) → nsec_difference origin m n ≡ None = λ n. sym (differences_same origin m wanted made n) ∙ c.in_ok-other_lists.ensures.same n in
+    circle_where_untold origin m closed zone low (sym (returns-clause-lists c) ∙ none)

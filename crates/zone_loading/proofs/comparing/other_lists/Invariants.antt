@@ -4,10 +4,10 @@ use Rattle.std.specs.List.{filter_map}
 use Rattle.zone_proto.specs.declared.rr_key.RrKey.{RrKey}
 use Rattle.zone_proto.specs.Sets.{RRset}
 use Rattle.zone_loading.specs.Comparing.{has_other_list}
-use Rattle.zone_loading.proofs.circle.other_lists.Given as goal
+use Rattle.zone_loading.proofs.comparing.other_lists.Given as goal
 
 -- the names so far, and those of the sets that are left, are all
 abbrev pub invariant-loop-key : goal.invariant-loop-key
 invariant-loop-key l =
-    l.names.items ++ filter_map (λ (e : RrKey × RRset). cond (has_other_list l.wanted e.0 e.1) (Some e.0.name) None) l.key-iterator
-    ≡ filter_map (λ (e : RrKey × RRset). cond (has_other_list l.wanted e.0 e.1) (Some e.0.name) None) l.records
+    l.names.items ++ filter_map (λ (e : RrKey × RRset). cond (has_other_list l.record_type.0 l.wanted e.0 e.1) (Some e.0.name) None) l.key-iterator
+    ≡ filter_map (λ (e : RrKey × RRset). cond (has_other_list l.record_type.0 l.wanted e.0 e.1) (Some e.0.name) None) l.records

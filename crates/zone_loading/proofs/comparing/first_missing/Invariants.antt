@@ -1,6 +1,6 @@
 use Rattle.std.proofs.Common.{◌≡◌}
 use Rattle.zone_loading.specs.Comparing.{first_by, missing_difference}
-use Rattle.zone_loading.proofs.circle.first_missing.Given as goal
+use Rattle.zone_loading.proofs.comparing.first_missing.Given as goal
 
 -- of the wanted sets that were passed none is missing
 abbrev pub invariant-loop-key : goal.invariant-loop-key
