@@ -8,7 +8,7 @@
  *  - An nk_zones is set to NK_ZONES_NONE before its first call, and from then on only the calls below write it. It isn't copied and used
  *    in both places: to move it, copy it and set the old one to NK_ZONES_NONE. What it points to is the library's alone.
  *  - An nk_zones is used by one call at a time, questions too: a call has the zones to itself while it lasts. It may go from one thread
- *    to another, by a lock, by a thread's start or end, or by an atomic exchange of the pointer to it. Several nk_zones are independent
+ *    to another: by a lock, by a thread's start or end, or by a sequentially consistent atomic. Several nk_zones are independent
  *    of one another: so a server with several threads or processes gives each an nk_zones of its own, and loads the zones into each; to
  *    renew them, another thread loads a new nk_zones meanwhile and hands it over. No call is made from a signal handler, nor in the
  *    child of a fork of a process with several threads.
