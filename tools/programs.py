@@ -10,6 +10,7 @@ import hashlib
 import os
 import shutil
 
+import library
 import sources
 
 # What a program is made of, in each of its crates. One that is compiled without proofs has nothing of specs and proofs.
@@ -21,9 +22,11 @@ class NoPlace(Exception):
 
 
 def checksum(name, kind):
-    """A checksum of what a program is made of: the lines of crates.txt and the files of its crates."""
+    """A checksum of what a program is made of: the lines of crates.txt and the files of its crates; and of a library its header."""
     listed = sources.crates()
     found = hashlib.sha256()
+    if name in sources.static_libraries():
+        found.update(sources.read(library.HEADER).encode())
     for crate in sources.standing_below(name, listed):
         found.update(f"{crate}: {' '.join(listed[crate])}\n".encode())
         for path in (it for part in PARTS[kind] for it in sources.files_below(f"crates/{crate}/{part}", "")):
@@ -70,19 +73,27 @@ def turn(name, kind, tell):
 
 
 def keep(made, folder, name, kind, made_of):
-    """Puts a program into such a folder, and gives its path. In the checkout it takes the place of those of earlier sources; the
+    """Puts a program, or the folder of a library, into such a folder, and gives its path. In the checkout it takes the place of those of earlier sources; the
     user's folder may serve several checkouts."""
     path, new = f"{folder}/{name}-{kind}-{made_of}", f"{folder}/{name}-{kind}.new"
     try:
-        shutil.copyfile(made, new)
-        os.chmod(new, 0o755)
+        if os.path.isdir(made):
+            remove(new)
+            shutil.copytree(made, new)
+        else:
+            shutil.copyfile(made, new)
+            os.chmod(new, 0o755)
         os.rename(new, path)
     except OSError as error:
-        with contextlib.suppress(OSError):
-            os.remove(new)
+        remove(new)
         raise NoPlace(f"the program can't be written to {folder}: {error.strerror}") from error
     for other in os.listdir(folder) if folder == folders()[0] else []:
         if other.startswith(f"{name}-{kind}-") and f"{folder}/{other}" != path:
-            with contextlib.suppress(OSError):
-                os.remove(f"{folder}/{other}")
+            remove(f"{folder}/{other}")
     return path
+
+
+def remove(path):
+    """Removes a file or a folder, if it is there."""
+    with contextlib.suppress(OSError):
+        shutil.rmtree(path) if os.path.isdir(path) else os.remove(path)

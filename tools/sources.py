@@ -22,10 +22,19 @@ def files_below(folder, *ends):
     return found
 
 
+def lines_of_crates():
+    """The lines of crates.txt: what stands before the colon, a name and perhaps `staticlib`, and what stands behind it."""
+    return [it.split(":") for it in read("crates.txt").split("\n") if it and not it.startswith("#")]
+
+
 def crates():
     """The crates of crates.txt in its order, each with what it stands on."""
-    lines = [it.split(":") for it in read("crates.txt").split("\n") if it and not it.startswith("#")]
-    return {name: below.split() for name, below in lines}
+    return {head.split()[0]: below.split() for head, below in lines_of_crates()}
+
+
+def static_libraries():
+    """The crates that are static libraries, for programs that aren't written in Rattle."""
+    return [head.split()[0] for head, _ in lines_of_crates() if "staticlib" in head.split()]
 
 
 def standing_below(name, listed):
@@ -81,7 +90,7 @@ def add_items(names, text, module):
             names.items.update(head)
         elif line.startswith("}"):
             owners = []
-        if it := re.match(r"(?:    )?(?:pub(?:\([\w:]+\))? )?(?:const )?fn (\w+)", line):
+        if it := re.match(r"(?:    )?(?:pub(?:\([\w:]+\))? )?(?:const )?(?:extern \"C\" )?fn (\w+)", line):
             function = [it[1]] + [f"{owner}::{it[1]}" for owner in owners + [module]]
             names.add_clauses(function, [])
         elif it := re.match(r" +ensures (\w+ )?\{", line):

@@ -7,10 +7,8 @@
 
 ghost use Rattle.std.specs.Prelude.{◌≤◌};
 
-mod static_signer;
 mod telling;
 mod wanted;
-mod zone;
 mod zones;
 
 use std::alloc::{AllocError, Global};
@@ -19,9 +17,9 @@ use std::process::ExitCode;
 use std::{env, io};
 use telling::tell;
 use wanted::{Wanted, wanted_by};
-use zone::Zone;
+use zone_catalog::{Zone, served};
 use zone_server::{Stop, serve_frames};
-use zones::{load_zones, served};
+use zones::load_zones;
 
 const USAGE: &[u8] = b"usage: zoned [--check] [--limits] FILE.. | ORIGIN=FILE..\n";
 

@@ -2,18 +2,15 @@
 ghost use Rattle.std.specs.Prelude.{IfSome};
 ghost use Rattle.zone_map.specs.Zones.{IsZone};
 
-use crate::static_signer::StaticSigner;
 use crate::telling::{tell, tell_at};
 use crate::wanted::{Wanted, WantedZone};
-use crate::zone::{Zone, load_records, zone_of, zone_origin};
-use std::alloc::{AllocError, Global};
+use std::alloc::Global;
 use std::fs;
 use std::io::{Read, Write};
+use zone_catalog::{Zone, load_records, zone_of};
 use zone_file::{FaultText, InputError, PlacedRecord, read_zone};
 use zone_loading::{LoadFault, Loaded};
-use zone_program::Sha1Hash;
-use zone_proto::{Name, ProtoError};
-use zone_response::ServedZone;
+use zone_proto::{Name, ProtoError, RecordType};
 
 /// Loads the zones that are wanted. None where one can't be loaded; why is told.
 pub fn load_zones<E: Write>(
@@ -126,19 +123,19 @@ fn loaded_of<E: Write>(
     }
 }
 
-/// The zones as they are served.
-pub fn served(
+/// The origin of a zone: the one that is named, or else the owner of the first SOA of the file, or the root.
+fn zone_origin(
     alloc: Global,
-    zones: &[Zone],
-) -> Result<Vec<ServedZone<'_, StaticSigner, Sha1Hash>>, AllocError> {
-    let mut served = Vec::with_capacity(alloc, zones.len())?;
-    for zone in zones {
-        served.push(ServedZone {
-            origin: &zone.origin,
-            inner: &zone.inner,
-            nx_proof_kind: zone.nx_proof_kind.as_ref(),
-            hash: &Sha1Hash,
-        })?;
+    named: &Option<Name>,
+    records: &[PlacedRecord],
+) -> Result<Name, ProtoError> {
+    if let Some(origin) = named {
+        return origin.clone();
     }
-    Ok(served)
+    for placed in records {
+        if placed.given.record_type() == RecordType::SOA {
+            return placed.given.name.clone();
+        }
+    }
+    Ok(Name::root(alloc))
 }

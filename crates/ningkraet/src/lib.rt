@@ -1,0 +1,115 @@
+//! The zones of a server for programs that aren't written in Rattle: what `include/ningkraet.h` declares, each by one call of
+//! `zone_catalog`. C passes no allocator; a slice is a pointer and a length to it, and a `&mut` a pointer.
+#![tactic(auto)]
+
+ghost use Rattle.std.specs.Prelude.{◌≡◌, None};
+ghost use Rattle.zone_catalog.specs.Calls.{transport_of, AnswersHeld, AsksHeld, ChangesHeld, IsAdded, IsCreated, IsDropped, IsLoaded, IsSerial, IsTold};
+ghost use Rattle.zone_catalog.specs.Outcomes.{code_of, Codes};
+
+use std::alloc::Global;
+use zone_catalog::{Handle, calls};
+
+/// The number of the interface. It grows where a call or a code changes or goes.
+#[unsafe(no_mangle)]
+pub extern "C" fn nk_interface() -> u32
+    ensures { result ≡ 1 }
+{
+    1
+}
+
+/// Makes a catalog without zones in the place of what is kept.
+#[unsafe(no_mangle)]
+pub extern "C" fn nk_zones_new(alloc: Global, zones: &mut Handle) -> u32
+    ensures { Codes result (λ o. IsCreated zones.old.held o zones.new.held) }
+{
+    calls::create(alloc, zones).code()
+}
+
+/// Gives the memory of what is kept back. Nothing is kept then.
+#[unsafe(no_mangle)]
+pub extern "C" fn nk_zones_free(alloc: Global, zones: &mut Handle)
+    ensures { zones.new.held ≡ None }
+{
+    calls::free(alloc, zones)
+}
+
+/// Puts the zone that a text makes in the place of the one of its origin, or behind the others, and writes what is told of the text
+/// into the room.
+#[unsafe(no_mangle)]
+pub extern "C" fn nk_zones_load(
+    alloc: Global,
+    zones: &mut Handle,
+    origin: &[u8],
+    text: &[u8],
+    room: &mut [u8],
+    written: &mut usize,
+) -> u32
+    ensures { Codes result (λ o.
+        ChangesHeld (IsLoaded origin.now text.now) zones.old.held o zones.new.held
+        × IsTold o written.new room.old room.new) }
+{
+    calls::load(alloc, zones, origin, text, room, written).code()
+}
+
+/// Puts the zone that a text makes behind the others, unless there is one of its origin, and writes what is told of the text into
+/// the room.
+#[unsafe(no_mangle)]
+pub extern "C" fn nk_zones_add(
+    alloc: Global,
+    zones: &mut Handle,
+    origin: &[u8],
+    text: &[u8],
+    room: &mut [u8],
+    written: &mut usize,
+) -> u32
+    ensures { Codes result (λ o.
+        ChangesHeld (IsAdded origin.now text.now) zones.old.held o zones.new.held
+        × IsTold o written.new room.old room.new) }
+{
+    calls::add(alloc, zones, origin, text, room, written).code()
+}
+
+/// Takes the zone of an origin out.
+#[unsafe(no_mangle)]
+pub extern "C" fn nk_zones_drop(alloc: Global, zones: &mut Handle, origin: &[u8]) -> u32
+    ensures { Codes result (λ o.
+        ChangesHeld (IsDropped origin.now) zones.old.held o zones.new.held) }
+{
+    calls::remove(alloc, zones, origin).code()
+}
+
+/// Writes the serial of the zone of an origin.
+#[unsafe(no_mangle)]
+pub extern "C" fn nk_zones_serial(
+    alloc: Global,
+    zones: &mut Handle,
+    origin: &[u8],
+    serial: &mut u32,
+) -> u32
+    ensures serial { Codes result (λ o.
+        AsksHeld (IsSerial origin.now serial.old serial.new) (serial.new ≡ serial.old)
+        zones.old.held o) }
+    ensures same { zones.new.held ≡ zones.old.held }
+{
+    calls::serial(alloc, zones, origin, serial).code()
+}
+
+/// Answers a message from the zones, and writes the response into the room. No zone is signed here, so nothing depends on the moment.
+#[unsafe(no_mangle)]
+pub extern "C" fn nk_zones_answer(
+    alloc: Global,
+    zones: &mut Handle,
+    _now: u64,
+    query: &[u8],
+    limit: usize,
+    transport: u32,
+    room: &mut [u8],
+    written: &mut usize,
+) -> u32
+    ensures answer { Codes result (λ o.
+        AnswersHeld (transport_of limit transport) query.now zones.old.held o written.new
+        room.old room.new) }
+    ensures same { zones.new.held ≡ zones.old.held }
+{
+    calls::answer(alloc, zones, query, limit, transport, room, written).code()
+}

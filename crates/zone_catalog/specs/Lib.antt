@@ -1,0 +1,8 @@
+pub mod Calls
+pub mod Catalogs
+pub mod Denials
+pub mod Digests
+pub mod Holding
+pub mod Outcomes
+pub mod Texts
+pub mod Zones

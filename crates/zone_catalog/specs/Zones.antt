@@ -1,0 +1,24 @@
+-- A zone that is served
+use Rattle.std.specs.Prelude.{◌≡◌, List, [], map}
+use Rattle.zone_proto.specs.Names.{Name}
+use Rattle.zone_map.specs.Zones.{Sets}
+use Rattle.zone_response.specs.declared.question.ServedZone.{ServedZone}
+use Rattle.zone_response.specs.Queries.{zone_of}
+use Rattle.zone_response.specs.Queries as queries
+use Rattle.zone_catalog.specs.declared.sha1_hash.Sha1Hash.{Sha1Hash}
+use Rattle.zone_catalog.specs.declared.static_signer.StaticSigner.{StaticSigner}
+use Rattle.zone_catalog.specs.declared.zone.Zone.{Zone}
+use Rattle.zone_catalog.specs.Denials.{denial_kind}
+use Rattle.zone_catalog.specs.Digests.{name_digest}
+
+-- a zone as a query finds it
+abbrev pub served_zone : Zone → queries.Zone
+served_zone z = record { origin = z.origin; sets = z.inner.records; nx_proof_kind = z.nx_proof_kind; digest_of = name_digest }
+
+-- zones as they are asked
+abbrev pub IsServed : List Zone → List (ServedZone StaticSigner Sha1Hash) → Type 0
+IsServed zs served = map (zone_of (λ h. name_digest)) served ≡ map served_zone zs
+
+-- the zone of an origin with these sets, which nobody signs here
+abbrev pub zone_of_records : Name → Sets → Zone
+zone_of_records origin sets = record { origin = origin; inner = record { records = sets; signers = [] }; nx_proof_kind = denial_kind sets origin }

@@ -1,0 +1,84 @@
+"""The folder of a static library as C programs use it: archive, heap object, header and pkg-config file, and where cc is there a shared
+object beside them. It has all that a program needs to be linked; no part of the toolchain does so then."""
+
+import os
+import re
+import shutil
+import subprocess
+
+import sources
+
+HEADER = "include/ningkraet.h"
+
+# Compiled for the toolchain's heap: malloc, realloc and free by the names that the library calls. It is all of this archive.
+HEAP = "c/liblibc_c.a"
+ARCHIVER = "toolchain/bin/llvm-ar"
+
+PKG_CONFIG = """prefix=${{pcfiledir}}/../..
+libdir=${{prefix}}/lib
+includedir=${{prefix}}/include
+
+Name: {name}
+Description: authoritative DNS zones in memory
+Version: {interface}
+Cflags: -I${{includedir}}
+Libs: -L${{libdir}} -l{name} -l{name}_heap
+"""
+
+
+def installed(name, archive, kit, room):
+    """Makes the folder in room, and gives its path."""
+    folder = f"{room}/{name}"
+    for part in ("lib/pkgconfig", "include"):
+        os.makedirs(f"{folder}/{part}")
+    shutil.copyfile(archive, f"{folder}/lib/lib{name}.a")
+    shutil.copyfile(f"{kit}/{HEAP}", f"{folder}/lib/lib{name}_heap.a")
+    shutil.copyfile(f"{sources.TOP}/{HEADER}", f"{folder}/include/{os.path.basename(HEADER)}")
+    interface = re.search(r"^#define NK_INTERFACE (\d+)$", sources.read(HEADER), re.M).group(1)
+    with open(f"{folder}/lib/pkgconfig/{name}.pc", "w", encoding="utf-8") as it:
+        it.write(PKG_CONFIG.format(name=name, interface=interface))
+    if shutil.which("cc"):
+        # (not in lib/, where the linker would take it in the place of the archive)
+        whole = ["-Wl,--whole-archive", f"{folder}/lib/lib{name}.a", f"{folder}/lib/lib{name}_heap.a", "-Wl,--no-whole-archive"]
+        subprocess.run(["cc", "-shared", "-o", f"{folder}/lib{name}.so", *whole], check=False)
+    return folder
+
+
+# ---- a library that is compiled without proofs
+
+# What a parameter of an export is handed by the program that calls each export once, so that none is left out.
+WORDS = {
+    "Global": "alloc",
+    "&mut Handle": "&mut zones",
+    "&[u8]": "&text",
+    "&mut [u8]": "&mut room",
+    "&mut usize": "&mut written",
+    "&mut u32": "&mut serial",
+}
+
+PROGRAM = """
+fn main(rt: HostRuntime) -> std::process::ExitCode {{
+    let alloc = rt.alloc();
+    let mut zones = Handle::empty(alloc);
+    let (text, mut room, mut written, mut serial) = ([0u8; 8], [0u8; 8], 0usize, 0u32);
+    let mut code = 0u32;
+{calls}    std::process::ExitCode::from(code.min(9) as u8)
+}}
+"""
+
+
+def as_program(name):
+    """The source of a static library as that of a program that calls each of its exports."""
+    text, calls = sources.read(f"crates/{name}/src/lib.rt"), ""
+    for export, parameters, result in re.findall(r'extern "C" fn (\w+)\(([^)]*)\)( -> u32)?', text):
+        kinds = [it.split(":", 1)[1].strip() for it in parameters.split(",") if it.strip()]
+        call = f"{export}({', '.join(WORDS.get(it, '0') for it in kinds)})"
+        calls += f"    code = code.max({call});\n" if result else f"    {call};\n"
+    return text + PROGRAM.format(calls=calls)
+
+
+def with_exports(name, module):
+    """The text of a program's module with the library's exports under their names in C, and without a main."""
+    module = re.sub(rf'^define internal (.*@)"{name}::(nk_\w+)"', r"define \1\2", module, flags=re.M)
+    module = re.sub(rf'@"{name}::(nk_\w+)"', r"@\1", module)
+    return re.sub(r"^define (\w+ @)main\(", r"define internal \1nk_unused(", module, flags=re.M)

@@ -1,0 +1,181 @@
+#!/usr/bin/env python3
+"""tools/library_test.py [FOLDER]: tries the library for C from C, and the server over it with clients that are slow, rude or many. FOLDER is
+what `tools/build ningkraet` made; where none is named it is what `tools/program path ningkraet` gives. No part of the gate: it needs cc,
+opens sockets on loopback, and leaves out, and says so, what a machine without valgrind can't do. It ends what it starts."""
+import os
+import shutil
+import signal
+import socket
+import struct
+import subprocess
+import sys
+import tempfile
+import time
+
+TOP = os.path.dirname(os.path.dirname(os.path.realpath(__file__)))
+DATAGRAMS, UNDER_VALGRIND = 1_000_000, 20_000
+PORT = 5390
+# A query for the SOA of example.com, and one without an answer: it is itself a response.
+QUERY = bytes.fromhex("1234 0100 0001 0000 0000 0000 07") + b"example\3com" + bytes.fromhex("00 0006 0001")
+RESPONSE = QUERY[:2] + b"\x81" + QUERY[3:]
+
+
+def framed(message):
+    return struct.pack("!H", len(message)) + message
+
+
+def received(stream):
+    """The next message of a stream; empty at its end."""
+    octets = b""
+    while len(octets) < 2 or len(octets) < 2 + struct.unpack("!H", octets[:2])[0]:
+        more = stream.recv(2 + struct.unpack("!H", octets[:2])[0] - len(octets) if len(octets) >= 2 else 2 - len(octets))
+        if not more:
+            return b""
+        octets += more
+    return octets[2:]
+
+
+def connected(family=socket.AF_INET):
+    stream = socket.socket(family, socket.SOCK_STREAM)
+    stream.settimeout(5)
+    stream.connect(("::1" if family == socket.AF_INET6 else "127.0.0.1", PORT))
+    return stream
+
+
+def is_answer(message):
+    return message[:2] == QUERY[:2] and len(message) > len(QUERY) and message[3] & 15 == 0 and message[7] == 1
+
+
+def datagrams_are_answered():
+    for family, host in ((socket.AF_INET, "127.0.0.1"), (socket.AF_INET6, "::1")):
+        with socket.socket(family, socket.SOCK_DGRAM) as it:
+            it.settimeout(5)
+            for octets in (b"", b"x" * 3000, RESPONSE, QUERY):
+                it.sendto(octets, (host, PORT))
+            found = [it.recv(4096) for _ in range(2)]
+            assert is_answer(found[-1]), found
+
+
+def queries_of_one_write_are_answered():
+    for family in (socket.AF_INET, socket.AF_INET6):
+        with connected(family) as it:
+            it.sendall(framed(QUERY) + framed(RESPONSE) + framed(QUERY)[:9])
+            assert is_answer(received(it))
+            it.sendall(framed(QUERY)[9:] + framed(QUERY) * 500)
+            assert all(is_answer(received(it)) for _ in range(501))
+
+
+def half_closed_connections_are_answered():
+    with connected() as it:
+        it.sendall(framed(QUERY) * 3)
+        it.shutdown(socket.SHUT_WR)
+        assert all(is_answer(received(it)) for _ in range(3)) and received(it) == b""
+
+
+def others_dont_wait_for_one_octet_a_second():
+    with connected() as slow:
+        for octet in framed(QUERY)[:3]:
+            slow.sendall(bytes([octet]))
+            began = time.monotonic()
+            datagrams_are_answered()
+            queries_of_one_write_are_answered()
+            time.sleep(max(0, 1 - (time.monotonic() - began)))
+        slow.sendall(framed(QUERY)[3:])
+        assert is_answer(received(slow))
+
+
+def a_client_that_does_not_read_is_bounded(front):
+    with connected() as it:
+        it.setblocking(False)
+        try:
+            for _ in range(4000):
+                it.send(framed(QUERY) * 1000)
+        except BlockingIOError:
+            pass
+        time.sleep(1)
+        datagrams_are_answered()
+        with open(f"/proc/{front.pid}/statm", encoding="ascii") as held:
+            pages = int(held.read().split()[1])
+        assert pages * os.sysconf("SC_PAGESIZE") < 20_000_000, pages
+
+
+def a_thousand_connections_are_served():
+    streams = [connected() for _ in range(1000)]
+    for it in streams:
+        it.sendall(framed(QUERY))
+    assert all(is_answer(received(it)) for it in streams)
+    # More than there may be: the first, which have asked nothing for longest, give way.
+    more = [connected() for _ in range(100)]
+    for it in more:
+        it.sendall(framed(QUERY))
+    assert all(is_answer(received(it)) for it in more)
+    for it in streams + more:
+        it.close()
+
+
+def a_changed_file_is_served(front, file):
+    with open(file, encoding="utf-8") as it:
+        text = it.read()
+    for changed, serial in ((text.replace("192.0.2.80", "192.0.2"), 1), (text.replace(" 1 ", " 2 ", 1), 2)):
+        with open(file, "w", encoding="utf-8") as it:
+            it.write(changed)
+        front.send_signal(signal.SIGHUP)
+        time.sleep(0.5)
+        with connected() as it:
+            it.sendall(framed(QUERY))
+            found = received(it)
+        assert struct.unpack("!I", found[-20:-16])[0] == serial, found
+
+
+def tried(what, test, *words):
+    test(*words)
+    print(f"library_test: {what.__name__ if callable(what) else what}: ok", flush=True)
+
+
+def try_front(folder, room):
+    file = f"{room}/example.zone"
+    shutil.copyfile(f"{TOP}/examples/example.zone", file)
+    subprocess.run(["cc", "-O2", "-o", f"{room}/front", f"{TOP}/examples/serving/front.c", *words_of(folder)], check=True)
+    front = subprocess.Popen([f"{room}/front", str(PORT), f"example.com.={file}"], stderr=subprocess.PIPE)
+    try:
+        assert b"listening" in front.stderr.readline()
+        for test in (datagrams_are_answered, queries_of_one_write_are_answered, half_closed_connections_are_answered):
+            tried(test, test)
+        tried("others_dont_wait", others_dont_wait_for_one_octet_a_second)
+        tried("a_slow_reader_is_bounded", a_client_that_does_not_read_is_bounded, front)
+        tried("a_thousand_connections", a_thousand_connections_are_served)
+        tried("a_changed_file_is_served", a_changed_file_is_served, front, file)
+        front.terminate()
+        assert front.wait(5) == 0
+        print("library_test: SIGTERM ends it: ok")
+    finally:
+        front.kill()
+        front.wait()
+
+
+def words_of(folder):
+    return [f"-I{folder}/include", f"-L{folder}/lib", "-lningkraet", "-lningkraet_heap"]
+
+
+def main(words):
+    folder = words[0] if words else subprocess.run([f"{TOP}/tools/program", "path", "ningkraet"], stdout=subprocess.PIPE, text=True).stdout.strip()
+    if not shutil.which("cc") or not folder:
+        sys.exit("library_test: cc, or the library, isn't there")
+    with tempfile.TemporaryDirectory(prefix="library-") as room:
+        wrapped = ["-Wl,--wrap=malloc,--wrap=realloc"]
+        for name, flags in (("plain", []), ("checked", ["-fsanitize=address,undefined"])):
+            made = ["cc", "-g", *flags, "-o", f"{room}/{name}", f"{TOP}/tools/library_test.c", *words_of(folder), *(wrapped if not flags else [])]
+            if flags:
+                made.append("-DNOT_WRAPPED")
+            subprocess.run(made, check=True)
+            subprocess.run([f"{room}/{name}", str(DATAGRAMS)], check=True)
+        if shutil.which("valgrind"):
+            subprocess.run(["valgrind", "-q", "--error-exitcode=9", "--leak-check=full", f"{room}/plain", str(UNDER_VALGRIND)], check=True)
+        else:
+            print("library_test: left out: valgrind isn't there")
+        try_front(folder, room)
+    return 0
+
+
+if __name__ == "__main__":
+    sys.exit(main(sys.argv[1:]))
