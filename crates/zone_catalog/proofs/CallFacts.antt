@@ -1,6 +1,6 @@
 -- What the calls of a program do to the zones that it keeps, from what is done to a catalog
 use Rattle.std.proofs.Common.{◌≡◌, ◌⊎◌, true≢false, inl, inr, Ok, Err, Result, refl, sym, subst}
-use Rattle.std.specs.Prelude.{Option, Some, None, List, IsErr}
+use Rattle.std.specs.Prelude.{Option, Some, List, IsErr}
 use Rattle.zone_proto.specs.declared.error.ProtoError.{ProtoError}
 use Rattle.zone_proto.specs.Names.{Name}
 use Rattle.zone_catalog.specs.declared.catalog.Catalog.{Catalog}
