@@ -276,6 +276,7 @@ policy:
   - id: here
     single-type-signing: on
     nsec3: {nsec3}
+    nsec3-opt-out: {opt_out}
 zone:
   - domain: {origin}
     storage: "{folder}"
@@ -286,9 +287,9 @@ zone:
 """
 
 
-def signed_by_knot(path, folder, nsec3):
+def signed_by_knot(path, folder, nsec3, opt_out="off"):
     room = tempfile.mkdtemp(dir=folder)
-    write(f"{room}/conf", KNOT.format(folder=room, nsec3=nsec3, origin=ORIGIN, file=os.path.basename(path)))
+    write(f"{room}/conf", KNOT.format(folder=room, nsec3=nsec3, opt_out=opt_out, origin=ORIGIN, file=os.path.basename(path)))
     shutil.copyfile(path, f"{room}/{os.path.basename(path)}")
     os.mkdir(f"{room}/out")
     done("kzonesign", "-c", f"{room}/conf", "-o", f"{room}/out", ORIGIN)
@@ -301,20 +302,36 @@ SIGNERS = [
     ("dnssec-signzone with opt-out", ["dnssec-keygen", "dnssec-signzone"], signed_by_bind, ["-3", "-", "-A"]),
     ("ldns-signzone with NSEC", ["ldns-keygen", "ldns-signzone"], signed_by_ldns, []),
     ("ldns-signzone with NSEC3", ["ldns-keygen", "ldns-signzone"], signed_by_ldns, ["-n", "-s", "aabb"]),
+    ("ldns-signzone with opt-out", ["ldns-keygen", "ldns-signzone"], signed_by_ldns, ["-n", "-p"]),
     ("kzonesign with NSEC", ["kzonesign"], signed_by_knot, ["off"]),
     ("kzonesign with NSEC3", ["kzonesign"], signed_by_knot, ["on"]),
+    ("kzonesign with opt-out", ["kzonesign"], signed_by_knot, ["on", "on"]),
 ]
 # What a tool can't read, though the others can.
 UNREAD = {("the written zone", "ldns-signzone"): "text with the octet 0"}
 
+# Signers whose circle isn't the one of the zone's names, and why.
+OTHER_CIRCLE = {"ldns-signzone with opt-out": "its unsigned delegations have NSEC3 records"}
+
 
 def compare_signed(program, path, folder, what, name, sign, flags):
-    """Compares a zone as one of the tools signs it."""
-    tool = name.split(" ")[0]
+    """Compares a zone as one of the tools signs it, and looks whether its circle is found closed."""
+    tool, _, denial = name.split(" ")
     if reason := UNREAD.get((what, tool)):
         print(f"{what}: {tool} doesn't read {reason}")
-    else:
-        compare(program, sign(path, folder, *flags), f"{what}, signed by {name}")
+        return
+    signed = sign(path, folder, *flags)
+    compare(program, signed, f"{what}, signed by {name}")
+    status, out, err = run(program, signed, ORIGIN)
+    if reason := OTHER_CIRCLE.get(name):
+        if status != 1 or " is of a name that has none" not in err:
+            raise Failed(f"{what}, signed by {name}: status {status}, though {reason}: {out}{err}")
+        print(f"{what}, signed by {name}: {reason}")
+        return
+    if status or not out.endswith(f", a closed circle of {'NSEC' if denial == 'NSEC' else 'NSEC3'}\n"):
+        raise Failed(f"{what}, signed by {name}: {out}{err}")
+    lists = [it for it in err.splitlines() if "the list of types of" in it]
+    print(f"{what}, signed by {name}: a closed circle, with {len(lists)} lists of types that are another")
 
 
 # ---- files with a fault

@@ -2,6 +2,8 @@
 #![tactic(auto)]
 
 mod checking;
+mod denial;
+mod sha1_hash;
 mod telling;
 mod wanted;
 mod zone;

@@ -1,26 +1,21 @@
 //! The zone that the records of a file make, and what is told of it.
-ghost use Rattle.std.specs.Prelude.{◌≡◌, ◌≤◌, [], map, Some, None, IfOk, IsOkUnless, option_copied};
+ghost use Rattle.std.specs.Prelude.{◌≡◌, ◌≤◌, map, IfOk, IsOkUnless, option_copied};
 ghost use Rattle.std.specs.List.{find};
-ghost use Rattle.zone_proto.specs.Names.{Name as NameLabels};
-ghost use Rattle.zone_proto.specs.Types.{NSEC as nsec_type, NSEC3 as nsec3_type};
-ghost use Rattle.zone_map.specs.Zones.{owners};
-ghost use Rattle.zone_loading.specs.Circles.{nsec_difference};
 ghost use Rattle.zone_check.specs.Zones.{given_of, is_soa, origin_of};
 
+use crate::denial::{Denial, tell_denial};
 use crate::telling::{Warning, tell, tell_at};
 use crate::wanted::Wanted;
 use std::alloc::{AllocError, Global};
 use std::io::Write;
 use std::{fmt, io};
 use zone_file::PlacedRecord;
-use zone_loading::{
-    GivenRecord, LoadFault, Loaded, NsecCircle, OpenCircle, closed_nsec_circle, load,
-};
+use zone_loading::{GivenRecord, LoadFault, Loaded, load};
 use zone_map::RecordMap;
 use zone_proto::{LowerName, Name, ProtoError, RecordType};
 
-/// Makes the zone of the records, and gives the status of the program: 0 where one is made, and its NSEC sets, if it has any, are a
-/// closed circle; 1 where that isn't so, and 2 where it can't be told. Warnings don't change it.
+/// Makes the zone of the records, and gives the status of the program: 0 where one is made, and its NSEC sets, or else its NSEC3
+/// sets, if it has any, are a closed circle; 1 where that isn't so, and 2 where it can't be told. Warnings don't change it.
 pub fn check_zone<W: Write, E: Write>(
     alloc: Global,
     wanted: &Wanted<'_>,
@@ -114,78 +109,8 @@ fn tell_loaded<W: Write, E: Write>(
         denial,
     };
     match write_summary(output, file, &summary) {
-        Ok(()) => status_of(denial),
+        Ok(()) => denial.status(),
         Err(_) => tell(fault, b"write failed\n"),
-    }
-}
-
-/// The status for a zone that denies so.
-fn status_of(denial: Denial) -> u8
-    ensures { result ≤ 1 }
-{
-    match denial {
-        Denial::Open => 1,
-        Denial::Nothing | Denial::Circle | Denial::Nsec3 => 0,
-    }
-}
-
-/// Tells what is wrong with the sets of denial of a zone, and gives by what it denies; none where no memory is found.
-fn tell_denial<E: Write>(file: &str, loaded: &Loaded, fault: &mut E) -> Option<Denial>
-    ensures nothing { result ≡ Some Denial.Nothing
-        → (owners loaded.now.records nsec_type ≡ []) × (owners loaded.now.records nsec3_type ≡ []) }
-    ensures circle { result ≡ Some Denial.Circle
-        → (n : NameLabels)
-        → nsec_difference loaded.now.origin loaded.now.records n ≡ None }
-{
-    if !loaded.records.is_without(RecordType::NSEC) {
-        return tell_circle(file, loaded, fault);
-    }
-    Some(if loaded.records.is_without(RecordType::NSEC3) {
-        Denial::Nothing
-    } else {
-        Denial::Nsec3
-    })
-}
-
-/// Tells how the NSEC sets of a zone differ from the circle of its names, and gives whether they are one; none where no memory is
-/// found.
-fn tell_circle<E: Write>(file: &str, loaded: &Loaded, fault: &mut E) -> Option<Denial>
-    ensures nothing { ¬ (result ≡ Some Denial.Nothing) }
-    ensures circle { result ≡ Some Denial.Circle
-        → (n : NameLabels)
-        → nsec_difference loaded.now.origin loaded.now.records n ≡ None }
-{
-    match closed_nsec_circle(&loaded.records, &loaded.origin) {
-        Ok(circle) => {
-            warn_of_lists(file, &circle, fault);
-            Some(Denial::Circle)
-        }
-        Err(OpenCircle::Memory) => None,
-        Err(open) => {
-            tell_at(fault, file, None, &open);
-            Some(Denial::Open)
-        }
-    }
-}
-
-/// Warns of each name whose list of types isn't that of the circle.
-fn warn_of_lists<E: Write>(file: &str, circle: &NsecCircle, fault: &mut E) {
-    for owner in circle.other_lists.iter() {
-        tell_at(fault, file, None, &Warning(&OtherList(owner)));
-    }
-}
-
-/// A list of types that isn't that of the circle.
-#[derive(Drop)]
-struct OtherList<'o>(&'o Name);
-
-impl fmt::Display for OtherList<'_> {
-    fn fmt<W: fmt::Write>(&self, f: &mut fmt::Formatter<W>) -> fmt::Result {
-        write!(
-            f,
-            "the list of types of {} isn't that of its circle",
-            self.0
-        )
     }
 }
 
@@ -200,30 +125,6 @@ fn count_of_names(records: &RecordMap) -> usize {
         last = Some(&key.name);
     }
     count
-}
-
-/// What a zone denies by.
-#[derive(Clone, Copy)]
-enum Denial {
-    /// Nothing: it has no sets of denial.
-    Nothing,
-    /// NSEC sets that are a closed circle (RFC 4034 section 4).
-    Circle,
-    /// NSEC sets that aren't.
-    Open,
-    /// NSEC3 sets (RFC 5155), and no NSEC set.
-    Nsec3,
-}
-
-impl fmt::Display for Denial {
-    fn fmt<W: fmt::Write>(&self, f: &mut fmt::Formatter<W>) -> fmt::Result {
-        f.write_str(match self {
-            Denial::Nothing => "no denials",
-            Denial::Circle => "a closed circle of NSEC",
-            Denial::Open => "denials that are no closed circle",
-            Denial::Nsec3 => "denials by NSEC3",
-        })
-    }
 }
 
 /// What a zone has.
