@@ -1,7 +1,7 @@
 //! Rows: texts, and how they are read.
 
 use crate::octets::octets_of;
-use crate::{entries, printed, words, zone};
+use crate::{entries, loading, printed, words, zone};
 use std::alloc::{AllocError, Global};
 
 /// What the rows of a file write.
@@ -17,6 +17,8 @@ pub enum Kind {
     Failing,
     /// An origin and a zone file, and its records as they are printed in the form of a zone file.
     Printed,
+    /// A call, an origin and a zone file, and the zone of its records.
+    Loading,
 }
 
 impl Kind {
@@ -27,6 +29,7 @@ impl Kind {
             "zones" => Kind::Zones,
             "failing" => Kind::Failing,
             "printed" => Kind::Printed,
+            "loading" => Kind::Loading,
             _ => Kind::Entries,
         }
     }
@@ -71,6 +74,7 @@ fn answer(alloc: Global, kind: Kind, row: &str) -> Result<String, AllocError> {
         Kind::Zones => zone::answer(alloc, row),
         Kind::Failing => zone::failing_answer(alloc, row),
         Kind::Printed => printed::answer(alloc, row),
+        Kind::Loading => loading::answer(alloc, row),
     }
 }
 

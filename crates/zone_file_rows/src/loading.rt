@@ -1,0 +1,164 @@
+//! What zones are made of the records of zone files, and whether their denials are closed circles.
+
+use crate::octets::octets_of;
+use crate::plain_hash::PlainHash;
+use crate::zone::{error_line, read};
+use scarce::Scarcity;
+use std::alloc::{AllocError, Global};
+use zone_file::PlacedRecord;
+use zone_loading::{
+    GivenRecord, LoadFault, Loaded, OpenCircle, closed_nsec_circle, closed_nsec3_circle, load,
+};
+use zone_proto::{DNSClass, Name, ProtoError, RecordType};
+
+/// How much more memory a call gets each time, in octets, and how often it is made at most.
+const STEP: usize = 48;
+
+const ROOMS: usize = 1_000;
+
+/// The class of CHAOS (RFC 1035 section 3.2.4).
+const CHAOS: DNSClass = DNSClass(3);
+
+/// The answer to a row, which is a call, an origin and a zone file: `load` tells how many sets the zone has that its records make,
+/// and its warnings, or why there is none; `chaos` the same once the last record is of that class; `scarce` and `circle` tell
+/// whether memory was refused, and then a zone was made, or its circle found closed.
+pub fn answer(alloc: Global, row: &str) -> Result<String, AllocError> {
+    let (call, rest) = row.split_once(' ').unwrap_or((row, ""));
+    let (origin, text) = rest.split_once(' ').unwrap_or((rest, ""));
+    let text = octets_of(alloc, text)?;
+    match read(alloc, origin, text.as_slice()) {
+        Ok(mut records) => {
+            if call == "chaos" {
+                if let Some(last) = records.last_mut() {
+                    last.given.dns_class = CHAOS;
+                }
+            }
+            call_answer(alloc, call, origin, records.as_slice())
+        }
+        Err(error) => error_line(alloc, &error),
+    }
+}
+
+/// What a call answers to these records.
+fn call_answer(
+    alloc: Global,
+    call: &str,
+    origin: &str,
+    records: &[PlacedRecord],
+) -> Result<String, AllocError> {
+    match call {
+        "scarce" => scarce_answer(alloc, origin, records),
+        "circle" => circle_answer(alloc, origin, records),
+        _ => load_answer(alloc, loaded(alloc, origin, records)),
+    }
+}
+
+/// The zone that copies of records make.
+fn loaded(alloc: Global, origin: &str, records: &[PlacedRecord]) -> Result<Loaded, LoadFault> {
+    let Ok(origin) = Name::parse(alloc, origin) else {
+        return Err(LoadFault::Memory);
+    };
+    load(alloc, origin, copies(alloc, records)?)
+}
+
+/// Copies of records, each with its place.
+fn copies(alloc: Global, records: &[PlacedRecord]) -> Result<Vec<GivenRecord>, ProtoError> {
+    let mut given = Vec::with_capacity(alloc, records.len())?;
+    for placed in records {
+        given.push(GivenRecord {
+            record: placed.given.clone()?,
+            place: Some(placed.place),
+        })?;
+    }
+    Ok(given)
+}
+
+/// How many sets a zone has, and its warnings; or why there is none.
+fn load_answer(alloc: Global, made: Result<Loaded, LoadFault>) -> Result<String, AllocError> {
+    match made {
+        Ok(loaded) => told_zone(alloc, &loaded),
+        Err(LoadFault::Memory) => Err(AllocError),
+        Err(fault) => format!(in alloc; "{fault}"),
+    }
+}
+
+fn told_zone(alloc: Global, loaded: &Loaded) -> Result<String, AllocError> {
+    let mut told = String::new(alloc);
+    write!(&mut told, "{} sets", loaded.records.len())?;
+    for warning in loaded.warnings.iter() {
+        write!(&mut told, " / {warning}")?;
+    }
+    Ok(told)
+}
+
+/// Whether memory was refused to the making of a zone, and then one was made.
+fn scarce_answer(
+    alloc: Global,
+    origin: &str,
+    records: &[PlacedRecord],
+) -> Result<String, AllocError> {
+    let mut scarce = Scarcity::new(alloc)?;
+    scarce.begin(ROOMS)?;
+    let given = scarce.until_given(STEP, || is_loaded(alloc, origin, records));
+    scarce.end();
+    told_refusals(alloc, given, "loaded")
+}
+
+/// Whether a zone is made; none where memory was refused.
+fn is_loaded(alloc: Global, origin: &str, records: &[PlacedRecord]) -> Option<bool> {
+    match loaded(alloc, origin, records) {
+        Ok(_) => Some(true),
+        Err(LoadFault::Memory) => None,
+        Err(_) => Some(false),
+    }
+}
+
+/// Whether memory was refused to the search for a closed circle in the zone of records, and then it was found.
+fn circle_answer(
+    alloc: Global,
+    origin: &str,
+    records: &[PlacedRecord],
+) -> Result<String, AllocError> {
+    match loaded(alloc, origin, records) {
+        Ok(loaded) => circle_refusals(alloc, &loaded),
+        Err(_) => format!(in alloc; "no zone"),
+    }
+}
+
+fn circle_refusals(alloc: Global, loaded: &Loaded) -> Result<String, AllocError> {
+    let mut scarce = Scarcity::new(alloc)?;
+    scarce.begin(ROOMS)?;
+    let given = scarce.until_given(STEP, || is_closed(loaded));
+    scarce.end();
+    told_refusals(alloc, given, "closed")
+}
+
+/// Whether the denials of a zone are a closed circle; none where memory was refused.
+fn is_closed(loaded: &Loaded) -> Option<bool> {
+    if loaded.records.is_without(RecordType::NSEC) {
+        return match closed_nsec3_circle(&loaded.records, &loaded.origin, &PlainHash) {
+            Ok(_) => Some(true),
+            Err(OpenCircle::Memory) => None,
+            Err(_) => Some(false),
+        };
+    }
+    match closed_nsec_circle(&loaded.records, &loaded.origin) {
+        Ok(_) => Some(true),
+        Err(OpenCircle::Memory) => None,
+        Err(_) => Some(false),
+    }
+}
+
+/// What is told of a call to which memory was refused so often, and which then succeeded or not.
+fn told_refusals(
+    alloc: Global,
+    given: Option<(usize, bool)>,
+    done: &str,
+) -> Result<String, AllocError> {
+    match given {
+        None => format!(in alloc; "refused"),
+        Some((0, _)) => format!(in alloc; "never refused"),
+        Some((_, true)) => format!(in alloc; "refused, then {done}"),
+        Some((_, false)) => format!(in alloc; "refused, then not {done}"),
+    }
+}
