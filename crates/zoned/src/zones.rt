@@ -10,6 +10,7 @@ use std::alloc::{AllocError, Global};
 use std::fs;
 use std::io::{Read, Write};
 use zone_file::{FaultText, InputError, PlacedRecord, read_zone};
+use zone_handler::AxfrPolicy;
 use zone_loading::{LoadFault, Loaded};
 use zone_program::Sha1Hash;
 use zone_proto::{Name, ProtoError};
@@ -141,4 +142,17 @@ pub fn served(
         })?;
     }
     Ok(served)
+}
+
+/// The same policy for each of the zones.
+pub fn policies(
+    alloc: Global,
+    zones: &[Zone],
+    policy: AxfrPolicy,
+) -> Result<Vec<AxfrPolicy>, AllocError> {
+    let mut policies = Vec::with_capacity(alloc, zones.len())?;
+    for _ in zones {
+        policies.push(policy)?;
+    }
+    Ok(policies)
 }
