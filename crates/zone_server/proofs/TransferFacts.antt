@@ -1,21 +1,16 @@
 -- Messages of a transfer one behind the other, and sets in pieces
-use Rattle.std.proofs.Common.{◌≡◌, ◌⊎◌, inl, inr, ℕ, ◌+◌, ◌≤◌, ◌<◌, List, [], ◌∷◌, ◌++◌, length, map, take, drop, refl, sym, ap, subst, ◌∙◌, append_assoc, append-nil, arith}
-use Rattle.std.specs.Prelude.{Option, Some, None, Result, Ok, Err}
-use Rattle.std.specs.List.{flat_map}
-use Rattle.std.specs.Io.KnownBytes.{Appends}
-use Rattle.std.proofs.KnownBytes.{Appends-nil, Appends-trans}
-use Rattle.std.proofs.lemmas.List.{map-append, take-append-drop}
+use Rattle.std.proofs.Common.{◌≡◌, inl, inr, ℕ, List, [], ◌∷◌, ◌++◌, map, refl, sym, ap, subst, ◌∙◌, append_assoc, append-nil}
+use Rattle.std.specs.Prelude.{Option}
 use Rattle.std.proofs.lemmas.List.Concat.{flat_map-append}
 use Rattle.zone_proto.specs.declared.record.Record.{Record}
 use Rattle.zone_message.specs.declared.query.Query.{Query as ReadQuery}
 use Rattle.zone_wire.specs.declared.response.Group.{Group}
-use Rattle.zone_wire.specs.Fronts.{FirstHasNoRoom}
 use Rattle.zone_wire.specs.Outcomes.{HasUnwritable}
 use Rattle.zone_wire.specs.Responses.{all_records, records_of}
 use Rattle.zone_server.specs.Frames.{framed}
 use Rattle.zone_server.specs.Serving.{Moves}
 use Rattle.zone_server.specs.Transfers.{joined, one_by_one, AreMessages, ArePiecesOf, AreTooLong, HasTooLong, HasUnsendable, IsCutInto, IsTransferMessage}
-use Rattle.zone_server.specs.TransferSteps.{HasBrokenOff, HasSent, HasSentFirst, HasSentSets}
+use Rattle.zone_server.specs.TransferSteps.{HasBrokenOff, HasSent, HasSentSets}
 use Rattle.zone_server.proofs.ServedFrames.{moved_on, nothing_moved}
 
 -- ---- lists of lists

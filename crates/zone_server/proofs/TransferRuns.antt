@@ -1,10 +1,9 @@
 -- A transfer message by message: what is left of it, and where it ends
-use Rattle.std.proofs.Common.{◌≡◌, ◌⊎◌, inl, inr, ℕ, zero, suc, ◌+◌, ◌≤◌, ◌<◌, Bool, true, false, List, [], ◌∷◌, ◌++◌, length, map, take, drop, refl, sym, ap, subst, ◌∙◌, append_assoc, append-nil, arith, true≢false}
-use Rattle.std.specs.Prelude.{◌≢◌, ◌==◌, IfErr, OnOk, Option, Some, None, Result, Ok, Err}
+use Rattle.std.proofs.Common.{◌≡◌, ◌⊎◌, inl, inr, ℕ, zero, suc, ◌<◌, Bool, false, List, [], ◌∷◌, ◌++◌, length, map, take, drop, refl, sym, ap, subst, ◌∙◌, append_assoc, append-nil, arith, true≢false}
+use Rattle.std.specs.Prelude.{◌≢◌, ◌==◌, IfErr, OnOk, Option, Some, Result, Ok, Err}
 use Rattle.std.proofs.lemmas.List.{map-append, take-append-drop}
 use Rattle.zone_proto.specs.declared.record.Record.{Record}
 use Rattle.zone_message.specs.declared.query.Query.{Query as ReadQuery}
-use Rattle.zone_message.specs.Messages.{message_of}
 use Rattle.zone_wire.specs.declared.error.WriteError.{WriteError}
 use Rattle.zone_wire.specs.declared.error.WriteError.TheVariants.{Unwritable, NoRoom, BadCode, Memory}
 use Rattle.zone_wire.specs.declared.response.Group.{Group}
@@ -21,10 +20,10 @@ use Rattle.zone_response.specs.Sections.{Sections}
 use Rattle.zone_server.specs.Answers.{GoesOut, IsSent}
 use Rattle.zone_server.specs.Frames.{framed}
 use Rattle.zone_server.specs.Serving.{Moves, Puts}
-use Rattle.zone_server.specs.Transfers.{joined, one_by_one, transfer_parts, AreBrokenOff, AreSentWhole, AreTooLong, HasTooLong, HasUnsendable, IsOneMessage}
+use Rattle.zone_server.specs.Transfers.{joined, one_by_one, transfer_parts, AreBrokenOff, AreSentWhole, AreTooLong, HasTooLong, IsOneMessage}
 use Rattle.zone_server.specs.TransferSteps.{Halts, HasBrokenOff, HasSent, HasSentFirst, HasSentPieces, HasSentSets, WritesMessage}
 use Rattle.zone_server.proofs.ServedFrames.{moved_on}
-use Rattle.zone_server.proofs.TransferFacts.{broken_after, broken_after_sets, broken_at_once, broken_before, joined-append, joined_groups, joined_one_by_one, none_sent, no_sets_sent, sent_more, set_sent_singly, sets_sent_more, sets_sent_whole}
+use Rattle.zone_server.proofs.TransferFacts.{broken_after, broken_after_sets, broken_before, joined-append, joined_one_by_one, none_sent, no_sets_sent, sent_more, set_sent_singly, sets_sent_more, sets_sent_whole}
 
 -- ---- a message
 

@@ -1,4 +1,4 @@
-use Rattle.std.proofs.Common.{map, sym}
+use Rattle.std.proofs.Common.{sym}
 use Rattle.zone_server.specs.Frames.{framed_of}
 use Rattle.zone_server.specs.Serving.{served_of}
 use Rattle.zone_server.proofs.FrameLaws.{frame_less}

@@ -1,4 +1,4 @@
-use Rattle.std.proofs.Common.{◌≡◌, ◌++◌, ℕ, List, [], map, take, subst, arith}
+use Rattle.std.proofs.Common.{◌≡◌, ◌++◌, ℕ, List, [], take, subst, arith}
 use Rattle.zone_server.specs.Serving.{served_of, TakesFrames}
 use Rattle.zone_server.proofs.ServedFrames.{served_on}
 use Rattle.zone_server.proofs.serving.serve_in_chunks.Goals as goal

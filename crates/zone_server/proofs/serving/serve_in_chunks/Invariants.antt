@@ -1,4 +1,4 @@
-use Rattle.std.proofs.Common.{◌≡◌, ◌<◌, [], length, map}
+use Rattle.std.proofs.Common.{◌≡◌, ◌<◌, [], length}
 use Rattle.zone_server.specs.Serving.{served_of, ServesOn}
 use Rattle.zone_server.proofs.serving.serve_in_chunks.Given as goal
 

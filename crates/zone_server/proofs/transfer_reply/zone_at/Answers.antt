@@ -1,6 +1,5 @@
-use Rattle.std.proofs.Common.{◌+◌, List, drop, map, sym, ap, ◌∙◌}
+use Rattle.std.proofs.Common.{◌+◌, drop, map, sym, ◌∙◌}
 use Rattle.std.specs.Prelude.{Some}
-use Rattle.zone_handler.specs.declared.axfr_policy.AxfrPolicy.{AxfrPolicy}
 use Rattle.zone_response.specs.Queries.{zone_of}
 use Rattle.zone_server.specs.Transfers.{zone_at}
 use Rattle.zone_server.proofs.ZonesAsked.{zone_here, zone_later}

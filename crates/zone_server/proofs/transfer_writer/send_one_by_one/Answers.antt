@@ -1,4 +1,4 @@
-use Rattle.std.proofs.Common.{◌≡◌, ◌<◌, length, map, refl, sym, arith, rules}
+use Rattle.std.proofs.Common.{◌≡◌, map, refl, sym, arith, rules}
 use Rattle.zone_wire.specs.Responses.{all_records, records_of}
 use Rattle.zone_server.specs.Transfers.{joined, one_by_one}
 use Rattle.zone_server.proofs.TransferFacts.{joined_groups, joined_one_by_one}
