@@ -2,24 +2,23 @@
 """front.py PORT PROGRAM WORD..: answers DNS over UDP and TCP on 127.0.0.1 and ::1, by a program that answers frames.
 
 The program is started once, as `zoned --limits ZONE..`. Each query goes to its standard input behind two octets that say how long
-the response may be (65535 where it came by TCP) and two octets of length; each response comes from its standard output behind two
-octets of length. Each query is handed on under an identifier of the front's own, so that a response finds its client, whatever
-identifiers clients choose and whatever isn't answered. The front reads of a message no more than its header's first three octets.
+the response may be (65535 where it came by TCP) and two octets of length, under an identifier of the front's own; responses come from
+its standard output behind two octets of length. The front reads of a message no more than its header's first three octets. By TCP
+several may answer a query, as a whole zone does: so a header alone is asked behind each, and once it is answered, all came.
 """
 import asyncio
+import contextlib
 import signal
 import struct
 import sys
 
-# Octets: what a datagram on loopback may have; the program sends fewer where the client takes fewer.
-DATAGRAM = 4096
-# What says that a query came by TCP.
-STREAM = 65535
+# Octets: what a datagram on loopback may have, though the program sends fewer where the client takes fewer; and by TCP.
+DATAGRAM, STREAM = 4096, 65535
 # How many queries may wait for the program; where more come by UDP they are dropped, as a network drops them.
 WAITING = 32768
 # Seconds: how long a TCP connection may be idle (RFC 7766 section 6.2.3), and how long answers are waited for once it is half closed.
 IDLE, LINGER = 10, 5
-# Octets: what a TCP client may leave unread before its connection is closed.
+# Octets: what a TCP client may leave unread; all others wait LINGER seconds for it to read before its connection is closed.
 UNREAD = 1 << 20
 
 
@@ -34,16 +33,17 @@ class Program:
         # (a session of its own: Ctrl-C ends the front, and the end of its input then ends the program)
         self.process = await asyncio.create_subprocess_exec(*words, stdin=pipe, stdout=pipe, start_new_session=True)
 
-    def ask(self, message, limit, give):
-        """Hands a message on, and tells whether a response will come: none does to what has no header, or is a response."""
-        if len(message) < 12 or message[2] & 0x80 or len(self.waiting) >= WAITING:
+    def ask(self, message, limit, give, end=None):
+        """Hands a message on, if it is answered: what has no header, or is a response, isn't. `end` is called behind several answers."""
+        if len(message) < 12 or message[2] & 0x80 or len(self.waiting) + bool(end) >= WAITING:
             return False
         self.last = (self.last + 1) % 65536
         while self.last in self.waiting:
             self.last = (self.last + 1) % 65536
-        self.waiting[self.last] = (message[:2], give)
-        self.process.stdin.write(struct.pack("!HHH", limit, len(message), self.last) + message[2:])
-        return True
+        number = self.last
+        self.waiting[number] = (message[:2], give, end)
+        self.process.stdin.write(struct.pack("!HHH", limit, len(message), number) + message[2:])
+        return not end or self.ask(bytes(12), limit, lambda response: end(self.waiting.pop(number)))
 
     async def read(self):
         """Gives each response to its client, until the program ends."""
@@ -51,8 +51,11 @@ class Program:
             while True:
                 (length,) = struct.unpack("!H", await self.process.stdout.readexactly(2))
                 response = await self.process.stdout.readexactly(length)
-                own, give = self.waiting.pop(struct.unpack_from("!H", response)[0])
-                give(own + response[2:])
+                (number,) = struct.unpack_from("!H", response)
+                own, give, end = self.waiting[number]
+                if not end:
+                    del self.waiting[number]
+                await give(own + response[2:])
         except asyncio.IncompleteReadError:
             return await self.process.wait()
 
@@ -69,7 +72,10 @@ class Datagrams(asyncio.DatagramProtocol):
         self.transport = transport
 
     def datagram_received(self, message, client):
-        self.program.ask(message, DATAGRAM, lambda response: self.transport.sendto(response, client))
+        async def give(response):
+            self.transport.sendto(response, client)
+
+        self.program.ask(message, DATAGRAM, give)
 
 
 class Connection:
@@ -78,35 +84,37 @@ class Connection:
     def __init__(self, program, reader, writer):
         self.program, self.reader, self.writer = program, reader, writer
         self.open, self.answered = 0, asyncio.Event()
+        writer.transport.set_write_buffer_limits(UNREAD)
 
-    def give(self, response):
+    async def give(self, response):
+        self.answered.set()
+        try:
+            if not self.writer.is_closing():
+                self.writer.write(struct.pack("!H", len(response)) + response)
+            await asyncio.wait_for(self.writer.drain(), LINGER)
+        except (asyncio.TimeoutError, ConnectionError):
+            self.writer.transport.abort()
+
+    async def end(self, answered):
         self.open -= 1
         self.answered.set()
-        if self.writer.transport.get_write_buffer_size() > UNREAD:
-            self.writer.transport.abort()
-        elif not self.writer.is_closing():
-            self.writer.write(struct.pack("!H", len(response)) + response)
 
     async def message(self):
         (length,) = struct.unpack("!H", await self.reader.readexactly(2))
         return await self.reader.readexactly(length)
 
     async def serve(self):
-        try:
+        with contextlib.suppress(asyncio.IncompleteReadError, asyncio.TimeoutError, ConnectionError):
             while True:
                 message = await asyncio.wait_for(self.message(), IDLE)
-                self.open += self.program.ask(message, STREAM, self.give)
+                self.open += self.program.ask(message, STREAM, self.give, self.end)
                 await self.writer.drain()
-        except (asyncio.IncompleteReadError, asyncio.TimeoutError, ConnectionError):
-            pass
         # What was asked before the client closed its half is still answered (RFC 7766 section 6.2.4).
-        try:
+        with contextlib.suppress(asyncio.TimeoutError, ConnectionError):
             while self.open:
                 self.answered.clear()
                 await asyncio.wait_for(self.answered.wait(), LINGER)
             await self.writer.drain()
-        except (asyncio.TimeoutError, ConnectionError):
-            pass
         self.writer.close()
 
 
@@ -115,11 +123,10 @@ async def main(port, words):
     for number in (signal.SIGINT, signal.SIGTERM):
         loop.add_signal_handler(number, stop.set)
     await program.start(words)
-    serve = lambda reader, writer: Connection(program, reader, writer).serve()
     listening = []
     for host in ("127.0.0.1", "::1"):
         try:
-            await asyncio.start_server(serve, host, port)
+            await asyncio.start_server(lambda *streams: Connection(program, *streams).serve(), host, port)
             await loop.create_datagram_endpoint(lambda: Datagrams(program), (host, port))
             listening.append(host)
         except OSError as error:

@@ -20,7 +20,8 @@
 //!
 //! `$ server` begins a server without zones, `$ zone` adds a zone of an origin, which denies by `nsec` or by `nsec3` where one of
 //! these follows; behind `nsec3` may stand the algorithm, the salt in hex, the iterations, and then `optout`. `>` is followed by a
-//! record that goes into it, and `$ secure` signs it at the moment 0.
+//! record that goes into it, and `$ secure` signs it at the moment 0. `$ policy` is followed by who may transfer the first zone,
+//! `Deny`, `AllowAll` or `AllowSigned`; the next one by who may transfer the second; and so on.
 //!
 //! `=` asks the last zone a question: a name, a type, a class by its number, and `dnssec` where the query asks for DNSSEC. Below it
 //! stands what the zone says, by its sections: the code, and `aa` of an authoritative one; `;; GLUE` are the records of the

@@ -82,6 +82,7 @@ fn write_header(text: &mut String, message: &Message) -> Result<(), AllocError> 
         3 => write!(text, ", status: NXDOMAIN")?,
         4 => write!(text, ", status: NOTIMP")?,
         5 => write!(text, ", status: REFUSED")?,
+        9 => write!(text, ", status: NOTAUTH")?,
         16 => write!(text, ", status: BADVERS")?,
         number => write!(text, ", status: RESERVED{number}")?,
     }

@@ -1,8 +1,9 @@
 //! Rows: questions and messages, and the responses that are wanted.
 
 use crate::questions::say;
-use crate::zones::{Zone, add, ask, read_zone, secure, serve};
+use crate::zones::{Zone, add, ask, read_policy, read_zone, secure, serve};
 use std::alloc::Global;
+use zone_handler::AxfrPolicy;
 use zone_text::Words;
 
 /// What has been read of a file.
@@ -10,6 +11,8 @@ use zone_text::Words;
 struct Reader<'t> {
     /// The zones of the server.
     zones: Vec<Zone>,
+    /// Who may transfer them.
+    policies: Vec<AxfrPolicy>,
     /// The line of the messages that are to be answered.
     asked: Option<&'t str>,
     /// The responses that are wanted.
@@ -26,6 +29,7 @@ struct Reader<'t> {
 pub fn report(alloc: Global, text: &str) -> anyhow::Result<String> {
     let mut reader = Reader {
         zones: Vec::new(alloc),
+        policies: Vec::new(alloc),
         asked: None,
         wanted: String::new(alloc),
         rows: 0,
@@ -57,10 +61,13 @@ fn take_line<'t>(alloc: Global, reader: &mut Reader<'t>, line: &'t str) -> anyho
     } else if let Some(words) = line.strip_prefix("$ zone ") {
         let zone = read_zone(alloc, &mut Words::new(words.as_bytes()))?;
         reader.zones.push(zone)?;
+    } else if let Some(word) = line.strip_prefix("$ policy ") {
+        reader.policies.push(read_policy(word)?)?;
     } else if line == "$ secure" {
         secure(&mut reader.zones)?;
     } else if line == "$ server" {
         reader.zones.clear();
+        reader.policies.clear();
     }
     Ok(())
 }
@@ -79,7 +86,8 @@ fn is_response(line: &str) -> bool {
 /// Hands over the messages that wait, and notes a fault where they are answered otherwise than it is wanted.
 fn judge(alloc: Global, reader: &mut Reader<'_>) -> anyhow::Result<()> {
     if let Some(asked) = reader.asked.take() {
-        let came = came_of(alloc, reader.zones.as_slice(), asked)?;
+        let (zones, policies) = (reader.zones.as_slice(), reader.policies.as_slice());
+        let came = came_of(alloc, zones, policies, asked)?;
         reader.rows = reader.rows.saturating_add(1);
         if came != reader.wanted {
             reader.wrong = reader.wrong.saturating_add(1);
@@ -91,12 +99,17 @@ fn judge(alloc: Global, reader: &mut Reader<'_>) -> anyhow::Result<()> {
 }
 
 /// What came in answer to a line.
-fn came_of(alloc: Global, zones: &[Zone], asked: &str) -> anyhow::Result<String> {
+fn came_of(
+    alloc: Global,
+    zones: &[Zone],
+    policies: &[AxfrPolicy],
+    asked: &str,
+) -> anyhow::Result<String> {
     if let Some(words) = asked.strip_prefix("= ") {
         return say(alloc, zones, &mut Words::new(words.as_bytes()));
     }
     match asked.strip_prefix("< ") {
-        Some(words) => serve(alloc, zones, words),
+        Some(words) => serve(alloc, zones, policies, words),
         None => ask(alloc, zones, asked.strip_prefix("? ").unwrap_or(asked)),
     }
 }

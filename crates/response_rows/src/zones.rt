@@ -8,7 +8,7 @@ use std::alloc::Global;
 use zone_handler::{AxfrPolicy, ZoneHandler, ZoneType};
 use zone_proto::{NxProofKind, Seq};
 use zone_response::ServedZone;
-use zone_server::{Answered, Mode, answer, serve_frames};
+use zone_server::{Answered, Mode, Server, answer, serve_frames};
 use zone_store::InMemoryZoneHandler;
 use zone_store::program::{DemoSigner, Sha1Hash};
 use zone_text::{Words, read_hex, read_name, read_record, read_u8};
@@ -26,6 +26,16 @@ pub fn read_zone(alloc: Global, words: &mut Words<'_>) -> anyhow::Result<Zone> {
     };
     let (zone_type, policy) = (ZoneType::Primary, AxfrPolicy::Deny);
     Ok(Zone::empty(origin, zone_type, policy, kind, Sha1Hash))
+}
+
+/// Who may transfer a zone, by its word.
+pub fn read_policy(word: &str) -> anyhow::Result<AxfrPolicy> {
+    match word {
+        "Deny" => Ok(AxfrPolicy::Deny),
+        "AllowAll" => Ok(AxfrPolicy::AllowAll),
+        "AllowSigned" => Ok(AxfrPolicy::AllowSigned),
+        _ => bail!("no policy"),
+    }
 }
 
 /// How a zone denies by NSEC3: by SHA-1, or with the algorithm, the salt in hex and the iterations that follow, and then `optout`.
@@ -118,7 +128,12 @@ pub fn ask(alloc: Global, zones: &[Zone], words: &str) -> anyhow::Result<String>
 }
 
 /// The responses to frames by their words.
-pub fn serve(alloc: Global, zones: &[Zone], words: &str) -> anyhow::Result<String> {
+pub fn serve(
+    alloc: Global,
+    zones: &[Zone],
+    policies: &[AxfrPolicy],
+    words: &str,
+) -> anyhow::Result<String> {
     let Some((mode, hex)) = words.split_once(" ") else {
         bail!("a row has no mode");
     };
@@ -131,7 +146,11 @@ pub fn serve(alloc: Global, zones: &[Zone], words: &str) -> anyhow::Result<Strin
     let zones = served(alloc, zones)?;
     let mut input = frames.as_slice();
     let mut output = Vec::new(alloc);
-    if serve_frames(alloc, zones.as_slice(), mode, &mut input, &mut output).is_err() {
+    let server = Server {
+        zones: zones.as_slice(),
+        policies,
+    };
+    if serve_frames(alloc, &server, mode, &mut input, &mut output).is_err() {
         bail!("frames weren't served");
     }
     frames_text(alloc, output.as_slice())

@@ -79,13 +79,19 @@ twelve_some octets e none = absurd (omega (arith, e, ap length none))
 
 -- ---- what is answered to octets is what is answered to what is read of them
 
+-- where a message was answered by what was read of it, it is read so: want of memory has no answer
+pub read_whole : (zs : List Zone) (t : Transport) (message : List ℕ) (read : Result ReadQuery ReadError) (octets : List ℕ) → ReadsQuery read (query_of message)
+    → IsAnswerTo zs t read octets → query_of message ≡ read
+read_whole zs t message (Ok q) octets told h = told
+read_whole zs t message (Err NoHeader) octets told h = told
+read_whole zs t message (Err NoQuery) octets told h = told
+read_whole zs t message (Err (NotImplemented header)) octets told h = told
+read_whole zs t message (Err (Malformed header)) octets told h = told
+read_whole zs t message (Err (BadVersion q)) octets told h = told
+read_whole zs t message (Err Memory) octets told h = absurd h
+
 pub answers_octets : (zs : List Zone) (t : Transport) (message : List ℕ) (read : Result ReadQuery ReadError) (r : Result Answered AllocError) (octets : List ℕ)
     → ReadsQuery read (query_of message) → OnOk r (IsAnswerTo zs t read octets) → OnOk r (IsAnswer zs t message octets)
 answers_octets zs t message read (Err e) octets told h = tt
-answers_octets zs t message (Ok q) (Ok a) octets told h = subst (λ (x : Result ReadQuery ReadError). IsAnswerTo zs t x octets) (sym told) h
-answers_octets zs t message (Err NoHeader) (Ok a) octets told h = subst (λ (x : Result ReadQuery ReadError). IsAnswerTo zs t x octets) (sym told) h
-answers_octets zs t message (Err NoQuery) (Ok a) octets told h = subst (λ (x : Result ReadQuery ReadError). IsAnswerTo zs t x octets) (sym told) h
-answers_octets zs t message (Err (NotImplemented header)) (Ok a) octets told h = subst (λ (x : Result ReadQuery ReadError). IsAnswerTo zs t x octets) (sym told) h
-answers_octets zs t message (Err (Malformed header)) (Ok a) octets told h = subst (λ (x : Result ReadQuery ReadError). IsAnswerTo zs t x octets) (sym told) h
-answers_octets zs t message (Err (BadVersion q)) (Ok a) octets told h = subst (λ (x : Result ReadQuery ReadError). IsAnswerTo zs t x octets) (sym told) h
-answers_octets zs t message (Err Memory) (Ok a) octets told h = absurd h
+answers_octets zs t message read (Ok a) octets told h =
+    subst (λ (x : Result ReadQuery ReadError). IsAnswerTo zs t x octets) (sym (read_whole zs t message read octets told h)) h

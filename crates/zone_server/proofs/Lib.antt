@@ -6,3 +6,6 @@ pub mod SentMessages
 pub mod AnswerFacts
 pub mod FrameLaws
 pub mod ServedFrames
+pub mod TransferFacts
+pub mod TransferRuns
+pub mod ZonesAsked

@@ -1,13 +1,16 @@
 -- Frames that are answered one after the other, and answers that are written
 use Rattle.std.proofs.Common.{◌≡◌, ℕ, ◌≤◌, List, [], ◌∷◌, ◌++◌, length, refl, sym, ap, subst, ◌∙◌, append_assoc, append-nil, arith}
-use Rattle.std.specs.Prelude.{Option, Some, None}
+use Rattle.std.specs.Prelude.{Option, Some, None, OnOk, Result, Ok, Err}
 use Rattle.std.specs.Io.KnownBytes.{Appends, Consumes, IsAtEnd}
 use Rattle.std.proofs.KnownBytes.{Appends-nil, Appends-trans, Consumes-nil, Consumes-trans}
-use Rattle.zone_response.specs.Queries.{Zone}
+use Rattle.zone_message.specs.declared.error.ReadError.{ReadError}
+use Rattle.zone_message.specs.declared.query.Query.{Query as ReadQuery}
+use Rattle.zone_message.specs.Queries.{query_of}
 use Rattle.zone_server.specs.declared.frames.Mode.{Mode}
 use Rattle.zone_server.specs.declared.frames.Mode.TheVariants.{Limits, Stream}
-use Rattle.zone_server.specs.Frames.{Framed, FramesThen, frame_of, framed}
-use Rattle.zone_server.specs.Serving.{AnswerFrames, AnswersFrame, Moves, Serves, ServesOn, TakesFrames}
+use Rattle.zone_server.specs.declared.waiting.Stop.{Stop}
+use Rattle.zone_server.specs.Frames.{Framed, FramesThen, frame_of}
+use Rattle.zone_server.specs.Serving.{AnswerFrames, Answers, AnswersRead, IsOneAnswer, Moves, Puts, Served, Serves, ServesOn, TakesFrames}
 use Rattle.zone_server.proofs.FrameLaws.{frames_join, frames_then, none_taken}
 
 -- ---- what is written and what waits
@@ -28,7 +31,7 @@ all_written waited h k l waiting m a =
     subst (Appends h l) (sym m.parts) (Appends-trans h k l m.written waiting m.appended a)
 
 -- one writing after another, where octets came in between
-moved_on : (a b t c : List ℕ) (u v w : Option (List ℕ)) → Moves a u v b → Moves (b ++ t) v w c → Moves (a ++ t) u w c
+pub moved_on : (a b t c : List ℕ) (u v w : Option (List ℕ)) → Moves a u v b → Moves (b ++ t) v w c → Moves (a ++ t) u w c
 moved_on a b t c u v w first second = record {
   written = first.written ++ second.written;
   parts = ap (λ xs. xs ++ t) first.parts ∙ append_assoc first.written b t ∙ ap (λ xs. first.written ++ xs) second.parts ∙ sym (append_assoc first.written second.written c);
@@ -42,15 +45,22 @@ kept_whole mode octets slice fs left same h long =
 
 -- ---- answers in their order
 
-module _ (zs : List Zone) where
-  answers_join : (fs gs : List Framed) (text more : List ℕ) → AnswerFrames zs fs text → AnswerFrames zs gs more → AnswerFrames zs (fs ++ gs) (text ++ more)
-  answers_join [] gs text more e h = subst (λ (t : List ℕ). AnswerFrames zs gs (t ++ more)) (sym e) h
-  answers_join (f ∷ fs) gs text more (octets, others, answer, e, h) g =
-      (octets, others ++ more, answer, ap (λ t. t ++ more) e ∙ append_assoc (framed octets) others more, answers_join fs gs others more h g)
+module _ (server : Served) where
+  answers_join : (fs gs : List Framed) (text more : List ℕ) → AnswerFrames server fs text → AnswerFrames server gs more → AnswerFrames server (fs ++ gs) (text ++ more)
+  answers_join [] gs text more e h = subst (λ (t : List ℕ). AnswerFrames server gs (t ++ more)) (sym e) h
+  answers_join (f ∷ fs) gs text more (first, others, answer, e, h) g =
+      (first, others ++ more, answer, ap (λ t. t ++ more) e ∙ append_assoc first others more, answers_join fs gs others more h g)
+
+  -- a message that is read as no query has one answer
+  pub once_answers : (r : Result (Unit {0}) Stop) (f : Framed) (e : ReadError) (waited waiting : List ℕ) (h k : Option (List ℕ)) → OnOk r (query_of f.message ≡ Err e)
+      → OnOk r (Puts (IsOneAnswer server f) waited waiting h k) → OnOk r (Puts (Answers server f) waited waiting h k)
+  once_answers (Ok done) f e waited waiting h k read put =
+      record { text = put.text; is = subst (λ (x : Result ReadQuery ReadError). AnswersRead server f x put.text) (sym read) put.is; moved = put.moved }
+  once_answers (Err stop) f e waited waiting h k read put = tt
 
   -- ---- the frames of octets
 
-  pub none_taken_yet : (mode : Mode) (octets waiting : List ℕ) (h : Option (List ℕ)) → TakesFrames zs mode octets octets waiting waiting h h
+  pub none_taken_yet : (mode : Mode) (octets waiting : List ℕ) (h : Option (List ℕ)) → TakesFrames server mode octets octets waiting waiting h h
   none_taken_yet mode octets waiting h = record {
     frames = [];
     text = [];
@@ -60,20 +70,20 @@ module _ (zs : List Zone) where
   }
 
   pub frame_taken : (mode : Mode) (octets rest waited waiting : List ℕ) (h k : Option (List ℕ)) (f : Framed) (behind waiting_then : List ℕ) (l : Option (List ℕ))
-      → TakesFrames zs mode octets rest waited waiting h k → frame_of mode rest ≡ Some (f, behind) → AnswersFrame zs f waiting waiting_then k l
-      → TakesFrames zs mode octets behind waited waiting_then h l
+      → TakesFrames server mode octets rest waited waiting h k → frame_of mode rest ≡ Some (f, behind) → Puts (Answers server f) waiting waiting_then k l
+      → TakesFrames server mode octets behind waited waiting_then h l
   frame_taken mode octets rest waited waiting h k f behind waiting_then l t e a = record {
     frames = t.frames ++ f ∷ [];
-    text = t.text ++ framed a.octets;
+    text = t.text ++ a.text;
     stand = frames_then mode octets t.frames rest f behind t.stand e;
-    answered = answers_join t.frames (f ∷ []) t.text (framed a.octets) t.answered (a.octets, [], a.answer, sym (append-nil (framed a.octets)), refl);
-    moved = subst (λ (w : List ℕ). Moves w h l waiting_then) (append_assoc waited t.text (framed a.octets))
-        (moved_on (waited ++ t.text) waiting (framed a.octets) waiting_then h k l t.moved a.moved);
+    answered = answers_join t.frames (f ∷ []) t.text a.text t.answered (a.text, [], a.is, sym (append-nil a.text), refl);
+    moved = subst (λ (w : List ℕ). Moves w h l waiting_then) (append_assoc waited t.text a.text)
+        (moved_on (waited ++ t.text) waiting a.text waiting_then h k l t.moved a.moved);
   }
 
   -- what waited is written
-  taken_and_written : (mode : Mode) (octets left waiting : List ℕ) (h k l : Option (List ℕ)) → TakesFrames zs mode octets left [] waiting h k → Appends k l waiting
-      → TakesFrames zs mode octets left [] [] h l
+  taken_and_written : (mode : Mode) (octets left waiting : List ℕ) (h k l : Option (List ℕ)) → TakesFrames server mode octets left [] waiting h k → Appends k l waiting
+      → TakesFrames server mode octets left [] [] h l
   taken_and_written mode octets left waiting h k l t a = record {
     frames = t.frames;
     text = t.text;
@@ -83,11 +93,11 @@ module _ (zs : List Zone) where
   }
 
   pub waiting_served : (mode : Mode) (octets slice left kept waited waiting : List ℕ) (h k l : Option (List ℕ)) → slice ≡ octets → waited ≡ [] → kept ≡ left
-      → TakesFrames zs mode slice left waited waiting h k → Appends k l waiting → TakesFrames zs mode octets kept [] [] h l
+      → TakesFrames server mode slice left waited waiting h k → Appends k l waiting → TakesFrames server mode octets kept [] [] h l
   waiting_served mode octets slice left kept waited waiting h k l same none whole t a =
-      let P : List ℕ → Type 0 = λ w. TakesFrames zs mode slice left w waiting h k in
-      let Q : List ℕ → Type 0 = λ o. TakesFrames zs mode o left [] [] h l in
-      let R : List ℕ → Type 0 = λ e. TakesFrames zs mode octets e [] [] h l in
+      let P : List ℕ → Type 0 = λ w. TakesFrames server mode slice left w waiting h k in
+      let Q : List ℕ → Type 0 = λ o. TakesFrames server mode o left [] [] h l in
+      let R : List ℕ → Type 0 = λ e. TakesFrames server mode octets e [] [] h l in
       subst R (sym whole) (subst Q same (taken_and_written mode slice left waiting h k l (subst P none t) a))
 
   -- ---- the frames of an input
@@ -96,7 +106,7 @@ module _ (zs : List Zone) where
   no_frame Stream = refl
   no_frame Limits = refl
 
-  pub none_served : (mode : Mode) (r h : Option (List ℕ)) (waiting : List ℕ) → waiting ≡ [] → ServesOn zs mode [] waiting r r h h
+  pub none_served : (mode : Mode) (r h : Option (List ℕ)) (waiting : List ℕ) → waiting ≡ [] → ServesOn server mode [] waiting r r h h
   none_served mode r h waiting e = record {
     octets = [];
     frames = [];
@@ -109,8 +119,8 @@ module _ (zs : List Zone) where
   }
 
   pub served_on : (mode : Mode) (waiting : List ℕ) (r s h k : Option (List ℕ)) (read : List ℕ) (t l : Option (List ℕ)) (left : List ℕ)
-      → ServesOn zs mode [] waiting r s h k → Consumes s t read → TakesFrames zs mode (waiting ++ read) left [] [] k l → frame_of mode left ≡ None
-      → ServesOn zs mode [] left r t h l
+      → ServesOn server mode [] waiting r s h k → Consumes s t read → TakesFrames server mode (waiting ++ read) left [] [] k l → frame_of mode left ≡ None
+      → ServesOn server mode [] left r t h l
   served_on mode waiting r s h k read t l left a consumed b none = record {
     octets = a.octets ++ read;
     frames = a.frames ++ b.frames;
@@ -123,7 +133,7 @@ module _ (zs : List Zone) where
   }
 
   -- nothing more was read
-  pub all_served : (mode : Mode) (waiting : List ℕ) (r s t h k : Option (List ℕ)) → ServesOn zs mode [] waiting r s h k → Consumes s t [] → IsAtEnd t → Serves zs mode r t h k
+  pub all_served : (mode : Mode) (waiting : List ℕ) (r s t h k : Option (List ℕ)) → ServesOn server mode [] waiting r s h k → Consumes s t [] → IsAtEnd t → Serves server mode r t h k
   all_served mode waiting r s t h k a consumed at_end = record {
     left = waiting;
     served = record {

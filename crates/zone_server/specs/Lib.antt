@@ -5,4 +5,6 @@ pub mod Answers
 pub mod Sending
 pub mod Outgoing
 pub mod Frames
+pub mod Transfers
 pub mod Serving
+pub mod TransferSteps

@@ -65,7 +65,7 @@ pub fn answer<S: Signer, H: Nsec3Hash>(
 }
 
 /// Answers a message by what is read of it.
-fn answer_read<S: Signer, H: Nsec3Hash>(
+pub(crate) fn answer_read<S: Signer, H: Nsec3Hash>(
     alloc: Global,
     zones: &[ServedZone<'_, S, H>],
     read: Result<Query, ReadError>,

@@ -5,12 +5,14 @@ ghost use Rattle.zone_response.specs.Sections.{sections};
 ghost use Rattle.zone_server.specs.Answers.{code_number, GoesOut, IsSent};
 ghost use Rattle.zone_server.specs.Outgoing.{AreGroups};
 ghost use Rattle.zone_server.specs.Sending.{Sends};
+ghost use Rattle.zone_server.specs.Transfers.{soa_sections};
 
 use crate::sections::{GroupedSections, grouped_sections, outgoing_sections};
+use crate::transfer_writer::soa_alone;
 use crate::transport::DATAGRAM_SIZE;
 use std::alloc::{AllocError, Global};
 use zone_message::Query;
-use zone_proto::ResponseCode;
+use zone_proto::{RecordSet, ResponseCode};
 use zone_response::Response;
 use zone_wire::{Response as Message, WriteError, write_response};
 
@@ -118,6 +120,53 @@ fn send_bare(
         code: number_of(code),
         size: DATAGRAM_SIZE,
         answers: &[],
+        authorities: &[],
+        glue: &[],
+        additionals: &[],
+    };
+    write_response(alloc, out, &message, limit)
+}
+
+/// Writes a response of the zone's SOA alone, in place of the octets of `out`; where no octets are its data, one of `ServFail`.
+pub(crate) fn send_soa(
+    alloc: Global,
+    out: &mut Vec<u8>,
+    query: &Query,
+    soa: &RecordSet,
+    limit: u16,
+) -> Result<(), AllocError>
+    requires { 512 ≤ limit }
+    ensures { OnOk result (GoesOut limit query.now (soa_sections soa.now) out.new.items) }
+{
+    match send_soa_alone(alloc, out, query, soa, limit) {
+        Ok(()) => Ok(()),
+        Err(WriteError::Unwritable | WriteError::BadCode) => {
+            send_code(alloc, out, query, ResponseCode::ServFail, limit)
+        }
+        Err(WriteError::Memory) => Err(AllocError),
+        // In 512 octets header, question and OPT record find room.
+        Err(WriteError::NoRoom) => unreachable!(),
+    }
+}
+
+/// Writes a response of the zone's SOA alone.
+fn send_soa_alone(
+    alloc: Global,
+    out: &mut Vec<u8>,
+    query: &Query,
+    soa: &RecordSet,
+    limit: u16,
+) -> Result<(), WriteError>
+    requires { 512 ≤ limit }
+    ensures { Sends limit query.now (soa_sections soa.now) out.new.items result }
+{
+    let answers = [soa_alone(soa)];
+    let message = Message {
+        query,
+        authoritative: true,
+        code: 0,
+        size: DATAGRAM_SIZE,
+        answers: &answers,
         authorities: &[],
         glue: &[],
         additionals: &[],

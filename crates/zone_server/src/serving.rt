@@ -1,82 +1,71 @@
 //! Frames answered over any reader and writer (RFC 1035 section 4.2.2, RFC 7766).
-ghost use Rattle.std.specs.Prelude.{◌≡◌, ◌<◌, [], None, length, map, IfOk, OnOk};
-ghost use Rattle.std.specs.Bool.{OnFalse};
-ghost use Rattle.std.specs.Io.KnownBytes.{Appends, IsAtEnd, ReadConsumes};
+ghost use Rattle.std.specs.Prelude.{◌≡◌, ◌<◌, [], None, Ok, length, IfOk, OnOk};
+ghost use Rattle.std.specs.Io.KnownBytes.{ReadConsumes};
 ghost use Rattle.std.specs.Io.{ReadsAtMost};
+ghost use Rattle.zone_message.specs.Queries.{query_of, ReadsQuery};
 ghost use Rattle.zone_server.specs.Frames.{frame_of, framed_of};
-ghost use Rattle.zone_response.specs.Queries.{zone_of};
-ghost use Rattle.zone_server.specs.Serving.{AnswersFrame, Moves, Serves, ServesOn, TakesFrames};
+ghost use Rattle.zone_server.specs.Serving.{served_of, Answers, AnswersQuery, IsOneAnswer, Puts, Serves, TakesFrames};
 
-use crate::answering::answer;
-use crate::frames::{Frame, Mode, frame_of, push_framed};
-use std::alloc::{AllocError, Global};
-use std::io;
+use crate::answering::answer_read;
+use crate::frames::{Frame, Mode, frame_of};
+use crate::server::Server;
+use crate::transfer_reply::asks_for_transfer;
+use crate::transfers::answer_transfer;
+use crate::waiting::{Stop, put_answer, write_out};
+use std::alloc::Global;
 use std::io::{ErrorKind, Read, Write};
+use zone_message::{Query, ReadError, read_query};
 use zone_proto::{Nsec3Hash, Signer};
-use zone_response::ServedZone;
 
 /// How many octets are read at once.
 const CHUNK: usize = 65_536;
 
-/// From how many octets on answers are written while whole frames are left.
-const WAITING_LIMIT: usize = 65_536;
-
-/// Why frames aren't served to the end of an input.
-#[derive(Debug, Drop)]
-pub enum Stop {
-    /// No memory is found.
-    Memory,
-    /// A read failed.
-    Read(ErrorKind),
-    /// A write failed.
-    Write(ErrorKind),
-}
-
-/// Want of memory is `Memory`.
-impl From<AllocError> for Stop {
-    ghost use Rattle.zone_server.specs.declared.serving.Stop.TheVariants.{Memory};
-
-    ghost from_gives = { λ _ e. e ≡ Memory };
-
-    fn from(_: AllocError) -> Stop {
-        Stop::Memory
-    }
-}
-
-/// Answers the frames of an input from some zones, as [`answer`] does, up to the end of the input. A message without an answer has
-/// no frame in the output, and of a last frame that isn't whole nothing is read.
+/// Answers the frames of an input from the zones of a server, up to the end of the input. A message without an answer has no frame in
+/// the output, and of a last frame that isn't whole nothing is read.
+///
+/// Each message is answered by one, as [`answer`](crate::answer) does, but for queries for a zone: AXFR by TCP (RFC 5936) and IXFR
+/// (RFC 1995). Where the name is the origin of no zone, or the class isn't IN, the code is NOTAUTH; where its policy isn't `AllowAll`,
+/// `Refused`; where it has no SOA, `ServFail`.
+///
+/// - To AXFR the zone is sent in messages of up to 65,535 octets, each in a frame: the SOA, all sets in the order of their keys, each
+///   with its signatures, and the SOA again (RFC 5936 section 2.2). A set is whole in a message, but where no message has room for
+///   it. Each message has the question, and TC is never set.
+/// - To IXFR the same is sent by TCP where the serial of the SOA in the query's authority section is older than the zone's (RFC 1982);
+///   else, and by UDP, the SOA alone (RFC 1995 section 2). Without an SOA there the code is `FormErr`.
+/// - Where a record can't be sent, a message of `ServFail` ends the transfer (RFC 5936 section 2.2).
 ///
 /// Frames are answered as soon as no whole one is left of what was read, all of them by one write, and before the input is read
-/// again: so a client that waits for an answer gets it. Where the answers have 65,536 octets or more, they are written before.
+/// again: so a client that waits for an answer gets it. Where what waits has 65,536 octets or more, it is written before: so at most
+/// two messages wait, and a transfer is written as it is made, out of the zone's own records.
 ///
 /// # Errors
 /// The first cause that ends it before the input does. The answers that weren't written by then are lost.
 pub fn serve_frames<S: Signer, H: Nsec3Hash, R: Read, W: Write>(
     alloc: Global,
-    zones: &[ServedZone<'_, S, H>],
+    server: &Server<'_, '_, S, H>,
     mode: Mode,
     input: &mut R,
     output: &mut W,
 ) -> Result<(), Stop>
-    ensures { OnOk result (Serves (map (zone_of H.digest_of) zones.now) mode
+    ensures { OnOk result (Serves (served_of H.digest_of server.now) mode
         (R.remaining input.old) (R.remaining input.new)
         (W.contents output.old) (W.contents output.new)) }
 {
     let mut chunk = vec![in alloc; 0u8; CHUNK]?;
-    serve_in_chunks(alloc, zones, mode, input, output, chunk.as_mut_slice())
+    serve_in_chunks(alloc, server, mode, input, output, chunk.as_mut_slice())
 }
 
 /// The same by reads into a buffer.
 fn serve_in_chunks<S: Signer, H: Nsec3Hash, R: Read, W: Write>(
     alloc: Global,
-    zones: &[ServedZone<'_, S, H>],
+    server: &Server<'_, '_, S, H>,
     mode: Mode,
     input: &mut R,
     output: &mut W,
     chunk: &mut [u8],
 ) -> Result<(), Stop>
     requires { 0 < length chunk.old }
-    ensures { OnOk result (Serves (map (zone_of H.digest_of) zones.now) mode
+    ensures { OnOk result (Serves (served_of H.digest_of server.now) mode
         (R.remaining input.old) (R.remaining input.new)
         (W.contents output.old) (W.contents output.new)) }
 {
@@ -88,7 +77,7 @@ fn serve_in_chunks<S: Signer, H: Nsec3Hash, R: Read, W: Write>(
             return Ok(());
         }
         waiting.extend_from_slice(&chunk[..count])?;
-        serve_waiting(alloc, zones, mode, &mut waiting, &mut answers, output)?;
+        serve_waiting(alloc, server, mode, &mut waiting, &mut answers, output)?;
     }
     Err(Stop::Read(ErrorKind::Interrupted))
 }
@@ -96,20 +85,20 @@ fn serve_in_chunks<S: Signer, H: Nsec3Hash, R: Read, W: Write>(
 /// Answers all whole frames of what was read, which are taken away, and writes the answers.
 fn serve_waiting<S: Signer, H: Nsec3Hash, W: Write>(
     alloc: Global,
-    zones: &[ServedZone<'_, S, H>],
+    server: &Server<'_, '_, S, H>,
     mode: Mode,
     waiting: &mut Vec<u8>,
     answers: &mut Vec<u8>,
     output: &mut W,
 ) -> Result<(), Stop>
     requires { answers.old.items ≡ [] }
-    ensures taken { OnOk result (TakesFrames (map (zone_of H.digest_of) zones.now) mode
+    ensures taken { OnOk result (TakesFrames (served_of H.digest_of server.now) mode
         waiting.old.items waiting.new.items [] []
         (W.contents output.old) (W.contents output.new)) }
     ensures no_more { OnOk result (frame_of mode waiting.new.items ≡ None) }
     ensures written { OnOk result (answers.new.items ≡ []) }
 {
-    let left = answer_frames(alloc, zones, mode, waiting.as_slice(), answers, output)?;
+    let left = answer_frames(alloc, server, mode, waiting.as_slice(), answers, output)?;
     if left.len() < waiting.len() {
         let left = Vec::from_slice(alloc, left)?;
         *waiting = left;
@@ -121,13 +110,13 @@ fn serve_waiting<S: Signer, H: Nsec3Hash, W: Write>(
 /// Answers all whole frames, and gives what stands behind these. The last answers wait to be written.
 fn answer_frames<'o, S: Signer, H: Nsec3Hash, W: Write>(
     alloc: Global,
-    zones: &[ServedZone<'_, S, H>],
+    server: &Server<'_, '_, S, H>,
     mode: Mode,
     octets: &'o [u8],
     answers: &mut Vec<u8>,
     output: &mut W,
 ) -> Result<&'o [u8], Stop>
-    ensures taken { IfOk result (λ left. TakesFrames (map (zone_of H.digest_of) zones.now) mode
+    ensures taken { IfOk result (λ left. TakesFrames (served_of H.digest_of server.now) mode
         octets.now left.now answers.old.items answers.new.items
         (W.contents output.old) (W.contents output.new)) }
     ensures no_more { IfOk result (λ left. frame_of mode left.now ≡ None) }
@@ -135,66 +124,73 @@ fn answer_frames<'o, S: Signer, H: Nsec3Hash, W: Write>(
     let mut out = Vec::new(alloc);
     let mut rest = octets;
     while let Some((frame, behind)) = frame_of(mode, rest) {
-        answer_frame(alloc, zones, frame, &mut out, answers, output)?;
+        answer_frame(alloc, server, frame, &mut out, answers, output)?;
         rest = behind;
     }
     Ok(rest)
 }
 
-/// Puts the answer to a message behind those that wait, and writes these where they are many. `out` is for the answer.
+/// Puts what answers a message behind what waits, and writes this where it is much. `out` is for an answer.
 fn answer_frame<S: Signer, H: Nsec3Hash, W: Write>(
     alloc: Global,
-    zones: &[ServedZone<'_, S, H>],
+    server: &Server<'_, '_, S, H>,
     frame: Frame<'_>,
     out: &mut Vec<u8>,
     answers: &mut Vec<u8>,
     output: &mut W,
 ) -> Result<(), Stop>
     ensures { OnOk result
-        (AnswersFrame (map (zone_of H.digest_of) zones.now) (framed_of frame.entry)
+        (Puts (Answers (served_of H.digest_of server.now) (framed_of frame.entry))
         answers.old.items answers.new.items
         (W.contents output.old) (W.contents output.new)) }
 {
-    answer(alloc, zones, frame.message, frame.transport, out)?;
-    push_framed(answers, out.as_slice())?;
-    write_if_many(answers, output)
-}
-
-/// Writes the answers that wait, where they have as many octets as may wait.
-fn write_if_many<W: Write>(answers: &mut Vec<u8>, output: &mut W) -> Result<(), Stop>
-    ensures { OnOk result (Moves answers.old.items
-        (W.contents output.old) (W.contents output.new) answers.new.items) }
-{
-    if answers.len() < WAITING_LIMIT {
-        return Ok(());
-    }
-    write_out(answers, output)
-}
-
-/// Writes the answers that wait, if any do.
-fn write_out<W: Write>(answers: &mut Vec<u8>, output: &mut W) -> Result<(), Stop>
-    ensures none_left { OnOk result (answers.new.items ≡ []) }
-    ensures written { OnOk result
-        (Appends (W.contents output.old) (W.contents output.new) answers.old.items) }
-{
-    if answers.is_empty() {
-        return Ok(());
-    }
-    match written(answers.as_slice(), output) {
-        Ok(()) => {
-            answers.clear();
-            Ok(())
-        }
-        Err(e) => Err(Stop::Write(e.kind())),
+    match read_query(alloc, frame.message) {
+        Ok(query) => answer_query(alloc, server, frame, query, out, answers, output),
+        Err(error) => answer_once(alloc, server, frame, Err(error), out, answers, output),
     }
 }
 
-/// Writes octets, to where they are read.
-fn written<W: Write>(octets: &[u8], output: &mut W) -> io::Result<()>
-    ensures { OnOk result (Appends (W.contents output.old) (W.contents output.new) octets.now) }
+/// Puts what answers a query behind what waits.
+fn answer_query<S: Signer, H: Nsec3Hash, W: Write>(
+    alloc: Global,
+    server: &Server<'_, '_, S, H>,
+    frame: Frame<'_>,
+    query: Query,
+    out: &mut Vec<u8>,
+    answers: &mut Vec<u8>,
+    output: &mut W,
+) -> Result<(), Stop>
+    requires { query_of frame.message.now ≡ Ok query }
+    ensures { OnOk result
+        (Puts (AnswersQuery (served_of H.digest_of server.now) (framed_of frame.entry) query)
+        answers.old.items answers.new.items
+        (W.contents output.old) (W.contents output.new)) }
 {
-    output.write_all(octets)?;
-    output.flush()
+    if asks_for_transfer(frame.transport, &query) {
+        return answer_transfer(alloc, server, frame, &query, out, answers, output);
+    }
+    answer_once(alloc, server, frame, Ok(query), out, answers, output)
+}
+
+/// Puts the one answer to a message behind what waits.
+fn answer_once<S: Signer, H: Nsec3Hash, W: Write>(
+    alloc: Global,
+    server: &Server<'_, '_, S, H>,
+    frame: Frame<'_>,
+    read: Result<Query, ReadError>,
+    out: &mut Vec<u8>,
+    answers: &mut Vec<u8>,
+    output: &mut W,
+) -> Result<(), Stop>
+    requires { ReadsQuery read (query_of frame.message.now) }
+    ensures answer { OnOk result
+        (Puts (IsOneAnswer (served_of H.digest_of server.now) (framed_of frame.entry))
+        answers.old.items answers.new.items
+        (W.contents output.old) (W.contents output.new)) }
+    ensures read { OnOk result (query_of frame.entry.message.now ≡ read) }
+{
+    answer_read(alloc, server.zones, read, frame.transport, out)?;
+    put_answer(out.as_slice(), answers, output)
 }
 
 /// Reads once, and again where a signal came first.

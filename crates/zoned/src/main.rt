@@ -1,8 +1,9 @@
-//! `zoned [--check] [--limits] ZONE..`: answers the frames of messages on standard input from zone files, up to the end of the
+//! `zoned [--check] [--limits] [--transfers] ZONE..`: answers the frames of messages on standard input from zone files, up to the end of the
 //! input, on standard output. It opens no socket: something else lays one on its streams.
 //!
 //! A ZONE is `FILE`, whose origin is the owner of its first SOA, or `ORIGIN=FILE`. With `--limits` each query stands behind the
-//! limit of its answer; with `--check` the program ends once the zones are loaded, and writes their origins.
+//! limit of its answer; with `--transfers` the zones are sent whole to whoever asks for them (AXFR, RFC 5936), and else to nobody; with
+//! `--check` the program ends once the zones are loaded, and writes their origins.
 #![tactic(auto)]
 
 ghost use Rattle.std.specs.Prelude.{◌≤◌};
@@ -18,10 +19,10 @@ use std::{env, io};
 use telling::tell;
 use wanted::{Wanted, wanted_by};
 use zone_catalog::{Zone, served};
-use zone_server::{Stop, serve_frames};
-use zones::load_zones;
+use zone_server::{Server, Stop, serve_frames};
+use zones::{load_zones, policies};
 
-const USAGE: &[u8] = b"usage: zoned [--check] [--limits] FILE.. | ORIGIN=FILE..\n";
+const USAGE: &[u8] = b"usage: zoned [--check] [--limits] [--transfers] FILE.. | ORIGIN=FILE..\n";
 
 fn main(rt: HostRuntime) -> ExitCode {
     let alloc = rt.alloc();
@@ -52,7 +53,10 @@ fn run(rt: &HostRuntime, alloc: Global, wanted: &Wanted<'_>) -> u8
     let Some(zones) = load_zones(rt, alloc, wanted, &mut fault) else {
         return 2;
     };
-    let Ok(served) = served(alloc, zones.as_slice()) else {
+    let (Ok(served), Ok(policies)) = (
+        served(alloc, zones.as_slice()),
+        policies(alloc, zones.as_slice(), wanted.policy),
+    ) else {
         return tell(&mut fault, b"out of memory\n");
     };
     if wanted.is_check {
@@ -61,14 +65,12 @@ fn run(rt: &HostRuntime, alloc: Global, wanted: &Wanted<'_>) -> u8
             Err(_) => tell(&mut fault, b"write failed\n"),
         };
     }
+    let server = Server {
+        zones: served.as_slice(),
+        policies: policies.as_slice(),
+    };
     let (mut input, mut output) = (rt.reader(), io::writer(rt));
-    match serve_frames(
-        alloc,
-        served.as_slice(),
-        wanted.mode,
-        &mut input,
-        &mut output,
-    ) {
+    match serve_frames(alloc, &server, wanted.mode, &mut input, &mut output) {
         Ok(()) => 0,
         Err(Stop::Memory) => tell(&mut fault, b"out of memory\n"),
         Err(Stop::Read(_)) => tell(&mut fault, b"read failed\n"),

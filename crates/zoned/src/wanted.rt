@@ -1,6 +1,7 @@
 //! What the words behind the program's name ask for.
 
 use std::alloc::Global;
+use zone_handler::AxfrPolicy;
 use zone_proto::{Name, ProtoError};
 use zone_server::Mode;
 
@@ -20,18 +21,26 @@ pub struct Wanted<'w> {
     pub is_check: bool,
     /// How frames stand on the input.
     pub mode: Mode,
+    /// Who may transfer the zones.
+    pub policy: AxfrPolicy,
     /// The zones, one at least.
     pub zones: Vec<WantedZone<'w>>,
 }
 
-/// What words ask for: `--check` or nothing, `--limits` or nothing, and zones. None where they aren't that.
+/// What words ask for: `--check` or nothing, `--limits` or nothing, `--transfers` or nothing, and zones. None where they aren't that.
 pub fn wanted_by(alloc: Global, words: &[String]) -> Result<Option<Wanted<'_>>, ProtoError> {
     let (is_check, words) = flag(words, "--check");
     let (is_limits, words) = flag(words, "--limits");
+    let (is_transferred, words) = flag(words, "--transfers");
     let mode = if is_limits {
         Mode::Limits
     } else {
         Mode::Stream
+    };
+    let policy = if is_transferred {
+        AxfrPolicy::AllowAll
+    } else {
+        AxfrPolicy::Deny
     };
     let mut zones = Vec::new(alloc);
     for word in words {
@@ -46,6 +55,7 @@ pub fn wanted_by(alloc: Global, words: &[String]) -> Result<Option<Wanted<'_>>, 
     Ok(Some(Wanted {
         is_check,
         mode,
+        policy,
         zones,
     }))
 }

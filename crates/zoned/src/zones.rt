@@ -9,6 +9,7 @@ use std::fs;
 use std::io::{Read, Write};
 use zone_catalog::{Zone, load_records, zone_of};
 use zone_file::{FaultText, InputError, PlacedRecord, read_zone};
+use zone_handler::AxfrPolicy;
 use zone_loading::{LoadFault, Loaded};
 use zone_proto::{Name, ProtoError, RecordType};
 
@@ -138,4 +139,17 @@ fn zone_origin(
         }
     }
     Ok(Name::root(alloc))
+}
+
+/// The same policy for each of the zones.
+pub fn policies(
+    alloc: Global,
+    zones: &[Zone],
+    policy: AxfrPolicy,
+) -> Result<Vec<AxfrPolicy>, AllocError> {
+    let mut policies = Vec::with_capacity(alloc, zones.len())?;
+    for _ in zones {
+        policies.push(policy)?;
+    }
+    Ok(policies)
 }

@@ -1,12 +1,11 @@
-use Rattle.std.proofs.Common.{length, map}
-use Rattle.zone_response.specs.Queries.{zone_of}
-use Rattle.zone_server.specs.Serving.{TakesFrames}
+use Rattle.std.proofs.Common.{length}
+use Rattle.zone_server.specs.Serving.{served_of, TakesFrames}
 use Rattle.zone_server.proofs.serving.answer_frames.Given as goal
 
 -- the frames before the rest were answered
 abbrev pub invariant-loop-frame : goal.invariant-loop-frame
 invariant-loop-frame g l =
-    TakesFrames (map (zone_of {S = g.row.S.Denot} {H = g.row.H.Denot} g.H.Nsec3Hash.digest_of) l.zones) l.mode l.fn.octets l.rest l.fn.answers.items l.answers.items
+    TakesFrames (served_of {S = g.row.S.Denot} {H = g.row.H.Denot} g.H.Nsec3Hash.digest_of l.server) l.mode l.fn.octets l.rest l.fn.answers.items l.answers.items
     (g.W.Write.contents l.fn.output) (g.W.Write.contents l.output)
 
 abbrev pub decreases-loop-frame : goal.decreases-loop-frame

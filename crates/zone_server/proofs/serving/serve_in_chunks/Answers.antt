@@ -1,12 +1,11 @@
-use Rattle.std.proofs.Common.{◌≡◌, ◌++◌, ℕ, List, [], map, take, subst, arith}
-use Rattle.zone_response.specs.Queries.{zone_of}
-use Rattle.zone_server.specs.Serving.{TakesFrames}
+use Rattle.std.proofs.Common.{◌≡◌, ◌++◌, ℕ, List, [], take, subst, arith}
+use Rattle.zone_server.specs.Serving.{served_of, TakesFrames}
 use Rattle.zone_server.proofs.ServedFrames.{served_on}
 use Rattle.zone_server.proofs.serving.serve_in_chunks.Goals as goal
 
 pub loop-preserved : goal.loop-preserved
 loop-preserved g c =
-    let zs = map (zone_of {S = g.row.S.Denot} {H = g.row.H.Denot} g.H.Nsec3Hash.digest_of) c.args.zones.now in
+    let zs = served_of {S = g.row.S.Denot} {H = g.row.H.Denot} g.H.Nsec3Hash.digest_of c.args.server.now in
     let read : List ℕ = take c.in_ok-count.count c.read_some.new.buffer in
     let behind : c.extend_from_slice.new.self.items ≡ c.loop.waiting.items ++ read = c.in_ok-extend_from_slice.ensures.items in
     let P : List ℕ → Type 0 = λ o. TakesFrames zs c.args.mode o c.serve_waiting.new.waiting.items [] [] (g.W.Write.contents c.loop.output) (g.W.Write.contents c.serve_waiting.new.output) in

@@ -1,11 +1,10 @@
-use Rattle.std.proofs.Common.{◌≡◌, ◌<◌, [], length, map}
-use Rattle.zone_response.specs.Queries.{zone_of}
-use Rattle.zone_server.specs.Serving.{ServesOn}
+use Rattle.std.proofs.Common.{◌≡◌, ◌<◌, [], length}
+use Rattle.zone_server.specs.Serving.{served_of, ServesOn}
 use Rattle.zone_server.proofs.serving.serve_in_chunks.Given as goal
 
 abbrev pub invariant-loop : goal.invariant-loop
 invariant-loop g l = record {
-  served : ServesOn (map (zone_of {S = g.row.S.Denot} {H = g.row.H.Denot} g.H.Nsec3Hash.digest_of) l.zones) l.mode [] l.waiting.items (g.R.Read.remaining l.initial.input) (g.R.Read.remaining l.input)
+  served : ServesOn (served_of {S = g.row.S.Denot} {H = g.row.H.Denot} g.H.Nsec3Hash.digest_of l.server) l.mode [] l.waiting.items (g.R.Read.remaining l.initial.input) (g.R.Read.remaining l.input)
       (g.W.Write.contents l.initial.output) (g.W.Write.contents l.output);
   none_wait : l.answers.items ≡ [];
   room : 0 < length l.chunk;

@@ -1,8 +1,8 @@
-use Rattle.std.proofs.Common.{◌≡◌, ℕ, List, length, map, sym, ap, subst, ◌∙◌, arith}
+use Rattle.std.proofs.Common.{◌≡◌, ℕ, List, length, sym, ap, subst, ◌∙◌, arith}
 use Rattle.std.specs.Prelude.{None, Vec}
 use Rattle.std.specs.declared.alloc.Global.{Global}
 use Rattle.zone_server.specs.Frames.{frame_of}
-use Rattle.zone_response.specs.Queries.{zone_of}
+use Rattle.zone_server.specs.Serving.{served_of}
 use Rattle.zone_server.proofs.ServedFrames.{kept_whole, waiting_served}
 use Rattle.zone_server.proofs.serving.serve_waiting.Goals as goal
 use Rattle.zone_server.proofs.serving.serve_waiting.Goals.{then-left-len+in_ok-left-2, else-left-len}
@@ -17,7 +17,7 @@ returns-clause-taken g c =
           ∙ kept_whole c.args.mode c.args.waiting.now.items c.as_slice.result.now c.in_ok-left.ensures.taken.frames c.in_ok-left.left.now c.as_slice.ensures.value c.in_ok-left.ensures.taken.stand
           (omega (arith, w.if-left-len.false, c.len.ensures, c.as_slice.ensures.len, ap length c.as_slice.ensures.value))
     ] in
-    waiting_served (map (zone_of {S = g.row.S.Denot} {H = g.row.H.Denot} g.H.Nsec3Hash.digest_of) c.args.zones.now) c.args.mode c.args.waiting.now.items c.as_slice.result.now c.in_ok-left.left.now c.if-left-len.waiting.items
+    waiting_served (served_of {S = g.row.S.Denot} {H = g.row.H.Denot} g.H.Nsec3Hash.digest_of c.args.server.now) c.args.mode c.args.waiting.now.items c.as_slice.result.now c.in_ok-left.left.now c.if-left-len.waiting.items
     c.args.answers.now.items c.answer_frames.new.answers.items (g.W.Write.contents c.args.output.now) (g.W.Write.contents c.answer_frames.new.output) (g.W.Write.contents c.write_out.new.output)
     c.as_slice.ensures.value c.requires kept c.in_ok-left.ensures.taken c.in_ok-write_out.ensures.written
 

@@ -1,0 +1,224 @@
+//! What a query for a whole zone, or for a zone's changes, is answered with (RFC 5936, RFC 1995).
+ghost use Rattle.std.specs.Prelude.{◌≡◌, IfOk, map, option_map};
+ghost use Rattle.zone_proto.specs.Keys.{key as key_at};
+ghost use Rattle.zone_proto.specs.Sets.{first_serial};
+ghost use Rattle.zone_proto.specs.Types.{SOA};
+ghost use Rattle.zone_map.specs.Zones.{set_at};
+ghost use Rattle.zone_response.specs.Queries.{zone_of};
+ghost use Rattle.zone_server.specs.Transfers.{asks_for_transfer, client_serial, is_older, is_stream, policy_reply, allowed_reply, reply_to, serial_of, zone_at, zone_asked, changes_reply};
+ghost use Rattle.zone_server.specs.TransferSteps.{first_policy, reply_kept, HasSmallCode};
+
+use crate::transport::Transport;
+use std::alloc::{AllocError, Global};
+use std::collections::BTreeMap;
+use zone_handler::AxfrPolicy;
+use zone_message::{MessageError, Query, read_message};
+use zone_proto::{
+    DNSClass, LowerName, Nsec3Hash, ProtoError, RData, Record, RecordSet, RecordType, ResponseCode,
+    RrKey, Signer,
+};
+use zone_response::ServedZone;
+
+/// The type of a query for a zone's changes (RFC 1995 section 3).
+const IXFR: RecordType = RecordType(251);
+
+/// NOTAUTH: the server isn't authoritative for such a zone (RFC 5936 section 2.2.1).
+const NOT_AUTHORITATIVE: ResponseCode = ResponseCode::Other(9);
+
+/// From how far ahead on a serial isn't the greater one any more (RFC 1982 section 3.2).
+const HALF_OF_SERIALS: u32 = 2_147_483_648;
+
+/// What a query for a transfer is answered with.
+#[derive(Clone, Copy)]
+pub(crate) enum TransferReply<'z> {
+    /// A code alone.
+    Code(ResponseCode),
+    /// The zone's SOA alone.
+    StartOfAuthority(&'z RecordSet),
+    /// The zone with this SOA and these sets.
+    Whole(&'z RecordSet, &'z BTreeMap<RrKey, RecordSet>),
+}
+
+/// Whether a query is answered by a transfer: IXFR is, and AXFR by TCP. By UDP AXFR isn't defined (RFC 5936 section 4.2).
+pub(crate) fn asks_for_transfer(transport: Transport, query: &Query) -> bool
+    ensures { result ≡ asks_for_transfer transport query.now }
+{
+    let query_type = query.question.query_type;
+    query_type == IXFR || (query_type == RecordType::AXFR && is_stream(transport))
+}
+
+/// Whether messages may follow one another: by TCP.
+fn is_stream(transport: Transport) -> bool
+    ensures { result ≡ is_stream transport }
+{
+    match transport {
+        Transport::Tcp => true,
+        Transport::Udp { .. } => false,
+    }
+}
+
+/// What a query for a transfer, which `message` is read as, is answered with. `policies` tells of each of the zones who may transfer
+/// it, in their order. Refused for want of memory alone.
+pub(crate) fn reply_to<'z, S: Signer, H: Nsec3Hash>(
+    alloc: Global,
+    zones: &[ServedZone<'z, S, H>],
+    policies: &[AxfrPolicy],
+    transport: Transport,
+    message: &[u8],
+    query: &Query,
+) -> Result<TransferReply<'z>, AllocError>
+    ensures reply { IfOk result (λ reply. reply_kept reply
+        ≡ reply_to (map (zone_of H.digest_of) zones.now) policies.now transport message.now
+        query.now) }
+    ensures code { IfOk result HasSmallCode }
+{
+    match zone_asked(zones, policies, query)? {
+        None => Ok(TransferReply::Code(NOT_AUTHORITATIVE)),
+        Some((zone, AxfrPolicy::AllowAll)) => {
+            allowed_reply(alloc, zone, transport, message, query)
+        }
+        Some((_, AxfrPolicy::Deny | AxfrPolicy::AllowSigned)) => {
+            Ok(TransferReply::Code(ResponseCode::Refused))
+        }
+    }
+}
+
+/// The zone that a query asks for, and who may transfer it.
+fn zone_asked<'s, 'z, S: Signer, H: Nsec3Hash>(
+    zones: &'s [ServedZone<'z, S, H>],
+    policies: &[AxfrPolicy],
+    query: &Query,
+) -> Result<Option<(&'s ServedZone<'z, S, H>, AxfrPolicy)>, AllocError>
+    ensures { IfOk result (λ asked. option_map (λ x. (zone_of H.digest_of x.0.now, x.1)) asked
+        ≡ zone_asked (map (zone_of H.digest_of) zones.now) policies.now query.now) }
+{
+    if query.question.query_class != DNSClass::IN {
+        return Ok(None);
+    }
+    let Ok(name) = LowerName::new(&query.question.name) else {
+        return Err(AllocError);
+    };
+    Ok(zone_at(zones, policies, &name))
+}
+
+/// The zone of this origin, and who may transfer it.
+fn zone_at<'s, 'z, S: Signer, H: Nsec3Hash>(
+    zones: &'s [ServedZone<'z, S, H>],
+    policies: &[AxfrPolicy],
+    origin: &LowerName,
+) -> Option<(&'s ServedZone<'z, S, H>, AxfrPolicy)>
+    ensures { option_map (λ x. (zone_of H.digest_of x.0.now, x.1)) result
+        ≡ zone_at (map (zone_of H.digest_of) zones.now) policies.now origin.now }
+{
+    let mut left = policies;
+    for zone in zones {
+        let (policy, others) = first_policy(left);
+        if zone.origin == origin {
+            return Some((zone, policy));
+        }
+        left = others;
+    }
+    None
+}
+
+/// The first of some policies, that nobody may transfer a zone where there is none, and the others.
+fn first_policy(policies: &[AxfrPolicy]) -> (AxfrPolicy, &[AxfrPolicy])
+    ensures { (result.0, result.1.now) ≡ first_policy policies.now }
+{
+    match policies {
+        [first, others @ ..] => (*first, others),
+        [] => (AxfrPolicy::Deny, &[]),
+    }
+}
+
+/// What is answered for a zone that may be transferred.
+fn allowed_reply<'z, S: Signer, H: Nsec3Hash>(
+    alloc: Global,
+    zone: &ServedZone<'z, S, H>,
+    transport: Transport,
+    message: &[u8],
+    query: &Query,
+) -> Result<TransferReply<'z>, AllocError>
+    ensures reply { IfOk result (λ reply. reply_kept reply
+        ≡ allowed_reply transport message.now query.now zone.now.inner.now.records
+        (set_at zone.now.inner.now.records zone.now.origin.now SOA)) }
+    ensures code { IfOk result HasSmallCode }
+{
+    let Ok(key) = soa_key(zone.origin) else {
+        return Err(AllocError);
+    };
+    let Some(soa) = zone.inner.get(&key) else {
+        return Ok(TransferReply::Code(ResponseCode::ServFail));
+    };
+    if query.question.query_type == RecordType::AXFR {
+        return Ok(TransferReply::Whole(soa, zone.inner.as_map()));
+    }
+    let serial = client_serial(alloc, message)?;
+    Ok(changes_reply(transport, serial, soa, zone.inner.as_map()))
+}
+
+/// The key of the SOA set of an origin.
+fn soa_key(origin: &LowerName) -> Result<RrKey, ProtoError>
+    ensures { IfOk result (λ key. key ≡ key_at origin.now SOA) }
+{
+    Ok(RrKey::new(origin.clone()?, RecordType::SOA))
+}
+
+/// What a query for the changes since a serial is answered with.
+fn changes_reply<'z>(
+    transport: Transport,
+    serial: Option<u32>,
+    soa: &'z RecordSet,
+    sets: &'z BTreeMap<RrKey, RecordSet>,
+) -> TransferReply<'z>
+    ensures reply { reply_kept result ≡ changes_reply transport serial soa.now sets.now.entries }
+    ensures code { HasSmallCode result }
+{
+    match serial {
+        None => TransferReply::Code(ResponseCode::FormErr),
+        Some(theirs) if is_stream(transport) && is_older(theirs, serial_of(soa)) => {
+            TransferReply::Whole(soa, sets)
+        }
+        Some(_) => TransferReply::StartOfAuthority(soa),
+    }
+}
+
+/// The serial of the SOA in the authority section of a query for changes (RFC 1995 section 3); none where there is no SOA, or the
+/// section isn't of the form of records.
+fn client_serial(alloc: Global, message: &[u8]) -> Result<Option<u32>, AllocError>
+    ensures { IfOk result (λ serial. serial ≡ client_serial message.now) }
+{
+    match read_message(alloc, message) {
+        Ok(read) => Ok(first_serial(read.authorities.as_slice())),
+        Err(MessageError::Malformed) => Ok(None),
+        Err(MessageError::Memory) => Err(AllocError),
+    }
+}
+
+/// The serial of an SOA set; 0 where it has no record.
+fn serial_of(soa: &RecordSet) -> u32
+    ensures { result ≡ serial_of soa.now }
+{
+    first_serial(soa.as_slice()).unwrap_or(0)
+}
+
+/// The serial of the SOA that records begin with.
+fn first_serial(records: &[Record]) -> Option<u32>
+    ensures { result ≡ first_serial records.now }
+{
+    match &records.first()?.rdata {
+        RData::SOA(soa) => Some(soa.serial),
+        _ => None,
+    }
+}
+
+/// Whether a serial is less than another (RFC 1982 section 3.2).
+fn is_older(theirs: u32, ours: u32) -> bool
+    ensures { result ≡ is_older theirs ours }
+{
+    if theirs < ours {
+        ours - theirs < HALF_OF_SERIALS
+    } else {
+        theirs - ours > HALF_OF_SERIALS
+    }
+}
