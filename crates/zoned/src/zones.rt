@@ -4,7 +4,7 @@ ghost use Rattle.zone_map.specs.Zones.{IsZone};
 
 use crate::telling::{tell, tell_at};
 use crate::wanted::{Wanted, WantedZone};
-use std::alloc::Global;
+use std::alloc::{AllocError, Global};
 use std::fs;
 use std::io::{Read, Write};
 use zone_catalog::{Zone, load_records, zone_of};
