@@ -34,6 +34,9 @@ SECONDARY = {
     "knotd": ' - domain: "{origin}"\n   file: "{folder}/{origin}copy"\n   master: zoned\n   acl: all\n',
 }
 
+# Zones that a server gives nobody, as a primary either: Knot DNS none with a set that no message has room for.
+NOT_GIVEN = {"knotd": {"large.test."}}
+
 # Seconds in which a copy has to come.
 COMES = 30
 
@@ -190,8 +193,9 @@ def main(seed="1", rounds="1"):
                 write = lambda origin: other_servers.written(f"{folder}/{number}", origin, change(zones[origin]), ways.get(origin))
                 versions.append({origin: write(origin) for origin in zones})
             for server in servers:
-                differ = differing(server, path, folder, versions)
-                print(f"{server}: {len(zones)} zones, two versions of each, {len(differ)} copies differ", *differ[:5], sep="\n    ", flush=True)
+                given = [{it: files[it] for it in files if it not in NOT_GIVEN.get(server, ())} for files in versions]
+                differ = differing(server, path, folder, given)
+                print(f"{server}: {len(given[0])} zones, two versions of each, {len(differ)} copies differ", *differ[:5], sep="\n    ", flush=True)
                 differs = differs or bool(differ)
     return 1 if differs else 0
 
