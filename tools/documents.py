@@ -2,7 +2,7 @@
 """Checks that the documents are true, as far as their text can be laid beside the sources. Prints what isn't, each with its file
 and line, and ends with status 1 where something is.
 
-- The README's first path is the example's, and its answers are those of examples/answers; it has at most 250 lines.
+- The README's first path is the example's, and its answers are those of examples/answers; it has at most 220 lines.
 - Blocks of Rattle are lines of a source: those of the README and of DENIALS of crates/library_example.
 - The README's list of crates is what crates.txt has below library_example, and its toolchain is what `rt version` prints.
 - Each contract, clause, word of the definitions, lemma, crate and file that a table names is there, and each name that is marked
@@ -24,7 +24,7 @@ import sources
 
 README, ARCHITECTURE, DEFINITIONS, PROOFS = "README.md", "docs/ARCHITECTURE.md", "docs/DEFINITIONS.md", "docs/PROOFS.md"
 DIFFERENCES = "docs/DIFFERENCES.md"
-LONGEST_README, LONGEST_PROSE = 250, 120
+LONGEST_README, LONGEST_PROSE = 220, 120
 EXAMPLE = "crates/library_example/src"
 
 # Names that are marked as code and stand in no source: of hickory-server and of the toolchain's library.
