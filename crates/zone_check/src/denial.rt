@@ -6,12 +6,12 @@ ghost use Rattle.zone_proto.specs.Types.{NSEC as nsec_type, NSEC3 as nsec3_type}
 ghost use Rattle.zone_map.specs.Zones.{owners};
 ghost use Rattle.zone_loading.specs.Circles.{nsec_difference};
 ghost use Rattle.zone_loading.specs.Nsec3Circles.{nsec3_difference, zone_parameters};
-ghost use Rattle.zone_check.specs.Nsec3Digests.{nsec3_digest};
+ghost use Rattle.zone_catalog.specs.Digests.{name_digest};
 
-use crate::sha1_hash::Sha1Hash;
 use crate::telling::{Warning, tell_at};
 use std::fmt;
 use std::io::Write;
+use zone_catalog::Sha1Hash;
 use zone_loading::{Loaded, OpenCircle, closed_nsec_circle, closed_nsec3_circle};
 use zone_proto::{Name, RecordType};
 
@@ -61,7 +61,7 @@ pub fn tell_denial<E: Write>(file: &str, loaded: &Loaded, fault: &mut E) -> Opti
     ensures nsec3 { result ≡ Some Denial.Nsec3Circle
         → (p : Nsec3Parameters) → zone_parameters loaded.now.origin loaded.now.records ≡ Ok p
         → (n : NameLabels)
-        → nsec3_difference loaded.now.origin loaded.now.records nsec3_digest p n ≡ None }
+        → nsec3_difference loaded.now.origin loaded.now.records name_digest p n ≡ None }
 {
     if !loaded.records.is_without(RecordType::NSEC) {
         return tell_nsec(file, loaded, fault);
@@ -102,7 +102,7 @@ fn tell_nsec3<E: Write>(file: &str, loaded: &Loaded, fault: &mut E) -> Option<De
     ensures circle { result ≡ Some Denial.Nsec3Circle
         → (p : Nsec3Parameters) → zone_parameters loaded.now.origin loaded.now.records ≡ Ok p
         → (n : NameLabels)
-        → nsec3_difference loaded.now.origin loaded.now.records nsec3_digest p n ≡ None }
+        → nsec3_difference loaded.now.origin loaded.now.records name_digest p n ≡ None }
 {
     match closed_nsec3_circle(&loaded.records, &loaded.origin, &Sha1Hash) {
         Ok(circle) => {

@@ -3,7 +3,6 @@
 
 mod checking;
 mod denial;
-mod sha1_hash;
 mod telling;
 mod wanted;
 mod zone;

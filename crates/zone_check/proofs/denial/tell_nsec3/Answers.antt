@@ -3,7 +3,7 @@ use Rattle.std.specs.Prelude.{None, Ok, Result}
 use Rattle.zone_proto.specs.declared.rdata.denial.NSEC3PARAM.{NSEC3PARAM as Nsec3Parameters}
 use Rattle.zone_loading.specs.declared.circle.OpenCircle.{OpenCircle}
 use Rattle.zone_loading.specs.Nsec3Circles.{nsec3_difference}
-use Rattle.zone_check.specs.Nsec3Digests.{nsec3_digest}
+use Rattle.zone_catalog.specs.Digests.{name_digest}
 use Rattle.zone_check.proofs.denial.tell_nsec3.Goals as goal
 
 -- a result has one value
@@ -12,5 +12,5 @@ one_value r p q h k = cc
 
 pub returns-in-Ok-clause-circle : goal.returns-in-Ok-clause-circle
 returns-in-Ok-clause-circle g c = λ is p told n.
-    subst (λ (q : Nsec3Parameters). nsec3_difference c.args.loaded.now.origin c.args.loaded.now.records nsec3_digest q n ≡ None)
+    subst (λ (q : Nsec3Parameters). nsec3_difference c.args.loaded.now.origin c.args.loaded.now.records name_digest q n ≡ None)
     (one_value _ c.in-Ok.circle.parameters p c.in-Ok.ensures.parameters told) (c.in-Ok.ensures.closed n)
