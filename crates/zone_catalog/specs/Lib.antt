@@ -1,7 +1,6 @@
 pub mod Calls
 pub mod Catalogs
 pub mod Denials
-pub mod Digests
 pub mod Holding
 pub mod Outcomes
 pub mod Texts

@@ -5,11 +5,11 @@ use Rattle.zone_map.specs.Zones.{Sets}
 use Rattle.zone_response.specs.declared.question.ServedZone.{ServedZone}
 use Rattle.zone_response.specs.Queries.{zone_of}
 use Rattle.zone_response.specs.Queries as queries
-use Rattle.zone_catalog.specs.declared.sha1_hash.Sha1Hash.{Sha1Hash}
+use Rattle.zone_sha1.specs.declared.sha1_hash.Sha1Hash.{Sha1Hash}
 use Rattle.zone_catalog.specs.declared.static_signer.StaticSigner.{StaticSigner}
 use Rattle.zone_catalog.specs.declared.zone.Zone.{Zone}
 use Rattle.zone_catalog.specs.Denials.{denial_kind}
-use Rattle.zone_catalog.specs.Digests.{name_digest}
+use Rattle.zone_sha1.specs.Digests.{name_digest}
 
 -- a zone as a query finds it
 abbrev pub served_zone : Zone → queries.Zone

@@ -5,7 +5,6 @@ ghost use Rattle.zone_map.specs.Zones.{set_at, IsZone};
 ghost use Rattle.zone_catalog.specs.Denials.{denial_kind, first_parameters, kind_by, kind_of, parameters_at};
 ghost use Rattle.zone_catalog.specs.Zones.{zone_of_records, IsServed};
 
-use crate::sha1_hash::Sha1Hash;
 use crate::static_signer::StaticSigner;
 use std::alloc::{AllocError, Global};
 use zone_inner::InnerInMemory;
@@ -14,6 +13,7 @@ use zone_proto::{
     LowerName, NSEC3PARAM, NxProofKind, ProtoError, RData, RecordSet, RecordType, RrKey,
 };
 use zone_response::ServedZone;
+use zone_sha1::Sha1Hash;
 
 /// A zone that is served.
 #[derive(Drop)]

@@ -38,9 +38,9 @@ use Rattle.zone_in_memory.specs.Transfers.{plain, IsZoneTransfer}
 use Rattle.zone_program.specs.declared.session.Served.{Served}
 use Rattle.zone_commands.specs.declared.command.Command.{Command}
 use Rattle.zone_commands.specs.declared.command.Command.TheVariants as command
-use Rattle.zone_program.specs.declared.sha1_hash.Sha1Hash.{Sha1Hash}
+use Rattle.zone_sha1.specs.declared.sha1_hash.Sha1Hash.{Sha1Hash}
 use Rattle.zone_program.specs.DemoSigners.{Demo, demo_key, demo_signature}
-use Rattle.zone_program.specs.Nsec3Digests.{nsec3_digest}
+use Rattle.zone_sha1.specs.Digests.{name_digest}
 use Rattle.zone_program.specs.Replies.{Reply, yes, no, done, secured, refused, failed, broken_off, answered, proved, listed, transferred, reply_text, memory, secure_word, lookup_word}
 
 -- the zone of the program: the demonstration signers sign it, and its names are hashed by SHA-1
@@ -52,7 +52,7 @@ abbrev pub signature_of : Demo → SignedPart → ℕ → ℕ → Option RRSIG
 signature_of signer part class now = Some (demo_signature signer part now)
 
 abbrev pub digest_of : Sha1Hash → ℕ → List ℕ → Name → ℕ → Option (List ℕ)
-digest_of hash = nsec3_digest
+digest_of hash = name_digest
 
 -- a zone without records and signers, of which the program is the source, and which anybody may have
 abbrev pub empty_zone : Name → Option NxProofKind → DemoZone

@@ -12,16 +12,15 @@ mod demo_signer;
 pub mod laws;
 mod replies;
 mod session;
-mod sha1_hash;
 mod signing;
 
 pub use demo_signer::DemoSigner;
 use session::{Served, empty_zone};
-pub use sha1_hash::Sha1Hash;
 use std::alloc::Global;
 use std::io::{Read, Write};
 use zone_commands::{Stop, serve};
 use zone_proto::{Name, ProtoError};
+pub use zone_sha1::Sha1Hash;
 
 /// Why the program ends before its input does.
 enum Fault {

@@ -8,13 +8,13 @@ ghost use Rattle.zone_program.specs.Steps.{empty_zone, IsAdded, IsDropped, AddsT
 use crate::circle::circle;
 use crate::demo_signer::DemoSigner;
 use crate::replies::{deny, lookup, transfer};
-use crate::sha1_hash::Sha1Hash;
 use crate::signing::{add_key, renew, secure};
 use std::alloc::AllocError;
 use zone_commands::{Command, Session};
 use zone_handler::{AxfrPolicy, ZoneType};
 use zone_in_memory::InMemoryZoneHandler;
 use zone_proto::{Name, NxProofKind, Record, RrKey};
+use zone_sha1::Sha1Hash;
 
 /// The zone that the program keeps.
 pub type Zone = InMemoryZoneHandler<DemoSigner, Sha1Hash>;

@@ -11,5 +11,5 @@ iterated_hash hash salt x (suc k) = hash (iterated_hash hash salt x k ++ salt)
 
 -- by algorithm 1, which is SHA-1 (RFC 5155 section 11), the digest of the wire form of a name in lower case; no digest by
 -- another algorithm
-abbrev pub nsec3_digest : ℕ → List ℕ → Name → ℕ → Option (List ℕ)
-nsec3_digest algorithm salt name iterations = if algorithm == 1 then Some (iterated_hash sha1 salt (wire_form name) iterations) else None
+abbrev pub name_digest : ℕ → List ℕ → Name → ℕ → Option (List ℕ)
+name_digest algorithm salt name iterations = if algorithm == 1 then Some (iterated_hash sha1 salt (wire_form name) iterations) else None

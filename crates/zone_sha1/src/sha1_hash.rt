@@ -1,22 +1,24 @@
 //! The hash of names for NSEC3 records: SHA-1.
 ghost use Rattle.std.specs.Prelude.{◌≡◌, ◌++◌};
 ghost use Rattle.sha1.specs.Sha1.{sha1};
-ghost use Rattle.zone_program.specs.Nsec3Digests.{iterated_hash, nsec3_digest};
+ghost use Rattle.zone_sha1.specs.Digests.{iterated_hash, name_digest};
 
 use sha1::Sha1;
-use zone_commands::SHA_1;
 use zone_proto::{LowerName, Nsec3Hash, ProtoError};
+
+/// The number of SHA-1 among the hash algorithms (RFC 5155 section 11).
+const SHA_1: u8 = 1;
 
 /// How many octets a digest has (FIPS 180-4 section 1).
 const DIGEST_LENGTH: usize = 20;
 
-/// The hash of the program for NSEC3 records: SHA-1, the only algorithm that the standard has (RFC 5155 section 11).
+/// The hash of names for NSEC3 records: SHA-1, the only algorithm that the standard has (RFC 5155 section 11).
 #[derive(Drop)]
 pub struct Sha1Hash;
 
 impl Nsec3Hash for Sha1Hash {
     ghost digest_of = { λ _ algorithm salt name iterations.
-        nsec3_digest algorithm salt name iterations };
+        name_digest algorithm salt name iterations };
 
     /// The digest of the name's wire form in lower case by SHA-1, for algorithm 1: hashed once, and then `iterations` times
     /// more, each time with the salt behind what is hashed (RFC 5155 section 5). It has 20 octets.
