@@ -15,7 +15,7 @@ use zone_proto::ProtoError;
 const IXFR: u16 = 251;
 
 /// Reads a query: its header, its one question, and what it says by EDNS. Takes memory for the name alone, and none where its
-/// wire form has at most 33 octets.
+/// wire form has at most 31 octets.
 ///
 /// Only a query for IXFR may have records in the authority section. Those and the additional ones are passed over, but for an OPT
 /// record; its options are passed over too.

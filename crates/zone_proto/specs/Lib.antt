@@ -9,6 +9,7 @@ pub mod Keys
 pub mod Faults
 pub mod WireForms
 pub mod Results
+pub mod Octets
 pub mod Forms
 pub mod Suffixes
 pub mod TextForm

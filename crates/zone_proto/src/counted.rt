@@ -6,66 +6,38 @@ ghost use Rattle.std.specs.Prelude.{◌≡◌, ◌↔◌, [], ◌∷◌, ◌++�
 ghost use Rattle.std.specs.List.{AllByRecursion};
 ghost use Rattle.zone_proto.specs.Names.{lower, wildcard_of, IsLabel, IsName};
 ghost use Rattle.zone_proto.specs.Counting.{counting, counted_name, IsCounting};
+ghost use Rattle.zone_proto.specs.Octets.{written};
 
 use crate::labels_iter::Labels;
-use crate::letter_case::lower_octets;
-use crate::packed::Octets;
+use crate::octets::Octets;
+use crate::storage::{Short, Storage};
 use crate::wire::wire_length;
-use smallvec::SmallVec;
 use std::alloc::{AllocError, Global};
 use std::marker::Model;
 
 /// A name whose labels stand behind their lengths.
 #[derive(Debug, Drop)]
-pub(crate) struct Counted {
-    octets: Octets,
+pub(crate) struct Counted<S: Storage> {
+    octets: S,
 }
 
-impl Model for Counted {
+impl<S: Storage> Model for Counted<S> {
     ghost use Rattle.std.specs.Prelude.{List, ℕ};
     ghost use Rattle.zone_proto.specs.Counting.{counted_name, IsCounting};
 
     ghost Value = { List (List ℕ) };
 
-    ghost view = { λ c. counted_name c.octets.items };
+    ghost view = { λ c. counted_name (S.octets_in c.octets) };
 
-    ghost invariant = { λ c. IsCounting c.octets.items (counted_name c.octets.items) };
+    ghost invariant = { λ c.
+        IsCounting (S.octets_in c.octets) (counted_name (S.octets_in c.octets)) };
 }
 
-impl Counted {
-    /// The name of these labels.
-    pub(crate) fn count(alloc: Global, labels: Labels<'_>) -> Result<Counted, AllocError>
-        requires { IsName labels }
-        ensures { IfOk result (λ c. c ≡ labels.entry) }
-    {
-        let mut octets = SmallVec::with_capacity(
-            alloc,
-            wire_length(labels.clone()).saturating_sub(1),
-        )?;
-        push_labels(&mut octets, labels)?;
-        Ok(Counted { octets })
-    }
-
-    /// The name of these labels with one more before the first.
-    pub(crate) fn child(
-        alloc: Global,
-        label: &[u8],
-        labels: Labels<'_>,
-    ) -> Result<Counted, AllocError>
-        requires label { IsLabel label.now }
-        requires labels { IsName labels }
-        ensures { IfOk result (λ c. c ≡ label.now ∷ labels.entry) }
-    {
-        let mut octets = SmallVec::with_capacity(alloc, label.len() + wire_length(labels.clone()))?;
-        push_label(&mut octets, label)?;
-        push_labels(&mut octets, labels)?;
-        Ok(Counted { octets })
-    }
-
+impl<S: Storage> Counted<S> {
     /// The name whose labels stand in these octets.
-    pub(crate) fn of_octets(octets: Octets) -> Counted
-        requires { IsCounting octets.items (counted_name octets.items) }
-        ensures { result ≡ counted_name octets.items }
+    pub(crate) fn of_octets(octets: S) -> Counted<S>
+        requires { IsCounting (S.octets_in octets) (counted_name (S.octets_in octets)) }
+        ensures { result ≡ counted_name (S.octets_in octets) }
     {
         Counted { octets }
     }
@@ -74,66 +46,99 @@ impl Counted {
     pub(crate) fn is_root(&self) -> bool
         ensures { IsTrue result ↔ (self.now ≡ []) }
     {
-        self.octets.is_empty()
+        self.octets.octets().is_empty()
     }
 
     /// Takes the first label away, in place; the root stays.
     pub(crate) fn shorten(&mut self)
         ensures { self.new ≡ drop 1 self.old }
     {
-        if self.octets.is_empty() {
+        let octets = self.octets.octets();
+        if octets.is_empty() {
             return;
         }
-        let count = usize::from(self.octets[0]);
-        cut_front(&mut self.octets, count + 1);
+        let count = usize::from(octets[0]);
+        self.octets.cut_front(count + 1);
     }
 
     /// Replaces the first label by `*`, in place; the root stays.
     pub(crate) fn make_wildcard(&mut self)
         ensures { self.new ≡ wildcard_of self.old }
     {
-        if self.octets.is_empty() {
+        let octets = self.octets.octets();
+        if octets.is_empty() {
             return;
         }
-        let count = usize::from(self.octets[0]);
-        cut_front(&mut self.octets, count - 1);
-        write_star(&mut self.octets);
+        let count = usize::from(octets[0]);
+        self.octets.cut_front(count - 1);
+        self.octets.write(0, 1);
+        self.octets.write(1, b'*');
     }
 
     /// Puts the letters into lower case, in place.
     pub(crate) fn lower(&mut self)
         ensures { self.new ≡ lower self.old }
     {
-        lower_octets(self.octets.as_mut_slice());
+        self.octets.lower();
     }
 
     /// The octets.
     pub(crate) fn octets(&self) -> &[u8]
         ensures name { counted_name result.now ≡ self.now }
-        ensures counting { IsCounting result.now self.now }
+        ensures counting { IsCounting result.now (counted_name result.now) }
     {
-        &self.octets
+        self.octets.octets()
     }
 
     /// The allocator that the octets were made with.
     pub(crate) fn alloc(&self) -> Global {
-        *self.octets.allocator()
+        self.octets.alloc()
     }
+}
 
-    /// A copy.
-    pub(crate) fn clone(&self) -> Result<Counted, AllocError>
-        ensures { IfOk result (λ c. c ≡ self.now) }
+impl Counted<Short> {
+    /// A copy, without memory.
+    pub(crate) fn clone(&self) -> Counted<Short>
+        ensures { result ≡ self.now }
     {
-        Ok(Counted {
-            octets: SmallVec::from_slice(self.alloc(), &self.octets)?,
-        })
+        Counted {
+            octets: self.octets.clone(),
+        }
     }
+}
+
+/// The octets of the name of these labels.
+pub(crate) fn count(alloc: Global, labels: Labels<'_>) -> Result<Octets, AllocError>
+    requires { IsName labels }
+    ensures name { IfOk result (λ o. counted_name (written o) ≡ labels.entry) }
+    ensures counting { IfOk result (λ o. IsCounting (written o) (counted_name (written o))) }
+{
+    let mut octets = Octets::with_capacity(alloc, wire_length(labels.clone()).saturating_sub(1))?;
+    push_labels(&mut octets, labels)?;
+    Ok(octets)
+}
+
+/// The octets of the name of these labels with one more before the first.
+pub(crate) fn count_child(
+    alloc: Global,
+    label: &[u8],
+    labels: Labels<'_>,
+) -> Result<Octets, AllocError>
+    requires label { IsLabel label.now }
+    requires labels { IsName labels }
+    ensures name { IfOk result (λ o. counted_name (written o) ≡ label.now ∷ labels.entry) }
+    ensures counting { IfOk result (λ o. IsCounting (written o) (counted_name (written o))) }
+{
+    let mut octets = Octets::with_capacity(alloc, label.len() + wire_length(labels.clone()))?;
+    push_label(&mut octets, label)?;
+    push_labels(&mut octets, labels)?;
+    Ok(octets)
 }
 
 /// Appends a label behind its length.
 fn push_label(octets: &mut Octets, label: &[u8]) -> Result<(), AllocError>
     requires { length label.now ≤ 63 }
-    ensures { OnOk result (octets.new.items ≡ octets.old.items ++ length label.now ∷ label.now) }
+    ensures { OnOk result (written octets.new ≡ written octets.old ++ length label.now ∷ label.now) }
 {
     octets.push(label.len() as u8)?;
     octets.extend_from_slice(label)
@@ -142,31 +147,12 @@ fn push_label(octets: &mut Octets, label: &[u8]) -> Result<(), AllocError>
 /// Appends each label behind its length.
 fn push_labels(octets: &mut Octets, labels: Labels<'_>) -> Result<(), AllocError>
     requires { AllByRecursion IsLabel labels }
-    ensures { OnOk result (octets.new.items ≡ octets.old.items ++ counting labels.entry) }
+    ensures { OnOk result (written octets.new ≡ written octets.old ++ counting labels.entry) }
 {
     for label in labels {
         push_label(octets, label)?;
     }
     Ok(())
-}
-
-/// Takes so many octets away at the front.
-fn cut_front(octets: &mut Octets, count: usize)
-    requires { count ≤ length octets.old.items }
-    ensures { octets.new.items ≡ drop count octets.old.items }
-{
-    let len = octets.len();
-    octets.as_mut_slice().copy_within(count..len, 0);
-    octets.truncate(len - count);
-}
-
-/// Writes the label `*` and its length over the first two octets.
-fn write_star(octets: &mut Octets)
-    requires { 1 < length octets.old.items }
-    ensures { octets.new.items ≡ set (set octets.old.items 0 1) 1 42 }
-{
-    octets[0] = 1;
-    octets[1] = b'*';
 }
 
 /// The first label, and the octets of the labels after it.

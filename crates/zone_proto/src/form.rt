@@ -1,36 +1,52 @@
 //! How the labels of a name are kept.
-ghost use Rattle.std.specs.Prelude.{◌≡◌, ◌↔◌, [], ◌∷◌, drop, IsTrue, IfOk};
+ghost use Rattle.std.specs.Prelude.{◌≡◌, ◌↔◌, [], ◌∷◌, drop, IsTrue, IfOk, IfSome};
 ghost use Rattle.std.specs.List.{AllByRecursion};
 ghost use Rattle.zone_proto.specs.Names.{lower, name_cmp, caseless_cmp, wildcard_of, IsAtOrAbove, IsLabel, IsName};
-ghost use Rattle.zone_proto.specs.Packing.{IsPackable, IsInner};
+ghost use Rattle.zone_proto.specs.Packing.{name_of, IsPacking, IsPackable, IsInner};
+ghost use Rattle.zone_proto.specs.Counting.{counted_name, IsCounting};
+ghost use Rattle.zone_proto.specs.Octets.{written};
 ghost use Rattle.zone_proto.specs.Forms.{labels_of};
 ghost use Rattle.zone_proto.specs.Vectors.{octets_of};
 
-use crate::counted::Counted;
+use crate::counted::{Counted, count, count_child};
 use crate::labels_iter::Labels;
 use crate::letter_case::lower_all;
 use crate::name_order::{compare_labels, labels_are_above, labels_are_same};
-use crate::packed::Packed;
+use crate::octets::Octets;
+use crate::packed::{
+    Packed, compare_packed, compare_packed_caseless, pack, pack_child, packed_are_same,
+    packed_is_above,
+};
 use crate::prepended_labels::PrependedLabels;
+use crate::storage::Short;
 use std::alloc::{AllocError, Global};
 use std::cmp::Ordering;
 
-/// How the labels of a name are kept.
+/// How the labels of a name are kept. A form for few octets and one for many, rather than one that says in itself where its
+/// octets stand, since each enum has a tag of its own: so the tag takes one octet of 32, where two would make 40.
 #[derive(Debug)]
 pub(crate) enum Form {
     /// Each by itself, as they were handed over.
     Listed(Vec<Vec<u8>>),
+    /// All in one piece, each before its end: up to 30 octets, in the value itself.
+    ShortPacked(Packed<Short>),
     /// All in one piece, each before its end.
-    InOnePiece(Packed),
+    LongPacked(Packed<Vec<u8>>),
+    /// All in one piece, each behind its length, because one has an octet 0: up to 30 octets, in the value itself.
+    ShortCounted(Counted<Short>),
     /// All in one piece, each behind its length, because one has an octet 0.
-    Counted(Counted),
+    LongCounted(Counted<Vec<u8>>),
 }
 
 /// A call of its own, so that the proofs of all that drop a name don't go into its forms.
 impl Drop for Form {
     fn drop(self) {
         match self {
-            Form::Listed(_) | Form::InOnePiece(_) | Form::Counted(_) => {}
+            Form::Listed(_)
+            | Form::ShortPacked(_)
+            | Form::LongPacked(_)
+            | Form::ShortCounted(_)
+            | Form::LongCounted(_) => {}
         }
     }
 }
@@ -40,7 +56,29 @@ impl Form {
     pub(crate) fn root(alloc: Global) -> Form
         ensures { labels_of result ≡ [] }
     {
-        Form::InOnePiece(Packed::root(alloc))
+        Form::ShortPacked(Packed::of_octets(Short::new(alloc)))
+    }
+
+    /// The labels that stand in these octets, each before its end. Takes no memory.
+    pub(crate) fn of_packing(octets: Octets) -> Form
+        requires { IsPacking (written octets) (name_of (written octets)) }
+        ensures { labels_of result ≡ name_of (written octets) }
+    {
+        match octets {
+            Octets::Short(short) => Form::ShortPacked(Packed::of_octets(short)),
+            Octets::Long(long) => Form::LongPacked(Packed::of_octets(long)),
+        }
+    }
+
+    /// The labels that stand in these octets, each behind its length. Takes no memory.
+    pub(crate) fn of_counting(octets: Octets) -> Form
+        requires { IsCounting (written octets) (counted_name (written octets)) }
+        ensures { labels_of result ≡ counted_name (written octets) }
+    {
+        match octets {
+            Octets::Short(short) => Form::ShortCounted(Counted::of_octets(short)),
+            Octets::Long(long) => Form::LongCounted(Counted::of_octets(long)),
+        }
     }
 
     /// Lends the labels.
@@ -49,8 +87,10 @@ impl Form {
     {
         match self {
             Form::Listed(listed) => Labels::of_list(listed),
-            Form::InOnePiece(packed) => Labels::of_piece(packed),
-            Form::Counted(counted) => Labels::of_counted(counted),
+            Form::ShortPacked(packed) => Labels::of_piece(packed.octets()),
+            Form::LongPacked(packed) => Labels::of_piece(packed.octets()),
+            Form::ShortCounted(counted) => Labels::of_counted(counted.octets()),
+            Form::LongCounted(counted) => Labels::of_counted(counted.octets()),
         }
     }
 
@@ -61,14 +101,28 @@ impl Form {
         PrependedLabels::new(self.labels())
     }
 
+    /// The octets of the labels in one piece, each before its end, if they stand so.
+    fn packed(&self) -> Option<&[u8]>
+        ensures name { IfSome result (λ s. name_of s.now ≡ labels_of self.now) }
+        ensures packing { IfSome result (λ s. IsPacking s.now (name_of s.now)) }
+    {
+        match self {
+            Form::ShortPacked(packed) => Some(packed.octets()),
+            Form::LongPacked(packed) => Some(packed.octets()),
+            _ => None,
+        }
+    }
+
     /// Whether there is no label.
     pub(crate) fn is_root(&self) -> bool
         ensures { IsTrue result ↔ (labels_of self.now ≡ []) }
     {
         match self {
             Form::Listed(listed) => listed.is_empty(),
-            Form::InOnePiece(packed) => packed.is_root(),
-            Form::Counted(counted) => counted.is_root(),
+            Form::ShortPacked(packed) => packed.is_root(),
+            Form::LongPacked(packed) => packed.is_root(),
+            Form::ShortCounted(counted) => counted.is_root(),
+            Form::LongCounted(counted) => counted.is_root(),
         }
     }
 
@@ -76,8 +130,10 @@ impl Form {
     pub(crate) fn alloc(&self) -> Global {
         match self {
             Form::Listed(listed) => *listed.allocator(),
-            Form::InOnePiece(packed) => packed.alloc(),
-            Form::Counted(counted) => counted.alloc(),
+            Form::ShortPacked(packed) => packed.alloc(),
+            Form::LongPacked(packed) => packed.alloc(),
+            Form::ShortCounted(counted) => counted.alloc(),
+            Form::LongCounted(counted) => counted.alloc(),
         }
     }
 
@@ -88,8 +144,10 @@ impl Form {
     {
         match self {
             Form::Listed(listed) => pack_list(&listed),
-            Form::InOnePiece(packed) => Ok(Form::InOnePiece(packed)),
-            Form::Counted(counted) => Ok(Form::Counted(counted)),
+            Form::ShortPacked(packed) => Ok(Form::ShortPacked(packed)),
+            Form::LongPacked(packed) => Ok(Form::LongPacked(packed)),
+            Form::ShortCounted(counted) => Ok(Form::ShortCounted(counted)),
+            Form::LongCounted(counted) => Ok(Form::LongCounted(counted)),
         }
     }
 
@@ -100,8 +158,10 @@ impl Form {
     {
         match self {
             Form::Listed(listed) => pack_list(listed),
-            Form::InOnePiece(packed) => Ok(Form::InOnePiece(packed.clone()?)),
-            Form::Counted(counted) => Ok(Form::Counted(counted.clone()?)),
+            Form::ShortPacked(packed) => Ok(Form::ShortPacked(packed.clone())),
+            Form::LongPacked(packed) => copy_packing(packed.alloc(), packed.octets()),
+            Form::ShortCounted(counted) => Ok(Form::ShortCounted(counted.clone())),
+            Form::LongCounted(counted) => copy_counting(counted.alloc(), counted.octets()),
         }
     }
 
@@ -113,8 +173,11 @@ impl Form {
     {
         match self {
             Form::Listed(listed) => child_of_list(listed, label),
-            Form::InOnePiece(packed) => child_of_piece(packed, label),
-            Form::Counted(_) => child_counted(self.alloc(), label, self.labels()),
+            Form::ShortPacked(packed) => child_of_packing(packed.alloc(), packed.octets(), label),
+            Form::LongPacked(packed) => child_of_packing(packed.alloc(), packed.octets(), label),
+            Form::ShortCounted(_) | Form::LongCounted(_) => {
+                child_counted(self.alloc(), label, self.labels())
+            }
         }
     }
 
@@ -124,8 +187,10 @@ impl Form {
     {
         match self {
             Form::Listed(listed) => drop_first(listed),
-            Form::InOnePiece(packed) => packed.shorten(),
-            Form::Counted(counted) => counted.shorten(),
+            Form::ShortPacked(packed) => packed.shorten(),
+            Form::LongPacked(packed) => packed.shorten(),
+            Form::ShortCounted(counted) => counted.shorten(),
+            Form::LongCounted(counted) => counted.shorten(),
         }
     }
 
@@ -136,8 +201,10 @@ impl Form {
     {
         match self {
             Form::Listed(listed) => star_first(listed),
-            Form::InOnePiece(packed) => packed.make_wildcard(),
-            Form::Counted(counted) => counted.make_wildcard(),
+            Form::ShortPacked(packed) => packed.make_wildcard(),
+            Form::LongPacked(packed) => packed.make_wildcard(),
+            Form::ShortCounted(counted) => counted.make_wildcard(),
+            Form::LongCounted(counted) => counted.make_wildcard(),
         }
     }
 
@@ -147,8 +214,10 @@ impl Form {
     {
         match self {
             Form::Listed(listed) => lower_all(listed),
-            Form::InOnePiece(packed) => packed.lower(),
-            Form::Counted(counted) => counted.lower(),
+            Form::ShortPacked(packed) => packed.lower(),
+            Form::LongPacked(packed) => packed.lower(),
+            Form::ShortCounted(counted) => counted.lower(),
+            Form::LongCounted(counted) => counted.lower(),
         }
     }
 
@@ -158,8 +227,8 @@ impl Form {
         requires other { lower (labels_of other.now) ≡ labels_of other.now }
         ensures { result ≡ name_cmp (labels_of self.now) (labels_of other.now) }
     {
-        match (self, other) {
-            (Form::InOnePiece(own), Form::InOnePiece(theirs)) => own.compare(theirs),
+        match (self.packed(), other.packed()) {
+            (Some(own), Some(theirs)) => compare_packed(own, theirs),
             _ => compare_labels(self.compared(), other.compared()),
         }
     }
@@ -168,8 +237,8 @@ impl Form {
     pub(crate) fn compare_caseless(&self, other: &Form) -> Ordering
         ensures { result ≡ caseless_cmp (labels_of self.now) (labels_of other.now) }
     {
-        match (self, other) {
-            (Form::InOnePiece(own), Form::InOnePiece(theirs)) => own.compare_caseless(theirs),
+        match (self.packed(), other.packed()) {
+            (Some(own), Some(theirs)) => compare_packed_caseless(own, theirs),
             _ => compare_labels(self.compared(), other.compared()),
         }
     }
@@ -178,8 +247,8 @@ impl Form {
     pub(crate) fn is_same(&self, other: &Form) -> bool
         ensures { IsTrue result ↔ (labels_of self.now ≡ labels_of other.now) }
     {
-        match (self, other) {
-            (Form::InOnePiece(own), Form::InOnePiece(theirs)) => own.is_same(theirs),
+        match (self.packed(), other.packed()) {
+            (Some(own), Some(theirs)) => packed_are_same(own, theirs),
             _ => labels_are_same(self.labels(), other.labels()),
         }
     }
@@ -189,11 +258,27 @@ impl Form {
         ensures { IsTrue result
             ↔ IsAtOrAbove (lower (labels_of self.now)) (lower (labels_of other.now)) }
     {
-        match (self, other) {
-            (Form::InOnePiece(own), Form::InOnePiece(theirs)) => own.zone_of(theirs),
+        match (self.packed(), other.packed()) {
+            (Some(own), Some(theirs)) => packed_is_above(own, theirs),
             _ => labels_are_above(self.compared(), other.compared()),
         }
     }
+}
+
+/// A copy of labels in one piece, each before its end.
+fn copy_packing(alloc: Global, octets: &[u8]) -> Result<Form, AllocError>
+    requires { IsPacking octets.now (name_of octets.now) }
+    ensures { IfOk result (λ f. labels_of f ≡ name_of octets.now) }
+{
+    Ok(Form::of_packing(Octets::from_slice(alloc, octets)?))
+}
+
+/// A copy of labels in one piece, each behind its length.
+fn copy_counting(alloc: Global, octets: &[u8]) -> Result<Form, AllocError>
+    requires { IsCounting octets.now (counted_name octets.now) }
+    ensures { IfOk result (λ f. labels_of f ≡ counted_name octets.now) }
+{
+    Ok(Form::of_counting(Octets::from_slice(alloc, octets)?))
 }
 
 /// The labels of a list with one more before the first.
@@ -206,19 +291,21 @@ fn child_of_list(labels: &Vec<Vec<u8>>, label: &[u8]) -> Result<Form, AllocError
     if !is_packable(labels) {
         return child_counted(alloc, label, Labels::of_list(labels));
     }
-    child_of_piece(&Packed::pack(alloc, labels)?, label)
+    let octets = pack(alloc, labels)?;
+    child_of_packing(alloc, octets.as_slice(), label)
 }
 
-/// The labels of a name in one piece with one more before the first.
-fn child_of_piece(packed: &Packed, label: &[u8]) -> Result<Form, AllocError>
+/// The labels of a name in one piece, each before its end, with one more before the first.
+fn child_of_packing(alloc: Global, octets: &[u8], label: &[u8]) -> Result<Form, AllocError>
     requires label { IsLabel label.now }
-    requires labels { IsName packed.now }
-    ensures { IfOk result (λ f. labels_of f ≡ label.now ∷ packed.now) }
+    requires packing { IsPacking octets.now (name_of octets.now) }
+    requires labels { IsName (name_of octets.now) }
+    ensures { IfOk result (λ f. labels_of f ≡ label.now ∷ name_of octets.now) }
 {
     if !is_inner(label) {
-        return child_counted(packed.alloc(), label, Labels::of_piece(packed));
+        return child_counted(alloc, label, Labels::of_piece(octets));
     }
-    Ok(Form::InOnePiece(packed.child(label)?))
+    Ok(Form::of_packing(pack_child(alloc, octets, label)?))
 }
 
 /// The labels with one more before the first, each behind its length.
@@ -227,7 +314,7 @@ fn child_counted(alloc: Global, label: &[u8], labels: Labels<'_>) -> Result<Form
     requires labels { IsName labels }
     ensures { IfOk result (λ f. labels_of f ≡ label.now ∷ labels.entry) }
 {
-    Ok(Form::Counted(Counted::child(alloc, label, labels)?))
+    Ok(Form::of_counting(count_child(alloc, label, labels)?))
 }
 
 /// Takes the first label away, if there is one.
@@ -257,9 +344,9 @@ fn pack_list(labels: &Vec<Vec<u8>>) -> Result<Form, AllocError>
 {
     let alloc = *labels.allocator();
     if is_packable(labels) {
-        return Ok(Form::InOnePiece(Packed::pack(alloc, labels)?));
+        return Ok(Form::of_packing(pack(alloc, labels)?));
     }
-    Ok(Form::Counted(Counted::count(alloc, Labels::of_list(labels))?))
+    Ok(Form::of_counting(count(alloc, Labels::of_list(labels))?))
 }
 
 /// Whether the label has no octet 0.

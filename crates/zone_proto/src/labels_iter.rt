@@ -1,10 +1,12 @@
 //! The labels of a name, without memory.
 ghost use Rattle.std.specs.Prelude.{◌≡◌, ◌++◌, ◌+◌, ◌^◌, ◌<◌, length};
 ghost use Rattle.std.specs.Iterator.{YieldsFirstBy, item_count};
+ghost use Rattle.zone_proto.specs.Counting.{counted_name, IsCounting};
+ghost use Rattle.zone_proto.specs.Packing.{name_of, IsPacking};
 ghost use Rattle.zone_proto.specs.Vectors.{octets_of};
 
-use crate::counted::{Counted, count_counted, split_counted};
-use crate::packed::{Packed, count_labels, split_label};
+use crate::counted::{count_counted, split_counted};
+use crate::packed::{count_labels, split_label};
 use std::marker::Model;
 
 /// Lends the labels of a name, leftmost first. Takes no memory.
@@ -43,24 +45,26 @@ impl<'n> Labels<'n> {
     }
 
     /// The labels of a name in one piece.
-    pub(crate) fn of_piece(packed: &'n Packed) -> Labels<'n>
-        ensures { result ≡ packed.now }
+    pub(crate) fn of_piece(packed: &'n [u8]) -> Labels<'n>
+        requires { IsPacking packed.now (name_of packed.now) }
+        ensures { result ≡ name_of packed.now }
     {
         Labels {
             listed: &[],
-            packed: packed.octets(),
+            packed,
             counted: &[],
         }
     }
 
     /// The labels of a name whose labels stand behind their lengths.
-    pub(crate) fn of_counted(counted: &'n Counted) -> Labels<'n>
-        ensures { result ≡ counted.now }
+    pub(crate) fn of_counted(counted: &'n [u8]) -> Labels<'n>
+        requires { IsCounting counted.now (counted_name counted.now) }
+        ensures { result ≡ counted_name counted.now }
     {
         Labels {
             listed: &[],
             packed: &[],
-            counted: counted.octets(),
+            counted,
         }
     }
 

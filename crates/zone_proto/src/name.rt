@@ -27,7 +27,7 @@ use std::marker::Model;
 /// octets, and the wire form of the name at most 255 (RFC 1035 sections 2.3.4 and 3.1). Names are equal, ordered and
 /// hashed without the case of ASCII letters (RFC 4034 section 6.1, RFC 4343).
 ///
-/// A name that was read or copied is copied without memory if its wire form has at most 33 octets.
+/// A name that was read or copied is copied without memory if its wire form has at most 31 octets.
 #[derive(Debug, Drop)]
 pub struct Name {
     form: Form,
@@ -77,16 +77,14 @@ impl Name {
     /// any other octet from 33 to 126 is itself. Everything else, the empty text too, gives `BadText`, wherever it
     /// stands in the text; then come the refusals of `from_labels`, and `Memory`. That no text is of two names' forms, and
     /// that each is read or refused for one cause, is `laws::text_is_read_or_refused`. A text without a backslash takes no
-    /// memory if the wire form of its name has at most 33 octets.
+    /// memory if the wire form of its name has at most 31 octets.
     pub fn parse(alloc: Global, text: &str) -> Result<Name, ProtoError>
         ensures ok { IfOk result (IsNameText text.now) }
         ensures name { IfOk result (λ n. IsName n) }
         ensures refusal { TellsTextFault result text.now }
     {
-        if let Some(packed) = read_unescaped(alloc, text.as_bytes())? {
-            return Ok(Name {
-                form: Form::InOnePiece(packed),
-            });
+        if let Some(form) = read_unescaped(alloc, text.as_bytes())? {
+            return Ok(Name { form });
         }
         Name::read(alloc, text)?.in_one_piece()
     }
@@ -95,7 +93,7 @@ impl Name {
     ///
     /// Octets that are the wire form of no labels give `BadText`: they end before the name does, or go on behind it. A label
     /// of more than 63 octets gives `LabelTooLong`, so that a pointer of a message is refused too; then a wire form of more
-    /// than 255 octets gives `NameTooLong`; then comes `Memory`. Takes no memory for at most 33 octets.
+    /// than 255 octets gives `NameTooLong`; then comes `Memory`. Takes no memory for at most 31 octets.
     pub fn from_wire(alloc: Global, octets: &[u8]) -> Result<Name, ProtoError>
         ensures ok { IfOk result (λ n. octets.now ≡ wire_form n) }
         ensures refusal { TellsWireFault result octets.now }

@@ -1,5 +1,5 @@
 //! The order of octets, eight at a time.
-ghost use Rattle.std.specs.Prelude.{◌≡◌};
+ghost use Rattle.std.specs.Prelude.{◌≡◌, length};
 ghost use Rattle.std.specs.Cmp.Lexicographic.{slice_cmp};
 ghost use Rattle.std.specs.Ordering.{nat_cmp};
 
@@ -10,20 +10,31 @@ use std::cmp::Ordering;
 pub(crate) fn compare_octets(a: &[u8], b: &[u8]) -> Ordering
     ensures { result ≡ slice_cmp nat_cmp a.now b.now }
 {
-    let mut own = a;
-    let mut other = b;
-    while let (Some((eight, rest)), Some((other_eight, other_rest))) = (
-        own.split_first_chunk::<8>(),
-        other.split_first_chunk::<8>(),
+    let shared = a.len().min(b.len());
+    compare_as_many(&a[..shared], &b[..shared]).then(a.len().cmp(&b.len()))
+}
+
+/// The order of octets and as many others.
+fn compare_as_many(a: &[u8], b: &[u8]) -> Ordering
+    requires { length a.now ≡ length b.now }
+    ensures { result ≡ slice_cmp nat_cmp a.now b.now }
+{
+    let mut same = 0;
+    while let (Some(eight), Some(other)) = (
+        a[same..].first_chunk::<8>(),
+        b[same..].first_chunk::<8>(),
     ) {
-        let order = compare_eight(eight, other_eight);
+        let order = compare_eight(eight, other);
         if order.is_ne() {
             return order;
         }
-        own = rest;
-        other = other_rest;
+        same += 8;
     }
-    own.cmp(&other)
+    // Fewer than eight are left: they are compared with those before them, which are the same, as eight once more.
+    match (a.last_chunk::<8>(), b.last_chunk::<8>()) {
+        (Some(last), Some(other)) => compare_eight(last, other),
+        _ => a.cmp(&b),
+    }
 }
 
 /// The order of eight octets and eight others: that of the numbers that they are, the first octet the highest.

@@ -3,106 +3,63 @@
 // The canonical order of names (RFC 4034 section 6.1) compares labels from the rightmost on, each as a string of octets,
 // and an end is the least. As every label here is ended by the least octet, that is the order of the octets as one
 // string, and an ancestor is a front of its descendants. A label with an octet 0 has no place in this form.
-ghost use Rattle.std.specs.Prelude.{◌≡◌, ◌↔◌, [], ◌∷◌, ◌+◌, ◌<◌, ◌≤◌, length, map, take, drop, set, IsTrue, IfOk, IfSome, MatchOption};
+ghost use Rattle.std.specs.Prelude.{◌≡◌, ◌↔◌, [], ◌∷◌, ◌+◌, ◌^◌, ◌<◌, ◌≤◌, length, map, take, drop, set, IsTrue, IfOk, IfSome, MatchOption};
 ghost use Rattle.std.specs.Char.{to_ascii_lowercase};
 ghost use Rattle.std.specs.Cmp.Lexicographic.{slice_cmp};
 ghost use Rattle.std.specs.List.{AllByRecursion};
 ghost use Rattle.std.specs.Ordering.{nat_cmp, is_eq};
 ghost use Rattle.zone_proto.specs.Names.{lower, name_cmp, caseless_cmp, wildcard_of, IsAtOrAbove, IsName};
+ghost use Rattle.zone_proto.specs.Octets.{written};
 ghost use Rattle.zone_proto.specs.Packing.{packing, name_of, IsPacking, IsPackable, IsInner};
 ghost use Rattle.zone_proto.specs.Vectors.{octets_of};
 
-use crate::letter_case::lower_octets;
 use crate::name_order::compare_label;
 use crate::octet_order::compare_octets;
-use smallvec::SmallVec;
+use crate::octets::Octets;
+use crate::storage::{Short, Storage};
 use std::alloc::{AllocError, Global};
 use std::cmp::Ordering;
 use std::marker::Model;
 
-/// Octets, of which up to 32 stand in the value itself and take no memory.
-pub(crate) type Octets = SmallVec<u8, 32>;
-
 /// A name in one piece.
 #[derive(Debug, Drop)]
-pub(crate) struct Packed {
-    octets: Octets,
+pub(crate) struct Packed<S: Storage> {
+    octets: S,
 }
 
-impl Model for Packed {
+impl<S: Storage> Model for Packed<S> {
     ghost use Rattle.std.specs.Prelude.{List, ℕ};
     ghost use Rattle.zone_proto.specs.Packing.{name_of, IsPacking};
 
     ghost Value = { List (List ℕ) };
 
-    ghost view = { λ p. name_of p.octets.items };
+    ghost view = { λ p. name_of (S.octets_in p.octets) };
 
-    ghost invariant = { λ p. IsPacking p.octets.items (name_of p.octets.items) };
+    ghost invariant = { λ p. IsPacking (S.octets_in p.octets) (name_of (S.octets_in p.octets)) };
 }
 
-impl Packed {
-    /// The root. Takes no memory.
-    pub(crate) fn root(alloc: Global) -> Packed
-        ensures { result ≡ [] }
+impl<S: Storage> Packed<S> {
+    /// The name whose labels stand in these octets.
+    pub(crate) fn of_octets(octets: S) -> Packed<S>
+        requires { IsPacking (S.octets_in octets) (name_of (S.octets_in octets)) }
+        ensures { result ≡ name_of (S.octets_in octets) }
     {
-        Packed {
-            octets: SmallVec::new(alloc),
-        }
+        Packed { octets }
     }
 
     /// Whether this is the root.
     pub(crate) fn is_root(&self) -> bool
         ensures { IsTrue result ↔ (self.now ≡ []) }
     {
-        self.octets.is_empty()
-    }
-
-    /// The name of these labels.
-    pub(crate) fn pack(alloc: Global, labels: &[Vec<u8>]) -> Result<Packed, AllocError>
-        requires { IsPackable (octets_of labels.now) }
-        ensures { IfOk result (λ p. p ≡ octets_of labels.now) }
-    {
-        let mut octets = SmallVec::with_capacity(alloc, packed_length(labels))?;
-        let mut i = labels.len();
-        while i > 0 {
-            i -= 1;
-            octets.extend_from_slice(&labels[i])?;
-            octets.push(0)?;
-        }
-        Ok(Packed { octets })
-    }
-
-    /// The name whose labels stand in these octets.
-    pub(crate) fn of_octets(octets: Octets) -> Packed
-        requires { IsPacking octets.items (name_of octets.items) }
-        ensures { result ≡ name_of octets.items }
-    {
-        Packed { octets }
-    }
-
-    /// The name with one more label before its first.
-    pub(crate) fn child(&self, label: &[u8]) -> Result<Packed, AllocError>
-        requires { AllByRecursion IsInner label.now }
-        ensures { IfOk result (λ p. p ≡ label.now ∷ self.now) }
-    {
-        let mut octets = SmallVec::with_capacity(
-            self.alloc(),
-            self.octets
-                .len()
-                .saturating_add(label.len())
-                .saturating_add(1),
-        )?;
-        octets.extend_from_slice(&self.octets)?;
-        octets.extend_from_slice(label)?;
-        octets.push(0)?;
-        Ok(Packed { octets })
+        self.octets.octets().is_empty()
     }
 
     /// Takes the first label away, in place; the root stays.
     pub(crate) fn shorten(&mut self)
         ensures { self.new ≡ drop 1 self.old }
     {
-        self.octets.truncate(first_label_at(&self.octets));
+        let start = first_label_at(self.octets.octets());
+        self.octets.truncate(start);
     }
 
     /// Replaces the first label by `*`, in place; the root stays.
@@ -110,10 +67,11 @@ impl Packed {
         requires { IsName self.old }
         ensures { self.new ≡ wildcard_of self.old }
     {
-        if self.octets.is_empty() {
+        let octets = self.octets.octets();
+        if octets.is_empty() {
             return;
         }
-        let start = first_label_at(&self.octets);
+        let start = first_label_at(octets);
         overwrite(&mut self.octets, start);
     }
 
@@ -121,62 +79,104 @@ impl Packed {
     pub(crate) fn lower(&mut self)
         ensures { self.new ≡ lower self.old }
     {
-        lower_octets(self.octets.as_mut_slice());
-    }
-
-    /// The canonical order, of names in lower case.
-    pub(crate) fn compare(&self, other: &Packed) -> Ordering
-        ensures { result ≡ name_cmp self.now other.now }
-    {
-        compare_octets(&self.octets, &other.octets)
-    }
-
-    /// The canonical order, the case of letters ignored.
-    pub(crate) fn compare_caseless(&self, other: &Packed) -> Ordering
-        ensures { result ≡ caseless_cmp self.now other.now }
-    {
-        compare_label(&self.octets, &other.octets)
-    }
-
-    /// Whether the names are identical, the case of letters included.
-    pub(crate) fn is_same(&self, other: &Packed) -> bool
-        ensures { IsTrue result ↔ (self.now ≡ other.now) }
-    {
-        *self.octets == *other.octets
-    }
-
-    /// Whether the other name is this one or below it, the case of letters ignored.
-    pub(crate) fn zone_of(&self, other: &Packed) -> bool
-        ensures { IsTrue result ↔ IsAtOrAbove (lower self.now) (lower other.now) }
-    {
-        let own = self.octets.len();
-        if own > other.octets.len() {
-            return false;
-        }
-        are_same_caseless(&self.octets, &other.octets[..own])
+        self.octets.lower();
     }
 
     /// The octets.
     pub(crate) fn octets(&self) -> &[u8]
         ensures name { name_of result.now ≡ self.now }
-        ensures packing { IsPacking result.now self.now }
+        ensures packing { IsPacking result.now (name_of result.now) }
     {
-        &self.octets
+        self.octets.octets()
     }
 
     /// The allocator that the octets were made with.
     pub(crate) fn alloc(&self) -> Global {
-        *self.octets.allocator()
+        self.octets.alloc()
     }
+}
 
-    /// A copy.
-    pub(crate) fn clone(&self) -> Result<Packed, AllocError>
-        ensures { IfOk result (λ p. p ≡ self.now) }
+impl Packed<Short> {
+    /// A copy, without memory.
+    pub(crate) fn clone(&self) -> Packed<Short>
+        ensures { result ≡ self.now }
     {
-        Ok(Packed {
-            octets: SmallVec::from_slice(self.alloc(), &self.octets)?,
-        })
+        Packed {
+            octets: self.octets.clone(),
+        }
     }
+}
+
+/// The octets of the name of these labels.
+pub(crate) fn pack(alloc: Global, labels: &[Vec<u8>]) -> Result<Octets, AllocError>
+    requires { IsPackable (octets_of labels.now) }
+    ensures name { IfOk result (λ o. name_of (written o) ≡ octets_of labels.now) }
+    ensures packing { IfOk result (λ o. IsPacking (written o) (name_of (written o))) }
+{
+    let mut octets = Octets::with_capacity(alloc, packed_length(labels))?;
+    let mut i = labels.len();
+    while i > 0 {
+        i -= 1;
+        octets.extend_from_slice(&labels[i])?;
+        octets.push(0)?;
+    }
+    Ok(octets)
+}
+
+/// The octets of a name with one more label before its first.
+pub(crate) fn pack_child(alloc: Global, octets: &[u8], label: &[u8]) -> Result<Octets, AllocError>
+    requires packing { IsPacking octets.now (name_of octets.now) }
+    requires label { AllByRecursion IsInner label.now }
+    ensures name { IfOk result (λ o. name_of (written o) ≡ label.now ∷ name_of octets.now) }
+    ensures packing { IfOk result (λ o. IsPacking (written o) (name_of (written o))) }
+{
+    let mut child = Octets::with_capacity(
+        alloc,
+        octets.len().saturating_add(label.len()).saturating_add(1),
+    )?;
+    child.extend_from_slice(octets)?;
+    child.extend_from_slice(label)?;
+    child.push(0)?;
+    Ok(child)
+}
+
+/// The canonical order, of names in lower case.
+pub(crate) fn compare_packed(a: &[u8], b: &[u8]) -> Ordering
+    requires a { IsPacking a.now (name_of a.now) }
+    requires b { IsPacking b.now (name_of b.now) }
+    ensures { result ≡ name_cmp (name_of a.now) (name_of b.now) }
+{
+    compare_octets(a, b)
+}
+
+/// The canonical order, the case of letters ignored.
+pub(crate) fn compare_packed_caseless(a: &[u8], b: &[u8]) -> Ordering
+    requires a { IsPacking a.now (name_of a.now) }
+    requires b { IsPacking b.now (name_of b.now) }
+    ensures { result ≡ caseless_cmp (name_of a.now) (name_of b.now) }
+{
+    compare_label(a, b)
+}
+
+/// Whether the names are identical, the case of letters included.
+pub(crate) fn packed_are_same(a: &[u8], b: &[u8]) -> bool
+    requires a { IsPacking a.now (name_of a.now) }
+    requires b { IsPacking b.now (name_of b.now) }
+    ensures { IsTrue result ↔ (name_of a.now ≡ name_of b.now) }
+{
+    a == b
+}
+
+/// Whether the name `b` is `a` or below it, the case of letters ignored.
+pub(crate) fn packed_is_above(a: &[u8], b: &[u8]) -> bool
+    requires a { IsPacking a.now (name_of a.now) }
+    requires b { IsPacking b.now (name_of b.now) }
+    ensures { IsTrue result ↔ IsAtOrAbove (lower (name_of a.now)) (lower (name_of b.now)) }
+{
+    if a.len() > b.len() {
+        return false;
+    }
+    are_same_caseless(a, &b[..a.len()])
 }
 
 /// Whether octets are the same, the case of letters ignored.
@@ -210,13 +210,14 @@ fn first_label_at(octets: &[u8]) -> usize
 }
 
 /// Writes the label `*` from a place on, in place of all that stands there.
-fn overwrite(octets: &mut Octets, start: usize)
-    requires { start + 1 < length octets.old.items }
-    ensures { octets.new.items
-        ≡ take (start + 2) (set (set octets.old.items start 42) (start + 1) 0) }
+fn overwrite<S: Storage>(octets: &mut S, start: usize)
+    requires within { start + 1 < length (S.octets_in octets.old) }
+    requires fits { start + 2 < 2 ^ 64 }
+    ensures { S.octets_in octets.new
+        ≡ take (start + 2) (set (set (S.octets_in octets.old) start 42) (start + 1) 0) }
 {
-    octets[start] = b'*';
-    octets[start + 1] = 0;
+    octets.write(start, b'*');
+    octets.write(start + 1, 0);
     octets.truncate(start + 2);
 }
 

@@ -1,12 +1,14 @@
 //! Names without escapes, read straight into one piece: from the right, since its labels stand from the root on.
 ghost use Rattle.std.specs.Prelude.{◌≡◌, ◌⊎◌, ◌≤◌, [], ◌∷◌, ◌++◌, drop, length, IsTrue, IfOk, IfSome};
 ghost use Rattle.std.specs.List.{AllByRecursion};
+ghost use Rattle.zone_proto.specs.Forms.{labels_of};
 ghost use Rattle.zone_proto.specs.Names.{IsName};
 ghost use Rattle.zone_proto.specs.TextForm.{dot, IsNameText};
 ghost use Rattle.zone_proto.specs.Unescaped.{IsUnescaped, IsUnescapedLabel, IsFront};
 
+use crate::form::Form;
 use crate::labels::LONGEST_LABEL;
-use crate::packed::{Octets, Packed};
+use crate::octets::Octets;
 use std::alloc::{AllocError, Global};
 
 /// The longest text that is read so. Without a dot at its end, its name has 255 octets in wire form, which is the most that
@@ -14,10 +16,10 @@ use std::alloc::{AllocError, Global};
 const LONGEST_TEXT: usize = 253;
 
 /// The name of a text without escapes, and nothing where the text is another one: one with an escape, with a fault, of the
-/// root, or of more than 253 octets. A name of up to 32 octets takes no memory.
-pub(crate) fn read_unescaped(alloc: Global, text: &[u8]) -> Result<Option<Packed>, AllocError>
-    ensures text { IfOk result (λ found. IfSome found (IsNameText text.now)) }
-    ensures name { IfOk result (λ found. IfSome found IsName) }
+/// root, or of more than 253 octets. A name of up to 30 octets takes no memory.
+pub(crate) fn read_unescaped(alloc: Global, text: &[u8]) -> Result<Option<Form>, AllocError>
+    ensures text { IfOk result (λ found. IfSome found (λ f. IsNameText text.now (labels_of f))) }
+    ensures name { IfOk result (λ found. IfSome found (λ f. IsName (labels_of f))) }
 {
     if text.len() > LONGEST_TEXT {
         return Ok(None);
@@ -28,7 +30,7 @@ pub(crate) fn read_unescaped(alloc: Global, text: &[u8]) -> Result<Option<Packed
         octets.extend_from_slice(label)?;
         octets.push(0)?;
         let Some((_, before)) = front.split_last() else {
-            return Ok(Some(Packed::of_octets(octets)));
+            return Ok(Some(Form::of_packing(octets)));
         };
         rest = before;
     }

@@ -1,5 +1,5 @@
 //! Names read from their wire form (RFC 1035 section 3.1).
-ghost use Rattle.std.specs.Prelude.{◌≡◌, IfOk, IfErr, length, nat_lt, if◌then◌else◌, Some, None};
+ghost use Rattle.std.specs.Prelude.{◌≡◌, ◌≤◌, IfOk, IfErr, length, nat_lt, if◌then◌else◌, Some, None};
 ghost use Rattle.std.specs.List.{AllByRecursion};
 ghost use Rattle.zone_proto.specs.Counting.{counted_name, IsCounting};
 ghost use Rattle.zone_proto.specs.Names.{wire_form, IsName};
@@ -9,11 +9,13 @@ ghost use Rattle.zone_proto.specs.Faults.{first_of_faults};
 ghost use Rattle.zone_proto.specs.Forms.{labels_of};
 ghost use Rattle.zone_proto.specs.WireForms.{IsWireFault, IsWireForm, TellsWireFault};
 
-use crate::counted::{Counted, split_counted};
+use crate::counted::split_counted;
 use crate::error::ProtoError;
 use crate::form::{Form, is_inner};
 use crate::labels::{LONGEST_LABEL, LONGEST_NAME};
-use crate::packed::{Octets, Packed};
+use crate::octets::Octets;
+use crate::packed::Packed;
+use crate::storage::{ROOM, Short};
 use std::alloc::{AllocError, Global};
 
 /// The labels of the name whose wire form the octets are.
@@ -24,10 +26,9 @@ pub(crate) fn read_wire(alloc: Global, octets: &[u8]) -> Result<Form, ProtoError
 {
     let labels = check_wire(octets)?;
     if is_inner(labels) {
-        Ok(Form::InOnePiece(pack(alloc, labels)?))
+        Ok(pack(alloc, labels)?)
     } else {
-        let octets = Octets::from_slice(alloc, labels)?;
-        Ok(Form::Counted(Counted::of_octets(octets)))
+        Ok(Form::of_counting(Octets::from_slice(alloc, labels)?))
     }
 }
 
@@ -74,15 +75,30 @@ fn first_fault(fault: Option<ProtoError>, label: &[u8]) -> Option<ProtoError>
     }
 }
 
-/// The name of these labels, none of which has an octet 0, in one piece.
-fn pack(alloc: Global, labels: &[u8]) -> Result<Packed, AllocError>
+/// The labels, none of which has an octet 0, each before its end. Up to 30 octets take no memory.
+fn pack(alloc: Global, labels: &[u8]) -> Result<Form, AllocError>
     requires counting { IsCounting labels.now (counted_name labels.now) }
     requires inner { AllByRecursion IsInner labels.now }
-    ensures { IfOk result (λ p. p ≡ counted_name labels.now) }
+    ensures { IfOk result (λ f. labels_of f ≡ counted_name labels.now) }
 {
-    let mut octets = Octets::from_elem(alloc, 0, labels.len())?;
+    if labels.len() <= ROOM {
+        return Ok(Form::ShortPacked(pack_short(alloc, labels)));
+    }
+    let mut octets = Vec::from_elem(alloc, 0, labels.len())?;
     write_packing(octets.as_mut_slice(), labels);
-    Ok(Packed::of_octets(octets))
+    Ok(Form::LongPacked(Packed::of_octets(octets)))
+}
+
+/// Up to 30 octets of labels, none of which has an octet 0, each before its end.
+fn pack_short(alloc: Global, labels: &[u8]) -> Packed<Short>
+    requires counting { IsCounting labels.now (counted_name labels.now) }
+    requires inner { AllByRecursion IsInner labels.now }
+    requires few { length labels.now ≤ 30 }
+    ensures { result ≡ counted_name labels.now }
+{
+    let mut room = [0; ROOM];
+    write_packing(&mut room[..labels.len()], labels);
+    Packed::of_octets(Short::first(alloc, room, labels.len()))
 }
 
 /// Writes the labels from the root on, each before its end. What stands behind a label in their wire form is as long as what

@@ -23,7 +23,7 @@ then_equal Greater = refl
 
 module _ {K : Type 0} (R : K → K → Ordering) where
   -- lists of one length are compared before what follows them
-  cmp_append : (p q s t : List K) → length p ≡ length q → slice_cmp R (p ++ s) (q ++ t) ≡ ordering_then (slice_cmp R p q) (slice_cmp R s t)
+  pub cmp_append : (p q s t : List K) → length p ≡ length q → slice_cmp R (p ++ s) (q ++ t) ≡ ordering_then (slice_cmp R p q) (slice_cmp R s t)
   cmp_append [] [] s t e = refl
   cmp_append [] (y ∷ q) s t e = absurd (omega (arith, e))
   cmp_append (x ∷ p) [] s t e = absurd (omega (arith, e))
@@ -31,7 +31,7 @@ module _ {K : Type 0} (R : K → K → Ordering) where
       ap (ordering_then (R x y)) (cmp_append p q s t (omega (arith, e))) ∙ then_assoc (R x y) (slice_cmp R p q) (slice_cmp R s t)
 
   -- where one ends, the lengths decide
-  cmp_end : (s t : List K) (i j k : ℕ) → length s + k ≡ i → length t + k ≡ j → (0 < length s → 0 < length t → ⊥) → slice_cmp R s t ≡ nat_cmp i j
+  pub cmp_end : (s t : List K) (i j k : ℕ) → length s + k ≡ i → length t + k ≡ j → (0 < length s → 0 < length t → ⊥) → slice_cmp R s t ≡ nat_cmp i j
   cmp_end [] [] i j k h g n = nat_cmp_is i j Equal (omega (arith, h, g))
   cmp_end [] (y ∷ t) i j k h g n = nat_cmp_is i j Less (omega (arith, h, g))
   cmp_end (x ∷ s) [] i j k h g n = nat_cmp_is i j Greater (omega (arith, h, g))

@@ -4,15 +4,15 @@ use Rattle.zone_proto.proofs.Names.FirstLabels.{before_first, base_is_packing, b
 use Rattle.zone_proto.proofs.packed.Packed.shorten.Goals as goal
 
 pub invariant_of-self : goal.invariant_of-self
-invariant_of-self c =
-    let s = c.self.inside.octets.items in
-    let cut : c.truncate.new.self.items ≡ take (before_first (name_of s)) s =
-    c.truncate.ensures.items ∙ (λ i. take ((c.first_label_at.ensures ∙ ap (λ z. before_first (name_of z)) c.deref.ensures) i) s) in
+invariant_of-self g c =
+    let s = g.S.Storage.octets_in c.self.inside.octets in
+    let cut : g.S.Storage.octets_in c.truncate.new.self ≡ take (before_first (name_of s)) s =
+    c.truncate.ensures ∙ (λ i. take ((c.first_label_at-start.ensures ∙ ap (λ z. before_first (name_of z)) c.octets.ensures) i) s) in
     subst (λ z. IsPacking z (name_of z)) (sym cut) (base_is_packing s c.self.invariant)
 
 pub returns : goal.returns
-returns c =
-    let s = c.self.inside.octets.items in
-    let cut : c.truncate.new.self.items ≡ take (before_first (name_of s)) s =
-    c.truncate.ensures.items ∙ (λ i. take ((c.first_label_at.ensures ∙ ap (λ z. before_first (name_of z)) c.deref.ensures) i) s) in
+returns g c =
+    let s = g.S.Storage.octets_in c.self.inside.octets in
+    let cut : g.S.Storage.octets_in c.truncate.new.self ≡ take (before_first (name_of s)) s =
+    c.truncate.ensures ∙ (λ i. take ((c.first_label_at-start.ensures ∙ ap (λ z. before_first (name_of z)) c.octets.ensures) i) s) in
     ap name_of cut ∙ base_name_of s c.self.invariant ∙ ap (drop 1) c.self.view_is
