@@ -10,6 +10,7 @@ pub mod Faults
 pub mod WireForms
 pub mod Results
 pub mod Forms
+pub mod Lists
 pub mod Suffixes
 pub mod TextForm
 pub mod Unescaped
