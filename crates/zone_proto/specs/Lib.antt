@@ -11,6 +11,7 @@ pub mod WireForms
 pub mod Results
 pub mod Octets
 pub mod Forms
+pub mod Lists
 pub mod Suffixes
 pub mod TextForm
 pub mod Unescaped

@@ -40,6 +40,7 @@ mod rr_key;
 mod rrset_records;
 mod rrsigs;
 mod seq;
+mod short_list;
 mod signer;
 mod sizes;
 mod soa_record;

@@ -6,8 +6,6 @@ ghost use Rattle.std.specs.Option.{option_copied};
 ghost use Rattle.zone_proto.specs.Types.{has_own_case};
 ghost use Rattle.zone_proto.specs.TypeText.{type_word, type_text, type_of_text, number_of, type_words, numbered_type, short_number};
 
-use std::alloc::Global;
-use std::default::MadeWith;
 use std::fmt;
 
 /// A type of records, by its number (RFC 1035 section 3.2.2); ordered by number.
@@ -35,13 +33,6 @@ const NAMED_TYPES: [(RecordType, &str, bool); 17] = [
     (RecordType::ANY, "ANY", false),
     (RecordType::ANAME, "ANAME", true),
 ];
-
-/// The type 0, which is reserved, for the places of a short list that no type takes.
-impl MadeWith<Global> for RecordType {
-    fn made_with(_alloc: Global) -> RecordType {
-        RecordType(0)
-    }
-}
 
 impl RecordType {
     /// An address of four octets (RFC 1035 section 3.4.1).
