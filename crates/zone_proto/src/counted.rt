@@ -138,7 +138,8 @@ pub(crate) fn count_child(
 /// Appends a label behind its length.
 fn push_label(octets: &mut Octets, label: &[u8]) -> Result<(), AllocError>
     requires { length label.now ≤ 63 }
-    ensures { OnOk result (written octets.new ≡ written octets.old ++ length label.now ∷ label.now) }
+    ensures { OnOk result
+        (written octets.new ≡ written octets.old ++ length label.now ∷ label.now) }
 {
     octets.push(label.len() as u8)?;
     octets.extend_from_slice(label)
