@@ -2,6 +2,7 @@
 pub mod Packings
 pub mod FirstLabels
 pub mod Countings
+pub mod CountedEnds
 pub mod Lower
 pub mod NameParts
 pub mod LabelFaults

@@ -2,7 +2,7 @@
 //
 // Here a label may have an octet 0. A length is at most 63, so that it is no letter, and the octets can be put into lower
 // case as they stand.
-ghost use Rattle.std.specs.Prelude.{◌≡◌, ◌↔◌, [], ◌∷◌, ◌++◌, ◌+◌, ◌<◌, ◌≤◌, length, drop, set, IsTrue, IfOk, IfSome, MatchOption, OnOk};
+ghost use Rattle.std.specs.Prelude.{◌≡◌, ◌↔◌, [], ◌∷◌, ◌++◌, ◌+◌, ◌≤◌, length, drop, IsTrue, IfOk, IfSome, MatchOption, OnOk};
 ghost use Rattle.std.specs.List.{AllByRecursion};
 ghost use Rattle.zone_proto.specs.Names.{lower, wildcard_of, IsLabel, IsName};
 ghost use Rattle.zone_proto.specs.Counting.{counting, counted_name, IsCounting};
@@ -138,7 +138,8 @@ pub(crate) fn count_child(
 /// Appends a label behind its length.
 fn push_label(octets: &mut Octets, label: &[u8]) -> Result<(), AllocError>
     requires { length label.now ≤ 63 }
-    ensures { OnOk result (written octets.new ≡ written octets.old ++ length label.now ∷ label.now) }
+    ensures { OnOk result
+        (written octets.new ≡ written octets.old ++ length label.now ∷ label.now) }
 {
     octets.push(label.len() as u8)?;
     octets.extend_from_slice(label)

@@ -9,6 +9,7 @@ ghost use Rattle.zone_proto.specs.Forms.{labels_of};
 ghost use Rattle.zone_proto.specs.Vectors.{octets_of};
 
 use crate::counted::{Counted, count, count_child};
+use crate::counted_order::compare_counted;
 use crate::labels_iter::Labels;
 use crate::letter_case::lower_all;
 use crate::name_order::{compare_labels, labels_are_above, labels_are_same};
@@ -109,6 +110,18 @@ impl Form {
         match self {
             Form::ShortPacked(packed) => Some(packed.octets()),
             Form::LongPacked(packed) => Some(packed.octets()),
+            _ => None,
+        }
+    }
+
+    /// The octets of the labels in one piece, each behind its length, if they stand so.
+    fn counted(&self) -> Option<&[u8]>
+        ensures name { IfSome result (λ s. counted_name s.now ≡ labels_of self.now) }
+        ensures counting { IfSome result (λ s. IsCounting s.now (counted_name s.now)) }
+    {
+        match self {
+            Form::ShortCounted(counted) => Some(counted.octets()),
+            Form::LongCounted(counted) => Some(counted.octets()),
             _ => None,
         }
     }
@@ -229,7 +242,7 @@ impl Form {
     {
         match (self.packed(), other.packed()) {
             (Some(own), Some(theirs)) => compare_packed(own, theirs),
-            _ => compare_labels(self.compared(), other.compared()),
+            _ => self.compare_labelwise(other),
         }
     }
 
@@ -239,6 +252,17 @@ impl Form {
     {
         match (self.packed(), other.packed()) {
             (Some(own), Some(theirs)) => compare_packed_caseless(own, theirs),
+            _ => self.compare_labelwise(other),
+        }
+    }
+
+    /// The canonical order, the case of letters ignored, label by label. It is for labels that don't stand before their ends,
+    /// since those before their ends are compared faster as one string.
+    fn compare_labelwise(&self, other: &Form) -> Ordering
+        ensures { result ≡ caseless_cmp (labels_of self.now) (labels_of other.now) }
+    {
+        match (self.counted(), other.counted()) {
+            (Some(own), Some(theirs)) => compare_counted(own, theirs),
             _ => compare_labels(self.compared(), other.compared()),
         }
     }

@@ -10,6 +10,7 @@
 
 mod base32;
 mod counted;
+mod counted_order;
 pub mod data_laws;
 mod dns_class;
 mod error;

@@ -38,7 +38,7 @@ fn compare_as_many(a: &[u8], b: &[u8]) -> Ordering
 }
 
 /// The order of eight octets and eight others: that of the numbers that they are, the first octet the highest.
-fn compare_eight(a: &[u8; 8], b: &[u8; 8]) -> Ordering
+pub(crate) fn compare_eight(a: &[u8; 8], b: &[u8; 8]) -> Ordering
     ensures { result ≡ slice_cmp nat_cmp a.now b.now }
 {
     u64::from_be_bytes(*a).cmp(&u64::from_be_bytes(*b))

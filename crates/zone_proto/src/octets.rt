@@ -1,5 +1,5 @@
 //! Octets as they are written, before they are those of a name.
-ghost use Rattle.std.specs.Prelude.{◌≡◌, [], ◌∷◌, ◌++◌, length, IfOk, OnOk};
+ghost use Rattle.std.specs.Prelude.{◌≡◌, [], ◌∷◌, ◌++◌, IfOk, OnOk};
 ghost use Rattle.zone_proto.specs.Octets.{written};
 
 use crate::storage::{ROOM, Short, Storage};

@@ -1,6 +1,5 @@
-use Rattle.std.proofs.Common.{◌≡◌, take, length, min, ap, ◌∙◌, arith}
-use Rattle.std.specs.Cmp.Lexicographic.{slice_cmp}
-use Rattle.std.specs.Ordering.{nat_cmp, ordering_then}
+use Rattle.std.proofs.Common.{◌∙◌}
+use Rattle.std.specs.Ordering.{ordering_then}
 use Rattle.zone_proto.proofs.Ordering.SameFronts.{shared_first}
 use Rattle.zone_proto.proofs.octet_order.compare_octets.Goals as goal
 

@@ -1,7 +1,4 @@
-use Rattle.std.proofs.Common.{◌∙◌, map, take, arith}
-use Rattle.std.specs.Cmp.Lexicographic.{slice_cmp}
-use Rattle.std.specs.Char.{to_ascii_lowercase}
-use Rattle.std.specs.Ordering.{nat_cmp, is_eq}
+use Rattle.std.proofs.Common.{arith}
 use Rattle.zone_proto.proofs.Names.Packings.{front_test, no_room}
 use Rattle.zone_proto.proofs.packed.packed_is_above.Goals as goal
 
