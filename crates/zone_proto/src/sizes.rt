@@ -32,7 +32,8 @@ fn lists_are_small() {
     prove!(size_of::<Seq<RecordType>>() <= 32);
     // Three lists, and what stands before them.
     prove!(size_of::<NSEC3>() <= 104);
-    prove!(size_of::<RData>() <= 104);
-    // The data, the owner, and eight octets of type, class and TTL.
-    prove!(size_of::<Record>() <= 144);
+    // The largest data, and a tag, which takes as much room as a pointer is aligned to.
+    prove!(size_of::<RData>() <= 112);
+    // The data, the owner, class and TTL.
+    prove!(size_of::<Record>() <= 152);
 }
