@@ -1,16 +1,16 @@
 -- Sets are parted by whether others stand under their keys
-use Rattle.std.proofs.Common.{◌≡◌, Bool, true, false, cond, List, [], ◌∷◌, ◌++◌, length, refl, sym, ap, ◌∙◌, append_assoc, arith}
+use Rattle.std.proofs.Common.{◌≡◌, Bool, true, false, cond, List, [], ◌∷◌, ◌++◌, length, refl, sym, ap, ◌∙◌, subst, append_assoc, arith}
 use Rattle.std.specs.Prelude.{not, ◌||◌, filter}
 use Rattle.std.specs.BTreeMap.{BTreeMap, IsFromIterResult}
 use Rattle.std.specs.Cmp.{eq_by_cmp_equiv}
 use Rattle.std.specs.List.{list_any}
 use Rattle.std.specs.List.Sorted.{IsStrictlySortedBy}
-use Rattle.std.specs.Map.{keys_of, update_all}
+use Rattle.std.specs.Map.{keys_of}
 use Rattle.std.proofs.lemmas.List.{nil_from_length}
 use Rattle.std.proofs.lemmas.List.Filters.{length-filter_both}
 use Rattle.std.proofs.lemmas.Map.Entries.{length-keys_of}
 use Rattle.std.proofs.lemmas.Map.Keys.{IsDistinct-from_sorted}
-use Rattle.std.proofs.lemmas.Map.Made.{update_all_none, IsDistinct-keys_filter}
+use Rattle.std.proofs.lemmas.Map.Made.{update_all_none}
 use Rattle.std.proofs.lemmas.Map.Views.{any-filter_same}
 use Rattle.zone_proto.specs.declared.rr_key.RrKey.{RrKey}
 use Rattle.zone_proto.specs.Keys.{key_cmp, key_eq}
@@ -18,7 +18,7 @@ use Rattle.zone_proto.specs.Sets.{RRset}
 use Rattle.zone_proto.proofs.Ordering.KeyLaws.{key_cmp_total}
 use Rattle.zone_proto.proofs.Ordering.KeyOrder.{key_same, key_itself}
 use Rattle.zone_map.specs.Zones.{Sets}
-use Rattle.zone_map.proofs.Putting.{nothing, keys_of-filter, sorted_filter, same_entries}
+use Rattle.zone_map.proofs.Putting.{keys_of-filter, sorted_filter, same_entries}
 
 -- ---- a pass over a list of which some are kept
 
@@ -103,11 +103,13 @@ module _ (stands : RrKey → Bool) (es : Sets) (all : length (filter (λ k. not 
   pub all_fresh : filter (λ (e : RrKey × RRset). not (stands e.0)) es ≡ es
   all_fresh = fresh_where_none stands es none_stands
 
--- the map that is made of sets of which some were left has these
+-- the map that is made of sets in the order of their keys has these
+pub map_of_sets : (es : Sets) (made : BTreeMap RrKey RRset) → IsStrictlySortedBy key_cmp (keys_of es) → IsFromIterResult key_cmp es made → made.entries ≡ es
+map_of_sets es made sorted from =
+    same_entries made.entries es from.1 sorted (λ q. from.0 q ∙ update_all_none (eq_by_cmp_equiv key_cmp_total) key_eq (λ x y. refl) es q (IsDistinct-from_sorted key_cmp (keys_of es) sorted))
+
+-- and so has one of sets of which some were left
 pub map_of_filter : (r : RrKey → Bool) (es left : Sets) (made : BTreeMap RrKey RRset) → IsStrictlySortedBy key_cmp (keys_of es) → left ≡ filter (λ (e : RrKey × RRset). r e.0) es
     → IsFromIterResult key_cmp left made → made.entries ≡ filter (λ (e : RrKey × RRset). r e.0) es
 map_of_filter r es left made sorted is from =
-    same_entries made.entries (filter (λ (e : RrKey × RRset). r e.0) es) from.1 (sorted_filter r es sorted)
-    (λ q. from.0 q ∙ ap (λ (xs : Sets). update_all key_eq nothing xs q) is
-    ∙ update_all_none (eq_by_cmp_equiv key_cmp_total) key_eq (λ x y. refl) (filter (λ (e : RrKey × RRset). r e.0) es) q
-    (IsDistinct-keys_filter key_eq (λ (e : RrKey × RRset). r e.0) es (IsDistinct-from_sorted key_cmp (keys_of es) sorted)))
+    map_of_sets (filter (λ (e : RrKey × RRset). r e.0) es) made (sorted_filter r es sorted) (subst (λ (xs : Sets). IsFromIterResult key_cmp xs made) is from)

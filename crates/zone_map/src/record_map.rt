@@ -13,6 +13,7 @@ ghost use Rattle.zone_map.specs.Upserts.{upserted, with_record, clash, clashes, 
 
 mod denials;
 mod entries;
+mod full;
 mod puts;
 mod renewal;
 mod serials;
