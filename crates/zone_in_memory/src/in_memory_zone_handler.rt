@@ -155,6 +155,11 @@ impl<S: Signer, H: Nsec3Hash> InMemoryZoneHandler<S, H> {
         };
         let apex = RrKey::new(name, RecordType::SOA);
         let map = construction::make(&origin, &apex, &records)?;
+        // The map has copies. What the sets took is free before its nodes, half full as it was filled in order, are made anew.
+        drop(records);
+        let Ok(map) = map.compacted(alloc) else {
+            return Err(ZoneError::Memory);
+        };
         Ok(InMemoryZoneHandler {
             apex,
             class: CLASS,

@@ -1,12 +1,13 @@
 -- Sets made of their records, and put under their keys
 use Rattle.std.proofs.Common.{◌≡◌, ℕ, Bool, true, false, cond, List, [], ◌∷◌, ◌++◌, refl, sym, ap, ◌∙◌, subst, Ordering, Less, Equal, Greater}
 use Rattle.std.specs.Prelude.{Option, Some, None, map, fold, option_and_then, unwrap_or, IfSome}
-use Rattle.std.specs.BTreeMap.{insert_entry}
+use Rattle.std.specs.Cmp.{eq_by_cmp_equiv}
 use Rattle.std.specs.List.{AllByRecursion}
 use Rattle.std.specs.List.Sorted.{IsStrictlySortedBy}
 use Rattle.std.specs.Map.{lookup, keys_of}
 use Rattle.std.specs.Option.{option_or}
-use Rattle.std.specs.Ordering.{is_eq, match_ordering}
+use Rattle.std.proofs.lemmas.List.Elements.{All-push}
+use Rattle.std.proofs.lemmas.Map.{update_all_push}
 use Rattle.zone_proto.specs.declared.rdata.RData.{RData}
 use Rattle.zone_proto.specs.declared.rdata.RData.TheVariants as V
 use Rattle.zone_proto.specs.declared.record.Record.{Record}
@@ -16,9 +17,9 @@ use Rattle.zone_proto.specs.Keys.{key_cmp, key_eq}
 use Rattle.zone_proto.specs.Names.{IsName, lower}
 use Rattle.zone_proto.specs.Types.{RRSIG}
 use Rattle.zone_proto.specs.Sets.{RRset, empty_set}
+use Rattle.zone_proto.proofs.Ordering.KeyLaws.{key_cmp_total}
 use Rattle.zone_proto.proofs.Ordering.KeyOrder.{key_same, key_itself}
-use Rattle.zone_map.specs.Zones.{Sets, IsStoredAt, IsZone}
-use Rattle.zone_map.proofs.Stored.{put_apart, IsZone-put}
+use Rattle.zone_map.specs.Zones.{Sets, last_at, IsStoredAt, AreStored}
 use Rattle.zone_denial.specs.Nsec3Sets.{with_taken}
 use Rattle.zone_denial.proofs.Sets.TakenRecords.{taken_stored}
 use Rattle.zone_loading.specs.declared.given.GivenRecord.{GivenRecord}
@@ -68,38 +69,35 @@ made_stored k serial g named of s e = by g.records.items refl
         signed _ s (fold_stored k serial ttl named xs first (one_stored k serial ttl named (with_ttl ttl x.record) o.0 t.0 None tt) o.1 t.1) _
         (e ∙ ap (λ gs. signed_set_of serial gs g.signatures.items) (sym q))
 
--- with it the sets are those of a zone, as they were before
-pub zone_with : (k : RrKey) (serial : ℕ) (g : Group) → IsName k.name → IsGroupOf k g → (m n : Sets) → n ≡ with_set m k (set_in serial g) → IsZone m → IsZone n
-zone_with k serial g named of m n e zone = subst IsZone (sym e) (by (set_in serial g) refl)
+-- behind sets that stand under their keys it stands under its own
+pub stored_with : (k : RrKey) (serial : ℕ) (g : Group) → IsName k.name → IsGroupOf k g → (m n : Sets) → n ≡ with_set m k (set_in serial g) → AreStored m → AreStored n
+stored_with k serial g named of m n e stored = subst AreStored (sym e) (by (set_in serial g) refl)
   where
-    by : (o : Option RRset) → o ≡ set_in serial g → IsZone (with_set m k o)
-    by None q = zone
-    by (Some s) q = IsZone-put m k s zone (made_stored k serial g named of s q)
+    by : (o : Option RRset) → o ≡ set_in serial g → AreStored (with_set m k o)
+    by None q = stored
+    by (Some s) q = All-push (λ x. IsStoredAt x.0.name x.0.record_type.0 x.1) m (k, s) stored (made_stored k serial g named of s q)
 
 -- ---- the sets of groups whose keys ascend
 
-put_found : (m : Sets) (k : RrKey) (v : RRset) → lookup (key_eq k) (insert_entry key_cmp m k v) ≡ Some v
-put_found [] k v = ap (λ b. cond b (Some v) None) (key_itself k)
-put_found (e ∷ m) k v = by (key_cmp k e.0) refl (put_found m k v)
-  where
-    by : (o : Ordering) → key_cmp k e.0 ≡ o → lookup (key_eq k) (insert_entry key_cmp m k v) ≡ Some v
-        → lookup (key_eq k) (match_ordering o ((k, v) ∷ e ∷ m) ((e.0, v) ∷ m) (e ∷ insert_entry key_cmp m k v)) ≡ Some v
-    by Less g i = ap (λ b. cond b (Some v) (lookup (key_eq k) (e ∷ m))) (key_itself k)
-    by Equal g i = ap (λ b. cond b (Some v) (lookup (key_eq k) m)) (ap is_eq g)
-    by Greater g i = ap (λ b. cond b (Some e.1) (lookup (key_eq k) (insert_entry key_cmp m k v))) (ap is_eq g) ∙ i
+-- the set that comes last under a key
+abbrev pub last_under : Sets → RrKey → Option RRset
+last_under m k = last_at m k.name k.record_type.0
 
--- what stands under a key where the set of a group was put, if there is one
-with_own : (m : Sets) (k : RrKey) (o : Option RRset) → lookup (key_eq k) (with_set m k o) ≡ option_or o (lookup (key_eq k) m)
+last_with : (m : Sets) (k : RrKey) (s : RRset) (q : RrKey) → last_under (m ++ (k, s) ∷ []) q ≡ cond (key_eq k q) (Some s) (last_under m q)
+last_with m k s q = sym (update_all_push key_eq (λ _. None) (λ x. last_under m x) m (k, s) q refl)
+
+-- what stands under a key behind whose sets that of its group was put, if there is one
+with_own : (m : Sets) (k : RrKey) (o : Option RRset) → last_under (with_set m k o) k ≡ option_or o (last_under m k)
 with_own m k None = refl
-with_own m k (Some s) = put_found m k s
+with_own m k (Some s) = last_with m k s k ∙ ap (λ b. cond b (Some s) (last_under m k)) (key_itself k)
 
-with_apart : (m : Sets) (k q : RrKey) (o : Option RRset) → key_eq q k ≡ false → lookup (key_eq q) (with_set m k o) ≡ lookup (key_eq q) m
+with_apart : (m : Sets) (k q : RrKey) (o : Option RRset) → key_eq q k ≡ false → last_under (with_set m k o) q ≡ last_under m q
 with_apart m k q None h = refl
-with_apart m k q (Some s) h = put_apart m k q s h
+with_apart m k q (Some s) h = last_with m k s q ∙ ap (λ b. cond b (Some s) (last_under m q)) ((eq_by_cmp_equiv key_cmp_total).symm k q ∙ h)
 
 -- the sets of the groups that are left, and those that stand so far
 abbrev pub sets_with : ℕ → List (RrKey × Group) → Sets → RrKey → Option RRset
-sets_with serial es m k = option_or (option_and_then (set_in serial) (lookup (key_eq k) es)) (lookup (key_eq k) m)
+sets_with serial es m k = option_or (option_and_then (set_in serial) (lookup (key_eq k) es)) (last_under m k)
 
 pub set_more : (serial : ℕ) (m n : Sets) (key : RrKey) (g : Group) (left all : List (RrKey × Group)) → n ≡ with_set m key (set_in serial g) → all ≡ (key, g) ∷ left
     → IsStrictlySortedBy key_cmp (keys_of all) → (k : RrKey) → sets_with serial left n k ≡ sets_with serial all m k
@@ -111,13 +109,13 @@ set_more serial m n key g left all made steps sorted k =
     above = (subst (λ es. IsStrictlySortedBy key_cmp (keys_of es)) steps sorted).0
 
     by : (b : Bool) → key_eq k key ≡ b → sets_with serial left (with_set m key (set_in serial g)) k
-        ≡ option_or (option_and_then (set_in serial) (cond b (Some g) (lookup (key_eq k) left))) (lookup (key_eq k) m)
+        ≡ option_or (option_and_then (set_in serial) (cond b (Some g) (lookup (key_eq k) left))) (last_under m k)
     by true h =
         let same : k ≡ key = key_same k key h in
         ap (λ q. sets_with serial left (with_set m key (set_in serial g)) q) same
-        ∙ ap (λ o. option_or (option_and_then (set_in serial) o) (lookup (key_eq key) (with_set m key (set_in serial g)))) (absent key left above)
+        ∙ ap (λ o. option_or (option_and_then (set_in serial) o) (last_under (with_set m key (set_in serial g)) key)) (absent key left above)
         ∙ with_own m key (set_in serial g)
-        ∙ ap (λ q. option_or (set_in serial g) (lookup (key_eq q) m)) (sym same)
+        ∙ ap (λ q. option_or (set_in serial g) (last_under m q)) (sym same)
     by false h = ap (option_or (option_and_then (set_in serial) (lookup (key_eq k) left))) (with_apart m key k (set_in serial g) h)
 
 pub sorted_left : (key : RrKey) (g : Group) (left all : List (RrKey × Group)) → all ≡ (key, g) ∷ left → IsStrictlySortedBy key_cmp (keys_of all) → IsStrictlySortedBy key_cmp (keys_of left)

@@ -6,7 +6,7 @@ use Rattle.zone_proto.specs.Data.{type_of}
 use Rattle.zone_proto.specs.Names.{Name}
 use Rattle.zone_proto.specs.Sets.{RRset, empty_set, first_serial}
 use Rattle.zone_proto.specs.Types.{SOA}
-use Rattle.zone_map.specs.Zones.{Sets, put}
+use Rattle.zone_map.specs.Zones.{Sets}
 use Rattle.zone_denial.specs.Nsec3Sets.{with_taken}
 use Rattle.zone_loading.specs.declared.given.GivenRecord.{GivenRecord}
 use Rattle.zone_loading.specs.declared.groups.Group.{Group}
@@ -37,10 +37,10 @@ signed_set_of serial gs signatures = option_map (signed_by (least_ttl gs) signat
 abbrev pub set_in : ℕ → Group → Option RRset
 set_in serial g = signed_set_of serial g.records.items g.signatures.items
 
--- a map with a set that may be there put under a key
+-- sets by their keys, and behind them one that may be there
 abbrev pub with_set : Sets → RrKey → Option RRset → Sets
 with_set m k None = m
-with_set m k (Some s) = put m k.name k.record_type.0 s
+with_set m k (Some s) = m ++ (k, s) ∷ []
 
 module _ (origin : Name) (gs : List GivenRecord) where
   -- the serial of the zone: that of the first SOA at the origin

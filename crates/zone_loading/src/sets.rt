@@ -6,7 +6,7 @@ ghost use Rattle.zone_proto.specs.declared.rr_key.RrKey.{RrKey as Key};
 ghost use Rattle.zone_proto.specs.Data.{type_of};
 ghost use Rattle.zone_proto.specs.Keys.{key_cmp};
 ghost use Rattle.zone_proto.specs.Names.{lower};
-ghost use Rattle.zone_map.specs.Zones.{set_at, IsZone};
+ghost use Rattle.zone_map.specs.Zones.{set_at, AreStored, IsZone};
 ghost use Rattle.zone_denial.specs.Nsec3Sets.{with_taken};
 ghost use Rattle.zone_loading.specs.Groups.{AreGroups, IsGroupOf};
 ghost use Rattle.zone_loading.specs.Records.{is_signature, records_of};
@@ -17,7 +17,7 @@ use crate::groups::Group;
 use crate::warning::LoadWarning;
 use std::alloc::Global;
 use std::collections::BTreeMap;
-use zone_map::RecordMap;
+use zone_map::{NewSets, RecordMap};
 use zone_proto::{ProtoError, Record, RecordSet, RrKey};
 
 /// The sets of these records, each with the signatures that cover it. Signatures of no set are left out, with a warning.
@@ -36,33 +36,32 @@ pub(crate) fn sets_of(
     ensures zone { IfOk result (λ sets. IsZone sets) }
     ensures err { IsOkUnless result ProtoError.Memory }
 {
-    let mut sets = RecordMap::new(alloc);
+    let mut sets = Vec::with_capacity(alloc, groups.len())?;
     for (key, group) in groups {
         put_set(&mut sets, key, group, serial, warnings)?;
     }
-    Ok(sets)
+    // All at once, since the nodes of a map that is filled in the order of its keys are half full.
+    let sets = NewSets::from_entries(alloc, sets)?;
+    RecordMap::from_sets(alloc, sets)
 }
 
-/// Puts the set of a group into a map, if the group has records.
+/// Puts the set of a group behind others, if the group has records.
 fn put_set(
-    sets: &mut RecordMap,
+    sets: &mut Vec<(RrKey, RecordSet)>,
     key: RrKey,
     group: Group,
     serial: u32,
     warnings: &mut Vec<LoadWarning>,
 ) -> Result<(), ProtoError>
     requires { IsGroupOf key group }
-    ensures ok { OnOk result (sets.new ≡ with_set sets.old key (set_in serial group)) }
-    ensures zone { OnOk result (IsZone sets.old → IsZone sets.new) }
+    ensures ok { OnOk result (sets.new.items ≡ with_set sets.old.items key (set_in serial group)) }
+    ensures stored { OnOk result (AreStored sets.old.items → AreStored sets.new.items) }
     ensures err { IsOkUnless result ProtoError.Memory }
 {
-    match set_of(&key, group, serial, warnings)? {
-        Some(set) => match sets.put(key, set) {
-            Ok(_) => Ok(()),
-            Err(_) => Err(ProtoError::Memory),
-        },
-        None => Ok(()),
+    if let Some(set) = set_of(&key, group, serial, warnings)? {
+        sets.push((key, set))?;
     }
+    Ok(())
 }
 
 /// The set of a group, with its signatures; none where the group has no records.

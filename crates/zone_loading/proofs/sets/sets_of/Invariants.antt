@@ -7,7 +7,7 @@ use Rattle.std.specs.Map.{keys_of, lookup}
 use Rattle.std.specs.Option.{option_or}
 use Rattle.zone_proto.specs.declared.rr_key.RrKey.{RrKey}
 use Rattle.zone_proto.specs.Keys.{key_cmp, key_eq}
-use Rattle.zone_map.specs.Zones.{set_at, IsZone}
+use Rattle.zone_map.specs.Zones.{last_at, AreStored}
 use Rattle.zone_loading.specs.Groups.{IsGroupOf}
 use Rattle.zone_loading.specs.Sets.{set_in}
 use Rattle.zone_loading.proofs.sets.sets_of.Given as goal
@@ -17,6 +17,6 @@ abbrev pub invariant-loop-key : goal.invariant-loop-key
 invariant-loop-key l = record {
   groups : AllByRecursion (λ e. IsGroupOf e.0 e.1) l.key-iterator;
   ordered : IsStrictlySortedBy key_cmp (keys_of l.key-iterator);
-  zone : IsZone l.sets;
-  sets : (k : RrKey) → option_or (option_and_then (set_in l.serial) (lookup (key_eq k) l.key-iterator)) (set_at l.sets k.name k.record_type.0) ≡ option_and_then (set_in l.serial) (get key_cmp l.fn.groups k);
+  stored : AreStored l.sets.items;
+  sets : (k : RrKey) → option_or (option_and_then (set_in l.serial) (lookup (key_eq k) l.key-iterator)) (last_at l.sets.items k.name k.record_type.0) ≡ option_and_then (set_in l.serial) (get key_cmp l.fn.groups k);
 }
