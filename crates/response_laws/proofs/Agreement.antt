@@ -1,35 +1,44 @@
 -- The answers of a response are those of a lookup
-use Rattle.std.proofs.Common.{◌≡◌, Bool, true, false, cond, not, ◌||◌, List, ◌++◌, map, refl, sym, ap, ◌∙◌, subst, true≢false}
-use Rattle.std.specs.Prelude.{Option, Some, None, option_map, MatchOption, MatchResult, Result, Ok, Err, IsOk, ◌==◌}
+use Rattle.std.proofs.Common.{◌≡◌, Bool, true, false, cond, not, ◌&&◌, ◌||◌, List, [], ◌∷◌, ◌++◌, map, refl, sym, ap, ◌∙◌, subst, true≢false}
+use Rattle.std.specs.Prelude.{Option, Some, None, unwrap_or, option_map, MatchOption, MatchResult, Result, Ok, Err, IsOk, ◌==◌}
 use Rattle.std.specs.Bool.{MatchBool}
+use Rattle.std.specs.List.{Contains}
 use Rattle.std.specs.Option.{option_map_or}
 use Rattle.zone_proto.specs.declared.error.ProtoError.{ProtoError}
 use Rattle.zone_proto.specs.declared.record.Record.{Record}
 use Rattle.zone_proto.specs.declared.response_code.ResponseCode.{ResponseCode}
 use Rattle.zone_proto.specs.declared.response_code.ResponseCode.TheVariants as code
-use Rattle.zone_proto.specs.Names.{Name, is_at_or_above, is_wildcard, star_under}
+use Rattle.zone_proto.specs.Names.{Name, name_eq, is_at_or_above, is_wildcard, star_under}
 use Rattle.zone_proto.specs.Sets.{RRset}
-use Rattle.zone_proto.specs.Types.{IN, SOA, ANY}
+use Rattle.zone_proto.specs.Types.{IN, SOA, ANY, ANAME}
 use Rattle.zone_proto.proofs.Members.{In, In-Contains}
+use Rattle.zone_proto.proofs.Names.NameTree.{name_eq-Decides}
 use Rattle.zone_map.specs.Chains.{chain}
+use Rattle.zone_map.specs.Direct.{is_address}
 use Rattle.zone_map.specs.Wildcards.{exists, closest_encloser, asked_star_exists, found}
 use Rattle.zone_map.specs.Zones.{Sets, owns_at_or_below}
 use Rattle.zone_map.proofs.ExistingNames.{absent_where_unowned, owned_where_existing}
 use Rattle.zone_map.proofs.Owned.{set_of}
 use Rattle.zone_denial.specs.Nsec3Denial.{result_and_then}
-use Rattle.zone_inner.specs.Flattening.{stands_for_addresses, alone, beside, flattened, last_set}
-use Rattle.zone_inner.specs.Replies.{NegativeAnswer, name_exists, nx_domain, refused, absent, is_present, negative_answer, Answers, one_set, chained, Reply, negative, answered, is_followed, answer_sets, answer_section, IsAnswer, IsReplyFor}
+use Rattle.zone_inner.specs.Additionals.{next_name, AreAdditionals}
+use Rattle.zone_inner.specs.Flattening.{stands_for_addresses, alone, beside, flattened, unsigned_flattened, last_set}
+use Rattle.zone_inner.specs.Replies.{NegativeAnswer, name_exists, nx_domain, refused, absent, is_present, negative_answer, Answers, one_set, chained, Reply, negative, answered, is_followed, answer_sets, AreFrom, answer_section, IsAnswer, IsReplyFor}
 use Rattle.zone_acceptance.proofs.OwnTypes.{differs}
 use Rattle.zone_acceptance.proofs.Soundness.{searched_by}
+use Rattle.zone_response.specs.declared.response.Part.TheVariants as part
 use Rattle.zone_response.specs.Denials.{sent_proof}
 use Rattle.zone_response.specs.Paths.{Path, path}
-use Rattle.zone_response.specs.Queries.{Zone, Query, inquiry}
+use Rattle.zone_response.specs.Queries.{Zone, Query, Inquiry, inquiry}
 use Rattle.zone_response.specs.Responses.{bare, negative_ttl, ds_at, end_sets, proof_sets, fails, refusal, IsResponse, IsSearched, IsResponseAlong, IsProvenResponse, IsResponseBy}
 use Rattle.zone_response.specs.Sections.{Sections, as_it_is, part_for}
 use Rattle.zone_response.specs.Sources.{is_there}
-use Rattle.response_laws.specs.Agreement.{IsOrdinaryZone, IsOrdinaryQuery, IsProvable, unfound_name, searched_names, sets_of, answer_sets_of, code_of, IsNoDenialOwner, Agrees, ResponsesAgree}
+use Rattle.zone_response.specs.StandIns.{target_sets, addresses}
+use Rattle.zone_response.proofs.StandInFacts.{targets_listed, without_targets}
+use Rattle.response_laws.specs.Agreement.{IsOrdinaryZone, NoStandIn, StandInsLead, IsOrdinaryQuery, IsProvable, unfound_name, searched_names, sets_of, answer_sets_of, code_of, IsNoDenialOwner, Agrees, ResponsesAgree}
 use Rattle.response_laws.proofs.AgreementNames.{star_asked}
-use Rattle.response_laws.proofs.AgreementPaths.{IsAlike, PathAnswers, answers_alone, answers_along, answers_none, PathEnds, itself, unfound_by, unfound_searched, path_answers_as_found}
+use Rattle.response_laws.proofs.AgreementPaths.{IsAlike, PathAnswers, answers_alone, answers_stood_in, answers_along, answers_none, PathEnds, itself, unfound_by, unfound_searched, path_answers_as_found, path_stood_in}
+use Rattle.response_laws.proofs.AgreementSteps.{no_address}
+use Rattle.response_laws.proofs.StandIns.{AreOfLast, addresses_of_last}
 
 -- ---- whether a name is there
 
@@ -96,92 +105,152 @@ module _ (z : Zone) (q : Query) (r : Sections) (zone : IsOrdinaryZone z.origin z
   abbrev m : Sets
   m = z.sets
 
-  alike : (y : Name) → In y (searched_names (inquiry z q) q.name) → IsAlike (inquiry z q) y
-  alike y i inside = let c = In-Contains y (searched_names (inquiry z q) q.name) i in (query.names y c inside, query.addresses y c)
+  module _ (as_found : PathAnswers (inquiry z q) q.name × PathEnds (inquiry z q) q.name) where
+    response : (sets : List RRset) × IsResponseBy (inquiry z q) p sets r
+    response = by_path as_found.1.passes
 
-  as_found : PathAnswers (inquiry z q) q.name × PathEnds (inquiry z q) q.name
-  as_found = path_answers_as_found (inquiry z q) zone query.record_type q.name query.inside alike
+    -- a name of the zone without a set
+    unstarred : (y : Name) → unfound_name (inquiry z q) q.name ≡ Some y → is_at_or_above z.origin y ≡ true → exists z.sets y ≡ false → is_wildcard y ≡ false
+    unstarred y u inside = (query.names y (In-Contains y (searched_names (inquiry z q) q.name) (unfound_searched (inquiry z q) zone query.record_type q.name query.inside y u)) inside).unstarred
 
-  response : (sets : List RRset) × IsResponseBy (inquiry z q) p sets r
-  response = by_path as_found.1.passes
+    coded : (y : Name) → unfound_name (inquiry z q) q.name ≡ Some y → is_at_or_above z.origin y ≡ true → r.code ≡ cond (is_there z.sets y) code.NoError code.NXDomain
+    coded y u inside = response.1.code ∙ as_found.1.unfound y u inside
 
-  -- a name of the zone without a set
-  unstarred : (y : Name) → unfound_name (inquiry z q) q.name ≡ Some y → is_at_or_above z.origin y ≡ true → exists z.sets y ≡ false → is_wildcard y ≡ false
-  unstarred y u inside = (alike y (unfound_searched (inquiry z q) zone query.record_type q.name query.inside alike y u) inside).0.unstarred
-
-  coded : (y : Name) → unfound_name (inquiry z q) q.name ≡ Some y → is_at_or_above z.origin y ≡ true → r.code ≡ cond (is_there z.sets y) code.NoError code.NXDomain
-  coded y u inside = response.1.code ∙ as_found.1.unfound y u inside
-
-  agrees : (reply : Reply) → r.answers ≡ map (as_it_is (part_for q.signed)) (answer_sets_of reply)
-      → ((d : NegativeAnswer) → reply ≡ negative d → (unfound_name (inquiry z q) q.name ≡ Some q.name) × (d ≡ negative_answer z.origin z.sets q.name)) → Agrees z q r reply
-  agrees reply answers denied = record {
-    answers = answers;
-    denied = denied;
-    unfound = λ y u inside owner. coded y u inside ∙ by_there y inside owner (unstarred y u inside) (is_there m y) refl;
-    name_error = λ y u e. let inside = within y e in coded y u inside ∙ ap (λ b. cond b code.NoError code.NXDomain) (gone m y (unstarred y u inside) (lost y (is_present m y) refl e));
-    no_error = λ out. response.1.code ∙ as_found.1.others out;
-  }
-    where
-      lost : (y : Name) (b : Bool) → is_present m y ≡ b → negative_answer z.origin m y ≡ nx_domain → b ≡ false
-      lost y false f e = refl
-      lost y true f e = let p : name_exists ≡ nx_domain = sym (ap (λ b. cond b name_exists (absent z.origin y)) f) ∙ e in absurd cc
-
-      within : (y : Name) → negative_answer z.origin m y ≡ nx_domain → is_at_or_above z.origin y ≡ true
-      within y e = by (is_present m y) (is_at_or_above z.origin y) refl e
-        where
-          by : (b c : Bool) → is_at_or_above z.origin y ≡ c → cond b name_exists (cond c nx_domain refused) ≡ nx_domain → c ≡ true
-          by true c f e = absurd cc
-          by false true f e = refl
-          by false false f e = absurd cc
-
-      by_there : (y : Name) → is_at_or_above z.origin y ≡ true → IsNoDenialOwner m y → (exists m y ≡ false → is_wildcard y ≡ false) → (b : Bool) → is_there m y ≡ b
-          → cond (is_there m y) code.NoError code.NXDomain ≡ code_of (negative_answer z.origin m y)
-      by_there y inside owner plain true f =
-          ap (λ b. cond b code.NoError code.NXDomain) f
-          ∙ sym (ap (λ b. code_of (cond b name_exists (absent z.origin y))) (there_alike m y plain owner ∙ f))
-      by_there y inside owner plain false f =
-          ap (λ b. cond b code.NoError code.NXDomain) f
-          ∙ sym (λ i. code_of (cond ((there_alike m y plain owner ∙ f) i) name_exists (cond (inside i) nx_domain refused)))
-
-  module _ (sign : RRset → List Record) (reply : Reply) where
-    -- a set that stands for no addresses isn't flattened
-    stays : (s : RRset) (last : Option RRset) → stands_for_addresses q.record_type s ≡ false → alone sign q.record_type s last ≡ s
-    stays s None e = refl
-    stays s (Some l) e = ap (λ b. cond b (flattened sign s q.record_type l) s) e
-
-    section : (s : RRset) (more : List RRset) (b : Bool) → is_followed q.record_type s ≡ b
-        → answer_section sign m q.signed x q.record_type s more ≡ cond b (chained (chain m q.signed x s q.record_type)) (one_set (alone sign q.record_type s (last_set more)))
-    section s more b e = ap (λ b. cond b (chained (chain m q.signed x s q.record_type)) (one_set (alone sign q.record_type s (last_set more)))) e
-
-    says : (o : Option RRset) → found m q.signed x q.record_type ≡ o → IsReplyFor sign z.origin m q.signed x q.record_type reply
-        → MatchOption o (reply ≡ negative (negative_answer z.origin m x)) (λ s. IsAnswer sign m q.signed x q.record_type s reply)
-    says o e h = subst (λ (o : Option RRset). MatchOption o (reply ≡ negative (negative_answer z.origin m x)) (λ s. IsAnswer sign m q.signed x q.record_type s reply)) e h
-
-    -- a reply with sets
-    with_sets : (answers : Answers) (s : RRset) → (a : IsAnswer sign m q.signed x q.record_type s reply) → answer_section sign m q.signed x q.record_type s a.more ≡ answers
-        → r.answers ≡ map (as_it_is (part_for q.signed)) (sets_of answers) → Agrees z q r reply
-    with_sets answers s a is same =
-        let more = beside q.record_type (last_set (answer_sets m q.signed x q.record_type s)) a.more in
-        subst (Agrees z q r) (sym (a.sections ∙ ap (λ w. answered w (beside q.record_type (last_set (answer_sets m q.signed x q.record_type s)) a.more)) is))
-        (agrees (answered answers (beside q.record_type (last_set (answer_sets m q.signed x q.record_type s)) a.more)) same (λ d e. absurd cc))
-
-    by_answers : IsReplyFor sign z.origin m q.signed x q.record_type reply → PathAnswers (inquiry z q) q.name → Agrees z q r reply
-    by_answers h (answers_alone s e f answers) =
-        let a = says (Some s) e h in
-        with_sets (one_set s) s a (section s a.more false f ∙ ap one_set (stays s (last_set a.more) (query.addresses x (In-Contains x (searched_names (inquiry z q) q.name) (itself (inquiry z q) zone query.record_type q.name query.inside alike)) s e)))
-        (response.1.answers ∙ answers)
-    by_answers h (answers_along s e f answers) =
-        let a = says (Some s) e h in
-        with_sets (chained (chain m q.signed x s q.record_type)) s a (section s a.more true f) (response.1.answers ∙ answers)
-    by_answers h (answers_none e answers) =
-        subst (Agrees z q r) (sym (says None e h))
-        (agrees (negative (negative_answer z.origin m x)) (response.1.answers ∙ answers) (λ d e'. (unfound_by (inquiry z q) zone query.record_type q.name query.inside alike None e, same (negative_answer z.origin m x) d e')))
+    agrees : (reply : Reply) → r.answers ≡ map (as_it_is (part_for q.signed)) (answer_sets_of reply)
+        → ((d : NegativeAnswer) → reply ≡ negative d → (unfound_name (inquiry z q) q.name ≡ Some q.name) × (d ≡ negative_answer z.origin z.sets q.name)) → Agrees z q r reply
+    agrees reply answers denied = record {
+      answers = answers;
+      denied = denied;
+      unfound = λ y u inside owner. coded y u inside ∙ by_there y inside owner (unstarred y u inside) (is_there m y) refl;
+      name_error = λ y u e. let inside = within y e in coded y u inside ∙ ap (λ b. cond b code.NoError code.NXDomain) (gone m y (unstarred y u inside) (lost y (is_present m y) refl e));
+      no_error = λ out. response.1.code ∙ as_found.1.others out;
+    }
       where
-        same : (d c : NegativeAnswer) → negative d ≡ negative c → c ≡ d
-        same d c e = cc
+        lost : (y : Name) (b : Bool) → is_present m y ≡ b → negative_answer z.origin m y ≡ nx_domain → b ≡ false
+        lost y false f e = refl
+        lost y true f e = let p : name_exists ≡ nx_domain = sym (ap (λ b. cond b name_exists (absent z.origin y)) f) ∙ e in absurd cc
+
+        within : (y : Name) → negative_answer z.origin m y ≡ nx_domain → is_at_or_above z.origin y ≡ true
+        within y e = by (is_present m y) (is_at_or_above z.origin y) refl e
+          where
+            by : (b c : Bool) → is_at_or_above z.origin y ≡ c → cond b name_exists (cond c nx_domain refused) ≡ nx_domain → c ≡ true
+            by true c f e = absurd cc
+            by false true f e = refl
+            by false false f e = absurd cc
+
+        by_there : (y : Name) → is_at_or_above z.origin y ≡ true → IsNoDenialOwner m y → (exists m y ≡ false → is_wildcard y ≡ false) → (b : Bool) → is_there m y ≡ b
+            → cond (is_there m y) code.NoError code.NXDomain ≡ code_of (negative_answer z.origin m y)
+        by_there y inside owner plain true f =
+            ap (λ b. cond b code.NoError code.NXDomain) f
+            ∙ sym (ap (λ b. code_of (cond b name_exists (absent z.origin y))) (there_alike m y plain owner ∙ f))
+        by_there y inside owner plain false f =
+            ap (λ b. cond b code.NoError code.NXDomain) f
+            ∙ sym (λ i. code_of (cond ((there_alike m y plain owner ∙ f) i) name_exists (cond (inside i) nx_domain refused)))
+
+    module _ (sign : RRset → List Record) (stand_ins : StandInsLead sign (inquiry z q) q.name) (reply : Reply) where
+      -- a set that stands for no addresses isn't flattened
+      stays : (s : RRset) (last : Option RRset) → stands_for_addresses q.record_type s ≡ false → alone sign q.record_type s last ≡ s
+      stays s None e = refl
+      stays s (Some l) e = ap (λ b. cond b (flattened sign s q.record_type l) s) e
+
+      section : (s : RRset) (more : List RRset) (b : Bool) → is_followed q.record_type s ≡ b
+          → answer_section sign m q.signed x q.record_type s more ≡ cond b (chained (chain m q.signed x s q.record_type)) (one_set (alone sign q.record_type s (last_set more)))
+      section s more b e = ap (λ b. cond b (chained (chain m q.signed x s q.record_type)) (one_set (alone sign q.record_type s (last_set more)))) e
+
+      says : (o : Option RRset) → found m q.signed x q.record_type ≡ o → IsReplyFor sign z.origin m q.signed x q.record_type reply
+          → MatchOption o (reply ≡ negative (negative_answer z.origin m x)) (λ s. IsAnswer sign m q.signed x q.record_type s reply)
+      says o e h = subst (λ (o : Option RRset). MatchOption o (reply ≡ negative (negative_answer z.origin m x)) (λ s. IsAnswer sign m q.signed x q.record_type s reply)) e h
+
+      -- a reply with sets
+      with_sets : (answers : Answers) (s : RRset) → (a : IsAnswer sign m q.signed x q.record_type s reply) → answer_section sign m q.signed x q.record_type s a.more ≡ answers
+          → r.answers ≡ map (as_it_is (part_for q.signed)) (sets_of answers) → Agrees z q r reply
+      with_sets answers s a is same =
+          let more = beside q.record_type (last_set (answer_sets m q.signed x q.record_type s)) a.more in
+          subst (Agrees z q r) (sym (a.sections ∙ ap (λ w. answered w (beside q.record_type (last_set (answer_sets m q.signed x q.record_type s)) a.more)) is))
+          (agrees (answered answers (beside q.record_type (last_set (answer_sets m q.signed x q.record_type s)) a.more)) same (λ d e. absurd cc))
+
+      -- the addresses of a stand-in are those that a lookup has, and as it has them unsigned
+      goes_out : (s v : RRset) (l : Option RRset) → last_set (target_sets m q.signed x q.record_type s) ≡ l → stands_for_addresses q.record_type s ≡ true → AreOfLast (inquiry z q) x s v → (q.signed ≡ true → sign v ≡ [])
+          → as_it_is part.Records v ≡ as_it_is (part_for q.signed) (alone sign q.record_type s l)
+      goes_out s v None e k a unsigned =
+          absurd (true≢false (sym k ∙ ap (λ u. (u == ANAME) && is_address q.record_type) (sym (ap (λ l. (unwrap_or l s).record_type) e) ∙ a.of_type) ∙ no_address q.record_type))
+      goes_out s v (Some l) e k a unsigned =
+          let as_signed : RRset → RRset = λ v. record v { signatures = sign v } in
+          signed_so q.signed unsigned ∙ ap (as_it_is (part_for q.signed)) (ap as_signed made_of ∙ ap (λ b. cond b (flattened sign s q.record_type l) s) (sym k))
+        where
+          made_of : v ≡ unsigned_flattened s q.record_type l
+          made_of = a.is ∙ ap (λ l. unsigned_flattened s q.record_type (unwrap_or l s)) e
+
+          signed_so : (b : Bool) → (b ≡ true → sign v ≡ []) → as_it_is part.Records v ≡ as_it_is (part_for b) (record v { signatures = sign v })
+          signed_so true u = ap (λ (signatures : List Record). as_it_is part.Signed (record v { signatures = signatures })) (sym (u refl))
+          signed_so false u = refl
+
+      -- the sets along the targets of a stand-in are those that a lookup lists
+      listed : (s : RRset) (more : List RRset) (o : Option Name) → next_name q.record_type s ≡ o → MatchOption o (more ≡ []) (λ next. AreAdditionals m q.signed x q.record_type next more)
+          → more ≡ target_sets m q.signed x q.record_type s
+      listed s more None e h = h ∙ without_targets m q.signed x q.record_type s (sym e)
+      listed s more (Some from) e h = targets_listed m zone.zone q.signed x q.record_type s from more (sym e) h
+
+      by_answers : IsReplyFor sign z.origin m q.signed x q.record_type reply → PathAnswers (inquiry z q) q.name → Agrees z q r reply
+      by_answers h (answers_alone s e f own answers) =
+          let a = says (Some s) e h in
+          with_sets (one_set s) s a (section s a.more false f ∙ ap one_set (stays s (last_set a.more) own)) (response.1.answers ∙ answers)
+      by_answers h (answers_stood_in s v e f k leads answers) =
+          let a = says (Some s) e h in
+          let found = subst (λ b. AreFrom m q.signed x q.record_type (last_set (cond b (chain m q.signed x s q.record_type) (s ∷ []))) a.more) f a.found in
+          let more = listed s a.more (next_name q.record_type s) refl found in
+          let w = stand_ins s e k in
+          let same : w.made ≡ v = same_addresses w.made v (sym w.leads ∙ leads) in
+          with_sets (one_set (alone sign q.record_type s (last_set a.more))) s a (section s a.more false f)
+          (response.1.answers ∙ answers
+          ∙ ap (λ v. v ∷ [])
+          (goes_out s v (last_set a.more) (ap last_set (sym more)) k (addresses_of_last (inquiry z q) x s v leads) (λ signed. ap sign (sym same) ∙ w.unsigned signed)))
+        where
+          same_addresses : (a b : RRset) → addresses a ≡ addresses b → a ≡ b
+          same_addresses a b e = cc
+      by_answers h (answers_along s e f answers) =
+          let a = says (Some s) e h in
+          with_sets (chained (chain m q.signed x s q.record_type)) s a (section s a.more true f) (response.1.answers ∙ answers)
+      by_answers h (answers_none e answers) =
+          subst (Agrees z q r) (sym (says None e h))
+          (agrees (negative (negative_answer z.origin m x)) (response.1.answers ∙ answers) (λ d e'. (unfound_by (inquiry z q) zone query.record_type q.name query.inside None e, same (negative_answer z.origin m x) d e')))
+        where
+          same : (d c : NegativeAnswer) → negative d ≡ negative c → c ≡ d
+          same d c e = cc
 
 pub responses_agree : ResponsesAgree
-responses_agree sign z q r reply zone query provable is says =
-    by_answers z q r zone query provable is sign reply
-    (subst (λ t. IsReplyFor sign z.origin z.sets q.signed q.name t reply) (searched_by z.sets q.name q.record_type (differs q.record_type ANY query.record_type.one)) says)
-    (as_found z q r zone query provable is).0
+responses_agree sign z q r reply zone query stand_ins provable is says = by (found z.sets q.signed q.name q.record_type) refl
+  where
+    y : Inquiry
+    y = inquiry z q
+
+    agrees_by : PathAnswers y q.name × PathEnds y q.name → Agrees z q r reply
+    agrees_by as_found =
+        by_answers z q r zone query provable is as_found sign stand_ins reply
+        (subst (λ t. IsReplyFor sign z.origin z.sets q.signed q.name t reply) (searched_by z.sets q.name q.record_type (differs q.record_type ANY query.record_type.one)) says)
+        as_found.0
+
+    -- where none stands in at the name
+    flat : NoStandIn y q.name → (n : Name) → In n (searched_names y q.name) → IsAlike y n
+    flat none n i inside = (query.names n c inside, either (name_eq n q.name) refl)
+      where
+        c : Contains (searched_names y q.name) n
+        c = In-Contains n (searched_names y q.name) i
+
+        either : (b : Bool) → name_eq n q.name ≡ b → NoStandIn y n
+        either true e = subst (NoStandIn y) (sym ((name_eq-Decides n q.name).0 e)) none
+        either false e = query.addresses n c (λ same. true≢false (sym ((name_eq-Decides n q.name).1 same) ∙ e))
+
+    without : NoStandIn y q.name → Agrees z q r reply
+    without none = agrees_by (path_answers_as_found y zone query.record_type q.name query.inside (flat none))
+
+    with_set : (s : RRset) → found z.sets q.signed q.name q.record_type ≡ Some s → (b : Bool) → stands_for_addresses q.record_type s ≡ b → Agrees z q r reply
+    with_set s e true k =
+        let w = stand_ins s e k in
+        let ordinary = query.names q.name (In-Contains q.name (searched_names y q.name) (itself y zone query.record_type q.name query.inside)) query.inside in
+        agrees_by (path_stood_in y zone query.record_type q.name query.inside ordinary w.unproved s w.made e k w.leads)
+    with_set s e false k = without (λ v h. let both : Some s ≡ Some v = sym e ∙ h in let same : s ≡ v = cc in ap (stands_for_addresses q.record_type) (sym same) ∙ k)
+
+    by : (o : Option RRset) → found z.sets q.signed q.name q.record_type ≡ o → Agrees z q r reply
+    by None e = without (λ v h. let both : None ≡ Some v = sym e ∙ h in absurd cc)
+    by (Some s) e = with_set s e (stands_for_addresses q.record_type s) refl

@@ -1,13 +1,14 @@
 -- Where a response isn't what a lookup says, each with the smallest zone, computed from the definitions. Each zone has besides an SOA at its origin no more than is shown
 use Rattle.std.proofs.Common.{◌≡◌, ℕ, true, false, List, [], ◌∷◌, refl}
 use Rattle.std.specs.Prelude.{codes, Option, Some, None, pos}
+use Rattle.zone_proto.specs.declared.nx_proof_kind.NxProofKind.TheVariants as kind
 use Rattle.zone_proto.specs.declared.rdata.RData.TheVariants as V
 use Rattle.zone_proto.specs.declared.response_code.ResponseCode.{ResponseCode}
 use Rattle.zone_proto.specs.declared.response_code.ResponseCode.TheVariants as code
 use Rattle.zone_proto.specs.declared.rr_key.RrKey.{RrKey}
 use Rattle.zone_proto.specs.Names.{Name, star_under}
 use Rattle.zone_proto.specs.Sets.{RRset}
-use Rattle.zone_proto.specs.Types.{A, NS, CNAME, SOA, MX, NSEC, NSEC3, IN}
+use Rattle.zone_proto.specs.Types.{A, NS, CNAME, SOA, MX, AAAA, NSEC, NSEC3, ANAME, IN}
 use Rattle.zone_map.specs.Wildcards.{renamed, found}
 use Rattle.zone_map.specs.Zones.{Sets}
 use Rattle.zone_denial.proofs.Examples.NsecExamples.{origin, at_origin, entry, address, start}
@@ -181,6 +182,48 @@ hashed_exists = refl
 hashed_is_error : IsResponse (zone (hashed ∷ [])) (asked a A) (negative code.NXDomain)
 unfolding path
 hashed_is_error = record { code = refl; authoritative = refl; answers = refl; authorities = refl; additionals = refl; glue = refl; left_at = refl }
+
+-- ---- an ANAME set behind an alias: a lookup answers with the set itself, and a response with the addresses
+
+abbrev c : Name
+c = at_origin (codes "c")
+
+abbrev stand_in : Name → Name → RrKey × RRset
+stand_in n target = entry n ANAME (V.ANAME target)
+
+behind_found : looked_up (alias a b ∷ stand_in b c ∷ address c ∷ []) b A ≡ Some (stand_in b c).1
+behind_found = refl
+
+behind_answered : IsResponse (zone (alias a b ∷ stand_in b c ∷ address c ∷ [])) (asked a A) (answer ((alias a b).1 ∷ renamed false c b (address c).1 ∷ []))
+unfolding path
+behind_answered = record { code = refl; authoritative = refl; answers = refl; authorities = refl; additionals = refl; glue = refl; left_at = refl }
+
+-- ---- an ANAME set that leads to no addresses: a lookup answers with it, and a response without data
+
+lost_found : looked_up (stand_in a c ∷ address c ∷ []) a AAAA ≡ Some (stand_in a c).1
+lost_found = refl
+
+lost_denied : IsResponse (zone (stand_in a c ∷ address c ∷ [])) (asked a AAAA) (negative code.NoError)
+unfolding path
+lost_denied = record { code = refl; authoritative = refl; answers = refl; authorities = refl; additionals = refl; glue = refl; left_at = refl }
+
+-- ---- one that leads out of the zone: a response can't tell what is there
+
+untold_found : looked_up (stand_in a other ∷ []) a A ≡ Some (stand_in a other).1
+untold_found = refl
+
+untold_fails : IsResponse (zone (stand_in a other ∷ [])) (asked a A) (bare code.ServFail)
+unfolding path
+untold_fails = refl
+
+-- ---- one in a zone that denies, where DNSSEC is asked for: nobody signs the addresses
+
+proved_found : found (start ∷ stand_in a c ∷ address c ∷ []) true a A ≡ Some (stand_in a c).1
+proved_found = refl
+
+proved_fails : IsResponse (record (zone (stand_in a c ∷ address c ∷ [])) { nx_proof_kind = Some kind.Nsec }) (record (asked a A) { signed = true }) (bare code.ServFail)
+unfolding path
+proved_fails = refl
 
 -- ---- no SOA
 

@@ -26,7 +26,7 @@ use Rattle.zone_response.specs.Paths.{path}
 use Rattle.zone_response.specs.Queries.{Zone, Query, Inquiry, inquiry}
 use Rattle.zone_response.specs.Responses.{IsResponse}
 use Rattle.zone_response.specs.Sections.{Sections, sent}
-use Rattle.response_laws.specs.Agreement.{IsOrdinaryZone, IsOrdinaryType, IsOrdinary, NoStandIn, IsOrdinaryQuery, IsProvable, Agrees}
+use Rattle.response_laws.specs.Agreement.{IsOrdinaryZone, IsOrdinaryType, IsOrdinary, NoStandIn, StandInsLead, IsOrdinaryQuery, IsProvable, Agrees}
 use Rattle.response_laws.proofs.Agreement.{responses_agree}
 
 -- ---- the zone example: a is an alias of x.w, for which *.w answers, and c one of gone
@@ -55,7 +55,7 @@ sets = start ∷ alias a made ∷ alias c gone ∷ address star ∷ []
 abbrev zone : Zone
 zone = record { origin = origin; sets = sets; nx_proof_kind = None; digest_of = λ algorithm salt n iterations. None }
 
-soa_stored : IsStoredAt origin SOA start.1
+pub soa_stored : IsStoredAt origin SOA start.1
 soa_stored = record { named = name_by_tests origin refl refl; owner = refl; record_type = refl; filled = λ e. cc; set = IsSet-alone origin SOA _ refl refl }
 
 a_stored : IsStoredAt a CNAME (alias a made).1
@@ -90,7 +90,7 @@ entries n t h = let e = has_entry sets n t h in by e.0 e.1
     by s (inr (inr (inr (inl e)))) = the_star (ap (λ (e : RrKey × RRset). e.0.name) e) (ap (λ (e : RrKey × RRset). e.0.record_type.0) e)
     by s (inr (inr (inr (inr e)))) = absurd e
 
-other_type : (t u : ℕ) → (t == u) ≡ false → (u == u) ≡ true → t ≡ u → ⊥
+pub other_type : (t u : ℕ) → (t == u) ≡ false → (u == u) ≡ true → t ≡ u → ⊥
 other_type t u h k e = true≢false (sym k ∙ ap (λ v. v == u) (sym e) ∙ h)
 
 other_name : (n o : Name) → name_eq n o ≡ false → n ≡ o → ⊥
@@ -128,7 +128,7 @@ is_ordinary_zone = record {
 abbrev asked : Name → Query
 asked n = record { name = n; record_type = A; class = IN; signed = false }
 
-is_ordinary_type : IsOrdinaryType A
+pub is_ordinary_type : IsOrdinaryType A
 is_ordinary_type = record { searched = refl; one = λ e. other_type A 255 refl refl e; no_signature = λ e. other_type A 46 refl refl e; no_hashed = λ e. other_type A 50 refl refl e }
 
 abbrev inquired : Name → Inquiry
@@ -159,7 +159,7 @@ query_a = record {
   record_type = is_ordinary_type;
   inside = refl;
   names = λ x i h. names x (Contains-In x (a ∷ made ∷ []) i);
-  addresses = λ x i. addresses x (Contains-In x (a ∷ made ∷ []) i);
+  addresses = λ x i other. addresses x (Contains-In x (a ∷ made ∷ []) i);
 }
   where
     names : (x : Name) → In x (a ∷ made ∷ []) → IsOrdinary (inquired a) x
@@ -178,7 +178,7 @@ query_c = record {
   record_type = is_ordinary_type;
   inside = refl;
   names = λ x i h. names x (Contains-In x (c ∷ gone ∷ []) i);
-  addresses = λ x i. addresses x (Contains-In x (c ∷ gone ∷ []) i);
+  addresses = λ x i other. addresses x (Contains-In x (c ∷ gone ∷ []) i);
 }
   where
     names : (x : Name) → In x (c ∷ gone ∷ []) → IsOrdinary (inquired c) x
@@ -190,6 +190,12 @@ query_c = record {
     addresses x (inl e) = subst (NoStandIn (inquired c)) e (λ s h. no_stand_in (alias c gone).1 s h refl)
     addresses x (inr (inl e)) = subst (NoStandIn (inquired c)) e (λ s h. absurd cc)
     addresses x (inr (inr i)) = absurd i
+
+flat_a : StandInsLead (λ s. []) (inquired a) a
+flat_a s h k = absurd (true≢false (sym k ∙ no_stand_in (alias a made).1 s h refl))
+
+flat_c : StandInsLead (λ s. []) (inquired c) c
+flat_c s h k = absurd (true≢false (sym k ∙ no_stand_in (alias c gone).1 s h refl))
 
 -- ---- what both say
 
@@ -218,7 +224,7 @@ provable_a : IsProvable zone (asked a) (path (inquired a) a)
 provable_a = refl
 
 a_agrees : Agrees zone (asked a) response_a reply_a
-a_agrees = responses_agree (λ s. []) zone (asked a) response_a reply_a is_ordinary_zone query_a provable_a of_a looked_up_a
+a_agrees = responses_agree (λ s. []) zone (asked a) response_a reply_a is_ordinary_zone query_a flat_a provable_a of_a looked_up_a
 
 -- the code is that of the name to which c leads
 abbrev response_c : Sections
@@ -235,7 +241,7 @@ looked_up_c : IsReply (λ s. []) origin sets false c A reply_c
 looked_up_c = record { more = []; found = refl; sections = refl }
 
 c_agrees : Agrees zone (asked c) response_c reply_c
-c_agrees = responses_agree (λ s. []) zone (asked c) response_c reply_c is_ordinary_zone query_c refl of_c looked_up_c
+c_agrees = responses_agree (λ s. []) zone (asked c) response_c reply_c is_ordinary_zone query_c flat_c refl of_c looked_up_c
 
 c_is_error : response_c.code ≡ code.NXDomain
 c_is_error = c_agrees.name_error gone refl refl

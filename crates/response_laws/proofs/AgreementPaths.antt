@@ -1,5 +1,5 @@
 -- The answers along a path are the sets of a lookup's chain
-use Rattle.std.proofs.Common.{◌≡◌, ℕ, zero, suc, ◌<◌, Bool, true, false, cond, not, ◌&&◌, List, [], ◌∷◌, ◌++◌, map, length, refl, sym, ap, ◌∙◌, subst, true≢false, arith, inl, inr, append_assoc}
+use Rattle.std.proofs.Common.{◌≡◌, ℕ, zero, suc, ◌<◌, Bool, true, false, cond, not, ◌&&◌, List, [], ◌∷◌, ◌++◌, map, length, refl, sym, ap, ◌∙◌, subst, true≢false, eqb-true, arith, inl, inr, append_assoc}
 use Rattle.std.specs.Prelude.{Option, Some, None, option_to_list, nat_lt, ◌==◌}
 use Rattle.std.specs.List.{list_any}
 use Rattle.std.specs.Option.{option_map_or}
@@ -7,23 +7,27 @@ use Rattle.std.proofs.lemmas.Bool.Decides.{leb_tells}
 use Rattle.zone_proto.specs.declared.response_code.ResponseCode.TheVariants as code
 use Rattle.zone_proto.specs.Names.{Name, name_eq, is_at_or_above}
 use Rattle.zone_proto.specs.Sets.{RRset}
-use Rattle.zone_proto.specs.Types.{CNAME}
-use Rattle.zone_proto.proofs.Members.{In, In-append_left, In-append_right}
+use Rattle.zone_proto.specs.Types.{CNAME, ANAME}
+use Rattle.zone_proto.proofs.Members.{In, and_left, In-append_left, In-append_right}
 use Rattle.zone_map.specs.Chains.{cname_target, last_target, chain, chain_links}
+use Rattle.zone_map.specs.Direct.{is_address}
 use Rattle.zone_map.specs.Wildcards.{found}
 use Rattle.zone_map.specs.Zones.{Sets}
 use Rattle.zone_map.proofs.Chains.{rest_of, rest_none, rest_seen, rest_unfound, rest_more, chain_begins}
+use Rattle.zone_inner.specs.Flattening.{stands_for_addresses}
 use Rattle.zone_inner.specs.Replies.{is_followed}
+use Rattle.zone_response.specs.declared.response.Part.TheVariants as part
 use Rattle.zone_response.specs.Paths.{Path, ended, behind, searched, path_from, path}
 use Rattle.zone_response.specs.Queries.{Inquiry}
 use Rattle.zone_response.specs.Responses.{code_at, fails}
 use Rattle.zone_response.specs.Sections.{as_it_is, part_for}
 use Rattle.zone_response.specs.Sources.{is_there}
-use Rattle.zone_response.specs.Steps.{End, complete, missing, outside, unfollowed, ends, Step, at_end, after_alias, turned_step, step}
+use Rattle.zone_response.specs.StandIns.{addresses, stand_in_answer}
+use Rattle.zone_response.specs.Steps.{End, complete, missing, outside, unfollowed, failed, ends, Step, at_end, made_names, after_alias, stood_in_step, turned_step, step}
 use Rattle.zone_response.specs.Turns.{turn}
 use Rattle.response_laws.specs.Agreement.{IsOrdinaryZone, IsOrdinaryType, IsOrdinary, NoStandIn, led_on_to, unfound_name, chain_names, searched_names}
 use Rattle.response_laws.proofs.AgreementNames.{found_outside}
-use Rattle.response_laws.proofs.AgreementSteps.{StepAsFound, answers_by, leads_by, lacks, step_as_found}
+use Rattle.response_laws.proofs.AgreementSteps.{StepAsFound, answers_by, leads_by, stands_in, lacks, step_as_found}
 
 abbrev names : List (Name × RRset) → List Name
 names es = map (λ e. e.0) es
@@ -163,13 +167,14 @@ module _ (q : Inquiry) (zone : IsOrdinaryZone q.origin q.sets) (plain : IsOrdina
       bare : (end : End) → list_any (name_eq x) seen ≡ false → found m q.signed x t ≡ None → step q before x ≡ at_end end → Comes q (suc k) seen x [] (ended end) → Here
       bare end e f n h = of [] (ended end) (rest_unfound m q.signed t (suc k) seen (Some x) x refl f) (by_its (at_end end) e n) h
 
-      at_x : Goes → list_any (name_eq x) seen ≡ false → is_at_or_above q.origin x ≡ true → StepAsFound q before x → Here
-      at_x goes e i (answers_by s made f followed no_target n) =
+      at_x : Goes → list_any (name_eq x) seen ≡ false → is_at_or_above q.origin x ≡ true → NoStandIn q x → StepAsFound q before x → Here
+      at_x goes e i flat (answers_by s made f followed own no_target n) =
           of ((x, s) ∷ []) (behind (as_it_is (part_for q.signed) s ∷ []) made (ended complete))
           (rest_more m q.signed t (suc k) k seen (Some x) x s refl refl e f ∙ ap (λ es. (x, s) ∷ es) (rest_none m q.signed t k (seen ++ x ∷ []) (cname_target s) (no_target other)))
           (by_its (record { answers = as_it_is (part_for q.signed) s ∷ []; made = made; next = ends complete }) e n) (at_last k seen x s made (no_target other))
-      at_x goes e i (leads_by s made f followed alias n) = leading goes s made e f (cname_target s) refl n
-      at_x goes e i (lacks star f n) =
+      at_x goes e i flat (leads_by s made f followed alias n) = leading goes s made e f (cname_target s) refl n
+      at_x goes e i flat (stands_in s star f k n) = absurd (true≢false (sym k ∙ flat s f))
+      at_x goes e i flat (lacks star f n) =
           bare (missing x star (is_there m x)) e f n
           (record {
             answers = refl;
@@ -179,7 +184,7 @@ module _ (q : Inquiry) (zone : IsOrdinaryZone q.origin q.sets) (plain : IsOrdina
           })
 
       from_x : Goes → list_any (name_eq x) seen ≡ false → (b : Bool) → is_at_or_above q.origin x ≡ b → Here
-      from_x goes e true i = let alike_x = first_alike k seen x e alike i in at_x goes e i (step_as_found q zone plain x i alike_x.0 alike_x.1 before)
+      from_x goes e true i = let alike_x = first_alike k seen x e alike i in at_x goes e i alike_x.1 (step_as_found q zone plain x i alike_x.0 before)
       from_x goes e false i =
           bare (outside x) e (found_outside q.origin m zone.inside zone.unstarred q.signed x t i)
           (ap (λ b. cond b (turned_step q before x (turn q.origin m x t)) (at_end (outside x))) i)
@@ -200,7 +205,10 @@ module _ (q : Inquiry) (zone : IsOrdinaryZone q.origin q.sets) (plain : IsOrdina
 
 -- the answers of a path, by what is found for its first name
 pub data PathAnswers (q : Inquiry) (x : Name) : Type 0 where
-  answers_alone : (s : RRset) → found q.sets q.signed x q.record_type ≡ Some s → is_followed q.record_type s ≡ false → (path q x).answers ≡ as_it_is (part_for q.signed) s ∷ [] → PathAnswers q x
+  answers_alone : (s : RRset) → found q.sets q.signed x q.record_type ≡ Some s → is_followed q.record_type s ≡ false → stands_for_addresses q.record_type s ≡ false
+      → (path q x).answers ≡ as_it_is (part_for q.signed) s ∷ [] → PathAnswers q x
+  answers_stood_in : (s v : RRset) → found q.sets q.signed x q.record_type ≡ Some s → is_followed q.record_type s ≡ false → stands_for_addresses q.record_type s ≡ true → stand_in_answer q x s ≡ addresses v
+      → (path q x).answers ≡ as_it_is part.Records v ∷ [] → PathAnswers q x
   answers_along : (s : RRset) → found q.sets q.signed x q.record_type ≡ Some s → is_followed q.record_type s ≡ true
       → (path q x).answers ≡ map (as_it_is (part_for q.signed)) (chain q.sets q.signed x s q.record_type) → PathAnswers q x
   answers_none : found q.sets q.signed x q.record_type ≡ None → (path q x).answers ≡ [] → PathAnswers q x
@@ -247,7 +255,7 @@ led_from x y e es h = by (nat_lt (length (e ∷ es)) 8) refl (last_target (e ∷
     by true f (Some n) g h = to n f g (list_any (name_eq n) (names (e ∷ es))) refl h
     by false f o g h = absurd cc
 
-module _ (q : Inquiry) (zone : IsOrdinaryZone q.origin q.sets) (plain : IsOrdinaryType q.record_type) (x : Name) (inside : is_at_or_above q.origin x ≡ true) (alike : (y : Name) → In y (searched_names q x) → IsAlike q y) where
+module _ (q : Inquiry) (zone : IsOrdinaryZone q.origin q.sets) (plain : IsOrdinaryType q.record_type) (x : Name) (inside : is_at_or_above q.origin x ≡ true) where
   abbrev links : RRset → List (Name × RRset)
   links s = chain_links q.sets q.signed x s q.record_type
 
@@ -308,54 +316,84 @@ module _ (q : Inquiry) (zone : IsOrdinaryZone q.origin q.sets) (plain : IsOrdina
   unfound_led_to s y =
       subst (λ es. led_on_to es ≡ Some y → IsUnfound 8 [] x es y) (sym (begins s)) (led_from x y (x, s) (rest_of q.sets q.signed q.record_type 7 (x ∷ []) (cname_target s)))
 
-  links_alike : (s : RRset) → found_is (Some s) → is_followed q.record_type s ≡ true → AreAlike q 8 [] x (links s)
-  links_alike s e f = record {
-    named = λ y i. alike y (subst (In y) (sym (searched_by s true e f)) (In-append_left y (names (links s)) (option_to_list (led_on_to (links s))) i));
-    last = λ y u. alike y (unfound_searched y (unfound_behind s true e f ∙ led_to_unfound s y u));
-  }
-
-  chained : (s : RRset) → found_is (Some s) → is_followed q.record_type s ≡ true → (q.record_type == CNAME) ≡ false → Comes q 8 [] x (links s) (path q x)
-  chained s e f other =
-      let same : rest_of q.sets q.signed q.record_type 8 [] (Some x) ≡ links s = rest_more q.sets q.signed q.record_type 8 7 [] (Some x) x s refl refl refl e ∙ sym (begins s) in
-      come q zone plain 8 [] x (links s) (rest_of q.sets q.signed q.record_type 8 [] (Some x)) (path q x) (path_from q 8 [] [] x) (sym same) (path_from_first q x)
-      (along q zone plain other 8 [] [] x (subst (AreAlike q 8 [] x) (sym same) (links_alike s e f)))
-
   -- ---- so it is of the path
 
   is : (s : Step) → step q [] x ≡ s → path q x ≡ behind s.answers s.made (searched (path_from q 7 (x ∷ []) s.answers) s.next)
   is s e = path_step q x ∙ ap (λ s. behind s.answers s.made (searched (path_from q 7 (x ∷ []) s.answers) s.next)) e
 
-  pub path_answers_as_found : PathAnswers q x × PathEnds q x
-  path_answers_as_found = by (step_as_found q zone plain x inside (alike x itself inside).0 (alike x itself inside).1 [])
-    where
-      by : StepAsFound q [] x → PathAnswers q x × PathEnds q x
-      by (answers_by s made e f no_target n) =
-          let p : path q x ≡ behind (as_it_is (part_for q.signed) s ∷ []) made (ended complete) = is (record { answers = as_it_is (part_for q.signed) s ∷ []; made = made; next = ends complete }) n in (
-            answers_alone s e f (ap (λ (p : Path). p.answers) p),
-            record {
-              passes = ap (λ (p : Path). fails p.end) p;
-              unfound = λ y u i. let none : None ≡ Some y = sym (unfound_behind s false e f) ∙ u in absurd cc;
-              others = λ out. ap (λ (p : Path). code_at p.end) p;
-            },
-          )
-      by (leads_by s made e f other n) =
-          let c = chained s e f other in (
-            answers_along s e f c.answers,
-            record {
-              passes = c.passes;
-              unfound = λ y u i. c.unfound y (unfound_led_to s y (sym (unfound_behind s true e f) ∙ u)) i;
-              others = λ out. c.others (λ y u. out y (unfound_behind s true e f ∙ led_to_unfound s y u));
-            },
-          )
-      by (lacks star e n) =
-          let p : path q x ≡ ended (missing x star (is_there q.sets x)) = is (at_end (missing x star (is_there q.sets x))) n in (
-            answers_none e (ap (λ (p : Path). p.answers) p),
-            record {
-              passes = ap (λ (p : Path). fails p.end) p;
-              unfound = λ y u i.
-                  let both : Some x ≡ Some y = sym (unfound_by None e) ∙ u in
-                  let same : x ≡ y = cc in
-                  ap (λ (p : Path). code_at p.end) p ∙ ap (λ n. cond (is_there q.sets n) code.NoError code.NXDomain) same;
-              others = λ out. absurd (true≢false (sym inside ∙ out x (unfound_by None e)));
-            },
-          )
+  -- where each name that is searched is alike
+  module _ (alike : (y : Name) → In y (searched_names q x) → IsAlike q y) where
+    links_alike : (s : RRset) → found_is (Some s) → is_followed q.record_type s ≡ true → AreAlike q 8 [] x (links s)
+    links_alike s e f = record {
+      named = λ y i. alike y (subst (In y) (sym (searched_by s true e f)) (In-append_left y (names (links s)) (option_to_list (led_on_to (links s))) i));
+      last = λ y u. alike y (unfound_searched y (unfound_behind s true e f ∙ led_to_unfound s y u));
+    }
+
+    chained : (s : RRset) → found_is (Some s) → is_followed q.record_type s ≡ true → (q.record_type == CNAME) ≡ false → Comes q 8 [] x (links s) (path q x)
+    chained s e f other =
+        let same : rest_of q.sets q.signed q.record_type 8 [] (Some x) ≡ links s = rest_more q.sets q.signed q.record_type 8 7 [] (Some x) x s refl refl refl e ∙ sym (begins s) in
+        come q zone plain 8 [] x (links s) (rest_of q.sets q.signed q.record_type 8 [] (Some x)) (path q x) (path_from q 8 [] [] x) (sym same) (path_from_first q x)
+        (along q zone plain other 8 [] [] x (subst (AreAlike q 8 [] x) (sym same) (links_alike s e f)))
+
+    pub path_answers_as_found : PathAnswers q x × PathEnds q x
+    path_answers_as_found = by (step_as_found q zone plain x inside (alike x itself inside).0 [])
+      where
+        by : StepAsFound q [] x → PathAnswers q x × PathEnds q x
+        by (answers_by s made e f own no_target n) =
+            let p : path q x ≡ behind (as_it_is (part_for q.signed) s ∷ []) made (ended complete) = is (record { answers = as_it_is (part_for q.signed) s ∷ []; made = made; next = ends complete }) n in (
+              answers_alone s e f own (ap (λ (p : Path). p.answers) p),
+              record {
+                passes = ap (λ (p : Path). fails p.end) p;
+                unfound = λ y u i. let none : None ≡ Some y = sym (unfound_behind s false e f) ∙ u in absurd cc;
+                others = λ out. ap (λ (p : Path). code_at p.end) p;
+              },
+            )
+        by (leads_by s made e f other n) =
+            let c = chained s e f other in (
+              answers_along s e f c.answers,
+              record {
+                passes = c.passes;
+                unfound = λ y u i. c.unfound y (unfound_led_to s y (sym (unfound_behind s true e f) ∙ u)) i;
+                others = λ out. c.others (λ y u. out y (unfound_behind s true e f ∙ led_to_unfound s y u));
+              },
+            )
+        by (stands_in s star e k n) = absurd (true≢false (sym k ∙ (alike x itself inside).1 s e))
+        by (lacks star e n) =
+            let p : path q x ≡ ended (missing x star (is_there q.sets x)) = is (at_end (missing x star (is_there q.sets x))) n in (
+              answers_none e (ap (λ (p : Path). p.answers) p),
+              record {
+                passes = ap (λ (p : Path). fails p.end) p;
+                unfound = λ y u i.
+                    let both : Some x ≡ Some y = sym (unfound_by None e) ∙ u in
+                    let same : x ≡ y = cc in
+                    ap (λ (p : Path). code_at p.end) p ∙ ap (λ n. cond (is_there q.sets n) code.NoError code.NXDomain) same;
+                others = λ out. absurd (true≢false (sym inside ∙ out x (unfound_by None e)));
+              },
+            )
+
+  -- where an ANAME set stands in that leads to addresses
+  module _ (ordinary : IsOrdinary q x) (unproved : q.is_proved ≡ false) (s v : RRset) (e : found_is (Some s)) (k : stands_for_addresses q.record_type s ≡ true) (leads : stand_in_answer q x s ≡ addresses v) where
+    unfollowed_so : is_followed q.record_type s ≡ false
+    unfollowed_so = ap (λ u. (u == CNAME) && not (q.record_type == CNAME)) (eqb-true s.record_type ANAME (and_left (s.record_type == ANAME) (is_address q.record_type) k))
+
+    pub path_stood_in : PathAnswers q x × PathEnds q x
+    path_stood_in = by (step_as_found q zone plain x inside ordinary [])
+      where
+        same : (r : RRset) → found_is (Some r) → r ≡ s
+        same r f = let p : Some r ≡ Some s = sym f ∙ e in cc
+
+        by : StepAsFound q [] x → PathAnswers q x × PathEnds q x
+        by (answers_by r made f g own no_target n) = absurd (true≢false (sym k ∙ ap (stands_for_addresses q.record_type) (sym (same r f)) ∙ own))
+        by (leads_by r made f g other n) = absurd (true≢false (sym g ∙ ap (is_followed q.record_type) (same r f) ∙ unfollowed_so))
+        by (lacks star f n) = let p : None ≡ Some s = sym f ∙ e in absurd cc
+        by (stands_in r star f g n) =
+            let to : Step = record { answers = as_it_is part.Records v ∷ []; made = made_names star x; next = ends complete } in
+            let p : path q x ≡ behind (as_it_is part.Records v ∷ []) (made_names star x) (ended complete) =
+            is to (n ∙ (λ i. cond (unproved i) (at_end failed) (stood_in_step star x (stand_in_answer q x (same r f i)))) ∙ ap (stood_in_step star x) leads) in (
+              answers_stood_in s v e unfollowed_so k leads (ap (λ (p : Path). p.answers) p),
+              record {
+                passes = ap (λ (p : Path). fails p.end) p;
+                unfound = λ y u i. let none : None ≡ Some y = sym (unfound_behind s false e unfollowed_so) ∙ u in absurd cc;
+                others = λ out. ap (λ (p : Path). code_at p.end) p;
+              },
+            )

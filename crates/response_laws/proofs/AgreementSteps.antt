@@ -22,30 +22,33 @@ use Rattle.zone_inner.specs.Replies.{is_followed}
 use Rattle.zone_acceptance.proofs.OwnTypes.{differs}
 use Rattle.zone_acceptance.proofs.Soundness.{unasked}
 use Rattle.zone_response.specs.declared.response.Part.TheVariants as part
-use Rattle.zone_response.specs.Nodes.{AtNode, own, alias, nothing, asked_set, stand_in_set, first_of, at_node}
+use Rattle.zone_response.specs.Nodes.{AtNode, own, alias, stand_in, nothing, asked_set, stand_in_set, first_of, at_node}
 use Rattle.zone_response.specs.Queries.{Inquiry}
 use Rattle.zone_response.specs.Sections.{as_it_is, part_for, is_signed}
 use Rattle.zone_response.specs.Sources
 use Rattle.zone_response.specs.Sources.{star_of, is_there}
-use Rattle.zone_response.specs.Steps.{complete, missing, outside, ends, Step, at_end, made_by, made_names, after_alias, keeps, node_step, step_at, star_step, name_step, turned_step, step}
-use Rattle.response_laws.specs.Agreement.{IsOrdinaryZone, IsOrdinaryType, IsOrdinary, NoStandIn}
+use Rattle.zone_response.specs.StandIns.{stand_in_answer}
+use Rattle.zone_response.specs.Steps.{complete, missing, outside, failed, ends, Step, at_end, made_by, made_names, after_alias, keeps, stood_in_step, node_step, step_at, star_step, name_step, turned_step, step}
+use Rattle.response_laws.specs.Agreement.{IsOrdinaryZone, IsOrdinaryType, IsOrdinary}
 use Rattle.response_laws.proofs.AgreementNames.{no_referral, exact_own, exact_alias, exact_stand_in, exact_nothing, exact_absent, direct_is, found_there, found_by_star}
 use Rattle.response_laws.proofs.Leads.{no_target, made_target}
 use Rattle.response_laws.proofs.Turned.{unturned, silent_at, not_above}
 
 -- the step of a name, by what is found for it
 pub data StepAsFound (q : Inquiry) (before : List RRset) (x : Name) : Type 0 where
-  answers_by : (s : RRset) (made : List Name) → found q.sets q.signed x q.record_type ≡ Some s → is_followed q.record_type s ≡ false → ((q.record_type == CNAME) ≡ false → cname_target s ≡ None)
+  answers_by : (s : RRset) (made : List Name) → found q.sets q.signed x q.record_type ≡ Some s → is_followed q.record_type s ≡ false → stands_for_addresses q.record_type s ≡ false → ((q.record_type == CNAME) ≡ false → cname_target s ≡ None)
       → step q before x ≡ record { answers = as_it_is (part_for q.signed) s ∷ []; made = made; next = ends complete } → StepAsFound q before x
   leads_by : (s : RRset) (made : List Name) → found q.sets q.signed x q.record_type ≡ Some s → is_followed q.record_type s ≡ true → (q.record_type == CNAME) ≡ false
       → step q before x ≡ record { answers = as_it_is (part_for q.signed) s ∷ []; made = made; next = after_alias (cname_target s) } → StepAsFound q before x
+  stands_in : (s : RRset) (star : Option Name) → found q.sets q.signed x q.record_type ≡ Some s → stands_for_addresses q.record_type s ≡ true
+      → step q before x ≡ cond q.is_proved (at_end failed) (stood_in_step star x (stand_in_answer q x s)) → StepAsFound q before x
   lacks : (star : Option Name) → found q.sets q.signed x q.record_type ≡ None → step q before x ≡ at_end (missing x star (is_there q.sets x)) → StepAsFound q before x
 
 -- what is found at a name itself
 data FindsAt (m : Sets) (a : Name) (t : ℕ) : Type 0 where
   at_own : (s : RRset) → at_node m a t ≡ own s → exact m a t ≡ Some s → s.record_type ≡ t → ((t == CNAME) ≡ false → cname_target s ≡ None) → FindsAt m a t
   at_alias : (s : RRset) → at_node m a t ≡ alias s → exact m a t ≡ Some s → s.record_type ≡ CNAME → (t == CNAME) ≡ false → FindsAt m a t
-  at_stand_in : (s : RRset) → exact m a t ≡ Some s → stands_for_addresses t s ≡ true → FindsAt m a t
+  at_stand_in : (s : RRset) → at_node m a t ≡ stand_in s → exact m a t ≡ Some s → stands_for_addresses t s ≡ true → FindsAt m a t
   at_nothing : at_node m a t ≡ nothing → exact m a t ≡ None → FindsAt m a t
 
 right_false : (b : Bool) → b || false ≡ b
@@ -59,6 +62,14 @@ first_of_either false b f e = absurd (true≢false (sym e ∙ f))
 never_both : (b : Bool) → b && not b ≡ false
 never_both true = refl
 never_both false = refl
+
+-- ANAME is no type of addresses
+pub no_address : (t : ℕ) → (t == ANAME) && is_address t ≡ false
+no_address t = by (t == ANAME) refl
+  where
+    by : (b : Bool) → (t == ANAME) ≡ b → b && is_address t ≡ false
+    by true e = ap is_address (eqb-true t ANAME e)
+    by false e = refl
 
 kept : (o : Option RRset) → option_and_then (λ s. Some s) o ≡ o
 kept None = refl
@@ -100,7 +111,7 @@ module _ (q : Inquiry) (zone : IsOrdinaryZone q.origin q.sets) (plain : IsOrdina
           at_alias s (λ i. first_of ((asked a ∙ e) i) (f i) (stand_in_set m a t)) (exact_alias m a t zone.cnames s e f) (zone.zone.stored a CNAME s f).record_type
           (other_type s e f (t == CNAME) refl)
       by None e None f true g (Some s) h =
-          at_stand_in s (exact_stand_in m a t s g e f h) (ap (λ u. (u == ANAME) && is_address t) (zone.zone.stored a ANAME s h).record_type ∙ g)
+          at_stand_in s (λ i. first_of ((asked a ∙ e) i) (f i) (cond (g i) (h i) None)) (exact_stand_in m a t s g e f h) (ap (λ u. (u == ANAME) && is_address t) (zone.zone.stored a ANAME s h).record_type ∙ g)
       by None e None f true g None h = at_nothing (bare e f (λ i. cond (g i) (h i) None)) (exact_nothing m a t e f (λ k. ap is_some h))
       by None e None f false g p h = at_nothing (bare e f (ap (λ b. cond b (set_at m a ANAME) None) g)) (exact_nothing m a t e f (λ k. absurd (true≢false (sym k ∙ g))))
 
@@ -185,7 +196,7 @@ module _ (q : Inquiry) (zone : IsOrdinaryZone q.origin q.sets) (plain : IsOrdina
 
     -- ---- the step
 
-    module _ (addresses : NoStandIn q x) (before : List RRset) where
+    module _ (before : List RRset) where
       named_step : step q before x ≡ name_step q x
       named_step = (λ i. cond (inside i) (turned_step q before x (ordinary.unturned i)) (at_end (outside x)))
 
@@ -211,22 +222,22 @@ module _ (q : Inquiry) (zone : IsOrdinaryZone q.origin q.sets) (plain : IsOrdina
       at_a_node star a at is finds there = by (finds_at a (beside a at))
         where
           stepped : AtNode → Step
-          stepped = node_step q.signed t star x
+          stepped = node_step q star x
 
           by : FindsAt m a t → StepAsFound q before x
           by (at_own s n e k target) =
               answers_by (of star s) (made_names star x) (finds ∙ ap (option_map (of star)) e)
               (ap (λ u. (u == CNAME) && not (t == CNAME)) (of_type star s ∙ k) ∙ never_both (t == CNAME))
+              (ap (λ u. (u == ANAME) && is_address t) (of_type star s ∙ k) ∙ no_address t)
               (λ other. of_target star s ∙ target other)
               (is ∙ ap stepped n ∙ (λ i. record { answers = as_it_is (cond (signature i) part.Signatures (part_for q.signed)) (made_as star s i) ∷ []; made = made_names star x; next = ends complete }))
           by (at_alias s n e k other) =
               leads_by (of star s) (made_names star x) (finds ∙ ap (option_map (of star)) e)
               (λ i. ((of_type star s ∙ k) i == CNAME) && not (other i)) other
               (is ∙ ap stepped n ∙ (λ i. record { answers = as_it_is (part_for q.signed) (made_as star s i) ∷ []; made = made_names star x; next = after_alias (sym (of_target star s) i) }))
-          by (at_stand_in s e k) =
-              absurd
-              (true≢false
-              (sym k ∙ ap (λ u. (u == ANAME) && is_address t) (sym (of_type star s)) ∙ addresses (of star s) (finds ∙ ap (option_map (of star)) e)))
+          by (at_stand_in s n e k) =
+              stands_in (of star s) star (finds ∙ ap (option_map (of star)) e) (ap (λ u. (u == ANAME) && is_address t) (of_type star s) ∙ k)
+              (is ∙ ap stepped n ∙ (λ i. cond q.is_proved (at_end failed) (stood_in_step star x (stand_in_answer q x (made_as star s i)))))
           by (at_nothing n e) = lacks star (finds ∙ ap (option_map (of star)) e) (is ∙ ap stepped n ∙ (λ i. at_end (missing x star (sym there i))))
 
       unchanged : (o : Option RRset) → o ≡ option_map (of None) o

@@ -16,7 +16,8 @@ use Rattle.zone_response.specs.Queries.{Inquiry}
 use Rattle.zone_response.specs.Renamings.{dname_target, in_place_of, unless_long, made_alias}
 use Rattle.zone_response.specs.Sections.{sent, as_it_is, part_for, unless_among}
 use Rattle.zone_response.specs.Sources.{star_of}
-use Rattle.zone_response.specs.Steps.{referred, missing, outside, unfollowed, failed, Next, on, ends, Step, at_end, made_by, made_names, keeps, own_part, node_step, new_name_step, step_at, step}
+use Rattle.zone_response.specs.StandIns.{stand_in_answer}
+use Rattle.zone_response.specs.Steps.{referred, missing, outside, unfollowed, failed, Next, on, ends, Step, at_end, made_by, made_names, keeps, own_part, stood_in_step, node_step, new_name_step, step_at, step}
 use Rattle.zone_response.specs.Turns.{DNAME}
 use Rattle.response_laws.specs.ProvedSayings.{IsSentSet, IsMadeAlias, IsAnswerPart}
 use Rattle.response_laws.proofs.Dnames.{sent_dname_target, short_is, sent_dname, AreDnames, IsAboveBy, turned_by, stands_among, in_unless}
@@ -74,7 +75,7 @@ in_longer q made all more s (inr a) =
       made = a.made;
     })
 
-module _ (q : Inquiry) (zone : IsZone q.sets) (signed : q.signed ≡ true) where
+module _ (q : Inquiry) (zone : IsZone q.sets) (signed : q.signed ≡ true) (proved : q.is_proved ≡ true) where
   abbrev t : ℕ
   t = q.record_type
 
@@ -119,7 +120,7 @@ module _ (q : Inquiry) (zone : IsZone q.sets) (signed : q.signed ≡ true) where
   node_answers star x a here of s = by (node_of m a t)
     where
       at : AtNode → Step
-      at = node_step q.signed t star x
+      at = node_step q star x
 
       HasAnswers : Step → Type 0
       HasAnswers v = In s v.answers → IsFound q v.made s
@@ -137,7 +138,9 @@ module _ (q : Inquiry) (zone : IsZone q.sets) (signed : q.signed ≡ true) where
           subst (λ n. HasAnswers (at n)) (sym g)
           (only (made_names star x) (sent (part_for q.signed) (made_by (keeps q.signed t) star x r).ttl (made_by (keeps q.signed t) star x r))
           (found_answer star x a here of CNAME r f (part_for q.signed) (inl (ap part_for signed))))
-      by (has_stand_in r e) = subst (λ n. HasAnswers (at n)) (sym e) (λ i. absurd i)
+      by (has_stand_in r k e) =
+          subst (λ n. HasAnswers (at n)) (sym e)
+          (subst HasAnswers (sym (ap (λ b. cond b (at_end failed) (stood_in_step star x (stand_in_answer q x (made_by (keeps q.signed t) star x r)))) proved)) (λ i. absurd i))
       by (has_nothing e f g h) = subst (λ n. HasAnswers (at n)) (sym h) (λ i. absurd i)
 
   -- below a DNAME

@@ -40,8 +40,8 @@ use Rattle.response_laws.proofs.HashedShown.{IsEncloserShown, own_matched, enclo
 use Rattle.response_laws.proofs.HashedSummed.{sum_of_own, sum_of_star, sum_of_left_out, sum_of_digest}
 use Rattle.response_laws.proofs.HashedTold.{IsHashedName, away, below, enclosed, no_encloser, own_denied, no_own_data, no_own_delegation, opted_out_is, no_error, star_denied}
 use Rattle.response_laws.proofs.HashedTypes.{own_denies}
-use Rattle.response_laws.proofs.LastNames.{IsBare, IsMissing, bare, bare_star, starless, gone}
-use Rattle.response_laws.proofs.Parts.{path_of, IsMadeOf}
+use Rattle.response_laws.proofs.LastNames.{IsBare, IsMissing, bare, bare_star, starless, gone, without_addresses}
+use Rattle.response_laws.proofs.Parts.{path_of, is_proved_by, IsMadeOf}
 use Rattle.response_laws.proofs.SaidNames.{reached_unturned, soa_shown, missing_said}
 use Rattle.response_laws.proofs.Stepped.{IsUnturned}
 
@@ -101,6 +101,7 @@ module _ (z : Zone) (parameters : Nsec3Parameters) (q : Query) (r : Sections) (d
       by_opt_out : parameters.opt_out ≡ true → on_circle x ≡ false → proves_opted_out o hash rs x ≡ true → IsBareBy
 
     bare_by : (star : Option Name) (there : Bool) → (path_of z q).end ≡ missing x star there → there ≡ true → IsMissing (inquiry z q) x star there → IsBareBy
+    bare_by star there end so (without_addresses e f) = absurd (true≢false (sym (is_proved_by z q _ signed d.kind) ∙ f))
     bare_by star there end so (starless e absent f) = absurd (true≢false (sym so ∙ e))
     bare_by star there end so (gone w e f absent g i) = absurd (true≢false (sym so ∙ e))
     bare_by star there end so (bare e f exists_there b) = by (on_circle x) refl

@@ -7,7 +7,7 @@ use Rattle.zone_proto.specs.declared.rdata.denial.NSEC3PARAM.{NSEC3PARAM as Nsec
 use Rattle.zone_proto.specs.declared.response_code.ResponseCode.TheVariants as code
 use Rattle.zone_proto.specs.declared.rr_key.RrKey.{RrKey}
 use Rattle.zone_proto.specs.HashedOwners.{hashed_owner}
-use Rattle.zone_proto.specs.Names.{Name, star_under}
+use Rattle.zone_proto.specs.Names.{Name, wire_form, star_under}
 use Rattle.zone_proto.specs.Sets.{RRset}
 use Rattle.zone_proto.specs.Types.{A, NS, SOA, RRSIG, NSEC3, NSEC3PARAM, IN}
 use Rattle.zone_map.specs.Wildcards.{renamed}
@@ -16,14 +16,16 @@ use Rattle.zone_denial.specs.Nsec3Circle.{nsec3_data}
 use Rattle.zone_denial.specs.Nsec3Names.{nsec3_names}
 use Rattle.zone_denial.proofs.Examples.NsecExamples.{origin, at_origin, record_with, entry, address, start}
 use Rattle.zone_denial.proofs.Examples.Nsec3Examples.{digest_in}
-use Rattle.zone_validation.specs.declared.proof.Proof.TheVariants.{UnsignedDelegation}
+use Rattle.zone_validation.specs.declared.proof.Proof.TheVariants.{NameError, UnsignedDelegation}
 use Rattle.zone_validation.specs.Judgement.{nsec3_proof}
 use Rattle.zone_validation.specs.Nsec3Proofs.{proves_name_error, proves_empty_answer, proves_wildcard_answer, proves_unsigned_delegation}
 use Rattle.zone_response.specs.declared.response.Part.TheVariants as part
 use Rattle.zone_response.specs.Paths.{path}
 use Rattle.zone_response.specs.Queries.{Zone}
+use Rattle.zone_response.specs.Renamings.{made_alias}
 use Rattle.zone_response.specs.Responses.{IsResponse}
 use Rattle.zone_response.specs.Sections.{Sections, sent, as_it_is}
+use Rattle.zone_response.specs.Turns.{DNAME}
 use Rattle.response_laws.specs.HashedSayings.{shown_nsec3}
 use Rattle.response_laws.specs.Sayings.{data_of, name_error, no_data, referral, saying}
 use Rattle.response_laws.proofs.SayingExamples.{asked, sections}
@@ -65,14 +67,17 @@ digest = digest_in ((origin, 64 ∷ []) ∷ (star, 96 ∷ []) ∷ (a, 96 ∷ [])
 abbrev at_apex : RRset
 at_apex = says (64 ∷ []) (96 ∷ []) (SOA ∷ RRSIG ∷ NSEC3PARAM ∷ [])
 
--- a zone with the NSEC3 sets of its origin and of another name
-abbrev zone : Sets → RRset → Zone
-zone m other = record {
+-- a zone with the NSEC3 sets of its origin and of another name, by a hash
+abbrev zone_by : (Name → Option (List ℕ)) → Sets → RRset → Zone
+zone_by digest m other = record {
   origin = origin;
   sets = put (put (put m origin NSEC3PARAM (entry origin NSEC3PARAM (V.NSEC3PARAM parameters)).1) (hashed_owner origin (64 ∷ [])) NSEC3 at_apex) (hashed_owner origin (96 ∷ [])) NSEC3 other;
   nx_proof_kind = Some (kind.Nsec3 parameters.algorithm parameters.salt parameters.iterations parameters.opt_out);
   digest_of = λ algorithm salt n iterations. digest n;
 }
+
+abbrev zone : Sets → RRset → Zone
+zone = zone_by digest
 
 abbrev at_other : RRset
 at_other = says (96 ∷ []) (64 ∷ []) (A ∷ RRSIG ∷ [])
@@ -155,3 +160,34 @@ star_says = refl
 -- the name next closer to the origin is covered, and not that next closer to the star's encloser
 star_unproved : proves_wildcard_answer origin digest (shown_nsec3 from_star) q b ≡ false
 star_unproved = refl
+
+-- ---- below a DNAME: the new name isn't there, and is denied
+
+abbrev renaming : RrKey × RRset
+renaming = entry a DNAME (V.Other (record { record_type = record { 0 = DNAME }; octets = wire_form b; other = refl }))
+
+abbrev at_renaming : RRset
+at_renaming = says (96 ∷ []) (64 ∷ []) (DNAME ∷ RRSIG ∷ [])
+
+abbrev below_renaming : Name
+below_renaming = codes "q" ∷ a
+
+-- the star of the new name isn't there either
+abbrev renamed_digest : Name → Option (List ℕ)
+renamed_digest = digest_in ((origin, 64 ∷ []) ∷ (a, 96 ∷ []) ∷ (b, 80 ∷ []) ∷ (q, 32 ∷ []) ∷ (star, 16 ∷ []) ∷ [])
+
+abbrev renamed_error : Sections
+renamed_error = sections code.NXDomain (renaming.1 ∷ made_alias renaming.1 below_renaming q ∷ []) (sent part.Signed 60 start.1 ∷ sent part.Signed 60 at_apex ∷ sent part.Signed 60 at_renaming ∷ [])
+
+of_renamed_error : IsResponse (zone_by renamed_digest (start ∷ renaming ∷ []) at_renaming) (asked below_renaming A) renamed_error
+unfolding path
+of_renamed_error = record { code = refl; authoritative = refl; answers = refl; authorities = refl; additionals = refl; glue = refl; left_at = refl }
+
+renamed_error_says : saying (asked below_renaming A) renamed_error ≡ Some (name_error q)
+renamed_error_says = refl
+
+renamed_error_proved : proves_name_error origin renamed_digest (shown_nsec3 renamed_error) q ≡ true
+renamed_error_proved = refl
+
+renamed_error_told : nsec3_proof origin renamed_digest (shown_nsec3 renamed_error) q A ≡ Some (NameError true)
+renamed_error_told = refl

@@ -44,7 +44,7 @@ use Rattle.response_laws.proofs.HashedLacks.{lacking, lacking_named}
 use Rattle.response_laws.proofs.HashedNames.{absent_off, encloser_agrees, encloser_of_star}
 use Rattle.response_laws.proofs.HashedParts.{AreHashedProofs, hashed_proofs}
 use Rattle.response_laws.proofs.HashedTold.{IsHashedName, below, enclosed, answer_proved}
-use Rattle.response_laws.proofs.Parts.{path_of, IsMadeOf}
+use Rattle.response_laws.proofs.Parts.{path_of, is_proved_by, IsMadeOf}
 use Rattle.response_laws.proofs.ReadSets.{nsec3_reader, read_of_zone, read_proof}
 use Rattle.response_laws.proofs.Said.{Said, says_nothing, says_data, says_referral, says_missing, said}
 use Rattle.response_laws.proofs.SaidNames.{same_saying, reached_unturned, reached_cut, authorities_are, authority_of, alias_said}
@@ -248,7 +248,7 @@ module _ (z : Zone) (parameters : Nsec3Parameters) (q : Query) (r : Sections) (d
 
   pub answers_proved : (s : RRset) → Contains r.answers s
       → ((p : Part) × IsAnswerPart q.record_type p × (IsSentSet z.sets p s ⊎ IsHashedStarSet z parameters (shown_nsec3 r) p s)) ⊎ IsMadeAlias z.sets r.answers s
-  answers_proved s c = by (path_answers (inquiry z q) zone signed q.name s (subst (In s) h.answers (Contains-In s r.answers c)))
+  answers_proved s c = by (path_answers (inquiry z q) zone signed (is_proved_by z q _ signed d.kind) q.name s (subst (In s) h.answers (Contains-In s r.answers c)))
     where
       by : IsAnswer (inquiry z q) (path_of z q).made (path_of z q).answers s
           → ((p : Part) × IsAnswerPart q.record_type p × (IsSentSet z.sets p s ⊎ IsHashedStarSet z parameters (shown_nsec3 r) p s)) ⊎ IsMadeAlias z.sets r.answers s

@@ -7,7 +7,7 @@ use Rattle.std.proofs.lemmas.List.{append-nil}
 use Rattle.zone_proto.specs.NameLaws.{caseless_eq_equiv}
 use Rattle.zone_proto.specs.Names.{Name, lower, name_eq, is_at_or_above}
 use Rattle.zone_proto.specs.Sets.{RRset}
-use Rattle.zone_proto.specs.Types.{CNAME, RRSIG, ANY}
+use Rattle.zone_proto.specs.Types.{CNAME, RRSIG, ANY, ANAME}
 use Rattle.zone_proto.proofs.Members.{In}
 use Rattle.zone_map.specs.Chains.{cname_target}
 use Rattle.zone_map.specs.Wildcards.{exists}
@@ -16,13 +16,16 @@ use Rattle.zone_response.specs.Nodes.{AtNode, own, alias, stand_in, nothing, cho
 use Rattle.zone_response.specs.Paths.{Path, ended, behind, searched, path_from, path}
 use Rattle.zone_response.specs.Queries.{Inquiry}
 use Rattle.zone_response.specs.Renamings.{dname_target, in_place_of, unless_long, made_alias}
+use Rattle.zone_response.specs.declared.response.Part.TheVariants as part
 use Rattle.zone_response.specs.Sections.{as_it_is, part_for, unless_among}
 use Rattle.zone_response.specs.Sources.{star_of}
-use Rattle.zone_response.specs.Steps.{End, complete, referred, missing, outside, unfollowed, too_long, failed, Next, on, ends, Step, at_end, made_by, after_alias, keeps, own_part, node_step, new_name_step, step_at, step}
+use Rattle.zone_response.specs.StandIns.{StandInAnswer, addresses, no_addresses, untold, stand_in_answer}
+use Rattle.zone_response.specs.Steps.{End, complete, referred, missing, outside, unfollowed, too_long, failed, Next, on, ends, Step, at_end, made_by, after_alias, keeps, own_part, stood_in_step, node_step, new_name_step, step_at, step}
 use Rattle.zone_response.specs.Turns.{DNAME, cut, turn}
 use Rattle.response_laws.specs.Sayings.{asks_alias, renames, leads_to, last_name, is_answer}
 use Rattle.response_laws.proofs.Dnames.{sent_dname, short_is, AreDnames, both_dnames, IsAboveBy, turned_by, stands_among, in_unless, passed, alias_leads as dname_leads, alias_stays}
-use Rattle.response_laws.proofs.Leads.{sent_type, made_type, has_target, asked_stands, found_stays, alias_leads, own_leads, own_answers}
+use Rattle.response_laws.proofs.Leads.{sent_type, made_type, has_target, asked_stands, found_owner, found_stays, alias_leads, own_leads, own_answers}
+use Rattle.response_laws.proofs.StandIns.{aname_stands, addresses_of_last, addresses_stay, addresses_lead_nowhere, addresses_answer}
 use Rattle.response_laws.proofs.Stepped.{NodeOf, has_set, has_alias, has_stand_in, has_nothing, node_of, IsUnturned, StepOf, leaves, refers, fails, new_name, at_name, no_star, at_star, star_gone, step_of}
 
 -- ---- how a search ends at a name
@@ -39,6 +42,8 @@ pub data IsMissing (q : Inquiry) (x : Name) (star : Option Name) (there : Bool) 
   bare_star : (w : Name) → there ≡ true → star ≡ Some w → exists q.sets x ≡ false → star_of q.sets x ≡ Some w → exists q.sets w ≡ true → IsBare q.sets w q.record_type → IsMissing q x star there
   starless : there ≡ false → exists q.sets x ≡ false → star_of q.sets x ≡ None → IsMissing q x star there
   gone : (w : Name) → there ≡ false → star ≡ Some w → exists q.sets x ≡ false → star_of q.sets x ≡ Some w → exists q.sets w ≡ false → IsMissing q x star there
+  -- an ANAME set stands in that leads to no addresses, where nothing has to be proved
+  without_addresses : there ≡ true → q.is_proved ≡ false → IsMissing q x star there
 
 -- the answer of the last name, if the search ends with one
 pub record IsAnswered (q : Inquiry) (x : Name) (answers : List RRset) : Type 0 where
@@ -103,7 +108,7 @@ module _ (q : Inquiry) (zone : IsZone q.sets) where
       m = q.sets
 
       at : AtNode → Step
-      at = node_step q.signed t star x
+      at = node_step q star x
 
       of : (n : AtNode) → at_node m a t ≡ n → StepEnd q before x (at n) → StepEnd q before x (step_at q star x a)
       of n e h = subst (λ n. StepEnd q before x (at n)) (sym e) h
@@ -118,6 +123,21 @@ module _ (q : Inquiry) (zone : IsZone q.sets) where
           (ap after_alias g)
       aliased s e f None g = let n = has_target a s (zone.stored a CNAME s f) in let p : None ≡ Some n.0 = sym g ∙ n.1 in absurd cc
 
+      -- by what an ANAME set stands for
+      kept : RRset → RRset
+      kept s = made_by (keeps q.signed t) star x s
+
+      stood_in : (s : RRset) → set_at m a ANAME ≡ Some s → (b : Bool) → q.is_proved ≡ b → (w : StandInAnswer) → stand_in_answer q x (kept s) ≡ w → StepEnd q before x (cond b (at_end failed) (stood_in_step star x w))
+      stood_in s k true p w f = comes_to failed [] refl refl tt
+      stood_in s k false p (addresses v) f =
+          let r = as_it_is part.Records v in
+          let l = addresses_of_last q x (kept s) v f in
+          let owned = found_owner m zone.stored q.signed t (keeps q.signed t) star x a s here (zone.stored a ANAME s k).owner in
+          comes_to complete (r ∷ []) refl (last_here t x r [] (addresses_stay q x (kept s) v l owned) (addresses_lead_nowhere q x (kept s) v l owned))
+          (record { set = r; alone = refl; answers_it = addresses_answer q x (kept s) v l owned }, inl u)
+      stood_in s k false p no_addresses f = comes_to (missing x star true) [] refl refl (u, without_addresses refl p, refl, refl)
+      stood_in s k false p untold f = comes_to failed [] refl refl tt
+
       by : NodeOf m a t → StepEnd q before x (step_at q star x a)
       by (has_set s e f) =
           let r = as_it_is (own_part q.signed t) (made_by (keeps q.signed t) star x s) in
@@ -126,7 +146,7 @@ module _ (q : Inquiry) (zone : IsZone q.sets) where
           (last_here t x r [] (found_stays m zone.stored q.signed t (keeps q.signed t) star x a here s (own_part q.signed t) (chosen_type m a t) (asked_stands m a t s e)) (own_leads m zone.stored q.signed t (keeps q.signed t) star x a here s e))
           (record { set = r; alone = refl; answers_it = own_answers m zone.stored q.signed t (keeps q.signed t) star x a here s e }, inl u))
       by (has_alias s e f g) = of (alias s) g (aliased s e f (cname_target s) refl)
-      by (has_stand_in s e) = of (stand_in s) e (comes_to failed [] refl refl tt)
+      by (has_stand_in s k e) = of (stand_in s) e (stood_in s (aname_stands m a t s k) q.is_proved refl (stand_in_answer q x (kept s)) refl)
       by (has_nothing e f g h) = of nothing h (comes_to (missing x star true) [] refl refl (u, missing_as (record { asked = e; alias = f; stand_in = g }), refl, refl))
 
   -- below a DNAME

@@ -37,11 +37,11 @@ use Rattle.response_laws.specs.Sayings.{asks_alias, leads_to, is_of, renames, is
 
 -- ---- the target of an alias, as it goes out
 
-target_with_ttl : (ttl : ℕ) (rs : List Record) → first_target (map (with_ttl ttl) rs) ≡ first_target rs
+pub target_with_ttl : (ttl : ℕ) (rs : List Record) → first_target (map (with_ttl ttl) rs) ≡ first_target rs
 target_with_ttl ttl [] = refl
 target_with_ttl ttl (r ∷ rs) = refl
 
-target_under : (n : Name) (ttl : ℕ) (rs : List Record) → first_target (map (record_under n ttl) rs) ≡ first_target rs
+pub target_under : (n : Name) (ttl : ℕ) (rs : List Record) → first_target (map (record_under n ttl) rs) ≡ first_target rs
 target_under n ttl [] = refl
 target_under n ttl (r ∷ rs) = refl
 
@@ -75,6 +75,22 @@ not_above n x h =
     by : (b : Bool) → is_above (lower x) (lower x) ≡ b → b ≡ false
     by false e = refl
     by true e = absurd (irrefl name_order (lower x) (above_is_less (lower x) (lower x) ((above_test (lower x) (lower x)).0 e)))
+
+-- a set that x owns isn't of a name above it
+pub stays_by_owner : (x : Name) (r : RRset) → same_name r.owner x ≡ true → renames x r ≡ false
+stays_by_owner x r h = by (is_of DNAME r) (is_above (lower r.owner) (lower x)) (not_above r.owner x h)
+  where
+    by : (b c : Bool) → c ≡ false → b && c ≡ false
+    by true c f = f
+    by false c f = refl
+
+-- one without a target leads nowhere
+pub leads_nowhere : (t : ℕ) (x : Name) (r : RRset) → cname_target r ≡ None → leads_to t x r ≡ None
+leads_nowhere t x r h = by (asks_alias t || not (same_name r.owner x)) h
+  where
+    by : (b : Bool) → cname_target r ≡ None → cond b None (cname_target r) ≡ None
+    by true h = refl
+    by false h = h
 
 -- a set of another type has none
 not_alias : (d : RData) → (type_of d == CNAME) ≡ false → alias_target d ≡ None
@@ -154,7 +170,7 @@ module _ (m : Sets) (a : Name) (t : ℕ) where
 
 module _ (m : Sets) (stored : (a : Name) (t : ℕ) (s : RRset) → set_at m a t ≡ Some s → IsStoredAt a t s) (signed : Bool) (t : ℕ) where
   -- a set that is found for x is owned by it
-  found_owner : (keep : Bool) (star : Option Name) (x a : Name) (s : RRset) → (star ≡ None → a ≡ x) → lower s.owner ≡ a → same_name (made_by keep star x s).owner x ≡ true
+  pub found_owner : (keep : Bool) (star : Option Name) (x a : Name) (s : RRset) → (star ≡ None → a ≡ x) → lower s.owner ≡ a → same_name (made_by keep star x s).owner x ≡ true
   found_owner keep None x a s here e = same_from_lower s.owner x (sym (lower-lower s.owner) ∙ ap lower (e ∙ here refl))
   found_owner keep (Some star) x a s here e = caseless_eq_equiv.refl x
 
@@ -162,15 +178,10 @@ module _ (m : Sets) (stored : (a : Name) (t : ℕ) (s : RRset) → set_at m a t 
     -- it isn't of a name above x
     pub found_stays : (p : Part) (u : ℕ) → set_at m a u ≡ Some s → renames x (as_it_is p (made_by keep star x s)) ≡ false
     found_stays p u e =
-        ap (λ (n : Name). is_of DNAME (as_it_is p own) && is_above (lower n) (lower x)) (sent_owner p own.ttl own)
-        ∙ right_false (is_of DNAME (as_it_is p own)) (is_above (lower own.owner) (lower x)) (not_above own.owner x (found_owner keep star x a s here (stored a u s e).owner))
+        stays_by_owner x (as_it_is p own) (ap (λ n. same_name n x) (sent_owner p own.ttl own) ∙ found_owner keep star x a s here (stored a u s e).owner)
       where
         own : RRset
         own = made_by keep star x s
-
-        right_false : (b c : Bool) → c ≡ false → b && c ≡ false
-        right_false true c f = f
-        right_false false c f = refl
 
     -- an alias leads to its target
     pub alias_leads : asked_set m a t ≡ None → set_at m a CNAME ≡ Some s → leads_to t x (as_it_is (part_for signed) (made_by keep star x s)) ≡ cname_target s

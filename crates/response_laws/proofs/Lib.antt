@@ -2,6 +2,7 @@ pub mod Told
 pub mod Turned
 pub mod Stepped
 pub mod Leads
+pub mod StandIns
 pub mod Dnames
 pub mod LastNames
 pub mod OwnerSets
@@ -37,7 +38,8 @@ pub mod AgreementSteps
 pub mod AgreementPaths
 pub mod Agreement
 pub mod AgreementProofs
-mod AgreementMet
+pub mod AgreementMet
+mod AgreementStandIns
 mod AgreementExamples
 mod SayingExamples
 mod MetPremises

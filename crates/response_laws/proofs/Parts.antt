@@ -1,9 +1,10 @@
 -- What a response is made of, where it is more than a code
-use Rattle.std.proofs.Common.{◌≡◌, ℕ, Bool, true, false, cond, not, ◌||◌, List, [], ◌∷◌, ◌++◌, map, refl, sym, ap, ◌∙◌, subst, true≢false, ◌⊎◌, inl, inr, append_assoc}
-use Rattle.std.specs.Prelude.{Option, Some, None, Result, Ok, Err, min, fold, option_and_then, option_to_list, MatchOption, MatchResult, ◌==◌}
+use Rattle.std.proofs.Common.{◌≡◌, ℕ, Bool, true, false, cond, not, ◌&&◌, ◌||◌, List, [], ◌∷◌, ◌++◌, map, refl, sym, ap, ◌∙◌, subst, true≢false, ◌⊎◌, inl, inr, append_assoc}
+use Rattle.std.specs.Prelude.{Option, Some, None, is_some, Result, Ok, Err, min, fold, option_and_then, option_to_list, MatchOption, MatchResult, ◌==◌}
 use Rattle.std.specs.Bool.{MatchBool}
 use Rattle.std.proofs.lemmas.List.{append-nil}
 use Rattle.zone_proto.specs.declared.error.ProtoError.{ProtoError}
+use Rattle.zone_proto.specs.declared.nx_proof_kind.NxProofKind.{NxProofKind}
 use Rattle.zone_proto.specs.declared.nx_proof_kind.NxProofKind.TheVariants as kind
 use Rattle.zone_proto.specs.declared.response_code.ResponseCode.{ResponseCode}
 use Rattle.zone_proto.specs.declared.response_code.ResponseCode.TheVariants as code
@@ -31,6 +32,10 @@ use Rattle.response_laws.proofs.OwnerSets.{all_of, owners_of_all, kept_in_all, m
 -- the path of a query
 abbrev pub path_of : Zone → Query → Path
 path_of z q = path (inquiry z q) q.name
+
+-- with DNSSEC, a zone that denies proves what is said
+pub is_proved_by : (z : Zone) (q : Query) (k : NxProofKind) → q.signed ≡ true → z.nx_proof_kind ≡ Some k → (inquiry z q).is_proved ≡ true
+is_proved_by z q k signed denies = λ i. signed i && is_some (denies i)
 
 -- the names of which a response says something: those for which a star answered; the name without the set that is asked for, and the star that was asked for it; and a child without DS
 abbrev pub told_at : Option RRset → End → List Name

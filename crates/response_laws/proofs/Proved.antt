@@ -28,8 +28,8 @@ use Rattle.response_laws.specs.ProvedSayings.{DeniesByNsec, shown, IsSentSet, Is
 use Rattle.response_laws.specs.Sayings.{Saying, data_of, name_error, no_data, referral, saying, name_of}
 use Rattle.response_laws.proofs.Answers.{IsFound, IsAnswer, IsMadeSet, path_answers}
 use Rattle.response_laws.proofs.BareNames.{flat, not_any, bare_direct, beside_soa}
-use Rattle.response_laws.proofs.LastNames.{IsBare, IsMissing, bare, bare_star, starless, gone}
-use Rattle.response_laws.proofs.Parts.{path_of, told_at, IsMadeOf}
+use Rattle.response_laws.proofs.LastNames.{IsBare, IsMissing, bare, bare_star, starless, gone, without_addresses}
+use Rattle.response_laws.proofs.Parts.{path_of, is_proved_by, told_at, IsMadeOf}
 use Rattle.response_laws.proofs.Said.{Said, says_nothing, says_data, says_referral, says_missing, said}
 use Rattle.response_laws.proofs.SaidNames.{same_saying, soa_shown, missing_said, alias_said, IsReferralTo, referral_of}
 use Rattle.response_laws.proofs.Stepped.{IsUnturned}
@@ -92,7 +92,7 @@ module _ (z : Zone) (q : Query) (r : Sections) (d : DeniesByNsec z) (signed : q.
           })
 
   pub answers_proved : (s : RRset) → Contains r.answers s → ((p : Part) × IsAnswerPart q.record_type p × (IsSentSet z.sets p s ⊎ IsStarSet z.origin z.sets (shown r) p s)) ⊎ IsMadeAlias z.sets r.answers s
-  answers_proved s c = by (path_answers (inquiry z q) d.circle.zone signed q.name s (subst (In s) h.answers (Contains-In s r.answers c)))
+  answers_proved s c = by (path_answers (inquiry z q) d.circle.zone signed (is_proved_by z q _ signed d.kind) q.name s (subst (In s) h.answers (Contains-In s r.answers c)))
     where
       by : IsAnswer (inquiry z q) (path_of z q).made (path_of z q).answers s
           → ((p : Part) × IsAnswerPart q.record_type p × (IsSentSet z.sets p s ⊎ IsStarSet z.origin z.sets (shown r) p s)) ⊎ IsMadeAlias z.sets r.answers s
@@ -141,6 +141,7 @@ module _ (z : Zone) (q : Query) (r : Sections) (d : DeniesByNsec z) (signed : q.
     pub error_shown : there ≡ false → IsMissing (inquiry z q) x star there → proves_name_error z.origin (shown r) x ≡ true
     error_shown gone' (bare e f g b) = absurd (true≢false (sym e ∙ gone'))
     error_shown gone' (bare_star w e f absent g k b) = absurd (true≢false (sym e ∙ gone'))
+    error_shown gone' (without_addresses e f) = absurd (true≢false (sym e ∙ gone'))
     error_shown gone' (starless e absent f) = let p : None ≡ Some (star_under (nsec_encloser o m x)) = sym f ∙ (star_is z d x j absent).1 in absurd cc
     error_shown gone' (gone w e f absent g k) =
         let none = unowned z d x absent in
@@ -177,6 +178,7 @@ module _ (z : Zone) (q : Query) (r : Sections) (d : DeniesByNsec z) (signed : q.
       where
         star' : Name
         star' = star_under (nsec_encloser o m x)
+    bare_shown so s (without_addresses e f) = absurd (true≢false (sym (is_proved_by z q _ signed d.kind) ∙ f))
     bare_shown so s (starless e absent f) = absurd (true≢false (sym so ∙ e))
     bare_shown so s (gone w e f absent g k) = absurd (true≢false (sym so ∙ e))
 

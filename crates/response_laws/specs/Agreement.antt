@@ -23,6 +23,7 @@ use Rattle.zone_response.specs.QueryTypes.{is_no_data}
 use Rattle.zone_response.specs.Responses.{ds_at, proof_sets, IsResponse}
 use Rattle.zone_response.specs.Sections.{Sections, as_it_is, part_for}
 use Rattle.zone_response.specs.Sources.{asked_star}
+use Rattle.zone_response.specs.StandIns.{addresses, stand_in_answer}
 use Rattle.zone_response.specs.Turns.{turn}
 
 -- ---- what both find alike
@@ -53,6 +54,17 @@ pub record IsOrdinary (q : Inquiry) (x : Name) : Type 0 where
 abbrev pub NoStandIn : Inquiry → Name → Type 0
 NoStandIn q x = (s : RRset) → found q.sets q.signed x q.record_type ≡ Some s → IsFalse (stands_for_addresses q.record_type s)
 
+-- an ANAME set of x leads to addresses, and nothing has to be proved of them. Nor does a lookup sign them, by `sign`, where the query asks for DNSSEC
+pub record LeadsToAddresses (sign : RRset → List Record) (q : Inquiry) (x : Name) (s : RRset) : Type 0 where
+  pub unproved : IsFalse q.is_proved
+  pub made : RRset
+  pub leads : stand_in_answer q x s ≡ addresses made
+  pub unsigned : IsTrue q.signed → sign made ≡ []
+
+-- so does each that stands in for the addresses of x
+abbrev pub StandInsLead : (RRset → List Record) → Inquiry → Name → Type 0
+StandInsLead sign q x = (s : RRset) → found q.sets q.signed x q.record_type ≡ Some s → IsTrue (stands_for_addresses q.record_type s) → LeadsToAddresses sign q x s
+
 -- ---- the names that are searched
 
 -- the name to which a chain leads on: no set is found for it
@@ -77,13 +89,13 @@ searched_names q x =
 
 -- ---- the query
 
--- each name of the zone that is searched is one that both find alike
+-- each name of the zone that is searched is one that both find alike; and for none behind an alias an ANAME set stands in, whose targets a lookup doesn't follow there
 pub record IsOrdinaryQuery (z : Zone) (q : Query) : Type 0 where
   pub class : q.class ≡ IN
   pub record_type : IsOrdinaryType q.record_type
   pub inside : IsTrue (is_at_or_above z.origin q.name)
   pub names : (x : Name) → Contains (searched_names (inquiry z q) q.name) x → IsTrue (is_at_or_above z.origin x) → IsOrdinary (inquiry z q) x
-  pub addresses : (x : Name) → Contains (searched_names (inquiry z q) q.name) x → NoStandIn (inquiry z q) x
+  pub addresses : (x : Name) → Contains (searched_names (inquiry z q) q.name) x → x ≢ q.name → NoStandIn (inquiry z q) x
 
 -- the sets that prove what a path says are found: each name that is hashed for them has a hashed owner
 abbrev pub IsProvable : Zone → Query → Path → Type 0
@@ -123,10 +135,10 @@ pub record Agrees (z : Zone) (q : Query) (r : Sections) (reply : Reply) : Type 0
   -- where it ends with a set or outside the zone, there is no error
   pub no_error : ((x : Name) → unfound_name (inquiry z q) q.name ≡ Some x → IsFalse (is_at_or_above z.origin x)) → r.code ≡ code.NoError
 
--- each response to such a query agrees with each reply of a lookup, whatever its signers
+-- each response to such a query agrees with each reply of a lookup, whatever signs it, but for addresses by ANAME
 abbrev pub ResponsesAgree : Type 0
 ResponsesAgree =
-    (sign : RRset → List Record) (z : Zone) (q : Query) (r : Sections) (reply : Reply) → IsOrdinaryZone z.origin z.sets → IsOrdinaryQuery z q → IsProvable z q (path (inquiry z q) q.name)
+    (sign : RRset → List Record) (z : Zone) (q : Query) (r : Sections) (reply : Reply) → IsOrdinaryZone z.origin z.sets → IsOrdinaryQuery z q → StandInsLead sign (inquiry z q) q.name → IsProvable z q (path (inquiry z q) q.name)
     → IsResponse z q r → IsReply sign z.origin z.sets q.signed q.name q.record_type reply → Agrees z q r reply
 
 -- ---- what is provable

@@ -24,9 +24,11 @@ pub fn responses_say_how_they_end()
 /// isn't a star, and a CNAME stands alone (`IsOrdinaryZone`). The query is of class IN, for one type of data other than NSEC3
 /// (`IsOrdinaryType`), and for a name of the zone. On the way down to each name of the zone that is searched stands no zone cut and no
 /// DNAME; and if the name doesn't exist, it is no star and asks none that is a delegation (`IsOrdinary`, which has a condition for
-/// NSEC besides). No ANAME stands in for its addresses (`NoStandIn`). What the response says is provable (`IsProvable`), as it is
-/// without DNSSEC, and in each zone that doesn't deny by hashed names or in which each name has a hashed owner. A name that owns sets
-/// of denial alone, as NSEC3, is told by the code of a name error, where a lookup may say that it exists (RFC 5155 section 7.2.8).
+/// NSEC besides). Behind an alias no ANAME stands in for addresses (`NoStandIn`), and one that stands in for those of the queried name
+/// leads to some, in a zone that needn't prove them, and that a lookup doesn't sign either (`StandInsLead`). What the response says is
+/// provable (`IsProvable`), as it is without DNSSEC, and in each zone that doesn't deny by hashed names or in which each name has a
+/// hashed owner. A name that owns sets of denial alone, as NSEC3, is told by the code of a name error, where a lookup may say that it
+/// exists (RFC 5155 section 7.2.8).
 pub fn responses_agree_with_lookups()
     ensures agreement { ResponsesAgree }
     ensures provable { ProvableByOwners }

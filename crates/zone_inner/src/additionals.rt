@@ -139,8 +139,9 @@ fn names_host(record_type: RecordType) -> bool
         || record_type == RecordType::SRV
 }
 
-/// Where a set leads a run that searches a type.
-fn run_target(set: &RecordSet, search_type: RecordType) -> Result<Option<LowerName>, ProtoError>
+/// Where a set leads a run that searches a type: the target of an alias, whatever is searched (RFC 1034 section 3.6.2), and that
+/// of an ANAME where addresses are. Refused by `Memory` alone.
+pub fn run_target(set: &RecordSet, search_type: RecordType) -> Result<Option<LowerName>, ProtoError>
     ensures target { IfOk result (λ target. target ≡ run_target search_type.0 set.now) }
     ensures err { IsOkUnless result ProtoError.Memory }
 {
@@ -150,11 +151,9 @@ fn run_target(set: &RecordSet, search_type: RecordType) -> Result<Option<LowerNa
     }
 }
 
-/// The name that the first record of a set leads to when a type is asked for.
-pub(crate) fn next_name(
-    set: &RecordSet,
-    record_type: RecordType,
-) -> Result<Option<LowerName>, ProtoError>
+/// The name that the first record of a set leads to when a type is asked for: that of an ANAME for addresses and for ANAME, and
+/// those of NS, MX and SRV for their own type. Refused by `Memory` alone.
+pub fn next_name(set: &RecordSet, record_type: RecordType) -> Result<Option<LowerName>, ProtoError>
     ensures target { IfOk result (λ target. target ≡ next_name record_type.0 set.now) }
     ensures err { IsOkUnless result ProtoError.Memory }
 {

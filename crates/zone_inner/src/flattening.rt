@@ -31,8 +31,9 @@ pub(crate) fn flattened<S: Signer>(
     Ok(set)
 }
 
-/// An ANAME set flattened for a type by the last additional set, without signatures.
-fn unsigned_flattened(
+/// An ANAME set flattened for a type by the last additional set, without signatures: the addresses of that set, under the owner
+/// of the ANAME set, with the lesser one of both TTLs; none where the last set is of another type. Refused by `Memory` alone.
+pub fn unsigned_flattened(
     aname: &RecordSet,
     record_type: RecordType,
     last: &RecordSet,

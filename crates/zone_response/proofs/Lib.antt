@@ -2,6 +2,7 @@ pub mod NameTests
 pub mod StarWalk
 pub mod TurnWalk
 pub mod NodeCases
+pub mod StandInFacts
 pub mod StepCases
 pub mod NewNames
 pub mod PathSteps

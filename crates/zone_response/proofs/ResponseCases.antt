@@ -1,6 +1,6 @@
 -- Which response a query has, case by case
-use Rattle.std.proofs.Common.{◌≡◌, ◌≢◌, ◌⊎◌, inl, inr, Bool, true, false, List, sym, subst}
-use Rattle.std.specs.Prelude.{Option, Some, None, Result, Ok, Err, IfOk, IsErr, MatchOption, MatchResult}
+use Rattle.std.proofs.Common.{◌≡◌, ◌≢◌, ◌&&◌, ◌⊎◌, inl, inr, Bool, true, false, List, sym, subst}
+use Rattle.std.specs.Prelude.{Option, is_some, Some, None, Result, Ok, Err, IfOk, IsErr, MatchOption, MatchResult}
 use Rattle.std.specs.Bool.{MatchBool}
 use Rattle.std.proofs.lemmas.Result.{IfOk-weaker}
 use Rattle.zone_proto.specs.declared.error.ProtoError.{ProtoError}
@@ -27,6 +27,13 @@ module _ (z : Zone) (q : Query) where
   searched result e h =
       IfOk-weaker result (λ r. IsSearched z (inquiry z q) q.name (sections r)) (λ r. IsResponse z q (sections r))
       (λ r h. subst (λ (o : Option ResponseCode). MatchOption o (IsSearched z (inquiry z q) q.name (sections r)) (λ c. sections r ≡ bare c)) e h) h
+
+  -- what is searched is asked as the query has it
+  pub inquired : {E : Type 0} (result : Result Response E) (proved : Bool) → proved ≡ q.signed && is_some z.nx_proof_kind
+      → IfOk result (λ r. IsSearched z (record { origin = z.origin; sets = z.sets; record_type = q.record_type; signed = q.signed; is_proved = proved }) q.name (sections r))
+      → IfOk result (λ r. IsSearched z (inquiry z q) q.name (sections r))
+  inquired result proved e h =
+      subst (λ (b : Bool). IfOk result (λ r. IsSearched z (record { origin = z.origin; sets = z.sets; record_type = q.record_type; signed = q.signed; is_proved = b }) q.name (sections r))) e h
 
 module _ (z : Zone) (q : Inquiry) (x : Name) where
   pub without_soa : (r : Sections) → None ≡ set_at z.sets z.origin SOA → r ≡ bare code.ServFail → IsSearched z q x r

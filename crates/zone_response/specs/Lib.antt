@@ -4,6 +4,7 @@ pub mod QueryTypes
 pub mod Turns
 pub mod Sources
 pub mod Nodes
+pub mod StandIns
 pub mod Renamings
 pub mod Steps
 pub mod Paths

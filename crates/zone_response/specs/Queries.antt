@@ -1,5 +1,5 @@
 -- The zone that is asked, and the query
-use Rattle.std.specs.Prelude.{ℕ, Bool, List, Option, option_copied}
+use Rattle.std.specs.Prelude.{ℕ, Bool, ◌&&◌, List, Option, is_some, option_copied}
 use Rattle.zone_proto.specs.declared.nx_proof_kind.NxProofKind.{NxProofKind}
 use Rattle.zone_proto.specs.Names.{Name}
 use Rattle.zone_map.specs.Zones.{Sets}
@@ -30,9 +30,11 @@ pub record Inquiry : Type 0 where
   pub sets : Sets
   pub record_type : ℕ
   pub signed : Bool
+  -- what is said has to be proved: the query asks for DNSSEC, and the zone has denials (RFC 4035 section 3.1)
+  pub is_proved : Bool
 
 abbrev pub inquiry : Zone → Query → Inquiry
-inquiry z q = record { origin = z.origin; sets = z.sets; record_type = q.record_type; signed = q.signed }
+inquiry z q = record { origin = z.origin; sets = z.sets; record_type = q.record_type; signed = q.signed; is_proved = q.signed && is_some z.nx_proof_kind }
 
 -- ---- as the program keeps them
 
@@ -43,4 +45,4 @@ abbrev pub query_of : Question → Bool → Query
 query_of q signed = record { name = q.name.now; record_type = q.query_type.0; class = q.query_class.0; signed = signed }
 
 abbrev pub inquiry_of : Asked → Sets → Inquiry
-inquiry_of a m = record { origin = a.origin.now; sets = m; record_type = a.record_type.0; signed = a.signed }
+inquiry_of a m = record { origin = a.origin.now; sets = m; record_type = a.record_type.0; signed = a.signed; is_proved = a.is_proved }

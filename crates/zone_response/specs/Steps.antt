@@ -17,6 +17,7 @@ use Rattle.zone_response.specs.Nodes.{AtNode, own, alias, stand_in, nothing, at_
 use Rattle.zone_response.specs.Renamings.{dname_target, in_place_of, unless_long, made_alias}
 use Rattle.zone_response.specs.Sections.{as_it_is, part_for, unless_among, sent_sets}
 use Rattle.zone_response.specs.Sources.{star_of}
+use Rattle.zone_response.specs.StandIns.{StandInAnswer, addresses, no_addresses, untold, stand_in_answer}
 use Rattle.zone_response.specs.Turns.{Turn, cut, renaming, turn}
 
 -- how a search ends
@@ -65,7 +66,7 @@ abbrev pub after_alias : Option Name → Next
 after_alias None = ends complete
 after_alias (Some target) = on target
 
--- by what x itself has, or the star that is asked for it, for a query of t, which asks for DNSSEC or not
+-- for a query of t, which asks for DNSSEC or not
 module _ (signed : Bool) (t : ℕ) where
   -- signatures are of use where the query asks for DNSSEC, and where it asks for them
   abbrev pub keeps : Bool
@@ -75,11 +76,23 @@ module _ (signed : Bool) (t : ℕ) where
   abbrev pub own_part : Part
   own_part = cond (t == RRSIG) part.Signatures (part_for signed)
 
-  -- the set is the whole answer, and an alias is followed (RFC 1034 section 4.3.2 step 3a)
+-- by what an ANAME set of x stands for, itself or that of the star: the addresses are the whole answer, and aren't signed
+abbrev pub stood_in_step : Option Name → Name → StandInAnswer → Step
+stood_in_step star x (addresses s) = record { answers = as_it_is part.Records s ∷ []; made = made_names star x; next = ends complete }
+stood_in_step star x no_addresses = at_end (missing x star true)
+stood_in_step star x untold = at_end failed
+
+-- by what x itself has, or the star that is asked for it
+module _ (q : Inquiry) where
+  -- where what is said has to be proved, addresses that nobody signed aren't answered
+  abbrev pub stand_in_step : Option Name → Name → RRset → Step
+  stand_in_step star x s = cond q.is_proved (at_end failed) (stood_in_step star x (stand_in_answer q x (made_by (keeps q.signed q.record_type) star x s)))
+
+  -- the set that is asked for is the whole answer, and an alias is followed (RFC 1034 section 4.3.2 step 3a)
   abbrev pub node_step : Option Name → Name → AtNode → Step
-  node_step star x (own s) = record { answers = as_it_is own_part (made_by keeps star x s) ∷ []; made = made_names star x; next = ends complete }
-  node_step star x (alias s) = record { answers = as_it_is (part_for signed) (made_by keeps star x s) ∷ []; made = made_names star x; next = after_alias (cname_target s) }
-  node_step star x (stand_in s) = at_end failed
+  node_step star x (own s) = record { answers = as_it_is (own_part q.signed q.record_type) (made_by (keeps q.signed q.record_type) star x s) ∷ []; made = made_names star x; next = ends complete }
+  node_step star x (alias s) = record { answers = as_it_is (part_for q.signed) (made_by (keeps q.signed q.record_type) star x s) ∷ []; made = made_names star x; next = after_alias (cname_target s) }
+  node_step star x (stand_in s) = stand_in_step star x s
   node_step star x nothing = at_end (missing x star true)
 
 -- ---- below a DNAME
@@ -107,7 +120,7 @@ module _ (signed : Bool) (t : ℕ) (before : List RRset) (x : Name) (s : RRset) 
 module _ (q : Inquiry) where
   -- by what a name has, for x
   abbrev pub step_at : Option Name → Name → Name → Step
-  step_at star x a = node_step q.signed q.record_type star x (at_node q.sets a q.record_type)
+  step_at star x a = node_step q star x (at_node q.sets a q.record_type)
 
   -- for a name that doesn't exist: by the star that is asked for it, if that exists (RFC 1034 section 4.3.2 step 3c, RFC 4592 section 3.3.1)
   abbrev pub star_step : Name → Option Name → Step

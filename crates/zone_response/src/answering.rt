@@ -1,5 +1,5 @@
 //! What a query is answered with.
-ghost use Rattle.std.specs.Prelude.{◌≡◌, ◌≢◌, IfOk, IsOkUnless};
+ghost use Rattle.std.specs.Prelude.{◌≡◌, ◌≢◌, ◌&&◌, is_some, option_copied, IfOk, IsOkUnless};
 ghost use Rattle.zone_response.specs.Paths.{path_of};
 ghost use Rattle.zone_response.specs.Queries.{zone_of, query_of, inquiry_of};
 ghost use Rattle.zone_response.specs.Responses.{bare, refusal, IsResponse, IsSearched, IsResponseAlong, IsProvenResponse, IsResponseBy};
@@ -39,7 +39,12 @@ use zone_proto::{
 /// - With DNSSEC, the authority section has the NSEC sets (RFC 4035 section 3.1.3) or NSEC3 sets (RFC 5155 section 7.2), each
 ///   once, that prove a name error, absent data, an unsigned child, and each answer of a wildcard. Where the zone denies by NSEC3
 ///   and its hash has no digest of a name that is hashed for this, or one that makes no owner name, the code is `ServFail`.
-/// - An ANAME that stands in for addresses gives `ServFail`: it isn't answered yet.
+/// - A name that owns an ANAME, and neither addresses of the type that is asked for nor an alias, has those of the ANAME's target, as
+///   a lookup finds them in the zone along aliases and ANAMEs: under the owner of the ANAME, with the lesser one of the TTLs of the
+///   ANAME and of the addresses, and without signatures. There are no data where the last target is a name of the zone without such
+///   addresses, and the code is `ServFail` where it stands outside the zone, below a zone cut or below a DNAME: the zone can't tell.
+/// - With DNSSEC, an ANAME that stands in for addresses gives `ServFail` in a zone with a kind of denial, which would have to sign
+///   them: that isn't done yet.
 pub fn respond<'z, S: Signer, H: Nsec3Hash>(
     zone: ServedZone<'z, S, H>,
     question: Question<'_>,
@@ -54,12 +59,20 @@ pub fn respond<'z, S: Signer, H: Nsec3Hash>(
         origin: zone.origin,
         record_type: question.query_type,
         signed: options.dnssec_ok,
+        is_proved: is_proved(&zone, options.dnssec_ok),
     };
     let name = question.name;
     match refusal(question.query_class, asked, name) {
         Some(code) => Ok(bare(name.alloc(), code)),
         None => searched(&zone, asked, name),
     }
+}
+
+/// Whether what is said to a query has to be proved.
+fn is_proved<S: Signer, H: Nsec3Hash>(zone: &ServedZone<'_, S, H>, signed: bool) -> bool
+    ensures { result ≡ (signed && is_some (option_copied zone.now.nx_proof_kind)) }
+{
+    signed && zone.nx_proof_kind.is_some()
 }
 
 /// The response to a query that is searched; the origin that is asked is the zone's.

@@ -3,7 +3,8 @@
 //! negative response, the NSEC or NSEC3 sets that prove what is said, and the additional section.
 //!
 //! Zones without DNSSEC are answered whole, and so are zones that deny by NSEC, and by NSEC3 with and without opt-out. One thing
-//! isn't answered yet, and gives `ServFail`: addresses of a name for which an ANAME stands in. A user of these needs another server.
+//! isn't answered yet, and gives `ServFail`: with DNSSEC, addresses of a name for which an ANAME stands in, in a zone that denies by
+//! either. Nobody signs these yet.
 //!
 //! Contracts see a response as its code and its sections, each a list of record sets as they go out.
 #![tactic(auto)]
@@ -22,6 +23,7 @@ mod renamings;
 mod response;
 mod sections;
 mod sources;
+mod stand_ins;
 mod steps;
 mod turns;
 

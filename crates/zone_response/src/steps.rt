@@ -14,6 +14,7 @@ use crate::nodes::{Node, at_node};
 use crate::renamings::{dname_target, in_place_of, made_alias};
 use crate::response::{Part, Sent};
 use crate::sources::star_of;
+use crate::stand_ins::stand_in_step;
 use crate::turns::{Turning, turn};
 use zone_handler::LookupError;
 use zone_inner::{Found, InnerInMemory, cname_target};
@@ -29,6 +30,8 @@ pub(crate) struct Asked<'z> {
     pub(crate) record_type: RecordType,
     /// Whether the query asks for DNSSEC.
     pub(crate) signed: bool,
+    /// Whether what is said has to be proved: the query asks for DNSSEC, and the zone has denials.
+    pub(crate) is_proved: bool,
 }
 
 /// A name of the zone without the set that is asked for.
@@ -171,7 +174,7 @@ fn name_step<'z, S: Signer>(
     let mut key = RrKey::first_of(name)?;
     if inner.exists(&key) {
         let node = at_node(inner, &mut key, asked.record_type)?;
-        return node_step(node, None, name, asked, so_far);
+        return node_step(inner, node, None, name, asked, so_far);
     }
     let star = star_of(inner, name)?;
     star_step(inner, asked, name, star, so_far)
@@ -198,11 +201,12 @@ fn star_step<'z, S: Signer>(
         return Ok(at_missing(name, Some(star), false)?);
     }
     let node = at_node(inner, &mut key, asked.record_type)?;
-    node_step(node, Some(star), name, asked, so_far)
+    node_step(inner, node, Some(star), name, asked, so_far)
 }
 
 /// The step from a name by what it has itself, or what the star has that is asked for it.
-fn node_step<'z>(
+fn node_step<'z, S: Signer>(
+    inner: &'z InnerInMemory<S>,
     node: Node<'z>,
     star: Option<LowerName>,
     name: &LowerName,
@@ -211,7 +215,7 @@ fn node_step<'z>(
 ) -> Result<Next<'z>, LookupError>
     ensures ok { IfOk result
         (λ next. Takes
-        (node_step asked.entry.signed asked.entry.record_type.0 star name.now
+        (node_step (inquiry_of asked.entry inner.now.records) star name.now
         (node_of node.entry)) so_far.old so_far.new next) }
     ensures err { IsOkUnless result LookupError.Memory }
 {
@@ -226,13 +230,13 @@ fn node_step<'z>(
             answer(set, star, name, part, keeps(asked), so_far)?;
             Ok(after_alias(set)?)
         }
-        Node::StandIn(_) => Ok(Next::Ends(End::Failed)),
+        Node::StandIn(set) => stand_in_step(inner, set, star, name, asked, so_far),
         Node::Nothing => Ok(at_missing(name, star, true)?),
     }
 }
 
 /// Signatures are of use where the query asks for DNSSEC, and where it asks for them.
-fn keeps(asked: Asked<'_>) -> bool
+pub(crate) fn keeps(asked: Asked<'_>) -> bool
     ensures { result ≡ keeps asked.entry.signed asked.entry.record_type.0 }
 {
     asked.signed || asked.record_type == RecordType::RRSIG
@@ -256,7 +260,7 @@ pub(crate) fn part_for(signed: bool) -> Part
 }
 
 /// The end at a name without the set that is asked for.
-fn at_missing<'z>(
+pub(crate) fn at_missing<'z>(
     name: &LowerName,
     star: Option<LowerName>,
     is_there: bool,
@@ -311,7 +315,7 @@ fn answer<'z>(
 }
 
 /// Puts a name last if a star has its set.
-fn add_made(
+pub(crate) fn add_made(
     star: &Option<LowerName>,
     name: &LowerName,
     made: &mut Vec<LowerName>,
@@ -326,7 +330,7 @@ fn add_made(
 }
 
 /// A set as it is found for a name.
-fn found_for<'z>(
+pub(crate) fn found_for<'z>(
     set: &'z RecordSet,
     star: Option<LowerName>,
     name: &LowerName,

@@ -1,6 +1,6 @@
 use Rattle.zone_response.specs.Queries.{zone_of, query_of}
 use Rattle.zone_response.specs.Sections.{sections}
-use Rattle.zone_response.proofs.ResponseCases.{refused, searched}
+use Rattle.zone_response.proofs.ResponseCases.{refused, inquired, searched}
 use Rattle.zone_response.proofs.answering.respond.Goals as goal
 
 pub returns-in-Some-clause-response : goal.returns-in-Some-clause-response
@@ -9,4 +9,6 @@ returns-in-Some-clause-response g c =
 
 pub returns-in-None-clause-response : goal.returns-in-None-clause-response
 returns-in-None-clause-response g c =
-    searched (zone_of g.H.Nsec3Hash.digest_of c.args.zone) (query_of c.args.question c.args.options.dnssec_ok) c.searched.result c.in-None.ensures c.searched.ensures.response
+    let z = zone_of g.H.Nsec3Hash.digest_of c.args.zone in
+    let q = query_of c.args.question c.args.options.dnssec_ok in
+    searched z q c.searched.result c.in-None.ensures (inquired z q c.searched.result c.is_proved.result c.is_proved.ensures c.searched.ensures.response)

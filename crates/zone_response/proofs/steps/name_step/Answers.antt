@@ -14,7 +14,7 @@ returns-then-exists-clause-ok g c =
     let x = c.args.name.now in
     let there : exists q.sets x ≡ true = sym (ap (λ (k : RrKey). exists q.sets k.name) c.in_ok-key.ensures.copy.ok) ∙ sym c.exists.ensures ∙ c.if-exists.true in
     let node = node_of c.in_ok-node.node in
-    same_step c.node_step.result c.args.so_far.now c.node_step.new.so_far (name_step q x) (node_step q.signed q.record_type None x node)
+    same_step c.node_step.result c.args.so_far.now c.node_step.new.so_far (name_step q x) (node_step q None x node)
     (own_step q x node there (c.in_ok-node.ensures.node ∙ ap (λ (k : RrKey). at_node q.sets k.name q.record_type) c.in_ok-key.ensures.copy.ok)) c.node_step.ensures.ok
 
 pub returns-clause-ok : goal.returns-clause-ok

@@ -24,5 +24,5 @@ returns-clause-ok g c =
     let star = c.in-Some.star in
     let there : exists q.sets star ≡ true = sym (ap (λ (k : RrKey). exists q.sets k.name) c.in_ok-key.ensures.copy.ok) ∙ sym c.exists.ensures ∙ c.if-not-exists.false in
     let node = node_of c.in_ok-node.node in
-    same_step c.node_step.result c.args.so_far.now c.node_step.new.so_far (star_step q x c.args.star) (node_step q.signed q.record_type (Some star) x node)
+    same_step c.node_step.result c.args.so_far.now c.node_step.new.so_far (star_step q x c.args.star) (node_step q (Some star) x node)
     (ap (star_step q x) c.in-Some.is ∙ starred_step q x star node there (c.in_ok-node.ensures.node ∙ ap (λ (k : RrKey). at_node q.sets k.name q.record_type) c.in_ok-key.ensures.copy.ok)) c.node_step.ensures.ok
