@@ -10,5 +10,6 @@ pub mod HostFacts
 pub mod SetLists
 pub mod ProofSteps
 pub mod HashedSteps
+pub mod UnsentSets
 pub mod ResponseCases
 pub mod ResponseExamples

@@ -24,6 +24,7 @@ mod response;
 mod sections;
 mod sources;
 mod stand_ins;
+mod standing;
 mod steps;
 mod turns;
 
