@@ -1,1 +1,2 @@
 pub mod EntryLaw
+pub mod Runs

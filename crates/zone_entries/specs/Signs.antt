@@ -1,5 +1,5 @@
 -- What each octet of a master file stands for (RFC 1035 section 5.1)
-use Rattle.std.specs.Prelude.{ℕ, ◌+◌, List, [], ◌∷◌, Bool, true, false, ◌||◌, ◌==◌, min, if◌then◌else◌, Option, Some, None}
+use Rattle.std.specs.Prelude.{ℕ, ◌+◌, List, [], ◌∷◌, Bool, true, false, ◌||◌, ◌&&◌, not, ◌==◌, min, if◌then◌else◌, Option, Some, None}
 use Rattle.zone_entries.specs.declared.place.Place.{Place}
 use Rattle.zone_entries.specs.declared.fault.EntryFault.{EntryFault}
 use Rattle.zone_entries.specs.declared.fault.EntryReason.{EntryReason}
@@ -92,6 +92,20 @@ mode_after (InQuotes q) p b =
     else InQuotes q)
 mode_after (EscapeInQuotes q) p b = InQuotes q
 mode_after InComment p b = if b == line_feed then Plain else InComment
+
+-- an octet is one of a word, wherever it stands, and leaves what the next one stands behind as it is
+abbrev pub goes_on : Mode → ℕ → Bool
+goes_on Plain b =
+    not (is_blank b || b == semicolon) && (not (ends_line b) && (not (b == opening) && (not (b == closing)
+    && (not (b == quote) && not (b == backslash)))))
+goes_on Escape b = false
+goes_on (InQuotes q) b = not (b == quote) && (not (b == line_feed) && not (b == backslash))
+goes_on (EscapeInQuotes q) b = false
+goes_on InComment b = false
+
+-- the place so many octets further in the same line
+abbrev pub place_along : Place → ℕ → Place
+place_along p n = record { line = p.line; column = min (p.column + n) 18446744073709551615 }
 
 -- a text may not end within quotes or behind a backslash
 abbrev pub fault_at_end : Mode → Place → Option EntryFault

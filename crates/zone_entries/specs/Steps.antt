@@ -88,6 +88,15 @@ word_with (Going w) p joined b = word_at w.place w.quoted w.joined (w.octets ++ 
 abbrev pub with_octet : Place → Bool → ℕ → LineSoFar → LineSoFar
 with_octet p joined b l = record { indented = l.indented; words = l.words; hand = Going (word_with l.hand p joined b) }
 
+-- octets of a word that nothing stands between, one or more
+abbrev pub word_of : Hand → Place → Bool → List ℕ → WordText
+word_of Start p joined t = word_at p false joined t
+word_of Between p joined t = word_at p false joined t
+word_of (Going w) p joined t = word_at w.place w.quoted w.joined (w.octets ++ t)
+
+abbrev pub with_octets : Place → Bool → List ℕ → LineSoFar → LineSoFar
+with_octets p joined t l = record { indented = l.indented; words = l.words; hand = Going (word_of l.hand p joined t) }
+
 -- the line behind a sign, and the entry that ends with it, if one does
 abbrev pub line_end : Option Place → LineSoFar → LineSoFar
 line_end (Some q) l = with_blank l

@@ -1,6 +1,6 @@
 //! Where in a text an octet stands.
 ghost use Rattle.std.specs.Prelude.{◌≡◌};
-ghost use Rattle.zone_entries.specs.Signs.{first_place, place_behind};
+ghost use Rattle.zone_entries.specs.Signs.{first_place, place_along, place_behind};
 
 /// The place of an octet in a text: its line, and its column among the octets of the line. Both are counted from 1, and lines
 /// by line feeds. Neither goes past 2^64 - 1.
@@ -32,6 +32,16 @@ impl Place {
                 line: self.line,
                 column: self.column.saturating_add(1),
             }
+        }
+    }
+
+    /// The place so many octets further in the same line.
+    pub(crate) fn along(self, count: usize) -> Place
+        ensures { result ≡ place_along self count }
+    {
+        Place {
+            line: self.line,
+            column: self.column.saturating_add(count as u64),
         }
     }
 }

@@ -1,12 +1,12 @@
 //! The entries of a text that comes in pieces: its octets are read one after the other.
 ghost use Rattle.std.specs.Prelude.{◌≡◌, ◌+◌, ◌++◌, ◌≤◌, ◌<◌, [], ◌∷◌, List, ℕ, length, drop, Ok, Some, None, IfOk, IfErr, IsNone, OnOk, IsOkUnless};
 ghost use Rattle.zone_entries.specs.Entries.{Event, Broken, with_entry, events_of, entry_of};
-ghost use Rattle.zone_entries.specs.Steps.{Between, Fails, apart, begun, settled, with_blank, with_octet, line_behind, entry_at, line_end, entry_in, step, end_of, events_from};
+ghost use Rattle.zone_entries.specs.Steps.{Between, Fails, apart, begun, settled, with_blank, with_octet, with_octets, line_behind, entry_at, line_end, entry_in, step, end_of, events_from};
 
 use crate::entry::{Entry, Word};
 use crate::fault::{EntryError, EntryFault, EntryReason};
 use crate::place::Place;
-use crate::rules::{fault_at, open_after, size_after};
+use crate::rules::{fault_at, open_after, room_for, size_after};
 use crate::signs::{Mode, Sign};
 use std::alloc::Global;
 use std::marker::Model;
@@ -105,12 +105,20 @@ impl EntryReader {
         ensures fault { IfErr result (λ e. (f : EntryFault) → e ≡ EntryError.Fault f →
             (more : List ℕ) → events_from (piece.now ++ more) self.old ≡ Broken f ∷ []) }
     {
-        for (i, octet) in piece.iter().enumerate() {
-            if let Some(entry) = self.step(alloc, *octet)? {
-                return Ok((i + 1, Some(entry)));
+        let mut count = 0;
+        while count < piece.len() {
+            let run = self.take_run(alloc, &piece[count..])?;
+            if run > 0 {
+                count += run;
+                continue;
+            }
+            let entry = self.step(alloc, piece[count])?;
+            count += 1;
+            if entry.is_some() {
+                return Ok((count, entry));
             }
         }
-        Ok((piece.len(), None))
+        Ok((count, None))
     }
 
     /// Ends the text: gives the entry of its last line, if that has words and no line end.
@@ -151,6 +159,26 @@ impl EntryReader {
         self.place = self.place.behind(octet);
         self.is_joined = sign.joins();
         Ok(entry)
+    }
+
+    /// Takes the octets at the front of what follows that are octets of one word and nothing else, in one piece, and gives how
+    /// many these are. Refused by `Memory` alone.
+    fn take_run(&mut self, alloc: Global, rest: &[u8]) -> Result<usize, EntryError>
+        ensures ok { IfOk result (λ n. (more : List ℕ) →
+            events_from (rest.now ++ more) self.old
+            ≡ events_from (drop n rest.now ++ more) self.new) }
+        ensures within { IfOk result (λ n. n ≤ length rest.now) }
+        ensures err { IsOkUnless result EntryError.Memory }
+    {
+        let count = self.mode.run_length(rest, room_for(self.size));
+        if count == 0 {
+            return Ok(0);
+        }
+        self.take_octets(alloc, &rest[..count])?;
+        self.size += count as u32;
+        self.place = self.place.along(count);
+        self.is_joined = true;
+        Ok(count)
     }
 
     /// Takes what a sign makes of the line in hand.
@@ -251,6 +279,23 @@ impl EntryReader {
         Ok(())
     }
 
+    /// Takes octets of a word, one or more.
+    fn take_octets(&mut self, alloc: Global, octets: &[u8]) -> Result<(), EntryError>
+        ensures ok { OnOk result
+            (self.new
+            ≡ record self.old {
+              line = with_octets self.old.place self.old.joined octets.now
+                  self.old.line;
+            }) }
+        ensures err { IsOkUnless result EntryError.Memory }
+    {
+        if self.hand != Hand::InWord {
+            self.begin(alloc, false)?;
+        }
+        self.text.extend_from_slice(octets)?;
+        Ok(())
+    }
+
     /// Takes the end of a line, which between parentheses is a blank.
     fn take_line_end(&mut self, alloc: Global) -> Result<Option<Entry>, EntryError>
         ensures entry { IfOk result (λ entry. entry ≡ entry_in self.old.group self.old.line) }
@@ -288,18 +333,12 @@ impl EntryReader {
         ensures err { IsOkUnless result EntryError.Memory }
     {
         self.part(alloc)?;
-        let words = mem::replace(&mut self.words, Vec::new(alloc));
-        Ok(entry_of(self.is_indented, words))
-    }
-}
-
-/// The entry of a line, if it has words.
-fn entry_of(is_indented: bool, words: Vec<Word>) -> Option<Entry>
-    ensures { result ≡ entry_of is_indented words.items }
-{
-    if words.is_empty() {
-        None
-    } else {
-        Some(Entry::new(is_indented, words))
+        if self.words.is_empty() {
+            return Ok(None);
+        }
+        // Most entries have no more words than the one before.
+        let room = Vec::with_capacity(alloc, self.words.len())?;
+        let words = mem::replace(&mut self.words, room);
+        Ok(Some(Entry::new(self.is_indented, words)))
     }
 }

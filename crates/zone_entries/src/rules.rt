@@ -1,7 +1,7 @@
 //! What may stand where in an entry: parentheses by pairs, and no more octets than an entry may have.
-ghost use Rattle.std.specs.Prelude.{◌≡◌, ◌+◌, nat_le, Some, None};
+ghost use Rattle.std.specs.Prelude.{◌≡◌, ◌+◌, ◌-◌, nat_le, Some, None};
 ghost use Rattle.zone_entries.specs.Signs.{first_place};
-ghost use Rattle.zone_entries.specs.Entries.{fault_at, too_long, opens_at, closes_at, open_after, size_after, size_at_end};
+ghost use Rattle.zone_entries.specs.Entries.{entry_limit, fault_at, too_long, opens_at, closes_at, open_after, size_after, size_at_end};
 
 use crate::fault::{EntryFault, EntryReason};
 use crate::place::Place;
@@ -83,4 +83,11 @@ pub(crate) fn size_after(sign: Sign, group: Option<Place>, size: u32) -> u32
         Sign::Quote | Sign::Octet(_) => size + 1,
         Sign::Blank | Sign::Opens | Sign::Closes | Sign::Unquote | Sign::Wrong(_) => size,
     }
+}
+
+/// How many octets of words an entry may have besides so many.
+pub(crate) fn room_for(size: u32) -> usize
+    ensures { result ≡ entry_limit - size }
+{
+    ENTRY_LIMIT.saturating_sub(size) as usize
 }

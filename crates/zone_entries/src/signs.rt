@@ -1,6 +1,6 @@
 //! What each octet of a text stands for.
-ghost use Rattle.std.specs.Prelude.{◌≡◌, true, false};
-ghost use Rattle.zone_entries.specs.Signs.{sign_of, plain_sign, mode_after, joins, fault_at_end, escaped_sign};
+ghost use Rattle.std.specs.Prelude.{◌≡◌, ◌≤◌, ◌<◌, ℕ, true, false, length, slice_index};
+ghost use Rattle.zone_entries.specs.Signs.{sign_of, plain_sign, mode_after, goes_on, joins, fault_at_end, escaped_sign};
 
 use crate::fault::{EntryFault, EntryReason};
 use crate::place::Place;
@@ -87,6 +87,34 @@ impl Mode {
                 _ => Mode::InComment,
             },
         }
+    }
+
+    /// Whether an octet is one of a word, wherever it stands, and the next stands behind the same mode.
+    fn goes_on(self, octet: u8) -> bool
+        ensures { result ≡ goes_on self octet }
+    {
+        match self {
+            Mode::Plain => !matches!(
+                octet,
+                b' ' | b'\t' | b';' | b'\n' | b'\r' | b'(' | b')' | b'"' | b'\\'
+            ),
+            Mode::InQuotes(_) => !matches!(octet, b'"' | b'\n' | b'\\'),
+            Mode::Escape | Mode::EscapeInQuotes(_) | Mode::InComment => false,
+        }
+    }
+
+    /// How many octets at the front of a text go on so, up to a number.
+    pub(crate) fn run_length(self, text: &[u8], most: usize) -> usize
+        ensures within { result ≤ length text.now }
+        ensures most { result ≤ most }
+        ensures go_on { (k : ℕ) → k < result → goes_on self (slice_index text.now k) ≡ true }
+    {
+        for (i, octet) in text.iter().enumerate() {
+            if i == most || !self.goes_on(*octet) {
+                return i;
+            }
+        }
+        text.len()
     }
 
     /// Why a text may not end at a place, if it may not.

@@ -1,10 +1,10 @@
 //! Whether a zone can be made of records.
-ghost use Rattle.std.specs.Prelude.{◌≡◌, ◌==◌, not, length, map, IfOk, IsOkUnless, option_copied};
+ghost use Rattle.std.specs.Prelude.{◌≡◌, ◌==◌, false, not, length, map, IfOk, IsOkUnless, option_copied};
 ghost use Rattle.std.specs.List.{find};
 ghost use Rattle.std.specs.List.Sorted.{IsStrictlySortedBy};
 ghost use Rattle.std.specs.Map.{keys_of};
 ghost use Rattle.zone_proto.specs.Keys.{key_cmp};
-ghost use Rattle.zone_proto.specs.Names.{name_eq};
+ghost use Rattle.zone_proto.specs.Names.{Name as NameLabels, name_eq};
 ghost use Rattle.zone_proto.specs.Sets.{is_single};
 ghost use Rattle.zone_loading.specs.Faults.{TellsFault, beside_fault, class_fault, count_fault, has_other_data, is_other_class, place_fault, stands_beside_cname};
 ghost use Rattle.zone_loading.specs.GroupFaults.{first_fault, group_fault, has_cname};
@@ -42,19 +42,34 @@ pub(crate) fn check_groups(
     ensures fault { TellsFault result (first_fault origin.now groups.now groups.now.entries) }
     ensures ordered { IsStrictlySortedBy key_cmp (keys_of groups.now.entries) }
 {
+    let are_cnames = are_cnames(groups);
     for (key, group) in groups {
-        check_group(origin, groups, key, group)?;
+        check_group(origin, groups, are_cnames, key, group)?;
     }
     Ok(())
+}
+
+/// Whether there are CNAME. Where there are none, no name has to be looked for among them.
+fn are_cnames(groups: &BTreeMap<RrKey, Group>) -> bool
+    ensures { result ≡ false → (n : NameLabels) → has_cname groups.now n ≡ false }
+{
+    for (key, _) in groups {
+        if key.record_type == RecordType::CNAME {
+            return true;
+        }
+    }
+    false
 }
 
 /// Looks for what is wrong with the set of a group under a key.
 fn check_group(
     origin: &LowerName,
     groups: &BTreeMap<RrKey, Group>,
+    are_cnames: bool,
     key: &RrKey,
     group: &Group,
 ) -> Result<(), LoadFault>
+    requires { are_cnames ≡ false → (n : NameLabels) → has_cname groups.now n ≡ false }
     ensures { TellsFault result (group_fault origin.now groups.now key.now group.now) }
 {
     let Some((first, others)) = group.records.as_slice().split_first() else {
@@ -62,7 +77,7 @@ fn check_group(
     };
     check_place(origin, key, first)?;
     check_count(key, first, others)?;
-    check_beside(groups, key, first)
+    check_beside(groups, are_cnames, key, first)
 }
 
 /// Looks for an SOA below the origin.
@@ -108,13 +123,18 @@ fn other_data<'o>(first: &GivenRecord, others: &'o [GivenRecord]) -> Option<&'o 
 /// Looks for a CNAME at the name of a set that may not stand beside one.
 fn check_beside(
     groups: &BTreeMap<RrKey, Group>,
+    are_cnames: bool,
     key: &RrKey,
     first: &GivenRecord,
 ) -> Result<(), LoadFault>
+    requires { are_cnames ≡ false → (n : NameLabels) → has_cname groups.now n ≡ false }
     ensures { TellsFault result
         (beside_fault key.now.record_type.0 (has_cname groups.now key.now.name) first.now) }
 {
-    if !stands_beside_cname(key.record_type) && has_cname(groups, &key.name)? {
+    if !are_cnames || stands_beside_cname(key.record_type) {
+        return Ok(());
+    }
+    if has_cname(groups, &key.name)? {
         return Err(LoadFault::BesideCname(RecordAt::of(first)?));
     }
     Ok(())

@@ -1,5 +1,5 @@
 //! The records of a zone by the set that they are of, or sign.
-ghost use Rattle.std.specs.Prelude.{◌≡◌, ◌++◌, ◌∷◌, ◌&&◌, [], None, not, filter, IfOk, OnOk, IsOkUnless};
+ghost use Rattle.std.specs.Prelude.{◌≡◌, ◌++◌, ◌∷◌, ◌&&◌, [], None, true, not, filter, IfOk, OnOk, IsOkUnless};
 ghost use Rattle.std.specs.BTreeMap.{get};
 ghost use Rattle.zone_proto.specs.declared.rr_key.RrKey.{RrKey as Key};
 ghost use Rattle.zone_proto.specs.Keys.{key_cmp, key_eq};
@@ -155,9 +155,23 @@ fn put_behind(
     ensures named { OnOk result (AreNamed groups.old → AreNamed groups.new) }
     ensures err { IsOkUnless result ProtoError.Memory }
 {
+    if comes_last(groups, &key) {
+        return put_first(groups, key, given);
+    }
     match groups.get_mut(&key) {
         Some(group) => group.push(given),
         None => put_first(groups, key, given),
+    }
+}
+
+/// Whether a key stands behind all others. Where records come in canonical order, as signers write them, most do that begin a
+/// set: one comparison tells it, where a walk takes many.
+fn comes_last(groups: &BTreeMap<RrKey, Group>, key: &RrKey) -> bool
+    ensures { result ≡ true → get key_cmp groups.now key.now ≡ None }
+{
+    match groups.last_key_value() {
+        Some((last, _)) => last < key,
+        None => true,
     }
 }
 

@@ -1,8 +1,9 @@
 -- A word that isn't text is none of a registry: the words of these have ASCII octets alone.
-use Rattle.std.proofs.Common.{◌≡◌, ◌<◌, ℕ, List, [], ◌∷◌, Bool, true, false, ◌&&◌, nat_lt, if◌then◌else◌, refl, sym, subst, arith, Option, Some, None}
+use Rattle.std.proofs.Common.{◌≡◌, ◌<◌, ℕ, List, [], ◌∷◌, Bool, true, false, ◌&&◌, ◌==◌, nat_lt, if◌then◌else◌, refl, sym, ap, ◌∙◌, subst, arith, Option, Some, None}
 use Rattle.std.specs.Str.{IsAscii, IsUtf8, bytes_eq}
 use Rattle.std.specs.List.{list_all}
 use Rattle.std.specs.Prelude.{option_map}
+use Rattle.std.specs.Char.{to_ascii_uppercase}
 use Rattle.std.proofs.lemmas.Bool.Decides.{leb_tells}
 use Rattle.std.proofs.lemmas.Str.{IsUtf8-from_ascii}
 use Rattle.std.proofs.lemmas.Str.Ascii.{IsAscii-nil, IsAscii-cons}
@@ -10,7 +11,7 @@ use Rattle.std.proofs.lemmas.Slice.Eq.{bytes_eq-Decides}
 use Rattle.zone_proto.specs.declared.record_type.RecordType.{RecordType}
 use Rattle.zone_proto.specs.TypeText.{Word, number_of, or_else, type_of_text}
 use Rattle.zone_text.proofs.Ascii.{type_ascii}
-use Rattle.zone_words.specs.Types.{algorithm_words, class_words, class_by_number, first_words, further_type, last_words, second_words, third_words, type_by_number, upper_class, upper_type}
+use Rattle.zone_words.specs.Types.{algorithm_words, class_words, class_by_number, first_words, further_type, last_words, second_words, third_words, type_by_number, type_named, class_named, upper, upper_class, upper_type}
 
 abbrev small : ℕ → Bool
 small b = nat_lt b 128
@@ -21,11 +22,11 @@ are_small ws = list_all (λ w. list_all small w.text) ws
 small_octet : (b : ℕ) → small b ≡ true → b < 128
 small_octet b h = grind (arith, leb_tells)
 
-and_first : (a b : Bool) → (a && b) ≡ true → a ≡ true
+pub and_first : (a b : Bool) → (a && b) ≡ true → a ≡ true
 and_first true b h = refl
 and_first false b h = h
 
-and_second : (a b : Bool) → (a && b) ≡ true → b ≡ true
+pub and_second : (a b : Bool) → (a && b) ≡ true → b ≡ true
 and_second true b h = h
 and_second false b h = absurd (grind arith)
 
@@ -86,5 +87,22 @@ known_type t r h = rw (sym h) refl
 
 pub other_type : (t : List ℕ) → None ≡ type_of_text t → upper_type t ≡ option_map type_by_number (further_type t)
 other_type t h = rw (sym h) refl
+
+-- ---- a word that has no letter in lower case
+
+same_octet : (a b : ℕ) → (a == b) ≡ true → a ≡ b
+same_octet a b h = grind arith
+
+upper_itself : (w : List ℕ) → list_all (λ b. to_ascii_uppercase b == b) w ≡ true → upper w ≡ w
+upper_itself [] h = refl
+upper_itself (b ∷ w) h =
+    ap (λ (c : ℕ). c ∷ upper w) (same_octet (to_ascii_uppercase b) b (and_first _ _ h))
+    ∙ ap (λ (t : List ℕ). b ∷ t) (upper_itself w (and_second _ _ h))
+
+pub type_as_is : (w : List ℕ) → list_all (λ b. to_ascii_uppercase b == b) w ≡ true → upper_type w ≡ type_named w
+type_as_is w h = ap upper_type (sym (upper_itself w h))
+
+pub class_as_is : (w : List ℕ) → list_all (λ b. to_ascii_uppercase b == b) w ≡ true → upper_class w ≡ class_named w
+class_as_is w h = ap upper_class (sym (upper_itself w h))
 
 pub ruleset types = (type_not_text, known_type, other_type)

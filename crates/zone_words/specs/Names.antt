@@ -1,12 +1,13 @@
 -- Names as master files write them (RFC 1035 section 5.1)
-use Rattle.std.specs.Prelude.{◌≡◌, ℕ, ◌==◌, List, [], ◌∷◌, ◌++◌, Bool, false, Option, Some, None, Result, Ok, Err, if◌then◌else◌}
+use Rattle.std.specs.Prelude.{◌≡◌, ℕ, ◌==◌, List, [], ◌∷◌, ◌++◌, Bool, false, ◌&&◌, not, length, Option, Some, None, Result, Ok, Err, if◌then◌else◌}
+use Rattle.std.specs.List.{list_all}
 use Rattle.zone_proto.specs.declared.error.ProtoError.{ProtoError}
 use Rattle.zone_proto.specs.declared.error.ProtoError.TheVariants.{BadText, Memory, EmptyLabel, LabelTooLong, NameTooLong, Hash}
 use Rattle.zone_proto.specs.Names.{Name}
 use Rattle.zone_proto.specs.Data.{same_octets}
 use Rattle.zone_proto.specs.Faults.{fault_of}
 use Rattle.zone_proto.specs.Parse.{labels_of_text}
-use Rattle.zone_proto.specs.TextForm.{dot, backslash}
+use Rattle.zone_proto.specs.TextForm.{dot, backslash, is_graphic}
 
 -- `@` stands for the origin
 abbrev pub at_sign : List ℕ
@@ -17,6 +18,14 @@ abbrev pub is_absolute : List ℕ → Bool
 is_absolute [] = false
 is_absolute (b ∷ []) = b == dot
 is_absolute (b ∷ c ∷ s) = if b == backslash then is_absolute s else is_absolute (c ∷ s)
+
+-- an octet of a name's text is itself (`TextForm`): it is graphic, no dot and no backslash
+abbrev pub is_itself : ℕ → Bool
+is_itself b = is_graphic b && (not (b == dot) && not (b == backslash))
+
+-- a word is the text of one label, in which each octet is itself
+abbrev pub is_one_label : List ℕ → Bool
+is_one_label w = not (length w == 0) && list_all is_itself w
 
 -- labels, or the fault that keeps them from being a name
 abbrev pub unless : Option ProtoError → Name → Result Name ProtoError

@@ -1,7 +1,8 @@
 //! Names as master files write them.
-ghost use Rattle.std.specs.Prelude.{◌≡◌, ◌++◌, Some, None, Ok, Err, IfOk, OnOk, IsOkUnless};
+ghost use Rattle.std.specs.Prelude.{◌≡◌, ◌∷◌, ◌++◌, Some, None, Ok, Err, IfOk, OnOk, IsOkUnless};
+ghost use Rattle.std.specs.List.{list_all};
 ghost use Rattle.zone_proto.specs.Vectors.{octets_of};
-ghost use Rattle.zone_words.specs.Names.{Reads, before_origin, checked, is_absolute, name_alone, name_under};
+ghost use Rattle.zone_words.specs.Names.{Reads, before_origin, checked, is_absolute, is_itself, is_one_label, name_alone, name_under};
 
 use std::alloc::{AllocError, Global};
 use std::str;
@@ -20,6 +21,9 @@ pub fn read_name_under(alloc: Global, origin: &Name, word: &[u8]) -> Result<Name
     if word == b"@".as_slice() {
         return Ok(copy(origin)?);
     }
+    if is_one_label(word) {
+        return label_before(word, origin);
+    }
     if is_absolute(word) {
         read_name(alloc, word)
     } else {
@@ -34,6 +38,38 @@ fn copy(name: &Name) -> Result<Name, AllocError>
     match name.clone() {
         Ok(copy) => Ok(copy),
         Err(_) => Err(AllocError),
+    }
+}
+
+/// Whether a word is the text of one label, in which each octet is itself.
+fn is_one_label(word: &[u8]) -> bool
+    ensures { result ≡ is_one_label word.now }
+{
+    !word.is_empty() && are_themselves(word)
+}
+
+/// Whether each octet of a name's text is itself.
+fn are_themselves(text: &[u8]) -> bool
+    ensures { result ≡ list_all is_itself text.now }
+{
+    text.iter().all(|octet| is_itself(*octet))
+}
+
+/// Whether an octet of a name's text is itself: it is graphic, no dot and no backslash.
+fn is_itself(octet: u8) -> bool
+    ensures { result ≡ is_itself octet }
+{
+    octet.is_ascii_graphic() && octet != b'.' && octet != b'\\'
+}
+
+/// A label with the origin behind it.
+#[tactic(auto, using(crate::proofs::NameFacts::checks))]
+fn label_before(label: &[u8], origin: &Name) -> Result<Name, ProtoError>
+    ensures { Reads result (checked (label.now ∷ origin.now)) }
+{
+    match origin.prepend_label(label) {
+        Ok(name) => Ok(name),
+        Err(error) => Err(error),
     }
 }
 

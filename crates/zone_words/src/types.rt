@@ -1,5 +1,7 @@
 //! Types, classes and algorithms.
-ghost use Rattle.std.specs.Prelude.{◌≡◌, Some, None, IfOk, option_map};
+ghost use Rattle.std.specs.Prelude.{◌≡◌, ◌==◌, Some, None, IfOk, option_map};
+ghost use Rattle.std.specs.Char.{to_ascii_uppercase};
+ghost use Rattle.std.specs.List.{list_all};
 ghost use Rattle.zone_proto.specs.TypeText.{number_of};
 ghost use Rattle.zone_words.specs.Types.{algorithm_named, algorithm_words, class_named, further_type, type_by_number, type_named, upper, upper_class, upper_type};
 
@@ -11,18 +13,26 @@ use zone_text::read_u8;
 
 /// Reads a type by its word in the registry of types, in any case, or as `TYPE` and its number (RFC 3597 section 5). None where
 /// the word is neither.
+#[tactic(auto, using(crate::proofs::WordTexts::type_as_is))]
 pub fn read_type_word(alloc: Global, word: &[u8]) -> Result<Option<RecordType>, AllocError>
     ensures { IfOk result (λ t. t ≡ type_named word.now) }
 {
+    if is_upper(word) {
+        return Ok(type_of(word));
+    }
     let upper = to_upper(alloc, word)?;
     Ok(type_of(upper.as_slice()))
 }
 
 /// Reads a class by its word, in any case: `IN`, `CH`, `HS`, or `CLASS` and the number of one of these (RFC 3597 section 5).
 /// None where the word is neither.
+#[tactic(auto, using(crate::proofs::WordTexts::class_as_is))]
 pub fn read_class(alloc: Global, word: &[u8]) -> Result<Option<DNSClass>, AllocError>
     ensures { IfOk result (λ c. c ≡ class_named word.now) }
 {
+    if is_upper(word) {
+        return Ok(class_of(word));
+    }
     let upper = to_upper(alloc, word)?;
     Ok(class_of(upper.as_slice()))
 }
@@ -46,6 +56,14 @@ pub fn to_upper(alloc: Global, word: &[u8]) -> Result<Vec<u8>, AllocError>
     word.iter()
         .map(|octet| octet.to_ascii_uppercase())
         .collect(alloc)
+}
+
+/// Whether a word is its own copy in upper case.
+fn is_upper(word: &[u8]) -> bool
+    ensures { result ≡ list_all (λ b. to_ascii_uppercase b == b) word.now }
+{
+    word.iter()
+        .all(|octet| octet.to_ascii_uppercase() == *octet)
 }
 
 /// The type that a word in upper case names.
