@@ -7,10 +7,9 @@
  *
  *  - An nk_zones is set to NK_ZONES_NONE before its first call, and from then on only the calls below write it. It isn't copied and used
  *    in both places: to move it, copy it and set the old one to NK_ZONES_NONE. What it points to is the library's alone.
- *  - An nk_zones is used by one call at a time, questions too: a call has the zones to itself while it lasts. It may go from one thread
- *    to another: by a lock, by a thread's start or end, or by a sequentially consistent atomic. Several nk_zones are independent
- *    of one another: so a server with several threads or processes gives each an nk_zones of its own, and loads the zones into each; to
- *    renew them, another thread loads a new nk_zones meanwhile and hands it over. No call is made from a signal handler, nor in the
+ *  - An nk_zones is used by one call at a time, questions too: a call has it to itself while it lasts. It may go from one thread to
+ *    another: by a lock, by a thread's start or end, or by a sequentially consistent atomic. Calls of different nk_zones may run at the
+ *    same time, also where nk_zones_copy gave them the same zones ("Threads", below). No call is made from a signal handler, nor in the
  *    child of a fork of a process with several threads.
  *  - No pointer is NULL, also where the length behind it is 0. A pointer and a length are of that many octets that are there and set (a
  *    room too: calloc it, or memset it once), fewer than 2^63. What a call writes overlaps no other argument.
@@ -24,6 +23,31 @@
  *  - A call that tells anything but NK_DONE has changed no zone. What it leaves in the room stands at each call.
  *  - NK_NO_MEMORY may come at each call that has a code, and nothing is lost then: the same call may be made again.
  *  - Zones that were freed, or never made, are NK_CLOSED, and no fault. They may be freed again.
+ *
+ * Threads
+ *
+ *    Each thread that answers has an nk_zones of its own, which nk_zones_copy makes of one that was loaded: no zone is read or kept twice,
+ *    and no answer waits for another thread. To renew zones while answers go on, one thread loads them into a copy, puts that in the place
+ *    of the nk_zones that all are copied of, and each other thread then copies that one over its own. What all copy is used under a lock,
+ *    since a copy too has both to itself; the lock isn't held while a zone is read:
+ *
+ *        the thread that loads                          each thread that answers, between two queries
+ *
+ *        nk_zones fresh = NK_ZONES_NONE, old;
+ *        lock();                                        if (seen != renewed) {                          an atomic number
+ *        nk_zones_copy(&loaded, &fresh);                    lock();
+ *        unlock();                                          if (nk_zones_copy(&loaded, &own) == NK_DONE) seen = renewed;
+ *        nk_zones_load(&fresh, ..);                         unlock();
+ *        lock();                                        }
+ *        old = loaded, loaded = fresh, renewed++;       nk_zones_answer(&own, ..);
+ *        unlock();
+ *        nk_zones_free(&old);
+ *
+ *    A zone that was taken out or replaced is freed with the last nk_zones that has it, by the thread whose call that is. That an nk_zones
+ *    may go to another thread with what it shares is proved; that a program locks as above isn't, and nothing checks it.
+ *
+ *    Processes share no zones. Each loads its own: after the fork, or before it where the process has one thread. With SO_REUSEPORT each has
+ *    sockets of its own at one port; to renew zones, start a new process, and let the old one end once that listens.
  */
 #ifndef NINGKRAET_H
 #define NINGKRAET_H
@@ -70,7 +94,12 @@ uint32_t nk_interface(void);
  * NK_DONE, or NK_NO_MEMORY, at which what was there stays. */
 uint32_t nk_zones_new(nk_zones *zones);
 
-/* Frees the zones, if there are any. There are none then. */
+/* Gives another nk_zones the zones of this one, in the place of what is there, which is freed. Each zone is in memory once; what is put into
+ * or taken out of one of the two afterwards, the other doesn't see. It takes time and memory by the number of zones, and not by what is in
+ * them. NK_DONE, NK_NO_MEMORY or NK_CLOSED; at any but NK_DONE the other stays as it was. */
+uint32_t nk_zones_copy(nk_zones *zones, nk_zones *other);
+
+/* Frees the zones, if there are any, but for those that another nk_zones has too. There are none then. */
 void nk_zones_free(nk_zones *zones);
 
 /* Reads the text of a zone file (RFC 1035 section 5), and puts its zone in the place of the zone of this origin, or beside the others.

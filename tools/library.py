@@ -46,10 +46,11 @@ def installed(name, archive, kit, room):
 
 # ---- a library that is compiled without proofs
 
-# What a parameter of an export is handed by the program that calls each export once, so that none is left out.
+# What a parameter of an export is handed by the program that calls each export once, so that none is left out. A handle has the name of
+# its parameter, as one call takes two.
 WORDS = {
     "Global": "alloc",
-    "&mut Handle": "&mut zones",
+    "&mut Handle": "&mut {}",
     "&[u8]": "&text",
     "&mut [u8]": "&mut room",
     "&mut usize": "&mut written",
@@ -59,7 +60,7 @@ WORDS = {
 PROGRAM = """
 fn main(rt: HostRuntime) -> std::process::ExitCode {{
     let alloc = rt.alloc();
-    let mut zones = Handle::empty(alloc);
+    let (mut zones, mut other) = (Handle::empty(alloc), Handle::empty(alloc));
     let (text, mut room, mut written, mut serial) = ([0u8; 8], [0u8; 8], 0usize, 0u32);
     let mut code = 0u32;
 {calls}    std::process::ExitCode::from(code.min(9) as u8)
@@ -71,8 +72,9 @@ def as_program(name):
     """The source of a static library as that of a program that calls each of its exports."""
     text, calls = sources.read(f"crates/{name}/src/lib.rt"), ""
     for export, parameters, result in re.findall(r'extern "C" fn (\w+)\(([^)]*)\)( -> u32)?', text):
-        kinds = [it.split(":", 1)[1].strip() for it in parameters.split(",") if it.strip()]
-        call = f"{export}({', '.join(WORDS.get(it, '0') for it in kinds)})"
+        named = [it.split(":", 1) for it in parameters.split(",") if it.strip()]
+        words = [WORDS.get(kind.strip(), "0").format(name.strip()) for name, kind in named]
+        call = f"{export}({', '.join(words)})"
         calls += f"    code = code.max({call});\n" if result else f"    {call};\n"
     return text + PROGRAM.format(calls=calls)
 

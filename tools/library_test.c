@@ -1,7 +1,11 @@
-/* Each allocation of a session with the library fails in turn: the call that it is for says so and changes nothing, or does without, and
- * it succeeds when it is made again. Then, with a number as its argument, that many datagrams, which are queries with octets turned, are answered.
- *     cc library_test.c $(pkg-config --cflags --libs ningkraet) -Wl,--wrap=malloc,--wrap=realloc
- * With NOT_WRAPPED, as beside a sanitizer, which has a malloc of its own, none fails. */
+/* What the library for C tells, call by call, and what memory does to it.
+ *
+ *     cc library_test.c $(pkg-config --cflags --libs ningkraet) -Wl,--wrap=malloc,--wrap=realloc -o library_test
+ *     ./library_test [DATAGRAMS]
+ *
+ * Each refusal is made; then each allocation of each call fails in turn: the call says so and changes nothing, or does without, and it
+ * succeeds when it is made again. Then so many datagrams, which are queries with octets turned, are answered. With NOT_WRAPPED, as beside
+ * a sanitizer, which has a malloc of its own, no allocation fails. */
 #include <ningkraet.h>
 #include <stdio.h>
 #include <stdlib.h>
@@ -16,55 +20,148 @@ void *__wrap_malloc(size_t size) { return fails() ? NULL : __real_malloc(size); 
 void *__wrap_realloc(void *block, size_t size) { return fails() ? NULL : __real_realloc(block, size); }
 #endif
 
-static const char *const origin = "a-name-of-more-than-thirty-three-octets.example";
-static const char *const text = "$TTL 60\n@ SOA ns host 7 2 3 4 5\n@ NS ns\nns A 192.0.2.1\nwww TXT \"a\" \"b\"\n*.wild 30 A 192.0.2.2\n*.wild A 192.0.2.3\n";
+#define ORIGIN "a-name-of-more-than-thirty-three-octets.example"
+static const char *const text =
+    "$TTL 60\n@ SOA ns host 7 2 3 4 5\n@ NS ns\n@ MX 5 www\nns A 192.0.2.1\nwww TXT \"a\" \"b\"\nwww A 192.0.2.4\n"
+    "cut NS ns.cut\nns.cut A 192.0.2.5\nalias CNAME www\n*.wild 30 A 192.0.2.2\n*.wild A 192.0.2.3\n";
+static const char *const bad_text = "$TTL 60\n@ SOA ns host 7 2 3 4 5\n@ NS ns\nns A 192.0.2\n";
+static const char *const told_of_it = ORIGIN ":4:6: ";
 static uint8_t room[65535], before[65535];
-static const uint8_t query[] = "\1\2\1\0\0\1\0\0\0\0\0\1\3www\47a-name-of-more-than-thirty-three-octets\7example\0\0\20\0\1\0\0\51\4\320\0\0\200\0\0\0";
 
-/* One call of the session, by its number. A room that isn't written has to stay as it was. */
-static uint32_t call(nk_zones *zones, int number) {
-    size_t written = 9, length = strlen(origin);
-    uint32_t serial = 8, code = NK_DONE;
-    const uint8_t *name = (const uint8_t *)origin, *file = (const uint8_t *)text;
-    memset(room, 85, sizeof room);
-    if (number == 0) return nk_zones_new(zones);
-    if (number == 1) code = nk_zones_load(zones, name, length, file, strlen(text), room, sizeof room, &written);
-    if (number == 2) code = nk_zones_load(zones, name, length, file, strlen(text) - 9, room, sizeof room, &written);
-    if (number == 3) code = nk_zones_add(zones, (const uint8_t *)"other.example", 13, file, strlen(text), room, sizeof room, &written);
-    if (number == 4) return (code = nk_zones_serial(zones, name, length, &serial)) == NK_DONE && serial != 7 ? 99 : code != NK_DONE && serial != 8 ? 98 : code;
-    if (number == 5) code = nk_zones_answer(zones, 0, query, sizeof query - 1, 1232, NK_UDP, room, sizeof room, &written);
-    if (number == 6) return nk_zones_drop(zones, (const uint8_t *)"other.example", 13);
-    if (code == NK_NO_MEMORY && (written || memcmp(room, before, sizeof room))) return 97;
-    return code;
+/* A query for a type at a label below the origin, with an OPT record that asks for DNSSEC, and its length. */
+static size_t query_of(uint8_t *query, const char *label, int type) {
+    static const uint8_t head[] = {1, 2, 1, 0, 0, 1, 0, 0, 0, 0, 0, 1}, opt[] = {0, 0, 41, 4, 208, 0, 0, 128, 0, 0, 0};
+    static const char rest[] = "\47" "a-name-of-more-than-thirty-three-octets" "\7" "example";
+    size_t length = strlen(label);
+    memcpy(query, head, 12);
+    query[12] = length;
+    memcpy(query + 13, label, length);
+    memcpy(query + 13 + length, rest, sizeof rest);
+    length += 13 + sizeof rest;
+    query[length] = type >> 8, query[length + 1] = type, query[length + 2] = 0, query[length + 3] = 1;
+    memcpy(query + length + 4, opt, sizeof opt);
+    return length + 4 + sizeof opt;
 }
 
-static const uint32_t wanted[] = {NK_DONE, NK_DONE, NK_BAD_TEXT, NK_DONE, NK_DONE, NK_DONE, NK_DONE};
+static uint32_t load(nk_zones *zones, int is_new, const char *origin, const char *file, size_t *written) {
+    uint32_t (*const call)(nk_zones *, const uint8_t *, size_t, const uint8_t *, size_t, uint8_t *, size_t, size_t *) = is_new ? nk_zones_add : nk_zones_load;
+    return call(zones, (const uint8_t *)origin, strlen(origin), (const uint8_t *)file, strlen(file), room, sizeof room, written);
+}
 
-int main(int argc, char **argv) {
-    long refused = 0, done = 0, count = argc > 1 ? atol(argv[1]) : 0, codes[10] = {0};
-    nk_zones zones = NK_ZONES_NONE;
-    memset(before, 85, sizeof before);
-    for (int number = 0; number < 7; number++)
+static uint32_t drop(nk_zones *zones, const char *origin) { return nk_zones_drop(zones, (const uint8_t *)origin, strlen(origin)); }
+
+static uint32_t serial(nk_zones *zones, const char *origin, uint32_t *number) { return nk_zones_serial(zones, (const uint8_t *)origin, strlen(origin), number); }
+
+static uint32_t answer(nk_zones *zones, const char *label, int type, uint32_t transport, size_t space, size_t *written) {
+    uint8_t query[128];
+    size_t length = query_of(query, label, type);
+    return nk_zones_answer(zones, 0, query, length, 1232, transport, room, space, written);
+}
+
+static int is_untouched(void) { return !memcmp(room, before, sizeof room); }
+
+#define IS(fact) do { if (!(fact)) return printf("line %d: not so: %s\n", __LINE__, #fact), 1; } while (0)
+
+/* Each refusal, with what it leaves. */
+static int refusals(void) {
+    nk_zones zones = NK_ZONES_NONE, other = NK_ZONES_NONE;
+    size_t written = 9;
+    uint32_t number = 8;
+    memset(room, 85, sizeof room);
+    IS(load(&zones, 0, ORIGIN, text, &written) == NK_CLOSED && !written && is_untouched());
+    IS(load(&zones, 1, ORIGIN, text, &written) == NK_CLOSED && !written && is_untouched());
+    IS(drop(&zones, ORIGIN) == NK_CLOSED && serial(&zones, ORIGIN, &number) == NK_CLOSED && number == 8);
+    IS(answer(&zones, "www", 1, NK_UDP, 1232, &written) == NK_CLOSED && !written && nk_zones_copy(&zones, &other) == NK_CLOSED);
+    IS(nk_zones_new(&zones) == NK_DONE && drop(&zones, ORIGIN) == NK_NO_ZONE && serial(&zones, ORIGIN, &number) == NK_NO_ZONE && number == 8);
+    IS(load(&zones, 0, "a..b", text, &written) == NK_BAD_NAME && !written && drop(&zones, "a..b") == NK_BAD_NAME && is_untouched());
+    IS(serial(&zones, "a..b", &number) == NK_BAD_NAME && number == 8);
+    IS(load(&zones, 0, ORIGIN, text, &written) == NK_DONE && load(&zones, 1, ORIGIN, text, &written) == NK_ZONE_EXISTS && !written);
+    IS(load(&zones, 0, ORIGIN, bad_text, &written) == NK_BAD_TEXT && written > 60 && !memcmp(room, told_of_it, strlen(told_of_it)) && room[written - 1] == '\n');
+    IS(load(&zones, 0, "b.example", "@ 1 SOA a b 1 2 3 4 5\nc.example. 1 A 192.0.2.1\n", &written) == NK_DONE && written);   /* outside of it: a warning */
+    IS(load(&zones, 0, "c.example", "b.example. 1 SOA a b 1 2 3 4 5\n", &written) == NK_BAD_TEXT && written);                  /* of another origin */
+    IS(serial(&zones, ORIGIN, &number) == NK_DONE && number == 7 && serial(&zones, "c.example", &number) == NK_NO_ZONE && number == 7);
+    memset(room, 85, sizeof room);
+    IS(answer(&zones, "www", 1, 2, 1232, &written) == NK_BAD_TRANSPORT && !written && is_untouched());
+    IS(answer(&zones, "www", 1, NK_UDP, 20, &written) == NK_NO_ROOM && written > 20 && is_untouched());
+    IS(nk_zones_answer(&zones, 0, room, 11, 1232, NK_UDP, room + 20, 20, &written) == NK_IGNORED && !written && is_untouched());
+    IS(nk_zones_copy(&zones, &other) == NK_DONE && drop(&zones, ORIGIN) == NK_DONE && drop(&zones, ORIGIN) == NK_NO_ZONE);
+    IS(answer(&zones, "www", 1, NK_UDP, 1232, &written) == NK_DONE && (room[3] & 15) == 5 && serial(&other, ORIGIN, &number) == NK_DONE);
+    nk_zones_free(&zones), nk_zones_free(&zones);
+    IS(answer(&other, "www", 1, NK_UDP, 1232, &written) == NK_DONE && !(room[3] & 15) && room[7] == 1);
+    IS(nk_zones_copy(&zones, &other) == NK_CLOSED && serial(&other, "b.example", &number) == NK_DONE && number == 1);
+    nk_zones_free(&other);
+    return 0;
+}
+
+/* The calls of the session, by their numbers; and what is asked for. */
+static const char *const labels[] = {"www", "nowhere", "a.cut", "alias", "a.wild", "www"};
+static const int types[] = {16, 1, 1, 1, 1, 15};
+enum { NEW, LOAD, LOAD_BAD, ADD, SERIAL, COPY, DROP, ANSWER, CALLS = ANSWER + 6 };
+
+/* A copy has the zones, or the other stays as it was. */
+static uint32_t copied(nk_zones *zones, nk_zones *other) {
+    uint32_t number, code = nk_zones_copy(zones, other);
+    long rest = left;
+    left = -1;   /* no allocation of what looks at it fails */
+    int is_well = serial(other, ORIGIN, &number) == (code == NK_DONE ? NK_DONE : NK_CLOSED);
+    left = rest;
+    return is_well ? code : 96;
+}
+
+/* Makes a call. A room that isn't written has to stay as it was, and what a call doesn't change too. */
+static uint32_t call(nk_zones *zones, nk_zones *other, int number) {
+    size_t written = 9;
+    uint32_t of = 8, code = NK_DONE;
+    memset(room, 85, sizeof room);
+    if (number == NEW) return nk_zones_new(zones);
+    if (number == DROP) return drop(zones, "other.example");
+    if (number == COPY) return copied(zones, other);
+    if (number == SERIAL) return (code = serial(zones, ORIGIN, &of)) == NK_DONE && of != 7 ? 99 : code != NK_DONE && of != 8 ? 98 : code;
+    if (number == LOAD || number == LOAD_BAD) code = load(zones, 0, ORIGIN, number == LOAD ? text : bad_text, &written);
+    if (number == ADD) code = load(zones, 1, "other.example", text, &written);
+    if (number >= ANSWER) code = answer(zones, labels[number - ANSWER], types[number - ANSWER], NK_UDP, sizeof room, &written);
+    return code == NK_NO_MEMORY && (written || !is_untouched()) ? 97 : code;
+}
+
+/* Has each allocation of each call fail in turn. */
+static int failures(nk_zones *zones) {
+    long refused = 0, done = 0;
+    for (int number = 0; number < CALLS; number++)
         for (long nth = 1;; nth++) {
-            if (number == 3 || number == 6) call(&zones, 9 - number);
+            nk_zones other = NK_ZONES_NONE;
+            if (number == ADD) drop(zones, "other.example");
+            if (number == DROP) call(zones, &other, ADD);
             left = nth;
-            uint32_t code = call(&zones, number);
+            uint32_t code = call(zones, &other, number);
             int all_there = left > 0;
             left = -1;
-            if (code != wanted[number] && (all_there || code != NK_NO_MEMORY)) return printf("call %d, allocation %ld: %u\n", number, nth, (unsigned)code), 1;
+            nk_zones_free(&other);
+            if (code != (number == LOAD_BAD ? NK_BAD_TEXT : NK_DONE) && (all_there || code != NK_NO_MEMORY)) return printf("call %d, allocation %ld: %u\n", number, nth, (unsigned)code), 1;
             if (all_there) break;
             *(code == NK_NO_MEMORY ? &refused : &done) += 1;
         }
     if (refused + done) printf("%ld allocations refused: %ld are told, and %ld calls did without\n", refused + done, refused, done);
+    return 0;
+}
+
+/* Answers queries with octets turned. */
+static int datagrams(nk_zones *zones, long count) {
+    long codes[10] = {0};
     for (long n = 0; n < count; n++) {
-        uint8_t turned[sizeof query];
-        size_t length = sizeof query - 1, written;
-        memcpy(turned, query, sizeof query);
+        uint8_t turned[128];
+        size_t length = query_of(turned, labels[n % 6], types[n % 6]), written;
         for (int k = rand() % 4; k >= 0; k--) turned[rand() % length] = rand();
         if (rand() % 4 == 0) length = rand() % (length + 1);
-        codes[nk_zones_answer(&zones, n, turned, length, rand() % 4096, rand() % 2, room, sizeof room, &written) % 10]++;
+        codes[nk_zones_answer(zones, n, turned, length, rand() % 4096, rand() % 2, room, sizeof room, &written) % 10]++;
     }
     if (count) printf("of %ld datagrams %ld answered, %ld without an answer\n", count, codes[NK_DONE], codes[NK_IGNORED]);
-    nk_zones_free(&zones);
     return codes[NK_DONE] + codes[NK_IGNORED] != count;
+}
+
+int main(int argc, char **argv) {
+    nk_zones zones = NK_ZONES_NONE;
+    memset(before, 85, sizeof before);
+    int status = refusals() || failures(&zones) || datagrams(&zones, argc > 1 ? atol(argv[1]) : 0);
+    nk_zones_free(&zones);
+    return status;
 }

@@ -1,7 +1,10 @@
 #!/usr/bin/env python3
-"""tools/library_test.py [FOLDER]: tries the library for C from C, and the server over it with clients that are slow, rude or many. FOLDER is
-what `tools/build ningkraet` made; where none is named it is what `tools/program path ningkraet` gives. No part of the gate: it needs cc,
-opens sockets on loopback, and leaves out, and says so, what a machine without valgrind can't do. It ends what it starts."""
+"""tools/library_test.py [FOLDER]: tries the library for C from C: each refusal, each allocation failing in turn, threads that answer from
+the same zones while these are renewed, and the server over it with clients that are slow, rude or many, and with a million datagrams that no
+client would send; once more under the sanitizers of the compiler, and with less under valgrind. FOLDER is what `tools/build ningkraet` made;
+where none is named it is what `tools/program path ningkraet` gives. No part of the gate: it needs cc, opens sockets on loopback, and leaves
+out, and says so, what a machine without valgrind can't do. It ends what it starts."""
+import contextlib
 import os
 import shutil
 import signal
@@ -11,10 +14,33 @@ import subprocess
 import sys
 import tempfile
 import time
+from typing import NamedTuple
+
+sys.dont_write_bytecode = True
+
+from library_datagrams import flood
 
 TOP = os.path.dirname(os.path.dirname(os.path.realpath(__file__)))
-DATAGRAMS, UNDER_VALGRIND = 1_000_000, 20_000
 PORT = 5390
+# What a memory checker reports ends with this status.
+VALGRIND = ["valgrind", "-q", "--error-exitcode=9", "--leak-check=full"]
+
+
+class Way(NamedTuple):
+    """A way to try the library: what is handed to the compiler, before what the program runs, and how much is tried."""
+
+    name: str
+    flags: list[str]
+    before: list[str]
+    datagrams: int
+    renewals: int
+
+
+WAYS = [
+    Way("plain", [], [], 1_000_000, 2000),
+    Way("sanitized", ["-fsanitize=address,undefined", "-fno-sanitize-recover=all"], [], 200_000, 300),
+    Way("under valgrind", [], VALGRIND, 20_000, 50),
+]
 # A query for the SOA of example.com, and one without an answer: it is itself a response.
 QUERY = bytes.fromhex("1234 0100 0001 0000 0000 0000 07") + b"example\3com" + bytes.fromhex("00 0006 0001")
 RESPONSE = QUERY[:2] + b"\x81" + QUERY[3:]
@@ -94,9 +120,7 @@ def a_client_that_does_not_read_is_bounded(front):
             pass
         time.sleep(1)
         datagrams_are_answered()
-        with open(f"/proc/{front.pid}/statm", encoding="ascii") as held:
-            pages = int(held.read().split()[1])
-        assert pages * os.sysconf("SC_PAGESIZE") < 20_000_000, pages
+        assert kilobytes(front) < 20_000, kilobytes(front)
 
 
 def a_thousand_connections_are_served():
@@ -132,25 +156,64 @@ def tried(what, test, *words):
     print(f"library_test: {what.__name__ if callable(what) else what}: ok", flush=True)
 
 
-def try_front(folder, room):
+def compiled(way, folder, source, room, *more):
+    """Compiles a program over the library, and gives its path."""
+    path = f"{room}/{os.path.basename(source)[:-2]}"
+    subprocess.run(["cc", "-O2", "-g", *way.flags, "-o", path, f"{TOP}/{source}", *words_of(folder), *more], check=True)
+    return path
+
+
+def try_calls(way, folder, room):
+    """Refusals, and allocations that fail; a sanitizer has an allocator of its own, whose allocations don't."""
+    more = ["-DNOT_WRAPPED"] if way.flags else ["-Wl,--wrap=malloc,--wrap=realloc"]
+    subprocess.run([*way.before, compiled(way, folder, "tools/library_test.c", room, *more), str(way.datagrams)], check=True)
+
+
+def try_threads(way, folder, room):
+    subprocess.run([*way.before, compiled(way, folder, "tools/library_threads.c", room, "-pthread"), str(way.renewals)], check=True)
+
+
+@contextlib.contextmanager
+def front_of(way, folder, room):
+    """The server over the library, and the file of its zone. It has to end well, with nothing reported."""
     file = f"{room}/example.zone"
     shutil.copyfile(f"{TOP}/examples/example.zone", file)
-    subprocess.run(["cc", "-O2", "-o", f"{room}/front", f"{TOP}/examples/serving/front.c", *words_of(folder)], check=True)
-    front = subprocess.Popen([f"{room}/front", str(PORT), f"example.com.={file}"], stderr=subprocess.PIPE)
+    words = [*way.before, compiled(way, folder, "examples/serving/front.c", room), str(PORT), f"example.com.={file}"]
+    front = subprocess.Popen(words, stderr=subprocess.PIPE)
     try:
         assert b"listening" in front.stderr.readline()
+        yield front, file
+        front.terminate()
+        said = front.communicate(timeout=60)[1].decode()
+        assert front.returncode == 0, said
+    finally:
+        front.kill()
+        front.wait()
+
+
+def kilobytes(process):
+    with open(f"/proc/{process.pid}/statm", encoding="ascii") as held:
+        return int(held.read().split()[1]) * os.sysconf("SC_PAGESIZE") // 1024
+
+
+def try_datagrams(way, folder, room):
+    with front_of(way, folder, room) as (front, _):
+        flood(PORT, 10_000, seed=2)
+        before = kilobytes(front)
+        answered = flood(PORT, way.datagrams)
+        # (a memory checker keeps what was given back for a while)
+        assert way.flags or way.before or kilobytes(front) <= before + 100, (before, kilobytes(front))
+    print(f"library_test: of {way.datagrams} datagrams {answered} were to be answered, and were", flush=True)
+
+
+def try_front(folder, room):
+    with front_of(WAYS[0], folder, room) as (front, file):
         for test in (datagrams_are_answered, queries_of_one_write_are_answered, half_closed_connections_are_answered):
             tried(test, test)
         tried("others_dont_wait", others_dont_wait_for_one_octet_a_second)
         tried("a_slow_reader_is_bounded", a_client_that_does_not_read_is_bounded, front)
         tried("a_thousand_connections", a_thousand_connections_are_served)
         tried("a_changed_file_is_served", a_changed_file_is_served, front, file)
-        front.terminate()
-        assert front.wait(5) == 0
-        print("library_test: SIGTERM ends it: ok")
-    finally:
-        front.kill()
-        front.wait()
 
 
 def words_of(folder):
@@ -162,17 +225,12 @@ def main(words):
     if not shutil.which("cc") or not folder:
         sys.exit("library_test: cc, or the library, isn't there")
     with tempfile.TemporaryDirectory(prefix="library-") as room:
-        wrapped = ["-Wl,--wrap=malloc,--wrap=realloc"]
-        for name, flags in (("plain", []), ("checked", ["-fsanitize=address,undefined"])):
-            made = ["cc", "-g", *flags, "-o", f"{room}/{name}", f"{TOP}/tools/library_test.c", *words_of(folder), *(wrapped if not flags else [])]
-            if flags:
-                made.append("-DNOT_WRAPPED")
-            subprocess.run(made, check=True)
-            subprocess.run([f"{room}/{name}", str(DATAGRAMS)], check=True)
-        if shutil.which("valgrind"):
-            subprocess.run(["valgrind", "-q", "--error-exitcode=9", "--leak-check=full", f"{room}/plain", str(UNDER_VALGRIND)], check=True)
-        else:
-            print("library_test: left out: valgrind isn't there")
+        for way in WAYS:
+            if way.before and not shutil.which(way.before[0]):
+                print("library_test: left out: valgrind isn't there")
+                continue
+            for test in (try_calls, try_threads, try_datagrams):
+                tried(f"{test.__name__}, {way.name}", test, way, folder, room)
         try_front(folder, room)
     return 0
 

@@ -1,72 +1,60 @@
 #!/usr/bin/env python3
-"""embedded.py LIBRARY PORT ORIGIN=FILE..: answers DNS over UDP and TCP on 127.0.0.1, by the library ningkraet, for trying it out.
-
-LIBRARY is libningkraet.so of the folder that `tools/build ningkraet` makes.
-"""
-import asyncio
-import ctypes
+"""embedded.py LIBRARY PORT ORIGIN=FILE..: answers DNS over UDP and TCP on 127.0.0.1, by the library ningkraet, for trying it out: one TCP
+client after the other. LIBRARY is libningkraet.so of the folder that `tools/build ningkraet` makes."""
+import contextlib
+import pathlib
+import socketserver
 import struct
 import sys
+import threading
 import time
+from ctypes import CDLL, byref, c_size_t, c_uint32, c_uint64, c_void_p, create_string_buffer
 
 DONE, INTERFACE, UDP, TCP = 0, 1, 0, 1
 
 
 class Zones:
-    def __init__(self, path):
-        self.library, self.kept, self.written = ctypes.CDLL(path), ctypes.c_void_p(), ctypes.c_size_t()
-        self.room = ctypes.create_string_buffer(65535)
-        octets, size, length = ctypes.c_char_p, ctypes.c_size_t, ctypes.POINTER(ctypes.c_size_t)
-        zones = ctypes.POINTER(ctypes.c_void_p)
-        self.library.nk_zones_new.argtypes = [zones]
-        self.library.nk_zones_load.argtypes = [zones, octets, size, octets, size, octets, size, length]
-        self.library.nk_zones_answer.argtypes = [zones, ctypes.c_uint64, octets, size, size, ctypes.c_uint32, octets, size, length]
-        if self.library.nk_interface() != INTERFACE or self.library.nk_zones_new(self.kept) != DONE:
-            sys.exit("embedded.py: no memory, or a library of another interface")
+    def __init__(self):
+        self.kept, self.room, self.written = c_void_p(), create_string_buffer(65535), c_size_t()
+
+    def call(self, name, *words):
+        """The code of a call, and what it wrote. Octets are handed on as a pointer and a length."""
+        words = [it for word in words for it in ((word, c_size_t(len(word))) if isinstance(word, bytes) else (word,))]
+        code = LIBRARY[name](byref(self.kept), *words, self.room, c_size_t(65535), byref(self.written))
+        return code, self.room.raw[: self.written.value]
 
     def load(self, origin, path):
-        with open(path, "rb") as file:
-            name, text = origin.encode(), file.read()
-        code = self.library.nk_zones_load(self.kept, name, len(name), text, len(text), self.room, len(self.room), self.written)
-        sys.stderr.write(self.room.raw[: self.written.value].decode())
+        code, told = self.call("nk_zones_load", origin.encode(), pathlib.Path(path).read_bytes())
         if code != DONE:
-            sys.exit(f"embedded.py: {origin} isn't loaded: {code}")
+            sys.exit(f"embedded.py: {origin} isn't loaded: {code}: {told.decode()}")
 
     def answer(self, query, transport):
-        code = self.library.nk_zones_answer(
-            self.kept, int(time.time()), query, len(query), 1232, transport, self.room, len(self.room), self.written)
-        return self.room.raw[: self.written.value] if code == DONE else b""
+        return self.call("nk_zones_answer", c_uint64(int(time.time())), query, c_size_t(1232), c_uint32(transport))[1]
 
 
-class Datagrams(asyncio.DatagramProtocol):
-    def connection_made(self, transport):
-        self.transport = transport
-
-    def datagram_received(self, query, client):
-        if response := ZONES.answer(query, UDP):
-            self.transport.sendto(response, client)
+class Datagram(socketserver.BaseRequestHandler):
+    def handle(self):
+        if response := ZONES[UDP].answer(self.request[0], UDP):
+            self.request[1].sendto(response, self.client_address)
 
 
-async def connected(reader, writer):
-    try:
-        while True:
-            (length,) = struct.unpack("!H", await reader.readexactly(2))
-            if response := ZONES.answer(await reader.readexactly(length), TCP):
-                writer.write(struct.pack("!H", len(response)) + response)
-                await writer.drain()
-    except (asyncio.IncompleteReadError, ConnectionError):
-        writer.close()
+class Stream(socketserver.StreamRequestHandler):
+    timeout = 2
 
-
-async def main(port):
-    await asyncio.get_running_loop().create_datagram_endpoint(Datagrams, ("127.0.0.1", port))
-    server = await asyncio.start_server(connected, "127.0.0.1", port)
-    print("embedded.py: listening", file=sys.stderr, flush=True)
-    await server.serve_forever()
+    def handle(self):
+        with contextlib.suppress(OSError):
+            while len(length := self.rfile.read(2)) == 2:
+                if response := ZONES[TCP].answer(self.rfile.read(*struct.unpack("!H", length)), TCP):
+                    self.wfile.write(struct.pack("!H", len(response)) + response)
 
 
 if __name__ == "__main__":
-    ZONES = Zones(sys.argv[1])
+    LIBRARY, here = CDLL(sys.argv[1]), ("127.0.0.1", int(sys.argv[2]))
+    ZONES = [Zones(), Zones()]
+    if LIBRARY.nk_interface() != INTERFACE or LIBRARY.nk_zones_new(byref(ZONES[UDP].kept)) != DONE:
+        sys.exit("embedded.py: no memory, or a library of another interface")
     for word in sys.argv[3:]:
-        ZONES.load(*word.split("=", 1))
-    asyncio.run(main(int(sys.argv[2])))
+        ZONES[UDP].load(*word.split("=", 1))
+    if LIBRARY.nk_zones_copy(byref(ZONES[UDP].kept), byref(ZONES[TCP].kept)) == DONE:
+        threading.Thread(target=socketserver.TCPServer(here, Stream).serve_forever, daemon=True).start()
+        socketserver.UDPServer(here, Datagram).serve_forever()

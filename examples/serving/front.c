@@ -40,6 +40,7 @@ struct connection {
 
 static nk_zones zones = NK_ZONES_NONE;
 static struct connection connections[CONNECTIONS];
+static int in_use;             /* behind the last of them that is open: the kernel looks at no more */
 static unsigned long order;
 static struct pollfd polled[4 + CONNECTIONS];
 static volatile sig_atomic_t stopped, renewed;
@@ -122,6 +123,7 @@ static int take_connection(int listener, time_t now) {
         if (c->fd >= 0 && (other->fd < 0 || other->asked < c->asked)) c = other;
     if (c->fd >= 0) close_connection(c);
     *c = (struct connection){.fd = fd, .moved = now, .asked = ++order, .in = malloc(FRAME)};
+    if (in_use <= c - connections) in_use = c - connections + 1;
     if (!c->in) close_connection(c);
     else setsockopt(fd, IPPROTO_TCP, TCP_NODELAY, &one, sizeof one);
     return 1;
@@ -200,13 +202,14 @@ static int socket_at(int family, int kind, int port) {
 static void serve(char **words, sigset_t *waiting) {
     while (!stopped) {
         int waits = 1000;
-        for (int i = 0; i < CONNECTIONS; i++) {
+        while (in_use && connections[in_use - 1].fd < 0) in_use--;
+        for (int i = 0; i < in_use; i++) {
             struct connection *c = &connections[i];
             polled[4 + i] = (struct pollfd){c->fd, c->left ? POLLOUT : POLLIN, 0};
             if (c->fd >= 0 && !c->left && has_frame(c)) waits = 0;
         }
         struct timespec wait = {waits / 1000, 0};
-        int ready = ppoll(polled, 4 + CONNECTIONS, &wait, waiting);
+        int ready = ppoll(polled, 4 + in_use, &wait, waiting);
         time_t now = time(NULL);
         if (renewed) {
             renewed = 0;
@@ -215,7 +218,7 @@ static void serve(char **words, sigset_t *waiting) {
         if (ready < 0) continue;
         for (int i = 0; i < 2; i++)
             if (polled[i].revents) answer_datagrams(polled[i].fd, now);
-        for (int i = 0; i < CONNECTIONS; i++) {
+        for (int i = 0; i < in_use; i++) {
             struct connection *c = &connections[i];
             if (c->fd < 0) continue;
             if ((polled[4 + i].revents || (!c->left && has_frame(c))) && !move_octets(c, polled[4 + i].revents, now)) close_connection(c);

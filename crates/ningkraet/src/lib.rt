@@ -2,7 +2,7 @@
 //! `zone_catalog`. C passes no allocator; a slice is a pointer and a length to it, and a `&mut` a pointer.
 #![tactic(auto)]
 
-ghost use Rattle.std.specs.Prelude.{◌≡◌, None};
+ghost use Rattle.std.specs.Prelude.{◌≡◌, [], None};
 ghost use Rattle.zone_catalog.specs.Calls.{transport_of, AnswersHeld, AsksHeld, ChangesHeld, IsAdded, IsCreated, IsDropped, IsLoaded, IsSerial, IsTold};
 ghost use Rattle.zone_catalog.specs.Outcomes.{code_of, Codes};
 
@@ -20,9 +20,21 @@ pub extern "C" fn nk_interface() -> u32
 /// Makes a catalog without zones in the place of what is kept.
 #[unsafe(no_mangle)]
 pub extern "C" fn nk_zones_new(alloc: Global, zones: &mut Handle) -> u32
-    ensures { Codes result (λ o. IsCreated zones.old.held o zones.new.held) }
+    ensures { Codes result (λ o. IsCreated [] zones.old.held o zones.new.held) }
 {
     calls::create(alloc, zones).code()
+}
+
+/// Has another hold the same zones, in the place of what it holds. They are in memory once, and each of the two has others put in and
+/// taken out by itself.
+#[unsafe(no_mangle)]
+pub extern "C" fn nk_zones_copy(alloc: Global, zones: &mut Handle, other: &mut Handle) -> u32
+    ensures copied { Codes result (λ o.
+        AsksHeld (λ zs end. IsCreated zs other.old.held end other.new.held)
+        (other.new.held ≡ other.old.held) zones.old.held o) }
+    ensures same { zones.new.held ≡ zones.old.held }
+{
+    calls::copy(alloc, zones, other).code()
 }
 
 /// Gives the memory of what is kept back. Nothing is kept then.

@@ -7,6 +7,7 @@ use Rattle.zone_catalog.specs.declared.catalog.Catalog.{Catalog}
 use Rattle.zone_catalog.specs.declared.outcome.Outcome.{Outcome}
 use Rattle.zone_catalog.specs.declared.outcome.Outcome.TheVariants.{NoMemory, BadName}
 use Rattle.zone_catalog.specs.declared.zone.Zone.{Zone}
+use Rattle.zone_catalog.specs.Catalogs.{zones_in}
 use Rattle.zone_catalog.specs.Calls.{AsksHeld, ChangesHeld, Ends, WithName}
 
 -- an origin that isn't read ends the call
@@ -21,9 +22,9 @@ pub read_on : {X : Type 0} (x y : X) (o : Outcome) (read : Result Name ProtoErro
 read_on x y o read n does is d = subst (λ (r : Result Name ProtoError). WithName r does (Ends x o y)) (sym is) (inl d)
 
 -- a catalog is taken out, changed and put back
-pub changed : (does : List Zone → Outcome → List Zone → Type 0) (held new : Option Catalog) (c after : Catalog) (o : Outcome) → held ≡ Some c → does c.zones.items o after.zones.items → new ≡ Some after → ChangesHeld does held o new
+pub changed : (does : List Zone → Outcome → List Zone → Type 0) (held new : Option Catalog) (c after : Catalog) (o : Outcome) → held ≡ Some c → does (zones_in c) o (zones_in after) → new ≡ Some after → ChangesHeld does held o new
 changed does held new c after o is d set = subst (λ (h : Option Catalog). ChangesHeld does h o new) (sym is) (after, d, set)
 
 -- a catalog is asked
-pub asked : (does : List Zone → Outcome → Type 0) (unchanged : Type 0) (held : Option Catalog) (c : Catalog) (o : Outcome) → held ≡ Some c → does c.zones.items o → AsksHeld does unchanged held o
+pub asked : (does : List Zone → Outcome → Type 0) (unchanged : Type 0) (held : Option Catalog) (c : Catalog) (o : Outcome) → held ≡ Some c → does (zones_in c) o → AsksHeld does unchanged held o
 asked does unchanged held c o is d = subst (λ (h : Option Catalog). AsksHeld does unchanged h o) (sym is) d

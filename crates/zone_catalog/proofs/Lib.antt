@@ -1,5 +1,6 @@
 pub mod CallFacts
 pub mod Handles
 pub mod RawBoxes
+pub mod Sharing
 pub mod TextFacts
 pub mod Walking

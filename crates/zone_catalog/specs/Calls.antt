@@ -14,7 +14,7 @@ use Rattle.zone_catalog.specs.declared.outcome.Outcome.TheVariants.{Done, Ignore
 use Rattle.zone_catalog.specs.declared.reading.TextFault.{TextFault}
 use Rattle.zone_catalog.specs.declared.reading.TextFault.TheVariants as fault
 use Rattle.zone_catalog.specs.declared.zone.Zone.{Zone}
-use Rattle.zone_catalog.specs.Catalogs.{begins_at, place_of, with_zone, without}
+use Rattle.zone_catalog.specs.Catalogs.{begins_at, place_of, with_zone, without, zones_in}
 use Rattle.zone_catalog.specs.Texts.{IsTextFault, IsZoneOfText}
 use Rattle.zone_catalog.specs.Zones.{served_zone}
 
@@ -125,21 +125,21 @@ IsAnswered zs t message outcome written before after = (octets : List ℕ) × Is
 
 -- ---- the same of a handle, which may hold no zones
 
--- zones are made, and what was held before is given back; or no memory was found, and it stays
-abbrev pub IsCreated : Option Catalog → Outcome → Option Catalog → Type 0
-IsCreated old Done new = (c : Catalog) × (c.zones.items ≡ []) × (new ≡ Some c)
-IsCreated old NoMemory new = new ≡ old
-IsCreated old outcome new = ⊥
+-- these zones are held, and what was held before is given back; or no memory was found, and it stays
+abbrev pub IsCreated : List Zone → Option Catalog → Outcome → Option Catalog → Type 0
+IsCreated zs old Done new = (c : Catalog) × (zones_in c ≡ zs) × (new ≡ Some c)
+IsCreated zs old NoMemory new = new ≡ old
+IsCreated zs old outcome new = ⊥
 
 -- a call changes the zones, if there are any: `does` says of those before, how the call ended, and those after
 abbrev pub ChangesHeld : (List Zone → Outcome → List Zone → Type 0) → Option Catalog → Outcome → Option Catalog → Type 0
 ChangesHeld does None outcome new = (outcome ≡ Closed) × (new ≡ None)
-ChangesHeld does (Some c) outcome new = (after : Catalog) × does c.zones.items outcome after.zones.items × (new ≡ Some after)
+ChangesHeld does (Some c) outcome new = (after : Catalog) × does (zones_in c) outcome (zones_in after) × (new ≡ Some after)
 
 -- a call asks the zones, if there are any; where there are none it leaves what is `unchanged`
 abbrev pub AsksHeld : (List Zone → Outcome → Type 0) → Type 0 → Option Catalog → Outcome → Type 0
 AsksHeld does unchanged None outcome = (outcome ≡ Closed) × unchanged
-AsksHeld does unchanged (Some c) outcome = does c.zones.items outcome
+AsksHeld does unchanged (Some c) outcome = does (zones_in c) outcome
 
 -- a message that came by a transport, if its number is one's, is answered from the zones
 abbrev pub AnswersHeld : Option Transport → List ℕ → Option Catalog → Outcome → ℕ → List ℕ → List ℕ → Type 0

@@ -1,8 +1,14 @@
 -- The zones that a server has
-use Rattle.std.specs.Prelude.{ℕ, Bool, List, [], ◌∷◌, ◌++◌, position, remove, Option, Some, None}
+use Rattle.std.specs.Prelude.{ℕ, Bool, List, [], ◌∷◌, ◌++◌, map, position, remove, Option, Some, None}
+use Rattle.std.specs.Arc.{arc_value}
 use Rattle.std.specs.Ordering.{eq_by_cmp}
 use Rattle.zone_proto.specs.Names.{Name, name_cmp}
+use Rattle.zone_catalog.specs.declared.catalog.Catalog.{Catalog}
 use Rattle.zone_catalog.specs.declared.zone.Zone.{Zone}
+
+-- the zones of a catalog, which it may share with others
+abbrev pub zones_in : Catalog → List Zone
+zones_in c = map arc_value c.zones.items
 
 -- a zone is that of an origin, which is in lower case as its own is
 abbrev pub begins_at : Name → Zone → Bool
@@ -12,10 +18,10 @@ begins_at origin z = eq_by_cmp name_cmp z.origin origin
 abbrev pub place_of : Name → List Zone → Option ℕ
 place_of origin zs = position (begins_at origin) zs
 
--- zones without the one at a place, if one is given
-abbrev pub without_at : Option ℕ → List Zone → List Zone
-without_at None zs = zs
-without_at (Some i) zs = remove zs i
+-- a list without what is at a place, if one is given
+abbrev pub without_at : {X : Type 0} → Option ℕ → List X → List X
+without_at None xs = xs
+without_at (Some i) xs = remove xs i
 
 -- zones without the first one of an origin, if there is one
 abbrev pub without : Name → List Zone → List Zone

@@ -1,5 +1,6 @@
 //! What a program that isn't written in Rattle asks of the zones that it keeps: the calls of `ningkraet`.
-ghost use Rattle.std.specs.Prelude.{◌≡◌, None};
+ghost use Rattle.std.specs.Prelude.{◌≡◌, [], None};
+ghost use Rattle.zone_catalog.specs.Catalogs.{zones_in};
 ghost use Rattle.zone_catalog.specs.Calls.{transport_of, AnswersHeld, AsksHeld, ChangesHeld, IsAdded, IsAnswered, IsCreated, IsDropped, IsLoaded, IsSerial, IsTold};
 
 use crate::catalog::Catalog;
@@ -18,7 +19,7 @@ const FIRST_ROOM: usize = 512;
 /// Makes a catalog without zones in the place of what a handle holds, whose memory is given back. Where no memory is found, what it
 /// holds stays.
 pub fn create(alloc: Global, zones: &mut Handle) -> Outcome
-    ensures { IsCreated zones.old.held result zones.new.held }
+    ensures { IsCreated [] zones.old.held result zones.new.held }
 {
     match Box::new(alloc, Catalog::new(alloc)) {
         Ok(catalog) => {
@@ -34,6 +35,39 @@ pub fn free(alloc: Global, zones: &mut Handle)
     ensures { zones.new.held ≡ None }
 {
     drop(mem::replace(zones, Handle::empty(alloc)));
+}
+
+/// Has another handle hold the same zones, in the place of what it holds. The zones are in memory once, and each of the two handles
+/// has others put in and taken out by itself. Where no memory is found, what the other holds stays.
+pub fn copy(alloc: Global, zones: &mut Handle, other: &mut Handle) -> Outcome
+    ensures copied { AsksHeld (λ zs o. IsCreated zs other.old.held o other.new.held)
+        (other.new.held ≡ other.old.held) zones.old.held result }
+    ensures same { zones.new.held ≡ zones.old.held }
+{
+    match zones.take(alloc) {
+        Some(catalog) => {
+            let outcome = put_copy(alloc, &catalog, other);
+            zones.put(catalog);
+            outcome
+        }
+        None => Outcome::Closed,
+    }
+}
+
+/// Has a handle hold the zones of a catalog.
+fn put_copy(alloc: Global, catalog: &Catalog, other: &mut Handle) -> Outcome
+    ensures { IsCreated (zones_in catalog.now) other.old.held result other.new.held }
+{
+    let Ok(copy) = catalog.copy(alloc) else {
+        return Outcome::NoMemory;
+    };
+    match Box::new(alloc, copy) {
+        Ok(copy) => {
+            other.put(copy);
+            Outcome::Done
+        }
+        Err(_) => Outcome::NoMemory,
+    }
 }
 
 /// Puts the zone of an origin that the text of a zone file makes in the place of the one of this origin, or behind the others, and
@@ -214,7 +248,7 @@ fn answer_from(
     transport: Transport,
     room: &mut [u8],
 ) -> (Outcome, usize)
-    ensures { IsAnswered catalog.now.zones.items transport message.now result.0 result.1
+    ensures { IsAnswered (zones_in catalog.now) transport message.now result.0 result.1
         room.old room.new }
 {
     let Ok(mut out) = Vec::with_capacity(alloc, FIRST_ROOM) else {

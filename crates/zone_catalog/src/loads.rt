@@ -1,5 +1,6 @@
 //! Zones of texts, put among those of a catalog.
 ghost use Rattle.std.specs.Prelude.{◌≡◌, ◌⊎◌, IfErr, IfOk, IsErr, Ok, OnErr, OnOk};
+ghost use Rattle.zone_catalog.specs.Catalogs.{zones_in};
 ghost use Rattle.zone_catalog.specs.Calls.{origin_of, IsAdded, IsDropped, IsLoaded, IsMade, IsPut, PutsZone};
 ghost use Rattle.zone_catalog.specs.Texts.{IsTextFault, IsZoneOfText};
 
@@ -22,8 +23,7 @@ pub(crate) fn load_zone(
     text: &[u8],
     told: &mut String,
 ) -> Outcome
-    ensures { IsLoaded origin.now text.now catalog.old.zones.items result
-        catalog.new.zones.items }
+    ensures { IsLoaded origin.now text.now (zones_in catalog.old) result (zones_in catalog.new) }
 {
     match origin_of(alloc, origin) {
         Ok(name) => put_text(alloc, catalog, name, label_of(origin), text, told),
@@ -40,8 +40,7 @@ pub(crate) fn add_zone(
     text: &[u8],
     told: &mut String,
 ) -> Outcome
-    ensures { IsAdded origin.now text.now catalog.old.zones.items result
-        catalog.new.zones.items }
+    ensures { IsAdded origin.now text.now (zones_in catalog.old) result (zones_in catalog.new) }
 {
     match origin_of(alloc, origin) {
         Ok(name) => put_new(alloc, catalog, name, label_of(origin), text, told),
@@ -52,7 +51,7 @@ pub(crate) fn add_zone(
 /// Takes the zone of an origin out.
 #[tactic(auto, using(crate::proofs::CallFacts::unread, crate::proofs::CallFacts::read_on))]
 pub(crate) fn remove_zone(alloc: Global, catalog: &mut Catalog, origin: &[u8]) -> Outcome
-    ensures { IsDropped origin.now catalog.old.zones.items result catalog.new.zones.items }
+    ensures { IsDropped origin.now (zones_in catalog.old) result (zones_in catalog.new) }
 {
     match origin_of(alloc, origin) {
         Ok(name) => {
@@ -96,7 +95,7 @@ fn put_new(
     text: &[u8],
     told: &mut String,
 ) -> Outcome
-    ensures { IsMade origin text.now catalog.old.zones.items result catalog.new.zones.items }
+    ensures { IsMade origin text.now (zones_in catalog.old) result (zones_in catalog.new) }
 {
     let Ok(lowered) = LowerName::new(&origin) else {
         return Outcome::NoMemory;
@@ -116,24 +115,30 @@ fn put_text(
     text: &[u8],
     told: &mut String,
 ) -> Outcome
-    ensures { IsPut origin text.now catalog.old.zones.items result catalog.new.zones.items }
+    ensures { IsPut origin text.now (zones_in catalog.old) result (zones_in catalog.new) }
 {
     match read_zone(alloc, origin, text) {
-        Ok(read) => put_read(catalog, read, label, told),
+        Ok(read) => put_read(alloc, catalog, read, label, told),
         Err(TextFault::Memory) => Outcome::NoMemory,
         Err(fault) => told_fault(&fault, label, told),
     }
 }
 
 /// Puts a zone that was read in the place of the one of its origin, or behind the others.
-fn put_read(catalog: &mut Catalog, read: ReadZone, label: &str, told: &mut String) -> Outcome
-    ensures { PutsZone read.zone catalog.old.zones.items result catalog.new.zones.items }
+fn put_read(
+    alloc: Global,
+    catalog: &mut Catalog,
+    read: ReadZone,
+    label: &str,
+    told: &mut String,
+) -> Outcome
+    ensures { PutsZone read.zone (zones_in catalog.old) result (zones_in catalog.new) }
 {
     let ReadZone { zone, warnings } = read;
     if tell_warnings(warnings.as_slice(), label, told).is_err() {
         return Outcome::NoMemory;
     }
-    match catalog.put(zone) {
+    match catalog.put(alloc, zone) {
         Ok(()) => Outcome::Done,
         Err(_) => Outcome::NoMemory,
     }

@@ -2,6 +2,7 @@
 ghost use Rattle.std.specs.Prelude.{◌≡◌, IfOk, IsOkUnless, option_and_then, option_copied};
 ghost use Rattle.std.specs.Option.{option_map_or};
 ghost use Rattle.zone_inner.specs.StartOfAuthority.{first_soa, serial};
+ghost use Rattle.zone_catalog.specs.Catalogs.{zones_in};
 ghost use Rattle.zone_catalog.specs.Calls.{IsSerial, IsSerialAt};
 
 use crate::catalog::Catalog;
@@ -20,7 +21,7 @@ pub(crate) fn serial_of(
     origin: &[u8],
     serial: &mut u32,
 ) -> Outcome
-    ensures { IsSerial origin.now serial.old serial.new catalog.now.zones.items result }
+    ensures { IsSerial origin.now serial.old serial.new (zones_in catalog.now) result }
 {
     match origin_of(alloc, origin) {
         Ok(name) => serial_at(catalog, &LowerName::from(name), serial),
@@ -30,7 +31,7 @@ pub(crate) fn serial_of(
 
 /// Writes the serial of the zone of an origin.
 fn serial_at(catalog: &Catalog, origin: &LowerName, serial: &mut u32) -> Outcome
-    ensures { IsSerialAt origin.now serial.old serial.new catalog.now.zones.items result }
+    ensures { IsSerialAt origin.now serial.old serial.new (zones_in catalog.now) result }
 {
     let Some(zone) = catalog.get(origin) else {
         return Outcome::NoZone;

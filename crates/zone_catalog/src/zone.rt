@@ -2,8 +2,10 @@
 ghost use Rattle.std.specs.Prelude.{◌≡◌, None, IfOk, IsOkUnless, option_copied};
 ghost use Rattle.zone_proto.specs.Types.{NSEC as nsec};
 ghost use Rattle.zone_map.specs.Zones.{set_at, IsZone};
+ghost use Rattle.zone_response.specs.Queries.{zone_of};
 ghost use Rattle.zone_catalog.specs.Denials.{denial_kind, first_parameters, kind_by, kind_of, parameters_at};
-ghost use Rattle.zone_catalog.specs.Zones.{zone_of_records, IsServed};
+ghost use Rattle.zone_catalog.specs.Digests.{name_digest};
+ghost use Rattle.zone_catalog.specs.Zones.{served_zone, zone_of_records, IsServed};
 
 use crate::static_signer::StaticSigner;
 use std::alloc::{AllocError, Global};
@@ -113,12 +115,19 @@ pub fn served(
 {
     let mut served = Vec::with_capacity(alloc, zones.len())?;
     for zone in zones {
-        served.push(ServedZone {
-            origin: &zone.origin,
-            inner: &zone.inner,
-            nx_proof_kind: zone.nx_proof_kind.as_ref(),
-            hash: &Sha1Hash,
-        })?;
+        served.push(lent(zone))?;
     }
     Ok(served)
+}
+
+/// A zone as it is asked.
+pub(crate) fn lent(zone: &Zone) -> ServedZone<'_, StaticSigner, Sha1Hash>
+    ensures { zone_of (λ h. name_digest) result ≡ served_zone zone.now }
+{
+    ServedZone {
+        origin: &zone.origin,
+        inner: &zone.inner,
+        nx_proof_kind: zone.nx_proof_kind.as_ref(),
+        hash: &Sha1Hash,
+    }
 }
