@@ -1,7 +1,8 @@
 #!/usr/bin/env python3
 """Hands zoned messages that no client should send, a million unless another count is named: random octets, queries of which some octets
-are turned, and fronts of good queries, each with a limit of its own. Every answer has to come in order, under the identifier of
-its message, with its opcode, RD and CD, within its limit, and to what has a header and is no response alone. It is no part of the gate.
+are turned, for transfers too, and fronts of good queries, each with a limit of its own. Every answer has to come in order, under the
+identifier of its message, with its opcode, RD and CD, within its limit, and to what has a header and is no response alone. It is no part
+of the gate.
 
   tools/hostile_messages.py [COUNT [SEED]]
 
@@ -23,7 +24,9 @@ from sources import TOP
 
 ZONE = f"example.com.={TOP}/examples/zones/example.zone"
 NAMES = ["example.com.", "www.example.com.", "no.example.com.", "a.b.sub.example.com.", "com.", "*.example.com.", "x" * 63 + ".example.com."]
-TYPES = ["A", "NS", "SOA", "MX", "AAAA", "DS", "RRSIG", "NSEC", "DNSKEY", "ANY", "CNAME", "TXT"]
+TYPES = ["A", "NS", "SOA", "MX", "AAAA", "DS", "RRSIG", "NSEC", "DNSKEY", "ANY", "CNAME", "TXT", "AXFR", "IXFR"]
+# The serial of the zone, which goes out whole in one message, and some before and after it.
+SERIALS = [2026112601, 2026112600, 2026112602, 0, 4294967295]
 LIMITS = [0, 1, 511, 512, 513, 1231, 1232, 1400, 4096, 65534, 65535]
 
 # How many messages are handed over before their answers are read.
@@ -45,6 +48,7 @@ def good():
     """The octets of a query as clients send them."""
     words = [random.choice(NAMES), random.choice(TYPES), f"id={random.randrange(65536)}"]
     words += [it for it in ("rd", "ad", "cd") if random.random() < 0.3]
+    words += [f"serial={random.choice(SERIALS)}"] if random.random() < 0.2 else []
     if random.random() < 0.6:
         words += [f"edns={random.choice([0, 512, 1232, 4096, 65535])}", *(["do"] if random.random() < 0.5 else [])]
     return frames.query(words)
@@ -99,7 +103,7 @@ def tried(program, count):
     source, left, wrong = messages(), count, []
     with tempfile.TemporaryFile() as faults:
         pipe = subprocess.PIPE
-        served = subprocess.Popen([program, "--limits", ZONE], stdin=pipe, stdout=pipe, stderr=faults)
+        served = subprocess.Popen([program, "--limits", "--transfers", ZONE], stdin=pipe, stdout=pipe, stderr=faults)
         while left > 0 and not wrong:
             some = [(next(source), random.choice(LIMITS)) for _ in range(min(left, TOGETHER))]
             left -= len(some)

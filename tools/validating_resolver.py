@@ -12,10 +12,14 @@ These questions are left out:
 - those that lead out of the zone, to a zone cut or round in a circle, as no server is there that could answer them;
 - with opt-out, those for names that aren't there below an empty name that no NSEC3 set matches, where a wildcard stands above that. RFC
   5155 has no proof of such a name error: the wildcard would have to be denied. What BIND sends of it Unbound finds bogus as well;
+- with opt-out, those for no data of an empty name that no NSEC3 set matches, where the set that covers it, or the name above it that is
+  next closer, is that of the wildcard beside it, and the wildcard owns the type or an alias. No other set covers the name, and Unbound
+  takes that one for the wildcard's, which has what is asked for. Which questions these are is computed from the digests of the names of
+  the zone;
 - those that a wildcard answers under a name that itself begins with `*`, which Unbound takes for the wildcard's own; delv doesn't.
 """
+import hashlib
 import random
-import socket
 import struct
 import subprocess
 import sys
@@ -72,9 +76,47 @@ def is_made_as_a_star(records, parts):
     return any(owner.startswith("*.") and owner not in owners for _, owner in types_and_owners(parts["ANSWER"]))
 
 
-def is_left_out(name, kind, code, parts, opted_out, records):
+def digest(name):
+    """The digest of a name by the parameters of the zones that have opt-out here: no salt, and no iteration but the first (RFC 5155
+    section 5). Digests are in the order of the owners that they are of."""
+    labels = name.lower().rstrip(".").split(".")
+    return hashlib.sha1(b"".join(bytes([len(it)]) + it.encode() for it in labels) + b"\0").digest()
+
+
+def from_origin(origin, name):
+    """The names from the origin down to a name."""
+    above = [name]
+    while above[-1] != origin:
+        above.append(above[-1].split(".", 1)[1])
+    return above[::-1]
+
+
+def matched_names(origin, records):
+    """The names of a zone with opt-out that an NSEC3 set matches: those that are neither an unsigned delegation nor below a zone cut, and
+    what stands above these (RFC 5155 section 7.1)."""
+    cuts = {owner for owner, kind, _ in records if kind == "NS" and owner != origin}
+    left_out = cuts - {owner for owner, kind, _ in records if kind == "DS"}
+    runs = [from_origin(origin, owner) for owner, _, _ in records]
+    return {name for run in runs if run[-1] not in left_out and not cuts & set(run[:-1]) for name in run}
+
+
+def is_covered_by_star(origin, name, kind, records):
+    """Whether no set matches a name, and the one that covers its next closer name is that of the wildcard beside that, which has what is
+    asked for."""
+    matched, run = matched_names(origin, records), from_origin(origin, name)
+    if name in matched:
+        return False
+    closer = next(it for it in run if it not in matched)
+    star = f"*.{closer.split('.', 1)[1]}"
+    before = [it for it in matched if digest(it) < digest(closer)] or matched
+    has_it = any(owner == star and its_kind in (kind, "CNAME") for owner, its_kind, _ in records)
+    return has_it and max(before, key=digest) == star
+
+
+def is_left_out(origin, name, kind, code, parts, opted_out, records):
     has_no_proof = opted_out and other_servers.has_no_proof(name, code, records)
-    return has_no_proof or not is_whole(name, kind, parts) or is_made_as_a_star(records, parts)
+    is_taken_for_star = opted_out and not code and not parts["ANSWER"] and is_covered_by_star(origin, name, kind, records)
+    return has_no_proof or is_taken_for_star or not is_whole(name, kind, parts) or is_made_as_a_star(records, parts)
 
 
 def data(lines):
@@ -90,7 +132,7 @@ def differences(origin, records, opted_out, served, resolver):
         if not words or (name, kind) == (origin, "DS"):
             continue
         (_, code), parts = sections(asked(served, frames.query([name, kind, *words])))
-        if is_left_out(name, kind, code, parts, opted_out, records):
+        if is_left_out(origin, name, kind, code, parts, opted_out, records):
             continue
         message = asked(resolver, frames.query([name, kind, "rd", *words]))
         (_, their_code), their_parts = sections(message)

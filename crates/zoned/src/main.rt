@@ -1,28 +1,30 @@
-//! `zoned [--check] [--limits] [--transfers] ZONE..`: answers the frames of messages on standard input from zone files, up to the end of the
-//! input, on standard output. It opens no socket: something else lays one on its streams.
+//! `zoned [--check] [--limits] [ZONE..] [--transfers ZONE..]`: answers the frames of messages on standard input from zone files, up to
+//! the end of the input, on standard output. It opens no socket: something else lays one on its streams.
 //!
-//! A ZONE is `FILE`, whose origin is the owner of its first SOA, or `ORIGIN=FILE`. With `--limits` each query stands behind the
-//! limit of its answer; with `--transfers` the zones are sent whole to whoever asks for them (AXFR, RFC 5936), and else to nobody; with
-//! `--check` the program ends once the zones are loaded, and writes their origins.
+//! A ZONE is `FILE`, whose origin is the owner of its first SOA, or `ORIGIN=FILE`; two of one origin are refused. With `--limits` each
+//! query stands behind the limit of its answer. The zones behind `--transfers` are sent whole to whoever asks for them (AXFR, RFC
+//! 5936), and the others to nobody. With `--check` the program ends once the zones are loaded, and writes their origins.
 #![tactic(auto)]
 
 ghost use Rattle.std.specs.Prelude.{◌≤◌};
 
+mod serving;
 mod telling;
 mod wanted;
 mod zones;
 
+use serving::serve;
 use std::alloc::{AllocError, Global};
 use std::io::Write;
 use std::process::ExitCode;
 use std::{env, io};
 use telling::tell;
 use wanted::{Wanted, wanted_by};
-use zone_catalog::{Zone, served};
-use zone_server::{Server, Stop, serve_frames};
+use zone_catalog::Zone;
 use zones::{load_zones, policies};
 
-const USAGE: &[u8] = b"usage: zoned [--check] [--limits] [--transfers] FILE.. | ORIGIN=FILE..\n";
+const USAGE: &[u8] =
+    b"usage: zoned [--check] [--limits] [ZONE..] [--transfers ZONE..], a ZONE is FILE or ORIGIN=FILE\n";
 
 fn main(rt: HostRuntime) -> ExitCode {
     let alloc = rt.alloc();
@@ -50,32 +52,28 @@ fn run(rt: &HostRuntime, alloc: Global, wanted: &Wanted<'_>) -> u8
     ensures { result ≤ 2 }
 {
     let mut fault = rt.stderr();
-    let Some(zones) = load_zones(rt, alloc, wanted, &mut fault) else {
+    let Some(zones) = load_zones(rt, alloc, wanted.zones.as_slice(), &mut fault) else {
         return 2;
     };
-    let (Ok(served), Ok(policies)) = (
-        served(alloc, zones.as_slice()),
-        policies(alloc, zones.as_slice(), wanted.policy),
-    ) else {
+    let Ok(policies) = policies(alloc, wanted.zones.as_slice()) else {
         return tell(&mut fault, b"out of memory\n");
     };
+    let (mut input, mut output) = (rt.reader(), io::writer(rt));
     if wanted.is_check {
-        return match write_origins(&mut io::writer(rt), zones.as_slice()) {
+        return match write_origins(&mut output, zones.as_slice()) {
             Ok(()) => 0,
             Err(_) => tell(&mut fault, b"write failed\n"),
         };
     }
-    let server = Server {
-        zones: served.as_slice(),
-        policies: policies.as_slice(),
-    };
-    let (mut input, mut output) = (rt.reader(), io::writer(rt));
-    match serve_frames(alloc, &server, wanted.mode, &mut input, &mut output) {
-        Ok(()) => 0,
-        Err(Stop::Memory) => tell(&mut fault, b"out of memory\n"),
-        Err(Stop::Read(_)) => tell(&mut fault, b"read failed\n"),
-        Err(Stop::Write(_)) => tell(&mut fault, b"write failed\n"),
-    }
+    serve(
+        alloc,
+        zones.as_slice(),
+        policies.as_slice(),
+        wanted.mode,
+        &mut input,
+        &mut output,
+        &mut fault,
+    )
 }
 
 /// Writes the origins of zones, a line each.

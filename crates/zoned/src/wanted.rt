@@ -5,6 +5,9 @@ use zone_handler::AxfrPolicy;
 use zone_proto::{Name, ProtoError};
 use zone_server::Mode;
 
+/// The word behind which the zones stand that are transferred.
+const TRANSFERS: &str = "--transfers";
+
 /// A file that is served.
 #[derive(Drop)]
 pub struct WantedZone<'w> {
@@ -12,6 +15,8 @@ pub struct WantedZone<'w> {
     pub origin: Option<Name>,
     /// The name of the file.
     pub file: &'w str,
+    /// Who may transfer the zone.
+    pub policy: AxfrPolicy,
 }
 
 /// What is wanted of the program.
@@ -21,41 +26,24 @@ pub struct Wanted<'w> {
     pub is_check: bool,
     /// How frames stand on the input.
     pub mode: Mode,
-    /// Who may transfer the zones.
-    pub policy: AxfrPolicy,
     /// The zones, one at least.
     pub zones: Vec<WantedZone<'w>>,
 }
 
-/// What words ask for: `--check` or nothing, `--limits` or nothing, `--transfers` or nothing, and zones. None where they aren't that.
+/// What words ask for: `--check` or nothing, `--limits` or nothing, and zones, before one of which `--transfers` may stand. None
+/// where they aren't that.
 pub fn wanted_by(alloc: Global, words: &[String]) -> Result<Option<Wanted<'_>>, ProtoError> {
     let (is_check, words) = flag(words, "--check");
     let (is_limits, words) = flag(words, "--limits");
-    let (is_transferred, words) = flag(words, "--transfers");
     let mode = if is_limits {
         Mode::Limits
     } else {
         Mode::Stream
     };
-    let policy = if is_transferred {
-        AxfrPolicy::AllowAll
-    } else {
-        AxfrPolicy::Deny
-    };
-    let mut zones = Vec::new(alloc);
-    for word in words {
-        match wanted_zone(alloc, word.as_str())? {
-            Some(zone) => zones.push(zone)?,
-            None => return Ok(None),
-        }
-    }
-    if zones.is_empty() {
-        return Ok(None);
-    }
-    Ok(Some(Wanted {
+    let zones = wanted_zones(alloc, words)?;
+    Ok(zones.map(|zones| Wanted {
         is_check,
         mode,
-        policy,
         zones,
     }))
 }
@@ -68,21 +56,53 @@ fn flag<'w>(words: &'w [String], wanted: &str) -> (bool, &'w [String]) {
     }
 }
 
+/// The zones that words ask for, those behind `--transfers` for anybody to transfer. None where no zone is asked for, or none behind
+/// `--transfers`, or a word is no zone.
+fn wanted_zones(
+    alloc: Global,
+    words: &[String],
+) -> Result<Option<Vec<WantedZone<'_>>>, ProtoError> {
+    let mut zones = Vec::new(alloc);
+    let mut policy = AxfrPolicy::Deny;
+    let mut is_due = true;
+    for word in words {
+        if policy == AxfrPolicy::Deny && word.as_str() == TRANSFERS {
+            policy = AxfrPolicy::AllowAll;
+            is_due = true;
+            continue;
+        }
+        match wanted_zone(alloc, word.as_str(), policy)? {
+            Some(zone) => zones.push(zone)?,
+            None => return Ok(None),
+        }
+        is_due = false;
+    }
+    Ok(if is_due { None } else { Some(zones) })
+}
+
 /// The zone that a word asks for: a file, or an origin and a file. None where the origin is no name, and where a word begins as a
 /// flag does.
-fn wanted_zone(alloc: Global, word: &str) -> Result<Option<WantedZone<'_>>, ProtoError> {
+fn wanted_zone(
+    alloc: Global,
+    word: &str,
+    policy: AxfrPolicy,
+) -> Result<Option<WantedZone<'_>>, ProtoError> {
     if word.starts_with("--") {
         return Ok(None);
     }
     let Some((origin, file)) = word.split_once("=") else {
-        let origin = None;
-        return Ok(Some(WantedZone { origin, file: word }));
+        return Ok(Some(WantedZone {
+            origin: None,
+            file: word,
+            policy,
+        }));
     };
     match Name::parse(alloc, origin) {
-        Ok(name) => {
-            let origin = Some(name);
-            Ok(Some(WantedZone { origin, file }))
-        }
+        Ok(name) => Ok(Some(WantedZone {
+            origin: Some(name),
+            file,
+            policy,
+        })),
         Err(ProtoError::Memory) => Err(ProtoError::Memory),
         Err(_) => Ok(None),
     }

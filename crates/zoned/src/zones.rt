@@ -1,34 +1,61 @@
 //! The zones of files, with what is told of each.
-ghost use Rattle.std.specs.Prelude.{IfSome};
+ghost use Rattle.std.specs.Prelude.{◌≡◌, List, ℕ, [], Some, map, IfOk, IfSome, option_copied, unwrap_or};
+ghost use Rattle.std.specs.List.{find};
+ghost use Rattle.zone_proto.specs.Names.{lower};
 ghost use Rattle.zone_map.specs.Zones.{IsZone};
+ghost use Rattle.zone_catalog.specs.Texts.{given_of, IsLoaded, IsText};
+ghost use Rattle.zone_catalog.specs.Zones.{zone_of_records};
+ghost use Rattle.zoned.specs.Zones.{is_soa, origin_of, policy_of, IsZoneOfFile};
 
 use crate::telling::{tell, tell_at};
-use crate::wanted::{Wanted, WantedZone};
+use crate::wanted::WantedZone;
 use std::alloc::{AllocError, Global};
+use std::collections::BTreeMap;
 use std::fs;
 use std::io::{Read, Write};
 use zone_catalog::{Zone, load_records, zone_of};
 use zone_file::{FaultText, InputError, PlacedRecord, read_zone};
 use zone_handler::AxfrPolicy;
 use zone_loading::{LoadFault, Loaded};
-use zone_proto::{Name, ProtoError, RecordType};
+use zone_proto::{LowerName, Name, ProtoError, RecordType, RrKey};
 
-/// Loads the zones that are wanted. None where one can't be loaded; why is told.
+/// Loads the zones that are wanted. None where one can't be loaded, or two have one origin; why is told.
 pub fn load_zones<E: Write>(
     rt: &HostRuntime,
     alloc: Global,
-    wanted: &Wanted<'_>,
+    wanted: &[WantedZone<'_>],
     fault: &mut E,
 ) -> Option<Vec<Zone>> {
     let mut zones = Vec::new(alloc);
-    for file in wanted.zones.iter() {
+    let mut files = BTreeMap::new(alloc);
+    for file in wanted {
         let zone = load_file(rt, alloc, file, fault)?;
-        if zones.push(zone).is_err() {
+        if let Some(other) = files.get(&zone.origin) {
+            let _ = write!(
+                fault,
+                "{}: {} is the origin of {other} too\n",
+                file.file, zone.origin
+            );
+            return None;
+        }
+        if put(&mut zones, &mut files, zone, file.file).is_err() {
             tell(fault, b"out of memory\n");
             return None;
         }
     }
     Some(zones)
+}
+
+/// Puts a zone behind others, and its file under its origin.
+fn put<'w>(
+    zones: &mut Vec<Zone>,
+    files: &mut BTreeMap<LowerName, &'w str>,
+    zone: Zone,
+    file: &'w str,
+) -> Result<(), ProtoError> {
+    files.insert(zone.origin.clone()?, file)?;
+    zones.push(zone)?;
+    Ok(())
 }
 
 /// Loads the zone of a file.
@@ -38,21 +65,29 @@ fn load_file<E: Write>(
     wanted: &WantedZone<'_>,
     fault: &mut E,
 ) -> Option<Zone> {
-    let Ok(mut input) = fs::open(rt, wanted.file) else {
-        let _ = write!(fault, "{}: the file can't be read\n", wanted.file);
-        return None;
-    };
-    let records = read_records(alloc, wanted, &mut input, fault)?;
-    let loaded = loaded_of(alloc, wanted, records, fault)?;
-    for warning in loaded.warnings.iter() {
-        tell_at(fault, wanted.file, warning.place(), warning);
+    match fs::open(rt, wanted.file) {
+        Ok(mut input) => load_zone(alloc, wanted, &mut input, fault),
+        Err(_) => {
+            let _ = write!(fault, "{}: the file can't be read\n", wanted.file);
+            None
+        }
     }
-    let Loaded {
-        origin,
-        records,
-        ..
-    } = loaded;
-    match zone_of(alloc, origin, records) {
+}
+
+/// Loads the zone of a file that is read from an input. Where it is known what that has left, as of a slice, it is the file's text.
+#[tactic(auto, using(crate::proofs::ServedFiles::made_so))]
+fn load_zone<R: Read, E: Write>(
+    alloc: Global,
+    wanted: &WantedZone<'_>,
+    input: &mut R,
+    fault: &mut E,
+) -> Option<Zone>
+    ensures { IfSome result (λ zone. (text : List ℕ) → R.remaining input.old ≡ Some text →
+        IsZoneOfFile wanted.now.origin text zone) }
+{
+    let records = read_records(alloc, wanted, input, fault)?;
+    let loaded = loaded_of(alloc, wanted, records, fault)?;
+    match told_zone(alloc, loaded, wanted.file, fault) {
         Ok(zone) => Some(zone),
         Err(_) => {
             tell(fault, b"out of memory\n");
@@ -61,15 +96,60 @@ fn load_file<E: Write>(
     }
 }
 
+/// The zone that was loaded, as it is served, with what is told of its file.
+fn told_zone<E: Write>(
+    alloc: Global,
+    loaded: Loaded,
+    file: &str,
+    fault: &mut E,
+) -> Result<Zone, ProtoError>
+    requires { IsZone loaded.records }
+    ensures { IfOk result (λ zone. zone ≡ zone_of_records loaded.origin loaded.records) }
+{
+    warn(&loaded, file, fault)?;
+    let Loaded {
+        origin,
+        records,
+        ..
+    } = loaded;
+    zone_of(alloc, origin, records)
+}
+
+/// Tells what of a file isn't taken as it stands: records that are left out, and all NSEC3PARAM records but the first. Each stands for
+/// a whole circle, of which a server may take any (RFC 5155 section 7.3).
+fn warn<E: Write>(loaded: &Loaded, file: &str, fault: &mut E) -> Result<(), ProtoError> {
+    for warning in loaded.warnings.iter() {
+        tell_at(fault, file, warning.place(), warning);
+    }
+    let key = RrKey::new(loaded.origin.clone()?, RecordType::NSEC3PARAM);
+    if loaded
+        .records
+        .get(&key)
+        .is_some_and(|set| set.as_slice().len() > 1)
+    {
+        let _ = write!(
+            fault,
+            "{file}: several NSEC3PARAM stand at the origin, and the first is taken\n"
+        );
+    }
+    Ok(())
+}
+
 /// Reads the records of a file.
 fn read_records<R: Read, E: Write>(
     alloc: Global,
     wanted: &WantedZone<'_>,
     input: &mut R,
     fault: &mut E,
-) -> Option<Vec<PlacedRecord>> {
-    let first = first_origin(alloc, wanted).map_err(|_| InputError::Memory);
-    match first.and_then(|origin| read_zone(alloc, origin, input)) {
+) -> Option<Vec<PlacedRecord>>
+    ensures { IfSome result (λ records. (text : List ℕ) → R.remaining input.old ≡ Some text →
+        IsText (unwrap_or wanted.now.origin []) text records.items) }
+{
+    let Ok(origin) = first_origin(alloc, &wanted.origin) else {
+        tell(fault, b"out of memory\n");
+        return None;
+    };
+    match read_zone(alloc, origin, input) {
         Ok(records) => Some(records),
         Err(InputError::Memory) => {
             tell(fault, b"out of memory\n");
@@ -91,8 +171,10 @@ fn read_records<R: Read, E: Write>(
 }
 
 /// The origin that a file begins with: the one that is named, or the root.
-fn first_origin(alloc: Global, wanted: &WantedZone<'_>) -> Result<Name, ProtoError> {
-    match &wanted.origin {
+fn first_origin(alloc: Global, named: &Option<Name>) -> Result<Name, ProtoError>
+    ensures { IfOk result (λ origin. origin ≡ unwrap_or named.now []) }
+{
+    match named {
         Some(origin) => origin.clone(),
         None => Ok(Name::root(alloc)),
     }
@@ -105,7 +187,8 @@ fn loaded_of<E: Write>(
     records: Vec<PlacedRecord>,
     fault: &mut E,
 ) -> Option<Loaded>
-    ensures { IfSome result (λ loaded. IsZone loaded.records) }
+    ensures { IfSome result (IsLoaded (lower (origin_of wanted.now.origin records.items))
+        (map given_of records.items)) }
 {
     let Ok(origin) = zone_origin(alloc, &wanted.origin, records.as_slice()) else {
         tell(fault, b"out of memory\n");
@@ -129,27 +212,34 @@ fn zone_origin(
     alloc: Global,
     named: &Option<Name>,
     records: &[PlacedRecord],
-) -> Result<Name, ProtoError> {
+) -> Result<Name, ProtoError>
+    ensures { IfOk result (λ origin. origin ≡ origin_of named.now records.now) }
+{
     if let Some(origin) = named {
         return origin.clone();
     }
-    for placed in records {
-        if placed.given.record_type() == RecordType::SOA {
-            return placed.given.name.clone();
-        }
+    match first_soa(records) {
+        Some(placed) => placed.given.name.clone(),
+        None => Ok(Name::root(alloc)),
     }
-    Ok(Name::root(alloc))
 }
 
-/// The same policy for each of the zones.
-pub fn policies(
-    alloc: Global,
-    zones: &[Zone],
-    policy: AxfrPolicy,
-) -> Result<Vec<AxfrPolicy>, AllocError> {
-    let mut policies = Vec::with_capacity(alloc, zones.len())?;
-    for _ in zones {
-        policies.push(policy)?;
+/// The first SOA among records.
+fn first_soa(records: &[PlacedRecord]) -> Option<&PlacedRecord>
+    ensures { option_copied result ≡ find is_soa records.now }
+{
+    records
+        .iter()
+        .find(|placed| placed.given.record_type() == RecordType::SOA)
+}
+
+/// Who may transfer each of the zones that are wanted, in their order.
+pub fn policies(alloc: Global, wanted: &[WantedZone<'_>]) -> Result<Vec<AxfrPolicy>, AllocError>
+    ensures { IfOk result (λ policies. policies.items ≡ map policy_of wanted.now) }
+{
+    let mut policies = Vec::with_capacity(alloc, wanted.len())?;
+    for zone in wanted {
+        policies.push(zone.policy)?;
     }
     Ok(policies)
 }

@@ -1,0 +1,56 @@
+//! Frames answered from the zones of files.
+ghost use Rattle.std.specs.Prelude.{◌≡◌, ◌≤◌, OnOk};
+ghost use Rattle.zone_server.specs.Serving.{Serves};
+ghost use Rattle.zoned.specs.Zones.{server_of};
+
+use crate::telling::tell;
+use std::alloc::Global;
+use std::io::{Read, Write};
+use zone_catalog::{Zone, served};
+use zone_handler::AxfrPolicy;
+use zone_server::{Mode, Server, Stop, serve_frames};
+
+/// Answers the frames of an input from zones, each with who may transfer it, and gives the status of the program: 0 at the end of the
+/// input, and 2 where no memory is found, or a read or a write fails; why is told.
+pub fn serve<R: Read, W: Write, E: Write>(
+    alloc: Global,
+    zones: &[Zone],
+    policies: &[AxfrPolicy],
+    mode: Mode,
+    input: &mut R,
+    output: &mut W,
+    fault: &mut E,
+) -> u8
+    ensures status { result ≤ 2 }
+    ensures served { result ≡ 0 → Serves (server_of zones.now policies.now) mode
+        (R.remaining input.old) (R.remaining input.new)
+        (W.contents output.old) (W.contents output.new) }
+{
+    match serve_zones(alloc, zones, policies, mode, input, output) {
+        Ok(()) => 0,
+        Err(Stop::Memory) => tell(fault, b"out of memory\n"),
+        Err(Stop::Read(_)) => tell(fault, b"read failed\n"),
+        Err(Stop::Write(_)) => tell(fault, b"write failed\n"),
+    }
+}
+
+/// Answers the frames of an input from zones, up to its end.
+fn serve_zones<R: Read, W: Write>(
+    alloc: Global,
+    zones: &[Zone],
+    policies: &[AxfrPolicy],
+    mode: Mode,
+    input: &mut R,
+    output: &mut W,
+) -> Result<(), Stop>
+    ensures { OnOk result (Serves (server_of zones.now policies.now) mode
+        (R.remaining input.old) (R.remaining input.new)
+        (W.contents output.old) (W.contents output.new)) }
+{
+    let zones = served(alloc, zones)?;
+    let server = Server {
+        zones: zones.as_slice(),
+        policies,
+    };
+    serve_frames(alloc, &server, mode, input, output)
+}
