@@ -7,7 +7,6 @@ ghost use Rattle.zone_server.specs.Answers.{IsAnswer, Tells};
 ghost use Rattle.zone_catalog.specs.Catalogs.{begins_at, place_of, with_zone, without, without_at, zones_in};
 ghost use Rattle.zone_catalog.specs.Zones.{served_zone, IsServed};
 
-use crate::sha1_hash::Sha1Hash;
 use crate::static_signer::StaticSigner;
 use crate::zone::{Zone, lent};
 use std::alloc::{AllocError, Global};
@@ -15,6 +14,7 @@ use std::sync::Arc;
 use zone_proto::LowerName;
 use zone_response::ServedZone;
 use zone_server::{Answered, Transport, answer};
+use zone_sha1::Sha1Hash;
 
 /// The zones that a server has, of each origin one. Several catalogs may share a zone, which none of them changes.
 #[derive(Drop)]

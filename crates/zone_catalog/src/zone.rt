@@ -3,8 +3,8 @@ ghost use Rattle.std.specs.Prelude.{◌≡◌, None, IfOk, IsOkUnless, option_co
 ghost use Rattle.zone_proto.specs.Types.{NSEC as nsec};
 ghost use Rattle.zone_map.specs.Zones.{set_at, IsZone};
 ghost use Rattle.zone_response.specs.Queries.{zone_of};
-ghost use Rattle.zone_catalog.specs.Denials.{denial_kind, first_parameters, kind_by, kind_of, parameters_at};
 ghost use Rattle.zone_sha1.specs.Digests.{name_digest};
+ghost use Rattle.zone_catalog.specs.Denials.{denial_kind, first_parameters, kind_by, kind_of, parameters_at};
 ghost use Rattle.zone_catalog.specs.Zones.{served_zone, zone_of_records, IsServed};
 
 use crate::static_signer::StaticSigner;

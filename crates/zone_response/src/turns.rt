@@ -5,7 +5,7 @@ ghost use Rattle.zone_proto.specs.Keys.{first_key};
 ghost use Rattle.zone_proto.specs.Names.{is_at_or_above, name_eq};
 ghost use Rattle.zone_proto.specs.Results.{IsCopy};
 ghost use Rattle.zone_proto.specs.Types.{NS};
-ghost use Rattle.zone_response.specs.Turns.{cut_at, passed_turn, turn_above, turn_of};
+ghost use Rattle.zone_response.specs.Turns.{cut_at, passed_turn, turn, turn_above, turn_of};
 
 use crate::names::same_name;
 use crate::query_types::DNAME;
@@ -20,6 +20,30 @@ pub(crate) enum Turning<'z> {
     Cut(&'z RecordSet),
     /// The names below the owner of this DNAME set have other names.
     Renaming(&'z RecordSet),
+}
+
+/// The first turn on the way from the origin down to a name of the zone, the name itself too, for a query of a type.
+pub(crate) fn turn<'z, S: Signer>(
+    inner: &'z InnerInMemory<S>,
+    origin: &LowerName,
+    name: &LowerName,
+    record_type: RecordType,
+) -> Result<Option<Turning<'z>>, ProtoError>
+    requires { is_at_or_above origin.now name.now ≡ true }
+    ensures ok { IfOk result
+        (λ found. option_map turn_of found
+        ≡ turn origin.now inner.now.records name.now record_type.0) }
+    ensures err { IsOkUnless result ProtoError.Memory }
+{
+    if let Some(turning) = turn_above(inner, origin, name)? {
+        return Ok(Some(turning));
+    }
+    let key = RrKey::first_of(name)?;
+    let here = read_standing(inner, &key, RecordType::NS, RecordType::NS);
+    match own_cut(here.ns, origin, name, record_type) {
+        Some(cut) => Ok(Some(Turning::Cut(cut))),
+        None => Ok(None),
+    }
 }
 
 /// The first turn on the way from the origin down to the parent of a name of the zone. The walk goes down from the origin, so
