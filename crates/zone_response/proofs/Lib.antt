@@ -1,5 +1,6 @@
 pub mod NameTests
 pub mod StarWalk
+pub mod ShownNames
 pub mod TurnWalk
 pub mod NodeCases
 pub mod StepCases
@@ -9,5 +10,6 @@ pub mod HostFacts
 pub mod SetLists
 pub mod ProofSteps
 pub mod HashedSteps
+pub mod UnsentSets
 pub mod ResponseCases
 pub mod ResponseExamples

@@ -1,6 +1,7 @@
 pub mod Queries
 pub mod Sections
 pub mod QueryTypes
+pub mod Standing
 pub mod Turns
 pub mod Sources
 pub mod Nodes

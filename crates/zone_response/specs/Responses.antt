@@ -69,9 +69,12 @@ end_sets ds signed soa _ = []
 abbrev pub proof_sets : Zone → Option RRset → Bool → List Name → End → Result (List RRset) ProtoError
 proof_sets z ds signed made end = cond signed (proofs z ds made end) (Ok [])
 
+-- the authority section, where the child that is referred to has this DS set
+abbrev pub authority_sets_with : Zone → Option RRset → Bool → RRset → List Name → End → Result (List RRset) ProtoError
+authority_sets_with z ds signed soa made end = result_and_then (λ sets. Ok (end_sets ds signed soa end ++ map (sent_proof (negative_ttl soa)) sets)) (proof_sets z ds signed made end)
+
 abbrev pub authority_sets : Zone → Bool → RRset → List Name → End → Result (List RRset) ProtoError
-authority_sets z signed soa made end =
-    result_and_then (λ sets. Ok (end_sets (ds_at z.sets end) signed soa end ++ map (sent_proof (negative_ttl soa)) sets)) (proof_sets z (ds_at z.sets end) signed made end)
+authority_sets z signed soa made end = authority_sets_with z (ds_at z.sets end) signed soa made end
 
 -- beside the last set of an answer
 abbrev pub beside_last : Inquiry → List RRset → List RRset

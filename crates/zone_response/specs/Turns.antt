@@ -36,9 +36,18 @@ module _ (origin : Name) (m : Sets) (x : Name) (t : ℕ) where
   turn_down_to [] = turn_at []
   turn_down_to (l ∷ a) = option_or (turn_down_to a) (turn_at (l ∷ a))
 
+  -- that of its ancestors
+  abbrev pub turn_above : Name → Option Turn
+  turn_above [] = None
+  turn_above (l ∷ a) = turn_down_to a
+
   -- on the way down to x
   abbrev pub turn : Option Turn
   turn = turn_down_to x
+
+-- what a name turns on the way to one below it
+abbrev pub passed_turn : Name → Sets → Name → Option Turn
+passed_turn origin m a = option_or (option_map cut (cond (name_eq a origin) None (set_at m a NS))) (option_map renaming (set_at m a DNAME))
 
 -- as the program keeps it
 abbrev pub turn_of : Turning → Turn

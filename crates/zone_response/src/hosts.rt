@@ -1,17 +1,19 @@
 //! The addresses of the hosts that records name: those that go beside an answer, and glue.
-ghost use Rattle.std.specs.Prelude.{◌≡◌, ◌++◌, map, flat_map, IfOk, OnOk, IsOkUnless, option_copied, option_map, option_to_list};
-ghost use Rattle.zone_map.specs.Zones.{set_at};
-ghost use Rattle.zone_proto.specs.Names.{lower, name_eq};
+ghost use Rattle.std.specs.Prelude.{◌≡◌, ◌++◌, [], Bool, Some, true, map, flat_map, IfOk, OnOk, IsOkUnless, option_copied, option_map, option_to_list};
+ghost use Rattle.std.specs.List.{cons_option};
+ghost use Rattle.zone_proto.specs.Names.{lower, name_eq, is_at_or_above};
 ghost use Rattle.zone_inner.specs.Runs.{with_new};
 ghost use Rattle.zone_response.specs.Hosts.{host_of, with_host, hosts, addresses, host_sets, turned_host, beside, glue, glue_of, sibling_glue, sibling_sets};
 ghost use Rattle.zone_response.specs.Sections.{as_it_is, sent_sets};
-ghost use Rattle.zone_response.specs.Turns.{turn_of};
+ghost use Rattle.zone_proto.specs.Types.{A};
+ghost use Rattle.zone_response.specs.Turns.{turn_at, turn_of};
 
 use crate::lists::{lend, push};
 use crate::names::{has_name, is_at_or_above};
 use crate::response::{Part, Sent};
+use crate::standing::{Standing, read_standing};
 use crate::steps::part_for;
-use crate::turns::{Turning, turn};
+use crate::turns::{Turning, own_cut, turn_above};
 use zone_inner::InnerInMemory;
 use zone_proto::{
     LowerName, Name, ProtoError, RData, Record, RecordSet, RecordType, RrKey, Signer,
@@ -83,16 +85,14 @@ fn send_addresses<'z, S: Signer>(
         ≡ sent_sets list.old ++ map (as_it_is part) (addresses inner.now.records name.now)) }
     ensures err { IsOkUnless result ProtoError.Memory }
 {
-    let mut key = RrKey::new(name.clone()?, RecordType::A);
-    send_stored(inner, &key, part, list)?;
-    key.record_type = RecordType::AAAA;
-    send_stored(inner, &key, part, list)
+    let key = RrKey::first_of(name)?;
+    let here = read_standing(inner, &key, RecordType::A, RecordType::AAAA);
+    send_standing(here, part, list)
 }
 
-/// Puts the set of a key last, if there is one.
-fn send_stored<'z, S: Signer>(
-    inner: &'z InnerInMemory<S>,
-    key: &RrKey,
+/// Puts the addresses last that stand at a name.
+fn send_standing<'z>(
+    here: Standing<'z>,
     part: Part,
     list: &mut Vec<Sent<'z>>,
 ) -> Result<(), ProtoError>
@@ -100,10 +100,27 @@ fn send_stored<'z, S: Signer>(
         (sent_sets list.new
         ≡ sent_sets list.old
         ++ map (as_it_is part)
-        (option_to_list (set_at inner.now.records key.now.name key.now.record_type.0))) }
+        (cons_option (option_copied here.entry.one)
+        (cons_option (option_copied here.entry.other) []))) }
     ensures err { IsOkUnless result ProtoError.Memory }
 {
-    match inner.get(key) {
+    send_set(here.one, part, list)?;
+    send_set(here.other, part, list)
+}
+
+/// Puts a set last, if there is one.
+fn send_set<'z>(
+    set: Option<&'z RecordSet>,
+    part: Part,
+    list: &mut Vec<Sent<'z>>,
+) -> Result<(), ProtoError>
+    ensures ok { OnOk result
+        (sent_sets list.new
+        ≡ sent_sets list.old
+        ++ map (as_it_is part) (option_to_list (option_copied set.entry))) }
+    ensures err { IsOkUnless result ProtoError.Memory }
+{
+    match set {
         Some(set) => lend(list, set, part),
         None => Ok(()),
     }
@@ -127,35 +144,65 @@ fn send_host<'z, S: Signer>(
     if !is_at_or_above(origin, host) {
         return Ok(());
     }
-    let turning = turn(inner, origin, host, RecordType::A)?;
-    send_turned(inner, signed, below, host, turning, list)
+    match turn_above(inner, origin, host)? {
+        Some(turning) => send_turned(inner, below, host, turning, list),
+        None => send_unturned(inner, origin, signed, below, host, list),
+    }
 }
 
 /// Puts the addresses of a host of the zone last, by what stands above it.
 fn send_turned<'z, S: Signer>(
     inner: &'z InnerInMemory<S>,
-    signed: bool,
     below: bool,
     host: &LowerName,
-    turning: Option<Turning<'z>>,
+    turning: Turning<'z>,
     list: &mut Vec<Sent<'z>>,
 ) -> Result<(), ProtoError>
-    ensures ok { OnOk result
+    ensures ok { (signed : Bool)
+        → OnOk result
         (sent_sets list.new
         ≡ sent_sets list.old
-        ++ turned_host inner.now.records signed below host.now
-        (option_map turn_of turning.entry)) }
+        ++ turned_host inner.now.records signed below host.now (Some (turn_of turning.entry))) }
     ensures err { IsOkUnless result ProtoError.Memory }
 {
     match turning {
-        None => send_addresses(inner, host, part_for(signed), list),
-        Some(Turning::Cut(_)) => {
+        Turning::Cut(_) => {
             if below {
                 return send_addresses(inner, host, Part::Records, list);
             }
             Ok(())
         }
-        Some(Turning::Renaming(_)) => Ok(()),
+        Turning::Renaming(_) => Ok(()),
+    }
+}
+
+/// Puts the addresses of a host of the zone last above which nothing turns: it may be a zone cut itself.
+fn send_unturned<'z, S: Signer>(
+    inner: &'z InnerInMemory<S>,
+    origin: &LowerName,
+    signed: bool,
+    below: bool,
+    host: &LowerName,
+    list: &mut Vec<Sent<'z>>,
+) -> Result<(), ProtoError>
+    requires { is_at_or_above origin.now host.now ≡ true }
+    ensures ok { OnOk result
+        (sent_sets list.new
+        ≡ sent_sets list.old
+        ++ turned_host inner.now.records signed below host.now
+        (turn_at origin.now inner.now.records host.now A host.now)) }
+    ensures err { IsOkUnless result ProtoError.Memory }
+{
+    let key = RrKey::first_of(host)?;
+    let here = read_standing(inner, &key, RecordType::A, RecordType::AAAA);
+    match own_cut(here.ns, origin, host, RecordType::A) {
+        None => send_standing(here, part_for(signed), list),
+        Some(_) => {
+            if below {
+                return send_standing(here, Part::Records, list);
+            }
+            Ok(())
+        }
     }
 }
 

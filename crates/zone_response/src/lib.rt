@@ -22,6 +22,7 @@ mod renamings;
 mod response;
 mod sections;
 mod sources;
+mod standing;
 mod steps;
 mod turns;
 

@@ -1,9 +1,14 @@
 //! What a name, or the star that is asked for one, has for a query of a type.
 ghost use Rattle.std.specs.Prelude.{◌≡◌, IfOk, IsOkUnless, option_copied, option_and_then};
+ghost use Rattle.zone_map.specs.AnyTypes.{any_type};
 ghost use Rattle.zone_map.specs.Zones.{set_at};
-ghost use Rattle.zone_response.specs.Nodes.{at_node, asked_set, stand_in_set, if_signed, chosen_type, node_of};
+ghost use Rattle.zone_proto.specs.Types.{CNAME};
+ghost use Rattle.zone_response.specs.Nodes.{at_node, asked_set, stand_in_set, if_signed, node_of};
+ghost use Rattle.zone_response.specs.Standing.{StandsAt};
 
+use crate::query_types::asks_any;
 use crate::response::is_signed;
+use crate::standing::Standing;
 use zone_handler::LookupError;
 use zone_inner::InnerInMemory;
 use zone_map::direct::is_address;
@@ -22,22 +27,24 @@ pub(crate) enum Node<'z> {
     Nothing,
 }
 
-/// What the key's name has for a query of a type; the key's own type is of no account. Refused by `Memory` alone.
+/// What the key's name has for a query of a type; the key's own type is of no account. `here` has the sets of that type and of
+/// CNAME that stand there. Refused by `Memory` alone.
 pub(crate) fn at_node<'z, S: Signer>(
     inner: &'z InnerInMemory<S>,
     key: &mut RrKey,
     record_type: RecordType,
+    here: Standing<'z>,
 ) -> Result<Node<'z>, LookupError>
+    requires { StandsAt inner.now.records key.old.name record_type.0 CNAME here }
     ensures node { IfOk result
         (λ node. node_of node ≡ at_node inner.now.records key.old.name record_type.0) }
     ensures err { IsOkUnless result LookupError.Memory }
     ensures same { key.new.name ≡ key.old.name }
 {
-    if let Some(set) = asked_set(inner, key, record_type)? {
+    if let Some(set) = asked_set(inner, key, record_type, here.one)? {
         return Ok(Node::Own(set));
     }
-    key.record_type = RecordType::CNAME;
-    if let Some(set) = inner.get(key) {
+    if let Some(set) = here.other {
         return Ok(Node::Alias(set));
     }
     match stand_in_set(inner, key, record_type) {
@@ -46,12 +53,14 @@ pub(crate) fn at_node<'z, S: Signer>(
     }
 }
 
-/// The set that is asked for.
+/// The set that is asked for, where `own` is that of the type at the key's name.
 fn asked_set<'z, S: Signer>(
     inner: &'z InnerInMemory<S>,
     key: &mut RrKey,
     record_type: RecordType,
+    own: Option<&'z RecordSet>,
 ) -> Result<Option<&'z RecordSet>, LookupError>
+    requires { option_copied own ≡ set_at inner.now.records key.old.name record_type.0 }
     ensures set { IfOk result
         (λ set. option_copied set ≡ asked_set inner.now.records key.old.name record_type.0) }
     ensures err { IsOkUnless result LookupError.Memory }
@@ -60,27 +69,30 @@ fn asked_set<'z, S: Signer>(
     if record_type == RecordType::NSEC3 {
         return Ok(None);
     }
-    key.record_type = chosen_type(inner, key, record_type)?;
+    if asks_any(record_type) {
+        return any_set(inner, key, record_type);
+    }
+    Ok(own)
+}
+
+/// The set that is chosen for a query of ANY, and for one of RRSIG.
+fn any_set<'z, S: Signer>(
+    inner: &'z InnerInMemory<S>,
+    key: &mut RrKey,
+    record_type: RecordType,
+) -> Result<Option<&'z RecordSet>, LookupError>
+    ensures set { IfOk result
+        (λ set. option_copied set
+        ≡ option_and_then (if_signed record_type.0)
+        (set_at inner.now.records key.old.name (any_type inner.now.records key.old.name))) }
+    ensures err { IsOkUnless result LookupError.Memory }
+    ensures same { key.new.name ≡ key.old.name }
+{
+    key.record_type = inner.replace_any(&key.name)?;
     match inner.get(key) {
         Some(set) => Ok(if_signed(record_type, set)),
         None => Ok(None),
     }
-}
-
-/// The type that is searched at the key's name.
-fn chosen_type<S: Signer>(
-    inner: &InnerInMemory<S>,
-    key: &RrKey,
-    record_type: RecordType,
-) -> Result<RecordType, LookupError>
-    ensures chosen { IfOk result
-        (λ chosen. chosen.0 ≡ chosen_type inner.now.records key.now.name record_type.0) }
-    ensures err { IsOkUnless result LookupError.Memory }
-{
-    if record_type == RecordType::ANY || record_type == RecordType::RRSIG {
-        return inner.replace_any(&key.name);
-    }
-    Ok(record_type)
 }
 
 /// Of a set, what goes out for a query of RRSIG are its signatures, if it has any.

@@ -1,6 +1,6 @@
 //! The parts of a response by how its search ends.
-ghost use Rattle.std.specs.Prelude.{◌≡◌, ◌⊎◌, ◌++◌, map, Ok, IfOk, IfErr, IsErr, OnOk, IsOkUnless, option_copied};
-ghost use Rattle.zone_response.specs.Responses.{code_at, is_authority, negative_ttl, ds_at, referral_sets, end_sets, proof_sets, authority_sets, beside_last, additional_sets, glue_at, left_at, fails};
+ghost use Rattle.std.specs.Prelude.{◌≡◌, ◌⊎◌, ◌++◌, None, cond, map, Ok, IfOk, IfErr, IsErr, OnOk, IsOkUnless, option_copied};
+ghost use Rattle.zone_response.specs.Responses.{code_at, is_authority, negative_ttl, ds_at, referral_sets, end_sets, proof_sets, authority_sets, authority_sets_with, beside_last, additional_sets, glue_at, left_at, fails};
 ghost use Rattle.zone_response.specs.Hosts.{beside};
 ghost use Rattle.zone_response.specs.Queries.{inquiry_of, zone_of};
 ghost use Rattle.zone_response.specs.Sections.{sent_set, sent_sets};
@@ -90,8 +90,29 @@ pub(crate) fn authorities<'z, S: Signer, H: Nsec3Hash>(
         ⊎ IsErr (authority_sets (zone_of H.digest_of zone.now) signed soa.now made.now
         (end_of end.now))) }
 {
+    let ds = sent_ds(zone.inner, signed, end)?;
+    authorities_with(zone, ds, signed, soa, made, end)
+}
+
+/// The authority section, where a child to which the search is referred has this DS set.
+fn authorities_with<'z, S: Signer, H: Nsec3Hash>(
+    zone: &ServedZone<'z, S, H>,
+    ds: Option<&'z RecordSet>,
+    signed: bool,
+    soa: &'z RecordSet,
+    made: &[LowerName],
+    end: &End<'z>,
+) -> Result<Vec<Sent<'z>>, LookupError>
+    ensures ok { IfOk result
+        (λ list. authority_sets_with (zone_of H.digest_of zone.now) (option_copied ds.entry)
+        signed soa.now made.now (end_of end.now)
+        ≡ Ok (sent_sets list)) }
+    ensures err { IfErr result
+        (λ e. (e ≡ LookupError.Memory)
+        ⊎ IsErr (authority_sets_with (zone_of H.digest_of zone.now) (option_copied ds.entry)
+        signed soa.now made.now (end_of end.now))) }
+{
     let mut list = Vec::new(zone.origin.alloc());
-    let ds = ds_at(zone.inner, end)?;
     send_end(soa, end, ds, signed, &mut list)?;
     let sets = proof_sets(zone, signed, made, end, ds)?;
     send_proofs(sets, negative_ttl(soa), &mut list)?;
@@ -119,6 +140,23 @@ fn proof_sets<'z, S: Signer, H: Nsec3Hash>(
         return Ok(Vec::new(zone.origin.alloc()));
     }
     proofs(zone, ds, made, end)
+}
+
+/// The DS set that goes out: without DNSSEC none, so that none is looked up.
+fn sent_ds<'z, S: Signer>(
+    inner: &'z InnerInMemory<S>,
+    signed: bool,
+    end: &End<'_>,
+) -> Result<Option<&'z RecordSet>, ProtoError>
+    ensures ok { IfOk result
+        (λ ds. option_copied ds ≡ cond signed (ds_at inner.now.records (end_of end.now)) None) }
+    ensures err { IsOkUnless result ProtoError.Memory }
+{
+    if !signed {
+        return Ok(None);
+    }
+    let ds = ds_at(inner, end)?;
+    Ok(ds)
 }
 
 /// The DS set of the child to which a search is referred.

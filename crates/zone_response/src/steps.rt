@@ -1,12 +1,16 @@
 //! One step of a search: what a name of a chain is answered with.
-ghost use Rattle.std.specs.Prelude.{◌≡◌, ◌++◌, ◌∷◌, [], IfOk, OnOk, IsOkUnless};
+ghost use Rattle.std.specs.Prelude.{◌≡◌, ◌++◌, ◌∷◌, [], true, IfOk, OnOk, IsOkUnless};
 ghost use Rattle.zone_map.specs.Chains.{cname_target};
+ghost use Rattle.zone_proto.specs.Names.{is_at_or_above};
+ghost use Rattle.zone_proto.specs.Types.{CNAME};
 ghost use Rattle.zone_inner.specs.FoundSets.{found_set};
 ghost use Rattle.zone_response.specs.Nodes.{node_of};
 ghost use Rattle.zone_response.specs.Sections.{as_it_is, sent_sets, part_for};
 ghost use Rattle.zone_response.specs.Queries.{inquiry_of};
 ghost use Rattle.zone_response.specs.Renamings.{dname_target};
-ghost use Rattle.zone_response.specs.Steps.{step, target_step, new_name_step, after_renaming, name_step, star_step, node_step, keeps, made_by, made_names, own_part, after_alias, missing as missing_at, ends, next_of, Takes};
+ghost use Rattle.zone_response.specs.Standing.{StandsAt};
+ghost use Rattle.zone_response.specs.Steps.{step, turned_step, target_step, new_name_step, after_renaming, name_step, star_step, node_step, keeps, made_by, made_names, own_part, after_alias, missing as missing_at, ends, next_of, Takes};
+ghost use Rattle.zone_response.specs.Turns.{turn_at};
 
 use crate::lists::{push, send, send_made, send_unless_among};
 use crate::names::is_at_or_above;
@@ -14,7 +18,8 @@ use crate::nodes::{Node, at_node};
 use crate::renamings::{dname_target, in_place_of, made_alias};
 use crate::response::{Part, Sent};
 use crate::sources::star_of;
-use crate::turns::{Turning, turn};
+use crate::standing::{Standing, exists, read_standing};
+use crate::turns::{Turning, own_cut, turn_above};
 use zone_handler::LookupError;
 use zone_inner::{Found, InnerInMemory, cname_target};
 use zone_map::wildcard::renamed;
@@ -94,11 +99,35 @@ pub(crate) fn step<'z, S: Signer>(
     if !is_at_or_above(asked.origin, name) {
         return Ok(Next::Ends(End::Outside(name.clone()?)));
     }
-    match turn(inner, asked.origin, name, asked.record_type)? {
+    match turn_above(inner, asked.origin, name)? {
         Some(Turning::Cut(cut)) => Ok(Next::Ends(End::Referred(cut))),
         Some(Turning::Renaming(dname)) => target_step(dname, name, asked, so_far),
-        None => name_step(inner, asked, name, so_far),
+        None => own_step(inner, asked, name, so_far),
     }
+}
+
+/// The step from a name of the zone above which nothing turns.
+fn own_step<'z, S: Signer>(
+    inner: &'z InnerInMemory<S>,
+    asked: Asked<'_>,
+    name: &LowerName,
+    so_far: &mut SoFar<'z>,
+) -> Result<Next<'z>, LookupError>
+    requires { is_at_or_above asked.origin.now name.now ≡ true }
+    ensures ok { IfOk result
+        (λ next. Takes
+        (turned_step (inquiry_of asked.entry inner.now.records) (sent_sets so_far.old.answers)
+        name.now
+        (turn_at asked.entry.origin.now inner.now.records name.now asked.entry.record_type.0
+        name.now)) so_far.old so_far.new next) }
+    ensures err { IsOkUnless result LookupError.Memory }
+{
+    let key = RrKey::first_of(name)?;
+    let here = read_standing(inner, &key, asked.record_type, RecordType::CNAME);
+    if let Some(cut) = own_cut(here.ns, asked.origin, name, asked.record_type) {
+        return Ok(Next::Ends(End::Referred(cut)));
+    }
+    name_step(inner, asked, name, key, here, so_far)
 }
 
 /// The step from a name below the owner of a DNAME set.
@@ -156,21 +185,26 @@ fn after_renaming<'z>(record_type: RecordType, new: &Name) -> Result<Next<'z>, P
     Ok(Next::On(LowerName::new(new)?))
 }
 
-/// The step from a name that no cut and no DNAME stands above.
+/// The step from a name that nothing turns, by its least key and what stands there.
 fn name_step<'z, S: Signer>(
     inner: &'z InnerInMemory<S>,
     asked: Asked<'_>,
     name: &LowerName,
+    key: RrKey,
+    here: Standing<'z>,
     so_far: &mut SoFar<'z>,
 ) -> Result<Next<'z>, LookupError>
+    requires name { key.name ≡ name.now }
+    requires least { key.record_type.0 ≡ 0 }
+    requires here { StandsAt inner.now.records key.name asked.record_type.0 CNAME here }
     ensures ok { IfOk result
         (λ next. Takes (name_step (inquiry_of asked.entry inner.now.records) name.now)
         so_far.old so_far.new next) }
     ensures err { IsOkUnless result LookupError.Memory }
 {
-    let mut key = RrKey::first_of(name)?;
-    if inner.exists(&key) {
-        let node = at_node(inner, &mut key, asked.record_type)?;
+    let mut key = key;
+    if exists(inner, &key, asked.record_type, here) {
+        let node = at_node(inner, &mut key, asked.record_type, here)?;
         return node_step(node, None, name, asked, so_far);
     }
     let star = star_of(inner, name)?;
@@ -197,7 +231,8 @@ fn star_step<'z, S: Signer>(
     if !inner.exists(&key) {
         return Ok(at_missing(name, Some(star), false)?);
     }
-    let node = at_node(inner, &mut key, asked.record_type)?;
+    let here = read_standing(inner, &key, asked.record_type, RecordType::CNAME);
+    let node = at_node(inner, &mut key, asked.record_type, here)?;
     node_step(node, Some(star), name, asked, so_far)
 }
 

@@ -1,7 +1,5 @@
 use Rattle.std.proofs.Common.{sym, ap, ◌∙◌}
 use Rattle.std.specs.Prelude.{Some, None, option_copied}
-use Rattle.zone_proto.specs.Types.{CNAME}
-use Rattle.zone_map.specs.Zones.{set_at}
 use Rattle.zone_response.specs.Nodes.{stand_in_set}
 use Rattle.zone_response.proofs.NodeCases.{own_first, alias_first, stand_in_first}
 use Rattle.zone_response.proofs.nodes.at_node.Goals as goal
@@ -10,12 +8,10 @@ pub returns-in-Some-clause-node : goal.returns-in-Some-clause-node
 returns-in-Some-clause-node g c =
     own_first c.args.inner.now.records c.args.key.now.name c.args.record_type.0 c.in-Some.set.now (ap option_copied (sym c.in-Some.is) ∙ c.in_ok-set.ensures.set)
 
-pub returns-in-Some-get-clause-node : goal.returns-in-Some-get-clause-node
-returns-in-Some-get-clause-node g c =
-    let m = c.args.inner.now.records in
-    alias_first m c.args.key.now.name c.args.record_type.0 c.in-Some-get.set.now
-    (ap option_copied (sym c.in_default.is) ∙ c.in_ok-set.ensures.set)
-    (ap option_copied (sym c.in-Some-get.is) ∙ c.get.ensures ∙ ap (λ x. set_at m x CNAME) c.asked_set.ensures.same)
+pub returns-in-Some-other-clause-node : goal.returns-in-Some-other-clause-node
+returns-in-Some-other-clause-node g c =
+    alias_first c.args.inner.now.records c.args.key.now.name c.args.record_type.0 c.in-Some-other.set.now
+    (ap option_copied (sym c.in_default.is) ∙ c.in_ok-set.ensures.set) (ap option_copied (sym c.in-Some-other.is) ∙ c.requires.other)
 
 pub returns-in-Some-stand_in_set-clause-node : goal.returns-in-Some-stand_in_set-clause-node
 returns-in-Some-stand_in_set-clause-node g c =
@@ -23,7 +19,7 @@ returns-in-Some-stand_in_set-clause-node g c =
     let t = c.args.record_type.0 in
     stand_in_first m c.args.key.now.name t (Some c.in-Some-stand_in_set.set.now)
     (ap option_copied (sym c.in_default.is) ∙ c.in_ok-set.ensures.set)
-    (ap option_copied (sym c.in_default-get.is) ∙ c.get.ensures ∙ ap (λ x. set_at m x CNAME) c.asked_set.ensures.same)
+    (ap option_copied (sym c.in_default-other.is) ∙ c.requires.other)
     (ap option_copied (sym c.in-Some-stand_in_set.is) ∙ c.stand_in_set.ensures.set ∙ ap (λ x. stand_in_set m x t) c.asked_set.ensures.same)
 
 pub returns-in-None-clause-node : goal.returns-in-None-clause-node
@@ -32,5 +28,5 @@ returns-in-None-clause-node g c =
     let t = c.args.record_type.0 in
     stand_in_first m c.args.key.now.name t None
     (ap option_copied (sym c.in_default.is) ∙ c.in_ok-set.ensures.set)
-    (ap option_copied (sym c.in_default-get.is) ∙ c.get.ensures ∙ ap (λ x. set_at m x CNAME) c.asked_set.ensures.same)
+    (ap option_copied (sym c.in_default-other.is) ∙ c.requires.other)
     (ap option_copied (sym c.in-None.is) ∙ c.stand_in_set.ensures.set ∙ ap (λ x. stand_in_set m x t) c.asked_set.ensures.same)

@@ -1,6 +1,5 @@
 use Rattle.std.proofs.Common.{◌≡◌, true, false, sym, ap, ◌∙◌}
 use Rattle.std.specs.Prelude.{None}
-use Rattle.zone_proto.specs.declared.rr_key.RrKey.{RrKey}
 use Rattle.zone_map.specs.Wildcards.{exists}
 use Rattle.zone_response.specs.Nodes.{at_node, node_of}
 use Rattle.zone_response.specs.Queries.{inquiry_of}
@@ -12,15 +11,15 @@ pub returns-then-exists-clause-ok : goal.returns-then-exists-clause-ok
 returns-then-exists-clause-ok g c =
     let q = inquiry_of c.args.asked c.args.inner.now.records in
     let x = c.args.name.now in
-    let there : exists q.sets x ≡ true = sym (ap (λ (k : RrKey). exists q.sets k.name) c.in_ok-key.ensures.copy.ok) ∙ sym c.exists.ensures ∙ c.if-exists.true in
+    let there : exists q.sets x ≡ true = sym (ap (exists q.sets) c.requires.name) ∙ sym c.exists.ensures ∙ c.if-exists.true in
     let node = node_of c.in_ok-node.node in
     same_step c.node_step.result c.args.so_far.now c.node_step.new.so_far (name_step q x) (node_step q.signed q.record_type None x node)
-    (own_step q x node there (c.in_ok-node.ensures.node ∙ ap (λ (k : RrKey). at_node q.sets k.name q.record_type) c.in_ok-key.ensures.copy.ok)) c.node_step.ensures.ok
+    (own_step q x node there (c.in_ok-node.ensures.node ∙ ap (λ n. at_node q.sets n q.record_type) c.requires.name)) c.node_step.ensures.ok
 
 pub returns-clause-ok : goal.returns-clause-ok
 returns-clause-ok g c =
     let q = inquiry_of c.args.asked c.args.inner.now.records in
     let x = c.args.name.now in
-    let absent : exists q.sets x ≡ false = sym (ap (λ (k : RrKey). exists q.sets k.name) c.in_ok-key.ensures.copy.ok) ∙ sym c.exists.ensures ∙ c.if-exists.false in
+    let absent : exists q.sets x ≡ false = sym (ap (exists q.sets) c.requires.name) ∙ sym c.exists.ensures ∙ c.if-exists.false in
     same_step c.star_step.result c.args.so_far.now c.star_step.new.so_far (name_step q x) (star_step q x c.in_ok-star.star)
     (absent_step q x c.in_ok-star.star absent c.in_ok-star.ensures.star) c.star_step.ensures.ok

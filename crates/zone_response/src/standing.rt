@@ -1,0 +1,143 @@
+//! What stands at one name, read in one walk of the zone: the sets of a name stand together in it, the least type first.
+ghost use Rattle.std.specs.Prelude.{◌≡◌, ◌≤◌, ◌==◌, ◌&&◌, not, is_some, option_copied};
+ghost use Rattle.std.specs.Option.{option_or};
+ghost use Rattle.zone_proto.specs.Types.{NS, CNAME};
+ghost use Rattle.zone_map.specs.Direct.{set_if};
+ghost use Rattle.zone_map.specs.Upserts.{is_denial_type};
+ghost use Rattle.zone_map.specs.Wildcards.{exists};
+ghost use Rattle.zone_map.specs.Zones.{set_at};
+ghost use Rattle.zone_response.specs.Standing.{StandsAt};
+
+use crate::query_types::is_denial_type;
+use std::collections::BTreeMap;
+use zone_inner::InnerInMemory;
+use zone_proto::{RecordSet, RecordType, RrKey, Signer};
+
+/// The sets of three types that stand at a name: NS, and two that are asked for.
+#[derive(Clone, Copy, Drop)]
+pub(crate) struct Standing<'z> {
+    pub(crate) ns: Option<&'z RecordSet>,
+    pub(crate) one: Option<&'z RecordSet>,
+    pub(crate) other: Option<&'z RecordSet>,
+}
+
+/// What stands at the name of its least key, that of type 0, of the type NS and of two others.
+pub(crate) fn read_standing<'z, S: Signer>(
+    inner: &'z InnerInMemory<S>,
+    least: &RrKey,
+    one: RecordType,
+    other: RecordType,
+) -> Standing<'z>
+    requires { least.now.record_type.0 ≡ 0 }
+    ensures { StandsAt inner.now.records least.now.name one.0 other.0 result }
+{
+    standing_in(inner.as_map(), least, one, other)
+}
+
+/// The same in a map of sets by their keys.
+fn standing_in<'z>(
+    sets: &'z BTreeMap<RrKey, RecordSet>,
+    least: &RrKey,
+    one: RecordType,
+    other: RecordType,
+) -> Standing<'z>
+    requires { least.now.record_type.0 ≡ 0 }
+    ensures ns { option_copied result.ns ≡ set_at sets.now.entries least.now.name NS }
+    ensures one { option_copied result.one ≡ set_at sets.now.entries least.now.name one.0 }
+    ensures other { option_copied result.other ≡ set_at sets.now.entries least.now.name other.0 }
+{
+    let last = last_of(one, other);
+    let mut here = Standing {
+        ns: None,
+        one: None,
+        other: None,
+    };
+    for (key, set) in sets.range(least..) {
+        if key.name != least.name {
+            break;
+        }
+        here = here.with(key.record_type, set, one, other);
+        // Further types are greater.
+        if key.record_type >= last {
+            break;
+        }
+    }
+    here
+}
+
+impl<'z> Standing<'z> {
+    /// The same with the set of a further type.
+    fn with(
+        self,
+        set_type: RecordType,
+        set: &'z RecordSet,
+        one: RecordType,
+        other: RecordType,
+    ) -> Standing<'z>
+        ensures ns { option_copied result.ns
+            ≡ option_or (option_copied self.entry.ns) (set_if (NS == set_type.0) set.now) }
+        ensures one { option_copied result.one
+            ≡ option_or (option_copied self.entry.one) (set_if (one.0 == set_type.0) set.now) }
+        ensures other { option_copied result.other
+            ≡ option_or (option_copied self.entry.other) (set_if (other.0 == set_type.0) set.now) }
+    {
+        Standing {
+            ns: or_if(self.ns, RecordType::NS, set_type, set),
+            one: or_if(self.one, one, set_type, set),
+            other: or_if(self.other, other, set_type, set),
+        }
+    }
+}
+
+/// What was found before, and else a set, if it is of a type.
+fn or_if<'z>(
+    found: Option<&'z RecordSet>,
+    record_type: RecordType,
+    set_type: RecordType,
+    set: &'z RecordSet,
+) -> Option<&'z RecordSet>
+    ensures { option_copied result
+        ≡ option_or (option_copied found.entry) (set_if (record_type.0 == set_type.0) set.now) }
+{
+    if found.is_none() && record_type == set_type {
+        return Some(set);
+    }
+    found
+}
+
+/// The greatest of three types, of which one is NS.
+fn last_of(one: RecordType, other: RecordType) -> RecordType
+    ensures ns { NS ≤ result.0 }
+    ensures one { one.0 ≤ result.0 }
+    ensures other { other.0 ≤ result.0 }
+{
+    RecordType::NS.max(one).max(other)
+}
+
+/// Whether the name of its least key exists, where `here` has the sets of this type and of CNAME that stand there: a set that is
+/// there tells, but for one of denial (RFC 4592 section 2.2.2), and without one the zone is searched for a name below.
+pub(crate) fn exists<S: Signer>(
+    inner: &InnerInMemory<S>,
+    least: &RrKey,
+    record_type: RecordType,
+    here: Standing<'_>,
+) -> bool
+    requires key { least.now.record_type.0 ≡ 0 }
+    requires here { StandsAt inner.now.records least.now.name record_type.0 CNAME here }
+    ensures { result ≡ exists inner.now.records least.now.name }
+{
+    if shows(here.one, record_type) {
+        return true;
+    }
+    if shows(here.other, RecordType::CNAME) {
+        return true;
+    }
+    inner.exists(least)
+}
+
+/// Whether there is a set of a type, which isn't one of denial.
+fn shows(set: Option<&RecordSet>, record_type: RecordType) -> bool
+    ensures { result ≡ (is_some (option_copied set.entry) && not (is_denial_type record_type.0)) }
+{
+    set.is_some() && !is_denial_type(record_type)
+}
