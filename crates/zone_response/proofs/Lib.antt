@@ -1,6 +1,5 @@
 pub mod NameTests
 pub mod StarWalk
-pub mod ShownNames
 pub mod TurnWalk
 pub mod NodeCases
 pub mod StepCases

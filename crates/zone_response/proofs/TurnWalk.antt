@@ -22,7 +22,7 @@ one_more_off (suc k) (l ∷ x) = one_more_off k x
 more_labels : (a x : Name) → is_at_or_above a x ≡ true → length a ≤ length x
 more_labels a x h = let r = is_at_or_above_sound a x h in omega (arith, ap length r.1, length-append r.0 a)
 
-pub origin_first : (origin x : Name) → is_at_or_above origin x ≡ true → drop (length x - length origin) x ≡ origin
+origin_first : (origin x : Name) → is_at_or_above origin x ≡ true → drop (length x - length origin) x ≡ origin
 origin_first origin x h =
     let r = is_at_or_above_sound origin x h in
     let size : length x - length origin ≡ length r.0 = omega (arith, ap length r.1, length-append r.0 origin) in
@@ -178,6 +178,3 @@ module _ (origin : Name) (m : Sets) (x : Name) (t : ℕ) where
 module _ (origin : Name) (m : Sets) (a : Name) where
   pub at_cut : (s : RRset) → Some s ≡ cond (name_eq a origin) None (set_at m a NS) → Some (cut s) ≡ passed_turn origin m a
   at_cut s e = ap (λ (o : Option RRset). option_or (option_map cut o) (option_map renaming (set_at m a DNAME))) e
-
-  pub without_cut : (o : Option RRset) → None ≡ cond (name_eq a origin) None (set_at m a NS) → o ≡ set_at m a DNAME → option_map renaming o ≡ passed_turn origin m a
-  without_cut o e f = λ i. option_or (option_map cut (e i)) (option_map renaming (f i))

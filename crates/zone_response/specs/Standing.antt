@@ -2,11 +2,15 @@
 use Rattle.std.specs.Prelude.{◌≡◌, ℕ, option_copied}
 use Rattle.zone_proto.specs.Names.{Name}
 use Rattle.zone_proto.specs.Types.{NS}
-use Rattle.zone_map.specs.Zones.{Sets, set_at}
+use Rattle.zone_map.specs.Zones.{Sets, set_at, IsZone}
+use Rattle.zone_map.specs.Walks.{first_key_from}
 use Rattle.zone_response.specs.declared.standing.Standing.{Standing}
 
--- the sets of NS and of two other types that stand at a name
+-- of a zone, the sets of NS and of two other types that stand at a name
 pub record StandsAt (m : Sets) (n : Name) (t u : ℕ) (here : Standing) : Type 0 where
   pub ns : option_copied here.ns ≡ set_at m n NS
   pub one : option_copied here.one ≡ set_at m n t
   pub other : option_copied here.other ≡ set_at m n u
+  -- the first key from the name's least key on, and that the keys of the zone are in order: by the two it mostly tells whether the name exists
+  pub first : option_copied here.first ≡ first_key_from m n
+  pub zone : IsZone m

@@ -1,11 +1,11 @@
 //! What stands at one name, read in one walk of the zone: the sets of a name stand together in it, the least type first.
-ghost use Rattle.std.specs.Prelude.{◌≡◌, ◌≤◌, ◌==◌, ◌&&◌, not, is_some, option_copied};
+ghost use Rattle.std.specs.Prelude.{◌≡◌, ◌≤◌, ◌==◌, option_copied};
 ghost use Rattle.std.specs.Option.{option_or};
-ghost use Rattle.zone_proto.specs.Types.{NS, CNAME};
+ghost use Rattle.zone_proto.specs.Types.{NS};
 ghost use Rattle.zone_map.specs.Direct.{set_if};
-ghost use Rattle.zone_map.specs.Upserts.{is_denial_type};
+ghost use Rattle.zone_map.specs.Walks.{first_key_from};
 ghost use Rattle.zone_map.specs.Wildcards.{exists};
-ghost use Rattle.zone_map.specs.Zones.{set_at};
+ghost use Rattle.zone_map.specs.Zones.{set_at, IsZone};
 ghost use Rattle.zone_response.specs.Standing.{StandsAt};
 
 use crate::query_types::is_denial_type;
@@ -13,12 +13,14 @@ use std::collections::BTreeMap;
 use zone_inner::InnerInMemory;
 use zone_proto::{RecordSet, RecordType, RrKey, Signer};
 
-/// The sets of three types that stand at a name: NS, and two that are asked for.
+/// The sets of three types that stand at a name: NS, and two that are asked for; and the first key from the name's least key on,
+/// of the name or of another.
 #[derive(Clone, Copy, Drop)]
 pub(crate) struct Standing<'z> {
     pub(crate) ns: Option<&'z RecordSet>,
     pub(crate) one: Option<&'z RecordSet>,
     pub(crate) other: Option<&'z RecordSet>,
+    first: Option<&'z RrKey>,
 }
 
 /// What stands at the name of its least key, that of type 0, of the type NS and of two others.
@@ -45,14 +47,18 @@ fn standing_in<'z>(
     ensures ns { option_copied result.ns ≡ set_at sets.now.entries least.now.name NS }
     ensures one { option_copied result.one ≡ set_at sets.now.entries least.now.name one.0 }
     ensures other { option_copied result.other ≡ set_at sets.now.entries least.now.name other.0 }
+    ensures first { option_copied result.first
+        ≡ first_key_from sets.now.entries least.now.name }
 {
     let last = last_of(one, other);
     let mut here = Standing {
         ns: None,
         one: None,
         other: None,
+        first: None,
     };
     for (key, set) in sets.range(least..) {
+        here.first = here.first.or(Some(key));
         if key.name != least.name {
             break;
         }
@@ -80,11 +86,13 @@ impl<'z> Standing<'z> {
             ≡ option_or (option_copied self.entry.one) (set_if (one.0 == set_type.0) set.now) }
         ensures other { option_copied result.other
             ≡ option_or (option_copied self.entry.other) (set_if (other.0 == set_type.0) set.now) }
+        ensures first { option_copied result.first ≡ option_copied self.entry.first }
     {
         Standing {
             ns: or_if(self.ns, RecordType::NS, set_type, set),
             one: or_if(self.one, one, set_type, set),
             other: or_if(self.other, other, set_type, set),
+            first: self.first,
         }
     }
 }
@@ -114,30 +122,21 @@ fn last_of(one: RecordType, other: RecordType) -> RecordType
     RecordType::NS.max(one).max(other)
 }
 
-/// Whether the name of its least key exists, where `here` has the sets of this type and of CNAME that stand there: a set that is
-/// there tells, but for one of denial (RFC 4592 section 2.2.2), and without one the zone is searched for a name below.
-pub(crate) fn exists<S: Signer>(
-    inner: &InnerInMemory<S>,
-    least: &RrKey,
-    record_type: RecordType,
-    here: Standing<'_>,
-) -> bool
+/// Whether the name of its least key exists, where `here` stands there: whether it, or a name below it, owns a set of a type other
+/// than those of denial (RFC 4592 section 2.2.2). The first key from there on tells, since the names below a name stand together
+/// after it; only where that key is of a type of denial the zone is searched for a further one.
+pub(crate) fn exists<S: Signer>(inner: &InnerInMemory<S>, least: &RrKey, here: Standing<'_>) -> bool
     requires key { least.now.record_type.0 ≡ 0 }
-    requires here { StandsAt inner.now.records least.now.name record_type.0 CNAME here }
+    requires first { option_copied here.first
+        ≡ first_key_from inner.now.records least.now.name }
+    requires zone { IsZone inner.now.records }
     ensures { result ≡ exists inner.now.records least.now.name }
 {
-    if shows(here.one, record_type) {
-        return true;
+    let Some(first) = here.first else {
+        return false;
+    };
+    if !least.name.zone_of(&first.name) {
+        return false;
     }
-    if shows(here.other, RecordType::CNAME) {
-        return true;
-    }
-    inner.exists(least)
-}
-
-/// Whether there is a set of a type, which isn't one of denial.
-fn shows(set: Option<&RecordSet>, record_type: RecordType) -> bool
-    ensures { result ≡ (is_some (option_copied set.entry) && not (is_denial_type record_type.0)) }
-{
-    set.is_some() && !is_denial_type(record_type)
+    !is_denial_type(first.record_type) || inner.exists(least)
 }

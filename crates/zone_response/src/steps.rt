@@ -203,7 +203,7 @@ fn name_step<'z, S: Signer>(
     ensures err { IsOkUnless result LookupError.Memory }
 {
     let mut key = key;
-    if exists(inner, &key, asked.record_type, here) {
+    if exists(inner, &key, here) {
         let node = at_node(inner, &mut key, asked.record_type, here)?;
         return node_step(node, None, name, asked, so_far);
     }
@@ -228,10 +228,10 @@ fn star_step<'z, S: Signer>(
         return Ok(at_missing(name, None, false)?);
     };
     let mut key = RrKey::first_of(&star)?;
-    if !inner.exists(&key) {
+    let here = read_standing(inner, &key, asked.record_type, RecordType::CNAME);
+    if !exists(inner, &key, here) {
         return Ok(at_missing(name, Some(star), false)?);
     }
-    let here = read_standing(inner, &key, asked.record_type, RecordType::CNAME);
     let node = at_node(inner, &mut key, asked.record_type, here)?;
     node_step(node, Some(star), name, asked, so_far)
 }

@@ -1,5 +1,6 @@
 use Rattle.std.proofs.Common.{ap, ◌∙◌}
 use Rattle.zone_proto.specs.Types.{NS}
+use Rattle.zone_map.specs.Walks.{first_key_from}
 use Rattle.zone_map.specs.Zones.{set_at}
 use Rattle.zone_response.proofs.standing.read_standing.Goals as goal
 
@@ -10,4 +11,6 @@ returns g c =
       ns = c.standing_in.ensures.ns ∙ ap (λ m. set_at m n NS) c.as_map.ensures.entries;
       one = c.standing_in.ensures.one ∙ ap (λ m. set_at m n c.args.one.0) c.as_map.ensures.entries;
       other = c.standing_in.ensures.other ∙ ap (λ m. set_at m n c.args.other.0) c.as_map.ensures.entries;
+      first = c.standing_in.ensures.first ∙ ap (λ m. first_key_from m n) c.as_map.ensures.entries;
+      zone = c.as_map.ensures.zone;
     }

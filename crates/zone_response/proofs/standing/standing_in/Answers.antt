@@ -1,12 +1,14 @@
-use Rattle.std.proofs.Common.{arith, ℕ, ◌<◌, ◌≤◌, refl, subst, true≢false, Ordering, Less, Equal, Greater, ◌≡◌, ◌==◌, true, false, sym, ap, ◌∙◌}
+use Rattle.std.proofs.Common.{Bor, arith, ℕ, ◌<◌, ◌≤◌, refl, subst, true≢false, Ordering, Less, Equal, Greater, ◌≡◌, ◌==◌, true, false, sym, ap, ◌∙◌}
 use Rattle.std.specs.Prelude.{Option, Some, None, option_copied}
 use Rattle.std.specs.Option.{option_or}
 use Rattle.std.specs.Ordering.{eq_by_cmp, nat_cmp, is_ge, MatchOrdering}
 use Rattle.std.proofs.lemmas.Cmp.{ranked}
+use Rattle.zone_proto.specs.declared.rr_key.RrKey.{RrKey}
 use Rattle.zone_proto.specs.Names.{name_cmp}
 use Rattle.zone_proto.specs.Types.{NS}
 use Rattle.zone_map.proofs.AnyTypes.{Ascends}
 use Rattle.zone_map.proofs.AtName.{first_set, first_over, first_passed, rest_ascends, later_differs, none_left, whole_type, whole_ascends}
+use Rattle.zone_map.proofs.FirstKeys.{front_key, whole_first, first_known, first_stays}
 use Rattle.zone_map.proofs.Neighbours.{not_false, not_true, from_key, front_types}
 use Rattle.zone_response.proofs.standing.standing_in.Goals as goal
 
@@ -14,6 +16,14 @@ use Rattle.zone_response.proofs.standing.standing_in.Goals as goal
 alone : {X : Type 0} (o rest whole : Option X) → rest ≡ None → option_or o rest ≡ whole → o ≡ whole
 alone None rest whole e h = sym e ∙ h
 alone (Some x) rest whole e h = h
+
+-- of keys that are lent, the first stays
+noted_first : (before : Option (Bor RrKey)) (k : Bor RrKey) (after : Option (Bor RrKey)) → after ≡ option_or before (Some k) → option_copied after ≡ option_or (option_copied before) (Some k.now)
+noted_first before k after e = ap option_copied e ∙ by before
+  where
+    by : (o : Option (Bor RrKey)) → option_copied (option_or o (Some k)) ≡ option_or (option_copied o) (Some k.now)
+    by None = refl
+    by (Some j) = refl
 
 at_least : (t u : ℕ) → true ≡ is_ge (nat_cmp t u) → u ≤ t
 at_least t u h = by (nat_cmp t u) refl h
@@ -30,6 +40,7 @@ loop-key-init c =
       ns = ap (first_set (λ u. NS == u) c.args.least.now.name) first;
       one = ap (first_set (λ u. c.args.one.0 == u) c.args.least.now.name) first;
       other = ap (first_set (λ u. c.args.other.0 == u) c.args.least.now.name) first;
+      first = ap front_key first;
       ascend =
           subst (λ es. Ascends (front_types c.args.least.now.name es)) (sym first)
           (whole_ascends c.args.least.now c.args.sets.now.entries c.args.sets.now.entries c.requires c.range-key-items.ensures.ordered refl);
@@ -48,6 +59,9 @@ loop-key-preserved c =
       other =
           first_passed (λ u. c.args.other.0 == u) c.args.least.now.name _ c.next.new.self (c.in-Some.key.now, c.in-Some.set.now) (option_copied c.loop-key.here.other) _ _
           c.in-Some.ensures.steps same c.with-here.ensures.other c.loop-key.invariant.other;
+      first =
+          first_stays _ c.next.new.self (c.in-Some.key.now, c.in-Some.set.now) (option_copied c.loop-key.here.first) (option_copied c.with-here.result.first) _
+          c.in-Some.ensures.steps (c.with-here.ensures.first ∙ noted_first c.loop-key.here.first c.in-Some.key c.or-here.result c.or-here.ensures) c.loop-key.invariant.first;
       ascend = rest_ascends c.args.least.now.name _ c.next.new.self (c.in-Some.key.now, c.in-Some.set.now) c.in-Some.ensures.steps same c.loop-key.invariant.ascend;
     }
 
@@ -122,3 +136,20 @@ returns-then-ge-clause-other c =
     (first_passed (λ u. c.args.other.0 == u) c.args.least.now.name _ c.next.new.self (c.in-Some.key.now, c.in-Some.set.now) (option_copied c.loop-key.here.other) _ _
     c.in-Some.ensures.steps same c.with-here.ensures.other c.loop-key.invariant.other)
     ∙ whole_type c.args.least.now c.args.sets.now.entries c.args.sets.now.entries c.requires c.range-key-items.ensures.ordered refl c.args.other.0
+
+pub returns-in-None-clause-first : goal.returns-in-None-clause-first
+returns-in-None-clause-first c =
+    alone (option_copied c.loop-key.here.first) _ _ (ap front_key c.in-None.ensures.steps.0) c.loop-key.invariant.first
+    ∙ whole_first c.args.least.now c.args.sets.now.entries c.requires
+
+pub returns-then-ne-clause-first : goal.returns-then-ne-clause-first
+returns-then-ne-clause-first c =
+    first_known _ c.next.new.self (c.in-Some.key.now, c.in-Some.set.now) (option_copied c.loop-key.here.first) (option_copied c.or-here.result) _
+    c.in-Some.ensures.steps (noted_first c.loop-key.here.first c.in-Some.key c.or-here.result c.or-here.ensures) c.loop-key.invariant.first
+    ∙ whole_first c.args.least.now c.args.sets.now.entries c.requires
+
+pub returns-then-ge-clause-first : goal.returns-then-ge-clause-first
+returns-then-ge-clause-first c =
+    first_known _ c.next.new.self (c.in-Some.key.now, c.in-Some.set.now) (option_copied c.loop-key.here.first) (option_copied c.with-here.result.first) _
+    c.in-Some.ensures.steps (c.with-here.ensures.first ∙ noted_first c.loop-key.here.first c.in-Some.key c.or-here.result c.or-here.ensures) c.loop-key.invariant.first
+    ∙ whole_first c.args.least.now c.args.sets.now.entries c.requires
