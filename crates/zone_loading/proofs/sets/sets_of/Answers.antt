@@ -7,7 +7,7 @@ use Rattle.zone_proto.specs.declared.error.ProtoError.{ProtoError}
 use Rattle.zone_proto.specs.declared.rr_key.RrKey.{RrKey}
 use Rattle.zone_proto.specs.Keys.{key_cmp}
 use Rattle.zone_proto.specs.Sets.{RRset}
-use Rattle.zone_map.specs.Zones.{Sets, set_at, last_at, IsStoredAt, AreStored}
+use Rattle.zone_map.specs.Zones.{Sets, set_at, IsStoredAt, AreStored}
 use Rattle.zone_loading.specs.Groups.{IsGroupOf}
 use Rattle.zone_loading.specs.Sets.{set_in}
 use Rattle.zone_loading.proofs.Making.{set_more, sorted_left, sets_with}
