@@ -3,7 +3,7 @@ use Rattle.std.proofs.Common.{◌≡◌, Bool, true, false, cond, not, ◌&&◌,
 use Rattle.std.specs.Prelude.{Option, Some, filter, Ok, Err, Result, OnOk}
 use Rattle.std.specs.BTreeMap.{BTreeMap, get, insert_entry}
 use Rattle.std.specs.List.{AllByRecursion}
-use Rattle.std.specs.Map.{keys_of, set_value}
+use Rattle.std.specs.Map.{keys_of}
 use Rattle.std.specs.Option.{option_map_or}
 use Rattle.std.specs.Ordering.{match_ordering}
 use Rattle.zone_proto.specs.declared.rr_key.RrKey.{RrKey}
@@ -92,16 +92,6 @@ named_inserted k g named (e ∷ es) h = by (key_cmp k e.0) (named_inserted k g n
     by Less rest = (named, h)
     by Equal rest = h
     by Greater rest = (h.0, rest)
-
-pub named_written : (test : RrKey → Bool) (g : Group) (es : List (RrKey × Group)) → AllByRecursion (λ (q : RrKey). IsName q.name) (keys_of es)
-    → AllByRecursion (λ (q : RrKey). IsName q.name) (keys_of (set_value test es g))
-named_written test g [] h = tt
-named_written test g (e ∷ es) h = by (test e.0) (named_written test g es h.1)
-  where
-    by : (b : Bool) → AllByRecursion (λ (q : RrKey). IsName q.name) (keys_of (set_value test es g))
-        → AllByRecursion (λ (q : RrKey). IsName q.name) (keys_of (cond b ((e.0, g) ∷ es) (e ∷ set_value test es g)))
-    by true rest = h
-    by false rest = (h.0, rest)
 
 -- what holds anyway holds where a call is well
 pub on_any : {T E P : Type 0} (r : Result T E) → P → OnOk r P

@@ -1,8 +1,7 @@
 //! The records of a zone by the set that they are of, or sign.
-ghost use Rattle.std.specs.Prelude.{◌≡◌, ◌++◌, ◌∷◌, ◌&&◌, [], None, true, not, filter, IfOk, OnOk, IsOkUnless};
-ghost use Rattle.std.specs.BTreeMap.{get};
+ghost use Rattle.std.specs.Prelude.{◌≡◌, ◌++◌, ◌∷◌, ◌&&◌, [], not, filter, IfOk, OnOk, IsOkUnless};
 ghost use Rattle.zone_proto.specs.declared.rr_key.RrKey.{RrKey as Key};
-ghost use Rattle.zone_proto.specs.Keys.{key_cmp, key_eq};
+ghost use Rattle.zone_proto.specs.Keys.{key_eq};
 ghost use Rattle.zone_proto.specs.Names.{is_at_or_above, IsName};
 ghost use Rattle.zone_loading.specs.Groups.{records_in, signatures_in, AreNamed};
 ghost use Rattle.zone_loading.specs.Records.{is_data_of, is_signature, is_signature_of, set_key, set_type};
@@ -155,49 +154,6 @@ fn put_behind(
     ensures named { OnOk result (AreNamed groups.old → AreNamed groups.new) }
     ensures err { IsOkUnless result ProtoError.Memory }
 {
-    if comes_last(groups, &key) {
-        return put_first(groups, key, given);
-    }
-    match groups.get_mut(&key) {
-        Some(group) => group.push(given),
-        None => put_first(groups, key, given),
-    }
-}
-
-/// Whether a key stands behind all others. Where records come in canonical order, as signers write them, most do that begin a
-/// set: one comparison tells it, where a walk takes many.
-fn comes_last(groups: &BTreeMap<RrKey, Group>, key: &RrKey) -> bool
-    ensures { result ≡ true → get key_cmp groups.now key.now ≡ None }
-{
-    match groups.last_key_value() {
-        Some((last, _)) => last < key,
-        None => true,
-    }
-}
-
-/// The same where the set has none yet.
-fn put_first(
-    groups: &mut BTreeMap<RrKey, Group>,
-    key: RrKey,
-    given: GivenRecord,
-) -> Result<(), ProtoError>
-    requires absent { get key_cmp groups.old key ≡ None }
-    requires named { IsName key.name }
-    ensures records { OnOk result
-        ((k : Key)
-        → records_in groups.new k
-        ≡ records_in groups.old k
-        ++ filter (λ g. not (is_signature g.record.rdata) && key_eq key k) (given ∷ [])) }
-    ensures signatures { OnOk result
-        ((k : Key)
-        → signatures_in groups.new k
-        ≡ signatures_in groups.old k
-        ++ filter (λ g. is_signature g.record.rdata && key_eq key k) (given ∷ [])) }
-    ensures named { OnOk result (AreNamed groups.old → AreNamed groups.new) }
-    ensures err { IsOkUnless result ProtoError.Memory }
-{
-    let mut group = Group::new(key.name.alloc());
-    group.push(given)?;
-    groups.insert(key, group)?;
-    Ok(())
+    let group = Group::new(key.name.alloc());
+    groups.entry(key)?.or_insert(group).push(given)
 }
