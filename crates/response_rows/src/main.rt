@@ -27,6 +27,9 @@
 //! stands what the zone says, by its sections: the code, and `aa` of an authoritative one; `;; GLUE` are the records of the
 //! additional section that have to go, and `;; LEFT` is followed by the name at which a chain of aliases left the zone.
 //!
+//! `%` asks the same with no memory left, and then with a little more each time, until there is a response, so that growths are
+//! refused in turn: each time before, the answer was that memory is refused. Below it stands that response.
+//!
 //! `?` is followed by `tcp` or `udp=` and the limit of the way, and then by a query: by a name, a type and words for what else it
 //! has (`id=`, `opcode=`, `class=`, `rd`, `ad`, `cd`, `edns=` and the size, `version=`, `do`), or by `hex` and its octets. `<` is
 //! followed by `stream` or `limits` and the octets of frames in hex. Below stand the responses in the words of `dig`, one space

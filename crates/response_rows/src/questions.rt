@@ -3,26 +3,86 @@
 use crate::response_text::ResponseText;
 use crate::zones::{Zone, lent};
 use anyhow::bail;
+use scarce::Scarcity;
 use std::alloc::Global;
-use zone_handler::LookupOptions;
-use zone_proto::DNSClass;
-use zone_response::{Question, respond};
+use zone_handler::{LookupError, LookupOptions};
+use zone_proto::{DNSClass, RrKey};
+use zone_response::{Question, Response, respond};
 use zone_text::{Words, read_key};
+
+/// How often a question is asked at most with memory refused.
+const ROOMS: usize = 1_000;
+
+/// By how many octets the memory grows that is left to each.
+const STEP: usize = 16;
+
+/// A question, and whether it asks for DNSSEC.
+#[derive(Drop)]
+struct Asked {
+    key: RrKey,
+    query_class: DNSClass,
+    options: LookupOptions,
+}
 
 /// The response of the last zone to a question by its words.
 pub fn say(alloc: Global, zones: &[Zone], words: &mut Words<'_>) -> anyhow::Result<String> {
+    let zone = last_of(zones)?;
+    let asked = read_question(alloc, words)?;
+    let response = response_of(zone, &asked)?;
+    Ok(format!(in alloc; "{}", ResponseText(&response))?)
+}
+
+/// The same, asked with no memory left, and then with a little more each time, until there is a response.
+pub fn say_at_last(alloc: Global, zones: &[Zone], words: &mut Words<'_>) -> anyhow::Result<String> {
+    let zone = last_of(zones)?;
+    let asked = read_question(alloc, words)?;
+    let mut scarce = Scarcity::new(alloc)?;
+    scarce.begin(ROOMS)?;
+    let given = scarce.until_given(STEP, || unless_refused(zone, &asked));
+    scarce.end();
+    let Some((refused, response)) = given else {
+        return Ok(format!(in alloc; ";; refused\n")?);
+    };
+    if refused == 0 {
+        return Ok(format!(in alloc; ";; never refused\n")?);
+    }
+    Ok(format!(in alloc; "{}", ResponseText(&response?))?)
+}
+
+/// The zone that is asked.
+fn last_of(zones: &[Zone]) -> anyhow::Result<&Zone> {
     let Some(zone) = zones.last() else {
         bail!("there is no zone to be asked");
     };
+    Ok(zone)
+}
+
+/// A question by its words.
+fn read_question(alloc: Global, words: &mut Words<'_>) -> anyhow::Result<Asked> {
     let key = read_key(alloc, words)?;
     let query_class = DNSClass(words.take_u16()?);
     let dnssec_ok = words.take_flag(b"dnssec")?;
-    let options = LookupOptions { dnssec_ok };
-    let question = Question {
-        name: &key.name,
-        query_type: key.record_type,
+    Ok(Asked {
+        key,
         query_class,
+        options: LookupOptions { dnssec_ok },
+    })
+}
+
+/// The response of a zone to a question.
+fn response_of<'z>(zone: &'z Zone, asked: &Asked) -> Result<Response<'z>, LookupError> {
+    let question = Question {
+        name: &asked.key.name,
+        query_type: asked.key.record_type,
+        query_class: asked.query_class,
     };
-    let response = respond(lent(zone), question, options)?;
-    Ok(format!(in alloc; "{}", ResponseText(&response))?)
+    respond(lent(zone), question, asked.options)
+}
+
+/// The same; none where memory is refused.
+fn unless_refused<'z>(zone: &'z Zone, asked: &Asked) -> Option<Result<Response<'z>, LookupError>> {
+    match response_of(zone, asked) {
+        Err(LookupError::Memory) => None,
+        response => Some(response),
+    }
 }

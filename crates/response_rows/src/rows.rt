@@ -1,6 +1,6 @@
 //! Rows: questions and messages, and the responses that are wanted.
 
-use crate::questions::say;
+use crate::questions::{say, say_at_last};
 use crate::zones::{Zone, add, ask, read_policy, read_zone, secure, serve};
 use std::alloc::Global;
 use zone_handler::AxfrPolicy;
@@ -54,7 +54,7 @@ fn take_line<'t>(alloc: Global, reader: &mut Reader<'t>, line: &'t str) -> anyho
         return Ok(());
     }
     judge(alloc, reader)?;
-    if line.starts_with("= ") || line.starts_with("? ") || line.starts_with("< ") {
+    if is_asked(line) {
         reader.asked = Some(line);
     } else if let Some(words) = line.strip_prefix("> ") {
         add(alloc, &mut reader.zones, &mut Words::new(words.as_bytes()))?;
@@ -72,11 +72,20 @@ fn take_line<'t>(alloc: Global, reader: &mut Reader<'t>, line: &'t str) -> anyho
     Ok(())
 }
 
+/// Whether a line asks for a response.
+fn is_asked(line: &str) -> bool {
+    line.starts_with("= ")
+        || line.starts_with("% ")
+        || line.starts_with("? ")
+        || line.starts_with("< ")
+}
+
 /// Whether a line is one of a response.
 fn is_response(line: &str) -> bool {
     !line.is_empty()
         && !line.starts_with("#")
         && !line.starts_with("=")
+        && !line.starts_with("%")
         && !line.starts_with("?")
         && !line.starts_with("<")
         && !line.starts_with(">")
@@ -107,6 +116,9 @@ fn came_of(
 ) -> anyhow::Result<String> {
     if let Some(words) = asked.strip_prefix("= ") {
         return say(alloc, zones, &mut Words::new(words.as_bytes()));
+    }
+    if let Some(words) = asked.strip_prefix("% ") {
+        return say_at_last(alloc, zones, &mut Words::new(words.as_bytes()));
     }
     match asked.strip_prefix("< ") {
         Some(words) => serve(alloc, zones, policies, words),
