@@ -10,7 +10,7 @@ use zone_text::HexText;
 const FULL: u8 = 255;
 
 /// What stands in the place of a number before a call.
-const NINES: u32 = 999;
+const BEFORE: u32 = 999;
 
 /// The places that a call may write.
 #[derive(Drop)]
@@ -28,8 +28,8 @@ impl Left {
     pub fn new(alloc: Global, room: usize) -> Result<Left, AllocError> {
         Ok(Left {
             room: vec![in alloc; FULL; room]?,
-            written: NINES as usize,
-            serial: NINES,
+            written: BEFORE as usize,
+            serial: BEFORE,
         })
     }
 

@@ -11,16 +11,16 @@
 //! - `answer TRANSPORT LIMIT HEX` of the octets of a message.
 //!
 //! An answer begins with the code of the call, as `include/ningkraet.h` numbers it: 0 for `free`, which has none, and for `move`
-//! 0, or 2 where nothing is held. Behind it stand, for `serial`, the number that the call was handed a place for, in which there
-//! were nines; and for `load`, `add` and `answer` the count that it wrote, and the room up to the last octet that it changed: lines
-//! of text, or octets in hex.
+//! 0, or 2 where nothing is held. Behind it stands, for `serial`, the number in the place that the call was handed, where 999 stood
+//! before; and for `load`, `add` and `answer` the count that it wrote, and the room up to the last octet that it changed: lines of
+//! text, or octets in hex, `-` for none.
 //!
 //! What stands before a row and `: ` says how it is made:
 //!
 //! - `room 20: ` in a room of so many octets, else it has 1232;
 //! - `without memory: ` where every growth is refused;
 //! - `after refusals: ` with no memory left, and then with a little more each time, until memory isn't refused any longer. Its
-//!   answer begins with `refused, then` where it was, and is code 5 where the call wrote something although it was.
+//!   answer begins with `refused, then` where it was before.
 #![tactic(auto)]
 
 mod call;
