@@ -7,7 +7,8 @@ of the gate.
   tools/hostile_messages.py [COUNT [SEED]]
 
 Prints how long it took, in a process that also makes and checks the messages, and how much memory the program had at its most, for a
-tenth of them and for all: the two figures of memory should be alike. The status is 1 where an answer isn't as it has to be.
+tenth of them and for all: the two figures of memory should be alike. The tenth goes out one by one, and the processor time of the one that
+took longest is told. The status is 1 where an answer isn't as it has to be.
 """
 import importlib.machinery
 import importlib.util
@@ -98,14 +99,21 @@ def is_answered(message):
     return len(message) >= 12 and not message[2] & 0x80
 
 
-def tried(program, count):
-    """Hands over so many messages: what was wrong, and how many octets of memory the program had at its most."""
-    source, left, wrong = messages(), count, []
+def worked(process):
+    """The nanoseconds of a processor that a process has taken."""
+    with open(f"/proc/{process.pid}/schedstat", encoding="ascii") as it:
+        return int(it.read().split()[0])
+
+
+def tried(program, count, together):
+    """Hands over so many messages, so many of them together: what was wrong, how many octets of memory the program had at its most, and the
+    nanoseconds of a processor that it took longest for those together, but for the first, for which it loads the zone."""
+    source, left, wrong, took, before = messages(), count, [], 0, None
     with tempfile.TemporaryFile() as faults:
         pipe = subprocess.PIPE
         served = subprocess.Popen([program, "--limits", "--transfers", ZONE], stdin=pipe, stdout=pipe, stderr=faults)
         while left > 0 and not wrong:
-            some = [(next(source), random.choice(LIMITS)) for _ in range(min(left, TOGETHER))]
+            some = [(next(source), random.choice(LIMITS)) for _ in range(min(left, together))]
             left -= len(some)
             served.stdin.write(b"".join(struct.pack("!HH", limit, len(it)) + it for it, limit in some))
             served.stdin.flush()
@@ -114,12 +122,14 @@ def tried(program, count):
                     (length,) = struct.unpack("!H", served.stdout.read(2))
                     told = fault(message, limit, served.stdout.read(length))
                     wrong += [f"{told}: {message.hex()} within {limit}"] if told else []
+            after = worked(served)
+            took, before = max(took, after - (after if before is None else before)), after
         with open(f"/proc/{served.pid}/status", encoding="ascii") as it:
             most = next(int(line.split()[1]) for line in it if line.startswith("VmHWM:"))
         served.stdin.close()
         wrong += ["more is answered"] if served.stdout.read() else []
         wrong += [f"status {served.returncode}"] if served.wait() else []
-    return wrong, most
+    return wrong, most, took
 
 
 def main(count="1000000", seed="1"):
@@ -127,10 +137,11 @@ def main(count="1000000", seed="1"):
     if path.returncode:
         return path.returncode
     random.seed(int(seed))
-    for some in (int(count) // 10, int(count)):
+    for some, together in ((int(count) // 10, 1), (int(count), TOGETHER)):
         began = time.monotonic()
-        wrong, most = tried(path.stdout.strip(), some)
-        print(f"{some} messages: {time.monotonic() - began:.1f} s, {most} kilobytes")
+        wrong, most, took = tried(path.stdout.strip(), some, together)
+        slowest = f", at most {took / 1000:.0f} microseconds of a processor for one" if together == 1 else ""
+        print(f"{some} messages: {time.monotonic() - began:.1f} s, {most} kilobytes{slowest}")
         if wrong:
             print(*wrong[:5], sep="\n")
             return 1
