@@ -38,7 +38,7 @@ class Way(NamedTuple):
 
 WAYS = [
     Way("plain", [], [], 1_000_000, 2000),
-    Way("sanitized", ["-fsanitize=address,undefined", "-fno-sanitize-recover=all"], [], 200_000, 300),
+    Way("sanitized", ["-fsanitize=address,undefined", "-fno-sanitize-recover=all"], [], 1_000_000, 300),
     Way("under valgrind", [], VALGRIND, 20_000, 50),
 ]
 # A query for the SOA of example.com, and one without an answer: it is itself a response.
