@@ -1,7 +1,7 @@
 #!/usr/bin/env python3
 """tools/library_test.py [FOLDER]: tries the library for C from C: each refusal, each allocation failing in turn, threads that answer from
 the same zones while these are renewed, and the server over it with clients that are slow, rude or many, and with a million datagrams that no
-client would send; once more under the sanitizers of the compiler, and with less under valgrind. FOLDER is what `tools/build ningkraet` made;
+client would send; once more under the sanitizers of the compiler, and under valgrind. FOLDER is what `tools/build ningkraet` made;
 where none is named it is what `tools/program path ningkraet` gives. No part of the gate: it needs cc, opens sockets on loopback, and leaves
 out, and says so, what a machine without valgrind can't do. It ends what it starts."""
 import contextlib
@@ -39,7 +39,7 @@ class Way(NamedTuple):
 WAYS = [
     Way("plain", [], [], 1_000_000, 2000),
     Way("sanitized", ["-fsanitize=address,undefined", "-fno-sanitize-recover=all"], [], 1_000_000, 300),
-    Way("under valgrind", [], VALGRIND, 20_000, 50),
+    Way("under valgrind", [], VALGRIND, 1_000_000, 50),
 ]
 # A query for the SOA of example.com, and one without an answer: it is itself a response.
 QUERY = bytes.fromhex("1234 0100 0001 0000 0000 0000 07") + b"example\3com" + bytes.fromhex("00 0006 0001")

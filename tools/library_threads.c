@@ -62,7 +62,8 @@ int main(int argc, char **argv) {
     if (nk_zones_new(&loaded) != NK_DONE || load(&loaded, 1) != NK_DONE) return 2;
     renewed = 1;
     for (size_t i = 0; i < THREADS; i++) pthread_create(&threads[i], NULL, answering, (void *)(i + 1));
-    for (unsigned serial = 2; serial <= count; serial++) {
+    /* So many, and until the threads have taken some of them. */
+    for (unsigned serial = 2; serial <= count || copies < 2 * THREADS; serial++) {
         nk_zones fresh = NK_ZONES_NONE, old;
         pthread_mutex_lock(&lock);
         uint32_t code = nk_zones_copy(&loaded, &fresh);
@@ -76,6 +77,6 @@ int main(int argc, char **argv) {
     stopped = 1;
     for (size_t i = 0; i < THREADS; i++) pthread_join(threads[i], NULL);
     nk_zones_free(&loaded);
-    printf("%lu answers by %d threads, which took %lu of %u renewals; %u wrong\n", answers, THREADS, copies, count, faults);
+    printf("%lu answers by %d threads, which took %lu of %u renewals; %u wrong\n", answers, THREADS, copies, renewed, faults);
     return faults != 0;
 }
