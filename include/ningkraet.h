@@ -129,7 +129,8 @@ uint32_t nk_zones_serial(nk_zones *zones, const uint8_t *origin, size_t origin_l
 
 /* Answers a message (RFC 1035 section 4) from the zones. The response stands at the beginning of the room, and `written` has its length in
  * octets; what is behind it in the room is as it was. Of the zones that one answers whose origin is the longest at or above the name that
- * is asked for; for DS the longest above it, if there is one (RFC 4035 section 3.1.4.1). A name of no zone is REFUSED.
+ * is asked for; for DS the longest above it, if there is one (RFC 4035 section 3.1.4.1). A name of no zone is REFUSED. A query for a
+ * transfer (AXFR, IXFR) gets NOTIMP, since that takes more than one message (RFC 5936 section 2.2).
  *
  *   now        the moment, in seconds since 1970-01-01 00:00 UTC. Nothing depends on it while no zone is signed here.
  *   limit      how many octets the way by UDP takes, as 1232. Where the client takes fewer by its OPT record, or the 1232 that are sent at
