@@ -55,18 +55,18 @@ def good():
     return frames.query(words)
 
 
-def turned(octets):
-    """Octets of which some are others, or gone, or more."""
+def turned(octets, chance=random):
+    """Octets of which some are others, or gone, or more, by chance."""
     octets = bytearray(octets)
-    for _ in range(random.randint(1, 4)):
-        at = random.randrange(len(octets) + 1)
-        how = random.random()
+    for _ in range(chance.randint(1, 6)):
+        at = chance.randrange(len(octets) + 1)
+        how = chance.random()
         if how < 0.6 and at < len(octets):
-            octets[at] = random.choice([0, 1, 63, 64, 192, 255, random.randrange(256)])
+            octets[at] = chance.choice([0, 1, 63, 64, 192, 255, chance.randrange(256)])
         elif how < 0.8:
-            del octets[at : at + random.randint(1, 8)]
+            del octets[at : at + chance.randint(1, 12)]
         else:
-            octets[at:at] = random.randbytes(random.randint(1, 8))
+            octets[at:at] = chance.randbytes(chance.randint(1, 12))
     return bytes(octets)
 
 
@@ -96,6 +96,7 @@ def fault(message, limit, response):
 
 
 def is_answered(message):
+    """Whether a message gets an answer: it has a header, and is no response (RFC 1035 section 4.1.1)."""
     return len(message) >= 12 and not message[2] & 0x80
 
 

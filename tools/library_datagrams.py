@@ -4,7 +4,7 @@ import random
 import socket
 import struct
 
-from other_servers import frames
+from hostile_messages import frames, is_answered, turned
 
 # How many are open at once, and seconds that an answer is waited for.
 OPEN, PATIENCE = 64, 60
@@ -26,21 +26,6 @@ def good():
     return [frames.query(it.split()) for it in WORDS]
 
 
-def turned(message, chance):
-    """A message with octets turned, put in or left out."""
-    octets = bytearray(message)
-    for _ in range(chance.randint(1, 6)):
-        at = chance.randrange(len(octets) + 1)
-        change = chance.random()
-        if change < 0.6 and at < len(octets):
-            octets[at] = chance.choice([0, 1, 63, 64, 192, 255, chance.randrange(256)])
-        elif change < 0.8:
-            octets[at:at] = chance.randbytes(chance.randint(1, 12))
-        else:
-            del octets[at:at + chance.randint(1, 12)]
-    return bytes(octets)
-
-
 def datagrams(count, seed):
     """So many datagrams, first each front of each good query."""
     chance, queries = random.Random(seed), good()
@@ -52,11 +37,6 @@ def datagrams(count, seed):
             yield chance.randbytes(chance.randrange(LONGEST))
         else:
             yield turned(chance.choice(queries), chance)
-
-
-def is_answered(message):
-    """Whether a message gets an answer: it has a header, and is no response (RFC 1035 section 4.1.1)."""
-    return len(message) >= 12 and not message[2] & 0x80
 
 
 def ask(it, messages):
