@@ -1,6 +1,8 @@
 pub mod NameTests
 pub mod StarWalk
 pub mod TurnWalk
+pub mod PassedNames
+pub mod WaysDown
 pub mod NodeCases
 pub mod StandInFacts
 pub mod StepCases

@@ -1,12 +1,16 @@
 -- What turns a search on its way from the origin down to a name: the first zone cut or DNAME (RFC 1034 section 4.3.2 step 3, RFC 6672 section 3.2)
-use Rattle.std.specs.Prelude.{ℕ, ◌&&◌, ◌||◌, cond, [], ◌∷◌, ◌==◌, Option, None, option_map}
-use Rattle.std.specs.Option.{option_or}
-use Rattle.zone_proto.specs.Names.{Name, name_eq, is_at_or_above}
+use Rattle.std.specs.Prelude.{◌≡◌, ℕ, ◌<◌, Bool, true, ◌&&◌, ◌||◌, cond, [], ◌∷◌, ◌==◌, length, Option, None, option_copied, option_map}
+use Rattle.std.specs.Option.{option_map_or, option_or}
+use Rattle.zone_proto.specs.declared.rr_key.RrKey.{RrKey}
+use Rattle.zone_proto.specs.Names.{Name, name_cmp, name_eq, is_at_or_above}
+use Rattle.zone_proto.specs.Order.{is_before}
 use Rattle.zone_proto.specs.Sets.{RRset}
 use Rattle.zone_proto.specs.Types.{NS, DS}
+use Rattle.zone_map.specs.Walks.{first_key_from}
 use Rattle.zone_map.specs.Zones.{Sets, set_at}
 use Rattle.zone_response.specs.declared.turns.Turning.{Turning}
 use Rattle.zone_response.specs.declared.turns.Turning.TheVariants as turning
+use Rattle.zone_response.specs.declared.turns.Way.{Way}
 
 -- the type of a record that renames the names below its owner (RFC 6672 section 2.1)
 abbrev pub DNAME : ℕ
@@ -45,11 +49,21 @@ module _ (origin : Name) (m : Sets) (x : Name) (t : ℕ) where
   abbrev pub turn : Option Turn
   turn = turn_down_to x
 
--- what a name turns on the way to one below it
-abbrev pub passed_turn : Name → Sets → Name → Option Turn
-passed_turn origin m a = option_or (option_map cut (cond (name_eq a origin) None (set_at m a NS))) (option_map renaming (set_at m a DNAME))
+-- by the NS set of a zone cut, and by a DNAME set
+abbrev pub turn_by : Option RRset → Option RRset → Option Turn
+turn_by ns dname = option_or (option_map cut ns) (option_map renaming dname)
 
--- as the program keeps it
+-- a name stands before the first key from another name on, or there is none
+abbrev pub is_passed : Name → Option RrKey → Bool
+is_passed a first = option_map_or (λ k. is_before name_cmp a k.name) first true
+
+-- ---- as the program keeps it
+
 abbrev pub turn_of : Turning → Turn
 turn_of (turning.Cut s) = cut s.now
 turn_of (turning.Renaming s) = renaming s.now
+
+-- the way from the origin down to a: the first turn on it, for each name of more labels; and if nothing turns, the first key of the zone from the least key of a on
+pub record IsWayTo (origin : Name) (m : Sets) (a : Name) (way : Way) : Type 0 where
+  pub turn : (x : Name) (t : ℕ) → length a < length x → option_map turn_of way.turn ≡ turn_down_to origin m x t a
+  pub first : way.turn ≡ None → option_copied way.first ≡ first_key_from m a

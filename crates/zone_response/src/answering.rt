@@ -13,6 +13,7 @@ use crate::response::{Response, Sent};
 use crate::sections::{
     authorities, code_at, fails, is_authority, left_at, send_additionals, send_glue_at,
 };
+use crate::standing::read_apex;
 use crate::steps::Asked;
 use std::alloc::Global;
 use zone_handler::{LookupError, LookupOptions};
@@ -75,20 +76,21 @@ fn is_proved<S: Signer, H: Nsec3Hash>(zone: &ServedZone<'_, S, H>, signed: bool)
     signed && zone.nx_proof_kind.is_some()
 }
 
-/// The response to a query that is searched; the origin that is asked is the zone's.
+/// The response to a query that is searched.
 fn searched<'z, S: Signer, H: Nsec3Hash>(
     zone: &ServedZone<'z, S, H>,
     asked: Asked<'_>,
     name: &LowerName,
 ) -> Result<Response<'z>, LookupError>
+    requires { asked.origin.now ≡ zone.now.origin.now }
     ensures response { IfOk result
         (λ r. IsSearched (zone_of H.digest_of zone.now)
         (inquiry_of asked.entry zone.now.inner.now.records) name.now (sections r)) }
     ensures err { IsOkUnless result LookupError.Memory }
 {
-    let key = RrKey::new(zone.origin.clone()?, RecordType::SOA);
-    match zone.inner.get(&key) {
-        Some(soa) => along(zone, asked, soa, walk(zone.inner, asked, name)?),
+    let apex = read_apex(zone.inner, zone.origin)?;
+    match apex.one {
+        Some(soa) => along(zone, asked, soa, walk(zone.inner, asked, apex, name)?),
         None => Ok(bare(name.alloc(), ResponseCode::ServFail)),
     }
 }

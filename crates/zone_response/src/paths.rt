@@ -1,11 +1,15 @@
 //! The path of a query: its name, and the names that its aliases lead on to.
 ghost use Rattle.std.specs.Prelude.{◌≡◌, IfOk, IsOkUnless};
 ghost use Rattle.zone_response.specs.Paths.{path, path_of};
+ghost use Rattle.zone_proto.specs.Types.{SOA};
 ghost use Rattle.zone_response.specs.Queries.{inquiry_of};
+ghost use Rattle.zone_response.specs.Standing.{StandsAt};
+ghost use Rattle.zone_response.specs.Turns.{DNAME};
 
 use crate::lists::push;
 use crate::names::has_name;
 use crate::response::Sent;
+use crate::standing::Standing;
 use crate::steps::{Asked, End, Next, SoFar, step};
 use zone_handler::LookupError;
 use zone_inner::InnerInMemory;
@@ -25,12 +29,14 @@ pub(crate) struct Path<'z> {
     pub(crate) end: End<'z>,
 }
 
-/// The path from a name. Refused by `Memory` alone.
+/// The path from a name, by what stands at the zone's origin. Refused by `Memory` alone.
 pub(crate) fn walk<'z, S: Signer>(
     inner: &'z InnerInMemory<S>,
     asked: Asked<'_>,
+    apex: Standing<'z>,
     name: &LowerName,
 ) -> Result<Path<'z>, LookupError>
+    requires { StandsAt inner.now.records asked.origin.now SOA DNAME apex }
     ensures ok { IfOk result
         (λ found. path_of found ≡ path (inquiry_of asked.entry inner.now.records) name.now) }
     ensures err { IsOkUnless result LookupError.Memory }
@@ -46,7 +52,7 @@ pub(crate) fn walk<'z, S: Signer>(
         if has_name(&seen, &name) {
             return Ok(ended(so_far, End::Unfollowed));
         }
-        match step(inner, asked, &name, &mut so_far)? {
+        match step(inner, asked, apex, &name, &mut so_far)? {
             Next::On(target) => {
                 push(&mut seen, name)?;
                 name = target;

@@ -1,17 +1,17 @@
 //! What stands at one name, read in one walk of the zone: the sets of a name stand together in it, the least type first.
-ghost use Rattle.std.specs.Prelude.{◌≡◌, ◌≤◌, ◌==◌, option_copied};
+ghost use Rattle.std.specs.Prelude.{◌≡◌, ◌≤◌, ◌==◌, IfOk, IsOkUnless, option_copied};
 ghost use Rattle.std.specs.Option.{option_or};
-ghost use Rattle.zone_proto.specs.Types.{NS};
+ghost use Rattle.zone_proto.specs.Types.{NS, SOA};
 ghost use Rattle.zone_map.specs.Direct.{set_if};
 ghost use Rattle.zone_map.specs.Walks.{first_key_from};
 ghost use Rattle.zone_map.specs.Wildcards.{exists};
 ghost use Rattle.zone_map.specs.Zones.{set_at, IsZone};
 ghost use Rattle.zone_response.specs.Standing.{StandsAt};
 
-use crate::query_types::is_denial_type;
+use crate::query_types::{DNAME, is_denial_type};
 use std::collections::BTreeMap;
 use zone_inner::InnerInMemory;
-use zone_proto::{RecordSet, RecordType, RrKey, Signer};
+use zone_proto::{LowerName, ProtoError, RecordSet, RecordType, RrKey, Signer};
 
 /// The sets of three types that stand at a name: NS, and two that are asked for; and the first key from the name's least key on,
 /// of the name or of another.
@@ -20,7 +20,7 @@ pub(crate) struct Standing<'z> {
     pub(crate) ns: Option<&'z RecordSet>,
     pub(crate) one: Option<&'z RecordSet>,
     pub(crate) other: Option<&'z RecordSet>,
-    first: Option<&'z RrKey>,
+    pub(crate) first: Option<&'z RrKey>,
 }
 
 /// What stands at the name of its least key, that of type 0, of the type NS and of two others.
@@ -34,6 +34,18 @@ pub(crate) fn read_standing<'z, S: Signer>(
     ensures { StandsAt inner.now.records least.now.name one.0 other.0 result }
 {
     standing_in(inner.as_map(), least, one, other)
+}
+
+/// What stands at the zone's origin, of the types SOA and DNAME.
+pub(crate) fn read_apex<'z, S: Signer>(
+    inner: &'z InnerInMemory<S>,
+    origin: &LowerName,
+) -> Result<Standing<'z>, ProtoError>
+    ensures ok { IfOk result (StandsAt inner.now.records origin.now SOA DNAME.0) }
+    ensures err { IsOkUnless result ProtoError.Memory }
+{
+    let key = RrKey::first_of(origin)?;
+    Ok(read_standing(inner, &key, RecordType::SOA, DNAME))
 }
 
 /// The same in a map of sets by their keys.

@@ -2,7 +2,7 @@
 ghost use Rattle.std.specs.Prelude.{◌≡◌, ◌++◌, ◌∷◌, [], true, IfOk, OnOk, IsOkUnless};
 ghost use Rattle.zone_map.specs.Chains.{cname_target};
 ghost use Rattle.zone_proto.specs.Names.{is_at_or_above};
-ghost use Rattle.zone_proto.specs.Types.{CNAME};
+ghost use Rattle.zone_proto.specs.Types.{CNAME, SOA};
 ghost use Rattle.zone_inner.specs.FoundSets.{found_set};
 ghost use Rattle.zone_response.specs.Nodes.{node_of};
 ghost use Rattle.zone_response.specs.Sections.{as_it_is, sent_sets, part_for};
@@ -10,7 +10,7 @@ ghost use Rattle.zone_response.specs.Queries.{inquiry_of};
 ghost use Rattle.zone_response.specs.Renamings.{dname_target};
 ghost use Rattle.zone_response.specs.Standing.{StandsAt};
 ghost use Rattle.zone_response.specs.Steps.{step, turned_step, target_step, new_name_step, after_renaming, name_step, star_step, node_step, keeps, made_by, made_names, own_part, after_alias, missing as missing_at, ends, next_of, Takes};
-ghost use Rattle.zone_response.specs.Turns.{turn_at};
+ghost use Rattle.zone_response.specs.Turns.{DNAME, turn_at};
 
 use crate::lists::{push, send, send_made, send_unless_among};
 use crate::names::is_at_or_above;
@@ -20,7 +20,7 @@ use crate::response::{Part, Sent};
 use crate::sources::star_of;
 use crate::stand_ins::stand_in_step;
 use crate::standing::{Standing, exists, read_standing};
-use crate::turns::{Turning, own_cut, turn_above};
+use crate::turns::{Turning, own_cut, turn_from_apex};
 use zone_handler::LookupError;
 use zone_inner::{Found, InnerInMemory, cname_target};
 use zone_map::wildcard::renamed;
@@ -86,13 +86,16 @@ pub(crate) struct SoFar<'z> {
     pub(crate) made: Vec<LowerName>,
 }
 
-/// A step from a name: it puts the step's sets and names behind those so far. Refused by `Memory` alone.
+/// A step from a name, by what stands at the zone's origin: it puts the step's sets and names behind those so far. Refused by
+/// `Memory` alone.
 pub(crate) fn step<'z, S: Signer>(
     inner: &'z InnerInMemory<S>,
     asked: Asked<'_>,
+    apex: Standing<'z>,
     name: &LowerName,
     so_far: &mut SoFar<'z>,
 ) -> Result<Next<'z>, LookupError>
+    requires { StandsAt inner.now.records asked.origin.now SOA DNAME apex }
     ensures ok { IfOk result
         (λ next. Takes
         (step (inquiry_of asked.entry inner.now.records) (sent_sets so_far.old.answers) name.now)
@@ -102,7 +105,7 @@ pub(crate) fn step<'z, S: Signer>(
     if !is_at_or_above(asked.origin, name) {
         return Ok(Next::Ends(End::Outside(name.clone()?)));
     }
-    match turn_above(inner, asked.origin, name)? {
+    match turn_from_apex(inner, asked.origin, apex, name)? {
         Some(Turning::Cut(cut)) => Ok(Next::Ends(End::Referred(cut))),
         Some(Turning::Renaming(dname)) => target_step(dname, name, asked, so_far),
         None => own_step(inner, asked, name, so_far),

@@ -4,12 +4,13 @@ ghost use Rattle.zone_map.specs.Zones.{Sets, set_at};
 ghost use Rattle.zone_proto.specs.Keys.{first_key};
 ghost use Rattle.zone_proto.specs.Names.{is_at_or_above, name_eq};
 ghost use Rattle.zone_proto.specs.Results.{IsCopy};
-ghost use Rattle.zone_proto.specs.Types.{NS};
-ghost use Rattle.zone_response.specs.Turns.{cut_at, passed_turn, turn, turn_above, turn_of};
+ghost use Rattle.zone_proto.specs.Types.{NS, SOA};
+ghost use Rattle.zone_response.specs.Standing.{StandsAt};
+ghost use Rattle.zone_response.specs.Turns.{cut_at, is_passed, turn, turn_above, turn_by, turn_of, IsWayTo};
 
 use crate::names::same_name;
 use crate::query_types::DNAME;
-use crate::standing::read_standing;
+use crate::standing::{Standing, read_apex, read_standing};
 use zone_inner::InnerInMemory;
 use zone_proto::{LowerName, ProtoError, RecordSet, RecordType, RrKey, Signer};
 
@@ -20,6 +21,15 @@ pub(crate) enum Turning<'z> {
     Cut(&'z RecordSet),
     /// The names below the owner of this DNAME set have other names.
     Renaming(&'z RecordSet),
+}
+
+/// The way from the origin down to a name, for names below that one.
+#[derive(Clone, Copy)]
+struct Way<'z> {
+    /// The first turn on it.
+    turn: Option<Turning<'z>>,
+    /// The first key from the name's least key on, of the name or of another, if nothing turns.
+    first: Option<&'z RrKey>,
 }
 
 /// The first turn on the way from the origin down to a name of the zone, the name itself too, for a query of a type.
@@ -46,8 +56,7 @@ pub(crate) fn turn<'z, S: Signer>(
     }
 }
 
-/// The first turn on the way from the origin down to the parent of a name of the zone. The walk goes down from the origin, so
-/// that what stands below a turn isn't read.
+/// The first turn on the way from the origin down to the parent of a name of the zone.
 pub(crate) fn turn_above<'z, S: Signer>(
     inner: &'z InnerInMemory<S>,
     origin: &LowerName,
@@ -60,42 +69,95 @@ pub(crate) fn turn_above<'z, S: Signer>(
         ≡ turn_above origin.now inner.now.records name.now t name.now) }
     ensures err { IsOkUnless result ProtoError.Memory }
 {
-    let mut left = name.num_labels().saturating_sub(origin.num_labels());
-    while left > 0 {
-        let key = key_above(name, left)?;
-        if let Some(turning) = turn_at(inner, origin, &key) {
-            return Ok(Some(turning));
-        }
-        left -= 1;
-    }
-    Ok(None)
+    let apex = read_apex(inner, origin)?;
+    turn_from_apex(inner, origin, apex, name)
 }
 
-/// The least key of the ancestor of a name that has so many labels less.
-fn key_above(name: &LowerName, labels: usize) -> Result<RrKey, ProtoError>
-    ensures { IsCopy result (first_key (drop labels name.now)) }
-{
-    let mut key = RrKey::first_of(name)?;
-    for _count in 0..labels {
-        key.name.shorten();
-    }
-    Ok(key)
-}
-
-/// What a name of the zone turns on the way to one below it, by its least key.
-fn turn_at<'z, S: Signer>(
+/// The same by what stands at the origin.
+pub(crate) fn turn_from_apex<'z, S: Signer>(
     inner: &'z InnerInMemory<S>,
     origin: &LowerName,
-    least: &RrKey,
-) -> Option<Turning<'z>>
-    requires { least.now.record_type.0 ≡ 0 }
-    ensures { option_map turn_of result ≡ passed_turn origin.now inner.now.records least.now.name }
+    apex: Standing<'z>,
+    name: &LowerName,
+) -> Result<Option<Turning<'z>>, ProtoError>
+    requires inside { is_at_or_above origin.now name.now ≡ true }
+    requires apex { StandsAt inner.now.records origin.now SOA DNAME.0 apex }
+    ensures ok { (t : ℕ)
+        → IfOk result
+        (λ found. option_map turn_of found
+        ≡ turn_above origin.now inner.now.records name.now t name.now) }
+    ensures err { IsOkUnless result ProtoError.Memory }
 {
+    if same_name(name, origin) {
+        return Ok(None);
+    }
+    let parent = parent_key(name)?;
+    let way = way_down(inner, origin, apex, &parent)?;
+    Ok(way.turn)
+}
+
+/// The least key of the parent of a name.
+fn parent_key(name: &LowerName) -> Result<RrKey, ProtoError>
+    ensures { IsCopy result (first_key (drop 1 name.now)) }
+{
+    Ok(RrKey::new(name.base_name()?, RecordType(0)))
+}
+
+/// The way from the origin, by what stands there, down to a name of the zone, by its least key. What stands below a turn isn't read,
+/// nor a name that owns nothing, as a key tells that was read above it.
+fn way_down<'z, S: Signer>(
+    inner: &'z InnerInMemory<S>,
+    origin: &LowerName,
+    apex: Standing<'z>,
+    least: &RrKey,
+) -> Result<Way<'z>, ProtoError>
+    requires least { least.now.record_type.0 ≡ 0 }
+    requires inside { is_at_or_above origin.now least.now.name ≡ true }
+    requires apex { StandsAt inner.now.records origin.now SOA DNAME.0 apex }
+    ensures ok { IfOk result (IsWayTo origin.now inner.now.records least.now.name) }
+    ensures err { IsOkUnless result ProtoError.Memory }
+{
+    if same_name(&least.name, origin) {
+        return Ok(Way {
+            turn: turn_by(None, apex.other),
+            first: apex.first,
+        });
+    }
+    let parent = parent_key(&least.name)?;
+    let above = way_down(inner, origin, apex, &parent)?;
+    if above.turn.is_some() {
+        return Ok(above);
+    }
+    if is_passed(&least.name, above.first) {
+        return Ok(above);
+    }
     let here = read_standing(inner, least, DNAME, DNAME);
-    if let Some(cut) = unless_origin(here.ns, origin, &least.name) {
+    Ok(Way {
+        turn: turn_by(here.ns, here.other),
+        first: here.first,
+    })
+}
+
+/// Whether a name stands before the first key of a zone from another name on, or there is none: if the other stands above the name,
+/// this one owns nothing then.
+fn is_passed(name: &LowerName, first: Option<&RrKey>) -> bool
+    ensures { result ≡ is_passed name.now (option_copied first.entry) }
+{
+    match first {
+        Some(first) => *name < first.name,
+        None => true,
+    }
+}
+
+/// What a name turns that owns these sets: a zone cut, or a DNAME.
+fn turn_by<'z>(cut: Option<&'z RecordSet>, dname: Option<&'z RecordSet>) -> Option<Turning<'z>>
+    ensures { option_map turn_of result
+        ≡ turn_by (option_copied cut.entry) (option_copied dname.entry) }
+{
+    if let Some(cut) = cut {
         return Some(Turning::Cut(cut));
     }
-    match here.one {
+    match dname {
         Some(dname) => Some(Turning::Renaming(dname)),
         None => None,
     }

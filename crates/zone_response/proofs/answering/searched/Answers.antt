@@ -1,23 +1,27 @@
-use Rattle.std.proofs.Common.{◌≡◌, ap, ◌∙◌}
-use Rattle.std.specs.Prelude.{Some, None}
+use Rattle.std.proofs.Common.{◌≡◌, sym, ap, ◌∙◌, subst}
+use Rattle.std.specs.Prelude.{Some, None, option_copied}
+use Rattle.zone_proto.specs.Names.{Name}
 use Rattle.zone_proto.specs.Types.{SOA}
 use Rattle.zone_map.specs.Zones.{set_at}
 use Rattle.zone_response.specs.Paths.{path_of}
 use Rattle.zone_response.specs.Queries.{zone_of, inquiry_of}
 use Rattle.zone_response.specs.Sections.{sections}
+use Rattle.zone_response.specs.Standing.{StandsAt}
+use Rattle.zone_response.specs.Turns.{DNAME}
 use Rattle.zone_response.proofs.ResponseCases.{without_soa, with_soa}
 use Rattle.zone_response.proofs.answering.searched.Goals as goal
 
-pub returns-in-Some-clause-response : goal.returns-in-Some-clause-response
-returns-in-Some-clause-response g c =
+pub walk-requires : goal.walk-requires
+walk-requires g c = subst (λ (a : Name). StandsAt c.args.zone.now.inner.now.records a SOA DNAME c.in_ok-apex.apex) (sym c.requires) c.in_ok-apex.ensures.ok
+
+pub returns-in_ok-walk-in-Some-clause-response : goal.returns-in_ok-walk-in-Some-clause-response
+returns-in_ok-walk-in-Some-clause-response g c =
     let m = c.args.zone.now.inner.now.records in
-    let stored : Some c.in-Some.soa.now ≡ set_at m c.args.zone.now.origin.now SOA =
-    c.in-Some.ensures ∙ (λ i. set_at m (c.new-key.ensures.value i).name (c.new-key.ensures.value i).record_type.0) ∙ ap (λ a. set_at m a SOA) c.in_ok-clone.ensures.copy.ok in
+    let stored : Some c.in-Some.soa.now ≡ set_at m c.args.zone.now.origin.now SOA = ap option_copied (sym c.in-Some.is) ∙ c.in_ok-apex.ensures.ok.one in
     with_soa (zone_of g.H.Nsec3Hash.digest_of c.args.zone.now) (inquiry_of c.args.asked m) c.args.name.now c.along.result c.in-Some.soa.now (path_of c.in_ok-walk-in-Some.field-0) stored c.in_ok-walk-in-Some.ensures.ok c.along.ensures.response
 
-pub returns-clause-response : goal.returns-clause-response
-returns-clause-response g c =
+pub returns-in-None-clause-response : goal.returns-in-None-clause-response
+returns-in-None-clause-response g c =
     let m = c.args.zone.now.inner.now.records in
-    let stored : None ≡ set_at m c.args.zone.now.origin.now SOA =
-    c.in-None.ensures ∙ (λ i. set_at m (c.new-key.ensures.value i).name (c.new-key.ensures.value i).record_type.0) ∙ ap (λ a. set_at m a SOA) c.in_ok-clone.ensures.copy.ok in
+    let stored : None ≡ set_at m c.args.zone.now.origin.now SOA = ap option_copied (sym c.in-None.is) ∙ c.in_ok-apex.ensures.ok.one in
     without_soa (zone_of g.H.Nsec3Hash.digest_of c.args.zone.now) (inquiry_of c.args.asked m) c.args.name.now (sections c.bare.result) stored c.bare.ensures
