@@ -8,6 +8,7 @@ pub mod StandInFacts
 pub mod StepCases
 pub mod NewNames
 pub mod PathSteps
+pub mod NearSets
 pub mod HostFacts
 pub mod SetLists
 pub mod ProofSteps

@@ -10,9 +10,7 @@ use crate::paths::{Path, walk};
 use crate::query_types::is_no_data;
 use crate::question::{Question, ServedZone};
 use crate::response::{Response, Sent};
-use crate::sections::{
-    authorities, code_at, fails, is_authority, left_at, send_additionals, send_glue_at,
-};
+use crate::sections::{authorities, code_at, fails, is_authority, left_at, send_additionals};
 use crate::standing::read_apex;
 use crate::steps::Asked;
 use std::alloc::Global;
@@ -165,8 +163,7 @@ fn by_path<'z, S: Signer>(
     let alloc = *answers.allocator();
     let mut additionals = Vec::new(alloc);
     let mut glue = Vec::new(alloc);
-    send_additionals(inner, asked, &answers, &end, &mut additionals)?;
-    send_glue_at(inner, &end, &mut glue)?;
+    send_additionals(inner, asked, &answers, &end, &mut additionals, &mut glue)?;
     Ok(Response {
         code: code_at(&end),
         authoritative: is_authority(&end, &answers),

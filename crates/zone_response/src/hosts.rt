@@ -1,19 +1,22 @@
 //! The addresses of the hosts that records name: those that go beside an answer, and glue.
-ghost use Rattle.std.specs.Prelude.{◌≡◌, ◌++◌, [], Bool, Some, true, map, flat_map, IfOk, OnOk, IsOkUnless, option_copied, option_map, option_to_list};
+ghost use Rattle.std.specs.Prelude.{◌≡◌, ◌++◌, [], Bool, Some, true, map, flat_map, IfOk, IfSome, OnOk, IsOkUnless, option_copied, option_map, option_to_list};
 ghost use Rattle.std.specs.List.{cons_option};
 ghost use Rattle.zone_proto.specs.Names.{lower, name_eq, is_at_or_above};
 ghost use Rattle.zone_inner.specs.Runs.{with_new};
 ghost use Rattle.zone_response.specs.Hosts.{host_of, with_host, hosts, addresses, host_sets, turned_host, beside, glue, glue_of, sibling_glue, sibling_sets};
 ghost use Rattle.zone_response.specs.Sections.{as_it_is, sent_sets};
+ghost use Rattle.zone_response.specs.Standing.{IsFromSome};
 ghost use Rattle.zone_proto.specs.Types.{A};
 ghost use Rattle.zone_response.specs.Turns.{turn_at, turn_of};
 
 use crate::lists::{lend, push};
 use crate::names::{has_name, is_at_or_above};
+use crate::near::sets_near;
 use crate::response::{Part, Sent};
-use crate::standing::{Standing, read_standing};
-use crate::steps::part_for;
+use crate::standing::{Standing, read_standing, standing_in};
+use crate::steps::{Asked, part_for};
 use crate::turns::{Turning, own_cut, turn_above};
+use std::collections::btree_map::Range;
 use zone_inner::InnerInMemory;
 use zone_proto::{
     LowerName, Name, ProtoError, RData, Record, RecordSet, RecordType, RrKey, Signer,
@@ -244,78 +247,80 @@ fn send_hosts<'z, S: Signer>(
     Ok(())
 }
 
-/// Puts the addresses of a child's servers last that stand elsewhere in the zone.
-pub(crate) fn send_siblings<'z, S: Signer>(
+/// Puts the addresses of a child's servers last: of those that stand in the child to `own`, and of the others, as far as the zone
+/// has them elsewhere, to `siblings`.
+pub(crate) fn send_servers<'z, S: Signer>(
     inner: &'z InnerInMemory<S>,
-    origin: &LowerName,
-    signed: bool,
+    asked: Asked<'_>,
     cut: &RecordSet,
-    list: &mut Vec<Sent<'z>>,
+    siblings: &mut Vec<Sent<'z>>,
+    own: &mut Vec<Sent<'z>>,
 ) -> Result<(), ProtoError>
-    ensures ok { OnOk result
-        (sent_sets list.new
-        ≡ sent_sets list.old ++ sibling_glue origin.now inner.now.records signed cut.now) }
+    ensures siblings { OnOk result
+        (sent_sets siblings.new
+        ≡ sent_sets siblings.old
+        ++ sibling_glue asked.entry.origin.now inner.now.records asked.entry.signed cut.now) }
+    ensures own { OnOk result
+        (sent_sets own.new ≡ sent_sets own.old ++ glue inner.now.records cut.now) }
     ensures err { IsOkUnless result ProtoError.Memory }
 {
     let child = LowerName::new(cut.name())?;
+    let mut near = None;
     for host in hosts(cut)? {
-        send_sibling(inner, origin, signed, &child, &host, list)?;
+        near = send_server(inner, asked, &child, &host, near, siblings, own)?;
     }
     Ok(())
 }
 
-/// Puts the addresses of a server last, if it stands outside the child.
-fn send_sibling<'z, S: Signer>(
+/// Puts the addresses of a child's server last. `near` are the sets of the zone from the server on that stands in the child and was
+/// read last, if one was; gives those for the next server.
+fn send_server<'z, S: Signer>(
     inner: &'z InnerInMemory<S>,
-    origin: &LowerName,
-    signed: bool,
+    asked: Asked<'_>,
     child: &LowerName,
     host: &LowerName,
-    list: &mut Vec<Sent<'z>>,
-) -> Result<(), ProtoError>
-    ensures ok { OnOk result
-        (sent_sets list.new
-        ≡ sent_sets list.old
-        ++ sibling_sets origin.now inner.now.records signed child.now host.now) }
+    near: Option<Range<'z, RrKey, RecordSet>>,
+    siblings: &mut Vec<Sent<'z>>,
+    own: &mut Vec<Sent<'z>>,
+) -> Result<Option<Range<'z, RrKey, RecordSet>>, ProtoError>
+    requires { IfSome near (IsFromSome inner.now.records) }
+    ensures siblings { OnOk result
+        (sent_sets siblings.new
+        ≡ sent_sets siblings.old
+        ++ sibling_sets asked.entry.origin.now inner.now.records asked.entry.signed child.now
+        host.now) }
+    ensures own { OnOk result
+        (sent_sets own.new
+        ≡ sent_sets own.old ++ glue_of inner.now.records child.now host.now) }
+    ensures near { IfOk result (λ near. IfSome near (IsFromSome inner.now.records)) }
     ensures err { IsOkUnless result ProtoError.Memory }
 {
     if is_at_or_above(child, host) {
-        return Ok(());
+        return Ok(Some(send_own(inner, near, host, own)?));
     }
-    send_host(inner, origin, signed, true, host, list)
+    send_host(inner, asked.origin, asked.signed, true, host, siblings)?;
+    Ok(near)
 }
 
-/// Puts the addresses of a child's servers last that stand in the child.
-pub(crate) fn send_glue<'z, S: Signer>(
-    inner: &'z InnerInMemory<S>,
-    cut: &RecordSet,
-    list: &mut Vec<Sent<'z>>,
-) -> Result<(), ProtoError>
-    ensures ok { OnOk result
-        (sent_sets list.new ≡ sent_sets list.old ++ glue inner.now.records cut.now) }
-    ensures err { IsOkUnless result ProtoError.Memory }
-{
-    let child = LowerName::new(cut.name())?;
-    for host in hosts(cut)? {
-        send_own(inner, &child, &host, list)?;
-    }
-    Ok(())
-}
-
-/// Puts the addresses of a server last, if it stands in the child.
+/// Puts the addresses of a server in the child last, and gives the sets of the zone from this server on.
 fn send_own<'z, S: Signer>(
     inner: &'z InnerInMemory<S>,
-    child: &LowerName,
+    near: Option<Range<'z, RrKey, RecordSet>>,
     host: &LowerName,
     list: &mut Vec<Sent<'z>>,
-) -> Result<(), ProtoError>
+) -> Result<Range<'z, RrKey, RecordSet>, ProtoError>
+    requires { IfSome near (IsFromSome inner.now.records) }
     ensures ok { OnOk result
         (sent_sets list.new
-        ≡ sent_sets list.old ++ glue_of inner.now.records child.now host.now) }
+        ≡ sent_sets list.old
+        ++ map (as_it_is Part.Records) (addresses inner.now.records host.now)) }
+    ensures near { IfOk result (IsFromSome inner.now.records) }
     ensures err { IsOkUnless result ProtoError.Memory }
 {
-    if !is_at_or_above(child, host) {
-        return Ok(());
-    }
-    send_addresses(inner, host, Part::Records, list)
+    let key = RrKey::first_of(host)?;
+    let sets = inner.as_map();
+    let from = sets_near(sets, near, &key)?;
+    let here = standing_in(sets, from.clone()?, &key, RecordType::A, RecordType::AAAA);
+    send_standing(here, Part::Records, list)?;
+    Ok(from)
 }

@@ -15,6 +15,7 @@ mod hashed_denials;
 mod hosts;
 mod lists;
 mod names;
+mod near;
 mod nodes;
 mod paths;
 mod query_types;

@@ -7,7 +7,7 @@ ghost use Rattle.zone_response.specs.Sections.{sent_set, sent_sets};
 ghost use Rattle.zone_response.specs.Steps.{end_of};
 
 use crate::denials::{proofs, send_proofs};
-use crate::hosts::{send_beside, send_glue, send_siblings};
+use crate::hosts::{send_beside, send_servers};
 use crate::lists::{lend, lend_for};
 use crate::question::ServedZone;
 use crate::response::{Part, Sent};
@@ -220,24 +220,28 @@ fn send_referral<'z>(
     }
 }
 
-/// Puts what goes beside an answer or a referral last.
+/// Puts what goes beside an answer or a referral last, and the glue that a referral has to have.
 pub(crate) fn send_additionals<'z, S: Signer>(
     inner: &'z InnerInMemory<S>,
     asked: Asked<'_>,
     answers: &[Sent<'z>],
     end: &End<'z>,
     list: &mut Vec<Sent<'z>>,
+    glue: &mut Vec<Sent<'z>>,
 ) -> Result<(), ProtoError>
-    ensures ok { OnOk result
+    ensures additionals { OnOk result
         (sent_sets list.new
         ≡ sent_sets list.old
         ++ additional_sets (inquiry_of asked.entry inner.now.records) (map sent_set answers.now)
         (end_of end.now)) }
+    ensures glue { OnOk result
+        (sent_sets glue.new
+        ≡ sent_sets glue.old ++ glue_at inner.now.records (end_of end.now)) }
     ensures err { IsOkUnless result ProtoError.Memory }
 {
     match end {
         End::Complete => send_beside_last(inner, asked, answers, list),
-        End::Referred(cut) => send_siblings(inner, asked.origin, asked.signed, cut, list),
+        End::Referred(cut) => send_servers(inner, asked, cut, list, glue),
         _ => Ok(()),
     }
 }
@@ -280,22 +284,5 @@ fn send_beside_sent<'z, S: Signer>(
         Part::Records | Part::Signed => {
             send_beside(inner, asked.origin, asked.signed, last.set.set(), list)
         }
-    }
-}
-
-/// Puts the glue last that a referral has to have.
-pub(crate) fn send_glue_at<'z, S: Signer>(
-    inner: &'z InnerInMemory<S>,
-    end: &End<'z>,
-    list: &mut Vec<Sent<'z>>,
-) -> Result<(), ProtoError>
-    ensures ok { OnOk result
-        (sent_sets list.new
-        ≡ sent_sets list.old ++ glue_at inner.now.records (end_of end.now)) }
-    ensures err { IsOkUnless result ProtoError.Memory }
-{
-    match end {
-        End::Referred(cut) => send_glue(inner, cut, list),
-        _ => Ok(()),
     }
 }

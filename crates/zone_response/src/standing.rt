@@ -1,15 +1,19 @@
 //! What stands at one name, read in one walk of the zone: the sets of a name stand together in it, the least type first.
 ghost use Rattle.std.specs.Prelude.{◌≡◌, ◌≤◌, ◌==◌, IfOk, IsOkUnless, option_copied};
+ghost use Rattle.std.specs.List.Sorted.{IsStrictlySortedBy};
+ghost use Rattle.std.specs.Map.{keys_of};
 ghost use Rattle.std.specs.Option.{option_or};
+ghost use Rattle.zone_proto.specs.Keys.{key_cmp};
 ghost use Rattle.zone_proto.specs.Types.{NS, SOA};
 ghost use Rattle.zone_map.specs.Direct.{set_if};
 ghost use Rattle.zone_map.specs.Walks.{first_key_from};
 ghost use Rattle.zone_map.specs.Wildcards.{exists};
 ghost use Rattle.zone_map.specs.Zones.{set_at, IsZone};
-ghost use Rattle.zone_response.specs.Standing.{StandsAt};
+ghost use Rattle.zone_response.specs.Standing.{sets_from, StandsAt};
 
 use crate::query_types::{DNAME, is_denial_type};
 use std::collections::BTreeMap;
+use std::collections::btree_map::Range;
 use zone_inner::InnerInMemory;
 use zone_proto::{LowerName, ProtoError, RecordSet, RecordType, RrKey, Signer};
 
@@ -33,7 +37,8 @@ pub(crate) fn read_standing<'z, S: Signer>(
     requires { least.now.record_type.0 ≡ 0 }
     ensures { StandsAt inner.now.records least.now.name one.0 other.0 result }
 {
-    standing_in(inner.as_map(), least, one, other)
+    let sets = inner.as_map();
+    standing_in(sets, sets.range(least..), least, one, other)
 }
 
 /// What stands at the zone's origin, of the types SOA and DNAME.
@@ -48,14 +53,17 @@ pub(crate) fn read_apex<'z, S: Signer>(
     Ok(read_standing(inner, &key, RecordType::SOA, DNAME))
 }
 
-/// The same in a map of sets by their keys.
-fn standing_in<'z>(
+/// The same in a map of sets by their keys, by its sets from that key on.
+pub(crate) fn standing_in<'z>(
     sets: &'z BTreeMap<RrKey, RecordSet>,
+    from: Range<'z, RrKey, RecordSet>,
     least: &RrKey,
     one: RecordType,
     other: RecordType,
 ) -> Standing<'z>
-    requires { least.now.record_type.0 ≡ 0 }
+    requires least { least.now.record_type.0 ≡ 0 }
+    requires ordered { IsStrictlySortedBy key_cmp (keys_of sets.now.entries) }
+    requires from { from ≡ sets_from sets.now.entries least.now }
     ensures ns { option_copied result.ns ≡ set_at sets.now.entries least.now.name NS }
     ensures one { option_copied result.one ≡ set_at sets.now.entries least.now.name one.0 }
     ensures other { option_copied result.other ≡ set_at sets.now.entries least.now.name other.0 }
@@ -69,7 +77,7 @@ fn standing_in<'z>(
         other: None,
         first: None,
     };
-    for (key, set) in sets.range(least..) {
+    for (key, set) in from {
         here.first = here.first.or(Some(key));
         if key.name != least.name {
             break;

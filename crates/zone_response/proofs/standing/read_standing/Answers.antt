@@ -8,9 +8,9 @@ pub returns : goal.returns
 returns g c =
     let n = c.args.least.now.name in
     record {
-      ns = c.standing_in.ensures.ns ∙ ap (λ m. set_at m n NS) c.as_map.ensures.entries;
-      one = c.standing_in.ensures.one ∙ ap (λ m. set_at m n c.args.one.0) c.as_map.ensures.entries;
-      other = c.standing_in.ensures.other ∙ ap (λ m. set_at m n c.args.other.0) c.as_map.ensures.entries;
-      first = c.standing_in.ensures.first ∙ ap (λ m. first_key_from m n) c.as_map.ensures.entries;
-      zone = c.as_map.ensures.zone;
+      ns = c.standing_in.ensures.ns ∙ ap (λ m. set_at m n NS) c.as_map-sets.ensures.entries;
+      one = c.standing_in.ensures.one ∙ ap (λ m. set_at m n c.args.one.0) c.as_map-sets.ensures.entries;
+      other = c.standing_in.ensures.other ∙ ap (λ m. set_at m n c.args.other.0) c.as_map-sets.ensures.entries;
+      first = c.standing_in.ensures.first ∙ ap (λ m. first_key_from m n) c.as_map-sets.ensures.entries;
+      zone = c.as_map-sets.ensures.zone;
     }
