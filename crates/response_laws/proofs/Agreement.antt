@@ -169,21 +169,27 @@ module _ (z : Zone) (q : Query) (r : Sections) (zone : IsOrdinaryZone z.origin z
           subst (Agrees z q r) (sym (a.sections ∙ ap (λ w. answered w (beside q.record_type (last_set (answer_sets m q.signed x q.record_type s)) a.more)) is))
           (agrees (answered answers (beside q.record_type (last_set (answer_sets m q.signed x q.record_type s)) a.more)) same (λ d e. absurd cc))
 
-      -- the addresses of a stand-in are those that a lookup has, and as it has them unsigned
-      goes_out : (s v : RRset) (l : Option RRset) → last_set (target_sets m q.signed x q.record_type s) ≡ l → stands_for_addresses q.record_type s ≡ true → AreOfLast (inquiry z q) x s v → (q.signed ≡ true → sign v ≡ [])
-          → as_it_is part.Records v ≡ as_it_is (part_for q.signed) (alone sign q.record_type s l)
-      goes_out s v None e k a unsigned =
+      -- the addresses of a stand-in are those that a lookup has, which signs them alike
+      goes_out : (s v : RRset) (l : Option RRset) → last_set (target_sets m q.signed x q.record_type s) ≡ l → stands_for_addresses q.record_type s ≡ true → AreOfLast (inquiry z q) x s v
+          → (q.signed ≡ true → sign (record v { signatures = [] }) ≡ z.sign q.signed (record v { signatures = [] })) → as_it_is (part_for q.signed) v ≡ as_it_is (part_for q.signed) (alone sign q.record_type s l)
+      goes_out s v None e k a alike =
           absurd (true≢false (sym k ∙ ap (λ u. (u == ANAME) && is_address q.record_type) (sym (ap (λ l. (unwrap_or l s).record_type) e) ∙ a.of_type) ∙ no_address q.record_type))
-      goes_out s v (Some l) e k a unsigned =
-          let as_signed : RRset → RRset = λ v. record v { signatures = sign v } in
-          signed_so q.signed unsigned ∙ ap (as_it_is (part_for q.signed)) (ap as_signed made_of ∙ ap (λ b. cond b (flattened sign s q.record_type l) s) (sym k))
+      goes_out s v (Some l) e k a alike =
+          ap (as_it_is (part_for q.signed)) made_of ∙ signed_so q.signed (subst (λ u. q.signed ≡ true → sign u ≡ z.sign q.signed u) (ap unsigned made_of) alike)
+          ∙ ap (λ b. as_it_is (part_for q.signed) (cond b (flattened sign s q.record_type l) s)) (sym k)
         where
-          made_of : v ≡ unsigned_flattened s q.record_type l
-          made_of = a.is ∙ ap (λ l. unsigned_flattened s q.record_type (unwrap_or l s)) e
+          unsigned : RRset → RRset
+          unsigned v = record v { signatures = [] }
 
-          signed_so : (b : Bool) → (b ≡ true → sign v ≡ []) → as_it_is part.Records v ≡ as_it_is (part_for b) (record v { signatures = sign v })
-          signed_so true u = ap (λ (signatures : List Record). as_it_is part.Signed (record v { signatures = signatures })) (sym (u refl))
-          signed_so false u = refl
+          plain : RRset
+          plain = unsigned_flattened s q.record_type l
+
+          made_of : v ≡ flattened (z.sign q.signed) s q.record_type l
+          made_of = a.is ∙ ap (λ l. flattened (z.sign q.signed) s q.record_type (unwrap_or l s)) e
+
+          signed_so : (b : Bool) → (b ≡ true → sign plain ≡ z.sign q.signed plain) → as_it_is (part_for b) (flattened (z.sign q.signed) s q.record_type l) ≡ as_it_is (part_for b) (flattened sign s q.record_type l)
+          signed_so true alike = ap (λ (signatures : List Record). as_it_is part.Signed (record plain { signatures = signatures })) (sym (alike refl))
+          signed_so false alike = refl
 
       -- the sets along the targets of a stand-in are those that a lookup lists
       listed : (s : RRset) (more : List RRset) (o : Option Name) → next_name q.record_type s ≡ o → MatchOption o (more ≡ []) (λ next. AreAdditionals m q.signed x q.record_type next more)
@@ -204,7 +210,8 @@ module _ (z : Zone) (q : Query) (r : Sections) (zone : IsOrdinaryZone z.origin z
           with_sets (one_set (alone sign q.record_type s (last_set a.more))) s a (section s a.more false f)
           (response.1.answers ∙ answers
           ∙ ap (λ v. v ∷ [])
-          (goes_out s v (last_set a.more) (ap last_set (sym more)) k (addresses_of_last (inquiry z q) x s v leads) (λ signed. ap sign (sym same) ∙ w.unsigned signed)))
+          (goes_out s v (last_set a.more) (ap last_set (sym more)) k (addresses_of_last (inquiry z q) x s v leads)
+          (subst (λ v. q.signed ≡ true → sign (record v { signatures = [] }) ≡ z.sign q.signed (record v { signatures = [] })) same w.alike)))
         where
           same_addresses : (a b : RRset) → addresses a ≡ addresses b → a ≡ b
           same_addresses a b e = cc
@@ -248,7 +255,7 @@ responses_agree sign z q r reply zone query stand_ins provable is says = by (fou
     with_set s e true k =
         let w = stand_ins s e k in
         let ordinary = query.names q.name (In-Contains q.name (searched_names y q.name) (itself y zone query.record_type q.name query.inside)) query.inside in
-        agrees_by (path_stood_in y zone query.record_type q.name query.inside ordinary w.unproved s w.made e k w.leads)
+        agrees_by (path_stood_in y zone query.record_type q.name query.inside ordinary s w.made e k w.leads w.proved)
     with_set s e false k = without (λ v h. let both : Some s ≡ Some v = sym e ∙ h in let same : s ≡ v = cc in ap (stands_for_addresses q.record_type) (sym same) ∙ k)
 
     by : (o : Option RRset) → found z.sets q.signed q.name q.record_type ≡ o → Agrees z q r reply

@@ -23,7 +23,7 @@ use Rattle.zone_response.specs.Sections.{Sections, sent}
 
 -- an unsigned zone, and a query without DNSSEC
 abbrev zone_at : Name → Sets → Zone
-zone_at o m = record { origin = o; sets = m; nx_proof_kind = None; digest_of = λ algorithm salt n iterations. None }
+zone_at o m = record { origin = o; sets = m; nx_proof_kind = None; digest_of = λ algorithm salt n iterations. None; sign = λ signed s. [] }
 
 abbrev zone : Sets → Zone
 zone m = zone_at origin (start ∷ m)
@@ -216,7 +216,7 @@ untold_fails : IsResponse (zone (stand_in a other ∷ [])) (asked a A) (bare cod
 unfolding path
 untold_fails = refl
 
--- ---- one in a zone that denies, where DNSSEC is asked for: nobody signs the addresses
+-- ---- one in a zone that denies and has no signer, where DNSSEC is asked for: nobody signs the addresses
 
 proved_found : found (start ∷ stand_in a c ∷ address c ∷ []) true a A ≡ Some (stand_in a c).1
 proved_found = refl

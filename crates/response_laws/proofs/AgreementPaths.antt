@@ -16,11 +16,10 @@ use Rattle.zone_map.specs.Zones.{Sets}
 use Rattle.zone_map.proofs.Chains.{rest_of, rest_none, rest_seen, rest_unfound, rest_more, chain_begins}
 use Rattle.zone_inner.specs.Flattening.{stands_for_addresses}
 use Rattle.zone_inner.specs.Replies.{is_followed}
-use Rattle.zone_response.specs.declared.response.Part.TheVariants as part
 use Rattle.zone_response.specs.Paths.{Path, ended, behind, searched, path_from, path}
 use Rattle.zone_response.specs.Queries.{Inquiry}
 use Rattle.zone_response.specs.Responses.{code_at, fails}
-use Rattle.zone_response.specs.Sections.{as_it_is, part_for}
+use Rattle.zone_response.specs.Sections.{as_it_is, part_for, is_signed}
 use Rattle.zone_response.specs.Sources.{is_there}
 use Rattle.zone_response.specs.StandIns.{addresses, stand_in_answer}
 use Rattle.zone_response.specs.Steps.{End, complete, missing, outside, unfollowed, failed, ends, Step, at_end, made_names, after_alias, stood_in_step, turned_step, step}
@@ -208,7 +207,7 @@ pub data PathAnswers (q : Inquiry) (x : Name) : Type 0 where
   answers_alone : (s : RRset) → found q.sets q.signed x q.record_type ≡ Some s → is_followed q.record_type s ≡ false → stands_for_addresses q.record_type s ≡ false
       → (path q x).answers ≡ as_it_is (part_for q.signed) s ∷ [] → PathAnswers q x
   answers_stood_in : (s v : RRset) → found q.sets q.signed x q.record_type ≡ Some s → is_followed q.record_type s ≡ false → stands_for_addresses q.record_type s ≡ true → stand_in_answer q x s ≡ addresses v
-      → (path q x).answers ≡ as_it_is part.Records v ∷ [] → PathAnswers q x
+      → (path q x).answers ≡ as_it_is (part_for q.signed) v ∷ [] → PathAnswers q x
   answers_along : (s : RRset) → found q.sets q.signed x q.record_type ≡ Some s → is_followed q.record_type s ≡ true
       → (path q x).answers ≡ map (as_it_is (part_for q.signed)) (chain q.sets q.signed x s q.record_type) → PathAnswers q x
   answers_none : found q.sets q.signed x q.record_type ≡ None → (path q x).answers ≡ [] → PathAnswers q x
@@ -371,8 +370,15 @@ module _ (q : Inquiry) (zone : IsOrdinaryZone q.origin q.sets) (plain : IsOrdina
               },
             )
 
-  -- where an ANAME set stands in that leads to addresses
-  module _ (ordinary : IsOrdinary q x) (unproved : q.is_proved ≡ false) (s v : RRset) (e : found_is (Some s)) (k : stands_for_addresses q.record_type s ≡ true) (leads : stand_in_answer q x s ≡ addresses v) where
+  -- where an ANAME set stands in that leads to addresses, with a signature if they have to be proved
+  module _ (ordinary : IsOrdinary q x) (s v : RRset) (e : found_is (Some s)) (k : stands_for_addresses q.record_type s ≡ true) (leads : stand_in_answer q x s ≡ addresses v) (proved : q.is_proved ≡ true → is_signed v ≡ true) where
+    answered : q.is_proved && not (is_signed v) ≡ false
+    answered = by q.is_proved proved
+      where
+        by : (b : Bool) → (b ≡ true → is_signed v ≡ true) → b && not (is_signed v) ≡ false
+        by true p = ap not (p refl)
+        by false p = refl
+
     unfollowed_so : is_followed q.record_type s ≡ false
     unfollowed_so = ap (λ u. (u == CNAME) && not (q.record_type == CNAME)) (eqb-true s.record_type ANAME (and_left (s.record_type == ANAME) (is_address q.record_type) k))
 
@@ -387,9 +393,9 @@ module _ (q : Inquiry) (zone : IsOrdinaryZone q.origin q.sets) (plain : IsOrdina
         by (leads_by r made f g other n) = absurd (true≢false (sym g ∙ ap (is_followed q.record_type) (same r f) ∙ unfollowed_so))
         by (lacks star f n) = let p : None ≡ Some s = sym f ∙ e in absurd cc
         by (stands_in r star f g n) =
-            let to : Step = record { answers = as_it_is part.Records v ∷ []; made = made_names star x; next = ends complete } in
-            let p : path q x ≡ behind (as_it_is part.Records v ∷ []) (made_names star x) (ended complete) =
-            is to (n ∙ (λ i. cond (unproved i) (at_end failed) (stood_in_step star x (stand_in_answer q x (same r f i)))) ∙ ap (stood_in_step star x) leads) in (
+            let to : Step = record { answers = as_it_is (part_for q.signed) v ∷ []; made = made_names star x; next = ends complete } in
+            let p : path q x ≡ behind (as_it_is (part_for q.signed) v ∷ []) (made_names star x) (ended complete) =
+            is to (n ∙ ap (λ r. stood_in_step q.is_proved q.signed star x (stand_in_answer q x r)) (same r f) ∙ ap (stood_in_step q.is_proved q.signed star x) leads ∙ ap (λ b. cond b (at_end failed) to) answered) in (
               answers_stood_in s v e unfollowed_so k leads (ap (λ (p : Path). p.answers) p),
               record {
                 passes = ap (λ (p : Path). fails p.end) p;

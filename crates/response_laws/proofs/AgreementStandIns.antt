@@ -1,12 +1,14 @@
--- The premises of the agreement are met where an ANAME set stands in: a zone with one at a, which leads to the address of b
-use Rattle.std.proofs.Common.{◌≡◌, ◌≢◌, ℕ, true, false, [], ◌∷◌, refl, sym, ap, subst, inl, inr}
+-- The premises of the agreement are met where an ANAME set stands in: a zone that denies, with one at a which leads to the address of b, and with a signer
+use Rattle.std.proofs.Common.{◌≡◌, ◌≢◌, ℕ, true, false, cond, List, [], ◌∷◌, refl, sym, ap, subst, inl, inr}
 use Rattle.std.specs.Prelude.{codes, Some, None}
+use Rattle.zone_proto.specs.declared.nx_proof_kind.NxProofKind.TheVariants as kind
 use Rattle.zone_proto.specs.declared.rdata.RData.TheVariants as V
+use Rattle.zone_proto.specs.declared.record.Record.{Record}
 use Rattle.zone_proto.specs.declared.response_code.ResponseCode.TheVariants as code
 use Rattle.zone_proto.specs.declared.rr_key.RrKey.{RrKey}
 use Rattle.zone_proto.specs.Keys.{key}
 use Rattle.zone_proto.specs.Names.{Name, is_at_or_above}
-use Rattle.zone_proto.specs.Sets.{RRset}
+use Rattle.zone_proto.specs.Sets.{RRset, record_of}
 use Rattle.zone_proto.specs.Types.{A, CNAME, SOA, ANAME, IN}
 use Rattle.zone_proto.proofs.Members.{In, Contains-In}
 use Rattle.zone_proto.proofs.SetLaws.{IsSet-alone}
@@ -38,8 +40,11 @@ aname = entry a ANAME (V.ANAME b)
 abbrev sets : Sets
 sets = start ∷ aname ∷ address b ∷ []
 
+abbrev signatures : RRset → List Record
+signatures s = record_of s (V.RRSIG (record { type_covered = record { 0 = s.record_type }; algorithm = 253; num_labels = 2; original_ttl = s.ttl; expiration = 86400; inception = 0; key_tag = 1; signer_name = origin; signature = [] })) ∷ []
+
 abbrev zone : Zone
-zone = record { origin = origin; sets = sets; nx_proof_kind = None; digest_of = λ algorithm salt n iterations. None }
+zone = record { origin = origin; sets = sets; nx_proof_kind = Some kind.Nsec; digest_of = λ algorithm salt n iterations. None; sign = λ signed s. cond signed (signatures s) [] }
 
 aname_stored : IsStoredAt a ANAME aname.1
 aname_stored = record { named = name_by_tests a refl refl; owner = refl; record_type = refl; filled = λ e. cc; set = IsSet-alone a ANAME _ refl refl }
@@ -89,7 +94,7 @@ is_ordinary_zone = record {
 -- ---- the query
 
 abbrev asked : Query
-asked = record { name = a; record_type = A; class = IN; signed = false }
+asked = record { name = a; record_type = A; class = IN; signed = true }
 
 abbrev inquired : Inquiry
 inquired = inquiry zone asked
@@ -114,12 +119,15 @@ query = record {
     none x (inl e) other = other (sym e)
     none x (inr i) other = absurd i
 
--- the address of b under a
-abbrev made : RRset
-made = renamed false b a (address b).1
+-- the address of b under a, signed
+abbrev plain : RRset
+plain = renamed false b a (address b).1
 
-leads : StandInsLead (λ s. []) inquired a
-leads s h k = record { unproved = refl; made = made; leads = by s h; unsigned = λ u. refl }
+abbrev made : RRset
+made = record plain { signatures = signatures plain }
+
+leads : StandInsLead signatures inquired a
+leads s h k = record { made = made; leads = by s h; proved = λ u. refl; alike = λ u. refl }
   where
     by : (s : RRset) → Some aname.1 ≡ Some s → stand_in_answer inquired a s ≡ addresses made
     by s h = let same : aname.1 ≡ s = cc in subst (λ (s : RRset). stand_in_answer inquired a s ≡ addresses made) same refl
@@ -137,8 +145,9 @@ is_response = record { code = refl; authoritative = refl; answers = refl; author
 abbrev reply : Reply
 reply = answered (one_set made) (aname.1 ∷ (address b).1 ∷ [])
 
-looked_up : IsReply (λ s. []) origin sets false a A reply
+looked_up : IsReply signatures origin sets true a A reply
 looked_up = record { more = (address b).1 ∷ []; found = (b ∷ [], (refl, refl, tt), refl); sections = refl }
 
 agrees : Agrees zone asked response reply
-agrees = responses_agree (λ s. []) zone asked response reply is_ordinary_zone query leads refl is_response looked_up
+unfolding path
+agrees = responses_agree signatures zone asked response reply is_ordinary_zone query leads refl is_response looked_up

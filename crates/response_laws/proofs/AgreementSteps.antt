@@ -28,7 +28,7 @@ use Rattle.zone_response.specs.Sections.{as_it_is, part_for, is_signed}
 use Rattle.zone_response.specs.Sources
 use Rattle.zone_response.specs.Sources.{star_of, is_there}
 use Rattle.zone_response.specs.StandIns.{stand_in_answer}
-use Rattle.zone_response.specs.Steps.{complete, missing, outside, failed, ends, Step, at_end, made_by, made_names, after_alias, keeps, stood_in_step, node_step, step_at, star_step, name_step, turned_step, step}
+use Rattle.zone_response.specs.Steps.{complete, missing, outside, ends, Step, at_end, made_by, made_names, after_alias, keeps, stood_in_step, node_step, step_at, star_step, name_step, turned_step, step}
 use Rattle.response_laws.specs.Agreement.{IsOrdinaryZone, IsOrdinaryType, IsOrdinary}
 use Rattle.response_laws.proofs.AgreementNames.{no_referral, exact_own, exact_alias, exact_stand_in, exact_nothing, exact_absent, direct_is, found_there, found_by_star}
 use Rattle.response_laws.proofs.Leads.{no_target, made_target}
@@ -41,7 +41,7 @@ pub data StepAsFound (q : Inquiry) (before : List RRset) (x : Name) : Type 0 whe
   leads_by : (s : RRset) (made : List Name) → found q.sets q.signed x q.record_type ≡ Some s → is_followed q.record_type s ≡ true → (q.record_type == CNAME) ≡ false
       → step q before x ≡ record { answers = as_it_is (part_for q.signed) s ∷ []; made = made; next = after_alias (cname_target s) } → StepAsFound q before x
   stands_in : (s : RRset) (star : Option Name) → found q.sets q.signed x q.record_type ≡ Some s → stands_for_addresses q.record_type s ≡ true
-      → step q before x ≡ cond q.is_proved (at_end failed) (stood_in_step star x (stand_in_answer q x s)) → StepAsFound q before x
+      → step q before x ≡ stood_in_step q.is_proved q.signed star x (stand_in_answer q x s) → StepAsFound q before x
   lacks : (star : Option Name) → found q.sets q.signed x q.record_type ≡ None → step q before x ≡ at_end (missing x star (is_there q.sets x)) → StepAsFound q before x
 
 -- what is found at a name itself
@@ -237,7 +237,7 @@ module _ (q : Inquiry) (zone : IsOrdinaryZone q.origin q.sets) (plain : IsOrdina
               (is ∙ ap stepped n ∙ (λ i. record { answers = as_it_is (part_for q.signed) (made_as star s i) ∷ []; made = made_names star x; next = after_alias (sym (of_target star s) i) }))
           by (at_stand_in s n e k) =
               stands_in (of star s) star (finds ∙ ap (option_map (of star)) e) (ap (λ u. (u == ANAME) && is_address t) (of_type star s) ∙ k)
-              (is ∙ ap stepped n ∙ (λ i. cond q.is_proved (at_end failed) (stood_in_step star x (stand_in_answer q x (made_as star s i)))))
+              (is ∙ ap stepped n ∙ (λ i. stood_in_step q.is_proved q.signed star x (stand_in_answer q x (made_as star s i))))
           by (at_nothing n e) = lacks star (finds ∙ ap (option_map (of star)) e) (is ∙ ap stepped n ∙ (λ i. at_end (missing x star (sym there i))))
 
       unchanged : (o : Option RRset) → o ≡ option_map (of None) o

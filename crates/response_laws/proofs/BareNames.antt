@@ -1,17 +1,14 @@
--- At a name without the set that is asked for nothing is found
+-- What a name without the set that is asked for doesn't own
 use Rattle.std.proofs.Common.{◌≡◌, ◌≢◌, ℕ, Bool, true, false, cond, ◌&&◌, ◌||◌, [], refl, sym, ap, ◌∙◌, true≢false, eqb-true}
 use Rattle.std.specs.Prelude.{Option, Some, None, is_some, option_and_then, ◌==◌}
 use Rattle.zone_proto.specs.Names.{Name, name_eq}
 use Rattle.zone_proto.specs.Sets.{RRset}
-use Rattle.zone_proto.specs.Types.{NS, SOA, DS, RRSIG, NSEC3, ANY, ANAME}
+use Rattle.zone_proto.specs.Types.{NS, SOA, DS, RRSIG, NSEC3, ANY}
 use Rattle.zone_proto.proofs.Names.NameTree.{name_eq-Decides}
 use Rattle.zone_map.specs.AnyTypes.{any_type}
-use Rattle.zone_map.specs.Direct.{direct}
 use Rattle.zone_map.specs.Zones.{Sets, set_at, owns}
 use Rattle.zone_denial.specs.StarLaws.{OwnsNone}
-use Rattle.zone_acceptance.specs.Judged.{IsJudged, Unreferred}
-use Rattle.zone_acceptance.specs.Soundness.{IsUnflattened}
-use Rattle.zone_acceptance.proofs.NothingFound.{direct_none}
+use Rattle.zone_acceptance.specs.Judged.{Unreferred}
 use Rattle.zone_acceptance.proofs.OwnTypes.{differs}
 use Rattle.zone_response.specs.Queries.{Inquiry}
 use Rattle.zone_response.specs.Sections.{is_signed}
@@ -22,9 +19,6 @@ use Rattle.response_laws.proofs.Stepped.{IsUnturned}
 use Rattle.response_laws.proofs.Turned.{unturned, silent_at}
 
 module _ (m : Sets) (a : Name) (t : ℕ) (bare : IsBare m a t) where
-  pub flat : IsUnflattened m a t
-  flat k = ap is_some (sym (ap (λ b. cond b (set_at m a ANAME) None) k) ∙ bare.stand_in)
-
   -- a question of any type has an answer at a name that owns anything
   pub not_any : (u : ℕ) → owns m a u ≡ true → t ≢ ANY
   not_any u k e = any_answered m a u k (sym (ap (asked_set m a) e) ∙ bare.asked)
@@ -41,17 +35,13 @@ module _ (m : Sets) (a : Name) (t : ℕ) (bare : IsBare m a t) where
       lost None e = refl
       lost (Some s) e = absurd cc
 
-module _ (m : Sets) (a : Name) (t : ℕ) (bare : IsBare m a t) (one_kind : OwnsNone m NSEC3) (unsigned : t ≢ RRSIG) (one : t ≢ ANY) where
-  type_unowned : owns m a t ≡ false
-  type_unowned = by (t == NSEC3) refl
-    where
-      by : (b : Bool) → (t == NSEC3) ≡ b → owns m a t ≡ false
-      by true e = ap (owns m a) (eqb-true t NSEC3 e) ∙ one_kind a
-      by false e = bare_unowned m a t bare unsigned one e
-
-  -- where NS stands there beside SOA alone, but where DS is asked
-  pub bare_direct : (origin : Name) → IsJudged origin m a → ((t == DS) ≡ false → owns m a NS ≡ true → owns m a SOA ≡ true) → direct m a t ≡ None
-  bare_direct origin j beside = direct_none origin m a j.unreferred j.inside j.uncut t beside type_unowned (ap is_some bare.alias) (flat m a t bare)
+-- nor NSEC3 either, in a zone without it
+pub type_unowned : (m : Sets) (a : Name) (t : ℕ) → IsBare m a t → OwnsNone m NSEC3 → t ≢ RRSIG → t ≢ ANY → owns m a t ≡ false
+type_unowned m a t bare one_kind unsigned one = by (t == NSEC3) refl
+  where
+    by : (b : Bool) → (t == NSEC3) ≡ b → owns m a t ≡ false
+    by true e = ap (owns m a) (eqb-true t NSEC3 e) ∙ one_kind a
+    by false e = bare_unowned m a t bare unsigned one e
 
 -- at a name that nothing turns, NS stands beside SOA alone, but where DS is asked
 pub beside_soa : (q : Inquiry) (x : Name) → IsUnturned q x → Unreferred q.origin q.sets → (q.record_type == DS) ≡ false → owns q.sets x NS ≡ true → owns q.sets x SOA ≡ true

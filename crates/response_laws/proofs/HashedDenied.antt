@@ -36,7 +36,7 @@ use Rattle.response_laws.proofs.HashedProved.{records_proved, sound_proved, show
 use Rattle.response_laws.proofs.HashedShown.{IsEncloserShown}
 use Rattle.response_laws.proofs.HashedSummed.{sum_of_error}
 use Rattle.response_laws.proofs.HashedTold.{IsHashedName, away, below, enclosed, not_handed, opted_out_is, error_proved}
-use Rattle.response_laws.proofs.LastNames.{IsMissing, bare, bare_star, starless, gone, without_addresses}
+use Rattle.response_laws.proofs.LastNames.{IsMissing, bare, bare_star, starless, gone}
 use Rattle.response_laws.proofs.Parts.{path_of, IsMadeOf}
 use Rattle.response_laws.proofs.SaidNames.{reached_unturned, soa_shown, IsMissingName, missing_said}
 use Rattle.response_laws.proofs.Stepped.{IsUnturned}
@@ -196,7 +196,6 @@ module _ (z : Zone) (parameters : Nsec3Parameters) (q : Query) (r : Sections) (d
       of : (star : Option Name) → (path_of z q).end ≡ missing x star false → IsUnturned (inquiry z q) x → IsMissing (inquiry z q) x star false → IsHashedError z parameters r x
       of star end u (bare e f g b) = absurd (true≢false (sym e))
       of star end u (bare_star w e f absent g there b) = absurd (true≢false (sym e))
-      of star end u (without_addresses e f) = absurd (true≢false (sym e))
       of star end u (starless e absent f) = absurd (has_star x u apart absent f)
       of star end u (gone w e f absent g none) = at_star w (end ∙ ap (λ s. missing x s false) f) absent g none u
 

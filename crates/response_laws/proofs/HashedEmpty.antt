@@ -29,10 +29,10 @@ use Rattle.zone_response.specs.Queries.{Zone, Query, inquiry}
 use Rattle.zone_response.specs.Sections.{Sections}
 use Rattle.zone_response.specs.Sources.{star_of}
 use Rattle.zone_response.specs.Steps.{missing}
-use Rattle.response_laws.specs.HashedSayings.{zone_hash, DeniesByNsec3, HashesApart, IsReached, shown_nsec3, IsHashedShowable, HasNoHashedSet, IsInsecure, IsHashedEmpty}
+use Rattle.response_laws.specs.HashedSayings.{zone_hash, DeniesByNsec3, HashesApart, IsReached, shown_nsec3, IsHashedShowable, HasNoHashedStandIn, HasNoHashedSet, IsInsecure, IsHashedEmpty}
 use Rattle.response_laws.specs.ProvedSayings.{IsEmptyProof}
 use Rattle.response_laws.specs.Sayings.{no_data, saying}
-use Rattle.response_laws.proofs.BareNames.{flat, beside_soa}
+use Rattle.response_laws.proofs.BareNames.{beside_soa}
 use Rattle.response_laws.proofs.HashedDenied.{lack, encloser_shown, unhanded, IsAbsentShown, absent_shown, out_is}
 use Rattle.response_laws.proofs.HashedNames.{encloser_in, encloser_above, uncut_star}
 use Rattle.response_laws.proofs.HashedProved.{records_proved, sound_proved, shown_of, hashed_name, judged_name, there_on}
@@ -40,8 +40,8 @@ use Rattle.response_laws.proofs.HashedShown.{IsEncloserShown, own_matched, enclo
 use Rattle.response_laws.proofs.HashedSummed.{sum_of_own, sum_of_star, sum_of_left_out, sum_of_digest}
 use Rattle.response_laws.proofs.HashedTold.{IsHashedName, away, below, enclosed, no_encloser, own_denied, no_own_data, no_own_delegation, opted_out_is, no_error, star_denied}
 use Rattle.response_laws.proofs.HashedTypes.{own_denies}
-use Rattle.response_laws.proofs.LastNames.{IsBare, IsMissing, bare, bare_star, starless, gone, without_addresses}
-use Rattle.response_laws.proofs.Parts.{path_of, is_proved_by, IsMadeOf}
+use Rattle.response_laws.proofs.LastNames.{IsBare, IsMissing, bare, bare_star, starless, gone}
+use Rattle.response_laws.proofs.Parts.{path_of, IsMadeOf}
 use Rattle.response_laws.proofs.SaidNames.{reached_unturned, soa_shown, missing_said}
 use Rattle.response_laws.proofs.Stepped.{IsUnturned}
 
@@ -101,7 +101,6 @@ module _ (z : Zone) (parameters : Nsec3Parameters) (q : Query) (r : Sections) (d
       by_opt_out : parameters.opt_out ≡ true → on_circle x ≡ false → proves_opted_out o hash rs x ≡ true → IsBareBy
 
     bare_by : (star : Option Name) (there : Bool) → (path_of z q).end ≡ missing x star there → there ≡ true → IsMissing (inquiry z q) x star there → IsBareBy
-    bare_by star there end so (without_addresses e f) = absurd (true≢false (sym (is_proved_by z q _ signed d.kind) ∙ f))
     bare_by star there end so (starless e absent f) = absurd (true≢false (sym so ∙ e))
     bare_by star there end so (gone w e f absent g i) = absurd (true≢false (sym so ∙ e))
     bare_by star there end so (bare e f exists_there b) = by (on_circle x) refl
@@ -205,16 +204,17 @@ module _ (z : Zone) (parameters : Nsec3Parameters) (q : Query) (r : Sections) (d
           (or_left (proves_name_error o hash rs x || proves_opted_out o hash rs x) (proves_wildcard_no_data o hash rs x t) (or_right (proves_name_error o hash rs x) (proves_opted_out o hash rs x) p)),
     )
 
-    none_by : IsHashedShowable o m x t → IsBareBy → parameters.opt_out ≡ false → is_wildcard x ≡ false → owns m x NSEC3 ≡ false → IsWithoutData o m x t
-    none_by s (by_own on own b) all_in plain unhashed =
-        (sound_proved z parameters q r d signed h x (judged_name z parameters q r d signed h x k apart all_in unhashed)).data' t (flat m x t b) (no_data_by s on own b)
-    none_by s (by_star opts absent a c out e has source on own b) all_in plain unhashed =
-        ((sound_proved z parameters q r d signed h x (judged_name z parameters q r d signed h x k apart all_in unhashed)).wildcard_data t plain (λ n is. subst (λ a. IsUnflattened m (star_under a) t) (same_name a n (sym e.is_encloser ∙ is)) (flat m (star_under a) t b))
+    none_by : IsHashedShowable o m x t → IsBareBy → parameters.opt_out ≡ false → is_wildcard x ≡ false → owns m x NSEC3 ≡ false → HasNoHashedStandIn m x t → IsWithoutData o m x t
+    none_by s (by_own on own b) all_in plain unhashed flat =
+        (sound_proved z parameters q r d signed h x (judged_name z parameters q r d signed h x k apart all_in unhashed)).data' t flat.own (no_data_by s on own b)
+    none_by s (by_star opts absent a c out e has source on own b) all_in plain unhashed flat =
+        ((sound_proved z parameters q r d signed h x (judged_name z parameters q r d signed h x k apart all_in unhashed)).wildcard_data t plain
+        (λ n is. subst (λ a. IsUnflattened m (star_under a) t) (same_name a n (sym e.is_encloser ∙ is)) (flat.star absent (star_under a) source))
         (star_data_by s absent a c out e has source on own b)).none
       where
         same_name : (a b : Name) → Some a ≡ Some b → a ≡ b
         same_name a b e = cc
-    none_by s (by_opt_out opts out p) all_in plain unhashed = absurd (true≢false (sym opts ∙ all_in))
+    none_by s (by_opt_out opts out p) all_in plain unhashed flat = absurd (true≢false (sym opts ∙ all_in))
 
   -- ---- what is said
 

@@ -74,6 +74,7 @@ zone_by digest m other = record {
   sets = put (put (put m origin NSEC3PARAM (entry origin NSEC3PARAM (V.NSEC3PARAM parameters)).1) (hashed_owner origin (64 ∷ [])) NSEC3 at_apex) (hashed_owner origin (96 ∷ [])) NSEC3 other;
   nx_proof_kind = Some (kind.Nsec3 parameters.algorithm parameters.salt parameters.iterations parameters.opt_out);
   digest_of = λ algorithm salt n iterations. digest n;
+  sign = λ signed s. [];
 }
 
 abbrev zone : Sets → RRset → Zone

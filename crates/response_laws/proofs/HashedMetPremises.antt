@@ -77,6 +77,7 @@ zone opt_out = record {
   sets = alone opt_out;
   nx_proof_kind = Some (kind.Nsec3 (parameters opt_out).algorithm (parameters opt_out).salt (parameters opt_out).iterations (parameters opt_out).opt_out);
   digest_of = λ algorithm salt n iterations. digest_in table n;
+  sign = λ signed s. [];
 }
 
 abbrev digest : Name → List ℕ

@@ -7,7 +7,7 @@ use Rattle.zone_proto.specs.declared.rdata.denial.NSEC3PARAM.{NSEC3PARAM as Nsec
 use Rattle.zone_proto.specs.HashedOwners.{owner_or_refusal}
 use Rattle.zone_proto.specs.Names.{Name, lower, IsAbove, star_under, is_at_or_above}
 use Rattle.zone_proto.specs.Sets.{RRset}
-use Rattle.zone_proto.specs.Types.{NS, NSEC3, NSEC3PARAM}
+use Rattle.zone_proto.specs.Types.{NS, NSEC3, NSEC3PARAM, ANAME}
 use Rattle.zone_proto.proofs.Members.{In, In-Contains, Contains-In}
 use Rattle.zone_proto.proofs.Names.NameTree.{is_at_or_above_sound}
 use Rattle.zone_map.specs.Wildcards.{exists, renamed, closest_encloser as found_encloser}
@@ -32,13 +32,13 @@ use Rattle.zone_acceptance.proofs.Nsec3Soundness.{nsec3_records_sound}
 use Rattle.zone_response.specs.declared.response.Part.{Part}
 use Rattle.zone_response.specs.Queries.{Zone, Query, inquiry}
 use Rattle.zone_response.specs.Responses.{negative_ttl, ds_at, end_sets}
-use Rattle.zone_response.specs.Sections.{Sections, sent}
+use Rattle.zone_response.specs.Sections.{Sections}
 use Rattle.zone_response.specs.Sources.{star_of}
 use Rattle.zone_response.specs.Steps.{End}
-use Rattle.response_laws.specs.HashedSayings.{zone_hash, DeniesByNsec3, HashesApart, IsReached, shown_nsec3, may_leave_out, IsHashedStarSet, IsLacking, shown_records}
-use Rattle.response_laws.specs.ProvedSayings.{IsSentSet, IsMadeAlias, IsAliasData, IsAnswerPart, authority_part}
+use Rattle.response_laws.specs.HashedSayings.{zone_hash, DeniesByNsec3, HashesApart, IsReached, shown_nsec3, may_leave_out, IsHashedFoundByStar, IsHashedStarSet, IsLacking, shown_records}
+use Rattle.response_laws.specs.ProvedSayings.{IsSentSet, IsMadeAlias, IsMadeAddresses, IsAliasData, IsAnswerPart, authority_part}
 use Rattle.response_laws.specs.Sayings.{Saying, data_of, name_error, no_data, referral, saying, name_of}
-use Rattle.response_laws.proofs.Answers.{IsFound, IsAnswer, IsMadeSet, path_answers}
+use Rattle.response_laws.proofs.Answers.{IsMadeFound, IsFound, IsStoodIn, IsAnswer, IsMadeSet, path_answers}
 use Rattle.response_laws.proofs.HashedCalls.{told_is}
 use Rattle.response_laws.proofs.HashedLacks.{lacking, lacking_named}
 use Rattle.response_laws.proofs.HashedNames.{absent_off, encloser_agrees, encloser_of_star}
@@ -48,6 +48,7 @@ use Rattle.response_laws.proofs.Parts.{path_of, is_proved_by, IsMadeOf}
 use Rattle.response_laws.proofs.ReadSets.{nsec3_reader, read_of_zone, read_proof}
 use Rattle.response_laws.proofs.Said.{Said, says_nothing, says_data, says_referral, says_missing, said}
 use Rattle.response_laws.proofs.SaidNames.{same_saying, reached_unturned, reached_cut, authorities_are, authority_of, alias_said}
+use Rattle.response_laws.proofs.StandIns.{made_signatures}
 
 -- one for which a test fails
 some_fails : {A : Type 0} (p : A → Bool) (xs : List A) → list_all p xs ≡ false → (x : A) × In x xs × (p x ≡ false)
@@ -224,33 +225,50 @@ module _ (z : Zone) (parameters : Nsec3Parameters) (q : Query) (r : Sections) (d
       c : (k : Name) × IsCover j.zone j.apart n.1 k × In (record_of j.zone j.apart k) (read_nsec3_sets s.0)
       c = closer_shown j.zone j.apart n.0 n.1 n.2 s.0 s.1
 
+  -- of a star's set under a name for which the star answered
+  by_star_proved : (y : Name) → In y (path_of z q).made → (u : ℕ) (found : RRset) → IsMadeFound (inquiry z q) y u found → IsHashedFoundByStar z parameters (shown_nsec3 r) y u found
+  by_star_proved y i u found k =
+      let w = asked_star y k.star k.made.star in
+      record {
+        encloser = w.encloser;
+        stored = k.stored;
+        stands = ap (λ n. set_at m n u) w.is ∙ k.stands;
+        made = k.is ∙ ap (λ n. renamed true n y k.stored) (sym w.is);
+        proved = star_proved y w.encloser i (reached_unturned z q d.no_dname y k.made.unturned) k.made.absent w.found;
+      }
+
   -- of those that are found
   found_proved : (s : RRset) → IsFound (inquiry z q) (path_of z q).made s → (p : Part) × IsAnswerPart q.record_type p × (IsSentSet z.sets p s ⊎ IsHashedStarSet z parameters (shown_nsec3 r) p s)
   found_proved s a = (a.part', a.goes_out, by a.part' a.set)
     where
-      of_star : (p : Part) (y : Name) → In y (path_of z q).made → IsMadeSet (inquiry z q) y p s → IsHashedStarSet z parameters (shown_nsec3 r) p s
-      of_star p y i k =
-          let w = asked_star y k.star k.made.star in
-          record {
-            name = y;
-            encloser = w.encloser;
-            record_type = k.record_type;
-            stored = k.stored;
-            stands = ap (λ n. set_at m n k.record_type) w.is ∙ k.stands;
-            ttl = k.ttl;
-            sent = k.sent ∙ ap (λ n. sent p k.ttl (renamed true n y k.stored)) (sym w.is);
-            proved = star_proved y w.encloser i (reached_unturned z q d.no_dname y k.made.unturned) k.made.absent w.found;
-          }
-
       by : (p : Part) → IsSentSet m p s ⊎ ((y : Name) × In y (path_of z q).made × IsMadeSet (inquiry z q) y p s) → IsSentSet m p s ⊎ IsHashedStarSet z parameters (shown_nsec3 r) p s
       by p (inl k) = inl k
-      by p (inr (y, i, k)) = inr (of_star p y i k)
+      by p (inr (y, i, k)) = inr (record { name = y; record_type = k.record_type; found = k.found; by_star = by_star_proved y i k.record_type k.found k.by_star; ttl = k.ttl; sent = k.sent })
+
+  -- addresses for which an ANAME set stands in
+  addresses_proved : (s : RRset) → IsStoodIn (inquiry z q) (path_of z q).made s → IsMadeAddresses z q (IsHashedFoundByStar z parameters (shown_nsec3 r)) s
+  addresses_proved s a = record {
+    name = a.name;
+    aname = a.aname;
+    stands = by a.stands;
+    made = a.set;
+    leads = a.leads;
+    signatures = made_signatures (inquiry z q) a.name a.aname a.set a.leads ∙ ap (λ b. z.sign b (record a.set { signatures = [] })) signed;
+    signed = a.signed;
+    sent = a.sent;
+  }
+    where
+      by : (set_at m a.name ANAME ≡ Some a.aname) ⊎ (In a.name (path_of z q).made × IsMadeFound (inquiry z q) a.name ANAME a.aname)
+          → (set_at m a.name ANAME ≡ Some a.aname) ⊎ IsHashedFoundByStar z parameters (shown_nsec3 r) a.name ANAME a.aname
+      by (inl k) = inl k
+      by (inr (i, k)) = inr (by_star_proved a.name i ANAME a.aname k)
 
   pub answers_proved : (s : RRset) → Contains r.answers s
-      → ((p : Part) × IsAnswerPart q.record_type p × (IsSentSet z.sets p s ⊎ IsHashedStarSet z parameters (shown_nsec3 r) p s)) ⊎ IsMadeAlias z.sets r.answers s
+      → ((p : Part) × IsAnswerPart q.record_type p × (IsSentSet z.sets p s ⊎ IsHashedStarSet z parameters (shown_nsec3 r) p s)) ⊎ IsMadeAlias z.sets r.answers s ⊎ IsMadeAddresses z q (IsHashedFoundByStar z parameters (shown_nsec3 r)) s
   answers_proved s c = by (path_answers (inquiry z q) zone signed (is_proved_by z q _ signed d.kind) q.name s (subst (In s) h.answers (Contains-In s r.answers c)))
     where
       by : IsAnswer (inquiry z q) (path_of z q).made (path_of z q).answers s
-          → ((p : Part) × IsAnswerPart q.record_type p × (IsSentSet z.sets p s ⊎ IsHashedStarSet z parameters (shown_nsec3 r) p s)) ⊎ IsMadeAlias z.sets r.answers s
+          → ((p : Part) × IsAnswerPart q.record_type p × (IsSentSet z.sets p s ⊎ IsHashedStarSet z parameters (shown_nsec3 r) p s)) ⊎ IsMadeAlias z.sets r.answers s ⊎ IsMadeAddresses z q (IsHashedFoundByStar z parameters (shown_nsec3 r)) s
       by (inl a) = inl (found_proved s a)
-      by (inr a) = inr (subst (λ all. IsMadeAlias m all s) (sym h.answers) a)
+      by (inr (inl a)) = inr (inl (subst (λ all. IsMadeAlias m all s) (sym h.answers) a))
+      by (inr (inr a)) = inr (inr (addresses_proved s a))

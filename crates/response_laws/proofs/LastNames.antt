@@ -1,5 +1,5 @@
 -- The last name of a path is that to which its answers lead, and how the search ends there
-use Rattle.std.proofs.Common.{◌≡◌, ℕ, zero, suc, Bool, true, false, cond, ◌&&◌, ◌||◌, List, [], ◌∷◌, ◌++◌, refl, sym, ap, ◌∙◌, subst, ◌⊎◌, inl, inr, true≢false, eqb-true, eq-eqb, arith, append_assoc}
+use Rattle.std.proofs.Common.{◌≡◌, ℕ, zero, suc, Bool, true, false, cond, not, ◌&&◌, ◌||◌, List, [], ◌∷◌, ◌++◌, refl, sym, ap, ◌∙◌, subst, ◌⊎◌, inl, inr, true≢false, eqb-true, eq-eqb, arith, append_assoc}
 use Rattle.std.specs.Prelude.{Option, Some, None, ◌==◌}
 use Rattle.std.specs.List.{list_any}
 use Rattle.std.specs.Option.{option_map_or}
@@ -12,15 +12,14 @@ use Rattle.zone_proto.proofs.Members.{In}
 use Rattle.zone_map.specs.Chains.{cname_target}
 use Rattle.zone_map.specs.Wildcards.{exists}
 use Rattle.zone_map.specs.Zones.{Sets, set_at, IsZone}
-use Rattle.zone_response.specs.Nodes.{AtNode, own, alias, stand_in, nothing, chosen_type, asked_set, stand_in_set, at_node}
+use Rattle.zone_response.specs.Nodes.{AtNode, own, alias, stand_in, nothing, chosen_type, asked_set, at_node}
 use Rattle.zone_response.specs.Paths.{Path, ended, behind, searched, path_from, path}
 use Rattle.zone_response.specs.Queries.{Inquiry}
 use Rattle.zone_response.specs.Renamings.{dname_target, in_place_of, unless_long, made_alias}
-use Rattle.zone_response.specs.declared.response.Part.TheVariants as part
-use Rattle.zone_response.specs.Sections.{as_it_is, part_for, unless_among}
+use Rattle.zone_response.specs.Sections.{is_signed, as_it_is, part_for, unless_among}
 use Rattle.zone_response.specs.Sources.{star_of}
 use Rattle.zone_response.specs.StandIns.{StandInAnswer, addresses, no_addresses, untold, stand_in_answer}
-use Rattle.zone_response.specs.Steps.{End, complete, referred, missing, outside, unfollowed, too_long, failed, Next, on, ends, Step, at_end, made_by, after_alias, keeps, own_part, stood_in_step, node_step, new_name_step, step_at, step}
+use Rattle.zone_response.specs.Steps.{End, complete, referred, missing, outside, unfollowed, too_long, failed, Next, on, ends, Step, at_end, made_by, made_names, after_alias, keeps, own_part, stood_in_step, node_step, new_name_step, step_at, step}
 use Rattle.zone_response.specs.Turns.{DNAME, cut, turn}
 use Rattle.response_laws.specs.Sayings.{asks_alias, renames, leads_to, last_name, is_answer}
 use Rattle.response_laws.proofs.Dnames.{sent_dname, short_is, AreDnames, both_dnames, IsAboveBy, turned_by, stands_among, in_unless, passed, alias_leads as dname_leads, alias_stays}
@@ -30,11 +29,10 @@ use Rattle.response_laws.proofs.Stepped.{NodeOf, has_set, has_alias, has_stand_i
 
 -- ---- how a search ends at a name
 
--- a name has no set that answers
+-- a name has no set that answers, but an ANAME set may stand in that leads to no addresses
 pub record IsBare (m : Sets) (a : Name) (t : ℕ) : Type 0 where
   pub asked : asked_set m a t ≡ None
   pub alias : set_at m a CNAME ≡ None
-  pub stand_in : stand_in_set m a t ≡ None
 
 -- a name without the set that is asked for: it exists, or its star does, or neither
 pub data IsMissing (q : Inquiry) (x : Name) (star : Option Name) (there : Bool) : Type 0 where
@@ -42,8 +40,6 @@ pub data IsMissing (q : Inquiry) (x : Name) (star : Option Name) (there : Bool) 
   bare_star : (w : Name) → there ≡ true → star ≡ Some w → exists q.sets x ≡ false → star_of q.sets x ≡ Some w → exists q.sets w ≡ true → IsBare q.sets w q.record_type → IsMissing q x star there
   starless : there ≡ false → exists q.sets x ≡ false → star_of q.sets x ≡ None → IsMissing q x star there
   gone : (w : Name) → there ≡ false → star ≡ Some w → exists q.sets x ≡ false → star_of q.sets x ≡ Some w → exists q.sets w ≡ false → IsMissing q x star there
-  -- an ANAME set stands in that leads to no addresses, where nothing has to be proved
-  without_addresses : there ≡ true → q.is_proved ≡ false → IsMissing q x star there
 
 -- the answer of the last name, if the search ends with one
 pub record IsAnswered (q : Inquiry) (x : Name) (answers : List RRset) : Type 0 where
@@ -127,16 +123,19 @@ module _ (q : Inquiry) (zone : IsZone q.sets) where
       kept : RRset → RRset
       kept s = made_by (keeps q.signed t) star x s
 
-      stood_in : (s : RRset) → set_at m a ANAME ≡ Some s → (b : Bool) → q.is_proved ≡ b → (w : StandInAnswer) → stand_in_answer q x (kept s) ≡ w → StepEnd q before x (cond b (at_end failed) (stood_in_step star x w))
-      stood_in s k true p w f = comes_to failed [] refl refl tt
-      stood_in s k false p (addresses v) f =
-          let r = as_it_is part.Records v in
+      addressed : (s v : RRset) → set_at m a ANAME ≡ Some s → stand_in_answer q x (kept s) ≡ addresses v → (b : Bool) → StepEnd q before x (cond b (at_end failed) (record { answers = as_it_is (part_for q.signed) v ∷ []; made = made_names star x; next = ends complete }))
+      addressed s v k f true = comes_to failed [] refl refl tt
+      addressed s v k f false =
+          let r = as_it_is (part_for q.signed) v in
           let l = addresses_of_last q x (kept s) v f in
           let owned = found_owner m zone.stored q.signed t (keeps q.signed t) star x a s here (zone.stored a ANAME s k).owner in
           comes_to complete (r ∷ []) refl (last_here t x r [] (addresses_stay q x (kept s) v l owned) (addresses_lead_nowhere q x (kept s) v l owned))
           (record { set = r; alone = refl; answers_it = addresses_answer q x (kept s) v l owned }, inl u)
-      stood_in s k false p no_addresses f = comes_to (missing x star true) [] refl refl (u, without_addresses refl p, refl, refl)
-      stood_in s k false p untold f = comes_to failed [] refl refl tt
+
+      stood_in : (s : RRset) → set_at m a ANAME ≡ Some s → IsBare m a t → (w : StandInAnswer) → stand_in_answer q x (kept s) ≡ w → StepEnd q before x (stood_in_step q.is_proved q.signed star x w)
+      stood_in s k b (addresses v) f = addressed s v k f (q.is_proved && not (is_signed v))
+      stood_in s k b no_addresses f = comes_to (missing x star true) [] refl refl (u, missing_as b, refl, refl)
+      stood_in s k b untold f = comes_to failed [] refl refl tt
 
       by : NodeOf m a t → StepEnd q before x (step_at q star x a)
       by (has_set s e f) =
@@ -146,8 +145,8 @@ module _ (q : Inquiry) (zone : IsZone q.sets) where
           (last_here t x r [] (found_stays m zone.stored q.signed t (keeps q.signed t) star x a here s (own_part q.signed t) (chosen_type m a t) (asked_stands m a t s e)) (own_leads m zone.stored q.signed t (keeps q.signed t) star x a here s e))
           (record { set = r; alone = refl; answers_it = own_answers m zone.stored q.signed t (keeps q.signed t) star x a here s e }, inl u))
       by (has_alias s e f g) = of (alias s) g (aliased s e f (cname_target s) refl)
-      by (has_stand_in s k e) = of (stand_in s) e (stood_in s (aname_stands m a t s k) q.is_proved refl (stand_in_answer q x (kept s)) refl)
-      by (has_nothing e f g h) = of nothing h (comes_to (missing x star true) [] refl refl (u, missing_as (record { asked = e; alias = f; stand_in = g }), refl, refl))
+      by (has_stand_in s e f k g) = of (stand_in s) g (stood_in s (aname_stands m a t s k) (record { asked = e; alias = f }) (stand_in_answer q x (kept s)) refl)
+      by (has_nothing e f g) = of nothing g (comes_to (missing x star true) [] refl refl (u, missing_as (record { asked = e; alias = f }), refl, refl))
 
   -- below a DNAME
   module _ (before : List RRset) (dnames : AreDnames q before) (x : Name) (s : RRset) (target : Name) (a : IsAboveBy q x s) (told : dname_target s ≡ Some target) where

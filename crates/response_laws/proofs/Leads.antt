@@ -37,7 +37,7 @@ use Rattle.response_laws.specs.Sayings.{asks_alias, leads_to, is_of, renames, is
 
 -- ---- the target of an alias, as it goes out
 
-pub target_with_ttl : (ttl : ℕ) (rs : List Record) → first_target (map (with_ttl ttl) rs) ≡ first_target rs
+target_with_ttl : (ttl : ℕ) (rs : List Record) → first_target (map (with_ttl ttl) rs) ≡ first_target rs
 target_with_ttl ttl [] = refl
 target_with_ttl ttl (r ∷ rs) = refl
 
@@ -45,7 +45,7 @@ pub target_under : (n : Name) (ttl : ℕ) (rs : List Record) → first_target (m
 target_under n ttl [] = refl
 target_under n ttl (r ∷ rs) = refl
 
-sent_target : (signed : Bool) (s : RRset) → cname_target (as_it_is (part_for signed) s) ≡ cname_target s
+pub sent_target : (signed : Bool) (s : RRset) → cname_target (as_it_is (part_for signed) s) ≡ cname_target s
 sent_target true s = target_with_ttl s.ttl s.records
 sent_target false s = target_with_ttl s.ttl s.records
 

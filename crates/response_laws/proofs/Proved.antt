@@ -1,19 +1,20 @@
 -- What a response says is proved, case by case
-use Rattle.std.proofs.Common.{◌≡◌, ℕ, Bool, true, false, cond, ◌||◌, refl, sym, ap, ◌∙◌, subst, true≢false, ◌⊎◌, inl, inr, eqb-true, IsFalse}
+use Rattle.std.proofs.Common.{◌≡◌, ℕ, Bool, true, false, cond, ◌||◌, [], refl, sym, ap, ◌∙◌, subst, true≢false, ◌⊎◌, inl, inr, eqb-true, IsFalse}
 use Rattle.std.specs.Prelude.{Option, Some, None, is_some, ◌==◌}
 use Rattle.std.specs.List.{Contains}
+use Rattle.std.specs.Option.{option_map_or}
 use Rattle.zone_proto.specs.Names.{Name, lower, star_under, is_wildcard}
 use Rattle.zone_proto.specs.Sets.{RRset}
-use Rattle.zone_proto.specs.Types.{NS, SOA, DS, NSEC}
+use Rattle.zone_proto.specs.Types.{NS, SOA, DS, NSEC, ANAME}
 use Rattle.zone_proto.proofs.Members.{or_left, or_right, In, Contains-In, In-append_left, In-append_right}
-use Rattle.zone_map.specs.Wildcards.{exists, renamed, asked_star_exists}
+use Rattle.zone_map.specs.Wildcards.{exists, renamed, closest_encloser, asked_star_exists}
 use Rattle.zone_map.specs.Zones.{Sets, set_at, owns, owns_at_or_below, IsZone}
+use Rattle.zone_map.proofs.ExistingNames.{owned_where_existing}
 use Rattle.zone_denial.specs.NsecDenial.{nsec_encloser}
 use Rattle.zone_inner.specs.Replies.{name_exists, nx_domain}
-use Rattle.zone_validation.specs.Judgement.{nsec_proof}
 use Rattle.zone_validation.specs.NsecProofs.{proves_name_error, proves_no_data, proves_empty_non_terminal, proves_wildcard_no_data, proves_empty_answer, proves_unsigned_delegation}
 use Rattle.zone_acceptance.specs.Judged.{AreOfZone, IsJudged}
-use Rattle.zone_acceptance.specs.Soundness.{IsUnflattened, IsWithoutData, IsUnsignedDelegation, IsSound}
+use Rattle.zone_acceptance.specs.Soundness.{IsWithoutData, IsUnsignedDelegation, IsSound}
 use Rattle.zone_acceptance.proofs.ShownEnclosers.{judged_star}
 use Rattle.zone_acceptance.proofs.Soundness.{there_from, present, empty_without_data, records_sound}
 use Rattle.zone_acceptance.proofs.Stars.{exists_is}
@@ -21,17 +22,19 @@ use Rattle.zone_response.specs.declared.response.Part.{Part}
 use Rattle.zone_response.specs.declared.response.Part.TheVariants as part
 use Rattle.zone_response.specs.Queries.{Zone, Query, inquiry}
 use Rattle.zone_response.specs.Responses.{child_ds, ds_at}
-use Rattle.zone_response.specs.Sections.{Sections, sent}
+use Rattle.zone_response.specs.Sections.{Sections}
 use Rattle.zone_response.specs.Sources.{star_of}
 use Rattle.zone_response.specs.Steps.{End, referred, missing}
-use Rattle.response_laws.specs.ProvedSayings.{DeniesByNsec, shown, IsSentSet, IsStarSet, IsMadeAlias, IsAliasData, IsAnswerPart, authority_part, HasAuthority, IsShowable, IsProvedError, IsEmptyProof, IsProvedEmpty, IsProvedUnsigned, IsProvedReferral}
+use Rattle.response_laws.specs.ProvedSayings.{DeniesByNsec, shown, IsSentSet, IsFoundByStar, IsStarSet, IsMadeAlias, IsMadeAddresses, IsAliasData, IsAnswerPart, authority_part, HasAuthority, HasNoStandIn, IsShowable, IsProvedError, IsProvedEmpty, IsProvedUnsigned, IsProvedReferral}
 use Rattle.response_laws.specs.Sayings.{Saying, data_of, name_error, no_data, referral, saying, name_of}
-use Rattle.response_laws.proofs.Answers.{IsFound, IsAnswer, IsMadeSet, path_answers}
-use Rattle.response_laws.proofs.BareNames.{flat, not_any, bare_direct, beside_soa}
-use Rattle.response_laws.proofs.LastNames.{IsBare, IsMissing, bare, bare_star, starless, gone, without_addresses}
+use Rattle.response_laws.proofs.Answers.{IsMadeFound, IsFound, IsStoodIn, IsAnswer, IsMadeSet, path_answers}
+use Rattle.response_laws.proofs.BareNames.{not_any, type_unowned, beside_soa}
+use Rattle.response_laws.proofs.AgreementNames.{star_asked}
+use Rattle.response_laws.proofs.LastNames.{IsBare, IsMissing, bare, bare_star, starless, gone}
 use Rattle.response_laws.proofs.Parts.{path_of, is_proved_by, told_at, IsMadeOf}
 use Rattle.response_laws.proofs.Said.{Said, says_nothing, says_data, says_referral, says_missing, said}
 use Rattle.response_laws.proofs.SaidNames.{same_saying, soa_shown, missing_said, alias_said, IsReferralTo, referral_of}
+use Rattle.response_laws.proofs.StandIns.{made_signatures}
 use Rattle.response_laws.proofs.Stepped.{IsUnturned}
 use Rattle.response_laws.proofs.Summed.{sum_of_error, sum_of_delegation, sum_of_empty}
 use Rattle.response_laws.proofs.Told.{IsTold, over, error_proved, answer_proved, bare as told_bare, bare_by, star_bare_by, delegation_proved}
@@ -67,37 +70,60 @@ module _ (z : Zone) (q : Query) (r : Sections) (d : DeniesByNsec z) (signed : q.
   pub sound_proved : (x : Name) → IsJudged z.origin z.sets x → IsSound z.origin z.sets x (shown r)
   sound_proved x j = records_sound o m (shown r) x j records_proved
 
+  -- of a star's set under a name for which the star answered
+  star_proved : (y : Name) → In y (path_of z q).made → (u : ℕ) (found : RRset) → IsMadeFound (inquiry z q) y u found → IsFoundByStar z.origin z.sets (shown r) y u found
+  star_proved y i u found k = record {
+    encloser = nsec_encloser o m y;
+    stored = k.stored;
+    stands = ap (λ n. set_at m n u) (sym star) ∙ k.stands;
+    made = k.is ∙ ap (λ n. renamed true n y k.stored) star;
+    proved =
+        answer_proved o m y j (shown r) (tells z q r d signed h y j (In-append_left y (path_of z q).made (told_at (ds_at m ends) ends) i)) (unowned z d y k.made.absent) (nsec_encloser o m y) e.0;
+  }
+    where
+      j : IsJudged o m y
+      j = judged_unturned z q d y k.made.unturned
+
+      e : (closest_encloser m y ≡ Some (nsec_encloser o m y)) × (star_of m y ≡ Some (star_under (nsec_encloser o m y)))
+      e = star_is z d y j k.made.absent
+
+      star : k.star ≡ star_under (nsec_encloser o m y)
+      star = same_name k.star (star_under (nsec_encloser o m y)) (sym k.made.star ∙ e.1)
+
   -- of those that are found
   found_proved : (s : RRset) → IsFound (inquiry z q) (path_of z q).made s → (p : Part) × IsAnswerPart q.record_type p × (IsSentSet z.sets p s ⊎ IsStarSet z.origin z.sets (shown r) p s)
   found_proved s a = (a.part', a.goes_out, by a.part' a.set)
     where
       by : (p : Part) → IsSentSet m p s ⊎ ((y : Name) × In y (path_of z q).made × IsMadeSet (inquiry z q) y p s) → IsSentSet m p s ⊎ IsStarSet o m (shown r) p s
       by p (inl k) = inl k
-      by p (inr (y, i, k)) =
-          let j = judged_unturned z q d y k.made.unturned in
-          let e = star_is z d y j k.made.absent in
-          let star : k.star ≡ star_under (nsec_encloser o m y) = same_name k.star (star_under (nsec_encloser o m y)) (sym k.made.star ∙ e.1) in
-          inr
-          (record {
-            name = y;
-            encloser = nsec_encloser o m y;
-            record_type = k.record_type;
-            stored = k.stored;
-            stands = ap (λ n. set_at m n k.record_type) (sym star) ∙ k.stands;
-            ttl = k.ttl;
-            sent = k.sent ∙ ap (λ n. sent p k.ttl (renamed true n y k.stored)) star;
-            proved =
-                answer_proved o m y j (shown r) (tells z q r d signed h y j (In-append_left y (path_of z q).made (told_at (ds_at m ends) ends) i)) (unowned z d y k.made.absent)
-                (nsec_encloser o m y) e.0;
-          })
+      by p (inr (y, i, k)) = inr (record { name = y; record_type = k.record_type; found = k.found; by_star = star_proved y i k.record_type k.found k.by_star; ttl = k.ttl; sent = k.sent })
 
-  pub answers_proved : (s : RRset) → Contains r.answers s → ((p : Part) × IsAnswerPart q.record_type p × (IsSentSet z.sets p s ⊎ IsStarSet z.origin z.sets (shown r) p s)) ⊎ IsMadeAlias z.sets r.answers s
+  -- addresses for which an ANAME set stands in
+  addresses_proved : (s : RRset) → IsStoodIn (inquiry z q) (path_of z q).made s → IsMadeAddresses z q (IsFoundByStar z.origin z.sets (shown r)) s
+  addresses_proved s a = record {
+    name = a.name;
+    aname = a.aname;
+    stands = by a.stands;
+    made = a.set;
+    leads = a.leads;
+    signatures = made_signatures (inquiry z q) a.name a.aname a.set a.leads ∙ ap (λ b. z.sign b (record a.set { signatures = [] })) signed;
+    signed = a.signed;
+    sent = a.sent;
+  }
+    where
+      by : (set_at m a.name ANAME ≡ Some a.aname) ⊎ (In a.name (path_of z q).made × IsMadeFound (inquiry z q) a.name ANAME a.aname) → (set_at m a.name ANAME ≡ Some a.aname) ⊎ IsFoundByStar o m (shown r) a.name ANAME a.aname
+      by (inl k) = inl k
+      by (inr (i, k)) = inr (star_proved a.name i ANAME a.aname k)
+
+  pub answers_proved : (s : RRset) → Contains r.answers s
+      → ((p : Part) × IsAnswerPart q.record_type p × (IsSentSet z.sets p s ⊎ IsStarSet z.origin z.sets (shown r) p s)) ⊎ IsMadeAlias z.sets r.answers s ⊎ IsMadeAddresses z q (IsFoundByStar z.origin z.sets (shown r)) s
   answers_proved s c = by (path_answers (inquiry z q) d.circle.zone signed (is_proved_by z q _ signed d.kind) q.name s (subst (In s) h.answers (Contains-In s r.answers c)))
     where
       by : IsAnswer (inquiry z q) (path_of z q).made (path_of z q).answers s
-          → ((p : Part) × IsAnswerPart q.record_type p × (IsSentSet z.sets p s ⊎ IsStarSet z.origin z.sets (shown r) p s)) ⊎ IsMadeAlias z.sets r.answers s
+          → ((p : Part) × IsAnswerPart q.record_type p × (IsSentSet z.sets p s ⊎ IsStarSet z.origin z.sets (shown r) p s)) ⊎ IsMadeAlias z.sets r.answers s ⊎ IsMadeAddresses z q (IsFoundByStar z.origin z.sets (shown r)) s
       by (inl a) = inl (found_proved s a)
-      by (inr a) = inr (subst (λ all. IsMadeAlias m all s) (sym h.answers) a)
+      by (inr (inl a)) = inr (inl (subst (λ all. IsMadeAlias m all s) (sym h.answers) a))
+      by (inr (inr a)) = inr (inr (addresses_proved s a))
 
   -- ---- of whom something is said
 
@@ -141,7 +167,6 @@ module _ (z : Zone) (q : Query) (r : Sections) (d : DeniesByNsec z) (signed : q.
     pub error_shown : there ≡ false → IsMissing (inquiry z q) x star there → proves_name_error z.origin (shown r) x ≡ true
     error_shown gone' (bare e f g b) = absurd (true≢false (sym e ∙ gone'))
     error_shown gone' (bare_star w e f absent g k b) = absurd (true≢false (sym e ∙ gone'))
-    error_shown gone' (without_addresses e f) = absurd (true≢false (sym e ∙ gone'))
     error_shown gone' (starless e absent f) = let p : None ≡ Some (star_under (nsec_encloser o m x)) = sym f ∙ (star_is z d x j absent).1 in absurd cc
     error_shown gone' (gone w e f absent g k) =
         let none = unowned z d x absent in
@@ -153,52 +178,57 @@ module _ (z : Zone) (q : Query) (r : Sections) (d : DeniesByNsec z) (signed : q.
 
     -- it is there without data, as its own record or the one before it shows, or the star's
     data BareBy : Type 0 where
-      by_own : IsUnflattened m x t → proves_no_data o (shown r) x t ≡ true → BareBy
+      by_own : proves_no_data o (shown r) x t ≡ true → BareBy
       by_empty : proves_empty_non_terminal o (shown r) x ≡ true → BareBy
-      by_star : IsUnflattened m (star_under (nsec_encloser o m x)) t → proves_wildcard_no_data o (shown r) x t ≡ true → BareBy
+      by_star : exists m x ≡ false → proves_wildcard_no_data o (shown r) x t ≡ true → BareBy
 
     bare_shown : there ≡ true → IsShowable o m x t → IsMissing (inquiry z q) x star there → BareBy
     bare_shown so s (bare e f there' b) =
         by
-        (bare_by o m x j (shown r) told_itself (sym (exists_is o m d.circle d.one_kind x) ∙ there') t s.no_signature (not_any m x t b NSEC)
-        (λ one. bare_direct m x t b d.one_kind s.no_signature one o j (beside_soa (inquiry z q) x u d.unreferred)) s.no_apex)
+        (bare_by o m x j (shown r) told_itself (sym (exists_is o m d.circle d.one_kind x) ∙ there') t s.no_signature (not_any m x t b NSEC) (type_unowned m x t b d.one_kind s.no_signature) (ap is_some b.alias)
+        (beside_soa (inquiry z q) x u d.unreferred) s.no_apex)
       where
         by : (proves_no_data o (shown r) x t ≡ true) ⊎ (proves_empty_non_terminal o (shown r) x ≡ true) → BareBy
-        by (inl p) = by_own (flat m x t b) p
+        by (inl p) = by_own p
         by (inr p) = by_empty p
     bare_shown so s (bare_star w e f absent g there' b) =
         let none = unowned z d x absent in
         let same = star_of_circle w absent g in
         let k = judged_star o m x j (over o m x j (shown r) told_itself none) in
         let c : IsBare m star' t = subst (λ n. IsBare m n t) same b in
-        by_star (flat m star' t c)
+        by_star absent
         (star_bare_by o m x j (shown r) told_itself none t
         (told_bare o m star' k (shown r) (told_star star' (f ∙ ap Some same) k) (sym (exists_is o m d.circle d.one_kind star') ∙ ap (exists m) (sym same) ∙ there') t s.no_signature (not_any m star' t c NSEC)
-        (λ one. bare_direct m star' t c d.one_kind s.no_signature one o k (λ other ns. absurd (true≢false (sym ns ∙ s.no_star_cut absent)))) (s.no_star_apex absent)))
+        (type_unowned m star' t c d.one_kind s.no_signature) (ap is_some c.alias) (λ other ns. absurd (true≢false (sym ns ∙ s.no_star_cut absent))) (s.no_star_apex absent)))
       where
         star' : Name
         star' = star_under (nsec_encloser o m x)
-    bare_shown so s (without_addresses e f) = absurd (true≢false (sym (is_proved_by z q _ signed d.kind) ∙ f))
     bare_shown so s (starless e absent f) = absurd (true≢false (sym so ∙ e))
     bare_shown so s (gone w e f absent g k) = absurd (true≢false (sym so ∙ e))
 
     empty_from : BareBy → proves_empty_answer z.origin (shown r) x t ≡ true
-    empty_from (by_own g p) = or_left (proves_no_data o (shown r) x t || proves_empty_non_terminal o (shown r) x) (proves_wildcard_no_data o (shown r) x t) (or_left (proves_no_data o (shown r) x t) (proves_empty_non_terminal o (shown r) x) p)
+    empty_from (by_own p) = or_left (proves_no_data o (shown r) x t || proves_empty_non_terminal o (shown r) x) (proves_wildcard_no_data o (shown r) x t) (or_left (proves_no_data o (shown r) x t) (proves_empty_non_terminal o (shown r) x) p)
     empty_from (by_empty p) = or_left (proves_no_data o (shown r) x t || proves_empty_non_terminal o (shown r) x) (proves_wildcard_no_data o (shown r) x t) (or_right (proves_no_data o (shown r) x t) (proves_empty_non_terminal o (shown r) x) p)
-    empty_from (by_star g p) = or_right (proves_no_data o (shown r) x t || proves_empty_non_terminal o (shown r) x) (proves_wildcard_no_data o (shown r) x t) p
+    empty_from (by_star absent p) = or_right (proves_no_data o (shown r) x t || proves_empty_non_terminal o (shown r) x) (proves_wildcard_no_data o (shown r) x t) p
 
-    none_from : IsFalse (is_wildcard x) → BareBy → IsWithoutData z.origin z.sets x t
-    none_from plain (by_own g p) = (sound_proved x j).data' t g p
-    none_from plain (by_empty p) = empty_without_data o m x j ((sound_proved x j).empty p) t
-    none_from plain (by_star g p) = ((sound_proved x j).wildcard_data t plain g p).none
+    none_from : IsFalse (is_wildcard x) → HasNoStandIn o m x t → BareBy → IsWithoutData z.origin z.sets x t
+    none_from plain flat (by_own p) = (sound_proved x j).data' t flat.own p
+    none_from plain flat (by_empty p) = empty_without_data o m x j ((sound_proved x j).empty p) t
+    none_from plain flat (by_star absent p) = ((sound_proved x j).wildcard_data t plain (flat.star absent) p).none
 
     -- it is no name error
-    no_error : IsWithoutData o m x t → proves_name_error o (shown r) x ≡ false
-    no_error w = by (proves_name_error o (shown r) x) refl
+    no_error : there ≡ true → IsFalse (is_wildcard x) → IsMissing (inquiry z q) x star there → proves_name_error o (shown r) x ≡ false
+    no_error so plain k = by (proves_name_error o (shown r) x) refl
       where
+        is_present : IsMissing (inquiry z q) x star there → owns_at_or_below m x || asked_star_exists m x ≡ true
+        is_present (bare e f there' b) = or_left (owns_at_or_below m x) (asked_star_exists m x) (owned_where_existing x m there')
+        is_present (bare_star w e f absent g there' b) = or_right (owns_at_or_below m x) (asked_star_exists m x) (ap (λ o. option_map_or (exists m) o false) (star_asked m x absent plain ∙ g) ∙ there')
+        is_present (starless e absent f) = absurd (true≢false (sym so ∙ e))
+        is_present (gone w e f absent g i) = absurd (true≢false (sym so ∙ e))
+
         by : (b : Bool) → proves_name_error o (shown r) x ≡ b → b ≡ false
         by false p = refl
-        by true p = let e : nx_domain ≡ name_exists = sym ((sound_proved x j).error p).denied ∙ w.there in absurd cc
+        by true p = let e : nx_domain ≡ name_exists = sym ((sound_proved x j).error p).denied ∙ present o m x (is_present k) in absurd cc
 
     -- a zone cut without DS has data of no other type, and refers
     is_digest : proves_unsigned_delegation o (shown r) x ≡ true → t ≡ DS
@@ -211,15 +241,12 @@ module _ (z : Zone) (q : Query) (r : Sections) (d : DeniesByNsec z) (signed : q.
         by true e = eqb-true t DS e
         by false e = absurd (true≢false (sym (beside_soa (inquiry z q) x u d.unreferred e cut.delegated) ∙ cut.no_apex))
 
-    told_from : IsFalse (is_wildcard x) → BareBy → IsEmptyProof t (nsec_proof z.origin (shown r) x t)
-    told_from plain k = sum_of_empty o (shown r) x t (no_error (none_from plain k)) is_digest (empty_from k)
-
     pub empty_shown : there ≡ true → IsMissing (inquiry z q) x star there → IsProvedEmpty z r x t
     empty_shown so k = record {
       soa = soa_shown z q r zone signed h x star there end;
       proved = λ s. empty_from (bare_shown so s k);
-      told = λ s plain. told_from plain (bare_shown so s k);
-      none = λ s plain. none_from plain (bare_shown so s k);
+      told = λ s plain. sum_of_empty o (shown r) x t (no_error so plain k) is_digest (empty_from (bare_shown so s k));
+      none = λ s plain flat. none_from plain flat (bare_shown so s k);
     }
 
   -- ---- what is said

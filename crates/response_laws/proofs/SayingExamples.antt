@@ -8,8 +8,8 @@ use Rattle.zone_proto.specs.declared.response_code.ResponseCode.TheVariants as c
 use Rattle.zone_proto.specs.declared.rr_key.RrKey.{RrKey}
 use Rattle.zone_proto.specs.Names.{Name, wire_form, star_under}
 use Rattle.zone_proto.specs.Sets.{RRset}
-use Rattle.zone_proto.specs.Types.{A, NS, CNAME, SOA, MX, DS, RRSIG, NSEC3, IN}
-use Rattle.zone_map.specs.Wildcards.{renamed}
+use Rattle.zone_proto.specs.Types.{A, NS, CNAME, SOA, MX, DS, RRSIG, NSEC3, ANAME, IN}
+use Rattle.zone_map.specs.Wildcards.{renamed, found}
 use Rattle.zone_map.specs.Zones.{Sets}
 use Rattle.zone_denial.specs.NsecSets.{nsec_set}
 use Rattle.zone_denial.specs.Nsec3Circle.{nsec3_data}
@@ -27,7 +27,7 @@ use Rattle.response_laws.specs.ProvedSayings.{shown, is_signed_by}
 use Rattle.response_laws.specs.Sayings.{data_of, name_error, no_data, referral, saying}
 
 abbrev pub zone : Sets → Zone
-zone m = record { origin = origin; sets = linked m; nx_proof_kind = Some kind.Nsec; digest_of = λ algorithm salt n iterations. None }
+zone m = record { origin = origin; sets = linked m; nx_proof_kind = Some kind.Nsec; digest_of = λ algorithm salt n iterations. None; sign = λ signed s. [] }
 
 -- a query with DNSSEC
 abbrev pub asked : Name → ℕ → Query
@@ -90,6 +90,26 @@ other_type_says = refl
 
 other_type_proved : proves_empty_answer origin (shown (negative host code.NoError (a ∷ []))) a MX ≡ true
 other_type_proved = refl
+
+-- nor has a name whose ANAME leads to no addresses: its record lists neither A nor AAAA, though a lookup finds the ANAME
+abbrev stand_in : RrKey × RRset
+stand_in = entry a ANAME (V.ANAME b)
+
+abbrev lost : Sets
+lost = start ∷ stand_in ∷ []
+
+of_lost : IsResponse (zone lost) (asked a A) (negative lost code.NoError (a ∷ []))
+unfolding path
+of_lost = record { code = refl; authoritative = refl; answers = refl; authorities = refl; additionals = refl; glue = refl; left_at = refl }
+
+lost_says : saying (asked a A) (negative lost code.NoError (a ∷ [])) ≡ Some (no_data a)
+lost_says = refl
+
+lost_proved : proves_empty_answer origin (shown (negative lost code.NoError (a ∷ []))) a A ≡ true
+lost_proved = refl
+
+lost_found : found (linked lost) true a A ≡ Some stand_in.1
+lost_found = refl
 
 -- the code of an alias is that of its target, of which the response speaks (RFC 6604 section 3)
 abbrev aliased : Sets

@@ -1,5 +1,5 @@
 -- What an ANAME set stands for, as it goes out
-use Rattle.std.proofs.Common.{◌≡◌, ℕ, Bool, true, false, cond, ◌&&◌, ◌||◌, [], map, refl, sym, ap, ◌∙◌, eqb-true, eq-eqb}
+use Rattle.std.proofs.Common.{◌≡◌, ℕ, Bool, true, false, cond, ◌&&◌, ◌||◌, [], map, refl, sym, ap, ◌∙◌, subst, eqb-true, eq-eqb}
 use Rattle.std.specs.Prelude.{Option, Some, None, unwrap_or, ◌==◌}
 use Rattle.std.specs.Option.{option_or, option_map_or}
 use Rattle.zone_proto.specs.Names.{Name, same_name, is_at_or_above}
@@ -9,15 +9,14 @@ use Rattle.zone_map.specs.Chains.{first_target, cname_target}
 use Rattle.zone_map.specs.Direct.{is_address}
 use Rattle.zone_map.specs.Zones.{Sets, set_at}
 use Rattle.zone_inner.specs.Additionals.{next_name, run_target}
-use Rattle.zone_inner.specs.Flattening.{last_set, flattened_ttl, unsigned_flattened}
-use Rattle.zone_response.specs.declared.response.Part.TheVariants as part
+use Rattle.zone_inner.specs.Flattening.{last_set, flattened_ttl, flattened}
 use Rattle.zone_response.specs.Nodes.{stand_in_set}
 use Rattle.zone_response.specs.Queries.{Inquiry}
-use Rattle.zone_response.specs.Sections.{as_it_is}
+use Rattle.zone_response.specs.Sections.{as_it_is, part_for}
 use Rattle.zone_response.specs.StandIns.{target_sets, addresses, no_addresses, untold, at_last_target, by_addresses, stand_in_answer}
 use Rattle.zone_response.specs.Turns.{Turn, turn}
 use Rattle.response_laws.specs.Sayings.{leads_to, renames, is_answer}
-use Rattle.response_laws.proofs.Leads.{target_with_ttl, target_under, stays_by_owner, leads_nowhere}
+use Rattle.response_laws.proofs.Leads.{target_under, sent_target, sent_owner, sent_type, stays_by_owner, leads_nowhere}
 
 -- an ANAME set that stands in is one of the name
 pub aname_stands : (m : Sets) (a : Name) (t : ℕ) (s : RRset) → stand_in_set m a t ≡ Some s → set_at m a ANAME ≡ Some s
@@ -33,7 +32,7 @@ last_of q x s = unwrap_or (last_set (target_sets q.sets q.signed x q.record_type
 
 -- where it stands for addresses, these are of the last set, which is of their type
 pub record AreOfLast (q : Inquiry) (x : Name) (s v : RRset) : Type 0 where
-  pub is : v ≡ unsigned_flattened s q.record_type (last_of q x s)
+  pub is : v ≡ flattened q.sign s q.record_type (last_of q x s)
   pub of_type : (last_of q x s).record_type ≡ q.record_type
   pub plain : cname_target (last_of q x s) ≡ None
 
@@ -55,22 +54,26 @@ addresses_of_last q x s v e = by (run_target t l) refl e
     by_place true (Some k) e = cc
     by_place false o e = cc
 
-    typed : cname_target l ≡ None → (b : Bool) → (l.record_type == t) ≡ b → cond b (addresses (unsigned_flattened s t l)) untold ≡ addresses v → AreOfLast q x s v
-    typed plain true f e = let same : unsigned_flattened s t l ≡ v = cc in record { is = sym same; of_type = eqb-true l.record_type t f; plain = plain }
+    typed : cname_target l ≡ None → (b : Bool) → (l.record_type == t) ≡ b → cond b (addresses (flattened q.sign s t l)) untold ≡ addresses v → AreOfLast q x s v
+    typed plain true f e = let same : flattened q.sign s t l ≡ v = cc in record { is = sym same; of_type = eqb-true l.record_type t f; plain = plain }
     typed plain false f e = absurd cc
 
-    by : (o : Option Name) → run_target t l ≡ o → option_map_or (at_last_target q) o (by_addresses t s l) ≡ addresses v → AreOfLast q x s v
+    by : (o : Option Name) → run_target t l ≡ o → option_map_or (at_last_target q) o (by_addresses q s l) ≡ addresses v → AreOfLast q x s v
     by (Some n) f e = absurd (by_place (is_at_or_above q.origin n) (turn q.origin q.sets n t) e)
     by None f e = typed (first_none (cname_target l) (next_name t l) f) (l.record_type == t) refl e
+
+-- they have the signatures of the response
+pub made_signatures : (q : Inquiry) (x : Name) (s v : RRset) → stand_in_answer q x s ≡ addresses v → v.signatures ≡ q.sign (record v { signatures = [] })
+made_signatures q x s v e = subst (λ (v : RRset). v.signatures ≡ q.sign (record v { signatures = [] })) (sym (addresses_of_last q x s v e).is) refl
 
 -- ---- the addresses in the answer section
 
 module _ (q : Inquiry) (x : Name) (s v : RRset) (a : AreOfLast q x s v) (owned : same_name s.owner x ≡ true) where
   abbrev sent_addresses : RRset
-  sent_addresses = as_it_is part.Records v
+  sent_addresses = as_it_is (part_for q.signed) v
 
   owned_so : same_name sent_addresses.owner x ≡ true
-  owned_so = ap (λ (v : RRset). same_name v.owner x) a.is ∙ owned
+  owned_so = ap (λ n. same_name n x) (sent_owner (part_for q.signed) v.ttl v ∙ ap (λ (v : RRset). v.owner) a.is) ∙ owned
 
   pub addresses_stay : renames x sent_addresses ≡ false
   addresses_stay = stays_by_owner x sent_addresses owned_so
@@ -78,7 +81,7 @@ module _ (q : Inquiry) (x : Name) (s v : RRset) (a : AreOfLast q x s v) (owned :
   pub addresses_lead_nowhere : leads_to q.record_type x sent_addresses ≡ None
   addresses_lead_nowhere =
       leads_nowhere q.record_type x sent_addresses
-      (target_with_ttl v.ttl v.records ∙ ap (λ (v : RRset). first_target v.records) a.is ∙ by ((last_of q x s).record_type == q.record_type))
+      (sent_target q.signed v ∙ ap (λ (v : RRset). first_target v.records) a.is ∙ by ((last_of q x s).record_type == q.record_type))
     where
       last : RRset
       last = last_of q x s
@@ -88,4 +91,7 @@ module _ (q : Inquiry) (x : Name) (s v : RRset) (a : AreOfLast q x s v) (owned :
       by false = refl
 
   pub addresses_answer : is_answer q.record_type x sent_addresses ≡ true
-  addresses_answer = λ i. owned_so i && ((ap (λ (v : RRset). v.record_type == q.record_type) a.is ∙ eq-eqb q.record_type q.record_type refl) i || (q.record_type == ANY) || (q.record_type == RRSIG))
+  addresses_answer = λ i. owned_so i && (typed i || (q.record_type == ANY) || (q.record_type == RRSIG))
+    where
+      typed : (sent_addresses.record_type == q.record_type) ≡ true
+      typed = ap (λ u. u == q.record_type) (sent_type (part_for q.signed) v.ttl v ∙ ap (λ (v : RRset). v.record_type) a.is) ∙ eq-eqb q.record_type q.record_type refl

@@ -17,8 +17,8 @@ use Rattle.zone_response.specs.Turns.{Turn, cut, renaming, turn}
 pub data NodeOf (m : Sets) (a : Name) (t : ℕ) : Type 0 where
   has_set : (s : RRset) → asked_set m a t ≡ Some s → at_node m a t ≡ own s → NodeOf m a t
   has_alias : (s : RRset) → asked_set m a t ≡ None → set_at m a CNAME ≡ Some s → at_node m a t ≡ alias s → NodeOf m a t
-  has_stand_in : (s : RRset) → stand_in_set m a t ≡ Some s → at_node m a t ≡ stand_in s → NodeOf m a t
-  has_nothing : asked_set m a t ≡ None → set_at m a CNAME ≡ None → stand_in_set m a t ≡ None → at_node m a t ≡ nothing → NodeOf m a t
+  has_stand_in : (s : RRset) → asked_set m a t ≡ None → set_at m a CNAME ≡ None → stand_in_set m a t ≡ Some s → at_node m a t ≡ stand_in s → NodeOf m a t
+  has_nothing : asked_set m a t ≡ None → set_at m a CNAME ≡ None → at_node m a t ≡ nothing → NodeOf m a t
 
 pub node_of : (m : Sets) (a : Name) (t : ℕ) → NodeOf m a t
 node_of m a t = by (asked_set m a t) refl (set_at m a CNAME) refl (stand_in_set m a t) refl
@@ -26,8 +26,8 @@ node_of m a t = by (asked_set m a t) refl (set_at m a CNAME) refl (stand_in_set 
     by : (o : Option RRset) → asked_set m a t ≡ o → (c : Option RRset) → set_at m a CNAME ≡ c → (p : Option RRset) → stand_in_set m a t ≡ p → NodeOf m a t
     by (Some s) e c f p g = has_set s e (ap (λ o. first_of o (set_at m a CNAME) (stand_in_set m a t)) e)
     by None e (Some s) f p g = has_alias s e f (λ i. first_of (e i) (f i) (stand_in_set m a t))
-    by None e None f (Some s) g = has_stand_in s g (λ i. first_of (e i) (f i) (g i))
-    by None e None f None g = has_nothing e f g (λ i. first_of (e i) (f i) (g i))
+    by None e None f (Some s) g = has_stand_in s e f g (λ i. first_of (e i) (f i) (g i))
+    by None e None f None g = has_nothing e f (λ i. first_of (e i) (f i) (g i))
 
 -- a name of the zone on the way down to which nothing turns
 pub record IsUnturned (q : Inquiry) (x : Name) : Type 0 where

@@ -1,16 +1,15 @@
 -- What the closest NSEC set of a judged name tells of it
 use Rattle.std.proofs.Common.{◌≡◌, ◌≢◌, ℕ, Bool, true, false, not, ◌&&◌, ◌||◌, List, refl, sym, ap, ◌∙◌, true≢false, ◌⊎◌, inl, inr, Less, arith, []}
-use Rattle.std.specs.Prelude.{Some, None, filter, option_and_then}
+use Rattle.std.specs.Prelude.{Some, filter, option_and_then, ◌==◌}
 use Rattle.std.specs.Option.{option_map_or}
 use Rattle.zone_proto.specs.Names.{Name, name_cmp, name_eq, is_above, IsAbove, star_under}
 use Rattle.zone_proto.specs.Order.{is_upto}
 use Rattle.zone_proto.specs.Sets.{RRset}
-use Rattle.zone_proto.specs.Types.{NS, SOA, DS, RRSIG, NSEC, ANY}
+use Rattle.zone_proto.specs.Types.{NS, CNAME, SOA, DS, RRSIG, NSEC, ANY}
 use Rattle.zone_proto.proofs.Members.{In, In-filter, any_from_In, or_left, or_right}
 use Rattle.zone_proto.proofs.Names.NameTree.{name_eq-Decides, above_test, is_at_or_above_sound}
 use Rattle.zone_proto.proofs.Names.Tree.{name_order, name_eq_itself, above_cases}
 use Rattle.zone_proto.proofs.Ordering.Orders.{greatest_is, Side, side, before, same, after, upto_cases, upto_before, upto_same}
-use Rattle.zone_map.specs.Direct.{direct}
 use Rattle.zone_map.specs.Wildcards.{closest_encloser}
 use Rattle.zone_map.specs.Zones.{Sets, set_at, owns, owners, owns_at_or_below}
 use Rattle.zone_map.proofs.Owned.{owner_in, set_of}
@@ -24,7 +23,7 @@ use Rattle.zone_validation.specs.NsecProofs.{denies_name, denies_type, shows_emp
 use Rattle.zone_validation.specs.NsecRecords.{NsecRecord}
 use Rattle.zone_acceptance.specs.Judged.{IsJudged, is_parents_ds}
 use Rattle.zone_acceptance.proofs.Gaps.{IsBetween, between_from_covers}
-use Rattle.zone_acceptance.proofs.OwnTypes.{type_denied}
+use Rattle.zone_acceptance.proofs.OwnTypes.{unowned_denied}
 use Rattle.zone_acceptance.proofs.Readings.{record_at, owned_listed, unlisted}
 use Rattle.zone_acceptance.proofs.ShownEnclosers.{judged_star, shown_is}
 use Rattle.zone_acceptance.proofs.Speaking.{below_origin, owner_on_circle, denied, empty}
@@ -119,29 +118,35 @@ module _ (origin : Name) (m : Sets) (y : Name) (j : IsJudged origin m y) (rs : L
 
     -- ---- of a name that is there
 
-    module _ (there : owns_at_or_below m y ≡ true) (u : ℕ) (signed : u ≢ RRSIG) (any : owns m y NSEC ≡ true → u ≢ ANY) (nothing : u ≢ ANY → direct m y u ≡ None) (child : u ≡ DS → is_parents_ds origin m y ≡ false) where
-      -- its own record shows that it has no data of a type, or the one before it that it is empty
-      pub bare_by : (proves_no_data origin rs y u ≡ true) ⊎ (proves_empty_non_terminal origin rs y ≡ true)
-      bare_by = by t.where'
-        where
-          by : Stands origin m j.zone y t.owner → (proves_no_data origin rs y u ≡ true) ⊎ (proves_empty_non_terminal origin rs y ≡ true)
-          by (at e on) =
-              inl
-              (any_from_In (λ r. denies_type origin r y u) (record_at origin m j.zone t.owner) rs t.among
-              (ap (λ o. denies_type origin (record_at origin m j.zone o) y u) e ∙ type_denied origin m j.zone j.unreferred y j.inside u (nothing (any on)) on signed (any on) child))
-          by (before_it off b) = inr (any_from_In (λ r. shows_empty origin r y) (record_at origin m j.zone t.owner) rs t.among (empty origin m y j t.owner b there))
+    module _ (there : owns_at_or_below m y ≡ true) (u : ℕ) (signed : u ≢ RRSIG) (any : owns m y NSEC ≡ true → u ≢ ANY) (unowned : u ≢ ANY → owns m y u ≡ false) (no_alias : owns m y CNAME ≡ false)
+        (beside : (u == DS) ≡ false → owns m y NS ≡ true → owns m y SOA ≡ true) (child : u ≡ DS → is_parents_ds origin m y ≡ false)
+      where
+        -- its own record denies the type
+        own_denies : owns m y NSEC ≡ true → (o : Name) → o ≡ y → denies_type origin (record_at origin m j.zone o) y u ≡ true
+        own_denies on o e = ap (λ o. denies_type origin (record_at origin m j.zone o) y u) e ∙ unowned_denied origin m j.zone y j.inside u (unowned (any on)) no_alias beside on signed (any on) child
 
-      pub bare : is_bare origin rs u y ≡ true
-      bare = by t.where'
-        where
-          by : Stands origin m j.zone y t.owner → is_bare origin rs u y ≡ true
-          by (at e on) =
-              any_from_In (λ r. denies_type origin r y u || shows_empty origin r y) (record_at origin m j.zone t.owner) rs t.among
-              (or_left (denies_type origin (record_at origin m j.zone t.owner) y u) (shows_empty origin (record_at origin m j.zone t.owner) y)
-              (ap (λ o. denies_type origin (record_at origin m j.zone o) y u) e ∙ type_denied origin m j.zone j.unreferred y j.inside u (nothing (any on)) on signed (any on) child))
-          by (before_it off b) =
-              any_from_In (λ r. denies_type origin r y u || shows_empty origin r y) (record_at origin m j.zone t.owner) rs t.among
-              (or_right (denies_type origin (record_at origin m j.zone t.owner) y u) (shows_empty origin (record_at origin m j.zone t.owner) y) (empty origin m y j t.owner b there))
+        -- its own record shows that it has no data of a type, or the one before it that it is empty
+        pub bare_by : (proves_no_data origin rs y u ≡ true) ⊎ (proves_empty_non_terminal origin rs y ≡ true)
+        bare_by = by t.where'
+          where
+            by : Stands origin m j.zone y t.owner → (proves_no_data origin rs y u ≡ true) ⊎ (proves_empty_non_terminal origin rs y ≡ true)
+            by (at e on) =
+                inl
+                (any_from_In (λ r. denies_type origin r y u) (record_at origin m j.zone t.owner) rs t.among
+                (own_denies on t.owner e))
+            by (before_it off b) = inr (any_from_In (λ r. shows_empty origin r y) (record_at origin m j.zone t.owner) rs t.among (empty origin m y j t.owner b there))
+
+        pub bare : is_bare origin rs u y ≡ true
+        bare = by t.where'
+          where
+            by : Stands origin m j.zone y t.owner → is_bare origin rs u y ≡ true
+            by (at e on) =
+                any_from_In (λ r. denies_type origin r y u || shows_empty origin r y) (record_at origin m j.zone t.owner) rs t.among
+                (or_left (denies_type origin (record_at origin m j.zone t.owner) y u) (shows_empty origin (record_at origin m j.zone t.owner) y)
+                (own_denies on t.owner e))
+            by (before_it off b) =
+                any_from_In (λ r. denies_type origin r y u || shows_empty origin r y) (record_at origin m j.zone t.owner) rs t.among
+                (or_right (denies_type origin (record_at origin m j.zone t.owner) y u) (shows_empty origin (record_at origin m j.zone t.owner) y) (empty origin m y j t.owner b there))
 
     -- a name that isn't there has no data by its star
     pub star_bare_by : owns_at_or_below m y ≡ false → (u : ℕ) → is_bare origin rs u star ≡ true → proves_wildcard_no_data origin rs y u ≡ true

@@ -21,7 +21,7 @@ use Rattle.zone_response.specs.Paths.{Path, path}
 use Rattle.zone_response.specs.Queries.{Zone, Query, Inquiry, inquiry}
 use Rattle.zone_response.specs.QueryTypes.{is_no_data}
 use Rattle.zone_response.specs.Responses.{ds_at, proof_sets, IsResponse}
-use Rattle.zone_response.specs.Sections.{Sections, as_it_is, part_for}
+use Rattle.zone_response.specs.Sections.{Sections, as_it_is, part_for, is_signed}
 use Rattle.zone_response.specs.Sources.{asked_star}
 use Rattle.zone_response.specs.StandIns.{addresses, stand_in_answer}
 use Rattle.zone_response.specs.Turns.{turn}
@@ -54,12 +54,12 @@ pub record IsOrdinary (q : Inquiry) (x : Name) : Type 0 where
 abbrev pub NoStandIn : Inquiry → Name → Type 0
 NoStandIn q x = (s : RRset) → found q.sets q.signed x q.record_type ≡ Some s → IsFalse (stands_for_addresses q.record_type s)
 
--- an ANAME set of x leads to addresses, and nothing has to be proved of them. Nor does a lookup sign them, by `sign`, where the query asks for DNSSEC
+-- an ANAME set of x leads to addresses, which have a signature where what is said has to be proved. Where the query asks for DNSSEC, a lookup signs them alike, by `sign`: it is asked at the same moment
 pub record LeadsToAddresses (sign : RRset → List Record) (q : Inquiry) (x : Name) (s : RRset) : Type 0 where
-  pub unproved : IsFalse q.is_proved
   pub made : RRset
   pub leads : stand_in_answer q x s ≡ addresses made
-  pub unsigned : IsTrue q.signed → sign made ≡ []
+  pub proved : IsTrue q.is_proved → IsTrue (is_signed made)
+  pub alike : IsTrue q.signed → sign (record made { signatures = [] }) ≡ q.sign (record made { signatures = [] })
 
 -- so does each that stands in for the addresses of x
 abbrev pub StandInsLead : (RRset → List Record) → Inquiry → Name → Type 0

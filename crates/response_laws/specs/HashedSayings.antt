@@ -24,14 +24,14 @@ use Rattle.zone_acceptance.specs.Judged.{Unreferred, is_parents_ds}
 use Rattle.zone_acceptance.specs.Nsec3Calls.{told}
 use Rattle.zone_acceptance.specs.Nsec3Judged.{read_nsec3_sets, AreNsec3OfZone, IsNsec3Judged}
 use Rattle.zone_acceptance.specs.Nsec3Soundness.{IsNsec3Sound, IsLeftOut, IsOptOutSound}
-use Rattle.zone_acceptance.specs.Soundness.{IsNoName, IsWithoutData, IsUnsignedDelegation}
+use Rattle.zone_acceptance.specs.Soundness.{IsNoName, IsWithoutData, IsUnflattened, IsUnsignedDelegation}
 use Rattle.zone_response.specs.declared.response.Part.{Part}
 use Rattle.zone_response.specs.declared.response.Part.TheVariants as part
 use Rattle.zone_response.specs.Queries.{Zone, Query}
 use Rattle.zone_response.specs.Responses.{IsResponse}
 use Rattle.zone_response.specs.Sections.{Sections, sent}
 use Rattle.zone_response.specs.Sources.{star_of}
-use Rattle.response_laws.specs.ProvedSayings.{IsSentSet, IsMadeAlias, IsAliasData, IsAnswerPart, authority_part, is_signed_by, AreSigned, HasAuthority, HasSoa, IsEmptyProof}
+use Rattle.response_laws.specs.ProvedSayings.{IsSentSet, IsMadeAlias, IsMadeAddresses, IsAliasData, IsAnswerPart, authority_part, is_signed_by, AreSigned, HasAuthority, HasSoa, IsEmptyProof}
 use Rattle.response_laws.specs.Sayings.{Saying, name_error, no_data, referral, saying, name_of}
 
 -- ---- the zone
@@ -80,16 +80,22 @@ shown_records r = flat_map (λ s. s.records) r.authorities
 abbrev pub may_leave_out : Bool → Sets → Name → Bool
 may_leave_out opt_out m n = opt_out && is_unsigned_delegation m n
 
--- the zone's set of a star under another name, which may answer for it, as the records rs prove unless opt-out leaves the star out (RFC 5155 section 7.2.6)
-pub record IsHashedStarSet (z : Zone) (parameters : Nsec3Parameters) (rs : List Nsec3Record) (p : Part) (s : RRset) : Type 0 where
-  pub name : Name
+-- a set as it is found for a name by a star: the star's under that name, for which the star may answer, as the records rs prove unless opt-out leaves the star out (RFC 5155 section 7.2.6)
+pub record IsHashedFoundByStar (z : Zone) (parameters : Nsec3Parameters) (rs : List Nsec3Record) (name : Name) (record_type : ℕ) (found : RRset) : Type 0 where
   pub encloser : Name
-  pub record_type : ℕ
   pub stored : RRset
   pub stands : set_at z.sets (star_under encloser) record_type ≡ Some stored
-  pub ttl : ℕ
-  pub sent : s ≡ sent p ttl (renamed true (star_under encloser) name stored)
+  pub made : found ≡ renamed true (star_under encloser) name stored
   pub proved : HashesApart z parameters name → IsFalse (may_leave_out parameters.opt_out z.sets (star_under encloser)) → IsTrue (proves_wildcard_answer z.origin (zone_hash z parameters) rs name encloser)
+
+-- such a set, with one TTL for all its records and signatures
+pub record IsHashedStarSet (z : Zone) (parameters : Nsec3Parameters) (rs : List Nsec3Record) (p : Part) (s : RRset) : Type 0 where
+  pub name : Name
+  pub record_type : ℕ
+  pub found : RRset
+  pub by_star : IsHashedFoundByStar z parameters rs name record_type found
+  pub ttl : ℕ
+  pub sent : s ≡ sent p ttl found
 
 -- ---- a name error
 
@@ -118,6 +124,11 @@ pub record IsHashedShowable (origin : Name) (m : Sets) (x : Name) (t : ℕ) : Ty
   pub no_star_apex : IsFalse (exists m x) → t ≡ DS → (w : Name) → star_of m x ≡ Some w → IsFalse (is_parents_ds origin m w)
   pub no_star_cut : IsFalse (exists m x) → (w : Name) → star_of m x ≡ Some w → IsFalse (owns m w NS)
 
+-- no ANAME stands in for addresses, as `HasNoStandIn` has it for NSEC: none of x, and where x doesn't exist, none of the star that is asked for it
+pub record HasNoHashedStandIn (m : Sets) (x : Name) (t : ℕ) : Type 0 where
+  pub own : IsUnflattened m x t
+  pub star : IsFalse (exists m x) → (w : Name) → star_of m x ≡ Some w → IsUnflattened m w t
+
 -- opt-out leaves x out: it has no NSEC3 set
 abbrev pub HasNoHashedSet : Zone → Nsec3Parameters → Name → Type 0
 HasNoHashedSet z parameters x = IsTrue parameters.opt_out × (IsCircleName z.origin z.sets parameters.opt_out x → ⊥)
@@ -142,7 +153,7 @@ pub record IsHashedEmpty (z : Zone) (parameters : Nsec3Parameters) (r : Sections
   pub told : IsHashedShowable z.origin z.sets x t → IsEmptyProof t (proof_in z parameters r x t) ⊎ HasNoHashedSet z parameters x
   pub unsigned : HasNoHashedSet z parameters x → t ≡ DS → proof_in z parameters r x t ≡ Some UnsignedDelegation
   pub insecure : HasNoHashedSet z parameters x → IsInsecure (proof_in z parameters r x t) × IsLeftOut z.origin z.sets parameters.opt_out x
-  pub none : IsHashedShowable z.origin z.sets x t → IsFalse parameters.opt_out → IsFalse (is_wildcard x) → IsFalse (owns z.sets x NSEC3) → IsWithoutData z.origin z.sets x t
+  pub none : IsHashedShowable z.origin z.sets x t → IsFalse parameters.opt_out → IsFalse (is_wildcard x) → IsFalse (owns z.sets x NSEC3) → HasNoHashedStandIn z.sets x t → IsWithoutData z.origin z.sets x t
 
 -- ---- a referral
 
@@ -161,10 +172,10 @@ pub record IsHashedReferral (z : Zone) (parameters : Nsec3Parameters) (r : Secti
 
 -- what is said of a name is proved where the hash tells the names apart that a denial of it hashes
 pub record ProvesByHashes (z : Zone) (parameters : Nsec3Parameters) (q : Query) (r : Sections) : Type 0 where
-  -- each set is the zone's, but for a CNAME that a DNAME set makes
+  -- each set is the zone's, but for a CNAME that a DNAME set makes, and addresses for which an ANAME set stands in
   pub authorities : (s : RRset) → Contains r.authorities s → IsSentSet z.sets (authority_part s) s
   pub answers : (s : RRset) → Contains r.answers s
-      → ((p : Part) × IsAnswerPart q.record_type p × (IsSentSet z.sets p s ⊎ IsHashedStarSet z parameters (shown_nsec3 r) p s)) ⊎ IsMadeAlias z.sets r.answers s
+      → ((p : Part) × IsAnswerPart q.record_type p × (IsSentSet z.sets p s ⊎ IsHashedStarSet z parameters (shown_nsec3 r) p s)) ⊎ IsMadeAlias z.sets r.answers s ⊎ IsMadeAddresses z q (IsHashedFoundByStar z parameters (shown_nsec3 r)) s
   -- where each set of a type is signed by the zone, NS aside, so is each of these
   pub signatures : (t : ℕ) → t ≢ NS → AreSigned z t → (s : RRset) → Contains r.authorities s → s.record_type ≡ t → IsTrue (is_signed_by z.origin s)
   -- each NSEC3 record shown is the zone's, and they prove nothing of any name but what is so; with opt-out as far as that goes

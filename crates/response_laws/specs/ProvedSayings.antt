@@ -7,7 +7,7 @@ use Rattle.zone_proto.specs.declared.rdata.RData.TheVariants as V
 use Rattle.zone_proto.specs.declared.record.Record.{Record}
 use Rattle.zone_proto.specs.Names.{Name, lower, name_eq, IsAbove, star_under, is_wildcard, base_name}
 use Rattle.zone_proto.specs.Sets.{RRset}
-use Rattle.zone_proto.specs.Types.{NS, SOA, DS, RRSIG, NSEC3}
+use Rattle.zone_proto.specs.Types.{NS, SOA, DS, RRSIG, NSEC3, ANAME}
 use Rattle.zone_map.specs.Wildcards.{exists, renamed}
 use Rattle.zone_map.specs.Zones.{Sets, set_at, owns}
 use Rattle.zone_denial.specs.NsecDenial.{nsec_encloser}
@@ -19,13 +19,14 @@ use Rattle.zone_validation.specs.Judgement.{nsec_proof}
 use Rattle.zone_validation.specs.NsecProofs.{DNAME, proves_name_error, proves_empty_answer, proves_wildcard_answer, proves_unsigned_delegation}
 use Rattle.zone_validation.specs.NsecRecords.{NsecRecord}
 use Rattle.zone_acceptance.specs.Judged.{read, AreOfZone, Unreferred, IsJudged, is_parents_ds}
-use Rattle.zone_acceptance.specs.Soundness.{IsNoName, IsWithoutData, IsUnsignedDelegation, IsSound}
+use Rattle.zone_acceptance.specs.Soundness.{IsNoName, IsWithoutData, IsUnflattened, IsUnsignedDelegation, IsSound}
 use Rattle.zone_response.specs.declared.response.Part.{Part}
 use Rattle.zone_response.specs.declared.response.Part.TheVariants as part
-use Rattle.zone_response.specs.Queries.{Zone, Query}
+use Rattle.zone_response.specs.Queries.{Zone, Query, inquiry}
 use Rattle.zone_response.specs.Renamings.{dname_target, in_place_of, made_alias}
 use Rattle.zone_response.specs.Responses.{negative_ttl, IsResponse}
-use Rattle.zone_response.specs.Sections.{Sections, sent, as_it_is}
+use Rattle.zone_response.specs.Sections.{Sections, sent, as_it_is, is_signed}
+use Rattle.zone_response.specs.StandIns.{addresses, stand_in_answer}
 use Rattle.response_laws.specs.Sayings.{Saying, data_of, name_error, no_data, referral, asks_alias, last_name, saying, name_of}
 
 -- ---- the zone
@@ -53,16 +54,22 @@ pub record IsSentSet (m : Sets) (p : Part) (s : RRset) : Type 0 where
   pub ttl : ℕ
   pub sent : s ≡ sent p ttl stored
 
--- the same of a star under another name, which may answer for it, as the records rs prove (RFC 4035 section 3.1.3.3)
-pub record IsStarSet (origin : Name) (m : Sets) (rs : List NsecRecord) (p : Part) (s : RRset) : Type 0 where
-  pub name : Name
+-- a set as it is found for a name by a star: the star's under that name, for which the star may answer, as the records rs prove (RFC 4035 section 3.1.3.3)
+pub record IsFoundByStar (origin : Name) (m : Sets) (rs : List NsecRecord) (name : Name) (record_type : ℕ) (found : RRset) : Type 0 where
   pub encloser : Name
-  pub record_type : ℕ
   pub stored : RRset
   pub stands : set_at m (star_under encloser) record_type ≡ Some stored
-  pub ttl : ℕ
-  pub sent : s ≡ sent p ttl (renamed true (star_under encloser) name stored)
+  pub made : found ≡ renamed true (star_under encloser) name stored
   pub proved : IsTrue (proves_wildcard_answer origin rs name encloser)
+
+-- such a set, with one TTL for all its records and signatures
+pub record IsStarSet (origin : Name) (m : Sets) (rs : List NsecRecord) (p : Part) (s : RRset) : Type 0 where
+  pub name : Name
+  pub record_type : ℕ
+  pub found : RRset
+  pub by_star : IsFoundByStar origin m rs name record_type found
+  pub ttl : ℕ
+  pub sent : s ≡ sent p ttl found
 
 -- the CNAME that a DNAME set of the section makes for a name below its owner: a validator makes it anew from that set, which is the zone's and goes out signed (RFC 6672 section 5.3.1)
 pub record IsMadeAlias (m : Sets) (answers : List RRset) (s : RRset) : Type 0 where
@@ -75,6 +82,17 @@ pub record IsMadeAlias (m : Sets) (answers : List RRset) (s : RRset) : Type 0 wh
   pub name : Name
   pub below : IsAbove (lower dname.owner) name
   pub made : s ≡ made_alias dname name (in_place_of dname.owner target name)
+
+-- the addresses for which an ANAME set stands in, made for the response and signed for it by the zone. The ANAME set is the name's own, or one that a star has for it (`IsByStar`)
+pub record IsMadeAddresses (z : Zone) (q : Query) (IsByStar : Name → ℕ → RRset → Type 0) (s : RRset) : Type 0 where
+  pub name : Name
+  pub aname : RRset
+  pub stands : (set_at z.sets name ANAME ≡ Some aname) ⊎ IsByStar name ANAME aname
+  pub made : RRset
+  pub leads : stand_in_answer (inquiry z q) name aname ≡ addresses made
+  pub signatures : made.signatures ≡ z.sign true (record made { signatures = [] })
+  pub signed : IsTrue (is_signed made)
+  pub sent : s ≡ as_it_is part.Signed made
 
 -- a set of the answer section goes out signed, or where RRSIG is asked for as its signatures alone
 abbrev pub IsAnswerPart : ℕ → Part → Type 0
@@ -117,6 +135,11 @@ pub record IsShowable (origin : Name) (m : Sets) (x : Name) (t : ℕ) : Type 0 w
   pub no_star_apex : IsFalse (exists m x) → t ≡ DS → IsFalse (is_parents_ds origin m (star_under (nsec_encloser origin m x)))
   pub no_star_cut : IsFalse (exists m x) → IsFalse (owns m (star_under (nsec_encloser origin m x)) NS)
 
+-- no ANAME of x stands in for addresses of type t; and where x doesn't exist, none of the star under its closest encloser. A lookup finds such an ANAME, of which no record tells that it leads to no addresses
+pub record HasNoStandIn (origin : Name) (m : Sets) (x : Name) (t : ℕ) : Type 0 where
+  pub own : IsUnflattened m x t
+  pub star : IsFalse (exists m x) → IsUnflattened m (star_under (nsec_encloser origin m x)) t
+
 -- the zone's SOA stands there, with the TTL of a negative response (RFC 2308 section 3)
 pub record HasSoa (z : Zone) (r : Sections) : Type 0 where
   pub stored : RRset
@@ -143,7 +166,7 @@ pub record IsProvedEmpty (z : Zone) (r : Sections) (x : Name) (t : ℕ) : Type 0
   pub soa : HasSoa z r
   pub proved : IsShowable z.origin z.sets x t → IsTrue (proves_empty_answer z.origin (shown r) x t)
   pub told : IsShowable z.origin z.sets x t → IsFalse (is_wildcard x) → IsEmptyProof t (nsec_proof z.origin (shown r) x t)
-  pub none : IsShowable z.origin z.sets x t → IsFalse (is_wildcard x) → IsWithoutData z.origin z.sets x t
+  pub none : IsShowable z.origin z.sets x t → IsFalse (is_wildcard x) → HasNoStandIn z.origin z.sets x t → IsWithoutData z.origin z.sets x t
 
 -- a zone cut has no DS, and that is proved (RFC 4035 section 3.1.4)
 pub record IsProvedUnsigned (z : Zone) (r : Sections) (c : Name) : Type 0 where
@@ -168,10 +191,10 @@ pub record IsAliasData (z : Zone) (q : Query) (r : Sections) (w : Saying) : Type
 -- ---- all of it
 
 pub record ProvesWhatItSays (z : Zone) (q : Query) (r : Sections) : Type 0 where
-  -- each set is the zone's, but for a CNAME that a DNAME set makes
+  -- each set is the zone's, but for a CNAME that a DNAME set makes, and addresses for which an ANAME set stands in
   pub authorities : (s : RRset) → Contains r.authorities s → IsSentSet z.sets (authority_part s) s
   pub answers : (s : RRset) → Contains r.answers s
-      → ((p : Part) × IsAnswerPart q.record_type p × (IsSentSet z.sets p s ⊎ IsStarSet z.origin z.sets (shown r) p s)) ⊎ IsMadeAlias z.sets r.answers s
+      → ((p : Part) × IsAnswerPart q.record_type p × (IsSentSet z.sets p s ⊎ IsStarSet z.origin z.sets (shown r) p s)) ⊎ IsMadeAlias z.sets r.answers s ⊎ IsMadeAddresses z q (IsFoundByStar z.origin z.sets (shown r)) s
   -- where each set of a type is signed by the zone, NS aside, so is each of these
   pub signatures : (t : ℕ) → t ≢ NS → AreSigned z t → (s : RRset) → Contains r.authorities s → s.record_type ≡ t → IsTrue (is_signed_by z.origin s)
   -- each NSEC record shown is the zone's, and they prove nothing of any name but what is so

@@ -16,8 +16,8 @@ pub fn responses_say_how_they_end()
     ensures { ResponseSaysHowItEnds }
 {}
 
-/// The answer section of a response has the sets that a lookup answers with, as they go out, whatever signs the sets that the lookup
-/// makes. Where the search ends at a name of the zone without a set, at the queried one or at the one to which a chain of aliases leads
+/// The answer section of a response has the sets that a lookup answers with, as they go out, the addresses by ANAME with the same
+/// signatures. Where the search ends at a name of the zone without a set, at the queried one or at the one to which a chain of aliases leads
 /// on, the code is that of the lookup's negative answer for this name (RFC 6604 section 3); else there is no error (`Agrees`).
 ///
 /// So it is where the rules of both are the same, with DNSSEC and without it. The zone has an SOA and no sets outside it, its origin
@@ -25,10 +25,10 @@ pub fn responses_say_how_they_end()
 /// (`IsOrdinaryType`), and for a name of the zone. On the way down to each name of the zone that is searched stands no zone cut and no
 /// DNAME; and if the name doesn't exist, it is no star and asks none that is a delegation (`IsOrdinary`, which has a condition for
 /// NSEC besides). Behind an alias no ANAME stands in for addresses (`NoStandIn`), and one that stands in for those of the queried name
-/// leads to some, in a zone that needn't prove them, and that a lookup doesn't sign either (`StandInsLead`). What the response says is
-/// provable (`IsProvable`), as it is without DNSSEC, and in each zone that doesn't deny by hashed names or in which each name has a
-/// hashed owner. A name that owns sets of denial alone, as NSEC3, is told by the code of a name error, where a lookup may say that it
-/// exists (RFC 5155 section 7.2.8).
+/// leads to some, which have a signature if the response has to prove them; with DNSSEC the lookup signs them as the response does
+/// (`StandInsLead`), as it does at the same moment by the same signers. What the response says is provable (`IsProvable`), as it is
+/// without DNSSEC, and in each zone that doesn't deny by hashed names or in which each name has a hashed owner. A name that owns sets
+/// of denial alone, as NSEC3, is told by the code of a name error, where a lookup may say that it exists (RFC 5155 section 7.2.8).
 pub fn responses_agree_with_lookups()
     ensures agreement { ResponsesAgree }
     ensures provable { ProvableByOwners }
@@ -46,12 +46,14 @@ pub fn targets_are_read()
 /// (`DeniesByNsec`). The NSEC records in its authority section prove a name error of the name of which it says so (RFC 4035 section
 /// 3.1.3.2), no data of a type (sections 3.1.3.1 and 3.1.3.4), a delegation without DS where a referral has no DS set (section
 /// 3.1.4), and that a star may answer where one did (section 3.1.3.3). They prove nothing of any judged name but what is so, since
-/// each set of the response is the zone's, but for the CNAME that a DNAME set of it makes (`ProvesWhatItSays`). Below a DNAME it speaks
-/// of the new name; where CNAME or ANY is asked for there, that CNAME is the answer, and no NSEC record tells of its owner.
+/// each set of the response is the zone's, but for the CNAME that a DNAME set of it makes, and the addresses for which an ANAME set of
+/// the zone stands in: these have a signature that was made for the response (`ProvesWhatItSays`). Below a DNAME it speaks of the new
+/// name; where CNAME or ANY is asked for there, that CNAME is the answer, and no NSEC record tells of its owner.
 ///
 /// No data are proved of every type but RRSIG, and DS of an apex; and of a name that doesn't exist where the star that is asked for it
-/// owns no NS (RFC 4592 section 4.2), all told by `IsShowable`. A referral to a name that owns SOA too isn't proved unsigned, since the
-/// NSEC set there is the child's.
+/// owns no NS (RFC 4592 section 4.2), all told by `IsShowable`. So it is of a name whose ANAME leads to no addresses, for which a lookup
+/// finds the ANAME; where none stands in, it finds nothing (`HasNoStandIn`). A referral to a name that owns SOA too isn't proved
+/// unsigned, since the NSEC set there is the child's.
 pub fn responses_prove_what_they_say()
     ensures { ResponseProvesWhatItSays }
 {}
@@ -61,9 +63,10 @@ pub fn responses_prove_what_they_say()
 /// refers elsewhere (`DeniesByNsec3`). All NSEC3 records in its authority section together prove a name error of the name of which it
 /// says so (RFC 5155 section 7.2.2), no data of a type (sections 7.2.3 to 7.2.5), a delegation without DS where a referral has no DS
 /// set (section 7.2.7), and that a star may answer where one did (section 7.2.6); and they prove nothing of any name but what is so,
-/// since each set of the response is the zone's, but for the CNAME that a DNAME set of it makes (`ProvesByHashes`). Each is so of names
-/// for which the hash tells the names apart that a denial of them hashes (`HashesApart`). Below a DNAME it speaks of the new name; where
-/// CNAME or ANY is asked for there, that CNAME is the answer, and no NSEC3 record tells of its owner.
+/// since each set of the response is the zone's, but for the CNAME that a DNAME set of it makes, and the addresses for which an ANAME
+/// set of the zone stands in, which have a signature that was made for the response (`ProvesByHashes`). Each is so of names for which
+/// the hash tells the names apart that a denial of them hashes (`HashesApart`). Below a DNAME it speaks of the new name; where CNAME or
+/// ANY is asked for there, that CNAME is the answer, and no NSEC3 record tells of its owner.
 ///
 /// With opt-out what is proved of a name that has no NSEC3 set says less, and is insecure (section 9.2): what is there is an unsigned
 /// delegation that is left out, or stands below a zone cut (`IsLeftOut`). One name error has no proof then: that of a name below an
@@ -71,7 +74,8 @@ pub fn responses_prove_what_they_say()
 /// and is left out.
 ///
 /// That there are no data is proved as by NSEC: of every type but RRSIG, and DS of an apex; and of a name that doesn't exist where the
-/// star that is asked for it owns no NS (`IsHashedShowable`). A validator finds the parameters in the records (`told_by`).
+/// star that is asked for it owns no NS (`IsHashedShowable`); where no ANAME stands in (`HasNoHashedStandIn`), a lookup finds nothing
+/// then. A validator finds the parameters in the records (`told_by`).
 pub fn hashed_responses_prove_what_they_say()
     ensures { ResponseProvesByHashes }
 {}

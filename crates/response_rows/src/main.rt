@@ -23,9 +23,10 @@
 //! record that goes into it, and `$ secure` signs it at the moment 0. `$ policy` is followed by who may transfer the first zone,
 //! `Deny`, `AllowAll` or `AllowSigned`; the next one by who may transfer the second; and so on.
 //!
-//! `=` asks the last zone a question: a name, a type, a class by its number, and `dnssec` where the query asks for DNSSEC. Below it
-//! stands what the zone says, by its sections: the code, and `aa` of an authoritative one; `;; GLUE` are the records of the
-//! additional section that have to go, and `;; LEFT` is followed by the name at which a chain of aliases left the zone.
+//! `=` asks the last zone a question: a name, a type, a class by its number, `dnssec` where the query asks for DNSSEC, and behind that
+//! `at` and a moment, if it isn't asked at the moment 0. Below it stands what the zone says, by its sections: the code, and `aa` of an
+//! authoritative one; `;; GLUE` are the records of the additional section that have to go, and `;; LEFT` is followed by the name at
+//! which a chain of aliases left the zone.
 //!
 //! `%` asks the same with no memory left, and then with a little more each time, until there is a response, so that growths are
 //! refused in turn: each time before, the answer was that memory is refused. Below it stands that response.

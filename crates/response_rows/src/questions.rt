@@ -16,12 +16,13 @@ const ROOMS: usize = 1_000;
 /// By how many octets the memory grows that is left to each.
 const STEP: usize = 16;
 
-/// A question, and whether it asks for DNSSEC.
+/// A question, whether it asks for DNSSEC, and the moment at which it is asked.
 #[derive(Drop)]
 struct Asked {
     key: RrKey,
     query_class: DNSClass,
     options: LookupOptions,
+    moment: u64,
 }
 
 /// The response of the last zone to a question by its words.
@@ -62,10 +63,12 @@ fn read_question(alloc: Global, words: &mut Words<'_>) -> anyhow::Result<Asked> 
     let key = read_key(alloc, words)?;
     let query_class = DNSClass(words.take_u16()?);
     let dnssec_ok = words.take_flag(b"dnssec")?;
+    let is_later = words.take_flag(b"at")?;
     Ok(Asked {
         key,
         query_class,
         options: LookupOptions { dnssec_ok },
+        moment: if is_later { words.take_u64()? } else { 0 },
     })
 }
 
@@ -76,7 +79,7 @@ fn response_of<'z>(zone: &'z Zone, asked: &Asked) -> Result<Response<'z>, Lookup
         query_type: asked.key.record_type,
         query_class: asked.query_class,
     };
-    respond(lent(zone), question, asked.options)
+    respond(lent(zone, asked.moment), question, asked.options)
 }
 
 /// The same; none where memory is refused.

@@ -85,24 +85,25 @@ pub fn add(alloc: Global, zones: &mut Vec<Zone>, words: &mut Words<'_>) -> anyho
     Ok(())
 }
 
-/// A zone as it is served.
-pub fn lent(zone: &Zone) -> ServedZone<'_, DemoSigner, Sha1Hash> {
+/// A zone as it is served at a moment.
+pub fn lent(zone: &Zone, moment: u64) -> ServedZone<'_, DemoSigner, Sha1Hash> {
     ServedZone {
         origin: zone.origin(),
         inner: zone.inner(),
         nx_proof_kind: zone.nx_proof_kind(),
         hash: &Sha1Hash,
+        moment,
     }
 }
 
-/// The zones as they are served.
+/// The zones as they are served at the moment 0.
 fn served(
     alloc: Global,
     zones: &[Zone],
 ) -> anyhow::Result<Vec<ServedZone<'_, DemoSigner, Sha1Hash>>> {
     let mut served = Vec::new(alloc);
     for zone in zones {
-        served.push(lent(zone))?;
+        served.push(lent(zone, 0))?;
     }
     Ok(served)
 }

@@ -78,41 +78,26 @@ module _ (m : Sets) (y : Name) (t : ℕ) (nothing : direct m y t ≡ None) where
 
 -- ---- so its record denies the type
 
-module _ (origin : Name) (m : Sets) (h : IsNsecZone origin m) (unreferred : Unreferred origin m) (y : Name) (inside : is_at_or_above origin y ≡ true) (t : ℕ) (nothing : direct m y t ≡ None)
-    (on : owns m y NSEC ≡ true) (signed : t ≢ RRSIG) (any : t ≢ ANY) (child : t ≡ DS → is_parents_ds origin m y ≡ false)
+-- a name that owns neither the type nor an alias, and NS beside SOA alone, unless DS is asked for
+module _ (origin : Name) (m : Sets) (h : IsNsecZone origin m) (y : Name) (inside : is_at_or_above origin y ≡ true) (t : ℕ) (unowned : owns m y t ≡ false) (no_alias : owns m y CNAME ≡ false)
+    (beside_soa : (t == DS) ≡ false → owns m y NS ≡ true → owns m y SOA ≡ true) (on : owns m y NSEC ≡ true) (signed : t ≢ RRSIG) (any : t ≢ ANY) (child : t ≡ DS → is_parents_ds origin m y ≡ false)
   where
     abbrev r : NsecRecord
     r = record_at origin m h y
 
     not_nsec : t ≢ NSEC
-    not_nsec e = true≢false (sym on ∙ ap (owns m y) (sym e) ∙ own_type m y t nothing)
+    not_nsec e = true≢false (sym on ∙ ap (owns m y) (sym e) ∙ unowned)
 
     shows_not : shows_type r t ≡ false
-    shows_not = λ i. differs t NSEC not_nsec i || differs t RRSIG signed i || differs t ANY any i || unlisted origin m h y t signed not_nsec (own_type m y t nothing) i
+    shows_not = λ i. differs t NSEC not_nsec i || differs t RRSIG signed i || differs t ANY any i || unlisted origin m h y t signed not_nsec unowned i
 
     alias_not : lists r CNAME ≡ false
-    alias_not = unlisted origin m h y CNAME (λ e. omega (arith, e)) (λ e. omega (arith, e)) (own_alias m y t nothing)
+    alias_not = unlisted origin m h y CNAME (λ e. omega (arith, e)) (λ e. omega (arith, e)) no_alias
 
     owned : (owns m y NS ≡ true) ⊎ (NS ≡ RRSIG) ⊎ (NS ≡ NSEC) → owns m y NS ≡ true
     owned (inl e) = e
     owned (inr (inl e)) = absurd (omega (arith, e))
     owned (inr (inr e)) = absurd (omega (arith, e))
-
-    -- NS stands there beside SOA alone, at the root too
-    beside_soa : (t == DS) ≡ false → owns m y NS ≡ true → owns m y SOA ≡ true
-    beside_soa d k = by (is_root y) refl
-      where
-        root_is : (n : Name) → is_root n ≡ true → n ≡ []
-        root_is [] e = refl
-        root_is (l ∷ ls) e = absurd (true≢false (sym e))
-
-        above : IsAtOrAbove origin y → y ≡ [] → origin ≡ y
-        above ([], q) e = sym q
-        above (l ∷ f, q) e = let p : [] ≡ l ∷ (f ++ origin) = sym e ∙ q in cc
-
-        by : (b : Bool) → is_root y ≡ b → owns m y SOA ≡ true
-        by true e = unreferred y ([], above (is_at_or_above_sound origin y inside) (root_is y e)) k
-        by false e = own_delegation m y t nothing (λ q. true≢false (ap is_root (sym q) ∙ e)) d k
 
     apex_is : (lists r SOA || name_eq y origin) && not (is_root y) ≡ is_parents_ds origin m y
     apex_is = ap (λ b. (b || name_eq y origin) && not (is_root y)) (both_ways (lists r SOA) (owns m y SOA) (λ e. soa (listed_owned origin m h y SOA e)) (owned_listed origin m h y SOA))
@@ -135,5 +120,26 @@ module _ (origin : Name) (m : Sets) (h : IsNsecZone origin m) (unreferred : Unre
         by true d = apex_is ∙ child (eqb-true t DS d)
         by false d = delegation (is_ancestor_delegation r) d refl
 
-    pub type_denied : denies_type origin (record_at origin m h y) y t ≡ true
-    type_denied = λ i. inside i && name_eq_itself y i && not (shows_not i) && not (alias_not i) && not (wrong_not i)
+    pub unowned_denied : denies_type origin (record_at origin m h y) y t ≡ true
+    unowned_denied = λ i. inside i && name_eq_itself y i && not (shows_not i) && not (alias_not i) && not (wrong_not i)
+
+-- so does one for which nothing is found
+module _ (origin : Name) (m : Sets) (h : IsNsecZone origin m) (unreferred : Unreferred origin m) (y : Name) (inside : is_at_or_above origin y ≡ true) (t : ℕ) (nothing : direct m y t ≡ None) where
+  -- NS stands there beside SOA alone, at the root too
+  beside_soa : (t == DS) ≡ false → owns m y NS ≡ true → owns m y SOA ≡ true
+  beside_soa d k = by (is_root y) refl
+    where
+      root_is : (n : Name) → is_root n ≡ true → n ≡ []
+      root_is [] e = refl
+      root_is (l ∷ ls) e = absurd (true≢false (sym e))
+
+      above : IsAtOrAbove origin y → y ≡ [] → origin ≡ y
+      above ([], q) e = sym q
+      above (l ∷ f, q) e = let p : [] ≡ l ∷ (f ++ origin) = sym e ∙ q in cc
+
+      by : (b : Bool) → is_root y ≡ b → owns m y SOA ≡ true
+      by true e = unreferred y ([], above (is_at_or_above_sound origin y inside) (root_is y e)) k
+      by false e = own_delegation m y t nothing (λ q. true≢false (ap is_root (sym q) ∙ e)) d k
+
+  pub type_denied : owns m y NSEC ≡ true → t ≢ RRSIG → t ≢ ANY → (t ≡ DS → is_parents_ds origin m y ≡ false) → denies_type origin (record_at origin m h y) y t ≡ true
+  type_denied = unowned_denied origin m h y inside t (own_type m y t nothing) (own_alias m y t nothing) beside_soa

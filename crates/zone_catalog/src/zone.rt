@@ -5,7 +5,7 @@ ghost use Rattle.zone_map.specs.Zones.{set_at, IsZone};
 ghost use Rattle.zone_response.specs.Queries.{zone_of};
 ghost use Rattle.zone_sha1.specs.Digests.{name_digest};
 ghost use Rattle.zone_catalog.specs.Denials.{denial_kind, first_parameters, kind_by, kind_of, parameters_at};
-ghost use Rattle.zone_catalog.specs.Zones.{served_zone, zone_of_records, IsServed};
+ghost use Rattle.zone_catalog.specs.Zones.{never_signed, served_zone, zone_of_records, IsServed};
 
 use crate::static_signer::StaticSigner;
 use std::alloc::{AllocError, Global};
@@ -122,12 +122,14 @@ pub fn served(
 
 /// A zone as it is asked.
 pub(crate) fn lent(zone: &Zone) -> ServedZone<'_, StaticSigner, Sha1Hash>
-    ensures { zone_of (λ h. name_digest) result ≡ served_zone zone.now }
+    ensures { zone_of never_signed (λ h. name_digest) result ≡ served_zone zone.now }
 {
     ServedZone {
         origin: &zone.origin,
         inner: &zone.inner,
         nx_proof_kind: zone.nx_proof_kind.as_ref(),
         hash: &Sha1Hash,
+        // Nobody signs here, at any moment.
+        moment: 0,
     }
 }

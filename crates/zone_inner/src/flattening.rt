@@ -8,9 +8,11 @@ use zone_map::direct::is_address;
 use zone_proto::{ProtoError, RecordSet, RecordType, Signer};
 use zone_signing::signatures::{LAST_MOMENT, sign_set};
 
-/// An ANAME set flattened for a type by the last additional set, and signed where DNSSEC is asked for and the moment `now`,
-/// in seconds since 1970, isn't past the year 9999.
-pub(crate) fn flattened<S: Signer>(
+/// An ANAME set flattened for a type by the last additional set: the addresses of that set, under the owner of the ANAME set,
+/// with the lesser one of both TTLs; none where the last set is of another type. Where `lookup_options` ask for DNSSEC each
+/// signer in order signs it (RFC 4034 section 3), unless the moment `now`, in seconds since 1970, is past the year 9999.
+/// Refused by `Memory` alone, of a signer too.
+pub fn flattened<S: Signer>(
     aname: &RecordSet,
     record_type: RecordType,
     last: &RecordSet,
@@ -31,9 +33,8 @@ pub(crate) fn flattened<S: Signer>(
     Ok(set)
 }
 
-/// An ANAME set flattened for a type by the last additional set, without signatures: the addresses of that set, under the owner
-/// of the ANAME set, with the lesser one of both TTLs; none where the last set is of another type. Refused by `Memory` alone.
-pub fn unsigned_flattened(
+/// The same without signatures.
+fn unsigned_flattened(
     aname: &RecordSet,
     record_type: RecordType,
     last: &RecordSet,

@@ -24,7 +24,7 @@ pub use additionals::{next_name, run_target};
 #[doc(hidden)]
 pub use chain::cname_target;
 #[doc(hidden)]
-pub use flattening::unsigned_flattened;
+pub use flattening::flattened;
 pub use found::{Found, Outcome};
 pub use inner_in_memory::InnerInMemory;
 pub use zone_error::ZoneError;

@@ -30,10 +30,10 @@ module _ (z : Zone) (q : Query) where
 
   -- what is searched is asked as the query has it
   pub inquired : {E : Type 0} (result : Result Response E) (proved : Bool) → proved ≡ q.signed && is_some z.nx_proof_kind
-      → IfOk result (λ r. IsSearched z (record { origin = z.origin; sets = z.sets; record_type = q.record_type; signed = q.signed; is_proved = proved }) q.name (sections r))
+      → IfOk result (λ r. IsSearched z (record { origin = z.origin; sets = z.sets; record_type = q.record_type; signed = q.signed; is_proved = proved; sign = z.sign q.signed }) q.name (sections r))
       → IfOk result (λ r. IsSearched z (inquiry z q) q.name (sections r))
   inquired result proved e h =
-      subst (λ (b : Bool). IfOk result (λ r. IsSearched z (record { origin = z.origin; sets = z.sets; record_type = q.record_type; signed = q.signed; is_proved = b }) q.name (sections r))) e h
+      subst (λ (b : Bool). IfOk result (λ r. IsSearched z (record { origin = z.origin; sets = z.sets; record_type = q.record_type; signed = q.signed; is_proved = b; sign = z.sign q.signed }) q.name (sections r))) e h
 
 module _ (z : Zone) (q : Inquiry) (x : Name) where
   pub without_soa : (r : Sections) → None ≡ set_at z.sets z.origin SOA → r ≡ bare code.ServFail → IsSearched z q x r

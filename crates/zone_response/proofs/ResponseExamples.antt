@@ -105,7 +105,7 @@ sets =
     ∷ []
 
 abbrev zone : Zone
-zone = record { origin = example; sets = sets; nx_proof_kind = Some kind.Nsec; digest_of = λ algorithm salt n iterations. None }
+zone = record { origin = example; sets = sets; nx_proof_kind = Some kind.Nsec; digest_of = λ algorithm salt n iterations. None; sign = λ signed s. [] }
 
 -- a query that asks for DNSSEC
 abbrev asked : Name → ℕ → Query
@@ -221,7 +221,7 @@ hashed_sets =
 
 -- with the algorithm 1 alone
 abbrev hashed_zone : ℕ → Zone
-hashed_zone algorithm = record { origin = example; sets = hashed_sets; nx_proof_kind = Some (kind.Nsec3 algorithm [] 0 true); digest_of = λ algorithm salt n iterations. cond (algorithm == 1) (Some (octets n ∷ [])) None }
+hashed_zone algorithm = record { origin = example; sets = hashed_sets; nx_proof_kind = Some (kind.Nsec3 algorithm [] 0 true); digest_of = λ algorithm salt n iterations. cond (algorithm == 1) (Some (octets n ∷ [])) None; sign = λ signed s. [] }
 
 -- a name error: one set matches the closest encloser, and covers the name, of 9 octets, and the star, of 8
 of_hashed_absence : IsResponse (hashed_zone 1) (asked (under (codes "no")) A) (record { code = code.NXDomain; authoritative = true; answers = []; authorities = soa 300 ∷ of_apex 300 ∷ []; additionals = []; glue = []; left_at = None })

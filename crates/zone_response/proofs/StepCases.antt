@@ -1,5 +1,5 @@
 -- Which step a name gives, case by case
-use Rattle.std.proofs.Common.{◌≡◌, Bool, true, false, cond, List, sym, ap, ◌∙◌, subst}
+use Rattle.std.proofs.Common.{◌≡◌, true, false, cond, List, sym, ap, ◌∙◌, subst}
 use Rattle.std.specs.Prelude.{Option, Some, None, Result, IfOk}
 use Rattle.std.proofs.lemmas.List.{append-nil}
 use Rattle.zone_proto.specs.Names.{Name, is_at_or_above}
@@ -11,8 +11,7 @@ use Rattle.zone_response.specs.Nodes.{AtNode, at_node}
 use Rattle.zone_response.specs.Queries.{Inquiry}
 use Rattle.zone_response.specs.Sections.{sent_sets}
 use Rattle.zone_response.specs.Sources.{star_of}
-use Rattle.zone_response.specs.StandIns.{StandInAnswer, stand_in_answer}
-use Rattle.zone_response.specs.Steps.{End, missing, outside, failed, ends, Step, at_end, made_by, keeps, stood_in_step, stand_in_step, node_step, step_at, star_step, name_step, turned_step, step, next_of, Takes}
+use Rattle.zone_response.specs.Steps.{End, missing, outside, ends, Step, at_end, node_step, step_at, star_step, name_step, turned_step, step, next_of, Takes}
 use Rattle.zone_response.specs.Turns.{Turn, turn}
 
 -- ---- what is taken of a step
@@ -53,13 +52,3 @@ module _ (q : Inquiry) (x : Name) where
 
   pub starless_step : (star : Name) → exists q.sets star ≡ false → star_step q x (Some star) ≡ at_end (missing x (Some star) false)
   starless_step star h = ap (λ b. cond b (step_at q (Some star) x star) (at_end (missing x (Some star) false))) h
-
-  -- by an ANAME set that stands in
-  abbrev stands : Option Name → RRset → Bool → Step
-  stands star s b = cond b (at_end failed) (stood_in_step star x (stand_in_answer q x (made_by (keeps q.signed q.record_type) star x s)))
-
-  pub proved_step : (star : Option Name) (s : RRset) → q.is_proved ≡ true → stand_in_step q star x s ≡ at_end failed
-  proved_step star s h = ap (stands star s) h
-
-  pub stood_step : (star : Option Name) (s : RRset) (answer : StandInAnswer) → q.is_proved ≡ false → answer ≡ stand_in_answer q x (made_by (keeps q.signed q.record_type) star x s) → stand_in_step q star x s ≡ stood_in_step star x answer
-  stood_step star s answer h e = ap (stands star s) h ∙ ap (stood_in_step star x) (sym e)

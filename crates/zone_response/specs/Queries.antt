@@ -1,11 +1,17 @@
 -- The zone that is asked, and the query
 use Rattle.std.specs.Prelude.{ℕ, Bool, ◌&&◌, List, Option, is_some, option_copied}
 use Rattle.zone_proto.specs.declared.nx_proof_kind.NxProofKind.{NxProofKind}
+use Rattle.zone_proto.specs.declared.rdata.signing.RRSIG.{RRSIG}
+use Rattle.zone_proto.specs.declared.record.Record.{Record}
 use Rattle.zone_proto.specs.Names.{Name}
+use Rattle.zone_proto.specs.Sets.{RRset}
+use Rattle.zone_proto.specs.Signing.{SignedPart}
 use Rattle.zone_map.specs.Zones.{Sets}
+use Rattle.zone_inner.specs.Inner.{Inner}
 use Rattle.zone_response.specs.declared.question.Question.{Question}
 use Rattle.zone_response.specs.declared.question.ServedZone.{ServedZone}
 use Rattle.zone_response.specs.declared.steps.Asked.{Asked}
+use Rattle.zone_signing.specs.Signatures.{answer_signatures}
 
 pub record Zone : Type 0 where
   -- the name at its top
@@ -16,6 +22,8 @@ pub record Zone : Type 0 where
   pub nx_proof_kind : Option NxProofKind
   -- the digest of an algorithm, a salt, a name and a count of iterations, or none, where it denies by hashed names (RFC 5155 section 5)
   pub digest_of : ℕ → List ℕ → Name → ℕ → Option (List ℕ)
+  -- the signatures of a set that is made for a response, to a query that asks for DNSSEC or doesn't
+  pub sign : Bool → RRset → List Record
 
 -- a question (RFC 1035 section 4.1.2), and whether it asks for DNSSEC (RFC 3225 section 3)
 pub record Query : Type 0 where
@@ -32,17 +40,33 @@ pub record Inquiry : Type 0 where
   pub signed : Bool
   -- what is said has to be proved: the query asks for DNSSEC, and the zone has denials (RFC 4035 section 3.1)
   pub is_proved : Bool
+  -- the signatures of a set that is made for the response
+  pub sign : RRset → List Record
 
 abbrev pub inquiry : Zone → Query → Inquiry
-inquiry z q = record { origin = z.origin; sets = z.sets; record_type = q.record_type; signed = q.signed; is_proved = q.signed && is_some z.nx_proof_kind }
+inquiry z q = record { origin = z.origin; sets = z.sets; record_type = q.record_type; signed = q.signed; is_proved = q.signed && is_some z.nx_proof_kind; sign = z.sign q.signed }
 
 -- ---- as the program keeps them
 
-abbrev pub zone_of : {S H : Type 0} → (H → ℕ → List ℕ → Name → ℕ → Option (List ℕ)) → ServedZone S H → Zone
-zone_of digest_of z = record { origin = z.origin.now; sets = z.inner.now.records; nx_proof_kind = option_copied z.nx_proof_kind; digest_of = digest_of z.hash.now }
+-- the zone's signers sign, at the moment at which it is asked
+abbrev pub zone_of : {S H : Type 0} → (S → SignedPart → ℕ → ℕ → Option RRSIG) → (H → ℕ → List ℕ → Name → ℕ → Option (List ℕ)) → ServedZone S H → Zone
+zone_of signature_of digest_of z = record {
+  origin = z.origin.now;
+  sets = z.inner.now.records;
+  nx_proof_kind = option_copied z.nx_proof_kind;
+  digest_of = digest_of z.hash.now;
+  sign = λ signed. answer_signatures signature_of z.moment signed z.inner.now.signers;
+}
 
 abbrev pub query_of : Question → Bool → Query
 query_of q signed = record { name = q.name.now; record_type = q.query_type.0; class = q.query_class.0; signed = signed }
 
-abbrev pub inquiry_of : Asked → Sets → Inquiry
-inquiry_of a m = record { origin = a.origin.now; sets = m; record_type = a.record_type.0; signed = a.signed; is_proved = a.is_proved }
+abbrev pub inquiry_of : {S : Type 0} → (S → SignedPart → ℕ → ℕ → Option RRSIG) → Asked → Inner S → Inquiry
+inquiry_of signature_of a inner = record {
+  origin = a.origin.now;
+  sets = inner.records;
+  record_type = a.record_type.0;
+  signed = a.signed;
+  is_proved = a.is_proved;
+  sign = answer_signatures signature_of a.moment a.signed inner.signers;
+}

@@ -111,7 +111,7 @@ pub record IsResponseBy (q : Inquiry) (p : Path) (sets : List RRset) (r : Sectio
 abbrev pub IsProvenResponse : Zone → Inquiry → RRset → Path → Sections → Type 0
 IsProvenResponse z q soa p r = MatchResult (authority_sets z q.signed soa p.made p.end) (λ sets. IsResponseBy q p sets r) (λ refusal. r ≡ bare code.ServFail)
 
--- a search fails at what this server doesn't answer: at a DNAME set without a target, and where an ANAME stands in for addresses
+-- a search fails at what this server doesn't answer: at a DNAME set without a target, and where an ANAME stands in for addresses that the zone can't tell, or would have to sign
 abbrev pub fails : End → Bool
 fails failed = true
 fails _ = false

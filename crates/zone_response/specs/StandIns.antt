@@ -7,7 +7,7 @@ use Rattle.zone_map.specs.Fronts.{longest_front}
 use Rattle.zone_map.specs.Zones.{Sets}
 use Rattle.zone_inner.specs.AdditionalLaws.{are_new}
 use Rattle.zone_inner.specs.Additionals.{next_name, run_target, run_types, seen_at_start, leads_to, listed_with, alias_sets}
-use Rattle.zone_inner.specs.Flattening.{last_set, unsigned_flattened}
+use Rattle.zone_inner.specs.Flattening.{last_set, flattened}
 use Rattle.zone_inner.specs.Runs.{along}
 use Rattle.zone_response.specs.declared.stand_ins.StandInAnswer.{StandInAnswer as KeptAnswer}
 use Rattle.zone_response.specs.declared.stand_ins.StandInAnswer.TheVariants as kept
@@ -40,18 +40,18 @@ pub data StandInAnswer : Type 0 where
   -- those of a name that the zone doesn't tell
   untold : StandInAnswer
 
--- a set of the type that is asked for has the addresses: they go under the owner of the ANAME set, with the lesser one of both TTLs. Any other set without a target is that of a zone cut
-abbrev pub by_addresses : ℕ → RRset → RRset → StandInAnswer
-by_addresses t s last = cond (last.record_type == t) (addresses (unsigned_flattened s t last)) untold
-
 module _ (q : Inquiry) where
+  -- a set of the type that is asked for has the addresses: they go under the owner of the ANAME set, with the lesser one of both TTLs, and are signed for the response. Any other set without a target is that of a zone cut
+  abbrev pub by_addresses : RRset → RRset → StandInAnswer
+  by_addresses s last = cond (last.record_type == q.record_type) (addresses (flattened q.sign s q.record_type last)) untold
+
   -- at a target for which nothing is found: one outside the zone, below a zone cut or below a DNAME isn't told
   abbrev pub at_last_target : Name → StandInAnswer
   at_last_target n = cond (is_at_or_above q.origin n) (option_map_or (λ turn. untold) (turn q.origin q.sets n q.record_type) no_addresses) untold
 
   -- by the last set along the targets, which may be an alias or an ANAME set itself
   abbrev pub by_last_set : RRset → RRset → StandInAnswer
-  by_last_set s last = option_map_or at_last_target (run_target q.record_type last) (by_addresses q.record_type s last)
+  by_last_set s last = option_map_or at_last_target (run_target q.record_type last) (by_addresses s last)
 
   -- what an ANAME set of x stands for; where nothing is found along the targets it is the last set itself
   abbrev pub stand_in_answer : Name → RRset → StandInAnswer

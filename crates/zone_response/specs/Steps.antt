@@ -1,5 +1,5 @@
 -- One step of a search: what a name of a chain is answered with (RFC 1034 section 4.3.2 step 3)
-use Rattle.std.specs.Prelude.{◌≡◌, ℕ, Bool, true, false, ◌||◌, cond, List, [], ◌∷◌, ◌++◌, ◌==◌, Option, Some, None}
+use Rattle.std.specs.Prelude.{◌≡◌, ℕ, Bool, true, false, ◌&&◌, ◌||◌, not, cond, List, [], ◌∷◌, ◌++◌, ◌==◌, Option, Some, None}
 use Rattle.zone_proto.specs.Names.{Name, lower, is_at_or_above}
 use Rattle.zone_proto.specs.Sets.{RRset}
 use Rattle.zone_proto.specs.Types.{CNAME, RRSIG, ANY}
@@ -15,7 +15,7 @@ use Rattle.zone_response.specs.declared.steps.SoFar.{SoFar}
 use Rattle.zone_response.specs.Queries.{Inquiry}
 use Rattle.zone_response.specs.Nodes.{AtNode, own, alias, stand_in, nothing, at_node}
 use Rattle.zone_response.specs.Renamings.{dname_target, in_place_of, unless_long, made_alias}
-use Rattle.zone_response.specs.Sections.{as_it_is, part_for, unless_among, sent_sets}
+use Rattle.zone_response.specs.Sections.{is_signed, as_it_is, part_for, unless_among, sent_sets}
 use Rattle.zone_response.specs.Sources.{star_of}
 use Rattle.zone_response.specs.StandIns.{StandInAnswer, addresses, no_addresses, untold, stand_in_answer}
 use Rattle.zone_response.specs.Turns.{Turn, cut, renaming, turn}
@@ -76,17 +76,22 @@ module _ (signed : Bool) (t : ℕ) where
   abbrev pub own_part : Part
   own_part = cond (t == RRSIG) part.Signatures (part_for signed)
 
--- by what an ANAME set of x stands for, itself or that of the star: the addresses are the whole answer, and aren't signed
-abbrev pub stood_in_step : Option Name → Name → StandInAnswer → Step
-stood_in_step star x (addresses s) = record { answers = as_it_is part.Records s ∷ []; made = made_names star x; next = ends complete }
-stood_in_step star x no_addresses = at_end (missing x star true)
-stood_in_step star x untold = at_end failed
+-- for a query whose answer has to be proved or not, and that asks for DNSSEC or not
+module _ (proved signed : Bool) where
+  -- the addresses for which an ANAME set of x stands in, itself or that of the star, are the whole answer. Where the answer has to be proved and nobody signs them, it fails: a validator would find them bogus (RFC 4035 section 4.3)
+  abbrev pub addresses_step : Option Name → Name → RRset → Step
+  addresses_step star x s = cond (proved && not (is_signed s)) (at_end failed) (record { answers = as_it_is (part_for signed) s ∷ []; made = made_names star x; next = ends complete })
+
+  -- by what it stands for
+  abbrev pub stood_in_step : Option Name → Name → StandInAnswer → Step
+  stood_in_step star x (addresses s) = addresses_step star x s
+  stood_in_step star x no_addresses = at_end (missing x star true)
+  stood_in_step star x untold = at_end failed
 
 -- by what x itself has, or the star that is asked for it
 module _ (q : Inquiry) where
-  -- where what is said has to be proved, addresses that nobody signed aren't answered
   abbrev pub stand_in_step : Option Name → Name → RRset → Step
-  stand_in_step star x s = cond q.is_proved (at_end failed) (stood_in_step star x (stand_in_answer q x (made_by (keeps q.signed q.record_type) star x s)))
+  stand_in_step star x s = stood_in_step q.is_proved q.signed star x (stand_in_answer q x (made_by (keeps q.signed q.record_type) star x s))
 
   -- the set that is asked for is the whole answer, and an alias is followed (RFC 1034 section 4.3.2 step 3a)
   abbrev pub node_step : Option Name → Name → AtNode → Step

@@ -21,8 +21,8 @@ use zone_proto::{
 };
 
 /// The response of a zone to a question, with signatures and the NSEC or NSEC3 sets that prove it
-/// where `options` ask for DNSSEC (RFC 1034 section 4.3.2). Refused by `Memory` alone. Its sets are lent out of the zone, but
-/// for those that a wildcard gives the name, and the CNAME that a DNAME makes.
+/// where `options` ask for DNSSEC (RFC 1034 section 4.3.2). Refused by `Memory` alone, of a signer too. Its sets are lent out of
+/// the zone, but for those that a wildcard gives the name, the CNAME that a DNAME makes, and the addresses that an ANAME gives.
 ///
 /// - Of another class than IN, and outside the zone, the code is `Refused`; of a type that no record has, ANY aside, `NotImp`;
 ///   and of a zone without SOA, `ServFail`.
@@ -40,17 +40,18 @@ use zone_proto::{
 ///   and its hash has no digest of a name that is hashed for this, or one that makes no owner name, the code is `ServFail`.
 /// - A name that owns an ANAME, and neither addresses of the type that is asked for nor an alias, has those of the ANAME's target, as
 ///   a lookup finds them in the zone along aliases and ANAMEs: under the owner of the ANAME, with the lesser one of the TTLs of the
-///   ANAME and of the addresses, and without signatures. There are no data where the last target is a name of the zone without such
-///   addresses, and the code is `ServFail` where it stands outside the zone, below a zone cut or below a DNAME: the zone can't tell.
-/// - With DNSSEC, an ANAME that stands in for addresses gives `ServFail` in a zone with a kind of denial, which would have to sign
-///   them: that isn't done yet.
+///   ANAME and of the addresses. There are no data where the last target is a name of the zone without such addresses, and the code
+///   is `ServFail` where it stands outside the zone, below a zone cut or below a DNAME: the zone can't tell.
+/// - With DNSSEC, each signer of the zone signs these addresses at the moment `zone.moment`, as it does for a lookup; none does once that
+///   is past the year 9999. Where they have no signature then, and the zone has a kind of denial, the code is `ServFail`, since a
+///   validator would find them bogus (RFC 4035 section 4.3).
 pub fn respond<'z, S: Signer, H: Nsec3Hash>(
     zone: ServedZone<'z, S, H>,
     question: Question<'_>,
     options: LookupOptions,
 ) -> Result<Response<'z>, LookupError>
     ensures response { IfOk result
-        (λ r. IsResponse (zone_of H.digest_of zone.entry)
+        (λ r. IsResponse (zone_of S.signature_of H.digest_of zone.entry)
         (query_of question.entry options.dnssec_ok) (sections r)) }
     ensures err { IsOkUnless result LookupError.Memory }
 {
@@ -59,6 +60,7 @@ pub fn respond<'z, S: Signer, H: Nsec3Hash>(
         record_type: question.query_type,
         signed: options.dnssec_ok,
         is_proved: is_proved(&zone, options.dnssec_ok),
+        moment: zone.moment,
     };
     let name = question.name;
     match refusal(question.query_class, asked, name) {
@@ -82,8 +84,8 @@ fn searched<'z, S: Signer, H: Nsec3Hash>(
 ) -> Result<Response<'z>, LookupError>
     requires { asked.origin.now ≡ zone.now.origin.now }
     ensures response { IfOk result
-        (λ r. IsSearched (zone_of H.digest_of zone.now)
-        (inquiry_of asked.entry zone.now.inner.now.records) name.now (sections r)) }
+        (λ r. IsSearched (zone_of S.signature_of H.digest_of zone.now)
+        (inquiry_of S.signature_of asked.entry zone.now.inner.now) name.now (sections r)) }
     ensures err { IsOkUnless result LookupError.Memory }
 {
     let apex = read_apex(zone.inner, zone.origin)?;
@@ -101,8 +103,8 @@ fn along<'z, S: Signer, H: Nsec3Hash>(
     path: Path<'z>,
 ) -> Result<Response<'z>, LookupError>
     ensures response { IfOk result
-        (λ r. IsResponseAlong (zone_of H.digest_of zone.now)
-        (inquiry_of asked.entry zone.now.inner.now.records) soa.now (path_of path.entry)
+        (λ r. IsResponseAlong (zone_of S.signature_of H.digest_of zone.now)
+        (inquiry_of S.signature_of asked.entry zone.now.inner.now) soa.now (path_of path.entry)
         (sections r)) }
     ensures err { IsOkUnless result LookupError.Memory }
 {
@@ -120,8 +122,8 @@ fn proven<'z, S: Signer, H: Nsec3Hash>(
     path: Path<'z>,
 ) -> Result<Response<'z>, LookupError>
     ensures response { IfOk result
-        (λ r. IsProvenResponse (zone_of H.digest_of zone.now)
-        (inquiry_of asked.entry zone.now.inner.now.records) soa.now (path_of path.entry)
+        (λ r. IsProvenResponse (zone_of S.signature_of H.digest_of zone.now)
+        (inquiry_of S.signature_of asked.entry zone.now.inner.now) soa.now (path_of path.entry)
         (sections r)) }
     ensures err { IsOkUnless result LookupError.Memory }
 {
@@ -151,7 +153,7 @@ fn by_path<'z, S: Signer>(
     authorities: Vec<Sent<'z>>,
 ) -> Result<Response<'z>, LookupError>
     ensures response { IfOk result
-        (λ r. IsResponseBy (inquiry_of asked.entry inner.now.records) (path_of path.entry)
+        (λ r. IsResponseBy (inquiry_of S.signature_of asked.entry inner.now) (path_of path.entry)
         (sent_sets authorities.entry) (sections r)) }
     ensures err { IsOkUnless result LookupError.Memory }
 {

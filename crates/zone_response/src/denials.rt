@@ -29,13 +29,13 @@ pub(crate) fn proofs<'z, S: Signer, H: Nsec3Hash>(
     end: &End<'_>,
 ) -> Result<Vec<&'z RecordSet>, LookupError>
     ensures ok { IfOk result
-        (λ sets. proofs (zone_of H.digest_of zone.now) (option_copied ds.entry) made.now
-        (end_of end.now)
+        (λ sets. proofs (zone_of S.signature_of H.digest_of zone.now) (option_copied ds.entry)
+        made.now (end_of end.now)
         ≡ Ok (map (λ s. s.now) sets.items)) }
     ensures err { IfErr result
         (λ e. (e ≡ LookupError.Memory)
-        ⊎ IsErr (proofs (zone_of H.digest_of zone.now) (option_copied ds.entry) made.now
-        (end_of end.now))) }
+        ⊎ IsErr (proofs (zone_of S.signature_of H.digest_of zone.now) (option_copied ds.entry)
+        made.now (end_of end.now))) }
 {
     let mut sets = Vec::new(zone.origin.alloc());
     for name in made {
@@ -53,12 +53,12 @@ fn add_star_proof<'z, S: Signer, H: Nsec3Hash>(
     sets: &mut Vec<&'z RecordSet>,
 ) -> Result<(), LookupError>
     ensures ok { OnOk result
-        (with_star_proof (zone_of H.digest_of zone.now) (Ok (map (λ s. s.now) sets.old.items))
-        name.now
+        (with_star_proof (zone_of S.signature_of H.digest_of zone.now)
+        (Ok (map (λ s. s.now) sets.old.items)) name.now
         ≡ Ok (map (λ s. s.now) sets.new.items)) }
     ensures err { IfErr result
         (λ e. (e ≡ LookupError.Memory)
-        ⊎ IsErr (with_star_proof (zone_of H.digest_of zone.now)
+        ⊎ IsErr (with_star_proof (zone_of S.signature_of H.digest_of zone.now)
         (Ok (map (λ s. s.now) sets.old.items)) name.now)) }
 {
     let more = star_proof(zone, name)?;
@@ -71,11 +71,11 @@ fn star_proof<'z, S: Signer, H: Nsec3Hash>(
     name: &LowerName,
 ) -> Result<Vec<&'z RecordSet>, LookupError>
     ensures ok { IfOk result
-        (λ sets. star_proof (zone_of H.digest_of zone.now) name.now
+        (λ sets. star_proof (zone_of S.signature_of H.digest_of zone.now) name.now
         ≡ Ok (map (λ s. s.now) sets.items)) }
     ensures err { IfErr result
         (λ e. (e ≡ LookupError.Memory)
-        ⊎ IsErr (star_proof (zone_of H.digest_of zone.now) name.now)) }
+        ⊎ IsErr (star_proof (zone_of S.signature_of H.digest_of zone.now) name.now)) }
 {
     match hashed_query(zone.nx_proof_kind, name) {
         Some(query) => {
@@ -96,12 +96,12 @@ fn end_proof<'z, S: Signer, H: Nsec3Hash>(
     end: &End<'_>,
 ) -> Result<Vec<&'z RecordSet>, LookupError>
     ensures ok { IfOk result
-        (λ sets. end_proof (zone_of H.digest_of zone.now) (option_copied ds.entry)
+        (λ sets. end_proof (zone_of S.signature_of H.digest_of zone.now) (option_copied ds.entry)
         (end_of end.now)
         ≡ Ok (map (λ s. s.now) sets.items)) }
     ensures err { IfErr result
         (λ e. (e ≡ LookupError.Memory)
-        ⊎ IsErr (end_proof (zone_of H.digest_of zone.now) (option_copied ds.entry)
+        ⊎ IsErr (end_proof (zone_of S.signature_of H.digest_of zone.now) (option_copied ds.entry)
         (end_of end.now))) }
 {
     match end {
@@ -121,11 +121,13 @@ fn denial<'z, S: Signer, H: Nsec3Hash>(
     star: Option<&LowerName>,
 ) -> Result<Vec<&'z RecordSet>, LookupError>
     ensures ok { IfOk result
-        (λ sets. denial (zone_of H.digest_of zone.now) name.now (option_copied star.entry)
+        (λ sets. denial (zone_of S.signature_of H.digest_of zone.now) name.now
+        (option_copied star.entry)
         ≡ Ok (map (λ s. s.now) sets.items)) }
     ensures err { IfErr result
         (λ e. (e ≡ LookupError.Memory)
-        ⊎ IsErr (denial (zone_of H.digest_of zone.now) name.now (option_copied star.entry))) }
+        ⊎ IsErr (denial (zone_of S.signature_of H.digest_of zone.now) name.now
+        (option_copied star.entry))) }
 {
     match hashed_query(zone.nx_proof_kind, name) {
         Some(query) => match star {

@@ -2,9 +2,8 @@
 //! chains of aliases and what a DNAME makes of a name below it (RFC 6672), referrals with their DS sets and glue, the SOA of a
 //! negative response, the NSEC or NSEC3 sets that prove what is said, and the additional section.
 //!
-//! Zones without DNSSEC are answered whole, and so are zones that deny by NSEC, and by NSEC3 with and without opt-out. One thing
-//! isn't answered yet, and gives `ServFail`: with DNSSEC, addresses of a name for which an ANAME stands in, in a zone that denies by
-//! either. Nobody signs these yet.
+//! Zones without DNSSEC are answered whole, and so are zones that deny by NSEC, and by NSEC3 with and without opt-out. The addresses
+//! for which an ANAME stands in are signed for each response, by the zone's signers.
 //!
 //! Contracts see a response as its code and its sections, each a list of record sets as they go out.
 #![tactic(auto)]

@@ -94,17 +94,21 @@ fn is_alike(set: &RecordSet, item: &Sent<'_>) -> bool
     other.record_type() == set.record_type() && other.name() == set.name()
 }
 
-/// Puts a set last that was made for the response, with its own TTL and without signatures.
-pub(crate) fn send_made(list: &mut Vec<Sent<'_>>, set: RecordSet) -> Result<(), ProtoError>
+/// Puts a set last that was made for the response, with its own TTL.
+pub(crate) fn send_made(
+    list: &mut Vec<Sent<'_>>,
+    set: RecordSet,
+    part: Part,
+) -> Result<(), ProtoError>
     ensures ok { OnOk result
-        (sent_sets list.new ≡ sent_sets list.old ++ as_it_is Part.Records set ∷ []) }
+        (sent_sets list.new ≡ sent_sets list.old ++ as_it_is part set ∷ []) }
     ensures err { IsOkUnless result ProtoError.Memory }
 {
     let ttl = set.ttl();
     let item = Sent {
         set: Found::Made(set),
         ttl,
-        part: Part::Records,
+        part,
     };
     send(list, item)
 }

@@ -38,7 +38,7 @@ pub(crate) fn walk<'z, S: Signer>(
 ) -> Result<Path<'z>, LookupError>
     requires { StandsAt inner.now.records asked.origin.now SOA DNAME apex }
     ensures ok { IfOk result
-        (λ found. path_of found ≡ path (inquiry_of asked.entry inner.now.records) name.now) }
+        (λ found. path_of found ≡ path (inquiry_of S.signature_of asked.entry inner.now) name.now) }
     ensures err { IsOkUnless result LookupError.Memory }
 {
     let alloc = name.alloc();

@@ -15,6 +15,9 @@ pub struct ServedZone<'z, S: Signer, H: Nsec3Hash> {
     pub nx_proof_kind: Option<&'z NxProofKind>,
     /// What names are hashed by, where it denies by NSEC3 (RFC 5155 section 5).
     pub hash: &'z H,
+    /// The moment at which it is asked, in seconds since 1970. The signatures of sets that are made for a response hold from
+    /// then on (RFC 4034 section 3.1.5).
+    pub moment: u64,
 }
 
 /// A question (RFC 1035 section 4.1.2).

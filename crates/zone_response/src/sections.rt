@@ -82,13 +82,13 @@ pub(crate) fn authorities<'z, S: Signer, H: Nsec3Hash>(
     end: &End<'z>,
 ) -> Result<Vec<Sent<'z>>, LookupError>
     ensures ok { IfOk result
-        (λ list. authority_sets (zone_of H.digest_of zone.now) signed soa.now made.now
-        (end_of end.now)
+        (λ list. authority_sets (zone_of S.signature_of H.digest_of zone.now) signed soa.now
+        made.now (end_of end.now)
         ≡ Ok (sent_sets list)) }
     ensures err { IfErr result
         (λ e. (e ≡ LookupError.Memory)
-        ⊎ IsErr (authority_sets (zone_of H.digest_of zone.now) signed soa.now made.now
-        (end_of end.now))) }
+        ⊎ IsErr (authority_sets (zone_of S.signature_of H.digest_of zone.now) signed soa.now
+        made.now (end_of end.now))) }
 {
     let ds = sent_ds(zone.inner, signed, end)?;
     authorities_with(zone, ds, signed, soa, made, end)
@@ -104,13 +104,13 @@ fn authorities_with<'z, S: Signer, H: Nsec3Hash>(
     end: &End<'z>,
 ) -> Result<Vec<Sent<'z>>, LookupError>
     ensures ok { IfOk result
-        (λ list. authority_sets_with (zone_of H.digest_of zone.now) (option_copied ds.entry)
-        signed soa.now made.now (end_of end.now)
+        (λ list. authority_sets_with (zone_of S.signature_of H.digest_of zone.now)
+        (option_copied ds.entry) signed soa.now made.now (end_of end.now)
         ≡ Ok (sent_sets list)) }
     ensures err { IfErr result
         (λ e. (e ≡ LookupError.Memory)
-        ⊎ IsErr (authority_sets_with (zone_of H.digest_of zone.now) (option_copied ds.entry)
-        signed soa.now made.now (end_of end.now))) }
+        ⊎ IsErr (authority_sets_with (zone_of S.signature_of H.digest_of zone.now)
+        (option_copied ds.entry) signed soa.now made.now (end_of end.now))) }
 {
     let mut list = Vec::new(zone.origin.alloc());
     send_end(soa, end, ds, signed, &mut list)?;
@@ -128,13 +128,13 @@ fn proof_sets<'z, S: Signer, H: Nsec3Hash>(
     ds: Option<&RecordSet>,
 ) -> Result<Vec<&'z RecordSet>, LookupError>
     ensures ok { IfOk result
-        (λ sets. proof_sets (zone_of H.digest_of zone.now) (option_copied ds.entry) signed
-        made.now (end_of end.now)
+        (λ sets. proof_sets (zone_of S.signature_of H.digest_of zone.now) (option_copied ds.entry)
+        signed made.now (end_of end.now)
         ≡ Ok (map (λ s. s.now) sets.items)) }
     ensures err { IfErr result
         (λ e. (e ≡ LookupError.Memory)
-        ⊎ IsErr (proof_sets (zone_of H.digest_of zone.now) (option_copied ds.entry) signed
-        made.now (end_of end.now))) }
+        ⊎ IsErr (proof_sets (zone_of S.signature_of H.digest_of zone.now) (option_copied ds.entry)
+        signed made.now (end_of end.now))) }
 {
     if !signed {
         return Ok(Vec::new(zone.origin.alloc()));
@@ -232,8 +232,8 @@ pub(crate) fn send_additionals<'z, S: Signer>(
     ensures additionals { OnOk result
         (sent_sets list.new
         ≡ sent_sets list.old
-        ++ additional_sets (inquiry_of asked.entry inner.now.records) (map sent_set answers.now)
-        (end_of end.now)) }
+        ++ additional_sets (inquiry_of S.signature_of asked.entry inner.now)
+        (map sent_set answers.now) (end_of end.now)) }
     ensures glue { OnOk result
         (sent_sets glue.new
         ≡ sent_sets glue.old ++ glue_at inner.now.records (end_of end.now)) }
@@ -256,7 +256,8 @@ fn send_beside_last<'z, S: Signer>(
     ensures ok { OnOk result
         (sent_sets list.new
         ≡ sent_sets list.old
-        ++ beside_last (inquiry_of asked.entry inner.now.records) (map sent_set answers.now)) }
+        ++ beside_last (inquiry_of S.signature_of asked.entry inner.now)
+        (map sent_set answers.now)) }
     ensures err { IsOkUnless result ProtoError.Memory }
 {
     match answers.last() {

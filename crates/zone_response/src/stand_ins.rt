@@ -3,14 +3,15 @@ ghost use Rattle.std.specs.Prelude.{◌≡◌, map, IfOk, IsOkUnless};
 ghost use Rattle.zone_inner.specs.FoundSets.{found_set};
 ghost use Rattle.zone_response.specs.Queries.{inquiry_of};
 ghost use Rattle.zone_response.specs.StandIns.{target_sets, at_last_target, by_addresses, by_last_set, stand_in_answer, answer_of};
-ghost use Rattle.zone_response.specs.Steps.{stand_in_step, stood_in_step, Takes};
+ghost use Rattle.zone_response.specs.Steps.{stand_in_step, stood_in_step, addresses_step, Takes};
 
 use crate::lists::send_made;
 use crate::names::is_at_or_above;
-use crate::steps::{Asked, End, Next, SoFar, add_made, at_missing, found_for, keeps};
+use crate::response::is_signed;
+use crate::steps::{Asked, End, Next, SoFar, add_made, at_missing, found_for, keeps, part_for};
 use crate::turns::turn;
 use zone_handler::{LookupError, LookupOptions};
-use zone_inner::{Found, InnerInMemory, next_name, run_target, unsigned_flattened};
+use zone_inner::{Found, InnerInMemory, flattened, next_name, run_target};
 use zone_map::Searches;
 use zone_proto::{LowerName, ProtoError, RecordSet, RecordType, Signer};
 
@@ -36,17 +37,14 @@ pub(crate) fn stand_in_step<'z, S: Signer>(
 ) -> Result<Next<'z>, LookupError>
     ensures ok { IfOk result
         (λ next. Takes
-        (stand_in_step (inquiry_of asked.entry inner.now.records) star name.now set.now) so_far.old
-        so_far.new next) }
+        (stand_in_step (inquiry_of S.signature_of asked.entry inner.now) star name.now set.now)
+        so_far.old so_far.new next) }
     ensures err { IsOkUnless result LookupError.Memory }
 {
-    if asked.is_proved {
-        return Ok(Next::Ends(End::Failed));
-    }
     let under = copy_of(&star)?;
     let aname = found_for(set, under, name, keeps(asked))?;
     let answer = stand_in_answer(inner, asked, name, aname.set())?;
-    Ok(stood_in_step(answer, star, name, so_far)?)
+    Ok(stood_in_step(answer, star, name, asked, so_far)?)
 }
 
 /// The same name, if there is one.
@@ -65,22 +63,44 @@ fn stood_in_step<'z>(
     answer: StandInAnswer,
     star: Option<LowerName>,
     name: &LowerName,
+    asked: Asked<'_>,
     so_far: &mut SoFar<'z>,
 ) -> Result<Next<'z>, ProtoError>
     ensures ok { IfOk result
-        (λ next. Takes (stood_in_step star name.now (answer_of answer)) so_far.old so_far.new
-        next) }
+        (λ next. Takes
+        (stood_in_step asked.entry.is_proved asked.entry.signed star name.now
+        (answer_of answer)) so_far.old so_far.new next) }
     ensures err { IsOkUnless result ProtoError.Memory }
 {
     match answer {
         StandInAnswer::Addresses(addresses) => {
-            add_made(&star, name, &mut so_far.made)?;
-            send_made(&mut so_far.answers, addresses)?;
-            Ok(Next::Ends(End::Complete))
+            addresses_step(addresses, &star, name, asked, so_far)
         }
         StandInAnswer::NoAddresses => at_missing(name, star, true),
         StandInAnswer::Untold => Ok(Next::Ends(End::Failed)),
     }
+}
+
+/// The step from a name that its ANAME set, or that of its star, gives these addresses.
+fn addresses_step<'z>(
+    addresses: RecordSet,
+    star: &Option<LowerName>,
+    name: &LowerName,
+    asked: Asked<'_>,
+    so_far: &mut SoFar<'z>,
+) -> Result<Next<'z>, ProtoError>
+    ensures ok { IfOk result
+        (λ next. Takes
+        (addresses_step asked.entry.is_proved asked.entry.signed star.now name.now addresses)
+        so_far.old so_far.new next) }
+    ensures err { IsOkUnless result ProtoError.Memory }
+{
+    if asked.is_proved && !is_signed(&addresses) {
+        return Ok(Next::Ends(End::Failed));
+    }
+    add_made(star, name, &mut so_far.made)?;
+    send_made(&mut so_far.answers, addresses, part_for(asked.signed))?;
+    Ok(Next::Ends(End::Complete))
 }
 
 /// What an ANAME set of a name stands for.
@@ -92,7 +112,7 @@ fn stand_in_answer<S: Signer>(
 ) -> Result<StandInAnswer, LookupError>
     ensures ok { IfOk result
         (λ answer. answer_of answer
-        ≡ stand_in_answer (inquiry_of asked.entry inner.now.records) name.now aname.now) }
+        ≡ stand_in_answer (inquiry_of S.signature_of asked.entry inner.now) name.now aname.now) }
     ensures err { IsOkUnless result LookupError.Memory }
 {
     let sets = target_sets(inner, asked, name, aname)?;
@@ -140,29 +160,36 @@ fn by_last_set<S: Signer>(
 ) -> Result<StandInAnswer, ProtoError>
     ensures ok { IfOk result
         (λ answer. answer_of answer
-        ≡ by_last_set (inquiry_of asked.entry inner.now.records) aname.now last.now) }
+        ≡ by_last_set (inquiry_of S.signature_of asked.entry inner.now) aname.now last.now) }
     ensures err { IsOkUnless result ProtoError.Memory }
 {
     match run_target(last, asked.record_type)? {
         Some(target) => at_last_target(inner, asked, &target),
-        None => by_addresses(asked.record_type, aname, last),
+        None => by_addresses(inner, asked, aname, last),
     }
 }
 
 /// What an ANAME set stands for by a last set that leads nowhere.
-fn by_addresses(
-    record_type: RecordType,
+fn by_addresses<S: Signer>(
+    inner: &InnerInMemory<S>,
+    asked: Asked<'_>,
     aname: &RecordSet,
     last: &RecordSet,
 ) -> Result<StandInAnswer, ProtoError>
     ensures ok { IfOk result
-        (λ answer. answer_of answer ≡ by_addresses record_type.0 aname.now last.now) }
+        (λ answer. answer_of answer
+        ≡ by_addresses (inquiry_of S.signature_of asked.entry inner.now) aname.now last.now) }
     ensures err { IsOkUnless result ProtoError.Memory }
 {
+    let record_type = asked.record_type;
     if last.record_type() != record_type {
         return Ok(StandInAnswer::Untold);
     }
-    let addresses = unsigned_flattened(aname, record_type, last)?;
+    let options = LookupOptions {
+        dnssec_ok: asked.signed,
+    };
+    let signers = inner.signers();
+    let addresses = flattened(aname, record_type, last, signers, options, asked.moment)?;
     Ok(StandInAnswer::Addresses(addresses))
 }
 
@@ -174,7 +201,7 @@ fn at_last_target<S: Signer>(
 ) -> Result<StandInAnswer, ProtoError>
     ensures ok { IfOk result
         (λ answer. answer_of answer
-        ≡ at_last_target (inquiry_of asked.entry inner.now.records) target.now) }
+        ≡ at_last_target (inquiry_of S.signature_of asked.entry inner.now) target.now) }
     ensures err { IsOkUnless result ProtoError.Memory }
 {
     if !is_at_or_above(asked.origin, target) {

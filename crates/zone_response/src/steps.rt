@@ -37,6 +37,8 @@ pub(crate) struct Asked<'z> {
     pub(crate) signed: bool,
     /// Whether what is said has to be proved: the query asks for DNSSEC, and the zone has denials.
     pub(crate) is_proved: bool,
+    /// The moment, in seconds since 1970.
+    pub(crate) moment: u64,
 }
 
 /// A name of the zone without the set that is asked for.
@@ -98,8 +100,8 @@ pub(crate) fn step<'z, S: Signer>(
     requires { StandsAt inner.now.records asked.origin.now SOA DNAME apex }
     ensures ok { IfOk result
         (λ next. Takes
-        (step (inquiry_of asked.entry inner.now.records) (sent_sets so_far.old.answers) name.now)
-        so_far.old so_far.new next) }
+        (step (inquiry_of S.signature_of asked.entry inner.now) (sent_sets so_far.old.answers)
+        name.now) so_far.old so_far.new next) }
     ensures err { IsOkUnless result LookupError.Memory }
 {
     if !is_at_or_above(asked.origin, name) {
@@ -122,8 +124,8 @@ fn own_step<'z, S: Signer>(
     requires { is_at_or_above asked.origin.now name.now ≡ true }
     ensures ok { IfOk result
         (λ next. Takes
-        (turned_step (inquiry_of asked.entry inner.now.records) (sent_sets so_far.old.answers)
-        name.now
+        (turned_step (inquiry_of S.signature_of asked.entry inner.now)
+        (sent_sets so_far.old.answers) name.now
         (turn_at asked.entry.origin.now inner.now.records name.now asked.entry.record_type.0
         name.now)) so_far.old so_far.new next) }
     ensures err { IsOkUnless result LookupError.Memory }
@@ -176,7 +178,8 @@ fn new_name_step<'z>(
         return Ok(Next::Ends(End::TooLong));
     };
     let next = after_renaming(asked.record_type, &new)?;
-    send_made(&mut so_far.answers, made_alias(dname, name, new)?)?;
+    let alias = made_alias(dname, name, new)?;
+    send_made(&mut so_far.answers, alias, Part::Records)?;
     Ok(next)
 }
 
@@ -204,7 +207,7 @@ fn name_step<'z, S: Signer>(
     requires least { key.record_type.0 ≡ 0 }
     requires here { StandsAt inner.now.records key.name asked.record_type.0 CNAME here }
     ensures ok { IfOk result
-        (λ next. Takes (name_step (inquiry_of asked.entry inner.now.records) name.now)
+        (λ next. Takes (name_step (inquiry_of S.signature_of asked.entry inner.now) name.now)
         so_far.old so_far.new next) }
     ensures err { IsOkUnless result LookupError.Memory }
 {
@@ -226,7 +229,7 @@ fn star_step<'z, S: Signer>(
     so_far: &mut SoFar<'z>,
 ) -> Result<Next<'z>, LookupError>
     ensures ok { IfOk result
-        (λ next. Takes (star_step (inquiry_of asked.entry inner.now.records) name.now star)
+        (λ next. Takes (star_step (inquiry_of S.signature_of asked.entry inner.now) name.now star)
         so_far.old so_far.new next) }
     ensures err { IsOkUnless result LookupError.Memory }
 {
@@ -253,7 +256,7 @@ fn node_step<'z, S: Signer>(
 ) -> Result<Next<'z>, LookupError>
     ensures ok { IfOk result
         (λ next. Takes
-        (node_step (inquiry_of asked.entry inner.now.records) star name.now
+        (node_step (inquiry_of S.signature_of asked.entry inner.now) star name.now
         (node_of node.entry)) so_far.old so_far.new next) }
     ensures err { IsOkUnless result LookupError.Memory }
 {

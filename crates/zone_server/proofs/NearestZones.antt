@@ -6,6 +6,8 @@ use Rattle.std.proofs.lemmas.List.{get_or-map, length-map, map_more}
 use Rattle.std.proofs.lemmas.List.Folds.{list_any_at}
 use Rattle.std.proofs.lemmas.List.Elements.{All-append, All-cons, All-nil, All-push, All-same, All-weaker}
 use Rattle.zone_proto.specs.Names.{Name, is_above}
+use Rattle.zone_proto.specs.declared.rdata.signing.RRSIG.{RRSIG}
+use Rattle.zone_proto.specs.Signing.{SignedPart}
 use Rattle.zone_response.specs.Queries.{Zone, zone_of}
 use Rattle.zone_response.specs.declared.question.ServedZone.{ServedZone}
 use Rattle.zone_server.specs.ServedZones.{has_parent, is_longer, IsNearest, IsNearestIfAny}
@@ -82,30 +84,30 @@ module _ (may : Zone → Bool) where
 
 -- ---- a pass over the zones that are served
 
-module _ {S H : Type 0} (digest_of : H → ℕ → List ℕ → Name → ℕ → Option (List ℕ)) (may : Zone → Bool) (zones : List (ServedZone S H)) (i : ℕ) (z : ServedZone S H) (o n : Option Zone) where
-  passed : i < length zones → z ≡ get_or zones i z → map (zone_of {S = S} {H = H} digest_of) (take (i + 1) zones) ≡ map (zone_of {S = S} {H = H} digest_of) (take i zones) ++ zone_of digest_of z ∷ []
+module _ {S H : Type 0} (signature_of : S → SignedPart → ℕ → ℕ → Option RRSIG) (digest_of : H → ℕ → List ℕ → Name → ℕ → Option (List ℕ)) (may : Zone → Bool) (zones : List (ServedZone S H)) (i : ℕ) (z : ServedZone S H) (o n : Option Zone) where
+  passed : i < length zones → z ≡ get_or zones i z → map (zone_of {S = S} {H = H} signature_of digest_of) (take (i + 1) zones) ≡ map (zone_of {S = S} {H = H} signature_of digest_of) (take i zones) ++ zone_of signature_of digest_of z ∷ []
   passed within here =
-      map_more (zone_of {S = S} {H = H} digest_of) zones i z within ∙ ap (λ (y : ServedZone S H). map (zone_of {S = S} {H = H} digest_of) (take i zones) ++ zone_of digest_of y ∷ []) (sym here)
+      map_more (zone_of {S = S} {H = H} signature_of digest_of) zones i z within ∙ ap (λ (y : ServedZone S H). map (zone_of {S = S} {H = H} signature_of digest_of) (take i zones) ++ zone_of signature_of digest_of y ∷ []) (sym here)
 
-  pub one_more_taken : (b : Bool) → i < length zones → z ≡ get_or zones i z → b ≡ (may (zone_of digest_of z) && is_longer (zone_of digest_of z) o) → b ≡ true → n ≡ Some (zone_of digest_of z)
-      → IsNearestIfAny may (map (zone_of {S = S} {H = H} digest_of) (take i zones)) o → IsNearestIfAny may (map (zone_of {S = S} {H = H} digest_of) (take (i + 1) zones)) n
+  pub one_more_taken : (b : Bool) → i < length zones → z ≡ get_or zones i z → b ≡ (may (zone_of signature_of digest_of z) && is_longer (zone_of signature_of digest_of z) o) → b ≡ true → n ≡ Some (zone_of signature_of digest_of z)
+      → IsNearestIfAny may (map (zone_of {S = S} {H = H} signature_of digest_of) (take i zones)) o → IsNearestIfAny may (map (zone_of {S = S} {H = H} signature_of digest_of) (take (i + 1) zones)) n
   one_more_taken b within here test e is h =
       let P : List Zone → Type 0 = λ zs. IsNearestIfAny may zs n in
-      let Q : Option Zone → Type 0 = λ m. IsNearestIfAny may (map (zone_of {S = S} {H = H} digest_of) (take i zones) ++ zone_of digest_of z ∷ []) m in
-      subst P (sym (passed within here)) (subst Q (sym is) (nearer may (map (zone_of {S = S} {H = H} digest_of) (take i zones)) o (zone_of digest_of z) (sym test ∙ e) h))
+      let Q : Option Zone → Type 0 = λ m. IsNearestIfAny may (map (zone_of {S = S} {H = H} signature_of digest_of) (take i zones) ++ zone_of signature_of digest_of z ∷ []) m in
+      subst P (sym (passed within here)) (subst Q (sym is) (nearer may (map (zone_of {S = S} {H = H} signature_of digest_of) (take i zones)) o (zone_of signature_of digest_of z) (sym test ∙ e) h))
 
-  pub one_more_left : (b : Bool) → i < length zones → z ≡ get_or zones i z → b ≡ (may (zone_of digest_of z) && is_longer (zone_of digest_of z) o) → b ≡ false → n ≡ o
-      → IsNearestIfAny may (map (zone_of {S = S} {H = H} digest_of) (take i zones)) o → IsNearestIfAny may (map (zone_of {S = S} {H = H} digest_of) (take (i + 1) zones)) n
+  pub one_more_left : (b : Bool) → i < length zones → z ≡ get_or zones i z → b ≡ (may (zone_of signature_of digest_of z) && is_longer (zone_of signature_of digest_of z) o) → b ≡ false → n ≡ o
+      → IsNearestIfAny may (map (zone_of {S = S} {H = H} signature_of digest_of) (take i zones)) o → IsNearestIfAny may (map (zone_of {S = S} {H = H} signature_of digest_of) (take (i + 1) zones)) n
   one_more_left b within here test e is h =
       let P : List Zone → Type 0 = λ zs. IsNearestIfAny may zs n in
-      let Q : Option Zone → Type 0 = λ m. IsNearestIfAny may (map (zone_of {S = S} {H = H} digest_of) (take i zones) ++ zone_of digest_of z ∷ []) m in
-      subst P (sym (passed within here)) (subst Q (sym is) (no_nearer may (map (zone_of {S = S} {H = H} digest_of) (take i zones)) o (zone_of digest_of z) (sym test ∙ e) h))
+      let Q : Option Zone → Type 0 = λ m. IsNearestIfAny may (map (zone_of {S = S} {H = H} signature_of digest_of) (take i zones) ++ zone_of signature_of digest_of z ∷ []) m in
+      subst P (sym (passed within here)) (subst Q (sym is) (no_nearer may (map (zone_of {S = S} {H = H} signature_of digest_of) (take i zones)) o (zone_of signature_of digest_of z) (sym test ∙ e) h))
 
 -- ---- a zone above a name
 
-pub begins_above : {S H : Type 0} (digest_of : H → ℕ → List ℕ → Name → ℕ → Option (List ℕ)) (zones : List (ServedZone S H)) (x : Name) (i : ℕ) (z : ServedZone S H) (b : Bool) → i < length zones → z ≡ get_or zones i z
-    → b ≡ is_above z.origin.now x → b ≡ true → true ≡ has_parent (map (zone_of {S = S} {H = H} digest_of) zones) x
-begins_above {S} {H} digest_of zones x i z b within here test above =
-    let there : get_or (map (zone_of {S = S} {H = H} digest_of) zones) i (zone_of digest_of z) ≡ zone_of digest_of z = get_or-map (zone_of {S = S} {H = H} digest_of) zones i z (zone_of digest_of z) within ∙ ap (zone_of {S = S} {H = H} digest_of) (sym here) in
-    sym (list_any_at (λ (y : Zone). is_above y.origin x) (map (zone_of {S = S} {H = H} digest_of) zones) i (zone_of digest_of z)
-    (omega (arith, within, length-map zones (zone_of {S = S} {H = H} digest_of))) (ap (λ (y : Zone). is_above y.origin x) there ∙ (sym test ∙ above)))
+pub begins_above : {S H : Type 0} (signature_of : S → SignedPart → ℕ → ℕ → Option RRSIG) (digest_of : H → ℕ → List ℕ → Name → ℕ → Option (List ℕ)) (zones : List (ServedZone S H)) (x : Name) (i : ℕ) (z : ServedZone S H) (b : Bool) → i < length zones → z ≡ get_or zones i z
+    → b ≡ is_above z.origin.now x → b ≡ true → true ≡ has_parent (map (zone_of {S = S} {H = H} signature_of digest_of) zones) x
+begins_above {S} {H} signature_of digest_of zones x i z b within here test above =
+    let there : get_or (map (zone_of {S = S} {H = H} signature_of digest_of) zones) i (zone_of signature_of digest_of z) ≡ zone_of signature_of digest_of z = get_or-map (zone_of {S = S} {H = H} signature_of digest_of) zones i z (zone_of signature_of digest_of z) within ∙ ap (zone_of {S = S} {H = H} signature_of digest_of) (sym here) in
+    sym (list_any_at (λ (y : Zone). is_above y.origin x) (map (zone_of {S = S} {H = H} signature_of digest_of) zones) i (zone_of signature_of digest_of z)
+    (omega (arith, within, length-map zones (zone_of {S = S} {H = H} signature_of digest_of))) (ap (λ (y : Zone). is_above y.origin x) there ∙ (sym test ∙ above)))

@@ -4,6 +4,8 @@ use Rattle.std.specs.Prelude.{Option, Some}
 use Rattle.std.specs.Ordering.{eq_by_cmp}
 use Rattle.std.proofs.lemmas.List.{drop_more}
 use Rattle.zone_proto.specs.Names.{Name, name_cmp, name_eq}
+use Rattle.zone_proto.specs.declared.rdata.signing.RRSIG.{RRSIG}
+use Rattle.zone_proto.specs.Signing.{SignedPart}
 use Rattle.zone_handler.specs.declared.axfr_policy.AxfrPolicy.{AxfrPolicy}
 use Rattle.zone_denial.proofs.Chain.DenialLists.{same_by_order}
 use Rattle.zone_response.specs.Queries.{Zone, zone_of}
@@ -17,21 +19,21 @@ first_or : (z : Zone) (zs : List Zone) (ps : List AxfrPolicy) (x : Name) (b : Bo
 first_or z zs [] x b e = ap (λ c. cond c (Some (z, (first_policy []).0)) (zone_at zs [] x)) e
 first_or z zs (p ∷ ps) x b e = ap (λ c. cond c (Some (z, p)) (zone_at zs ps x)) e
 
-module _ {S H : Type 0} (digest_of : H → ℕ → List ℕ → Name → ℕ → Option (List ℕ)) (zones : List (ServedZone S H)) (i : ℕ) (z : ServedZone S H) (left : List AxfrPolicy) (x : Name) where
-  at_front : i < length zones → z ≡ get_or zones i z → map (zone_of {S = S} {H = H} digest_of) (drop i zones) ≡ zone_of digest_of z ∷ map (zone_of {S = S} {H = H} digest_of) (drop (i + 1) zones)
+module _ {S H : Type 0} (signature_of : S → SignedPart → ℕ → ℕ → Option RRSIG) (digest_of : H → ℕ → List ℕ → Name → ℕ → Option (List ℕ)) (zones : List (ServedZone S H)) (i : ℕ) (z : ServedZone S H) (left : List AxfrPolicy) (x : Name) where
+  at_front : i < length zones → z ≡ get_or zones i z → map (zone_of {S = S} {H = H} signature_of digest_of) (drop i zones) ≡ zone_of signature_of digest_of z ∷ map (zone_of {S = S} {H = H} signature_of digest_of) (drop (i + 1) zones)
   at_front within here =
-      ap (map (zone_of {S = S} {H = H} digest_of)) (drop_more zones i z within)
-      ∙ ap (λ (y : ServedZone S H). zone_of digest_of y ∷ map (zone_of {S = S} {H = H} digest_of) (drop (i + 1) zones)) (sym here)
+      ap (map (zone_of {S = S} {H = H} signature_of digest_of)) (drop_more zones i z within)
+      ∙ ap (λ (y : ServedZone S H). zone_of signature_of digest_of y ∷ map (zone_of {S = S} {H = H} signature_of digest_of) (drop (i + 1) zones)) (sym here)
 
   same : (b : Bool) → b ≡ eq_by_cmp name_cmp z.origin.now x → name_eq z.origin.now x ≡ b
   same b e = sym (same_by_order z.origin.now x) ∙ sym e
 
   pub zone_here : (b : Bool) → i < length zones → z ≡ get_or zones i z → b ≡ eq_by_cmp name_cmp z.origin.now x → b ≡ true
-      → zone_at (map (zone_of {S = S} {H = H} digest_of) (drop i zones)) left x ≡ Some (zone_of digest_of z, (first_policy left).0)
+      → zone_at (map (zone_of {S = S} {H = H} signature_of digest_of) (drop i zones)) left x ≡ Some (zone_of signature_of digest_of z, (first_policy left).0)
   zone_here b within here test is =
-      ap (λ zs. zone_at zs left x) (at_front within here) ∙ first_or (zone_of digest_of z) _ left x true (same b test ∙ is)
+      ap (λ zs. zone_at zs left x) (at_front within here) ∙ first_or (zone_of signature_of digest_of z) _ left x true (same b test ∙ is)
 
   pub zone_later : (b : Bool) → i < length zones → z ≡ get_or zones i z → b ≡ eq_by_cmp name_cmp z.origin.now x → b ≡ false
-      → zone_at (map (zone_of {S = S} {H = H} digest_of) (drop i zones)) left x ≡ zone_at (map (zone_of {S = S} {H = H} digest_of) (drop (i + 1) zones)) (first_policy left).1 x
+      → zone_at (map (zone_of {S = S} {H = H} signature_of digest_of) (drop i zones)) left x ≡ zone_at (map (zone_of {S = S} {H = H} signature_of digest_of) (drop (i + 1) zones)) (first_policy left).1 x
   zone_later b within here test is =
-      ap (λ zs. zone_at zs left x) (at_front within here) ∙ first_or (zone_of digest_of z) _ left x false (same b test ∙ is)
+      ap (λ zs. zone_at zs left x) (at_front within here) ∙ first_or (zone_of signature_of digest_of z) _ left x false (same b test ∙ is)

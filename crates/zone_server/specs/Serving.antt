@@ -7,6 +7,8 @@ use Rattle.zone_message.specs.declared.query.Query.{Query as ReadQuery}
 use Rattle.zone_message.specs.Queries.{query_of}
 use Rattle.zone_handler.specs.declared.axfr_policy.AxfrPolicy.{AxfrPolicy}
 use Rattle.zone_proto.specs.Names.{Name}
+use Rattle.zone_proto.specs.declared.rdata.signing.RRSIG.{RRSIG}
+use Rattle.zone_proto.specs.Signing.{SignedPart}
 use Rattle.zone_response.specs.Queries.{Zone, zone_of}
 use Rattle.zone_server.specs.declared.frames.Mode.{Mode}
 use Rattle.zone_server.specs.declared.server.Server.{Server}
@@ -86,5 +88,5 @@ pub record TakesFrames (s : Served) (mode : Mode) (octets left waited waiting : 
 
 -- ---- as the program keeps it
 
-abbrev pub served_of : {S H : Type 0} → (H → ℕ → List ℕ → Name → ℕ → Option (List ℕ)) → Server S H → Served
-served_of digest_of s = record { zones = map (zone_of digest_of) s.zones.now; policies = s.policies.now }
+abbrev pub served_of : {S H : Type 0} → (S → SignedPart → ℕ → ℕ → Option RRSIG) → (H → ℕ → List ℕ → Name → ℕ → Option (List ℕ)) → Server S H → Served
+served_of signature_of digest_of s = record { zones = map (zone_of signature_of digest_of) s.zones.now; policies = s.policies.now }

@@ -56,7 +56,8 @@ pub fn answer<S: Signer, H: Nsec3Hash>(
     out: &mut Vec<u8>,
 ) -> Result<Answered, AllocError>
     ensures answer { OnOk result
-        (IsAnswer (map (zone_of H.digest_of) zones.now) transport message.now out.new.items) }
+        (IsAnswer (map (zone_of S.signature_of H.digest_of) zones.now) transport message.now
+        out.new.items) }
     ensures told { IfOk result (λ told. Tells told out.new.items) }
     ensures short { OnOk result (length out.new.items < 65536) }
 {
@@ -74,7 +75,8 @@ pub(crate) fn answer_read<S: Signer, H: Nsec3Hash>(
 ) -> Result<Answered, AllocError>
     requires { HasOpcode read }
     ensures answer { OnOk result
-        (IsAnswerTo (map (zone_of H.digest_of) zones.now) transport read out.new.items) }
+        (IsAnswerTo (map (zone_of S.signature_of H.digest_of) zones.now) transport read
+        out.new.items) }
     ensures told { IfOk result (λ told. Tells told out.new.items) }
     ensures short { OnOk result (length out.new.items < 65536) }
 {
@@ -128,7 +130,7 @@ fn answer_query<S: Signer, H: Nsec3Hash>(
     transport: Transport,
     out: &mut Vec<u8>,
 ) -> Result<Answered, AllocError>
-    ensures answer { OnOk result (IsResponseTo (map (zone_of H.digest_of) zones.now)
+    ensures answer { OnOk result (IsResponseTo (map (zone_of S.signature_of H.digest_of) zones.now)
         (limit_for transport query.now.extension) query.now out.new.items) }
     ensures told { IfOk result (λ told. Tells told out.new.items) }
     ensures short { OnOk result (length out.new.items < 65536) }
@@ -148,7 +150,8 @@ fn send_response<S: Signer, H: Nsec3Hash>(
 ) -> Result<(), AllocError>
     requires { 512 ≤ limit }
     ensures { OnOk result
-        (IsResponseTo (map (zone_of H.digest_of) zones.now) limit query.now out.new.items) }
+        (IsResponseTo (map (zone_of S.signature_of H.digest_of) zones.now) limit query.now
+        out.new.items) }
 {
     let Ok(name) = LowerName::new(&query.question.name) else {
         return Err(AllocError);
@@ -172,13 +175,15 @@ fn send_response<S: Signer, H: Nsec3Hash>(
 
 /// The same zone.
 fn lent<'z, S: Signer, H: Nsec3Hash>(zone: &ServedZone<'z, S, H>) -> ServedZone<'z, S, H>
-    ensures { zone_of H.digest_of result ≡ zone_of H.digest_of zone.now }
+    ensures { zone_of S.signature_of H.digest_of result
+        ≡ zone_of S.signature_of H.digest_of zone.now }
 {
     ServedZone {
         origin: zone.origin,
         inner: zone.inner,
         nx_proof_kind: zone.nx_proof_kind,
         hash: zone.hash,
+        moment: zone.moment,
     }
 }
 

@@ -47,7 +47,7 @@ pub fn serve_frames<S: Signer, H: Nsec3Hash, R: Read, W: Write>(
     input: &mut R,
     output: &mut W,
 ) -> Result<(), Stop>
-    ensures { OnOk result (Serves (served_of H.digest_of server.now) mode
+    ensures { OnOk result (Serves (served_of S.signature_of H.digest_of server.now) mode
         (R.remaining input.old) (R.remaining input.new)
         (W.contents output.old) (W.contents output.new)) }
 {
@@ -65,7 +65,7 @@ fn serve_in_chunks<S: Signer, H: Nsec3Hash, R: Read, W: Write>(
     chunk: &mut [u8],
 ) -> Result<(), Stop>
     requires { 0 < length chunk.old }
-    ensures { OnOk result (Serves (served_of H.digest_of server.now) mode
+    ensures { OnOk result (Serves (served_of S.signature_of H.digest_of server.now) mode
         (R.remaining input.old) (R.remaining input.new)
         (W.contents output.old) (W.contents output.new)) }
 {
@@ -92,7 +92,7 @@ fn serve_waiting<S: Signer, H: Nsec3Hash, W: Write>(
     output: &mut W,
 ) -> Result<(), Stop>
     requires { answers.old.items ≡ [] }
-    ensures taken { OnOk result (TakesFrames (served_of H.digest_of server.now) mode
+    ensures taken { OnOk result (TakesFrames (served_of S.signature_of H.digest_of server.now) mode
         waiting.old.items waiting.new.items [] []
         (W.contents output.old) (W.contents output.new)) }
     ensures no_more { OnOk result (frame_of mode waiting.new.items ≡ None) }
@@ -116,8 +116,9 @@ fn answer_frames<'o, S: Signer, H: Nsec3Hash, W: Write>(
     answers: &mut Vec<u8>,
     output: &mut W,
 ) -> Result<&'o [u8], Stop>
-    ensures taken { IfOk result (λ left. TakesFrames (served_of H.digest_of server.now) mode
-        octets.now left.now answers.old.items answers.new.items
+    ensures taken { IfOk result
+        (λ left. TakesFrames (served_of S.signature_of H.digest_of server.now) mode octets.now
+        left.now answers.old.items answers.new.items
         (W.contents output.old) (W.contents output.new)) }
     ensures no_more { IfOk result (λ left. frame_of mode left.now ≡ None) }
 {
@@ -140,7 +141,7 @@ fn answer_frame<S: Signer, H: Nsec3Hash, W: Write>(
     output: &mut W,
 ) -> Result<(), Stop>
     ensures { OnOk result
-        (Puts (Answers (served_of H.digest_of server.now) (framed_of frame.entry))
+        (Puts (Answers (served_of S.signature_of H.digest_of server.now) (framed_of frame.entry))
         answers.old.items answers.new.items
         (W.contents output.old) (W.contents output.new)) }
 {
@@ -162,8 +163,8 @@ fn answer_query<S: Signer, H: Nsec3Hash, W: Write>(
 ) -> Result<(), Stop>
     requires { query_of frame.message.now ≡ Ok query }
     ensures { OnOk result
-        (Puts (AnswersQuery (served_of H.digest_of server.now) (framed_of frame.entry) query)
-        answers.old.items answers.new.items
+        (Puts (AnswersQuery (served_of S.signature_of H.digest_of server.now)
+        (framed_of frame.entry) query) answers.old.items answers.new.items
         (W.contents output.old) (W.contents output.new)) }
 {
     if asks_for_transfer(frame.transport, &query) {
@@ -184,8 +185,8 @@ fn answer_once<S: Signer, H: Nsec3Hash, W: Write>(
 ) -> Result<(), Stop>
     requires { ReadsQuery read (query_of frame.message.now) }
     ensures answer { OnOk result
-        (Puts (IsOneAnswer (served_of H.digest_of server.now) (framed_of frame.entry))
-        answers.old.items answers.new.items
+        (Puts (IsOneAnswer (served_of S.signature_of H.digest_of server.now)
+        (framed_of frame.entry)) answers.old.items answers.new.items
         (W.contents output.old) (W.contents output.new)) }
     ensures read { OnOk result (query_of frame.entry.message.now ≡ read) }
 {

@@ -68,8 +68,8 @@ pub(crate) fn reply_to<'z, S: Signer, H: Nsec3Hash>(
     query: &Query,
 ) -> Result<TransferReply<'z>, AllocError>
     ensures reply { IfOk result (λ reply. reply_kept reply
-        ≡ reply_to (map (zone_of H.digest_of) zones.now) policies.now transport message.now
-        query.now) }
+        ≡ reply_to (map (zone_of S.signature_of H.digest_of) zones.now) policies.now transport
+        message.now query.now) }
     ensures code { IfOk result HasSmallCode }
 {
     match zone_asked(zones, policies, query)? {
@@ -89,8 +89,9 @@ fn zone_asked<'s, 'z, S: Signer, H: Nsec3Hash>(
     policies: &[AxfrPolicy],
     query: &Query,
 ) -> Result<Option<(&'s ServedZone<'z, S, H>, AxfrPolicy)>, AllocError>
-    ensures { IfOk result (λ asked. option_map (λ x. (zone_of H.digest_of x.0.now, x.1)) asked
-        ≡ zone_asked (map (zone_of H.digest_of) zones.now) policies.now query.now) }
+    ensures { IfOk result
+        (λ asked. option_map (λ x. (zone_of S.signature_of H.digest_of x.0.now, x.1)) asked
+        ≡ zone_asked (map (zone_of S.signature_of H.digest_of) zones.now) policies.now query.now) }
 {
     if query.question.query_class != DNSClass::IN {
         return Ok(None);
@@ -107,8 +108,8 @@ fn zone_at<'s, 'z, S: Signer, H: Nsec3Hash>(
     policies: &[AxfrPolicy],
     origin: &LowerName,
 ) -> Option<(&'s ServedZone<'z, S, H>, AxfrPolicy)>
-    ensures { option_map (λ x. (zone_of H.digest_of x.0.now, x.1)) result
-        ≡ zone_at (map (zone_of H.digest_of) zones.now) policies.now origin.now }
+    ensures { option_map (λ x. (zone_of S.signature_of H.digest_of x.0.now, x.1)) result
+        ≡ zone_at (map (zone_of S.signature_of H.digest_of) zones.now) policies.now origin.now }
 {
     let mut left = policies;
     for zone in zones {

@@ -29,7 +29,7 @@ pub(crate) fn answer_transfer<S: Signer, H: Nsec3Hash, W: Write>(
     output: &mut W,
 ) -> Result<(), Stop>
     ensures { OnOk result (Puts (Replies frame.entry.transport query.now
-        (reply_to (served_of H.digest_of server.now).zones server.now.policies.now
+        (reply_to (served_of S.signature_of H.digest_of server.now).zones server.now.policies.now
         frame.entry.transport frame.entry.message.now query.now))
         answers.old.items answers.new.items
         (W.contents output.old) (W.contents output.new)) }

@@ -13,9 +13,9 @@ pub(crate) fn zone_for<'s, 'z, S: Signer, H: Nsec3Hash>(
     zones: &'s [ServedZone<'z, S, H>],
     question: Question<'_>,
 ) -> Option<&'s ServedZone<'z, S, H>>
-    ensures { IsAnswering (map (zone_of H.digest_of) zones.now) question.entry.name.now
-        question.entry.query_type.0
-        (option_map (λ z. zone_of H.digest_of z.now) result) }
+    ensures { IsAnswering (map (zone_of S.signature_of H.digest_of) zones.now)
+        question.entry.name.now question.entry.query_type.0
+        (option_map (λ z. zone_of S.signature_of H.digest_of z.now) result) }
 {
     let above = is_parents(zones, question);
     let mut nearest: Option<&'s ServedZone<'z, S, H>> = None;
@@ -34,9 +34,9 @@ fn is_nearer<S: Signer, H: Nsec3Hash>(
     name: &LowerName,
     above: bool,
 ) -> bool
-    ensures { result ≡ may_answer_for above name.now (zone_of H.digest_of zone.now)
-        && is_longer (zone_of H.digest_of zone.now)
-        (option_map (λ z. zone_of H.digest_of z.now) other.entry) }
+    ensures { result ≡ may_answer_for above name.now (zone_of S.signature_of H.digest_of zone.now)
+        && is_longer (zone_of S.signature_of H.digest_of zone.now)
+        (option_map (λ z. zone_of S.signature_of H.digest_of z.now) other.entry) }
 {
     may_answer(zone, name, above) && is_longer(zone, other)
 }
@@ -47,7 +47,7 @@ fn is_parents<S: Signer, H: Nsec3Hash>(
     question: Question<'_>,
 ) -> bool
     ensures { result
-        ≡ is_parents (map (zone_of H.digest_of) zones.now) question.entry.name.now
+        ≡ is_parents (map (zone_of S.signature_of H.digest_of) zones.now) question.entry.name.now
         question.entry.query_type.0 }
 {
     question.query_type == RecordType::DS && has_parent(zones, question.name)
@@ -55,7 +55,7 @@ fn is_parents<S: Signer, H: Nsec3Hash>(
 
 /// Whether a zone begins above a name.
 fn has_parent<S: Signer, H: Nsec3Hash>(zones: &[ServedZone<'_, S, H>], name: &LowerName) -> bool
-    ensures { result ≡ has_parent (map (zone_of H.digest_of) zones.now) name.now }
+    ensures { result ≡ has_parent (map (zone_of S.signature_of H.digest_of) zones.now) name.now }
 {
     for zone in zones {
         if is_above(zone.origin, name) {
@@ -78,7 +78,7 @@ fn may_answer<S: Signer, H: Nsec3Hash>(
     name: &LowerName,
     above: bool,
 ) -> bool
-    ensures { result ≡ may_answer_for above name.now (zone_of H.digest_of zone.now) }
+    ensures { result ≡ may_answer_for above name.now (zone_of S.signature_of H.digest_of zone.now) }
 {
     if above {
         is_above(zone.origin, name)
@@ -93,8 +93,8 @@ fn is_longer<S: Signer, H: Nsec3Hash>(
     other: Option<&ServedZone<'_, S, H>>,
 ) -> bool
     ensures { result
-        ≡ is_longer (zone_of H.digest_of zone.now)
-        (option_map (λ z. zone_of H.digest_of z.now) other.entry) }
+        ≡ is_longer (zone_of S.signature_of H.digest_of zone.now)
+        (option_map (λ z. zone_of S.signature_of H.digest_of z.now) other.entry) }
 {
     match other {
         None => true,

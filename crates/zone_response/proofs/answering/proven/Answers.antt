@@ -12,14 +12,14 @@ use Rattle.zone_response.proofs.answering.proven.Goals as goal
 
 pub returns-in-Ok-clause-response : goal.returns-in-Ok-clause-response
 returns-in-Ok-clause-response g c =
-    let z = zone_of g.H.Nsec3Hash.digest_of c.args.zone.now in
+    let z = zone_of g.S.Signer.signature_of g.H.Nsec3Hash.digest_of c.args.zone.now in
     let p = c.args.path in
     let given = λ (made : List Name). authority_sets z c.args.asked.signed c.args.soa.now made (end_of p.end) in
-    proven z (inquiry_of c.args.asked z.sets) c.args.soa.now (path_of p) c.by_path.result (sent_sets c.in-Ok.authorities) (sym (ap given c.as_slice.ensures.value) ∙ c.in-Ok.ensures.ok) c.by_path.ensures.response
+    proven z (inquiry_of g.S.Signer.signature_of c.args.asked c.args.zone.now.inner.now) c.args.soa.now (path_of p) c.by_path.result (sent_sets c.in-Ok.authorities) (sym (ap given c.as_slice.ensures.value) ∙ c.in-Ok.ensures.ok) c.by_path.ensures.response
 
 pub returns-in-Err-clause-response : goal.returns-in-Err-clause-response
 returns-in-Err-clause-response g c =
-    let z = zone_of g.H.Nsec3Hash.digest_of c.args.zone.now in
+    let z = zone_of g.S.Signer.signature_of g.H.Nsec3Hash.digest_of c.args.zone.now in
     let p = c.args.path in
     let refused = λ (made : List Name). (c.in-Err.error ≡ Memory) ⊎ IsErr (authority_sets z c.args.asked.signed c.args.soa.now made (end_of p.end)) in
-    unproven z (inquiry_of c.args.asked z.sets) c.args.soa.now (path_of p) c.unproven.result c.in-Err.error (subst refused c.as_slice.ensures.value c.in-Err.ensures.err) c.unproven.ensures.response
+    unproven z (inquiry_of g.S.Signer.signature_of c.args.asked c.args.zone.now.inner.now) c.args.soa.now (path_of p) c.unproven.result c.in-Err.error (subst refused c.as_slice.ensures.value c.in-Err.ensures.err) c.unproven.ensures.response

@@ -5,10 +5,10 @@ use Rattle.zone_response.proofs.answering.respond.Goals as goal
 
 pub returns-in-Some-clause-response : goal.returns-in-Some-clause-response
 returns-in-Some-clause-response g c =
-    refused (zone_of g.H.Nsec3Hash.digest_of c.args.zone) (query_of c.args.question c.args.options.dnssec_ok) c.in-Some.code (sections c.bare.result) c.in-Some.ensures c.bare.ensures
+    refused (zone_of g.S.Signer.signature_of g.H.Nsec3Hash.digest_of c.args.zone) (query_of c.args.question c.args.options.dnssec_ok) c.in-Some.code (sections c.bare.result) c.in-Some.ensures c.bare.ensures
 
 pub returns-in-None-clause-response : goal.returns-in-None-clause-response
 returns-in-None-clause-response g c =
-    let z = zone_of g.H.Nsec3Hash.digest_of c.args.zone in
+    let z = zone_of g.S.Signer.signature_of g.H.Nsec3Hash.digest_of c.args.zone in
     let q = query_of c.args.question c.args.options.dnssec_ok in
     searched z q c.searched.result c.in-None.ensures (inquired z q c.searched.result c.is_proved.result c.is_proved.ensures c.searched.ensures.response)

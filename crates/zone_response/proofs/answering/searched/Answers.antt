@@ -18,10 +18,10 @@ pub returns-in_ok-walk-in-Some-clause-response : goal.returns-in_ok-walk-in-Some
 returns-in_ok-walk-in-Some-clause-response g c =
     let m = c.args.zone.now.inner.now.records in
     let stored : Some c.in-Some.soa.now ≡ set_at m c.args.zone.now.origin.now SOA = ap option_copied (sym c.in-Some.is) ∙ c.in_ok-apex.ensures.ok.one in
-    with_soa (zone_of g.H.Nsec3Hash.digest_of c.args.zone.now) (inquiry_of c.args.asked m) c.args.name.now c.along.result c.in-Some.soa.now (path_of c.in_ok-walk-in-Some.field-0) stored c.in_ok-walk-in-Some.ensures.ok c.along.ensures.response
+    with_soa (zone_of g.S.Signer.signature_of g.H.Nsec3Hash.digest_of c.args.zone.now) (inquiry_of g.S.Signer.signature_of c.args.asked c.args.zone.now.inner.now) c.args.name.now c.along.result c.in-Some.soa.now (path_of c.in_ok-walk-in-Some.field-0) stored c.in_ok-walk-in-Some.ensures.ok c.along.ensures.response
 
 pub returns-in-None-clause-response : goal.returns-in-None-clause-response
 returns-in-None-clause-response g c =
     let m = c.args.zone.now.inner.now.records in
     let stored : None ≡ set_at m c.args.zone.now.origin.now SOA = ap option_copied (sym c.in-None.is) ∙ c.in_ok-apex.ensures.ok.one in
-    without_soa (zone_of g.H.Nsec3Hash.digest_of c.args.zone.now) (inquiry_of c.args.asked m) c.args.name.now (sections c.bare.result) stored c.bare.ensures
+    without_soa (zone_of g.S.Signer.signature_of g.H.Nsec3Hash.digest_of c.args.zone.now) (inquiry_of g.S.Signer.signature_of c.args.asked c.args.zone.now.inner.now) c.args.name.now (sections c.bare.result) stored c.bare.ensures

@@ -14,7 +14,7 @@ use Rattle.zone_response.proofs.denials.denial.Goals as goal
 
 pub returns-in-Some-star-clause-ok : goal.returns-in-Some-star-clause-ok
 returns-in-Some-star-clause-ok g c =
-    let z = zone_of g.H.Nsec3Hash.digest_of c.args.zone.now in
+    let z = zone_of g.S.Signer.signature_of g.H.Nsec3Hash.digest_of c.args.zone.now in
     let x = c.args.name.now in
     let same : query_denial z.digest_of z.origin z.sets c.in-Some.query ≡ denial z x (option_copied c.args.star) =
     absent_by_hash z x z.nx_proof_kind c.in-Some.query c.in-Some-star.field-0.now c.in-Some.ensures ∙ sym (ap (λ s. denial z x (option_copied s)) c.in-Some-star.is) in
@@ -23,7 +23,7 @@ returns-in-Some-star-clause-ok g c =
 
 pub returns-in-Some-star-clause-err : goal.returns-in-Some-star-clause-err
 returns-in-Some-star-clause-err g c =
-    let z = zone_of g.H.Nsec3Hash.digest_of c.args.zone.now in
+    let z = zone_of g.S.Signer.signature_of g.H.Nsec3Hash.digest_of c.args.zone.now in
     let x = c.args.name.now in
     let denied = query_denial z.digest_of z.origin z.sets c.in-Some.query in
     let same : denied ≡ denial z x (option_copied c.args.star) =
@@ -33,7 +33,7 @@ returns-in-Some-star-clause-err g c =
 
 pub returns-in-None-star-clause-ok : goal.returns-in-None-star-clause-ok
 returns-in-None-star-clause-ok g c =
-    let z = zone_of g.H.Nsec3Hash.digest_of c.args.zone.now in
+    let z = zone_of g.S.Signer.signature_of g.H.Nsec3Hash.digest_of c.args.zone.now in
     let x = c.args.name.now in
     let q = c.in-Some.query in
     let same : no_data_proof z.sets (hashed_for z.origin z.digest_of q) q.qname.now ≡ denial z x (option_copied c.args.star) =
@@ -43,7 +43,7 @@ returns-in-None-star-clause-ok g c =
 
 pub returns-in-None-star-clause-err : goal.returns-in-None-star-clause-err
 returns-in-None-star-clause-err g c =
-    let z = zone_of g.H.Nsec3Hash.digest_of c.args.zone.now in
+    let z = zone_of g.S.Signer.signature_of g.H.Nsec3Hash.digest_of c.args.zone.now in
     let x = c.args.name.now in
     let q = c.in-Some.query in
     let proof = no_data_proof z.sets (hashed_for z.origin z.digest_of q) q.qname.now in

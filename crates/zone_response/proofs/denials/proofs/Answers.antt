@@ -11,7 +11,7 @@ use Rattle.zone_response.proofs.denials.proofs.Goals as goal
 
 pub returns-in_err-add_star_proof-clause-err : goal.returns-in_err-add_star_proof-clause-err
 returns-in_err-add_star_proof-clause-err g c =
-    let z = zone_of g.H.Nsec3Hash.digest_of c.args.zone.now in
+    let z = zone_of g.S.Signer.signature_of g.H.Nsec3Hash.digest_of c.args.zone.now in
     let made = c.args.made.now in
     let i = c.loop-name.name-index in
     let sets = Ok (map (λ (b : Bor RRset). b.now) c.loop-name.sets.items) in

@@ -8,5 +8,5 @@ use Rattle.zone_response.proofs.denials.proofs.Given as goal
 -- the sets so far, with those of the names that are left, are all
 abbrev pub invariant-loop-name : goal.invariant-loop-name
 invariant-loop-name g l =
-    fold (with_star_proof (zone_of g.H.Nsec3Hash.digest_of l.zone)) (Ok (map (λ (b : Bor RRset). b.now) l.sets.items)) (drop l.name-index l.made)
-    ≡ fold (with_star_proof (zone_of g.H.Nsec3Hash.digest_of l.zone)) (Ok []) l.made
+    fold (with_star_proof (zone_of g.S.Signer.signature_of g.H.Nsec3Hash.digest_of l.zone)) (Ok (map (λ (b : Bor RRset). b.now) l.sets.items)) (drop l.name-index l.made)
+    ≡ fold (with_star_proof (zone_of g.S.Signer.signature_of g.H.Nsec3Hash.digest_of l.zone)) (Ok []) l.made

@@ -10,14 +10,14 @@ use Rattle.zone_response.proofs.paths.walk.Goals as goal
 
 pub loop-count-init : goal.loop-count-init
 loop-count-init g c =
-    let q = inquiry_of c.args.asked c.args.inner.now.records in
+    let q = inquiry_of g.S.Signer.signature_of c.args.asked c.args.inner.now in
     begins q (sent_sets c.new.result) c.new-2.result.items 8 c.new-seen.result.items c.args.name.now c.in_ok-name.name
     (ap (map sent_set) c.new.ensures.items) c.new-2.ensures.items refl c.new-seen.ensures.items c.in_ok-name.ensures.copy.ok
 
 -- a name that was searched isn't searched again
 pub returns-then-has_name-clause-ok : goal.returns-then-has_name-clause-ok
 returns-then-has_name-clause-ok g c =
-    let q = inquiry_of c.args.asked c.args.inner.now.records in
+    let q = inquiry_of g.S.Signer.signature_of c.args.asked c.args.inner.now in
     let l = c.loop-count in
     let j : ℕ = 8 - (l._count + 1) in
     let more : 8 - l._count ≡ suc j = omega (arith, c.loop-count-test.true) in
@@ -27,7 +27,7 @@ returns-then-has_name-clause-ok g c =
 
 pub loop-count-preserved : goal.loop-count-preserved
 loop-count-preserved g c =
-    let q = inquiry_of c.args.asked c.args.inner.now.records in
+    let q = inquiry_of g.S.Signer.signature_of c.args.asked c.args.inner.now in
     let l = c.loop-count in
     let j : ℕ = 8 - (l._count + 1) in
     let more : 8 - l._count ≡ suc j = omega (arith, c.loop-count-test.true) in
@@ -38,7 +38,7 @@ loop-count-preserved g c =
 
 pub returns-in-Ends-clause-ok : goal.returns-in-Ends-clause-ok
 returns-in-Ends-clause-ok g c =
-    let q = inquiry_of c.args.asked c.args.inner.now.records in
+    let q = inquiry_of g.S.Signer.signature_of c.args.asked c.args.inner.now in
     let l = c.loop-count in
     let j : ℕ = 8 - (l._count + 1) in
     let more : 8 - l._count ≡ suc j = omega (arith, c.loop-count-test.true) in
@@ -51,7 +51,7 @@ returns-in-Ends-clause-ok g c =
 -- no name is left of the eight: what was found is the whole
 pub returns-clause-ok : goal.returns-clause-ok
 returns-clause-ok g c =
-    let q = inquiry_of c.args.asked c.args.inner.now.records in
+    let q = inquiry_of g.S.Signer.signature_of c.args.asked c.args.inner.now in
     let l = c.loop-count in
     (λ i. record { answers = sent_sets (c.ended-2.ensures.answers i); made = (c.ended-2.ensures.made i).items; end = end_of (c.ended-2.ensures.end i) })
     ∙ none_left q (path q c.args.name.now) (sent_sets l.so_far.answers) l.so_far.made.items (8 - l._count) l.seen.items l.name l.invariant

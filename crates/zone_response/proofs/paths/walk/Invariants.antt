@@ -7,5 +7,5 @@ use Rattle.zone_response.proofs.paths.walk.Given as goal
 -- what is left of the path, behind what was found, is the whole
 abbrev pub invariant-loop-count : goal.invariant-loop-count
 invariant-loop-count g l =
-    behind (sent_sets l.so_far.answers) l.so_far.made.items (path_from (inquiry_of l.fn.asked l.inner.records) (8 - l._count) l.seen.items (sent_sets l.so_far.answers) l.name)
-    ≡ path (inquiry_of l.fn.asked l.inner.records) l.fn.name
+    behind (sent_sets l.so_far.answers) l.so_far.made.items (path_from (inquiry_of g.S.Signer.signature_of l.fn.asked l.inner) (8 - l._count) l.seen.items (sent_sets l.so_far.answers) l.name)
+    ≡ path (inquiry_of g.S.Signer.signature_of l.fn.asked l.inner) l.fn.name

@@ -10,7 +10,7 @@ use Rattle.zone_response.proofs.sections.authorities.Goals as goal
 
 pub returns-clause-ok : goal.returns-clause-ok
 returns-clause-ok g c =
-    let z = zone_of g.H.Nsec3Hash.digest_of c.args.zone.now in
+    let z = zone_of g.S.Signer.signature_of g.H.Nsec3Hash.digest_of c.args.zone.now in
     let e = end_of c.args.end.now in
     subst (λ r. IfOk c.authorities_with.result (λ list. r ≡ Ok (sent_sets list)))
     (ap (λ ds. authority_sets_with z ds c.args.signed c.args.soa.now c.args.made.now e) c.in_ok-ds.ensures.ok
@@ -19,7 +19,7 @@ returns-clause-ok g c =
 
 pub returns-clause-err : goal.returns-clause-err
 returns-clause-err g c =
-    let z = zone_of g.H.Nsec3Hash.digest_of c.args.zone.now in
+    let z = zone_of g.S.Signer.signature_of g.H.Nsec3Hash.digest_of c.args.zone.now in
     let e = end_of c.args.end.now in
     subst (λ r. IfErr c.authorities_with.result (λ e. (e ≡ Memory) ⊎ IsErr r))
     (ap (λ ds. authority_sets_with z ds c.args.signed c.args.soa.now c.args.made.now e) c.in_ok-ds.ensures.ok

@@ -7,9 +7,9 @@ use Rattle.zone_response.proofs.stand_ins.by_last_set.Goals as goal
 
 pub returns-in-None-clause-ok : goal.returns-in-None-clause-ok
 returns-in-None-clause-ok g c =
-    let q = inquiry_of c.args.asked c.args.inner.now.records in
+    let q = inquiry_of g.S.Signer.signature_of c.args.asked c.args.inner.now in
     let s = c.args.aname.now in
     let last = c.args.last.now in
-    IfOk-weaker c.by_addresses.result (λ answer. answer_of answer ≡ by_addresses q.record_type s last) (λ answer. answer_of answer ≡ by_last_set q s last)
-    (λ answer e. e ∙ ap (λ o. option_map_or (at_last_target q) o (by_addresses q.record_type s last)) (sym c.in-None.is ∙ c.in_ok-target.ensures.target))
+    IfOk-weaker c.by_addresses.result (λ answer. answer_of answer ≡ by_addresses q s last) (λ answer. answer_of answer ≡ by_last_set q s last)
+    (λ answer e. e ∙ ap (λ o. option_map_or (at_last_target q) o (by_addresses q s last)) (sym c.in-None.is ∙ c.in_ok-target.ensures.target))
     c.by_addresses.ensures.ok

@@ -9,7 +9,7 @@ use Rattle.zone_response.proofs.steps.name_step.Goals as goal
 
 pub returns-then-exists-clause-ok : goal.returns-then-exists-clause-ok
 returns-then-exists-clause-ok g c =
-    let q = inquiry_of c.args.asked c.args.inner.now.records in
+    let q = inquiry_of g.S.Signer.signature_of c.args.asked c.args.inner.now in
     let x = c.args.name.now in
     let there : exists q.sets x ≡ true = sym (ap (exists q.sets) c.requires.name) ∙ sym c.exists.ensures ∙ c.if-exists.true in
     let node = node_of c.in_ok-node.node in
@@ -18,7 +18,7 @@ returns-then-exists-clause-ok g c =
 
 pub returns-clause-ok : goal.returns-clause-ok
 returns-clause-ok g c =
-    let q = inquiry_of c.args.asked c.args.inner.now.records in
+    let q = inquiry_of g.S.Signer.signature_of c.args.asked c.args.inner.now in
     let x = c.args.name.now in
     let absent : exists q.sets x ≡ false = sym (ap (exists q.sets) c.requires.name) ∙ sym c.exists.ensures ∙ c.if-exists.false in
     same_step c.star_step.result c.args.so_far.now c.star_step.new.so_far (name_step q x) (star_step q x c.in_ok-star.star)

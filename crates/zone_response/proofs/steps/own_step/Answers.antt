@@ -14,7 +14,7 @@ use Rattle.zone_response.proofs.steps.own_step.Goals as goal
 pub returns-in-Some-clause-ok : goal.returns-in-Some-clause-ok
 returns-in-Some-clause-ok g c =
     let m = c.args.inner.now.records in
-    let q = inquiry_of c.args.asked m in
+    let q = inquiry_of g.S.Signer.signature_of c.args.asked c.args.inner.now in
     let x = c.args.name.now in
     let before = sent_sets c.args.so_far.now.answers in
     let s = c.in-Some.cut.now in
@@ -25,7 +25,7 @@ returns-in-Some-clause-ok g c =
 pub returns-clause-ok : goal.returns-clause-ok
 returns-clause-ok g c =
     let m = c.args.inner.now.records in
-    let q = inquiry_of c.args.asked m in
+    let q = inquiry_of g.S.Signer.signature_of c.args.asked c.args.inner.now in
     let x = c.args.name.now in
     let before = sent_sets c.args.so_far.now.answers in
     let ns : option_copied c.read_standing-here.result.ns ≡ set_at m x NS = c.read_standing-here.ensures.ns ∙ ap (λ (k : RrKey). set_at m k.name NS) c.in_ok-key.ensures.copy.ok in

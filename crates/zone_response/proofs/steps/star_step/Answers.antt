@@ -10,7 +10,7 @@ use Rattle.zone_response.proofs.steps.star_step.Goals as goal
 
 pub returns-then-not-exists-clause-ok : goal.returns-then-not-exists-clause-ok
 returns-then-not-exists-clause-ok g c =
-    let q = inquiry_of c.args.asked c.args.inner.now.records in
+    let q = inquiry_of g.S.Signer.signature_of c.args.asked c.args.inner.now in
     let x = c.args.name.now in
     let star = c.in-Some.star in
     let absent : exists q.sets star ≡ false = sym (ap (λ (k : RrKey). exists q.sets k.name) c.in_ok-key.ensures.copy.ok) ∙ sym c.exists.ensures ∙ c.if-not-exists.true in
@@ -19,7 +19,7 @@ returns-then-not-exists-clause-ok g c =
 
 pub returns-clause-ok : goal.returns-clause-ok
 returns-clause-ok g c =
-    let q = inquiry_of c.args.asked c.args.inner.now.records in
+    let q = inquiry_of g.S.Signer.signature_of c.args.asked c.args.inner.now in
     let x = c.args.name.now in
     let star = c.in-Some.star in
     let there : exists q.sets star ≡ true = sym (ap (λ (k : RrKey). exists q.sets k.name) c.in_ok-key.ensures.copy.ok) ∙ sym c.exists.ensures ∙ c.if-not-exists.false in

@@ -12,7 +12,7 @@ use Rattle.zone_response.proofs.steps.step.Goals as goal
 
 pub returns-then-not-is_at_or_above-clause-ok : goal.returns-then-not-is_at_or_above-clause-ok
 returns-then-not-is_at_or_above-clause-ok g c =
-    let q = inquiry_of c.args.asked c.args.inner.now.records in
+    let q = inquiry_of g.S.Signer.signature_of c.args.asked c.args.inner.now in
     let x = c.args.name.now in
     let before = sent_sets c.args.so_far.now.answers in
     at_its_end (step q before x) (outside x) c.args.so_far.now _ (outside_step q x before (sym c.is_at_or_above.ensures ∙ c.if-not-is_at_or_above.true))
@@ -20,7 +20,7 @@ returns-then-not-is_at_or_above-clause-ok g c =
 
 pub returns-in-Some-Cut-clause-ok : goal.returns-in-Some-Cut-clause-ok
 returns-in-Some-Cut-clause-ok g c =
-    let q = inquiry_of c.args.asked c.args.inner.now.records in
+    let q = inquiry_of g.S.Signer.signature_of c.args.asked c.args.inner.now in
     let x = c.args.name.now in
     let before = sent_sets c.args.so_far.now.answers in
     let inside : is_at_or_above q.origin x ≡ true = sym c.is_at_or_above.ensures ∙ c.if-not-is_at_or_above.false in
@@ -31,7 +31,7 @@ returns-in-Some-Cut-clause-ok g c =
 
 pub returns-in-None-clause-ok : goal.returns-in-None-clause-ok
 returns-in-None-clause-ok g c =
-    let q = inquiry_of c.args.asked c.args.inner.now.records in
+    let q = inquiry_of g.S.Signer.signature_of c.args.asked c.args.inner.now in
     let x = c.args.name.now in
     let before = sent_sets c.args.so_far.now.answers in
     let inside : is_at_or_above q.origin x ≡ true = sym c.is_at_or_above.ensures ∙ c.if-not-is_at_or_above.false in
@@ -41,7 +41,7 @@ returns-in-None-clause-ok g c =
 
 pub returns-in-Some-Renaming-clause-ok : goal.returns-in-Some-Renaming-clause-ok
 returns-in-Some-Renaming-clause-ok g c =
-    let q = inquiry_of c.args.asked c.args.inner.now.records in
+    let q = inquiry_of g.S.Signer.signature_of c.args.asked c.args.inner.now in
     let x = c.args.name.now in
     let before = sent_sets c.args.so_far.now.answers in
     let inside : is_at_or_above q.origin x ≡ true = sym c.is_at_or_above.ensures ∙ c.if-not-is_at_or_above.false in

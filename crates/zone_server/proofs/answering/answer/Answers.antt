@@ -9,5 +9,5 @@ answer_read-requires g c = read_opcode c.args.message.now c.read_query-read.resu
 
 pub returns-clause-answer : goal.returns-clause-answer
 returns-clause-answer g c =
-    answers_octets (map (zone_of {S = g.row.S.Denot} {H = g.row.H.Denot} g.H.Nsec3Hash.digest_of) c.args.zones.now) c.args.transport c.args.message.now c.read_query-read.result c.answer_read.result
+    answers_octets (map (zone_of {S = g.row.S.Denot} {H = g.row.H.Denot} g.S.Signer.signature_of g.H.Nsec3Hash.digest_of) c.args.zones.now) c.args.transport c.args.message.now c.read_query-read.result c.answer_read.result
     c.answer_read.new.out.items c.read_query-read.ensures c.answer_read.ensures.answer

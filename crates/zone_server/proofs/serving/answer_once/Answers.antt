@@ -10,6 +10,6 @@ answer_read-requires g c = read_opcode c.args.frame.message.now c.args.read c.re
 
 pub returns-clause-read : goal.returns-clause-read
 returns-clause-read g c =
-    let zs = map (zone_of {S = g.row.S.Denot} {H = g.row.H.Denot} g.H.Nsec3Hash.digest_of) c.args.server.now.zones.now in
+    let zs = map (zone_of {S = g.row.S.Denot} {H = g.row.H.Denot} g.S.Signer.signature_of g.H.Nsec3Hash.digest_of) c.args.server.now.zones.now in
     on_ok_weaker c.put_answer.result (λ moved. read_whole zs c.args.frame.transport c.args.frame.message.now c.args.read c.answer_read.new.out.items c.requires
     c.in_ok-answer_read.ensures.answer) c.put_answer.ensures

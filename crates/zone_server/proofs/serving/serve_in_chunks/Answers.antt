@@ -5,7 +5,7 @@ use Rattle.zone_server.proofs.serving.serve_in_chunks.Goals as goal
 
 pub loop-preserved : goal.loop-preserved
 loop-preserved g c =
-    let zs = served_of {S = g.row.S.Denot} {H = g.row.H.Denot} g.H.Nsec3Hash.digest_of c.args.server.now in
+    let zs = served_of {S = g.row.S.Denot} {H = g.row.H.Denot} g.S.Signer.signature_of g.H.Nsec3Hash.digest_of c.args.server.now in
     let read : List ℕ = take c.in_ok-count.count c.read_some.new.buffer in
     let behind : c.extend_from_slice.new.self.items ≡ c.loop.waiting.items ++ read = c.in_ok-extend_from_slice.ensures.items in
     let P : List ℕ → Type 0 = λ o. TakesFrames zs c.args.mode o c.serve_waiting.new.waiting.items [] [] (g.W.Write.contents c.loop.output) (g.W.Write.contents c.serve_waiting.new.output) in

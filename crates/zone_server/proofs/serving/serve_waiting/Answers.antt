@@ -17,7 +17,7 @@ returns-clause-taken g c =
           ∙ kept_whole c.args.mode c.args.waiting.now.items c.as_slice.result.now c.in_ok-left.ensures.taken.frames c.in_ok-left.left.now c.as_slice.ensures.value c.in_ok-left.ensures.taken.stand
           (omega (arith, w.if-left-len.false, c.len.ensures, c.as_slice.ensures.len, ap length c.as_slice.ensures.value))
     ] in
-    waiting_served (served_of {S = g.row.S.Denot} {H = g.row.H.Denot} g.H.Nsec3Hash.digest_of c.args.server.now) c.args.mode c.args.waiting.now.items c.as_slice.result.now c.in_ok-left.left.now c.if-left-len.waiting.items
+    waiting_served (served_of {S = g.row.S.Denot} {H = g.row.H.Denot} g.S.Signer.signature_of g.H.Nsec3Hash.digest_of c.args.server.now) c.args.mode c.args.waiting.now.items c.as_slice.result.now c.in_ok-left.left.now c.if-left-len.waiting.items
     c.args.answers.now.items c.answer_frames.new.answers.items (g.W.Write.contents c.args.output.now) (g.W.Write.contents c.answer_frames.new.output) (g.W.Write.contents c.write_out.new.output)
     c.as_slice.ensures.value c.requires kept c.in_ok-left.ensures.taken c.in_ok-write_out.ensures.written
 

@@ -5,4 +5,4 @@ use Rattle.zone_server.proofs.zones.has_parent.Given as goal
 
 -- none of those passed begins above the name
 abbrev pub invariant-loop-zone : goal.invariant-loop-zone
-invariant-loop-zone g l = has_parent (map (zone_of g.H.Nsec3Hash.digest_of) (take l.zone-index l.zones)) l.name ≡ false
+invariant-loop-zone g l = has_parent (map (zone_of g.S.Signer.signature_of g.H.Nsec3Hash.digest_of) (take l.zone-index l.zones)) l.name ≡ false

@@ -8,4 +8,4 @@ use Rattle.zone_server.proofs.zones.zone_for.Given as goal
 -- the nearest of those passed
 abbrev pub invariant-loop-zone : goal.invariant-loop-zone
 invariant-loop-zone g l =
-    IsNearestIfAny (may_answer_for l.above l.question.name.now) (map (zone_of g.H.Nsec3Hash.digest_of) (take l.zone-index l.zones)) (option_map (λ (z : Bor (ServedZone g.row.S.Denot g.row.H.Denot)). zone_of g.H.Nsec3Hash.digest_of z.now) l.nearest)
+    IsNearestIfAny (may_answer_for l.above l.question.name.now) (map (zone_of g.S.Signer.signature_of g.H.Nsec3Hash.digest_of) (take l.zone-index l.zones)) (option_map (λ (z : Bor (ServedZone g.row.S.Denot g.row.H.Denot)). zone_of g.S.Signer.signature_of g.H.Nsec3Hash.digest_of z.now) l.nearest)
