@@ -1,7 +1,6 @@
 -- What stands under a key of the groups belongs to it
 use Rattle.std.proofs.Common.{◌≡◌, Bool, true, false, cond, not, ◌&&◌, List, [], ◌∷◌, refl, sym, ap, ◌∙◌, subst, true≢false}
 use Rattle.std.specs.Prelude.{Some, filter}
-use Rattle.std.specs.BTreeMap.{BTreeMap}
 use Rattle.std.specs.List.{AllByRecursion}
 use Rattle.std.specs.List.Sorted.{IsStrictlySortedBy}
 use Rattle.std.specs.Map.{lookup, keys_of}
@@ -15,7 +14,7 @@ use Rattle.zone_proto.specs.Names.{Name, IsName, lower}
 use Rattle.zone_proto.proofs.Ordering.KeyOrder.{key_same}
 use Rattle.zone_loading.specs.declared.given.GivenRecord.{GivenRecord}
 use Rattle.zone_loading.specs.declared.groups.Group.{Group}
-use Rattle.zone_loading.specs.Groups.{records_in, signatures_in, IsGroupOf, AreGroups, AreNamed}
+use Rattle.zone_loading.specs.Groups.{Groups, records_in, signatures_in, IsGroupOf, AreGroups, AreNamed}
 use Rattle.zone_loading.specs.Records.{is_signature, is_of_set, is_data_of, is_signature_of, set_key, set_type}
 use Rattle.zone_loading.proofs.KeysFound.{entries_found}
 
@@ -63,9 +62,9 @@ module _ (origin : Name) (k : RrKey) (g : GivenRecord) (h : is_data_of origin k 
 
 -- ---- so the groups of records are groups of their keys
 
-module _ (origin : Name) (gs : List GivenRecord) (groups : BTreeMap RrKey Group)
+module _ (origin : Name) (gs : List GivenRecord) (groups : Groups)
     (own : (k : RrKey) → records_in groups k ≡ filter (is_data_of origin k) gs) (signatures : (k : RrKey) → signatures_in groups k ≡ filter (is_signature_of origin k) gs) where
-  group_of : (e : RrKey × Group) → IsName e.0.name → lookup (key_eq e.0) groups.entries ≡ Some e.1 → IsGroupOf e.0 e.1
+  group_of : (e : RrKey × Group) → IsName e.0.name → lookup (key_eq e.0) groups ≡ Some e.1 → IsGroupOf e.0 e.1
   group_of e named found =
       let records : filter (is_data_of origin e.0) gs ≡ e.1.records.items = sym (own e.0) ∙ ap (λ o. option_map_or (λ (g : Group). g.records.items) o []) found in
       let signing : filter (is_signature_of origin e.0) gs ≡ e.1.signatures.items = sym (signatures e.0) ∙ ap (λ o. option_map_or (λ (g : Group). g.signatures.items) o []) found in
@@ -76,9 +75,9 @@ module _ (origin : Name) (gs : List GivenRecord) (groups : BTreeMap RrKey Group)
         signatures = subst (AllByRecursion (λ (r : GivenRecord). is_signature r.record.rdata ≡ true)) signing (all_passing (is_signature_of origin e.0) _ (signs origin e.0) gs);
       }
 
-  all_groups : (es : List (RrKey × Group)) → AllByRecursion (λ (k : RrKey). IsName k.name) (keys_of es) → AllByRecursion (λ (e : RrKey × Group). lookup (key_eq e.0) groups.entries ≡ Some e.1) es → AllByRecursion (λ (e : RrKey × Group). IsGroupOf e.0 e.1) es
+  all_groups : (es : List (RrKey × Group)) → AllByRecursion (λ (k : RrKey). IsName k.name) (keys_of es) → AllByRecursion (λ (e : RrKey × Group). lookup (key_eq e.0) groups ≡ Some e.1) es → AllByRecursion (λ (e : RrKey × Group). IsGroupOf e.0 e.1) es
   all_groups [] named h = tt
   all_groups (e ∷ es) named h = (group_of e named.0 h.0, all_groups es named.1 h.1)
 
-  pub are_groups : AreNamed groups → IsStrictlySortedBy key_cmp (keys_of groups.entries) → AreGroups groups
-  are_groups named sorted = all_groups groups.entries named (entries_found groups.entries sorted)
+  pub are_groups : AreNamed groups → IsStrictlySortedBy key_cmp (keys_of groups) → AreGroups groups
+  are_groups named sorted = all_groups groups named (entries_found groups sorted)

@@ -1,7 +1,6 @@
 -- What is wrong with the sets of a zone is what is wrong with the first of its groups, whose keys ascend
 use Rattle.std.proofs.Common.{◌≡◌, ◌==◌, ℕ, Bool, true, false, cond, not, length, List, [], ◌∷◌, refl, sym, ap, ◌∙◌, ◌⊎◌, inl, inr, Less}
 use Rattle.std.specs.Prelude.{Option, Some, None, filter}
-use Rattle.std.specs.BTreeMap.{BTreeMap, get}
 use Rattle.std.specs.List.{AllByRecursion}
 use Rattle.std.specs.List.Sorted.{IsStrictlySortedBy}
 use Rattle.std.specs.Map.{lookup, keys_of}
@@ -20,7 +19,7 @@ use Rattle.zone_loading.specs.declared.given.GivenRecord.{GivenRecord}
 use Rattle.zone_loading.specs.declared.groups.Group.{Group}
 use Rattle.zone_loading.specs.Faults.{class_fault, soa_fault, set_fault, fault_at, records_fault, IsFirstSetFault, IsFault, IsFaultless}
 use Rattle.zone_loading.specs.GroupFaults.{has_cname, group_fault, first_fault}
-use Rattle.zone_loading.specs.Groups.{records_in}
+use Rattle.zone_loading.specs.Groups.{Groups, records_in}
 use Rattle.zone_loading.specs.Records.{is_data_of, given_at, records_of}
 use Rattle.zone_loading.proofs.KeysFound.{absent}
 
@@ -36,7 +35,7 @@ second_none (Some x) b h = absurd cc
 
 -- ---- the first of groups
 
-module _ (origin : Name) (groups : BTreeMap RrKey Group) where
+module _ (origin : Name) (groups : Groups) where
   -- what is wrong with what stands under a key
   abbrev pub fault_under : Option Group → RrKey → Option LoadFault
   fault_under o k = set_fault origin k.name k.record_type.0 (has_cname groups k.name) (option_map_or (λ (g : Group). g.records.items) o [])
@@ -97,16 +96,16 @@ module _ (origin : Name) (groups : BTreeMap RrKey Group) where
 
 -- ---- the groups of records
 
-module _ (origin : Name) (gs : List GivenRecord) (groups : BTreeMap RrKey Group) (own : (k : RrKey) → records_in groups k ≡ filter (is_data_of origin k) gs) where
-  under_is_at : (k : RrKey) → fault_under origin groups (get key_cmp groups k) k ≡ fault_at origin gs k.name k.record_type.0
+module _ (origin : Name) (gs : List GivenRecord) (groups : Groups) (own : (k : RrKey) → records_in groups k ≡ filter (is_data_of origin k) gs) where
+  under_is_at : (k : RrKey) → fault_under origin groups (lookup (key_eq k) groups) k ≡ fault_at origin gs k.name k.record_type.0
   under_is_at k =
       ap (λ xs. set_fault origin k.name k.record_type.0 (has_cname groups k.name) xs) (own k)
       ∙ ap (λ (xs : List GivenRecord). set_fault origin k.name k.record_type.0 (not (length xs == 0)) (given_at origin gs k.name k.record_type.0)) (own (key k.name CNAME))
 
-  pub sets_faultless : first_fault origin groups groups.entries ≡ None → (n : Name) (t : ℕ) → fault_at origin gs n t ≡ None
-  sets_faultless h n t = sym (under_is_at (key n t)) ∙ none_in origin groups groups.entries h (key n t)
+  pub sets_faultless : first_fault origin groups groups ≡ None → (n : Name) (t : ℕ) → fault_at origin gs n t ≡ None
+  sets_faultless h n t = sym (under_is_at (key n t)) ∙ none_in origin groups groups h (key n t)
 
-  pub first_set_fault : IsStrictlySortedBy key_cmp (keys_of groups.entries) → records_fault origin gs ≡ None → (e : LoadFault) → first_fault origin groups groups.entries ≡ Some e
+  pub first_set_fault : IsStrictlySortedBy key_cmp (keys_of groups) → records_fault origin gs ≡ None → (e : LoadFault) → first_fault origin groups groups ≡ Some e
       → IsFirstSetFault origin gs e
   first_set_fault sorted records e h = record {
     records = records;
@@ -115,8 +114,8 @@ module _ (origin : Name) (gs : List GivenRecord) (groups : BTreeMap RrKey Group)
     before = λ q less. sym (under_is_at q) ∙ found.before q less;
   }
     where
-      found : IsFirstIn origin groups groups.entries e
-      found = first_in origin groups groups.entries sorted e h
+      found : IsFirstIn origin groups groups e
+      found = first_in origin groups groups sorted e h
 
 -- ---- why no zone is made
 
@@ -126,11 +125,11 @@ module _ (origin : Name) (gs : List GivenRecord) where
     records_right serial h =
         ap (λ o. option_or o (soa_fault origin gs)) classes ∙ ap (λ (o : Option ℕ). option_map_or (λ serial. None) o (Some (fault.NoSoa origin))) h
 
-  module _ (records : records_fault origin gs ≡ None) (groups : BTreeMap RrKey Group) (own : (k : RrKey) → records_in groups k ≡ filter (is_data_of origin k) gs)
-      (sorted : IsStrictlySortedBy key_cmp (keys_of groups.entries)) where
-    pub wrong_set : (e : LoadFault) → (e ≡ fault.Memory) ⊎ (first_fault origin groups groups.entries ≡ Some e) → IsFault origin gs e
+  module _ (records : records_fault origin gs ≡ None) (groups : Groups) (own : (k : RrKey) → records_in groups k ≡ filter (is_data_of origin k) gs)
+      (sorted : IsStrictlySortedBy key_cmp (keys_of groups)) where
+    pub wrong_set : (e : LoadFault) → (e ≡ fault.Memory) ⊎ (first_fault origin groups groups ≡ Some e) → IsFault origin gs e
     wrong_set e (inl h) = inl h
     wrong_set e (inr h) = inr (inr (first_set_fault origin gs groups own sorted records e h))
 
-    pub nothing_wrong : first_fault origin groups groups.entries ≡ None → IsFaultless origin gs
+    pub nothing_wrong : first_fault origin groups groups ≡ None → IsFaultless origin gs
     nothing_wrong h = record { records = records; sets = sets_faultless origin gs groups own h }

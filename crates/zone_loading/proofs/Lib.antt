@@ -1,5 +1,7 @@
 mod KeysFound
-mod Grouping
+mod RecordsGrouped
+mod Joining
+mod Sorting
 mod Belonging
 mod Making
 mod LoadedSets

@@ -1,6 +1,5 @@
 -- What is wrong with the sets of a zone, as the program holds their records
-use Rattle.std.specs.Prelude.{Bool, ◌==◌, not, length, List, [], ◌∷◌, Option, None}
-use Rattle.std.specs.BTreeMap.{BTreeMap}
+use Rattle.std.specs.Prelude.{Bool, ◌==◌, not, length, [], ◌∷◌, Option, None}
 use Rattle.std.specs.Option.{option_or}
 use Rattle.zone_proto.specs.declared.rr_key.RrKey.{RrKey}
 use Rattle.zone_proto.specs.Keys.{key}
@@ -9,18 +8,18 @@ use Rattle.zone_proto.specs.Types.{CNAME}
 use Rattle.zone_loading.specs.declared.fault.LoadFault.{LoadFault}
 use Rattle.zone_loading.specs.declared.groups.Group.{Group}
 use Rattle.zone_loading.specs.Faults.{set_fault}
-use Rattle.zone_loading.specs.Groups.{records_in}
+use Rattle.zone_loading.specs.Groups.{Groups, records_in}
 
 -- a name owns a CNAME
-abbrev pub has_cname : BTreeMap RrKey Group → Name → Bool
+abbrev pub has_cname : Groups → Name → Bool
 has_cname groups n = not (length (records_in groups (key n CNAME)) == 0)
 
-module _ (origin : Name) (groups : BTreeMap RrKey Group) where
+module _ (origin : Name) (groups : Groups) where
   -- what is wrong with the set of a group under a key
   abbrev pub group_fault : RrKey → Group → Option LoadFault
   group_fault k g = set_fault origin k.name k.record_type.0 (has_cname groups k.name) g.records.items
 
   -- the first that is wrong with the sets of groups
-  abbrev pub first_fault : List (RrKey × Group) → Option LoadFault
+  abbrev pub first_fault : Groups → Option LoadFault
   first_fault [] = None
   first_fault (e ∷ es) = option_or (group_fault e.0 e.1) (first_fault es)

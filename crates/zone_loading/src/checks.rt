@@ -1,18 +1,15 @@
 //! Whether a zone can be made of records.
 ghost use Rattle.std.specs.Prelude.{◌≡◌, ◌==◌, false, not, length, map, IfOk, IsOkUnless, option_copied};
 ghost use Rattle.std.specs.List.{find};
-ghost use Rattle.std.specs.List.Sorted.{IsStrictlySortedBy};
-ghost use Rattle.std.specs.Map.{keys_of};
-ghost use Rattle.zone_proto.specs.Keys.{key_cmp};
 ghost use Rattle.zone_proto.specs.Names.{Name as NameLabels, name_eq};
 ghost use Rattle.zone_proto.specs.Sets.{is_single};
 ghost use Rattle.zone_loading.specs.Faults.{TellsFault, beside_fault, class_fault, count_fault, has_other_data, is_other_class, place_fault, stands_beside_cname};
 ghost use Rattle.zone_loading.specs.GroupFaults.{first_fault, group_fault, has_cname};
+ghost use Rattle.zone_loading.specs.Groups.{AreOrdered};
 
 use crate::fault::LoadFault;
 use crate::given::{GivenRecord, RecordAt};
-use crate::groups::Group;
-use std::collections::BTreeMap;
+use crate::groups::{Group, group_under};
 use zone_proto::{DNSClass, LowerName, ProtoError, RecordType, RrKey};
 
 /// Looks for a record of another class than IN.
@@ -35,12 +32,9 @@ fn other_class(records: &[GivenRecord]) -> Option<&GivenRecord>
 }
 
 /// Looks for a set that can't stand in the zone, or not beside the others, in the order of owners and types.
-pub(crate) fn check_groups(
-    origin: &LowerName,
-    groups: &BTreeMap<RrKey, Group>,
-) -> Result<(), LoadFault>
-    ensures fault { TellsFault result (first_fault origin.now groups.now groups.now.entries) }
-    ensures ordered { IsStrictlySortedBy key_cmp (keys_of groups.now.entries) }
+pub(crate) fn check_groups(origin: &LowerName, groups: &[(RrKey, Group)]) -> Result<(), LoadFault>
+    requires { AreOrdered groups.now }
+    ensures { TellsFault result (first_fault origin.now groups.now groups.now) }
 {
     let are_cnames = are_cnames(groups);
     for (key, group) in groups {
@@ -50,7 +44,7 @@ pub(crate) fn check_groups(
 }
 
 /// Whether there are CNAME. Where there are none, no name has to be looked for among them.
-fn are_cnames(groups: &BTreeMap<RrKey, Group>) -> bool
+fn are_cnames(groups: &[(RrKey, Group)]) -> bool
     ensures { result ≡ false → (n : NameLabels) → has_cname groups.now n ≡ false }
 {
     for (key, _) in groups {
@@ -64,12 +58,13 @@ fn are_cnames(groups: &BTreeMap<RrKey, Group>) -> bool
 /// Looks for what is wrong with the set of a group under a key.
 fn check_group(
     origin: &LowerName,
-    groups: &BTreeMap<RrKey, Group>,
+    groups: &[(RrKey, Group)],
     are_cnames: bool,
     key: &RrKey,
     group: &Group,
 ) -> Result<(), LoadFault>
-    requires { are_cnames ≡ false → (n : NameLabels) → has_cname groups.now n ≡ false }
+    requires ordered { AreOrdered groups.now }
+    requires cnames { are_cnames ≡ false → (n : NameLabels) → has_cname groups.now n ≡ false }
     ensures { TellsFault result (group_fault origin.now groups.now key.now group.now) }
 {
     let Some((first, others)) = group.records.as_slice().split_first() else {
@@ -122,12 +117,13 @@ fn other_data<'o>(first: &GivenRecord, others: &'o [GivenRecord]) -> Option<&'o 
 
 /// Looks for a CNAME at the name of a set that may not stand beside one.
 fn check_beside(
-    groups: &BTreeMap<RrKey, Group>,
+    groups: &[(RrKey, Group)],
     are_cnames: bool,
     key: &RrKey,
     first: &GivenRecord,
 ) -> Result<(), LoadFault>
-    requires { are_cnames ≡ false → (n : NameLabels) → has_cname groups.now n ≡ false }
+    requires ordered { AreOrdered groups.now }
+    requires cnames { are_cnames ≡ false → (n : NameLabels) → has_cname groups.now n ≡ false }
     ensures { TellsFault result
         (beside_fault key.now.record_type.0 (has_cname groups.now key.now.name) first.now) }
 {
@@ -141,12 +137,13 @@ fn check_beside(
 }
 
 /// Whether a name owns a CNAME. Refused by `Memory` alone.
-fn has_cname(groups: &BTreeMap<RrKey, Group>, name: &LowerName) -> Result<bool, ProtoError>
+fn has_cname(groups: &[(RrKey, Group)], name: &LowerName) -> Result<bool, ProtoError>
+    requires { AreOrdered groups.now }
     ensures ok { IfOk result (λ has. has ≡ has_cname groups.now name.now) }
     ensures err { IsOkUnless result ProtoError.Memory }
 {
     let key = RrKey::new(name.clone()?, RecordType::CNAME);
-    Ok(match groups.get(&key) {
+    Ok(match group_under(groups, &key) {
         Some(group) => !group.records.is_empty(),
         None => false,
     })

@@ -1,16 +1,17 @@
-//! The records of a zone by the set that they are of, or sign.
-ghost use Rattle.std.specs.Prelude.{◌≡◌, ◌++◌, ◌∷◌, ◌&&◌, [], not, filter, IfOk, OnOk, IsOkUnless};
+//! The records of the sets of a zone, each set's under its key.
+ghost use Rattle.std.specs.Prelude.{◌≡◌, ◌++◌, ◌∷◌, [], true, cond, not, filter, IfOk, OnOk, IsOkUnless, option_copied};
+ghost use Rattle.std.specs.Map.{lookup};
+ghost use Rattle.std.specs.Option.{option_map_or};
 ghost use Rattle.zone_proto.specs.declared.rr_key.RrKey.{RrKey as Key};
-ghost use Rattle.zone_proto.specs.Keys.{key_eq};
-ghost use Rattle.zone_proto.specs.Names.{is_at_or_above, IsName};
-ghost use Rattle.zone_loading.specs.Groups.{records_in, signatures_in, AreNamed};
-ghost use Rattle.zone_loading.specs.Records.{is_data_of, is_signature, is_signature_of, set_key, set_type};
+ghost use Rattle.zone_proto.specs.Keys.{key_cmp, key_eq};
+ghost use Rattle.zone_proto.specs.Names.{IsName};
+ghost use Rattle.zone_proto.specs.Order.{is_upto};
+ghost use Rattle.zone_loading.specs.Groups.{all_records_in, all_signatures_in, ends_under, keyed, AreBelow, AreNamed, AreOrdered, AreSorted, AreUpTo};
+ghost use Rattle.zone_loading.specs.Records.{is_signature};
 
-use crate::given::{GivenRecord, RecordAt};
-use crate::warning::LoadWarning;
+use crate::given::GivenRecord;
 use std::alloc::Global;
-use std::collections::BTreeMap;
-use zone_proto::{LowerName, ProtoError, RData, Record, RecordType, RrKey};
+use zone_proto::{ProtoError, RData, RrKey};
 
 /// The records of one set, and its signatures, in the order in which they are given.
 #[derive(Drop)]
@@ -20,110 +21,44 @@ pub(crate) struct Group {
 }
 
 impl Group {
-    /// No records. Takes no memory.
-    fn new(alloc: Global) -> Group
-        ensures records { result.records.items ≡ [] }
-        ensures signatures { result.signatures.items ≡ [] }
-    {
-        Group {
-            records: Vec::new(alloc),
-            signatures: Vec::new(alloc),
-        }
-    }
-
-    /// Puts a record behind the others of its kind.
-    fn push(&mut self, given: GivenRecord) -> Result<(), ProtoError>
-        ensures records { OnOk result
-            (self.new.records.items
-            ≡ self.old.records.items
-            ++ filter (λ g. not (is_signature g.record.rdata)) (given ∷ [])) }
-        ensures signatures { OnOk result
-            (self.new.signatures.items
-            ≡ self.old.signatures.items ++ filter (λ g. is_signature g.record.rdata) (given ∷ [])) }
+    /// A record alone. Refused by `Memory` alone.
+    pub(crate) fn of(alloc: Global, given: GivenRecord) -> Result<Group, ProtoError>
+        ensures records { IfOk result
+            (λ group. group.records.items
+            ≡ filter (λ g. not (is_signature g.record.rdata)) (given ∷ [])) }
+        ensures signatures { IfOk result
+            (λ group. group.signatures.items
+            ≡ filter (λ g. is_signature g.record.rdata) (given ∷ [])) }
         ensures err { IsOkUnless result ProtoError.Memory }
     {
-        if is_signature(&given.record.rdata) {
-            self.signatures.push(given)?;
+        let is_signature = is_signature(&given.record.rdata);
+        let alone = alone(alloc, given)?;
+        let none = Vec::new(alloc);
+        Ok(if is_signature {
+            Group {
+                records: none,
+                signatures: alone,
+            }
         } else {
-            self.records.push(given)?;
-        }
-        Ok(())
+            Group {
+                records: alone,
+                signatures: none,
+            }
+        })
     }
-}
 
-/// The records at or below an origin, by the key of the set that they are of or, as signatures, cover. The others are left out,
-/// each with a warning. Refused by `Memory` alone.
-pub(crate) fn grouped(
-    alloc: Global,
-    origin: &LowerName,
-    records: Vec<GivenRecord>,
-    warnings: &mut Vec<LoadWarning>,
-) -> Result<BTreeMap<RrKey, Group>, ProtoError>
-    ensures records { IfOk result
-        (λ groups. (k : Key)
-        → records_in groups k ≡ filter (is_data_of origin.now k) records.items) }
-    ensures signatures { IfOk result
-        (λ groups. (k : Key)
-        → signatures_in groups k ≡ filter (is_signature_of origin.now k) records.items) }
-    ensures named { IfOk result (λ groups. AreNamed groups) }
-    ensures err { IsOkUnless result ProtoError.Memory }
-{
-    let mut groups = BTreeMap::new(alloc);
-    for given in records {
-        take(origin, &mut groups, given, warnings)?;
-    }
-    Ok(groups)
-}
-
-/// Puts a record behind the others of its set, or warns of one that is outside of the zone.
-fn take(
-    origin: &LowerName,
-    groups: &mut BTreeMap<RrKey, Group>,
-    given: GivenRecord,
-    warnings: &mut Vec<LoadWarning>,
-) -> Result<(), ProtoError>
-    ensures records { OnOk result
-        ((k : Key)
-        → records_in groups.new k
-        ≡ records_in groups.old k ++ filter (is_data_of origin.now k) (given ∷ [])) }
-    ensures signatures { OnOk result
-        ((k : Key)
-        → signatures_in groups.new k
-        ≡ signatures_in groups.old k ++ filter (is_signature_of origin.now k) (given ∷ [])) }
-    ensures named { OnOk result (AreNamed groups.old → AreNamed groups.new) }
-    ensures err { IsOkUnless result ProtoError.Memory }
-{
-    let key = set_key(&given.record)?;
-    if !is_within(origin, &key.name) {
-        warnings.push(LoadWarning::Outside(RecordAt::of(&given)?))?;
-        return Ok(());
-    }
-    put_behind(groups, key, given)
-}
-
-/// Whether a name is at or below an origin.
-fn is_within(origin: &LowerName, name: &LowerName) -> bool
-    ensures { result ≡ is_at_or_above origin.now name.now }
-{
-    origin.zone_of(name)
-}
-
-/// The key of the set that a record is of or, as a signature, covers. Refused by `Memory` alone.
-fn set_key(given: &Record) -> Result<RrKey, ProtoError>
-    ensures ok { IfOk result (λ k. k ≡ set_key given.now) }
-    ensures named { IfOk result (λ k. IsName k.name) }
-    ensures err { IsOkUnless result ProtoError.Memory }
-{
-    Ok(RrKey::new(LowerName::new(&given.name)?, set_type(&given.rdata)))
-}
-
-/// The type of the data, or of the set that a signature covers (RFC 4034 section 3.1.1).
-fn set_type(rdata: &RData) -> RecordType
-    ensures { result.0 ≡ set_type rdata.now }
-{
-    match rdata {
-        RData::RRSIG(signature) => signature.type_covered,
-        data => data.record_type(),
+    /// The same with another group's records behind these, and its signatures behind these. Refused by `Memory` alone.
+    fn followed_by(self, others: Group) -> Result<Group, ProtoError>
+        ensures records { IfOk result
+            (λ group. group.records.items ≡ self.records.items ++ others.records.items) }
+        ensures signatures { IfOk result
+            (λ group. group.signatures.items ≡ self.signatures.items ++ others.signatures.items) }
+        ensures err { IsOkUnless result ProtoError.Memory }
+    {
+        Ok(Group {
+            records: joined_lists(self.records, others.records)?,
+            signatures: joined_lists(self.signatures, others.signatures)?,
+        })
     }
 }
 
@@ -134,26 +69,165 @@ fn is_signature(rdata: &RData) -> bool
     matches!(rdata, RData::RRSIG(_))
 }
 
-/// Puts a record behind the others of the set under a key.
-fn put_behind(
-    groups: &mut BTreeMap<RrKey, Group>,
+/// A list of one record, with room for no more, since most sets have one.
+fn alone(alloc: Global, given: GivenRecord) -> Result<Vec<GivenRecord>, ProtoError>
+    ensures ok { IfOk result (λ list. list.items ≡ given ∷ []) }
+    ensures err { IsOkUnless result ProtoError.Memory }
+{
+    let mut list = Vec::with_capacity(alloc, 1)?;
+    list.push(given)?;
+    Ok(list)
+}
+
+/// Records and others behind them.
+fn joined_lists(
+    list: Vec<GivenRecord>,
+    others: Vec<GivenRecord>,
+) -> Result<Vec<GivenRecord>, ProtoError>
+    ensures ok { IfOk result (λ all. all.items ≡ list.items ++ others.items) }
+    ensures err { IsOkUnless result ProtoError.Memory }
+{
+    if list.is_empty() {
+        return Ok(others);
+    }
+    let (mut all, mut rest) = (list, others);
+    all.append(&mut rest)?;
+    Ok(all)
+}
+
+/// Puts a group behind others. Where the last of these stands under the same key, its records go behind those of that one.
+pub(crate) fn put_behind(
+    groups: &mut Vec<(RrKey, Group)>,
     key: RrKey,
-    given: GivenRecord,
+    group: Group,
 ) -> Result<(), ProtoError>
     requires { IsName key.name }
     ensures records { OnOk result
         ((k : Key)
-        → records_in groups.new k
-        ≡ records_in groups.old k
-        ++ filter (λ g. not (is_signature g.record.rdata) && key_eq key k) (given ∷ [])) }
+        → all_records_in groups.new.items k
+        ≡ all_records_in groups.old.items k ++ cond (key_eq key k) group.records.items []) }
     ensures signatures { OnOk result
         ((k : Key)
-        → signatures_in groups.new k
-        ≡ signatures_in groups.old k
-        ++ filter (λ g. is_signature g.record.rdata && key_eq key k) (given ∷ [])) }
-    ensures named { OnOk result (AreNamed groups.old → AreNamed groups.new) }
+        → all_signatures_in groups.new.items k
+        ≡ all_signatures_in groups.old.items k ++ cond (key_eq key k) group.signatures.items []) }
+    ensures named { OnOk result (AreNamed groups.old.items → AreNamed groups.new.items) }
+    ensures ordered { OnOk result
+        (AreOrdered groups.old.items → AreUpTo groups.old.items key
+        → AreOrdered groups.new.items) }
+    ensures up_to { OnOk result
+        ((k : Key)
+        → is_upto key_cmp key k ≡ true → AreUpTo groups.old.items k
+        → AreUpTo groups.new.items k) }
     ensures err { IsOkUnless result ProtoError.Memory }
 {
-    let group = Group::new(key.name.alloc());
-    groups.entry(key)?.or_insert(group).push(given)
+    let before = last_under(groups, &key);
+    let both = behind(before, group)?;
+    groups.push((key, both))?;
+    Ok(())
+}
+
+/// Takes the last of groups out, if it stands under a key.
+fn last_under(groups: &mut Vec<(RrKey, Group)>, key: &RrKey) -> Option<Group>
+    ensures taken { groups.old.items ≡ groups.new.items ++ keyed key.now result }
+    ensures below { AreOrdered groups.old.items → AreUpTo groups.old.items key.now
+        → AreBelow groups.new.items key.now }
+{
+    if !ends_under(groups.as_slice(), key) {
+        return None;
+    }
+    let (_, group) = groups.pop()?;
+    Some(group)
+}
+
+/// Whether the last of groups stands under a key.
+fn ends_under(groups: &[(RrKey, Group)], key: &RrKey) -> bool
+    ensures { result ≡ ends_under groups.now key.now }
+{
+    match groups.split_last() {
+        Some((last, _)) => last.0.same_as(key),
+        None => false,
+    }
+}
+
+/// A group behind one that may be there.
+fn behind(before: Option<Group>, group: Group) -> Result<Group, ProtoError>
+    ensures records { IfOk result
+        (λ both. both.records.items
+        ≡ option_map_or (λ g. g.records.items) before [] ++ group.records.items) }
+    ensures signatures { IfOk result
+        (λ both. both.signatures.items
+        ≡ option_map_or (λ g. g.signatures.items) before [] ++ group.signatures.items) }
+    ensures err { IsOkUnless result ProtoError.Memory }
+{
+    match before {
+        Some(before) => before.followed_by(group),
+        None => Ok(group),
+    }
+}
+
+/// Puts groups in the order of their keys, and makes one of those under one key. Refused by `Memory` alone.
+pub(crate) fn ordered(
+    alloc: Global,
+    groups: Vec<(RrKey, Group)>,
+) -> Result<Vec<(RrKey, Group)>, ProtoError>
+    requires { AreNamed groups.items }
+    ensures records { IfOk result
+        (λ ordered. (k : Key)
+        → all_records_in ordered.items k ≡ all_records_in groups.items k) }
+    ensures signatures { IfOk result
+        (λ ordered. (k : Key)
+        → all_signatures_in ordered.items k ≡ all_signatures_in groups.items k) }
+    ensures named { IfOk result (λ ordered. AreNamed ordered.items) }
+    ensures ordered { IfOk result (λ ordered. AreOrdered ordered.items) }
+    ensures err { IsOkUnless result ProtoError.Memory }
+{
+    let sorted = sorted(groups)?;
+    joined(alloc, sorted)
+}
+
+/// Groups in the order of their keys, and those under one key in their own order.
+fn sorted(groups: Vec<(RrKey, Group)>) -> Result<Vec<(RrKey, Group)>, ProtoError>
+    ensures records { IfOk result
+        (λ sorted. (k : Key) → all_records_in sorted.items k ≡ all_records_in groups.items k) }
+    ensures signatures { IfOk result
+        (λ sorted. (k : Key)
+        → all_signatures_in sorted.items k ≡ all_signatures_in groups.items k) }
+    ensures named { IfOk result (λ sorted. AreNamed groups.items → AreNamed sorted.items) }
+    ensures sorted { IfOk result (λ sorted. AreSorted sorted.items) }
+    ensures err { IsOkUnless result ProtoError.Memory }
+{
+    let mut sorted = groups;
+    sorted.sort_by(|one, other| one.0.cmp(&other.0))?;
+    Ok(sorted)
+}
+
+/// Makes one group of those under one key, which stand together.
+fn joined(alloc: Global, groups: Vec<(RrKey, Group)>) -> Result<Vec<(RrKey, Group)>, ProtoError>
+    requires named { AreNamed groups.items }
+    requires sorted { AreSorted groups.items }
+    ensures records { IfOk result
+        (λ joined. (k : Key) → all_records_in joined.items k ≡ all_records_in groups.items k) }
+    ensures signatures { IfOk result
+        (λ joined. (k : Key)
+        → all_signatures_in joined.items k ≡ all_signatures_in groups.items k) }
+    ensures named { IfOk result (λ joined. AreNamed joined.items) }
+    ensures ordered { IfOk result (λ joined. AreOrdered joined.items) }
+    ensures err { IsOkUnless result ProtoError.Memory }
+{
+    let mut joined = Vec::with_capacity(alloc, groups.len())?;
+    for (key, group) in groups {
+        put_behind(&mut joined, key, group)?;
+    }
+    Ok(joined)
+}
+
+/// The group under a key, if there is one.
+pub(crate) fn group_under<'g>(groups: &'g [(RrKey, Group)], key: &RrKey) -> Option<&'g Group>
+    requires { AreOrdered groups.now }
+    ensures { option_copied result ≡ lookup (key_eq key.now) groups.now }
+{
+    match groups.binary_search_by(|entry| entry.0.cmp(key)) {
+        Ok(place) => Some(&groups[place].1),
+        Err(_) => None,
+    }
 }

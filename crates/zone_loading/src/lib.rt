@@ -10,6 +10,7 @@ mod comparing;
 mod difference;
 mod fault;
 mod given;
+mod grouping;
 mod groups;
 mod loading;
 mod nsec3_circle;

@@ -7,18 +7,18 @@ ghost use Rattle.zone_proto.specs.Types.{SOA as soa_type};
 ghost use Rattle.zone_map.specs.Upserts.{CnamesStandAlone};
 ghost use Rattle.zone_map.specs.Zones.{set_at, IsZone};
 ghost use Rattle.zone_loading.specs.Faults.{IsFault, IsFaultless};
-ghost use Rattle.zone_loading.specs.Groups.{records_in};
+ghost use Rattle.zone_loading.specs.Groups.{records_in, AreOrdered};
 ghost use Rattle.zone_loading.specs.Records.{records_of};
 ghost use Rattle.zone_loading.specs.Sets.{loaded_set};
 
 use crate::checks::{check_classes, check_groups};
 use crate::fault::LoadFault;
 use crate::given::GivenRecord;
-use crate::groups::{Group, grouped};
+use crate::grouping::grouped;
+use crate::groups::{Group, group_under};
 use crate::sets::sets_of;
 use crate::warning::LoadWarning;
 use std::alloc::Global;
-use std::collections::BTreeMap;
 use zone_map::RecordMap;
 use zone_proto::{LowerName, Name, ProtoError, RData, RecordType, RrKey};
 
@@ -58,8 +58,8 @@ pub fn load(alloc: Global, origin: Name, records: Vec<GivenRecord>) -> Result<Lo
     let mut warnings = Vec::new(alloc);
     let origin = LowerName::from(origin);
     let groups = grouped(alloc, &origin, records, &mut warnings)?;
-    let serial = serial_of(&origin, &groups)?;
-    check_groups(&origin, &groups)?;
+    let serial = serial_of(&origin, groups.as_slice())?;
+    check_groups(&origin, groups.as_slice())?;
     let records = sets_of(alloc, groups, serial, &mut warnings)?;
     Ok(Loaded {
         origin,
@@ -69,7 +69,8 @@ pub fn load(alloc: Global, origin: Name, records: Vec<GivenRecord>) -> Result<Lo
 }
 
 /// The serial of the first SOA at the origin.
-fn serial_of(origin: &LowerName, groups: &BTreeMap<RrKey, Group>) -> Result<u32, LoadFault>
+fn serial_of(origin: &LowerName, groups: &[(RrKey, Group)]) -> Result<u32, LoadFault>
+    requires { AreOrdered groups.now }
     ensures ok { IfOk result
         (λ serial. first_serial (records_of (records_in groups.now (key_at origin.now soa_type)))
         ≡ Some serial) }
@@ -86,10 +87,11 @@ fn serial_of(origin: &LowerName, groups: &BTreeMap<RrKey, Group>) -> Result<u32,
 }
 
 /// The serial of the SOA that the group under a key begins with.
-fn serial_under(groups: &BTreeMap<RrKey, Group>, key: &RrKey) -> Option<u32>
+fn serial_under(groups: &[(RrKey, Group)], key: &RrKey) -> Option<u32>
+    requires { AreOrdered groups.now }
     ensures { result ≡ first_serial (records_of (records_in groups.now key.now)) }
 {
-    first_serial(groups.get(key)?)
+    first_serial(group_under(groups, key)?)
 }
 
 /// The serial of the SOA that a group begins with.

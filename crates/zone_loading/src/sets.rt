@@ -1,14 +1,14 @@
 //! The sets of a zone, made of their records and signatures.
 ghost use Rattle.std.specs.Prelude.{◌≡◌, ◌==◌, true, map, fold, IfOk, OnOk, IsOkUnless, option_and_then};
-ghost use Rattle.std.specs.BTreeMap.{get};
 ghost use Rattle.std.specs.List.{AllByRecursion, list_all};
+ghost use Rattle.std.specs.Map.{lookup};
 ghost use Rattle.zone_proto.specs.declared.rr_key.RrKey.{RrKey as Key};
 ghost use Rattle.zone_proto.specs.Data.{type_of};
-ghost use Rattle.zone_proto.specs.Keys.{key_cmp};
+ghost use Rattle.zone_proto.specs.Keys.{key_eq};
 ghost use Rattle.zone_proto.specs.Names.{lower};
 ghost use Rattle.zone_map.specs.Zones.{set_at, AreStored, IsZone};
 ghost use Rattle.zone_denial.specs.Nsec3Sets.{with_taken};
-ghost use Rattle.zone_loading.specs.Groups.{AreGroups, IsGroupOf};
+ghost use Rattle.zone_loading.specs.Groups.{AreGroups, AreOrdered, IsGroupOf};
 ghost use Rattle.zone_loading.specs.Records.{is_signature, records_of};
 ghost use Rattle.zone_loading.specs.Sets.{least_ttl, set_in, signed_by, with_set, with_ttl};
 
@@ -16,7 +16,6 @@ use crate::given::{GivenRecord, RecordAt};
 use crate::groups::Group;
 use crate::warning::LoadWarning;
 use std::alloc::Global;
-use std::collections::BTreeMap;
 use zone_map::{NewSets, RecordMap};
 use zone_proto::{ProtoError, Record, RecordSet, RrKey};
 
@@ -24,15 +23,16 @@ use zone_proto::{ProtoError, Record, RecordSet, RrKey};
 /// Refused by `Memory` alone.
 pub(crate) fn sets_of(
     alloc: Global,
-    groups: BTreeMap<RrKey, Group>,
+    groups: Vec<(RrKey, Group)>,
     serial: u32,
     warnings: &mut Vec<LoadWarning>,
 ) -> Result<RecordMap, ProtoError>
-    requires { AreGroups groups }
+    requires ordered { AreOrdered groups.items }
+    requires groups { AreGroups groups.items }
     ensures ok { IfOk result
         (λ sets. (k : Key)
         → set_at sets k.name k.record_type.0
-        ≡ option_and_then (set_in serial) (get key_cmp groups k)) }
+        ≡ option_and_then (set_in serial) (lookup (key_eq k) groups.items)) }
     ensures zone { IfOk result (λ sets. IsZone sets) }
     ensures err { IsOkUnless result ProtoError.Memory }
 {

@@ -1,6 +1,8 @@
-use Rattle.std.proofs.Common.{◌≡◌, ◌==◌, Bool, true, false, cond, not, length, List, [], ◌∷◌, refl, sym, ap, ◌∙◌}
+use Rattle.std.proofs.Common.{◌≡◌, ◌==◌, Bool, true, false, cond, not, length, List, [], ◌∷◌, refl, sym, ap, ◌∙◌, ◌+◌, drop}
 use Rattle.std.specs.Prelude.{Option, Some}
 use Rattle.std.specs.Map.{lookup}
+use Rattle.std.proofs.Math.ListN.{drop_of_length-le}
+use Rattle.std.proofs.lemmas.List.{drop_more}
 use Rattle.std.specs.Option.{option_map_or}
 use Rattle.zone_proto.specs.declared.rr_key.RrKey.{RrKey}
 use Rattle.zone_proto.specs.Keys.{key, key_eq}
@@ -25,10 +27,14 @@ passed n e es all steps other =
 
 pub loop-key-preserved : goal.loop-key-preserved
 loop-key-preserved c = λ n.
-    passed n (c.in-Some.key.now, c.in-Some.field-0-1.now) c.next.new.self c.loop-key.key-iterator c.in-Some.ensures.steps (sym c.if-eq.ensures)
-    ∙ c.loop-key.invariant n
+    let groups = c.args.groups.now in
+    let i = c.loop-key.key-index in
+    let left : drop i groups ≡ c.loop-key-item.result ∷ drop (i + 1) groups = drop_more groups i c.loop-key-item.result c.loop-key-test.true ∙ ap (λ x. x ∷ drop (i + 1) groups) (sym c.loop-key-item.is) in
+    passed n c.loop-key-item.result (drop (i + 1) groups) (drop i groups) left (sym c.if-eq.ensures) ∙ c.loop-key.invariant n
 
 pub returns : goal.returns
 returns c = λ _ n.
+    let groups = c.args.groups.now in
+    let none : drop c.loop-key.key-index groups ≡ [] = drop_of_length-le groups c.loop-key-test.false in
     ap (λ (o : Option Group). not (length (option_map_or (λ (g : Group). g.records.items) o []) == 0))
-    (sym (c.loop-key.invariant n) ∙ ap (lookup (key_eq (key n CNAME))) c.in-None.ensures.steps.0)
+    (sym (c.loop-key.invariant n) ∙ ap (lookup (key_eq (key n CNAME))) none)
