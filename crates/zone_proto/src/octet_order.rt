@@ -11,7 +11,11 @@ pub(crate) fn compare_octets(a: &[u8], b: &[u8]) -> Ordering
     ensures { result ≡ slice_cmp nat_cmp a.now b.now }
 {
     let shared = a.len().min(b.len());
-    compare_as_many(&a[..shared], &b[..shared]).then(a.len().cmp(&b.len()))
+    let order = compare_as_many(&a[..shared], &b[..shared]);
+    if order.is_ne() {
+        return order;
+    }
+    a.len().cmp(&b.len())
 }
 
 /// The order of octets and as many others.

@@ -48,6 +48,12 @@ impl Octets {
     pub(crate) fn push(&mut self, octet: u8) -> Result<(), AllocError>
         ensures { OnOk result (written self.new ≡ written self.old ++ octet ∷ []) }
     {
+        if let Octets::Short(short) = self {
+            if short.has_room(1) {
+                short.push(octet);
+                return Ok(());
+            }
+        }
         self.extend_from_slice(&[octet])
     }
 

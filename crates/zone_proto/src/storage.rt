@@ -1,5 +1,5 @@
 //! What the octets of a name stand in: the value itself where they are few, else a piece of memory.
-ghost use Rattle.std.specs.Prelude.{◌≡◌, ◌↔◌, ℕ, List, [], ◌++◌, ◌+◌, ◌<◌, ◌≤◌, length, take, drop, map, set, IsTrue};
+ghost use Rattle.std.specs.Prelude.{◌≡◌, ◌↔◌, ℕ, List, [], ◌∷◌, ◌++◌, ◌+◌, ◌<◌, ◌≤◌, length, take, drop, map, set, IsTrue};
 ghost use Rattle.std.specs.Char.{to_ascii_lowercase};
 
 use crate::letter_case::lower_octets;
@@ -93,6 +93,15 @@ impl Short {
         let end = start + octets.len();
         self.octets[start..end].copy_from_slice(octets);
         self.length = end as u8;
+    }
+
+    /// Appends an octet, for which there is room.
+    pub(crate) fn push(&mut self, octet: u8)
+        requires { length self.old < 30 }
+        ensures { self.new ≡ self.old ++ octet ∷ [] }
+    {
+        self.octets[usize::from(self.length)] = octet;
+        self.length += 1;
     }
 
     /// A copy.

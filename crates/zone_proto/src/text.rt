@@ -15,7 +15,10 @@ const LONGEST_PLAIN: usize = 254;
 fn is_plain(octet: u8) -> bool
     ensures { result ≡ is_plain octet }
 {
-    matches!(octet, b'0'..=b'9' | b'A'..=b'Z' | b'a'..=b'z' | b'-' | b'_' | b'*')
+    // Nearly all octets of names are the first two of these.
+    octet.is_ascii_lowercase()
+        || octet.is_ascii_digit()
+        || matches!(octet, b'A'..=b'Z' | b'-' | b'_' | b'*')
 }
 
 /// An octet as it is printed.

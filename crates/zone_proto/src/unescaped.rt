@@ -87,5 +87,6 @@ fn is_front(text: &[u8]) -> bool
 fn is_unescaped(octet: u8) -> bool
     ensures { IsTrue result → IsUnescaped octet }
 {
-    octet >= 33 && octet <= 126 && octet != b'.' && octet != b'\\'
+    // Nearly all octets of names are in the first two of these ranges.
+    octet > b'\\' && octet <= b'~' || octet > b'.' && octet < b'\\' || octet >= b'!' && octet < b'.'
 }

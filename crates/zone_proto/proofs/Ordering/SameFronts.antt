@@ -37,7 +37,7 @@ pub more_same : (s t : List ℕ) (k j : ℕ) → take k s ≡ take k t → slice
 more_same s t k j e more =
     take_sum s k j ∙ (λ i. e i ++ exact_bytes (take j (drop k s)) (take j (drop k t)) more i) ∙ sym (take_sum t k j)
 
-decided : (o p : Ordering) → (o ≡ Equal → ⊥) → ordering_then o p ≡ o
+pub decided : (o p : Ordering) → (o ≡ Equal → ⊥) → ordering_then o p ≡ o
 decided Less p h = refl
 decided Equal p h = absurd (h refl)
 decided Greater p h = refl
