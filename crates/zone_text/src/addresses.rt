@@ -1,5 +1,6 @@
 //! IPv4 and IPv6 addresses, which are the data of A and AAAA records, read and printed.
-ghost use Rattle.std.specs.Prelude.{◌≡◌, [], ◌∷◌, Some, None, IfOk, IfErr};
+ghost use Rattle.std.specs.Prelude.{◌≡◌, ◌≤◌, ◌<◌, ◌+◌, [], ◌∷◌, ◌++◌, take, Some, None, IfOk, IfErr};
+ghost use Rattle.std.specs.Fmt.{decimal};
 ghost use Rattle.zone_text.specs.Addresses.{group_of_text, ipv4_of_text, ipv4_text, ipv6_of_text, ipv6_text};
 ghost use Rattle.zone_text.specs.Reading.{next_word};
 
@@ -8,7 +9,10 @@ use crate::hex::HexOctet;
 use crate::numbers::{read_number, read_u8};
 use crate::parts::part_before;
 use crate::words::Words;
-use std::fmt;
+use std::{fmt, str};
+
+/// How many octets the text of an IPv4 address has at most: four numbers of three digits, and three dots.
+const LONGEST_IPV4: usize = 15;
 
 /// Reads an IPv4 address: four numbers from 0 to 255 with dots between them (RFC 1035 section 3.4.1). None where the word
 /// isn't that. Takes no memory.
@@ -88,9 +92,67 @@ impl fmt::Display for Ipv4Text<'_> {
     ghost output = { λ a. Some (ipv4_text a.0.now) };
 
     fn fmt<W: fmt::Write>(&self, f: &mut fmt::Formatter<W>) -> fmt::Result {
-        let [a, b, c, d] = self.0;
-        write!(f, "{a}.{b}.{c}.{d}")
+        let mut room = [0; LONGEST_IPV4];
+        let end = put_ipv4(self.0, &mut room);
+        match str::from_utf8(&room[..end]) {
+            Ok(text) => f.write_str(text),
+            // This never comes: digits and dots are text.
+            Err(_) => Err(fmt::Error),
+        }
     }
+}
+
+/// Puts the text of an IPv4 address into the front of the room, and answers where it ends: so it is written in one piece.
+fn put_ipv4(address: &[u8; 4], room: &mut [u8; LONGEST_IPV4]) -> usize
+    ensures fits { result ≤ 15 }
+    ensures text { take result room.new ≡ ipv4_text address.now }
+{
+    let [a, b, c, d] = address;
+    let first = put_octet(*a, room, 0);
+    let second = put_further(*b, room, first);
+    let third = put_further(*c, room, second);
+    put_further(*d, room, third)
+}
+
+/// Puts a dot and an octet in decimal digits behind the front of the room, and answers where they end.
+fn put_further(octet: u8, room: &mut [u8; LONGEST_IPV4], front: usize) -> usize
+    requires { front ≤ 11 }
+    ensures fits { result ≤ front + 4 }
+    ensures text { take result room.new ≡ take front room.old ++ 46 ∷ decimal octet }
+{
+    room[front] = b'.';
+    put_octet(octet, room, front + 1)
+}
+
+/// Puts an octet in decimal digits behind the front of the room, and answers where it ends.
+#[tactic(auto, using(crate::proofs::AddressTexts::ones))]
+fn put_octet(octet: u8, room: &mut [u8; LONGEST_IPV4], front: usize) -> usize
+    requires { front ≤ 12 }
+    ensures fits { result ≤ front + 3 }
+    ensures text { take result room.new ≡ take front room.old ++ decimal octet }
+{
+    let (hundreds, tens, ones) = (octet / 100, octet / 10 % 10, octet % 10);
+    if octet >= 100 {
+        let end = put_digit(hundreds, room, front);
+        let end = put_digit(tens, room, end);
+        put_digit(ones, room, end)
+    } else if octet >= 10 {
+        let end = put_digit(tens, room, front);
+        put_digit(ones, room, end)
+    } else {
+        put_digit(ones, room, front)
+    }
+}
+
+/// Puts a digit behind the front of the room, and answers where it ends.
+fn put_digit(digit: u8, room: &mut [u8; LONGEST_IPV4], front: usize) -> usize
+    requires digit { digit < 10 }
+    requires within { front ≤ 14 }
+    ensures end { result ≡ front + 1 }
+    ensures text { take result room.new ≡ take front room.old ++ (48 + digit) ∷ [] }
+{
+    room[front] = b'0' + digit;
+    front + 1
 }
 
 /// An IPv6 address as eight groups of four hex digits with colons between them.

@@ -9,7 +9,7 @@ use crate::names::{read_name, read_type};
 use crate::words::Words;
 use std::alloc::Global;
 use std::fmt;
-use zone_proto::Record;
+use zone_proto::{DNSClass, Record, RecordType};
 
 /// Reads the words that are left of a line as a record of class IN: its owner, its TTL in seconds, its type and its data.
 /// `BadText` where they aren't that, `Memory` where none is found. Words that follow the data stay. After a refusal the
@@ -38,7 +38,18 @@ impl fmt::Display for RecordText<'_> {
         let record = self.0;
         let (class, record_type) = (record.dns_class, record.record_type());
         let data = DataText(&record.rdata);
-        write!(f, "{} {} {class} ", record.name, record.ttl)?;
-        write!(f, "{record_type} {data}")
+        match (class, record_type) {
+            // Most records are these: one piece of text is written between their TTL and their data, in place of five.
+            (DNSClass::IN, RecordType::A) => {
+                write!(f, "{} {} IN A {data}", record.name, record.ttl)
+            }
+            (DNSClass::IN, _) => {
+                write!(f, "{} {} IN {record_type} {data}", record.name, record.ttl)
+            }
+            _ => {
+                write!(f, "{} {} {class} ", record.name, record.ttl)?;
+                write!(f, "{record_type} {data}")
+            }
+        }
     }
 }
