@@ -1,9 +1,13 @@
 -- Lists that are counted, and then written item after item
-use Rattle.std.proofs.Common.{◌≡◌, ℕ, suc, ◌+◌, ◌-◌, ◌^◌, min, List, [], ◌∷◌, ◌++◌, length, codes, decimal, flat_map, append_assoc, append-nil, refl, sym, ap, ◌∙◌, arith}
+use Rattle.std.proofs.Common.{◌≡◌, ℕ, suc, ◌+◌, ◌-◌, ◌^◌, min, List, [], ◌∷◌, ◌++◌, length, codes, decimal, flat_map, append_assoc, append-nil, refl, sym, ap, ◌∙◌, arith, None}
 use Rattle.std.specs.Fmt.{HasWritten}
 use Rattle.std.specs.declared.fmt.Formatter.{Formatter}
 use Rattle.std.proofs.Output.{has_written_append, has_written_of_eq}
-use Rattle.zone_program.specs.Replies.{count_of, list_text}
+use Rattle.std.proofs.lemmas.Fmt.{decimal_digit}
+use Rattle.zone_handler.specs.declared.auth_lookup.AuthLookup.{AuthLookup}
+use Rattle.zone_handler.specs.AuthLookup.{additionals_of}
+use Rattle.zone_program.specs.Replies.{count_of, list_text, records_text}
+use Rattle.zone_program.specs.Steps.{additionals_beside}
 
 -- items were counted, up to a limit, and some are left
 pub record Counting {A : Type 0} (all left : List A) (count : ℕ) : Type 0 where
@@ -98,3 +102,7 @@ pub showing_done : {W : Type 0} (took : W → List ℕ → W → Type 0) {A : Ty
     → Showing took word text_of all left f g → left ≡ [] → HasWritten took f (list_text word text_of all) g
 showing_done took word text_of all left f g shown is =
     has_written_of_eq _ _ _ _ _ (listing_done word text_of all left [] shown.text (record { lines = shown.lines }) is) shown.written
+
+-- an answer without a section of additional records has none of them
+pub none_beside : (found : AuthLookup) → additionals_of found ≡ None → records_text (codes "additional") (additionals_beside found) ≡ codes "additional 0\n"
+none_beside found none = rw (none, decimal_digit 0 (omega arith))

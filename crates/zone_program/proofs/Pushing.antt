@@ -9,7 +9,13 @@ pub pushed : (IsReply : Reply → Type 0) (reply : Reply) (before after : List �
 pushed IsReply reply before after (Ok x) is_text is_reply = (reply, is_reply, is_text)
 pushed IsReply reply before after (Err e) is_text is_reply = tt
 
--- the same of what comes of an arm
+-- a text that is pushed stands behind another, if that was done
+pub text_pushed : (text before after : List ℕ) {E : Type 0} (done : Result (Unit {0}) E)
+    → after ≡ cond (is_ok done) (before ++ text) before → OnOk done (after ≡ before ++ text)
+text_pushed text before after (Ok x) is_text = is_text
+text_pushed text before after (Err e) is_text = tt
+
+-- a reply of what comes of an arm
 pub arm_pushed : (IsReply : Reply → Type 0) (reply : Reply) (before text after : List ℕ) {E : Type 0} (done result : Result (Unit {0}) E)
     → result ≡ done → after ≡ text → text ≡ cond (is_ok done) (before ++ reply_text reply) before → IsReply reply → OnOk result (Adds IsReply before after)
 arm_pushed IsReply reply before text after done result result_is after_is is_text is_reply =

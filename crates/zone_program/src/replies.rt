@@ -50,7 +50,11 @@ fn write_found(found: &AuthLookup, answer: &mut String) -> Result<(), AllocError
         (string_bytes answer.new ≡ string_bytes answer.old ++ reply_text (found_reply found.now)) }
 {
     write_records("answer", found, answer)?;
-    write_additionals(found, answer)
+    match found.additionals() {
+        Some(_) => write_additionals(found, answer),
+        // Most answers have no such section: its line is written in one piece.
+        None => answer.push_str("additional 0\n"),
+    }
 }
 
 /// Writes the records of an answer after a word and their count.
