@@ -13,6 +13,7 @@ figure is left out.
 
 A zone that takes long to secure by NSEC or NSEC3 is made in the first run alone. hickory-server goes over all cuts for each
 set: with a fifth of the names cuts it takes a minute or more for 100,000 names by NSEC, and would take hours for a million.
+So other programs secure no zone of more than 100,000 names by these, or of more than DENIED names.
 """
 
 import itertools
@@ -225,6 +226,7 @@ def main():
     known = [known_phases(program) for program in programs]
     lookups = int(os.environ.get("LOOKUPS", "100000"))
     runs = int(os.environ.get("RUNS", "3"))
+    denied = int(os.environ.get("DENIED", "100000"))
     sizes = [int(word) for word in os.environ.get("SIZES", "1000 10000 100000").split()]
     cores = len(os.sched_getaffinity(0))
     print(f"{cores} cores; microseconds for a command, the fastest of {runs} runs\n")
@@ -236,7 +238,9 @@ def main():
     found = []
     for names in sizes:
         work = workload(names, lookups)
-        found.append([measure(*each, runs) for each in zip(programs, itertools.repeat(work), known)])
+        others = work if names <= denied else work._replace(denied=[])
+        works = [work, *itertools.repeat(others, len(programs) - 1)]
+        found.append([measure(*each, runs) for each in zip(programs, works, known)])
     for title in [*work.titles(), *MEMORY, PEAK_TRANSFERRED, PEAK_SECURED, *map(peak_denied, work.denied)]:
         before = [None] * len(programs)
         for names, figures in zip(sizes, found):
