@@ -1,12 +1,15 @@
 //! What a call is passed.
 
-use crate::read_zones::Head;
-use crate::signers::RowSigner;
+use crate::fault::Fault;
+use crate::manner::Manner;
+use crate::row_hash::RowHash;
 use std::alloc::Global;
 use std::collections::BTreeMap;
-use zone_handler::LookupOptions;
-use zone_proto::{LowerName, Name, Query, RData, Record, RecordSet, RecordType, RrKey};
-use zone_text::TextError;
+use std::mem;
+use zone_handler::{AxfrPolicy, LookupOptions, Request, ZoneType};
+use zone_proto::{
+    DNSClass, LowerName, Name, NxProofKind, Query, RData, Record, RecordSet, RecordType, RrKey,
+};
 
 /// Record sets by their keys.
 pub type Sets = BTreeMap<RrKey, RecordSet>;
@@ -14,47 +17,55 @@ pub type Sets = BTreeMap<RrKey, RecordSet>;
 /// What a call is passed, by kinds of values. Of a kind, what is read last is taken first. What there is none of is taken as
 /// the least value of its kind, so that to take it is no early exit; the form of a call sees to it that all is there.
 #[derive(Drop)]
-pub struct Arguments {
+pub struct Arguments<'r> {
     pub alloc: Global,
-    pub text: String,
+    pub fault: Fault,
+    pub text: &'r str,
     pub names: Vec<Name>,
     pub types: Vec<RecordType>,
     pub numbers: Vec<u64>,
     pub octets: Vec<Vec<u8>>,
-    pub records: Vec<Record>,
     pub data: Vec<RData>,
+    pub data_type: RecordType,
+    pub class: DNSClass,
     pub queries: Vec<Query>,
     pub is_flagged: bool,
-    pub head: Head,
-    pub signer: Option<RowSigner>,
+    pub zone_type: ZoneType,
+    pub policy: AxfrPolicy,
+    pub kind: Option<NxProofKind>,
+    pub hash: RowHash,
+    pub manner: Manner,
     pub sets: Sets,
 }
 
-impl Arguments {
-    /// Nothing. It takes no memory.
-    pub fn new(alloc: Global) -> Arguments {
+impl<'r> Arguments<'r> {
+    /// Nothing, of class IN; for a zone, a primary that anybody may transfer, which denies by nothing, and whose hash has no
+    /// digests. It takes no memory.
+    pub fn new(alloc: Global) -> Arguments<'r> {
         Arguments {
             alloc,
-            text: String::new(alloc),
+            fault: Fault::new(),
+            text: "",
             names: Vec::new(alloc),
             types: Vec::new(alloc),
             numbers: Vec::new(alloc),
             octets: Vec::new(alloc),
-            records: Vec::new(alloc),
             data: Vec::new(alloc),
+            data_type: RecordType::A,
+            class: DNSClass::IN,
             queries: Vec::new(alloc),
             is_flagged: false,
-            head: Head::new(alloc),
-            signer: None,
+            zone_type: ZoneType::Primary,
+            policy: AxfrPolicy::AllowAll,
+            kind: None,
+            hash: RowHash::new(alloc),
+            manner: Manner::Whole(u64::MAX),
             sets: BTreeMap::new(alloc),
         }
     }
 
     pub fn take_name(&mut self) -> Name {
-        match self.names.pop() {
-            Some(name) => name,
-            None => Name::root(self.alloc),
-        }
+        take(&mut self.names, Name::root(self.alloc))
     }
 
     pub fn take_lower(&mut self) -> LowerName {
@@ -62,7 +73,12 @@ impl Arguments {
     }
 
     pub fn take_type(&mut self) -> RecordType {
-        self.types.pop().unwrap_or(RecordType(0))
+        take(&mut self.types, RecordType(0))
+    }
+
+    /// All types, in the order in which they were read.
+    pub fn take_types(&mut self) -> Vec<RecordType> {
+        mem::replace(&mut self.types, Vec::new(self.alloc))
     }
 
     /// The key of a name and a type.
@@ -70,8 +86,24 @@ impl Arguments {
         RrKey::new(self.take_lower(), self.take_type())
     }
 
+    /// The question for a name and a type, of class IN.
+    pub fn take_query(&mut self) -> Query {
+        Query {
+            name: self.take_lower(),
+            query_type: self.take_type(),
+            query_class: DNSClass::IN,
+        }
+    }
+
+    /// The request of all questions that were read.
+    pub fn take_request(&mut self) -> Request {
+        Request {
+            queries: mem::replace(&mut self.queries, Vec::new(self.alloc)),
+        }
+    }
+
     pub fn take_number(&mut self) -> u64 {
-        self.numbers.pop().unwrap_or(0)
+        take(&mut self.numbers, 0)
     }
 
     /// A number of 32 bits, the greatest if it has more.
@@ -90,21 +122,28 @@ impl Arguments {
     }
 
     pub fn take_octets(&mut self) -> Vec<u8> {
-        match self.octets.pop() {
-            Some(octets) => octets,
-            None => Vec::new(self.alloc),
-        }
+        take(&mut self.octets, Vec::new(self.alloc))
     }
 
+    pub fn take_hash(&mut self) -> RowHash {
+        mem::replace(&mut self.hash, RowHash::new(self.alloc))
+    }
+
+    pub fn take_kind(&mut self) -> Option<NxProofKind> {
+        self.kind.take()
+    }
+
+    pub fn take_sets(&mut self) -> Sets {
+        mem::replace(&mut self.sets, BTreeMap::new(self.alloc))
+    }
+
+    /// A record of the data that were read, and of the owner name and the TTL before them.
     pub fn take_record(&mut self) -> Record {
-        match self.records.pop() {
-            Some(record) => record,
-            None => Record::from_rdata(Name::root(self.alloc), 0, RData::A([0, 0, 0, 0])),
-        }
-    }
-
-    pub fn take_data(&mut self) -> RData {
-        self.data.pop().unwrap_or(RData::A([0, 0, 0, 0]))
+        let rdata = self.take_data();
+        let ttl = self.take_long();
+        let mut record = Record::from_rdata(self.take_name(), ttl, rdata);
+        record.dns_class = self.class;
+        record
     }
 
     /// Whether signatures are wanted: they are where the flag stood.
@@ -115,18 +154,11 @@ impl Arguments {
     }
 }
 
-/// Puts a value at the end of a list. It is of any type, so that a proof has nothing to take apart where there is no memory.
-pub fn push<T: Drop>(list: &mut Vec<T>, value: T) -> Result<(), TextError> {
-    match list.push(value) {
-        Ok(()) => Ok(()),
-        Err(_) => Err(TextError::Memory),
-    }
-}
-
-/// Puts a value into a box. It is of any type for the same reason.
-pub fn boxed<T: Drop>(alloc: Global, value: T) -> Result<Box<T>, TextError> {
-    match Box::new(alloc, value) {
-        Ok(boxed) => Ok(boxed),
-        Err(_) => Err(TextError::Memory),
+/// Takes what was put last into a list, or another value if there is nothing. It is of any type, so that a proof has nothing to
+/// take apart.
+pub fn take<T: Drop>(list: &mut Vec<T>, other: T) -> T {
+    match list.pop() {
+        Some(value) => value,
+        None => other,
     }
 }

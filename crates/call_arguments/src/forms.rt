@@ -6,10 +6,10 @@
 ///   `NAME TTL TYPE DATA`, or with `CH` before its type, `DATA` a type and data, `QUERIES` a number and so many names with
 ///   types, and `QUESTIONS` a number of questions for the root and their type.
 /// - `OCTETS` are in hex, `-` for none, and `41*63` is one octet 63 times.
-/// - `HEAD` is `ORIGIN ZONETYPE POLICY`, then how the zone denies: nothing, `nsec`, or `nsec3` or `optout` without salt and
-///   iterations; then `DIGESTS`, `NAME OCTETS ..`, the digests of its hash, and `for NUMBER` where the hash finds memory for so
-///   many calls.
-/// - `SIGNER` is a demonstration signer's number and origin, and after it `keyless`, `idle` or `choosy` where it has no key,
+/// - `ZONETYPE` is what the server is to a zone, `POLICY` who may transfer it, and `KIND` how it denies: nothing, `nsec`, or
+///   `nsec3` or `optout` without salt and iterations. `DIGESTS` is `NAME OCTETS ..`, the digests of a hash, and `for NUMBER`
+///   where the hash finds memory for so many calls.
+/// - `MANNER` is what a demonstration signer of a number and an origin does: `keyless`, `idle` or `choosy` where it has no key,
 ///   signs nothing, or signs sets of odd types alone, or `for NUMBER` where it finds memory for so many calls.
 /// - `TEXT` is the rest of the row, `WORD` a word, `TTL` whether `ttl` stands where `serial` may, `DNSSEC` whether `dnssec`
 ///   follows.
@@ -46,8 +46,8 @@ sets: show:
 sets: copy set:
 sets: collect under: NAME TYPE
 sets: collect:
-zones: empty: HEAD
-zones: make: HEAD SETS
+zones: empty: NAME ZONETYPE POLICY KIND DIGESTS
+zones: make: NAME ZONETYPE POLICY KIND DIGESTS SETS
 zones: about:
 zones: upsert mut: serial NUMBER RECORD
 zones: upsert: serial NUMBER RECORD
@@ -57,8 +57,8 @@ zones: clear:
 zones: dump:
 zones: map: NUMBER RECORD
 zones: signers:
-zones: key mut: SIGNER
-zones: key: SIGNER
+zones: key mut: NUMBER NAME MANNER
+zones: key: NUMBER NAME MANNER
 zones: secure mut: NUMBER
 zones: secure: NUMBER
 searches: any: NAME
@@ -89,6 +89,7 @@ handlers: consult: WORD NAME TYPE
 parked: parked transfer: QUESTIONS DNSSEC
 parked: parked is:
 parked: parked consult: WORD NAME TYPE
+zones: refusal zone:
 refusals: refusal: WORD
 judgements: judge hashed: NAME NAME TYPE
 judgements: judge: NAME NAME TYPE

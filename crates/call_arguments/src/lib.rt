@@ -4,18 +4,21 @@
 
 mod arguments;
 mod calls;
+mod fault;
 mod forms;
 mod held;
+mod manner;
 mod read_arguments;
+mod read_octets;
 mod read_records;
 mod read_zones;
 mod row_hash;
-mod signers;
 
-pub use arguments::{Arguments, Sets, boxed};
+pub use arguments::{Arguments, Sets};
+pub use calls::Calls;
 pub use forms::Form;
 pub use held::Held;
+pub use manner::Manner;
 pub use read_arguments::read_call;
-pub use read_zones::{Head, read_zone_type};
+pub use read_zones::read_zone_type;
 pub use row_hash::RowHash;
-pub use signers::RowSigner;

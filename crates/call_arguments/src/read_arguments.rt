@@ -1,153 +1,146 @@
-//! Reads what a call is passed, by the form of the call.
+//! Reads what a call is passed, by the form of the call. What can't be read is kept as a fault until all is read.
 
-use crate::arguments::{Arguments, push};
+use crate::arguments::Arguments;
+use crate::fault::Fault;
 use crate::forms::{Form, find_form};
 use crate::held::Held;
-use crate::read_records::{read_any_data, read_any_record, read_octets};
-use crate::read_zones::{read_digests, read_head, read_number, read_signer};
-use std::alloc::Global;
+use crate::read_octets::read_octets;
+use crate::read_records::{read_record, read_typed_data};
+use crate::read_zones::{read_digests, read_kind, read_manner, read_policy, read_zone_type};
 use std::str;
-use zone_proto::{DNSClass, LowerName, Query, RecordSet, RrKey};
+use zone_proto::RecordType;
 use zone_text::{TextError, Words, read_name, read_type};
 
-/// Reads a call: its form, and what it is passed. That is lent, so that no early exit has to drop it.
-pub fn read_call(
-    alloc: Global,
+/// Reads a call: its form, and what it is passed.
+pub fn read_call<'r>(
     held: &Held,
-    arguments: &mut Arguments,
-    row: &str,
+    arguments: &mut Arguments<'r>,
+    row: &'r str,
 ) -> Result<Form, TextError> {
-    let (form, rest) = find_form(row).ok_or(TextError::BadText)?;
-    if form.kinds == " TEXT" {
-        arguments.text = String::from_str(alloc, rest)?;
-        return Ok(form);
+    match find_form(row) {
+        Some((form, rest)) => {
+            read_rest(held, arguments, form.kinds, rest);
+            arguments.fault.answer(form)
+        }
+        None => Err(TextError::BadText),
+    }
+}
+
+/// Reads what follows the verb.
+fn read_rest<'r>(held: &Held, arguments: &mut Arguments<'r>, kinds: &str, rest: &'r str) {
+    if kinds == " TEXT" {
+        arguments.text = rest;
+        return;
     }
     let mut words = Words::new(rest.as_bytes());
-    for kind in form.kinds.split(' ') {
-        match kind {
-            "SETS" => copy_sets(held, arguments)?,
-            kind => read_argument(alloc, kind, &mut words, arguments)?,
-        }
+    for kind in kinds.split(' ') {
+        read_part(held, arguments, &mut words, kind);
     }
-    words.end()?;
-    Ok(form)
+    arguments.fault.put(&mut (), words.end());
 }
 
-/// Reads what is of a kind.
-fn read_argument(
-    alloc: Global,
-    kind: &str,
-    words: &mut Words<'_>,
-    arguments: &mut Arguments,
-) -> Result<(), TextError> {
+/// Reads what is of a kind, which may have parts that are of kinds themselves.
+fn read_part<'r>(held: &Held, arguments: &mut Arguments<'r>, words: &mut Words<'r>, kind: &str) {
     match kind {
-        "" => {}
-        "NAME" => push(&mut arguments.names, read_name(alloc, words)?)?,
-        "TYPE" => push(&mut arguments.types, read_type(words)?)?,
-        "NUMBER" => push(&mut arguments.numbers, read_number(words)?)?,
-        "OCTETS" => push(&mut arguments.octets, read_octets(alloc, words)?)?,
-        "RECORD" => push(&mut arguments.records, read_any_record(alloc, words)?)?,
-        "DATA" => {
-            let record_type = read_type(words)?;
-            push(
-                &mut arguments.data,
-                read_any_data(alloc, record_type, words)?,
-            )?;
+        "RECORD" => read_record(arguments, words),
+        "DATA" => read_typed_data(arguments, words),
+        "QUERIES" => read_queries(arguments, words),
+        "QUESTIONS" => read_questions(arguments, words),
+        "DIGESTS" => read_digests(arguments, words),
+        "SETS" => copy_sets(held, arguments),
+        "WORD" => arguments.text = take_text(words),
+        kind => read_kind_alone(arguments, words, kind),
+    }
+}
+
+/// Reads what is of kinds without parts.
+pub fn read_kinds(arguments: &mut Arguments<'_>, words: &mut Words<'_>, kinds: &str) {
+    for kind in kinds.split(' ') {
+        read_kind_alone(arguments, words, kind);
+    }
+}
+
+/// Reads what is of a kind without parts, into the list of its kind.
+fn read_kind_alone(arguments: &mut Arguments<'_>, words: &mut Words<'_>, kind: &str) {
+    let (alloc, fault) = (arguments.alloc, &mut arguments.fault);
+    match kind {
+        "NAME" => fault.push(&mut arguments.names, read_name(alloc, words)),
+        "TYPE" => fault.push(&mut arguments.types, read_type(words)),
+        "TYPES" => read_types(&mut arguments.types, fault, words),
+        "NUMBER" => fault.push(&mut arguments.numbers, words.take_u64()),
+        "OCTETS" => fault.push(&mut arguments.octets, read_octets(alloc, words)),
+        _ => read_choice(arguments, words, kind),
+    }
+}
+
+/// Reads one of few words.
+fn read_choice(arguments: &mut Arguments<'_>, words: &mut Words<'_>, kind: &str) {
+    let fault = &mut arguments.fault;
+    match kind {
+        "TTL" => fault.put(&mut arguments.is_flagged, read_is_ttl(words)),
+        "DNSSEC" => fault.put(&mut arguments.is_flagged, words.take_flag(b"dnssec")),
+        "ZONETYPE" => fault.put(&mut arguments.zone_type, read_zone_type(words)),
+        "POLICY" => fault.put(&mut arguments.policy, read_policy(words)),
+        "KIND" => fault.put(&mut arguments.kind, read_kind(arguments.alloc, words)),
+        "serial" => fault.put(&mut false, words.take_flag(b"serial")),
+        "MANNER" => fault.put(&mut arguments.manner, read_manner(words)),
+        _ => {}
+    }
+}
+
+/// Takes a word as text; it is empty at the end of the row.
+pub fn take_text<'w>(words: &mut Words<'w>) -> &'w str {
+    match words.take() {
+        Some(word) => str::from_utf8(word).unwrap_or(""),
+        None => "",
+    }
+}
+
+/// Reads the types that are left of a row.
+fn read_types(types: &mut Vec<RecordType>, fault: &mut Fault, words: &mut Words<'_>) {
+    for _ in 0..u64::MAX {
+        match words.take() {
+            Some(word) => fault.push(types, read_type(&mut Words::new(word))),
+            None => break,
         }
-        "QUERIES" => read_queries(alloc, words, arguments)?,
-        "QUESTIONS" => read_questions(alloc, words, arguments)?,
-        "HEAD" => read_head(alloc, words, arguments)?,
-        "DIGESTS" => read_digests(alloc, words, &mut arguments.head.hash)?,
-        "SIGNER" => arguments.signer = Some(read_signer(alloc, words)?),
-        "WORD" => arguments.text = String::from_str(alloc, take_text(words)?)?,
-        "TTL" => arguments.is_flagged = read_is_ttl(words)?,
-        "DNSSEC" => arguments.is_flagged = words.take_flag(b"dnssec")?,
-        word => read_this_word(words, word)?,
-    }
-    Ok(())
-}
-
-/// Takes a word as text.
-pub fn take_text<'w>(words: &mut Words<'w>) -> Result<&'w str, TextError> {
-    match str::from_utf8(words.take_needed()?) {
-        Ok(text) => Ok(text),
-        Err(_) => Err(TextError::BadText),
-    }
-}
-
-/// Takes a word that has to be this one.
-fn read_this_word(words: &mut Words<'_>, wanted: &str) -> Result<(), TextError> {
-    if take_text(words)? == wanted {
-        Ok(())
-    } else {
-        Err(TextError::BadText)
     }
 }
 
 /// Reads `ttl` or `serial`.
 fn read_is_ttl(words: &mut Words<'_>) -> Result<bool, TextError> {
-    match take_text(words)? {
+    match take_text(words) {
         "ttl" => Ok(true),
         "serial" => Ok(false),
         _ => Err(TextError::BadText),
     }
 }
 
-/// Reads how many questions there are, and the questions, of class IN.
-fn read_queries(
-    alloc: Global,
-    words: &mut Words<'_>,
-    arguments: &mut Arguments,
-) -> Result<(), TextError> {
-    for _ in 0..read_number(words)? {
-        push(&mut arguments.queries, read_query(alloc, words)?)?;
+/// Reads how many questions there are, and the name and the type of each.
+fn read_queries(arguments: &mut Arguments<'_>, words: &mut Words<'_>) {
+    read_kinds(arguments, words, "NUMBER");
+    for _ in 0..arguments.take_number() {
+        read_kinds(arguments, words, "NAME TYPE");
+        let query = arguments.take_query();
+        arguments.fault.push(&mut arguments.queries, Ok(query));
     }
-    Ok(())
-}
-
-fn read_query(alloc: Global, words: &mut Words<'_>) -> Result<Query, TextError> {
-    Ok(Query {
-        name: LowerName::from(read_name(alloc, words)?),
-        query_type: read_type(words)?,
-        query_class: DNSClass::IN,
-    })
 }
 
 /// Reads how many questions there are, which are equal and for the root, and their type.
-fn read_questions(
-    alloc: Global,
-    words: &mut Words<'_>,
-    arguments: &mut Arguments,
-) -> Result<(), TextError> {
-    let (count, query_type) = (read_number(words)?, read_type(words)?);
-    for _ in 0..count {
-        push(
-            &mut arguments.queries,
-            Query {
-                name: LowerName::root(alloc),
-                query_type,
-                query_class: DNSClass::IN,
-            },
-        )?;
+fn read_questions(arguments: &mut Arguments<'_>, words: &mut Words<'_>) {
+    read_kinds(arguments, words, "NUMBER TYPE");
+    let query_type = arguments.take_type();
+    for _ in 0..arguments.take_number() {
+        let mut query = arguments.take_query();
+        query.query_type = query_type;
+        arguments.fault.push(&mut arguments.queries, Ok(query));
     }
-    Ok(())
 }
 
 /// Copies the sets that were collected, under their keys.
-fn copy_sets(held: &Held, arguments: &mut Arguments) -> Result<(), TextError> {
+fn copy_sets(held: &Held, arguments: &mut Arguments<'_>) {
     for (key, set) in &held.collected {
-        copy_set(key, set, arguments)?;
-    }
-    Ok(())
-}
-
-fn copy_set(key: &RrKey, set: &RecordSet, arguments: &mut Arguments) -> Result<(), TextError> {
-    let key = key.clone()?;
-    match set.clone() {
-        Ok(copy) => match arguments.sets.insert(key, copy) {
-            Ok(_) => Ok(()),
-            Err(_) => Err(TextError::Memory),
-        },
-        Err(error) => Err(TextError::from(error)),
+        arguments
+            .fault
+            .insert(&mut arguments.sets, key.clone(), set.clone());
     }
 }

@@ -1,134 +1,125 @@
 //! Reads records and data of every type, those too that the program doesn't read.
 
-use crate::arguments::push;
-use std::alloc::Global;
-use std::str;
-use zone_proto::{
-    DNSClass, DNSKEY, NSEC, NSEC3, NSEC3PARAM, RData, RRSIG, Record, RecordType, Seq,
-};
-use zone_text::{
-    TextError, Words, read_data, read_hex, read_name, read_type, read_u8, read_u16, read_u32,
-};
+use crate::arguments::{Arguments, take};
+use crate::read_arguments::{read_kinds, take_text};
+use zone_proto::{DNSClass, DNSKEY, NSEC, NSEC3, NSEC3PARAM, RData, RRSIG, RecordType, Seq};
+use zone_text::{TextError, Words, read_data, read_type};
 
 /// Reads `NAME TTL TYPE DATA`, or the same with `CH` before the type.
-pub fn read_any_record(alloc: Global, words: &mut Words<'_>) -> Result<Record, TextError> {
-    let owner = read_name(alloc, words)?;
-    let ttl = read_long(words)?;
-    let word = words.take_needed()?;
-    let is_chaos = word == b"CH".as_slice();
-    let record_type = if is_chaos {
-        read_type(words)?
-    } else {
-        type_of(word)?
-    };
-    let rdata = read_any_data(alloc, record_type, words)?;
-    let mut record = Record::from_rdata(owner, ttl, rdata);
-    if is_chaos {
-        record.dns_class = DNSClass::CH;
-    }
-    Ok(record)
+pub fn read_record(arguments: &mut Arguments<'_>, words: &mut Words<'_>) {
+    read_kinds(arguments, words, "NAME NUMBER");
+    let record_type = read_type_after_class(words, &mut arguments.class);
+    arguments.fault.put(&mut arguments.data_type, record_type);
+    read_parts(arguments, words);
 }
 
-/// The type that a word names.
-fn type_of(word: &[u8]) -> Result<RecordType, TextError> {
-    let Ok(text) = str::from_utf8(word) else {
-        return Err(TextError::BadText);
-    };
-    RecordType::from_text(text).ok_or(TextError::BadText)
-}
-
-/// Reads the data of a record of any type. The next hashed owner name of an NSEC3 is read in hex.
-pub fn read_any_data(
-    alloc: Global,
-    record_type: RecordType,
+/// Reads a type, which `CH` may stand before.
+fn read_type_after_class(
     words: &mut Words<'_>,
-) -> Result<RData, TextError> {
+    class: &mut DNSClass,
+) -> Result<RecordType, TextError> {
+    match take_text(words) {
+        "CH" => {
+            *class = DNSClass::CH;
+            read_type(words)
+        }
+        word => RecordType::from_text(word).ok_or(TextError::BadText),
+    }
+}
+
+/// Reads a type and its data.
+pub fn read_typed_data(arguments: &mut Arguments<'_>, words: &mut Words<'_>) {
+    arguments
+        .fault
+        .put(&mut arguments.data_type, read_type(words));
+    read_parts(arguments, words);
+}
+
+/// Reads the parts of data, or data whose parts the program reads.
+fn read_parts(arguments: &mut Arguments<'_>, words: &mut Words<'_>) {
+    match parts_of(arguments.data_type) {
+        Some(kinds) => read_kinds(arguments, words, kinds),
+        None => {
+            let rdata = read_data(arguments.alloc, arguments.data_type, words);
+            arguments.fault.push(&mut arguments.data, rdata);
+        }
+    }
+}
+
+/// The parts of the data of a type that the program doesn't read, in the order of its standard: of DNSKEY RFC 4034 section 2.2,
+/// of RRSIG section 3.2, of NSEC section 4.2, of NSEC3 RFC 5155 section 3.3, of NSEC3PARAM section 4.3. The next hashed owner
+/// name of an NSEC3 is read in hex.
+fn parts_of(record_type: RecordType) -> Option<&'static str> {
     match record_type {
-        RecordType::DNSKEY => Ok(RData::DNSKEY(DNSKEY {
-            flags: read_short(words)?,
-            protocol: read_octet(words)?,
-            algorithm: read_octet(words)?,
-            public_key: Seq::from_vec(read_octets(alloc, words)?),
-        })),
-        RecordType::NSEC => Ok(RData::NSEC(NSEC {
-            next_domain_name: read_name(alloc, words)?,
-            types: Seq::from_vec(read_types(alloc, words)?),
-        })),
-        RecordType::NSEC3 => Ok(RData::NSEC3(NSEC3 {
-            algorithm: read_octet(words)?,
-            opt_out: read_octet(words)? == 1,
-            iterations: read_short(words)?,
-            salt: Seq::from_vec(read_octets(alloc, words)?),
-            next_hashed_owner_name: Seq::from_vec(read_octets(alloc, words)?),
-            types: Seq::from_vec(read_types(alloc, words)?),
-        })),
-        RecordType::NSEC3PARAM => Ok(RData::NSEC3PARAM(NSEC3PARAM {
-            algorithm: read_octet(words)?,
-            opt_out: read_octet(words)? == 1,
-            iterations: read_short(words)?,
-            salt: Seq::from_vec(read_octets(alloc, words)?),
-        })),
-        RecordType::RRSIG => Ok(RData::RRSIG(read_signature(alloc, words)?)),
-        record_type => read_data(alloc, record_type, words),
+        RecordType::DNSKEY => Some("NUMBER NUMBER NUMBER OCTETS"),
+        RecordType::NSEC => Some("NAME TYPES"),
+        RecordType::NSEC3 => Some("NUMBER NUMBER NUMBER OCTETS OCTETS TYPES"),
+        RecordType::NSEC3PARAM => Some("NUMBER NUMBER NUMBER OCTETS"),
+        RecordType::RRSIG => Some("TYPE NUMBER NUMBER NUMBER NUMBER NUMBER NUMBER NAME OCTETS"),
+        _ => None,
     }
 }
 
-/// Reads the parts of a signature in the order of RFC 4034 section 3.2.
-fn read_signature(alloc: Global, words: &mut Words<'_>) -> Result<RRSIG, TextError> {
-    Ok(RRSIG {
-        type_covered: read_type(words)?,
-        algorithm: read_octet(words)?,
-        num_labels: read_octet(words)?,
-        original_ttl: read_long(words)?,
-        expiration: read_long(words)?,
-        inception: read_long(words)?,
-        key_tag: read_short(words)?,
-        signer_name: read_name(alloc, words)?,
-        signature: Seq::from_vec(read_octets(alloc, words)?),
-    })
-}
-
-/// Reads the types that are left of a row.
-fn read_types(alloc: Global, words: &mut Words<'_>) -> Result<Vec<RecordType>, TextError> {
-    let mut types = Vec::new(alloc);
-    for _ in 0..u64::MAX {
-        let Some(word) = words.take() else {
-            break;
-        };
-        push(&mut types, type_of(word)?)?;
+impl<'r> Arguments<'r> {
+    /// The data of the type that was read, of their parts from the last on.
+    pub fn take_data(&mut self) -> RData {
+        match self.data_type {
+            RecordType::DNSKEY => RData::DNSKEY(self.take_key_data()),
+            RecordType::NSEC => RData::NSEC(self.take_denial()),
+            RecordType::NSEC3 => RData::NSEC3(self.take_hashed_denial()),
+            RecordType::NSEC3PARAM => RData::NSEC3PARAM(self.take_parameters()),
+            RecordType::RRSIG => RData::RRSIG(self.take_signature()),
+            _ => take(&mut self.data, RData::A([0, 0, 0, 0])),
+        }
     }
-    Ok(types)
-}
 
-/// Reads octets in hex.
-pub fn read_octets(alloc: Global, words: &mut Words<'_>) -> Result<Vec<u8>, TextError> {
-    read_label(alloc, words.take_needed()?)
-}
-
-/// Reads octets in hex, `-` for none, which a star and a number after them repeat.
-pub fn read_label(alloc: Global, word: &[u8]) -> Result<Vec<u8>, TextError> {
-    let Some(star) = word.iter().position(|octet| *octet == b'*') else {
-        return read_hex(alloc, word)?.ok_or(TextError::BadText);
-    };
-    let (part, count) = word.split_at(star);
-    let part = read_hex(alloc, part)?.ok_or(TextError::BadText)?;
-    let (_, count) = count.split_first().ok_or(TextError::BadText)?;
-    let count = read_u16(count).ok_or(TextError::BadText)?;
-    let mut octets = Vec::new(alloc);
-    for _ in 0..count {
-        octets.extend_from_slice(part.as_slice())?;
+    fn take_key_data(&mut self) -> DNSKEY {
+        DNSKEY {
+            public_key: Seq::from_vec(self.take_octets()),
+            algorithm: self.take_octet(),
+            protocol: self.take_octet(),
+            flags: self.take_short(),
+        }
     }
-    Ok(octets)
-}
 
-fn read_octet(words: &mut Words<'_>) -> Result<u8, TextError> {
-    read_u8(words.take_needed()?).ok_or(TextError::BadText)
-}
+    fn take_denial(&mut self) -> NSEC {
+        NSEC {
+            types: Seq::from_vec(self.take_types()),
+            next_domain_name: self.take_name(),
+        }
+    }
 
-fn read_short(words: &mut Words<'_>) -> Result<u16, TextError> {
-    read_u16(words.take_needed()?).ok_or(TextError::BadText)
-}
+    fn take_hashed_denial(&mut self) -> NSEC3 {
+        NSEC3 {
+            types: Seq::from_vec(self.take_types()),
+            next_hashed_owner_name: Seq::from_vec(self.take_octets()),
+            salt: Seq::from_vec(self.take_octets()),
+            iterations: self.take_short(),
+            opt_out: self.take_octet() == 1,
+            algorithm: self.take_octet(),
+        }
+    }
 
-fn read_long(words: &mut Words<'_>) -> Result<u32, TextError> {
-    read_u32(words.take_needed()?).ok_or(TextError::BadText)
+    fn take_parameters(&mut self) -> NSEC3PARAM {
+        NSEC3PARAM {
+            salt: Seq::from_vec(self.take_octets()),
+            iterations: self.take_short(),
+            opt_out: self.take_octet() == 1,
+            algorithm: self.take_octet(),
+        }
+    }
+
+    fn take_signature(&mut self) -> RRSIG {
+        RRSIG {
+            signature: Seq::from_vec(self.take_octets()),
+            signer_name: self.take_name(),
+            key_tag: self.take_short(),
+            inception: self.take_long(),
+            expiration: self.take_long(),
+            original_ttl: self.take_long(),
+            num_labels: self.take_octet(),
+            algorithm: self.take_octet(),
+            type_covered: self.take_type(),
+        }
+    }
 }

@@ -5,10 +5,9 @@ ghost use Rattle.zone_handler.specs.Transfers.{IsNoLookup};
 
 use crate::iterators::write_records;
 use crate::texts::write_flow;
-use crate::write::{Written, write_holds};
+use crate::write::Answer;
 use call_arguments::Arguments;
 use std::alloc::Global;
-use std::mem;
 use zone_handler::{
     AuthLookup, AxfrPolicy, LookupControlFlow, LookupError, LookupOptions, NetError,
     Nsec3QueryInfo, Request, RequestInfo, TSigResponseContext, ZoneHandler, ZoneTransfer, ZoneType,
@@ -140,62 +139,37 @@ impl ZoneHandler for Parked {
 }
 
 /// Makes a call of a handler that exists and owns nothing.
-pub fn make_parked_call(out: &mut String, verb: &str, arguments: &mut Arguments) -> Written {
+pub fn make_parked_call(out: &mut Answer, verb: &str, arguments: &mut Arguments<'_>) {
     let parked = Parked::new(arguments.alloc);
     let verb = verb.strip_prefix("parked ").unwrap_or(verb);
-    make_handler_call(out, &parked, verb, arguments)
+    make_handler_call(out, &parked, verb, arguments);
 }
 
 /// Makes a call of any handler.
 pub fn make_handler_call<Z: ZoneHandler>(
-    out: &mut String,
+    out: &mut Answer,
     zone: &Z,
     verb: &str,
-    arguments: &mut Arguments,
-) -> Written {
+    arguments: &mut Arguments<'_>,
+) {
     match verb {
-        "lookup" | "at" => {
-            let query = take_query(arguments);
-            let now = arguments.take_number();
-            write_flow(out, &asked(zone, &query, arguments.options(), now))
-        }
-        "request" => {
-            let request = take_request(arguments);
-            write_searched(out, searched(zone, &request, LookupOptions::default()))
-        }
-        "transfer" => write_transfer(out, zone, arguments),
-        "consult" => {
-            let step = step_of(arguments.text.as_str());
-            write_flow(out, &consulted(zone, &take_query(arguments), step))
-        }
+        "lookup" | "at" => write_flow(out, asked(zone, arguments)),
+        "request" => search(out, zone, arguments),
+        "transfer" => transfer(out, zone, arguments),
+        "consult" => write_flow(out, consulted(zone, arguments)),
         "is" => write_itself(out, zone),
-        "deny" => {
-            let name = arguments.take_lower();
-            write_flow(out, &denied(zone, &name, arguments.options()))
-        }
-        verb => write_hashed_denial(out, zone, verb == "expanded", arguments),
-    }
-}
-
-/// The question for a name and a type, of class IN.
-fn take_query(arguments: &mut Arguments) -> Query {
-    Query {
-        name: arguments.take_lower(),
-        query_type: arguments.take_type(),
-        query_class: DNSClass::IN,
-    }
-}
-
-/// The request of all questions that were read.
-fn take_request(arguments: &mut Arguments) -> Request {
-    let alloc = arguments.alloc;
-    Request {
-        queries: mem::replace(&mut arguments.queries, Vec::new(alloc)),
+        "deny" => write_flow(out, denied(zone, arguments)),
+        verb => write_flow(out, denied_by_hash(zone, verb == "expanded", arguments)),
     }
 }
 
 /// What any zone answers to a question, at a moment.
-fn asked<Z: ZoneHandler>(
+fn asked<Z: ZoneHandler>(zone: &Z, arguments: &mut Arguments<'_>) -> LookupControlFlow<AuthLookup> {
+    let query = arguments.take_query();
+    looked_up(zone, &query, arguments.options(), arguments.take_number())
+}
+
+fn looked_up<Z: ZoneHandler>(
     zone: &Z,
     query: &Query,
     options: LookupOptions,
@@ -209,6 +183,23 @@ fn asked<Z: ZoneHandler>(
     zone.lookup(query.name(), query.query_type(), Some(&info), options, now)
 }
 
+/// Writes what any zone answers to a request; no response is signed.
+fn search<Z: ZoneHandler>(out: &mut Answer, zone: &Z, arguments: &mut Arguments<'_>) {
+    let request = arguments.take_request();
+    match alone(searched(zone, &request, LookupOptions::default())) {
+        Some(flow) => write_flow(out, flow),
+        None => out.say("signed"),
+    }
+}
+
+/// What stands in a pair, unless something stands beside it. It is of any type, so that a proof has nothing to take apart.
+fn alone<T: Drop, S: Drop>(pair: (T, Option<S>)) -> Option<T> {
+    match pair {
+        (value, None) => Some(value),
+        _ => None,
+    }
+}
+
 /// What any zone answers to a request.
 fn searched<Z: ZoneHandler>(
     zone: &Z,
@@ -220,31 +211,27 @@ fn searched<Z: ZoneHandler>(
     zone.search(request, options, 0)
 }
 
-/// Writes what answers a request; no response is signed.
-fn write_searched(
-    out: &mut String,
-    answer: (LookupControlFlow<AuthLookup>, Option<TSigResponseContext>),
-) -> Written {
-    write_flow(out, &answer.0)?;
-    if answer.1.is_some() {
-        write!(out, ", signed")?;
-    }
-    Ok(())
-}
-
 /// What any zone makes of a step, for a question.
 fn consulted<Z: ZoneHandler>(
     zone: &Z,
-    query: &Query,
-    step: LookupControlFlow<AuthLookup>,
+    arguments: &mut Arguments<'_>,
 ) -> LookupControlFlow<AuthLookup> {
-    let options = LookupOptions::default();
+    let query = arguments.take_query();
+    let (step, options) = (step_of(arguments.text), LookupOptions::default());
     zone.consult(query.name(), query.query_type(), None, options, step)
         .0
 }
 
 /// What any zone denies a name by.
 fn denied<Z: ZoneHandler>(
+    zone: &Z,
+    arguments: &mut Arguments<'_>,
+) -> LookupControlFlow<AuthLookup> {
+    let name = arguments.take_lower();
+    denial_of(zone, &name, arguments.options())
+}
+
+fn denial_of<Z: ZoneHandler>(
     zone: &Z,
     name: &LowerName,
     options: LookupOptions,
@@ -254,13 +241,12 @@ fn denied<Z: ZoneHandler>(
     zone.nsec_records(name, options)
 }
 
-/// Writes what any zone denies a query by with hashed names, without salt and iterations.
-fn write_hashed_denial<Z: ZoneHandler>(
-    out: &mut String,
+/// What any zone denies a query by with hashed names, without salt and iterations.
+fn denied_by_hash<Z: ZoneHandler>(
     zone: &Z,
     has_wildcard_match: bool,
-    arguments: &mut Arguments,
-) -> Written {
+    arguments: &mut Arguments<'_>,
+) -> LookupControlFlow<AuthLookup> {
     let name = arguments.take_lower();
     let info = Nsec3QueryInfo {
         qname: &name,
@@ -270,14 +256,18 @@ fn write_hashed_denial<Z: ZoneHandler>(
         salt: b"",
         iterations: 0,
     };
-    write_flow(out, &zone.nsec3_records(info, arguments.options()))
+    zone.nsec3_records(info, arguments.options())
 }
 
 /// Writes what any zone says of itself.
-fn write_itself<Z: ZoneHandler>(out: &mut String, zone: &Z) -> Written {
-    write!(out, "{} {:?} ", zone.origin(), zone.zone_type())?;
-    write!(out, "{:?}, validates: ", zone.axfr_policy())?;
-    write_holds(out, zone.can_validate_dnssec())
+fn write_itself<Z: ZoneHandler>(out: &mut Answer, zone: &Z) {
+    out.put(zone.origin());
+    out.say(" ");
+    out.show(&zone.zone_type());
+    out.say(" ");
+    out.show(&zone.axfr_policy());
+    out.say(", validates: ");
+    out.hold(zone.can_validate_dnssec());
 }
 
 /// The step that a word stands for.
@@ -291,26 +281,40 @@ fn step_of(word: &str) -> LookupControlFlow<AuthLookup> {
 }
 
 /// Writes what any zone answers to a request for a transfer.
-fn write_transfer<Z: ZoneHandler>(
-    out: &mut String,
-    zone: &Z,
-    arguments: &mut Arguments,
-) -> Written {
-    let request = take_request(arguments);
+fn transfer<Z: ZoneHandler>(out: &mut Answer, zone: &Z, arguments: &mut Arguments<'_>) {
+    let request = arguments.take_request();
     match zone.zone_transfer(&request, arguments.options(), 0) {
-        Some((Ok(transfer), _)) => write_parts(out, &transfer),
-        Some((Err(error), _)) => write!(out, "error: {error}"),
-        None => write!(out, "nothing"),
+        Some(answer) => write_first(out, alone(answer)),
+        None => out.say("nothing"),
+    }
+}
+
+/// Writes a transfer that isn't signed.
+fn write_first(out: &mut Answer, answer: Option<Result<ZoneTransfer, LookupError>>) {
+    match answer {
+        Some(answer) => write_transfer(out, answer),
+        None => out.say("signed"),
+    }
+}
+
+/// Writes a transfer, or its error.
+fn write_transfer(out: &mut Answer, answer: Result<ZoneTransfer, LookupError>) {
+    match answer {
+        Ok(transfer) => {
+            write_parts(out, &transfer);
+            drop(transfer);
+        }
+        Err(error) => out.fail(error),
     }
 }
 
 /// Writes the records of a transfer, and their count; after the last it lends nothing.
-pub fn write_parts(out: &mut String, transfer: &ZoneTransfer) -> Written {
+fn write_parts(out: &mut Answer, transfer: &ZoneTransfer) {
     let mut records = transfer.into_iter();
-    let count = write_records(out, records.by_ref())?;
-    write!(out, "{count} records")?;
+    let count = write_records(out, records.by_ref());
+    out.put(&count);
+    out.say(" records");
     if records.next().is_some() || records.next().is_some() {
-        write!(out, ", and more")?;
+        out.say(", and more");
     }
-    Ok(())
 }

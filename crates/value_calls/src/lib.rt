@@ -14,10 +14,6 @@ mod words;
 mod write;
 
 pub use handlers::make_handler_call;
-pub use iterators::write_records;
-pub use texts::{
-    Zone, write_about, write_chain, write_made_set, write_set, write_set_handed_out,
-    write_set_if_any, write_zone,
-};
+pub use texts::{write_made_set, write_set, write_set_handed_out, write_set_if_any};
 pub use values::make_value_call;
-pub use write::{Written, both, write_done, write_holds, write_whether};
+pub use write::Answer;

@@ -1,40 +1,32 @@
 //! Makes refusals, and prints them.
 
-use crate::write::{Written, write_value};
+use crate::write::Answer;
 use std::alloc::AllocError;
 use std::io;
 use zone_handler::{LookupError, NetError, NoRecords};
 use zone_proto::{ProtoError, ResponseCode};
-use zone_store::ZoneError;
 use zone_text::TextError;
 
 /// Writes the refusal that a word stands for, as what refuses first is converted to it.
-pub fn write_refusal(out: &mut String, word: &str) -> Written {
+pub fn write_refusal(out: &mut Answer, word: &str) {
     match word {
-        "count" => write_value(out, LookupError::BadQueryCount(2)),
-        "code" => write_value(out, LookupError::from(ResponseCode::Other(23))),
-        "message" => write_value(out, LookupError::from(NetError::from("no route"))),
-        "no-records" => write_value(
-            out,
-            LookupError::from(NetError::NoRecordsFound(no_records())),
-        ),
-        "long-name" => write_value(out, LookupError::from(ProtoError::NameTooLong)),
-        "file" => write_value(
-            out,
-            LookupError::from(io::Error::from(io::ErrorKind::NotFound)),
-        ),
-        "memory" => write_value(out, LookupError::from(ProtoError::Memory)),
+        "count" => out.value(LookupError::BadQueryCount(2)),
+        "code" => out.value(LookupError::from(ResponseCode::Other(23))),
+        "message" => out.value(LookupError::from(NetError::from("no route"))),
+        "no-records" => out.value(LookupError::from(NetError::NoRecordsFound(no_records()))),
+        "long-name" => out.value(LookupError::from(ProtoError::NameTooLong)),
+        "file" => out.value(LookupError::from(io::Error::from(io::ErrorKind::NotFound))),
+        "memory" => out.value(LookupError::from(ProtoError::Memory)),
         word => write_other_refusal(out, word),
     }
 }
 
-fn write_other_refusal(out: &mut String, word: &str) -> Written {
+fn write_other_refusal(out: &mut Answer, word: &str) {
     match word {
-        "hash" => write_value(out, NetError::from(ProtoError::Hash)),
-        "zone" => write_value(out, ZoneError::Memory),
-        "allocation" => write_value(out, ProtoError::from(AllocError)),
-        "label" => write!(out, "{:?}", TextError::from(ProtoError::EmptyLabel)),
-        _ => write!(out, "{:?}", TextError::from(ProtoError::Memory)),
+        "hash" => out.value(NetError::from(ProtoError::Hash)),
+        "allocation" => out.value(ProtoError::from(AllocError)),
+        "label" => out.show(&TextError::from(ProtoError::EmptyLabel)),
+        _ => out.show(&TextError::from(ProtoError::Memory)),
     }
 }
 

@@ -1,129 +1,96 @@
-//! Writes sets, zones and answers.
+//! Writes sets and answers.
 
 use crate::iterators::write_records;
-use crate::write::Written;
-use call_arguments::{RowHash, RowSigner};
-use zone_handler::{AuthLookup, LookupControlFlow, LookupError, LookupRecordsIter, ZoneHandler};
+use crate::write::Answer;
+use std::fmt::Display;
+use zone_handler::{AuthLookup, LookupControlFlow, LookupError, LookupRecordsIter};
 use zone_proto::RecordSet;
-use zone_store::{Found, InMemoryZoneHandler};
 use zone_text::RecordText;
 
-/// The zone of rows.
-pub type Zone = InMemoryZoneHandler<RowSigner, RowHash>;
-
 /// Writes the records of a set, each with a semicolon after it, its signatures, its TTL and its serial.
-pub fn write_set(out: &mut String, set: &RecordSet) -> Written {
+pub fn write_set(out: &mut Answer, set: &RecordSet) {
     if set.is_empty() {
-        write!(out, "no {} of {}; ", set.record_type(), set.name())?;
+        write_emptiness(out, set);
     }
-    write_records(out, set.records_without_rrsigs())?;
-    write_records(out, set.rrsigs().iter())?;
-    write!(out, "ttl {}, serial {}", set.ttl(), set.serial())
+    write_records(out, set.records_without_rrsigs());
+    write_records(out, set.rrsigs().iter());
+    out.say("ttl ");
+    out.put(&set.ttl());
+    out.say(", serial ");
+    out.put(&set.serial());
 }
 
-/// Writes a set, or that there is nothing, or the error of a call.
-pub fn write_set_if_any<E: std::fmt::Display + Drop>(
-    out: &mut String,
-    given: Result<Option<&RecordSet>, E>,
-) -> Written {
-    match given {
-        Ok(Some(set)) => write_set(out, set),
-        Ok(None) => write!(out, "nothing"),
-        Err(error) => write!(out, "error: {error}"),
+/// Writes of which type there is no record.
+fn write_emptiness(out: &mut Answer, set: &RecordSet) {
+    out.say("no ");
+    out.put(&set.record_type());
+    out.say(" of ");
+    out.put(set.name());
+    out.say("; ");
+}
+
+/// Writes a set, or that there is nothing.
+pub fn write_set_if_any(out: &mut Answer, set: Option<&RecordSet>) {
+    match set {
+        Some(set) => write_set(out, set),
+        None => out.say("nothing"),
     }
 }
 
 /// Writes a set that a call handed out, or that there is none.
-pub fn write_set_handed_out(out: &mut String, given: Option<RecordSet>) -> Written {
-    match given {
-        Some(set) => write_set(out, &set),
-        None => write!(out, "nothing"),
-    }
+pub fn write_set_handed_out(out: &mut Answer, set: Option<RecordSet>) {
+    write_set_if_any(out, set.as_ref());
+    drop(set);
 }
 
 /// Writes a set that a call made, or its error.
-pub fn write_made_set<E: std::fmt::Display + Drop>(
-    out: &mut String,
-    given: Result<RecordSet, E>,
-) -> Written {
+pub fn write_made_set<E: Display + Drop>(out: &mut Answer, given: Result<RecordSet, E>) {
     match given {
-        Ok(set) => write_set(out, &set),
-        Err(error) => write!(out, "error: {error}"),
+        Ok(set) => write_set_handed_out(out, Some(set)),
+        Err(error) => out.fail(error),
     }
-}
-
-/// Writes how many names were searched, and the sets that were found.
-pub fn write_chain(out: &mut String, searched: u64, sets: &[Found<'_>]) -> Written {
-    write!(out, "{searched} searched")?;
-    for found in sets {
-        write!(out, " | ")?;
-        write_set(out, found.set())?;
-    }
-    Ok(())
-}
-
-/// Writes what the zone says of itself.
-pub fn write_about(out: &mut String, zone: &Zone) -> Written {
-    write!(
-        out,
-        "{} {} {:?} ",
-        zone.origin(),
-        zone.class(),
-        zone.zone_type()
-    )?;
-    write!(out, "{:?}, serial {}, ", zone.axfr_policy(), zone.serial())?;
-    write!(out, "minimum {}", zone.minimum_ttl())
-}
-
-/// Writes the sets of the zone.
-pub fn write_zone(out: &mut String, zone: &Zone) -> Written {
-    let sets = zone.records();
-    write!(out, "{} sets", sets.len())?;
-    for (key, set) in sets {
-        write!(out, " | {} {}: ", key.name, key.record_type)?;
-        write_set(out, set)?;
-    }
-    Ok(())
 }
 
 /// Writes what a lookup answers: the records, or the error, and whether the chain of handlers is broken off.
-pub fn write_flow(out: &mut String, flow: &LookupControlFlow<AuthLookup>) -> Written {
-    match flow {
-        LookupControlFlow::Continue(Ok(answer)) => write_answer(out, answer),
-        LookupControlFlow::Break(Ok(answer)) => {
-            write!(out, "break: ")?;
-            write_answer(out, answer)
+pub fn write_flow(out: &mut Answer, flow: LookupControlFlow<AuthLookup>) {
+    write_step(out, &flow);
+    drop(flow);
+}
+
+fn write_step(out: &mut Answer, step: &LookupControlFlow<AuthLookup>) {
+    match step {
+        LookupControlFlow::Continue(answer) => write_answer(out, answer),
+        LookupControlFlow::Break(answer) => {
+            out.say(if answer.is_ok() { "break: " } else { "break, " });
+            write_answer(out, answer);
         }
-        LookupControlFlow::Continue(Err(error)) => write_error(out, error),
-        LookupControlFlow::Break(Err(error)) => {
-            write!(out, "break, ")?;
-            write_error(out, error)
-        }
-        LookupControlFlow::Skip => write!(out, "skip"),
+        LookupControlFlow::Skip => out.say("skip"),
     }
 }
 
-fn write_error(out: &mut String, error: &LookupError) -> Written {
-    write!(out, "error: {error}")
+/// Writes the records of an answer, or the error.
+fn write_answer(out: &mut Answer, answer: &Result<AuthLookup, LookupError>) {
+    match answer {
+        Ok(answer) => write_sections(out, answer),
+        Err(error) => out.put_error(error),
+    }
 }
 
 /// Writes the records of an answer, and those that may help beside them.
-pub fn write_answer(out: &mut String, answer: &AuthLookup) -> Written {
-    let count = write_records(out, answer.iter())?;
-    write!(out, "{count} records")?;
-    match answer.additionals() {
-        Some(additionals) => {
-            write!(out, ", and additionals")?;
-            write_section(out, additionals)
-        }
-        None => Ok(()),
+fn write_sections(out: &mut Answer, answer: &AuthLookup) {
+    let count = write_records(out, answer.iter());
+    out.put(&count);
+    out.say(" records");
+    if let Some(additionals) = answer.additionals() {
+        out.say(", and additionals");
+        write_section(out, additionals);
     }
 }
 
 /// Writes the records of a section, each after a semicolon.
-pub fn write_section(out: &mut String, section: LookupRecordsIter<'_>) -> Written {
+fn write_section(out: &mut Answer, section: LookupRecordsIter<'_>) {
     for record in section {
-        write!(out, "; {}", RecordText(record))?;
+        out.say("; ");
+        out.put(&RecordText(record));
     }
-    Ok(())
 }

@@ -6,17 +6,17 @@ use crate::names::make_name_call;
 use crate::records::make_record_call;
 use crate::refusals::write_refusal;
 use crate::words::make_word_call;
-use crate::write::Written;
+use crate::write::Answer;
 use call_arguments::{Arguments, Form};
 
 /// Makes a call that needs no zone of rows, and writes what it answers.
-pub fn make_value_call(out: &mut String, call: Form, arguments: &mut Arguments) -> Written {
+pub fn make_value_call(out: &mut Answer, call: Form, arguments: &mut Arguments<'_>) {
     let verb = call.verb;
     match call.subject {
         "names" => make_name_call(out, verb, arguments),
         "records" => make_record_call(out, verb, arguments),
         "hashes" => make_hash_call(out, verb, arguments),
-        "refusals" => write_refusal(out, arguments.text.as_str()),
+        "refusals" => write_refusal(out, arguments.text),
         "parked" => make_parked_call(out, verb, arguments),
         _ => make_word_call(out, verb, arguments),
     }

@@ -1,87 +1,108 @@
 //! Makes the calls on what the zone denies by, and on the indexes that these are found by.
 
-use crate::state::State;
+use crate::signers::RowSigner;
+use crate::state::{State, replace};
 use call_arguments::{Arguments, RowHash};
 use std::alloc::AllocError;
-use std::mem;
-use value_calls::{Written, Zone, write_set, write_set_if_any};
+use value_calls::{Answer, write_set, write_set_if_any};
 use zone_handler::{LookupError, Nsec3QueryInfo, ZoneHandler};
-use zone_proto::{LowerName, RecordType};
-use zone_store::{DenialOwners, Reads};
+use zone_proto::{LowerName, RecordSet, RecordType};
+use zone_store::{DenialOwners, InnerInMemory, Reads};
 
 /// Makes a call on what the zone denies by.
 pub fn make_denial_call(
-    out: &mut String,
+    out: &mut Answer,
     state: &mut State,
     verb: &str,
-    arguments: &mut Arguments,
-) -> Written {
+    arguments: &mut Arguments<'_>,
+) {
     match verb {
-        "closest" => write_closest(out, &state.zone, &arguments.take_lower()),
-        "counted" => write_counted(out, &state.zone, &arguments.take_lower()),
-        "exists" => write_exists(out, &state.zone, &arguments.take_lower()),
-        "owners" => write_owners(out, &state.zone, arguments.take_type()),
-        "denying" => write!(out, "{}", count_owners(&state.zone, arguments.take_type())),
-        "hash" => {
-            let alloc = arguments.alloc;
-            let other = RowHash::new(alloc);
-            state.hash = mem::replace(&mut arguments.head.hash, other);
-            write!(out, "done")
-        }
-        verb => write_proof(out, state, verb, arguments),
+        "hash" => replace(out, &mut state.hash, arguments.take_hash()),
+        "owners" => write_owners(out, state.zone.inner(), arguments.take_type()),
+        "denying" => out.put(&count_owners(state.zone.inner(), arguments.take_type())),
+        "proof" | "expanded proof" => write_proof(out, state, verb, arguments),
+        verb => find(out, state.zone.inner(), verb, &arguments.take_lower()),
+    }
+}
+
+/// Makes a call that reads an index from a name on.
+fn find(out: &mut Answer, inner: &InnerInMemory<RowSigner>, verb: &str, name: &LowerName) {
+    match verb {
+        "closest" => write_closest(out, inner, name),
+        "counted" => write_counted(out, inner, name),
+        _ => write_exists(out, inner, name),
     }
 }
 
 /// Writes the closest NSEC set.
-fn write_closest(out: &mut String, zone: &Zone, name: &LowerName) -> Written {
-    write_set_if_any(out, zone.inner().closest_nsec(name))
+fn write_closest(out: &mut Answer, inner: &InnerInMemory<RowSigner>, name: &LowerName) {
+    match inner.closest_nsec(name) {
+        Ok(set) => write_set_if_any(out, set),
+        Err(error) => out.fail(error),
+    }
 }
 
 /// Writes how many owners are read for the closest NSEC set, and the set.
-fn write_counted(out: &mut String, zone: &Zone, name: &LowerName) -> Written {
+fn write_counted(out: &mut Answer, inner: &InnerInMemory<RowSigner>, name: &LowerName) {
     let mut reads = Reads::new();
-    match zone.inner().closest_nsec_counted(name, &mut reads) {
-        Ok(Some(set)) => {
-            write!(out, "{} read | ", reads.count())?;
-            write_set(out, set)
+    match inner.closest_nsec_counted(name, &mut reads) {
+        Ok(set) => write_read(out, reads.count(), set),
+        Err(error) => out.fail(error),
+    }
+}
+
+fn write_read(out: &mut Answer, read: u64, set: Option<&RecordSet>) {
+    out.put(&read);
+    match set {
+        Some(set) => {
+            out.say(" read | ");
+            write_set(out, set);
         }
-        Ok(None) => write!(out, "{} read, None", reads.count()),
-        Err(error) => write!(out, "error: {error}"),
+        None => out.say(" read, None"),
     }
 }
 
 /// Writes whether a name is there, and how many keys are read for that.
-fn write_exists(out: &mut String, zone: &Zone, name: &LowerName) -> Written {
+fn write_exists(out: &mut Answer, inner: &InnerInMemory<RowSigner>, name: &LowerName) {
     let mut reads = Reads::default();
-    match zone.inner().owns_at_or_below(name, &mut reads) {
-        Ok(owns) => write!(out, "{owns}, {} read", reads.count()),
-        Err(error) => write!(out, "error: {error}"),
+    match inner.owns_at_or_below(name, &mut reads) {
+        Ok(owns) => {
+            out.put(&owns);
+            out.say(", ");
+            out.put(&reads.count());
+            out.say(" read");
+        }
+        Err(error) => out.fail(error),
     }
 }
 
 /// Writes how many names own sets of a type of denial, and the names, which are lent by a copy of the iterator.
-pub fn write_owners(out: &mut String, zone: &Zone, record_type: RecordType) -> Written {
-    let owners = zone.inner().denial_owners(record_type);
-    write!(out, "{} owners", count_owners(zone, record_type))?;
-    if owners.size_hint().0 > count_owners(zone, record_type) {
-        write!(out, " of more")?;
+pub fn write_owners(out: &mut Answer, inner: &InnerInMemory<RowSigner>, record_type: RecordType) {
+    let owners = inner.denial_owners(record_type);
+    let count = count_owners(inner, record_type);
+    out.put(&count);
+    out.say(" owners");
+    if owners.size_hint().0 > count {
+        out.say(" of more");
     }
     let copy: Result<DenialOwners<'_>, AllocError> = owners.clone();
     match copy {
-        Ok(copy) => {
-            for owner in copy {
-                write!(out, " | {owner}")?;
-            }
-            Ok(())
-        }
-        Err(_) => write!(out, "error: out of memory"),
+        Ok(copy) => list_owners(out, copy),
+        Err(_) => out.say("error: out of memory"),
+    }
+}
+
+fn list_owners(out: &mut Answer, owners: DenialOwners<'_>) {
+    for owner in owners {
+        out.say(" | ");
+        out.put(owner);
     }
 }
 
 /// How many names own sets of a type of denial.
-fn count_owners(zone: &Zone, record_type: RecordType) -> usize {
+fn count_owners(inner: &InnerInMemory<RowSigner>, record_type: RecordType) -> usize {
     let mut count = 0usize;
-    for _ in zone.inner().denial_owners(record_type) {
+    for _ in inner.denial_owners(record_type) {
         count = count.saturating_add(1);
     }
     count
@@ -89,7 +110,7 @@ fn count_owners(zone: &Zone, record_type: RecordType) -> usize {
 
 /// Writes how many names are hashed for the NSEC3 sets that deny a name, and the owners of the sets; or of those that a
 /// wildcard's answer needs. The hash is the one beside the zone, without salt and iterations.
-fn write_proof(out: &mut String, state: &State, verb: &str, arguments: &mut Arguments) -> Written {
+fn write_proof(out: &mut Answer, state: &State, verb: &str, arguments: &mut Arguments<'_>) {
     let name = arguments.take_lower();
     let info = Nsec3QueryInfo {
         qname: &name,
@@ -99,20 +120,45 @@ fn write_proof(out: &mut String, state: &State, verb: &str, arguments: &mut Argu
         salt: b"",
         iterations: 0,
     };
-    let proof = state
-        .zone
-        .inner()
-        .proof(info, state.zone.origin(), &state.hash);
-    let hashed = state.hash.calls.take_made();
-    match proof {
-        Ok(sets) => {
-            write!(out, "{hashed} hashed")?;
-            for set in sets.as_slice() {
-                write!(out, " | {}", set.name())?;
-            }
-            Ok(())
-        }
-        Err(LookupError::Memory) => write!(out, "error: out of memory"),
-        Err(error) => write!(out, "error: {error}, {hashed} hashed"),
+    prove(
+        out,
+        state.zone.inner(),
+        info,
+        state.zone.origin(),
+        &state.hash,
+    );
+}
+
+fn prove(
+    out: &mut Answer,
+    inner: &InnerInMemory<RowSigner>,
+    info: Nsec3QueryInfo<'_>,
+    origin: &LowerName,
+    hash: &RowHash,
+) {
+    match inner.proof(info, origin, hash) {
+        Ok(sets) => write_names(out, hash.calls.take_made(), sets.as_slice()),
+        Err(error) => write_refused_proof(out, hash.calls.take_made(), error),
+    }
+}
+
+/// Writes how many names were hashed, and the owners of the sets.
+fn write_names(out: &mut Answer, hashed: u64, sets: &[&RecordSet]) {
+    out.put(&hashed);
+    out.say(" hashed");
+    for set in sets {
+        out.say(" | ");
+        out.put(set.name());
+    }
+}
+
+/// Writes why there are no sets, and how many names were hashed where memory was found.
+fn write_refused_proof(out: &mut Answer, hashed: u64, error: LookupError) {
+    let lacks_memory = matches!(error, LookupError::Memory);
+    out.fail(error);
+    if !lacks_memory {
+        out.say(", ");
+        out.put(&hashed);
+        out.say(" hashed");
     }
 }

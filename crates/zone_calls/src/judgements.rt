@@ -1,19 +1,20 @@
 //! Judges what the zone's records prove, as a validator does.
 
 use crate::state::State;
+use crate::texts::Zone;
 use call_arguments::{Arguments, RowHash};
-use value_calls::{Written, Zone, write_holds, write_whether};
+use value_calls::Answer;
 use zone_proto::{LowerName, Name, ProtoError, RData, Record, RecordType};
 use zone_validation::{Proof, nsec, nsec3};
 
 /// Judges what the first eight records of the zone prove, by NSEC, or by NSEC3 with the hash beside the zone; or makes one of
 /// the calls that ask for a certain proof. It takes no memory to list the records.
 pub fn make_judgement_call(
-    out: &mut String,
+    out: &mut Answer,
     state: &mut State,
     verb: &str,
-    arguments: &mut Arguments,
-) -> Written {
+    arguments: &mut Arguments<'_>,
+) {
     let (name, apex) = (arguments.take_lower(), arguments.take_lower());
     let asked = Asked {
         apex: &apex,
@@ -22,27 +23,32 @@ pub fn make_judgement_call(
         labels: usize::try_from(arguments.take_number()).unwrap_or(0),
     };
     let other = Record::from_rdata(Name::root(arguments.alloc), 0, RData::A([0, 0, 0, 0]));
-    let kind = arguments.text.as_str();
-    write_judgement(out, &state.zone, &other, &state.hash, verb, &asked, kind)
+    let records = first_records(&state.zone, &other);
+    judge(
+        out,
+        records.as_slice(),
+        &state.hash,
+        verb,
+        &asked,
+        arguments.text,
+    );
+    drop(other);
 }
 
-/// Writes what the zone's first records prove.
-fn write_judgement<'z>(
-    out: &mut String,
-    zone: &'z Zone,
-    other: &'z Record,
+/// Judges what records prove.
+fn judge(
+    out: &mut Answer,
+    records: &[&Record],
     hash: &RowHash,
     verb: &str,
     asked: &Asked<'_>,
     kind: &str,
-) -> Written {
-    let listed = first_records(zone, other);
-    let records = listed.as_slice();
+) {
     match verb {
         "judge" => write_proof(out, proof_of(records, asked)),
         "judge hashed" => write_proof(out, proof_by_hash(records, asked, hash)),
-        "proves" => write_holds(out, is_proved(records, asked, kind)),
-        _ => write_whether(out, is_proved_by_hash(records, asked, hash, kind)),
+        "proves" => out.hold(is_proved(records, asked, kind)),
+        _ => out.tell(is_proved_by_hash(records, asked, hash, kind)),
     }
 }
 
@@ -95,11 +101,11 @@ fn record_at<'z>(zone: &'z Zone, place: usize, other: &'z Record) -> &'z Record 
 }
 
 /// Writes what is proved.
-fn write_proof(out: &mut String, proof: Result<Option<Proof>, ProtoError>) -> Written {
+fn write_proof(out: &mut Answer, proof: Result<Option<Proof>, ProtoError>) {
     match proof {
-        Ok(Some(proof)) => write!(out, "{proof:?}"),
-        Ok(None) => write!(out, "nothing"),
-        Err(error) => write!(out, "error: {error}"),
+        Ok(Some(proof)) => out.show(&proof),
+        Ok(None) => out.say("nothing"),
+        Err(error) => out.fail(error),
     }
 }
 

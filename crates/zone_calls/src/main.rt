@@ -21,7 +21,9 @@ mod rows;
 mod run;
 mod searches;
 mod sets;
+mod signers;
 mod state;
+mod texts;
 mod zones;
 
 use run::Runner;

@@ -1,9 +1,10 @@
 //! Runs of a row: as it is, with no memory left, and with ever more.
 
 use crate::state::State;
-use call_arguments::{Arguments, boxed, read_call};
+use call_arguments::{Arguments, read_call};
 use scarce::Scarcity;
 use std::alloc::{AllocError, Global};
+use value_calls::Answer;
 use zone_text::TextError;
 
 /// How many rooms are tried before a call has to succeed.
@@ -26,17 +27,17 @@ const REFUSED: &str = "error: out of memory";
 pub struct Runner {
     alloc: Global,
     scarcity: Scarcity,
-    answer: String,
-    before: String,
-    after: String,
+    answer: Answer,
+    before: Answer,
+    after: Answer,
 }
 
 impl Runner {
     /// Nothing has been answered yet. The texts get their room.
     pub fn new(alloc: Global) -> Result<Runner, AllocError> {
-        let answer = String::with_capacity(alloc, WRITING)?;
-        let before = String::with_capacity(alloc, WRITING)?;
-        let after = String::with_capacity(alloc, WRITING)?;
+        let answer = Answer::new(alloc, WRITING)?;
+        let before = Answer::new(alloc, WRITING)?;
+        let after = Answer::new(alloc, WRITING)?;
         Ok(Runner {
             alloc,
             scarcity: Scarcity::new(alloc)?,
@@ -48,11 +49,17 @@ impl Runner {
 
     /// The answer to the last row.
     pub fn answer(&self) -> &str {
-        self.answer.as_str()
+        self.answer.text()
     }
 
-    /// Makes the call of a row.
+    /// Makes the call of a row, and tells whether there was room for its answer.
     pub fn run(&mut self, state: &mut State, row: &str) -> Result<(), TextError> {
+        self.run_as_told(state, row)?;
+        Ok(self.answer.end()?)
+    }
+
+    /// Makes the call of a row in the memory that the row gives it.
+    fn run_as_told(&mut self, state: &mut State, row: &str) -> Result<(), TextError> {
         if let Some(call) = row.strip_prefix("without memory: ") {
             return self.run_without_memory(state, call);
         }
@@ -80,13 +87,15 @@ impl Runner {
         least: usize,
     ) -> Result<(), TextError> {
         self.before.clear();
-        state.write(&mut self.before)?;
+        state.write(&mut self.before);
         self.scarcity.begin(2 * ROOMS)?;
         let tried = self.try_rooms(state, call);
         self.scarcity.end();
         let refused = tried?;
         if refused < least {
-            write!(self.answer, " after {refused} refusals")?;
+            self.answer.say(" after ");
+            self.answer.put(&refused);
+            self.answer.say(" refusals");
         }
         Ok(())
     }
@@ -96,28 +105,48 @@ impl Runner {
         for refused in 0..ROOMS {
             self.scarcity.leave(READING);
             self.make(state, call, Some(refused.saturating_mul(STEP)))?;
-            if self.answer.as_str() != REFUSED {
+            if self.answer.text() != REFUSED {
                 return Ok(refused);
             }
-            self.after.clear();
-            state.write(&mut self.after)?;
-            if self.after != self.before {
-                write!(self.answer, ", and something is changed")?;
+            if self.changes(state)? {
+                self.answer.say(", and something is changed");
                 return Ok(refused);
             }
         }
         Err(TextError::BadText)
     }
 
+    /// Whether something isn't as it was before the call.
+    fn changes(&mut self, state: &State) -> Result<bool, AllocError> {
+        self.after.clear();
+        state.write(&mut self.after);
+        self.before.end()?;
+        self.after.end()?;
+        Ok(self.after.text() != self.before.text())
+    }
+
     /// Reads a call, and makes it; in a room, while the process has no more free memory than that.
     fn make(&mut self, state: &mut State, row: &str, room: Option<usize>) -> Result<(), TextError> {
-        let mut arguments = boxed(self.alloc, Arguments::new(self.alloc))?;
-        let call = read_call(self.alloc, &state.held, &mut arguments, row)?;
+        let mut arguments = Arguments::new(self.alloc);
+        let made = self.make_with(state, &mut arguments, row, room);
+        drop(arguments);
+        made
+    }
+
+    fn make_with<'r>(
+        &mut self,
+        state: &mut State,
+        arguments: &mut Arguments<'r>,
+        row: &'r str,
+        room: Option<usize>,
+    ) -> Result<(), TextError> {
+        let call = read_call(&state.held, arguments, row)?;
         self.answer.clear();
         if let Some(room) = room {
             self.scarcity.leave(room);
         }
-        Ok(state.make(&mut self.answer, call, &mut arguments)?)
+        state.make(&mut self.answer, call, arguments);
+        Ok(())
     }
 }
 

@@ -1,92 +1,124 @@
 //! Makes the calls that search the zone.
 
+use crate::signers::RowSigner;
 use crate::state::State;
-use call_arguments::{Arguments, RowSigner};
-use std::alloc::Global;
-use value_calls::{Written, both, write_chain, write_made_set, write_set};
+use crate::texts::write_chain;
+use call_arguments::Arguments;
+use value_calls::{Answer, write_made_set};
 use zone_handler::LookupOptions;
-use zone_proto::{LowerName, RecordSet, RecordType};
-use zone_store::{Found, InnerInMemory, Reads, Searches};
+use zone_proto::{LowerName, RecordType};
+use zone_store::{Found, InnerInMemory, Searches};
 
 /// Makes a call that searches the zone.
 pub fn make_search_call(
-    out: &mut String,
+    out: &mut Answer,
     state: &mut State,
     verb: &str,
-    arguments: &mut Arguments,
-) -> Written {
+    arguments: &mut Arguments<'_>,
+) {
     let name = arguments.take_lower();
     match verb {
-        "any" => match state.zone.inner().replace_any(&name) {
-            Ok(chosen) => write!(out, "{chosen} {}", chosen.0),
-            Err(error) => write!(out, "error: {error}"),
-        },
+        "any" => choose(out, state.zone.inner(), &name),
         "search" => search(out, state, &name, arguments),
-        "chase" => chase(out, state, &name, arguments),
-        _ => add(out, state, &name, arguments),
+        "chase" => chase(out, state.zone.inner(), &name, arguments),
+        _ => add(out, state.zone.inner(), &name, arguments),
+    }
+}
+
+/// Chooses a type in the place of ANY.
+fn choose(out: &mut Answer, inner: &InnerInMemory<RowSigner>, name: &LowerName) {
+    match inner.replace_any(name) {
+        Ok(chosen) => {
+            out.put(&chosen);
+            out.say(" ");
+            out.put(&chosen.0);
+        }
+        Err(error) => out.fail(error),
     }
 }
 
 /// Searches for a set, which has to be counted, and copies what is found.
-fn search(
-    out: &mut String,
-    state: &mut State,
-    name: &LowerName,
-    arguments: &mut Arguments,
-) -> Written {
+fn search(out: &mut Answer, state: &mut State, name: &LowerName, arguments: &mut Arguments<'_>) {
     let before = state.searches.count();
     let (record_type, options) = (arguments.take_type(), arguments.options());
     let inner = state.zone.inner();
     match inner.inner_lookup(name, record_type, options, &mut state.searches) {
-        Ok(Some(found)) => write_made_set(out, found.into_set())?,
-        Ok(None) => write!(out, "nothing")?,
-        Err(error) => write!(out, "error: {error}")?,
+        Ok(found) => write_found(out, found),
+        Err(error) => out.fail(error),
     }
     if state.searches.count() != before.saturating_add(1) {
-        write!(out, ", a search that isn't counted")?;
+        out.say(", a search that isn't counted");
     }
-    Ok(())
+}
+
+/// Writes a copy of what is found.
+fn write_found(out: &mut Answer, found: Option<Found<'_>>) {
+    match found {
+        Some(found) => write_made_set(out, found.into_set()),
+        None => out.say("nothing"),
+    }
 }
 
 /// Follows the aliases from the set that is found.
-fn chase(out: &mut String, state: &State, name: &LowerName, arguments: &mut Arguments) -> Written {
+fn chase(
+    out: &mut Answer,
+    inner: &InnerInMemory<RowSigner>,
+    name: &LowerName,
+    arguments: &mut Arguments<'_>,
+) {
     let mut searches = Searches::new();
     let (record_type, options) = (arguments.take_type(), arguments.options());
-    match state
-        .zone
-        .inner()
-        .inner_lookup(name, record_type, options, &mut searches)
-    {
-        Ok(Some(first)) => chase_from(out, state, name, record_type, options, first),
-        Ok(None) => write!(out, "nothing"),
-        Err(error) => write!(out, "error: {error}"),
+    match inner.inner_lookup(name, record_type, options, &mut searches) {
+        Ok(Some(first)) => chase_from(out, inner, name, record_type, options, first),
+        Ok(None) => out.say("nothing"),
+        Err(error) => out.fail(error),
     }
 }
 
 fn chase_from<'z>(
-    out: &mut String,
-    state: &'z State,
+    out: &mut Answer,
+    inner: &'z InnerInMemory<RowSigner>,
     name: &LowerName,
     record_type: RecordType,
     options: LookupOptions,
     first: Found<'z>,
-) -> Written {
+) {
     let mut searches = Searches::new();
-    let inner = state.zone.inner();
     match inner.chase_cnames(name, first, record_type, options, &mut searches) {
-        Ok(chain) => write_chain(out, searches.count(), chain.as_slice()),
-        Err(error) => write!(out, "error: {error}"),
+        Ok(chain) => {
+            write_chain(out, searches.count(), chain.as_slice());
+            drop(chain);
+        }
+        Err(error) => out.fail(error),
     }
 }
 
 /// The additional sets for a question, from a next name on.
-fn add(out: &mut String, state: &State, name: &LowerName, arguments: &mut Arguments) -> Written {
+fn add(
+    out: &mut Answer,
+    inner: &InnerInMemory<RowSigner>,
+    name: &LowerName,
+    arguments: &mut Arguments<'_>,
+) {
     let mut searches = Searches::new();
     let (next, record_type) = (arguments.take_lower(), arguments.take_type());
-    let (inner, options) = (state.zone.inner(), arguments.options());
+    let options = arguments.options();
     match inner.additional_search(name, record_type, next, record_type, options, &mut searches) {
-        Ok(Some(sets)) => write_chain(out, searches.count(), sets.as_slice()),
-        Ok(None) => write!(out, "{} searched, None", searches.count()),
-        Err(error) => write!(out, "error: {error}"),
+        Ok(sets) => write_additionals(out, searches.count(), sets),
+        Err(error) => out.fail(error),
+    }
+}
+
+/// Writes how many names were searched, and the additional sets if there are any.
+fn write_additionals(out: &mut Answer, searched: u64, sets: Option<Vec<Found<'_>>>) {
+    match sets {
+        Some(sets) => {
+            write_chain(out, searched, sets.as_slice());
+            drop(sets);
+        }
+        None => {
+            out.put(&searched);
+            out.say(" searched, None");
+        }
     }
 }

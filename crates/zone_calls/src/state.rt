@@ -4,10 +4,11 @@ use crate::denials::{make_denial_call, write_owners};
 use crate::judgements::make_judgement_call;
 use crate::searches::make_search_call;
 use crate::sets::make_set_call;
+use crate::texts::{Zone, write_zone};
 use crate::zones::make_zone_call;
 use call_arguments::{Arguments, Form, Held, RowHash};
 use std::alloc::Global;
-use value_calls::{Written, Zone, make_handler_call, make_value_call, write_set, write_zone};
+use value_calls::{Answer, make_handler_call, make_value_call, write_set};
 use zone_handler::{AxfrPolicy, ZoneType};
 use zone_proto::{Name, RecordType};
 use zone_store::{InMemoryZoneHandler, Searches};
@@ -24,10 +25,14 @@ pub struct State {
 impl State {
     /// The zone of the root without records, and no sets.
     pub fn new(alloc: Global) -> State {
-        let (zone_type, policy) = (ZoneType::Primary, AxfrPolicy::AllowAll);
-        let hash = RowHash::new(alloc);
         State {
-            zone: InMemoryZoneHandler::empty(Name::root(alloc), zone_type, policy, None, hash),
+            zone: InMemoryZoneHandler::empty(
+                Name::root(alloc),
+                ZoneType::Primary,
+                AxfrPolicy::AllowAll,
+                None,
+                RowHash::new(alloc),
+            ),
             hash: RowHash::new(alloc),
             held: Held::new(alloc),
             searches: Searches::new(),
@@ -35,7 +40,7 @@ impl State {
     }
 
     /// Makes a call, and writes what it answers.
-    pub fn make(&mut self, out: &mut String, call: Form, arguments: &mut Arguments) -> Written {
+    pub fn make(&mut self, out: &mut Answer, call: Form, arguments: &mut Arguments<'_>) {
         let verb = call.verb;
         match call.subject {
             "sets" => make_set_call(out, &mut self.held, verb, arguments),
@@ -50,15 +55,24 @@ impl State {
 
     /// Writes all that a call could change: the zone and its indexes, the current set, and how many sets are collected and
     /// signers are there.
-    pub fn write(&self, out: &mut String) -> Written {
-        write_zone(out, &self.zone)?;
+    pub fn write(&self, out: &mut Answer) {
+        write_zone(out, &self.zone);
         if let Some(set) = &self.held.set {
-            write!(out, " current: ")?;
-            write_set(out, set)?;
+            out.say(" current: ");
+            write_set(out, set);
         }
-        write!(out, " {} collected", self.held.collected.len())?;
-        write!(out, " {} signers", self.zone.secure_keys().len())?;
-        write_owners(out, &self.zone, RecordType::NSEC)?;
-        write_owners(out, &self.zone, RecordType::NSEC3)
+        out.say(" ");
+        out.put(&self.held.collected.len());
+        out.say(" collected ");
+        out.put(&self.zone.secure_keys().len());
+        out.say(" signers");
+        write_owners(out, self.zone.inner(), RecordType::NSEC);
+        write_owners(out, self.zone.inner(), RecordType::NSEC3);
     }
+}
+
+/// Puts a value into the place of another one. It is of any type, so that a proof has nothing to take apart.
+pub fn replace<T: Drop>(out: &mut Answer, place: &mut T, value: T) {
+    *place = value;
+    out.say("done");
 }

@@ -1,158 +1,220 @@
 //! Makes the calls on the zone, those that sign it among them.
 
-use crate::state::State;
-use call_arguments::{Arguments, Head, RowSigner};
-use std::collections::BTreeMap;
-use std::mem;
-use value_calls::{Written, Zone, write_about, write_set_handed_out, write_whether, write_zone};
+use crate::signers::RowSigner;
+use crate::state::{State, replace};
+use crate::texts::{Zone, write_about, write_zone};
+use call_arguments::Arguments;
+use std::fmt::Display;
+use value_calls::{Answer, write_set_handed_out};
 use zone_handler::{DnssecZoneHandler, KeyError, LookupOptions, SecureError};
-use zone_proto::{DNSClass, LowerName, Record, RecordType, Signer};
-use zone_store::{InMemoryZoneHandler, InnerInMemory, PutRefused, Searches};
+use zone_proto::{DNSClass, LowerName, Record, RecordSet, RecordType, Signer};
+use zone_store::{Found, InMemoryZoneHandler, InnerInMemory, PutRefused, Searches, ZoneError};
 
 /// Makes a call on the zone.
 pub fn make_zone_call(
-    out: &mut String,
+    out: &mut Answer,
     state: &mut State,
     verb: &str,
-    arguments: &mut Arguments,
-) -> Written {
+    arguments: &mut Arguments<'_>,
+) {
     match verb {
-        "empty" | "make" => replace_zone(out, state, verb, arguments),
+        "empty" => replace(out, &mut state.zone, empty_zone(arguments)),
+        "make" => make_zone(out, state, arguments),
         "put" => put(out, state),
         "map" => make_map(out, arguments),
-        "about" | "dump" | "signers" => look_at(out, &state.zone, verb),
         "key" | "key mut" => add_key(out, &mut state.zone, verb, arguments),
         "secure" | "secure mut" => secure(out, &mut state.zone, verb, arguments.take_number()),
-        verb => change(out, &mut state.zone, verb, arguments),
+        verb => make_on_zone(out, &mut state.zone, verb, arguments),
     }
 }
 
-/// Makes a call that only looks at the zone.
-fn look_at(out: &mut String, zone: &Zone, verb: &str) -> Written {
+/// Makes a call that only looks at the zone, or that changes its records.
+fn make_on_zone(out: &mut Answer, zone: &mut Zone, verb: &str, arguments: &mut Arguments<'_>) {
     match verb {
         "about" => write_about(out, zone),
         "dump" => write_zone(out, zone),
-        _ => write!(out, "{}", zone.secure_keys().len()),
-    }
-}
-
-/// Makes a call that changes the zone.
-fn change(out: &mut String, zone: &mut Zone, verb: &str, arguments: &mut Arguments) -> Written {
-    match verb {
-        "upsert" => {
-            let serial = arguments.take_long();
-            write_whether(out, zone.upsert(arguments.take_record(), serial))
-        }
-        "upsert mut" => {
-            let serial = arguments.take_long();
-            write_whether(out, zone.upsert_mut(arguments.take_record(), serial))
-        }
-        "remove" => write_set_handed_out(out, zone.remove_set(&arguments.take_key())),
+        "signers" => out.put(&zone.secure_keys().len()),
+        "upsert" | "upsert mut" => upsert(out, zone, verb, arguments),
+        "remove" => remove(out, zone, arguments),
+        "refusal zone" => out.put(&ZoneError::Memory),
         _ => {
             zone.clear();
-            write!(out, "done")
+            out.say("done");
         }
     }
 }
 
-/// Makes a zone, without records or of sets, which takes the place of the one before.
-fn replace_zone(
-    out: &mut String,
-    state: &mut State,
-    verb: &str,
-    arguments: &mut Arguments,
-) -> Written {
-    let origin = arguments.take_name();
-    let alloc = arguments.alloc;
-    let head = mem::replace(&mut arguments.head, Head::new(alloc));
-    let (zone_type, policy, kind) = (head.zone_type, head.policy, head.kind);
-    if verb == "empty" {
-        state.zone = InMemoryZoneHandler::empty(origin, zone_type, policy, kind, head.hash);
-        return write!(out, "done");
+fn upsert(out: &mut Answer, zone: &mut Zone, verb: &str, arguments: &mut Arguments<'_>) {
+    let record = arguments.take_record();
+    let serial = arguments.take_long();
+    if verb == "upsert" {
+        out.tell(zone.upsert(record, serial));
+    } else {
+        out.tell(zone.upsert_mut(record, serial));
     }
-    let sets = mem::replace(&mut arguments.sets, BTreeMap::new(alloc));
-    match InMemoryZoneHandler::new(origin, sets, zone_type, policy, kind, head.hash) {
-        Ok(zone) => {
-            state.zone = zone;
-            write!(out, "done")
-        }
-        Err(error) => write!(out, "error: {error}"),
+}
+
+fn remove(out: &mut Answer, zone: &mut Zone, arguments: &mut Arguments<'_>) {
+    write_set_handed_out(out, zone.remove_set(&arguments.take_key()));
+}
+
+/// A zone without records.
+fn empty_zone(arguments: &mut Arguments<'_>) -> Zone {
+    InMemoryZoneHandler::empty(
+        arguments.take_name(),
+        arguments.zone_type,
+        arguments.policy,
+        arguments.take_kind(),
+        arguments.take_hash(),
+    )
+}
+
+/// Makes a zone of sets, which takes the place of the one before.
+fn make_zone(out: &mut Answer, state: &mut State, arguments: &mut Arguments<'_>) {
+    let made = InMemoryZoneHandler::new(
+        arguments.take_name(),
+        arguments.take_sets(),
+        arguments.zone_type,
+        arguments.policy,
+        arguments.take_kind(),
+        arguments.take_hash(),
+    );
+    replace_if_made(out, &mut state.zone, made);
+}
+
+/// Puts what a call made into the place of what was there before, or writes its error.
+fn replace_if_made<T: Drop, E: Display + Drop>(
+    out: &mut Answer,
+    place: &mut T,
+    made: Result<T, E>,
+) {
+    match made {
+        Ok(value) => replace(out, place, value),
+        Err(error) => out.fail(error),
     }
 }
 
 /// Stores the current set, which is current again if it is refused.
-fn put(out: &mut String, state: &mut State) -> Written {
+fn put(out: &mut Answer, state: &mut State) {
     match state.held.set.take() {
-        Some(set) => match state.zone.put_set(set) {
-            Ok(before) => write_set_handed_out(out, before),
-            Err(PutRefused::Empty(set)) => {
-                state.held.set = Some(set);
-                write!(out, "no")
-            }
-            Err(PutRefused::Memory(set)) => {
-                state.held.set = Some(set);
-                write!(out, "error: out of memory")
-            }
-        },
-        None => write!(out, "no current set"),
+        Some(set) => write_put(out, &mut state.held.set, state.zone.put_set(set)),
+        None => out.say("no current set"),
     }
+}
+
+fn write_put(
+    out: &mut Answer,
+    current: &mut Option<RecordSet>,
+    put: Result<Option<RecordSet>, PutRefused>,
+) {
+    match put {
+        Ok(before) => write_set_handed_out(out, before),
+        Err(PutRefused::Empty(set)) => take_back(out, current, set, "no"),
+        Err(PutRefused::Memory(set)) => take_back(out, current, set, "error: out of memory"),
+    }
+}
+
+/// Takes a refused set back as the current one.
+fn take_back(out: &mut Answer, current: &mut Option<RecordSet>, set: RecordSet, answer: &str) {
+    *current = Some(set);
+    out.say(answer);
 }
 
 /// Makes a map by itself, and takes a record into it as one of a class: whether it was taken, and the serial of the set that is
 /// then found for its name and type.
-fn make_map(out: &mut String, arguments: &mut Arguments) -> Written {
-    let class = DNSClass(arguments.take_short());
+fn make_map(out: &mut Answer, arguments: &mut Arguments<'_>) {
     let record = arguments.take_record();
+    let class = DNSClass(arguments.take_short());
     match LowerName::new(&record.name) {
         Ok(name) => take_into_map(out, &name, record, class),
-        Err(error) => write!(out, "error: {error}"),
+        Err(error) => {
+            drop(record);
+            out.fail(error);
+        }
     }
 }
 
-fn take_into_map(out: &mut String, name: &LowerName, record: Record, class: DNSClass) -> Written {
+fn take_into_map(out: &mut Answer, name: &LowerName, record: Record, class: DNSClass) {
     let mut map: InnerInMemory<RowSigner> = InnerInMemory::new(name.alloc());
+    take_into(out, &mut map, name, record, class);
+    drop(map);
+}
+
+fn take_into(
+    out: &mut Answer,
+    map: &mut InnerInMemory<RowSigner>,
+    name: &LowerName,
+    record: Record,
+    class: DNSClass,
+) {
     let record_type = record.record_type();
     match map.upsert(record, 7, class) {
-        Ok(taken) => write_found_serial(out, &map, taken, name, record_type),
-        Err(error) => write!(out, "error: {error}"),
+        Ok(taken) => write_taken(out, map, taken, name, record_type),
+        Err(error) => out.fail(error),
     }
 }
 
-fn write_found_serial(
-    out: &mut String,
+fn write_taken(
+    out: &mut Answer,
     map: &InnerInMemory<RowSigner>,
     taken: bool,
     name: &LowerName,
     record_type: RecordType,
-) -> Written {
+) {
     let mut searches = Searches::default();
-    let options = LookupOptions::for_dnssec();
-    match map.inner_lookup(name, record_type, options, &mut searches) {
-        Ok(Some(found)) => {
-            write!(out, "taken: {taken}, serial {}, ", found.set().serial())?;
-            write!(out, "{} searched", searches.count())
+    match map.inner_lookup(
+        name,
+        record_type,
+        LookupOptions::for_dnssec(),
+        &mut searches,
+    ) {
+        Ok(found) => {
+            out.say("taken: ");
+            out.put(&taken);
+            write_serial(out, found.as_ref());
+            drop(found);
+            out.put(&searches.count());
+            out.say(" searched");
         }
-        Ok(None) => write!(
-            out,
-            "taken: {taken}, nothing found, {} searched",
-            searches.count()
-        ),
-        Err(error) => write!(out, "error: {error}"),
+        Err(error) => out.fail(error),
     }
 }
 
-/// Adds a signer, through the trait of handlers that sign, or to the zone itself.
-fn add_key(out: &mut String, zone: &mut Zone, verb: &str, arguments: &mut Arguments) -> Written {
-    let added = match arguments.signer.take() {
-        Some(signer) if verb == "key" => add_key_to(zone, signer),
-        Some(signer) => zone.add_zone_signing_key_mut(signer),
-        None => Err(KeyError::NoKey),
-    };
-    match added {
-        Ok(()) => write!(out, "done"),
-        Err(KeyError::NoKey) => write!(out, "error: NoKey"),
-        Err(KeyError::Memory) => write!(out, "error: out of memory"),
+/// Writes the serial of what was found.
+fn write_serial(out: &mut Answer, found: Option<&Found<'_>>) {
+    match found {
+        Some(found) => {
+            out.say(", serial ");
+            out.put(&found.set().serial());
+            out.say(", ");
+        }
+        None => out.say(", nothing found, "),
     }
+}
+
+/// Makes a signer and adds it, through the trait of handlers that sign, or to the zone itself.
+fn add_key(out: &mut Answer, zone: &mut Zone, verb: &str, arguments: &mut Arguments<'_>) {
+    let (origin, number) = (arguments.take_lower(), arguments.take_short());
+    match RowSigner::new(number, &origin, arguments.manner) {
+        Ok(signer) => write_added(out, add_signer(zone, verb, signer)),
+        Err(error) => out.fail(error),
+    }
+}
+
+fn add_signer(zone: &mut Zone, verb: &str, signer: RowSigner) -> Result<(), KeyError> {
+    if verb == "key" {
+        add_key_to(zone, signer)
+    } else {
+        zone.add_zone_signing_key_mut(signer)
+    }
+}
+
+fn write_added(out: &mut Answer, added: Result<(), KeyError>) {
+    out.say(match added {
+        Ok(()) => "done",
+        Err(KeyError::NoKey) => "error: NoKey",
+        Err(KeyError::Memory) => "error: out of memory",
+    });
 }
 
 /// Adds a signer to any handler that signs.
@@ -163,16 +225,23 @@ fn add_key_to<S: Signer, Z: DnssecZoneHandler<S>>(zone: &mut Z, signer: S) -> Re
 }
 
 /// Secures the zone at a moment, through the trait of handlers that sign, or by its own call.
-fn secure(out: &mut String, zone: &mut Zone, verb: &str, now: u64) -> Written {
-    let secured = if verb == "secure" {
-        secure_any::<RowSigner, Zone>(zone, now)
+fn secure(out: &mut Answer, zone: &mut Zone, verb: &str, now: u64) {
+    if verb == "secure" {
+        write_secured(out, secure_any::<RowSigner, Zone>(zone, now));
     } else {
-        zone.secure_zone_mut(now)
-    };
+        write_secured(out, zone.secure_zone_mut(now));
+    }
+}
+
+fn write_secured(out: &mut Answer, secured: Result<(), SecureError>) {
     match secured {
-        Ok(()) => write!(out, "done"),
-        Err(SecureError::Memory) => write!(out, "error: out of memory"),
-        Err(error) => write!(out, "error: {error:?}"),
+        Ok(()) => out.say("done"),
+        Err(SecureError::Memory) => out.say("error: out of memory"),
+        Err(error) => {
+            out.say("error: ");
+            out.show(&error);
+            drop(error);
+        }
     }
 }
 

@@ -1,23 +1,10 @@
 //! The signers of rows.
 ghost use Rattle.std.specs.Prelude.{◌≡◌};
-ghost use Rattle.call_arguments.specs.RowSigners.{signs_type};
+ghost use Rattle.zone_calls.specs.RowSigners.{signs_type};
 
-use crate::calls::Calls;
-use zone_proto::{DNSClass, DNSKEY, ProtoError, RRSIG, RecordSet, Signer};
+use call_arguments::{Calls, Manner};
+use zone_proto::{DNSClass, DNSKEY, LowerName, ProtoError, RRSIG, RecordSet, Signer};
 use zone_store::program::DemoSigner;
-
-/// What a signer of rows does with what its demonstration signer answers.
-#[derive(Clone, Copy)]
-pub enum Manner {
-    /// It has a key, and signs every set.
-    Whole,
-    /// `keyless`: it has no key, and signs nothing.
-    Keyless,
-    /// `idle`: it has a key, and signs nothing.
-    Idle,
-    /// `choosy`: it has a key, and signs sets of odd types alone.
-    Choosy,
-}
 
 /// A signer of rows.
 #[derive(Drop)]
@@ -27,8 +14,27 @@ pub struct RowSigner {
     pub calls: Calls,
 }
 
+impl RowSigner {
+    /// The signer of a number for the zone of an origin.
+    pub fn new(number: u16, origin: &LowerName, manner: Manner) -> Result<RowSigner, ProtoError> {
+        Ok(RowSigner {
+            demo: DemoSigner::new(number, origin)?,
+            manner,
+            calls: Calls::new(calls_of(manner)),
+        })
+    }
+}
+
+/// How many calls of a signer of this manner find memory.
+fn calls_of(manner: Manner) -> u64 {
+    match manner {
+        Manner::Whole(calls) => calls,
+        _ => u64::MAX,
+    }
+}
+
 impl Signer for RowSigner {
-    ghost use Rattle.call_arguments.specs.RowSigners.{key_by, signature_by};
+    ghost use Rattle.zone_calls.specs.RowSigners.{key_by, signature_by};
 
     ghost key_of = { λ signer. key_by signer.manner signer.demo };
 
@@ -62,7 +68,7 @@ fn signs(manner: Manner, set: &RecordSet) -> bool
     ensures { result ≡ signs_type manner set.now.record_type }
 {
     match manner {
-        Manner::Whole => true,
+        Manner::Whole(_) => true,
         Manner::Choosy => set.record_type().0 % 2 == 1,
         _ => false,
     }

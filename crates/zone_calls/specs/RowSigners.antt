@@ -4,8 +4,8 @@ use Rattle.zone_proto.specs.declared.rdata.signing.DNSKEY.{DNSKEY}
 use Rattle.zone_proto.specs.declared.rdata.signing.RRSIG.{RRSIG}
 use Rattle.zone_proto.specs.Signing.{SignedPart}
 use Rattle.zone_store.specs.DemoSigners.{Demo, demo_key, demo_signature}
-use Rattle.call_arguments.specs.declared.signers.Manner.{Manner}
-use Rattle.call_arguments.specs.declared.signers.Manner.TheVariants as M
+use Rattle.call_arguments.specs.declared.manner.Manner.{Manner}
+use Rattle.call_arguments.specs.declared.manner.Manner.TheVariants as M
 
 -- the key of a signer, by its manner and the demonstration signer that it stands on
 abbrev pub key_by : Manner → Demo → Option DNSKEY
@@ -14,7 +14,7 @@ key_by _ signer = Some (demo_key signer)
 
 -- which types a signer signs
 abbrev pub signs_type : Manner → ℕ → Bool
-signs_type M.Whole t = true
+signs_type (M.Whole _) t = true
 signs_type M.Choosy t = t % 2 == 1
 signs_type _ t = false
 
