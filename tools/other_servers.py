@@ -1,13 +1,15 @@
 #!/usr/bin/env python3
 """Compares what zoned answers with what NSD, Knot DNS and BIND answer, section by section, on random zones and queries that are made
 here: zones without signatures, with NSEC, and with NSEC3, with opt-out and without; each question is asked with DNSSEC and without.
+Some zones have DNAME, and are asked for names below it, for what it leads to, for itself, and for names that it makes too long.
 Where a tool isn't there, what needs it is left out, and a line says so. It is no part of the gate.
 
   tools/other_servers.py [SEED [ROUNDS]]
 
-A round has twelve zones, of which BIND gets those that named-checkzone passes: it refuses hosts of an NS set that have no address. The
-tools are Debian's packages nsd, knot, bind9 and bind9-utils. The status is 1 where an answer differs otherwise than by what a server may
-choose:
+A round has twelve zones without DNAME, four with some, four with records below these too, and four of which the origin owns one. BIND
+gets those that named-checkzone passes: it refuses hosts of an NS set that have no address. NSD and Knot refuse records below a DNAME,
+which RFC 6672 section 2.4 forbids, so BIND alone is asked for these. The tools are Debian's packages nsd, knot, bind9 and bind9-utils.
+The status is 1 where an answer differs otherwise than by what a server may choose:
 
 - NSD puts the zone's NS set and its servers' addresses beside positive answers, which RFC 2181 section 5 leaves to the server.
 - NSD puts addresses that a wildcard gives a host beside an answer or a referral, now and then under the wildcard's own name. RFC 4592
@@ -20,10 +22,20 @@ choose:
   the name itself (section 7.2.5 and RFC 4035 section 3.1.3.4). So NSEC and NSEC3 sets aren't compared there.
 - Below an empty name that opt-out leaves out NSD takes that name for the encloser, though no NSEC3 set matches it, where zoned takes the
   closest provable one (RFC 5155 section 7.2.1). So the NSEC3 sets of zones with opt-out aren't compared.
-- BIND now and then leaves out the addresses of a referral's servers that don't stand at or below the cut, and glue beside answers, so
-  these aren't compared with it. It answers aliases that lead round in a circle by SERVFAIL.
+- BIND now and then leaves out the addresses of a referral's servers that don't stand at or below the cut, behind an alias too, and glue
+  beside answers, so these aren't compared with it. It answers aliases that lead round in a circle by SERVFAIL.
 - Where such a name isn't there and a wildcard stands above the empty one, no NSEC3 sets prove that; Knot sends a code alone then, with
   DNSSEC. So that isn't compared.
+- Of ANY below a DNAME NSD and Knot go on at the new name (RFC 6672 section 3.2). zoned and BIND stop at the CNAME that the DNAME makes,
+  which is an answer to ANY (RFC 8482 section 4.1). So BIND alone is asked for ANY.
+- Beside YXDOMAIN Knot puts the SOA, and with DNSSEC sets of denial. RFC 2308 section 3 has the SOA for name errors and no data, and the
+  DNAME shows by itself that the name gets too long (RFC 6672 section 2.2). So that authority section isn't compared with Knot.
+- Where an alias or another DNAME leads to a name that gets too long, NSD answers NOERROR, though the code is that of the last name (RFC
+  6604 section 3). So this isn't compared with NSD.
+- For the name that a DNAME gives NSD sends another NSEC set than the one that covers it, or none (RFC 4035 sections 3.1.3.2 to 3.1.3.4).
+  So NSEC sets below a DNAME aren't compared with NSD.
+- RFC 1034 section 3.6.2 has chains of aliases followed, and doesn't say how far; zoned stops behind 8 names. So chains of 8 aliases and
+  more, as by a DNAME that leads below itself, aren't compared.
 """
 import collections
 import importlib.machinery
@@ -40,6 +52,7 @@ import time
 
 sys.dont_write_bytecode = True
 
+from random_zones import MADE, dnames, is_below, names_below
 from sources import TOP
 
 NSD = """server:
@@ -83,6 +96,12 @@ BIND = """options {{
 controls {{ }};
 """
 
+# How many names zoned searches for one question.
+FOLLOWED = 8
+
+# The code of a name that a DNAME makes too long (RFC 6672 section 2.2).
+YXDOMAIN = 6
+
 # How each server is started, and what its configuration says of itself and of each zone.
 SERVERS = {
     "nsd": (["-d", "-c"], NSD, 'zone:\n name: "{origin}"\n zonefile: "{path}"\n'),
@@ -102,7 +121,8 @@ def frames_tool():
     loader = importlib.machinery.SourceFileLoader("frames", f"{TOP}/tools/frames")
     tool = importlib.util.module_from_spec(importlib.util.spec_from_loader("frames", loader))
     loader.exec_module(tool)
-    tool.TYPES.update(SRV=33)
+    tool.TYPES.update(SRV=33, DNAME=39)
+    tool.WORDS[39] = "DNAME"
     return tool
 
 
@@ -130,40 +150,6 @@ def started(main, usage):
 # ---- zones
 
 
-def random_name(origin):
-    labels = [random.choice("abcd") for _ in range(random.choice([1, 1, 2, 2, 3]))]
-    if random.random() < 0.25:
-        labels[0] = "*"
-    return ".".join(labels) + "." + origin
-
-
-def random_records(origin, owned, signed):
-    """One or a few records of one name; none where a CNAME would stand beside another."""
-    owner, kind = random_name(origin), random.choice(["A", "A", "AAAA", "TXT", "MX", "CNAME", "CNAME", "NS", "NS", "SRV"])
-    if owned.get(owner) == {"CNAME"} or kind == "CNAME" and owner in owned or kind == "NS" and "*" in owner:
-        return []
-    owned.setdefault(owner, set()).add(kind)
-    target = random.choice([random_name(origin), random_name(origin), owner if "*" in owner else f"ns.{owner}", "out.side."])
-    address = f"192.0.2.{random.randint(1, 250)}"
-    data = {"A": address, "AAAA": f"2001:db8::{random.randint(1, 999):x}", "TXT": '"t"', "MX": f"10 {target}", "SRV": f"1 2 3 {target}"}
-    records = [(owner, kind, data.get(kind, target))]
-    if kind == "NS" and random.random() < 0.7 and owned.get(f"ns.{owner}") != {"CNAME"}:
-        owned.setdefault(f"ns.{owner}", set()).add("A")
-        records.append((f"ns.{owner}", "A", address))
-    if kind == "NS" and signed and random.random() < 0.4:
-        records.append((owner, "DS", "12345 13 2 " + "00" * 32))
-    return records
-
-
-def random_zone(origin, signed):
-    owned = {}
-    records = [(origin, "SOA", f"ns.{origin} h.{origin} 1 7200 900 1209600 300"), (origin, "NS", f"ns.{origin}")]
-    records += [(origin, "NS", random_name(origin)), (f"ns.{origin}", "A", "192.0.2.1")]
-    for _ in range(random.randint(8, 22)):
-        records += random_records(origin, owned, signed)
-    return list(dict.fromkeys(records))
-
-
 def written(folder, origin, records, signing):
     """The name of the file of a zone, signed where there are words for dnssec-signzone."""
     path, ttls = f"{folder}/{origin}zone", {}
@@ -184,11 +170,13 @@ def written(folder, origin, records, signing):
 
 def queries(origin, records):
     """Names that stand in a zone, are named there, stand above these, or below, each with each type, with DNSSEC and without."""
-    names = {owner for owner, _, _ in records} | {data.split()[-1] for _, kind, data in records if kind in ("NS", "CNAME", "MX", "SRV")}
+    names = {data.split()[-1] for _, kind, data in records if kind in ("NS", "CNAME", "MX", "SRV", "DNAME")}
+    names |= {owner for owner, _, _ in records}
     names |= {name.split(".", 1)[1] for name in names if name != origin}
-    names |= {f"{random.choice('abcdx')}.{name}" for name in sorted(names)}
-    for name in sorted(name for name in names if name.endswith(origin)):
-        for kind in ("A", "AAAA", "NS", "MX", "TXT", "CNAME", "DS", "SRV"):
+    names |= {f"{random.choice('abcdx')}.{name}" for name in sorted(names)} | set(names_below(records, names))
+    for name in sorted(name for name in names if name.endswith(origin) and len(name) < 255):
+        kinds = ["DNAME"] * bool(dnames(records)) + ["ANY"] * any(is_below(name, owner) for owner in dnames(records))
+        for kind in ("A", "AAAA", "NS", "MX", "TXT", "CNAME", "DS", "SRV", *kinds):
             yield name, kind, []
             yield name, kind, ["edns=4096", "do"]
 
@@ -260,7 +248,7 @@ def without_hosts_beside(ours):
     """The sections of a referral without addresses that don't stand at or below the cut."""
     cuts = [f".{line.split()[0]}" for line in ours["AUTHORITY"] if line.split()[3] == "ns"]
     below = [line for line in ours["ADDITIONAL"] if f".{line.split()[0]}".endswith(tuple(cuts))]
-    return ours | {"ADDITIONAL": below} if cuts and not ours["ANSWER"] else ours
+    return ours | {"ADDITIONAL": below} if cuts else ours
 
 
 def asks_for_star(name, ours):
@@ -268,18 +256,31 @@ def asks_for_star(name, ours):
     return any(it.startswith("*.") for it in (name, *(line.split()[4] for line in ours["ANSWER"] if line.split()[3] == "cname")))
 
 
-def is_left_out(server, name, words, head, ours, records, has_opt_out):
+def count_of(kind, ours):
+    """How many records of a type an answer has."""
+    return sum(line.split()[3] == kind for line in ours["ANSWER"])
+
+
+def is_left_out(server, name, kind, words, head, ours, records, has_opt_out):
     """Whether a question is one that the head of this file leaves out."""
+    if kind == "ANY" and server != "named" or count_of("cname", ours) >= FOLLOWED:
+        return True
+    if server == "nsd" and head[1] == YXDOMAIN and count_of("cname", ours):
+        return True
     return has_opt_out and "do" in words and has_no_proof(name, head[1], records) or server == "named" and leads_round(ours)
 
 
-def compared_sections(server, origin, records, name, ours, theirs, has_opt_out):
+def compared_sections(server, origin, records, name, code, ours, theirs, has_opt_out):
     """The sections of both servers without what they may choose."""
     theirs = without_choices(origin, records, ours, theirs)
     if server == "named":
         ours, theirs = without_hosts_beside(ours), without_hosts_beside(theirs)
         ours = without_glue(origin, records, theirs, ours)
+    if server == "knotd" and code == YXDOMAIN:
+        theirs["AUTHORITY"] = []
     types = ["NSEC", "NSEC3"] if asks_for_star(name, ours) else ["NSEC3"] if has_opt_out else []
+    if server == "nsd" and count_of("dname", ours):
+        types += ["NSEC"]
     return without_denials(ours, types), without_denials(theirs, types)
 
 
@@ -293,9 +294,9 @@ def compare(server, zones, opted_out, zoned, stream):
             zoned.stdin.flush()
             stream.sendall(struct.pack("!H", len(message)) + message)
             (our_head, ours), (their_head, theirs) = sections(received(zoned.stdout.read)), sections(received(read))
-            if is_left_out(server, name, words, our_head, ours, records, origin in opted_out):
+            if is_left_out(server, name, kind, words, our_head, ours, records, origin in opted_out):
                 continue
-            ours, theirs = compared_sections(server, origin, records, name, ours, theirs, origin in opted_out)
+            ours, theirs = compared_sections(server, origin, records, name, our_head[1], ours, theirs, origin in opted_out)
             parts = [section for section in ours if ours[section] != theirs[section]] + ["header"] * (our_head != their_head)
             asked += 1
             if parts:
@@ -315,16 +316,30 @@ def connected(port):
     sys.exit(f"other_servers: nothing listens on port {port}")
 
 
+def await_zones(stream, origins):
+    """Waits until a server that listens has its zones: BIND listens before it has read them."""
+    read, ends = stream.makefile("rb").read, time.monotonic() + LISTENS
+    for origin in origins:
+        message = frames.query([origin, "SOA"])
+        while time.monotonic() < ends:
+            stream.sendall(struct.pack("!H", len(message)) + message)
+            if received(read)[3] & 15 == 0:
+                break
+            time.sleep(0.1)
+
+
 def free_port():
     with socket.socket() as it:
         it.bind(("127.0.0.1", 0))
         return it.getsockname()[1]
 
 
-def is_taken(server, origin, path):
-    """Whether a server loads a zone: BIND looks closer at what stands in it."""
+def is_taken(server, origin, records, path):
+    """Whether a server loads a zone: BIND looks closer at what stands in it, but for records below a DNAME."""
     words = [found("named-checkzone"), "-k", "ignore", "-i", "none", origin, path]
-    return server != "named" or subprocess.run(words, stdout=subprocess.DEVNULL).returncode == 0
+    if server == "named":
+        return subprocess.run(words, stdout=subprocess.DEVNULL).returncode == 0
+    return not any(is_below(owner, it) for owner, _, _ in records for it in dnames(records))
 
 
 def compared(server, folder, files, zones, opted_out, zoned):
@@ -339,6 +354,7 @@ def compared(server, folder, files, zones, opted_out, zoned):
     ours = subprocess.Popen([zoned, "--limits", *words], stdin=subprocess.PIPE, stdout=subprocess.PIPE)
     try:
         with connected(port) as stream:
+            await_zones(stream, files)
             return compare(server, zones, opted_out, ours, stream)
     finally:
         ours.stdin.close()
@@ -353,6 +369,13 @@ def tell(server, asked, differing):
         print(len(examples), parts, *examples[:2], sep="\n    ")
 
 
+def random_zones(signing):
+    """The zones of a round, and how each is signed."""
+    numbers = [(letter, number) for letter, (_, count) in MADE.items() for number in range(count)]
+    ways = {f"{letter}{number}.test.": SIGNING[number % len(SIGNING)] if signing else None for letter, number in numbers}
+    return {origin: MADE[origin[0]][0](origin, way is not None) for origin, way in ways.items()}, ways
+
+
 def main(seed="1", rounds="1"):
     servers = [server for server in SERVERS if found(server) and (server != "named" or found("named-checkzone"))]
     for server in SERVERS.keys() - set(servers):
@@ -363,13 +386,12 @@ def main(seed="1", rounds="1"):
     path, differs = zoned_path(), False
     random.seed(int(seed))
     for _ in range(int(rounds)):
-        ways = {f"z{number}.test.": SIGNING[number % len(SIGNING)] if signing else None for number in range(12)}
-        zones = {origin: random_zone(origin, way is not None) for origin, way in ways.items()}
+        zones, ways = random_zones(signing)
         opted_out = {origin for origin, way in ways.items() if "-A" in (way or [])}
         with tempfile.TemporaryDirectory() as folder:
             files = {origin: written(folder, origin, records, ways[origin]) for origin, records in zones.items()}
             for server in servers:
-                taken = {origin: path for origin, path in files.items() if is_taken(server, origin, path)}
+                taken = {origin: path for origin, path in files.items() if is_taken(server, origin, zones[origin], path)}
                 asked, differing = compared(server, folder, taken, {origin: zones[origin] for origin in taken}, opted_out, path)
                 tell(server, asked, differing)
                 differs = differs or bool(differing)

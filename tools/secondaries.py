@@ -22,6 +22,7 @@ sys.dont_write_bytecode = True
 
 import other_servers
 from other_servers import connected, found, frames, free_port
+from random_zones import random_zone
 from sources import TOP
 
 # What a server's configuration says of each zone: as a primary, which reads its file, and as a secondary of zoned.
@@ -63,7 +64,7 @@ def made_zones():
         print("secondaries: dnssec-keygen and dnssec-signzone aren't there, so no zone is signed")
     signing = other_servers.SIGNING if is_there else [None]
     ways = {f"z{number}.test.": signing[number % len(signing)] for number in range(12)}
-    zones = {origin: other_servers.random_zone(origin, way is not None) for origin, way in ways.items()}
+    zones = {origin: random_zone(origin, way is not None) for origin, way in ways.items()}
     zones |= {"many.test.": many_names("many.test."), "large.test.": large_set("large.test.")}
     return zones, ways
 

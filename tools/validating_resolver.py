@@ -29,6 +29,7 @@ sys.dont_write_bytecode = True
 
 import other_servers
 from other_servers import SIGNING, TOP, connected, found, frames, free_port, queries, received, sections
+from random_zones import random_zone
 
 RESOLVER = """server:
  username: ""
@@ -156,7 +157,7 @@ def configured(folder, zones, port, served):
 def looked_at(folder, zoned):
     """A round: how many responses were looked at, how many were secure, and what Unbound answers otherwise."""
     ways = {f"z{number}.test.": WAYS[number % len(WAYS)] for number in range(ZONES)}
-    zones = {origin: other_servers.random_zone(origin, True) for origin in ways}
+    zones = {origin: random_zone(origin, True) for origin in ways}
     words = [f"{origin}={other_servers.written(folder, origin, records, ways[origin])}" for origin, records in zones.items()]
     served, port = free_port(), free_port()
     command = [sys.executable, f"{TOP}/examples/serving/front.py", str(served), zoned, "--limits", *words]
