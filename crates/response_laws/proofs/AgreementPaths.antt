@@ -1,14 +1,14 @@
 -- The answers along a path are the sets of a lookup's chain
-use Rattle.std.proofs.Common.{◌≡◌, ℕ, zero, suc, ◌<◌, Bool, true, false, cond, not, ◌&&◌, List, [], ◌∷◌, ◌++◌, map, length, refl, sym, ap, ◌∙◌, subst, true≢false, eqb-true, arith, inl, inr, append_assoc}
+use Rattle.std.proofs.Common.{◌≡◌, ℕ, zero, suc, ◌<◌, Bool, true, false, cond, not, ◌&&◌, ◌||◌, List, [], ◌∷◌, ◌++◌, map, length, refl, sym, ap, ◌∙◌, subst, true≢false, eqb-true, arith, ◌⊎◌, inl, inr, append_assoc}
 use Rattle.std.specs.Prelude.{Option, Some, None, option_to_list, nat_lt, ◌==◌}
 use Rattle.std.specs.List.{list_any}
 use Rattle.std.specs.Option.{option_map_or}
 use Rattle.std.proofs.lemmas.Bool.Decides.{leb_tells}
 use Rattle.zone_proto.specs.declared.response_code.ResponseCode.TheVariants as code
-use Rattle.zone_proto.specs.Names.{Name, name_eq, is_at_or_above}
+use Rattle.zone_proto.specs.Names.{Name, lower, name_eq, is_at_or_above}
 use Rattle.zone_proto.specs.Sets.{RRset}
-use Rattle.zone_proto.specs.Types.{CNAME, ANAME}
-use Rattle.zone_proto.proofs.Members.{In, and_left, In-append_left, In-append_right}
+use Rattle.zone_proto.specs.Types.{CNAME, RRSIG, ANAME}
+use Rattle.zone_proto.proofs.Members.{In, and_left, In-from_append, In-append_left, In-append_right}
 use Rattle.zone_map.specs.Chains.{cname_target, last_target, chain, chain_links}
 use Rattle.zone_map.specs.Direct.{is_address}
 use Rattle.zone_map.specs.Wildcards.{found}
@@ -16,16 +16,17 @@ use Rattle.zone_map.specs.Zones.{Sets}
 use Rattle.zone_map.proofs.Chains.{rest_of, rest_none, rest_seen, rest_unfound, rest_more, chain_begins}
 use Rattle.zone_inner.specs.Flattening.{stands_for_addresses}
 use Rattle.zone_inner.specs.Replies.{is_followed}
-use Rattle.zone_response.specs.Paths.{Path, ended, behind, searched, path_from, path}
+use Rattle.zone_response.specs.Paths.{is_told_by, unless_told, next_behind, Path, ended, behind, searched, path_from, path}
 use Rattle.zone_response.specs.Queries.{Inquiry}
 use Rattle.zone_response.specs.Responses.{code_at, fails}
 use Rattle.zone_response.specs.Sections.{as_it_is, part_for, is_signed}
 use Rattle.zone_response.specs.Sources.{is_there}
 use Rattle.zone_response.specs.StandIns.{addresses, stand_in_answer}
-use Rattle.zone_response.specs.Steps.{End, complete, missing, outside, unfollowed, failed, ends, Step, at_end, made_names, after_alias, stood_in_step, turned_step, step}
-use Rattle.zone_response.specs.Turns.{turn}
+use Rattle.zone_response.specs.Steps.{End, complete, missing, outside, unfollowed, failed, Next, on, ends, Step, at_end, made_names, after_alias, stood_in_step, turned_step, step}
+use Rattle.zone_response.specs.Turns.{DNAME, turn}
 use Rattle.response_laws.specs.Agreement.{IsOrdinaryZone, IsOrdinaryType, IsOrdinary, NoStandIn, led_on_to, unfound_name, chain_names, searched_names}
 use Rattle.response_laws.proofs.AgreementNames.{found_outside}
+use Rattle.response_laws.proofs.Leads.{sent_type}
 use Rattle.response_laws.proofs.AgreementSteps.{StepAsFound, answers_by, leads_by, stands_in, lacks, step_as_found}
 
 abbrev names : List (Name × RRset) → List Name
@@ -125,16 +126,35 @@ module _ (q : Inquiry) (zone : IsOrdinaryZone q.origin q.sets) (plain : IsOrdina
   come : (k : ℕ) (seen : List Name) (x : Name) (es fs : List (Name × RRset)) (p r : Path) → es ≡ fs → p ≡ r → Comes q k seen x fs r → Comes q k seen x es p
   come k seen x es fs p r e f h = subst (λ es. Comes q k seen x es p) (sym e) (subst (Comes q k seen x fs) (sym f) h)
 
-  -- the path from x on, by its step
-  abbrev stepped : (List RRset → Name → Path) → Step → Path
-  stepped search s = behind s.answers s.made (searched (search s.answers) s.next)
+  -- behind these sets, the path from x on by its step
+  abbrev stepped : List RRset → (List RRset → Name → Path) → Step → Path
+  stepped before search s = behind s.answers s.made (searched (search (before ++ s.answers)) (unless_told t (before ++ s.answers) s.next))
 
-  along : (t == CNAME) ≡ false → (k : ℕ) (seen : List Name) (before : List RRset) (x : Name) → AreAlike q k seen x (rest k seen (Some x)) → Comes q k seen x (rest k seen (Some x)) (path_from q k seen before x)
-  along other zero seen before x alike = record { answers = refl; passes = refl; unfound = λ y u i. absurd (omega (arith, u.0)); others = λ out. refl }
-  along other (suc k) seen before x alike = by (along other k (seen ++ x ∷ [])) (list_any (name_eq x) seen) refl
+  -- none of these sets is a DNAME
+  abbrev HaveNoDname : List RRset → Type 0
+  HaveNoDname sets = (r : RRset) → In r sets → (r.record_type == DNAME) ≡ false
+
+  -- none tells what is asked for then
+  untold : (sets : List RRset) → HaveNoDname sets → (y : Name) → list_any (is_told_by t y) sets ≡ false
+  untold [] h y = refl
+  untold (r ∷ sets) h y = λ i. h r (inl refl) i && name_eq (lower r.owner) y && ((t == DNAME) || (t == RRSIG) && is_signed r) || untold sets (λ s j. h s (inr j)) y i
+
+  alias_behind : (sets : List RRset) → HaveNoDname sets → (s : RRset) → is_followed t s ≡ true → HaveNoDname (sets ++ as_it_is (part_for q.signed) s ∷ [])
+  alias_behind sets h s followed r i = by (In-from_append r sets (as_it_is (part_for q.signed) s ∷ []) i)
+    where
+      by : In r sets ⊎ In r (as_it_is (part_for q.signed) s ∷ []) → (r.record_type == DNAME) ≡ false
+      by (inl j) = h r j
+      by (inr (inl same)) =
+          ap (λ u. u == DNAME)
+          (ap (λ (v : RRset). v.record_type) (sym same) ∙ sent_type (part_for q.signed) s.ttl s ∙ eqb-true s.record_type CNAME (and_left (s.record_type == CNAME) (not (t == CNAME)) followed))
+      by (inr (inr j)) = absurd j
+
+  along : (t == CNAME) ≡ false → (k : ℕ) (seen : List Name) (before : List RRset) → HaveNoDname before → (x : Name) → AreAlike q k seen x (rest k seen (Some x)) → Comes q k seen x (rest k seen (Some x)) (path_from q k seen before x)
+  along other zero seen before aliases x alike = record { answers = refl; passes = refl; unfound = λ y u i. absurd (omega (arith, u.0)); others = λ out. refl }
+  along other (suc k) seen before aliases x alike = by (along other k (seen ++ x ∷ [])) (list_any (name_eq x) seen) refl
     where
       Goes : Type 0
-      Goes = (behind : List RRset) (y : Name) → AreAlike q k (seen ++ x ∷ []) y (rest k (seen ++ x ∷ []) (Some y)) → Comes q k (seen ++ x ∷ []) y (rest k (seen ++ x ∷ []) (Some y)) (path_from q k (seen ++ x ∷ []) behind y)
+      Goes = (behind : List RRset) → HaveNoDname behind → (y : Name) → AreAlike q k (seen ++ x ∷ []) y (rest k (seen ++ x ∷ []) (Some y)) → Comes q k (seen ++ x ∷ []) y (rest k (seen ++ x ∷ []) (Some y)) (path_from q k (seen ++ x ∷ []) behind y)
 
       Here : Type 0
       Here = Comes q (suc k) seen x (rest (suc k) seen (Some x)) (path_from q (suc k) seen before x)
@@ -143,25 +163,29 @@ module _ (q : Inquiry) (zone : IsOrdinaryZone q.origin q.sets) (plain : IsOrdina
       of : (fs : List (Name × RRset)) (p : Path) → rest (suc k) seen (Some x) ≡ fs → path_from q (suc k) seen before x ≡ p → Comes q (suc k) seen x fs p → Here
       of fs p = come (suc k) seen x (rest (suc k) seen (Some x)) fs (path_from q (suc k) seen before x) p
 
-      is : (b : Bool) → list_any (name_eq x) seen ≡ b → path_from q (suc k) seen before x ≡ cond b (ended unfollowed) (stepped (λ more. path_from q k (seen ++ x ∷ []) (before ++ more)) (step q before x))
-      is b e = ap (λ b. cond b (ended unfollowed) (stepped (λ more. path_from q k (seen ++ x ∷ []) (before ++ more)) (step q before x))) e
+      is : (b : Bool) → list_any (name_eq x) seen ≡ b → path_from q (suc k) seen before x ≡ cond b (ended unfollowed) (stepped before (path_from q k (seen ++ x ∷ [])) (step q before x))
+      is b e = ap (λ b. cond b (ended unfollowed) (stepped before (path_from q k (seen ++ x ∷ [])) (step q before x))) e
 
-      by_its : (s : Step) → list_any (name_eq x) seen ≡ false → step q before x ≡ s → path_from q (suc k) seen before x ≡ stepped (λ more. path_from q k (seen ++ x ∷ []) (before ++ more)) s
-      by_its s e f = is false e ∙ ap (stepped (λ more. path_from q k (seen ++ x ∷ []) (before ++ more))) f
+      by_its : (s : Step) → list_any (name_eq x) seen ≡ false → step q before x ≡ s → path_from q (suc k) seen before x ≡ stepped before (path_from q k (seen ++ x ∷ [])) s
+      by_its s e f = is false e ∙ ap (stepped before (path_from q k (seen ++ x ∷ []))) f
 
-      leading : Goes → (s : RRset) (made : List Name) → list_any (name_eq x) seen ≡ false → found m q.signed x t ≡ Some s → (o : Option Name) → cname_target s ≡ o
+      leading : Goes → (s : RRset) (made : List Name) → is_followed t s ≡ true → list_any (name_eq x) seen ≡ false → found m q.signed x t ≡ Some s → (o : Option Name) → cname_target s ≡ o
           → step q before x ≡ record { answers = as_it_is (part_for q.signed) s ∷ []; made = made; next = after_alias o } → Here
-      leading goes s made e f None g n =
+      leading goes s made followed e f None g n =
           of ((x, s) ∷ []) (behind (as_it_is (part_for q.signed) s ∷ []) made (ended complete))
           (rest_more m q.signed t (suc k) k seen (Some x) x s refl refl e f ∙ ap (λ es. (x, s) ∷ es) (rest_none m q.signed t k (seen ++ x ∷ []) (cname_target s) g))
           (by_its (record { answers = as_it_is (part_for q.signed) s ∷ []; made = made; next = after_alias None }) e n) (at_last k seen x s made g)
-      leading goes s made e f (Some y) g n =
+      leading goes s made followed e f (Some y) g n =
+          let sets = before ++ as_it_is (part_for q.signed) s ∷ [] in
+          let later : HaveNoDname sets = alias_behind before aliases s followed in
+          let whole : Next → Path = λ n. behind (as_it_is (part_for q.signed) s ∷ []) made (searched (path_from q k (seen ++ x ∷ []) sets) n) in
           let more : rest (suc k) seen (Some x) ≡ (x, s) ∷ rest k (seen ++ x ∷ []) (Some y) =
           rest_more m q.signed t (suc k) k seen (Some x) x s refl refl e f ∙ ap (λ o. (x, s) ∷ rest k (seen ++ x ∷ []) o) g in
-          of ((x, s) ∷ rest k (seen ++ x ∷ []) (Some y)) (behind (as_it_is (part_for q.signed) s ∷ []) made (path_from q k (seen ++ x ∷ []) (before ++ as_it_is (part_for q.signed) s ∷ []) y)) more
-          (by_its (record { answers = as_it_is (part_for q.signed) s ∷ []; made = made; next = after_alias (Some y) }) e n)
-          (one_more k seen x y s g made (rest k (seen ++ x ∷ []) (Some y)) (path_from q k (seen ++ x ∷ []) (before ++ as_it_is (part_for q.signed) s ∷ []) y)
-          (goes (before ++ as_it_is (part_for q.signed) s ∷ []) y (later_alike k seen x y s g (rest k (seen ++ x ∷ []) (Some y)) (subst (AreAlike q (suc k) seen x) more alike))))
+          of ((x, s) ∷ rest k (seen ++ x ∷ []) (Some y)) (behind (as_it_is (part_for q.signed) s ∷ []) made (path_from q k (seen ++ x ∷ []) sets y)) more
+          (by_its (record { answers = as_it_is (part_for q.signed) s ∷ []; made = made; next = after_alias (Some y) }) e n
+          ∙ ap (λ b. whole (cond b (ends complete) (on y))) (untold sets later y))
+          (one_more k seen x y s g made (rest k (seen ++ x ∷ []) (Some y)) (path_from q k (seen ++ x ∷ []) sets y)
+          (goes sets later y (later_alike k seen x y s g (rest k (seen ++ x ∷ []) (Some y)) (subst (AreAlike q (suc k) seen x) more alike))))
 
       bare : (end : End) → list_any (name_eq x) seen ≡ false → found m q.signed x t ≡ None → step q before x ≡ at_end end → Comes q (suc k) seen x [] (ended end) → Here
       bare end e f n h = of [] (ended end) (rest_unfound m q.signed t (suc k) seen (Some x) x refl f) (by_its (at_end end) e n) h
@@ -171,7 +195,7 @@ module _ (q : Inquiry) (zone : IsOrdinaryZone q.origin q.sets) (plain : IsOrdina
           of ((x, s) ∷ []) (behind (as_it_is (part_for q.signed) s ∷ []) made (ended complete))
           (rest_more m q.signed t (suc k) k seen (Some x) x s refl refl e f ∙ ap (λ es. (x, s) ∷ es) (rest_none m q.signed t k (seen ++ x ∷ []) (cname_target s) (no_target other)))
           (by_its (record { answers = as_it_is (part_for q.signed) s ∷ []; made = made; next = ends complete }) e n) (at_last k seen x s made (no_target other))
-      at_x goes e i flat (leads_by s made f followed alias n) = leading goes s made e f (cname_target s) refl n
+      at_x goes e i flat (leads_by s made f followed alias n) = leading goes s made followed e f (cname_target s) refl n
       at_x goes e i flat (stands_in s star f k n) = absurd (true≢false (sym k ∙ flat s f))
       at_x goes e i flat (lacks star f n) =
           bare (missing x star (is_there m x)) e f n
@@ -218,7 +242,7 @@ pub record PathEnds (q : Inquiry) (x : Name) : Type 0 where
   pub unfound : (y : Name) → unfound_name q x ≡ Some y → is_at_or_above q.origin y ≡ true → code_at (path q x).end ≡ cond (is_there q.sets y) code.NoError code.NXDomain
   pub others : ((y : Name) → unfound_name q x ≡ Some y → is_at_or_above q.origin y ≡ false) → code_at (path q x).end ≡ code.NoError
 
-path_step : (q : Inquiry) (x : Name) → path q x ≡ behind (step q [] x).answers (step q [] x).made (searched (path_from q 7 (x ∷ []) (step q [] x).answers) (step q [] x).next)
+path_step : (q : Inquiry) (x : Name) → path q x ≡ behind (step q [] x).answers (step q [] x).made (searched (path_from q 7 (x ∷ []) (step q [] x).answers) (next_behind q [] x))
 unfolding path
 path_step q x = refl
 
@@ -317,8 +341,8 @@ module _ (q : Inquiry) (zone : IsOrdinaryZone q.origin q.sets) (plain : IsOrdina
 
   -- ---- so it is of the path
 
-  is : (s : Step) → step q [] x ≡ s → path q x ≡ behind s.answers s.made (searched (path_from q 7 (x ∷ []) s.answers) s.next)
-  is s e = path_step q x ∙ ap (λ s. behind s.answers s.made (searched (path_from q 7 (x ∷ []) s.answers) s.next)) e
+  is : (s : Step) → step q [] x ≡ s → path q x ≡ behind s.answers s.made (searched (path_from q 7 (x ∷ []) s.answers) (unless_told q.record_type s.answers s.next))
+  is s e = path_step q x ∙ ap (λ s. behind s.answers s.made (searched (path_from q 7 (x ∷ []) s.answers) (unless_told q.record_type s.answers s.next))) e
 
   -- where each name that is searched is alike
   module _ (alike : (y : Name) → In y (searched_names q x) → IsAlike q y) where
@@ -332,7 +356,7 @@ module _ (q : Inquiry) (zone : IsOrdinaryZone q.origin q.sets) (plain : IsOrdina
     chained s e f other =
         let same : rest_of q.sets q.signed q.record_type 8 [] (Some x) ≡ links s = rest_more q.sets q.signed q.record_type 8 7 [] (Some x) x s refl refl refl e ∙ sym (begins s) in
         come q zone plain 8 [] x (links s) (rest_of q.sets q.signed q.record_type 8 [] (Some x)) (path q x) (path_from q 8 [] [] x) (sym same) (path_from_first q x)
-        (along q zone plain other 8 [] [] x (subst (AreAlike q 8 [] x) (sym same) (links_alike s e f)))
+        (along q zone plain other 8 [] [] (λ r i. absurd i) x (subst (AreAlike q 8 [] x) (sym same) (links_alike s e f)))
 
     pub path_answers_as_found : PathAnswers q x × PathEnds q x
     path_answers_as_found = by (step_as_found q zone plain x inside (alike x itself inside).0 [])

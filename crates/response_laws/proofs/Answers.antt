@@ -11,7 +11,7 @@ use Rattle.zone_map.specs.Zones.{Sets, set_at, IsZone}
 use Rattle.zone_response.specs.declared.response.Part.{Part}
 use Rattle.zone_response.specs.declared.response.Part.TheVariants as part
 use Rattle.zone_response.specs.Nodes.{AtNode, chosen_type}
-use Rattle.zone_response.specs.Paths.{Path, ended, behind, searched, path_from, path}
+use Rattle.zone_response.specs.Paths.{next_behind, Path, ended, behind, searched, path_from, path}
 use Rattle.zone_response.specs.Queries.{Inquiry}
 use Rattle.zone_response.specs.Renamings.{dname_target, in_place_of, unless_long, made_alias}
 use Rattle.zone_response.specs.Sections.{sent, is_signed, as_it_is, part_for, unless_among}
@@ -279,7 +279,7 @@ module _ (q : Inquiry) (zone : IsZone q.sets) (signed : q.signed ≡ true) (prov
       From : Type 0
       From = AreDnames q (before ++ answers) → (y : Name) → Answer (before ++ answers) (path_from q k (seen ++ x ∷ []) (before ++ answers) y)
 
-      later : From → (n : Next) → (step q before x).next ≡ n → Answer (before ++ answers) (rest n)
+      later : From → (n : Next) → next_behind q before x ≡ n → Answer (before ++ answers) (rest n)
       later from (on y) e = from (dnames_on q zone before dnames x y e) y
       later from (ends e) f = λ s i. absurd i
 
@@ -295,9 +295,9 @@ module _ (q : Inquiry) (zone : IsZone q.sets) (signed : q.signed ≡ true) (prov
           of (inl u) = more_made made (λ y. In-append_left y made p.made) (in_longer q made (before ++ answers) p.answers s (step_answers before dnames x s u))
           of (inr u) = more_made p.made (λ y. In-append_right y made p.made) (h s u)
 
-      by : From → (b : Bool) → Answer before (cond b (ended unfollowed) (behind answers made (rest (step q before x).next)))
+      by : From → (b : Bool) → Answer before (cond b (ended unfollowed) (behind answers made (rest (next_behind q before x))))
       by from true = λ s i. absurd i
-      by from false = either (rest (step q before x).next) (later from (step q before x).next refl)
+      by from false = either (rest (next_behind q before x)) (later from (next_behind q before x) refl)
 
   pub path_answers : (x : Name) (s : RRset) → In s (path q x).answers → IsAnswer q (path q x).made (path q x).answers s
   unfolding path

@@ -13,15 +13,18 @@ use Rattle.zone_proto.proofs.Names.Lower.{lower-lower}
 use Rattle.zone_proto.proofs.Names.NameTree.{name_eq-Decides, above_test}
 use Rattle.zone_proto.proofs.Names.Tree.{name_order, above_cases}
 use Rattle.zone_proto.proofs.Ordering.KeyOrder.{equal_of}
+use Rattle.zone_proto.specs.Types.{RRSIG}
 use Rattle.zone_map.specs.Zones.{set_at, IsZone}
 use Rattle.zone_response.specs.declared.response.Part.TheVariants as part
+use Rattle.zone_response.specs.Paths.{is_told_by}
 use Rattle.zone_response.specs.Queries.{Inquiry}
 use Rattle.zone_response.specs.Renamings.{only_target, dname_target, unless_long, made_alias}
-use Rattle.zone_response.specs.Sections.{with_ttl, as_it_is, part_for, is_alike, unless_among}
+use Rattle.zone_response.specs.Sections.{with_ttl, as_it_is, part_for, is_signed, is_alike, unless_among}
 use Rattle.zone_response.specs.Turns.{DNAME, renaming, turn}
 use Rattle.response_laws.specs.Sayings.{asks_alias, is_of, renames, leads_to, last_name}
 use Rattle.response_laws.proofs.Leads.{sent_owner, sent_type}
-use Rattle.response_laws.proofs.Turned.{turned_first, renaming_set}
+use Rattle.response_laws.proofs.Stepped.{IsUnturned}
+use Rattle.response_laws.proofs.Turned.{turned_first, renaming_set, renaming_uncut, renaming_unturned}
 
 -- ---- a set as it goes out
 
@@ -48,12 +51,13 @@ module _ (q : Inquiry) where
   abbrev pub sent_dname : RRset → RRset
   sent_dname s = as_it_is (part_for q.signed) s
 
-  -- the DNAME set of a name of the zone, as it goes out
+  -- the DNAME set of a name of the zone that nothing turns, as it goes out
   pub record IsSentDname (r : RRset) : Type 0 where
     pub name : Name
     pub stored : RRset
     pub stands : set_at q.sets name DNAME ≡ Some stored
     pub sent : r ≡ as_it_is (part_for q.signed) stored
+    pub unturned : IsUnturned q name
 
   abbrev pub AreDnames : List RRset → Type 0
   AreDnames sets = (r : RRset) → In r sets → r.record_type ≡ DNAME → IsSentDname r
@@ -74,6 +78,7 @@ module _ (q : Inquiry) where
     pub owner : lower s.owner ≡ name
     pub type' : s.record_type ≡ DNAME
     pub above : IsAbove name x
+    pub unturned : IsUnturned q name
 
   module _ (zone : IsZone q.sets) where
     pub turned_by : (x : Name) (s : RRset) → turn q.origin q.sets x q.record_type ≡ Some (renaming s) → IsAboveBy x s
@@ -81,11 +86,34 @@ module _ (q : Inquiry) where
         let f = turned_first q.origin q.sets x t (renaming s) e in
         let r = renaming_set q.origin q.sets x t f.name s f.turns in
         let stored = zone.stored f.name DNAME s r.1 in
-        record { name = f.name; stands = r.1; owner = stored.owner; type' = stored.record_type; above = by f.name r.0 (above_cases f.name x f.above) }
+        record {
+          name = f.name;
+          stands = r.1;
+          owner = stored.owner;
+          type' = stored.record_type;
+          above = by f.name r.0 (above_cases f.name x f.above);
+          unturned = record { inside = (renaming_uncut q.origin q.sets x t f.name s f.turns).0; unturned = renaming_unturned q.origin q.sets x t s f };
+        }
       where
         by : (n : Name) → name_eq n x ≡ false → (n ≡ x) ⊎ IsAbove n x → IsAbove n x
         by n other (inl same) = absurd (true≢false (sym ((name_eq-Decides n x).1 same) ∙ other))
         by n other (inr u) = u
+
+    -- the owner of one that goes out
+    sent_name : (r : RRset) (h : IsSentDname r) → h.name ≡ lower r.owner
+    sent_name r h =
+        sym (zone.stored h.name DNAME h.stored h.stands).owner
+        ∙ ap lower (sym (sent_owner (part_for q.signed) h.stored.ttl h.stored)) ∙ ap (λ (v : RRset). lower v.owner) (sym h.sent)
+
+    -- a name of which one of them tells what is asked for turns nothing
+    pub told_unturned : (sets : List RRset) → AreDnames sets → (x : Name) → list_any (is_told_by t x) sets ≡ true → IsUnturned q x
+    told_unturned sets dnames x e =
+        let r = In-from_any (is_told_by t x) sets e in
+        let dname : Bool = r.0.record_type == DNAME in
+        let owned : Bool = name_eq (lower r.0.owner) x in
+        let both = and_left (dname && owned) ((t == DNAME) || (t == RRSIG) && is_signed r.0) r.2 in
+        let h = dnames r.0 r.1 (eqb-true r.0.record_type DNAME (and_left dname owned both)) in
+        subst (IsUnturned q) (sent_name r.0 h ∙ (name_eq-Decides (lower r.0.owner) x).0 (and_right dname owned both)) h.unturned
 
     -- of two that go out, alike are the same
     same_dname : (x : Name) (s r : RRset) → IsAboveBy x s → IsSentDname r → same_name r.owner (sent_dname s).owner ≡ true → r ≡ sent_dname s
@@ -99,10 +127,7 @@ module _ (q : Inquiry) where
         owners = name_order.exact (lower r.owner) (lower (sent_dname s).owner) (equal_of (name_cmp (lower r.owner) (lower (sent_dname s).owner)) alike)
 
         names : h.name ≡ a.name
-        names =
-            sym (zone.stored h.name DNAME h.stored h.stands).owner
-            ∙ ap lower (sym (sent_owner (part_for q.signed) h.stored.ttl h.stored)) ∙ ap (λ (v : RRset). lower v.owner) (sym h.sent)
-            ∙ owners ∙ ap lower (sent_owner (part_for q.signed) s.ttl s) ∙ a.owner
+        names = sent_name r h ∙ owners ∙ ap lower (sent_owner (part_for q.signed) s.ttl s) ∙ a.owner
 
     -- the set stands in the answer then
     pub stands_among : (before more : List RRset) (x : Name) (s : RRset) → AreDnames before → IsAboveBy x s → In (sent_dname s) (before ++ (unless_among before (sent_dname s) ++ more))

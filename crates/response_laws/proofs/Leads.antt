@@ -117,6 +117,18 @@ has_target a s stored = by s.records stored.filled stored.set.types
     by [] some h = absurd (some refl)
     by (r ∷ rs) some h = alias_data r.rdata (ap (λ u. u == CNAME) (All-head (λ (r : Record). type_of r.rdata ≡ s.record_type) r rs h ∙ stored.record_type))
 
+-- which is in lower case
+lowered_data : (d : RData) (n : Name) → alias_target d ≡ Some n → lower n ≡ n
+lowered_data (V.CNAME k) n e = let same : lower k ≡ n = cc in ap lower (sym same) ∙ lower-lower k ∙ same
+lowered_data d n e = absurd cc
+
+pub lowered_target : (s : RRset) (n : Name) → cname_target s ≡ Some n → lower n ≡ n
+lowered_target s n = by s.records
+  where
+    by : (rs : List Record) → first_target rs ≡ Some n → lower n ≡ n
+    by [] e = absurd cc
+    by (r ∷ rs) e = lowered_data r.rdata n e
+
 -- ---- the set that is asked for
 
 any_owned : (m : Sets) (n : Name) (t : ℕ) → owns m n t ≡ true → owns m n (any_type m n) ≡ true

@@ -33,6 +33,7 @@ pub mod HashedDenied
 pub mod HashedEmpty
 pub mod HashedReferrals
 pub mod Responses
+pub mod Repeats
 pub mod AgreementNames
 pub mod AgreementSteps
 pub mod AgreementPaths

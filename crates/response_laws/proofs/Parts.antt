@@ -72,11 +72,11 @@ pub record IsMadeOf (z : Zone) (q : Query) (r : Sections) : Type 0 where
 
 -- a response is a code that says nothing of a name, or made of these parts
 pub data HowAnswered (z : Zone) (q : Query) (r : Sections) : Type 0 where
-  by_code_alone : (c : ResponseCode) → r ≡ bare c → ((last : LastName) (sets : List RRset) → by_code q.record_type c last sets ≡ None) → HowAnswered z q r
+  by_code_alone : (c : ResponseCode) → r ≡ bare c → ((answers : List RRset) (last : LastName) (sets : List RRset) → by_code q.record_type c answers last sets ≡ None) → HowAnswered z q r
   by_parts : IsMadeOf z q r → HowAnswered z q r
 
-refusal_silent : (z : Zone) (q : Query) (c : ResponseCode) → refusal z.origin q ≡ Some c → (last : LastName) (sets : List RRset) → by_code q.record_type c last sets ≡ None
-refusal_silent z q c e last sets =
+refusal_silent : (z : Zone) (q : Query) (c : ResponseCode) → refusal z.origin q ≡ Some c → (answers : List RRset) (last : LastName) (sets : List RRset) → by_code q.record_type c answers last sets ≡ None
+refusal_silent z q c e answers last sets =
     silent_at code.Refused refl (not (q.class == IN) || not (is_at_or_above z.origin q.name)) (cond (is_no_data q.record_type) (Some code.NotImp) None)
     (silent_at code.NotImp refl (is_no_data q.record_type) None (λ p. absurd cc)) e
   where
@@ -84,8 +84,8 @@ refusal_silent z q c e last sets =
     same a b e = cc
 
     -- one test after the other
-    silent_at : (k : ResponseCode) → by_code q.record_type k last sets ≡ None → (b : Bool) (o : Option ResponseCode) → (o ≡ Some c → by_code q.record_type c last sets ≡ None) → cond b (Some k) o ≡ Some c → by_code q.record_type c last sets ≡ None
-    silent_at k h true o more p = ap (λ c. by_code q.record_type c last sets) (sym (same k c p)) ∙ h
+    silent_at : (k : ResponseCode) → by_code q.record_type k answers last sets ≡ None → (b : Bool) (o : Option ResponseCode) → (o ≡ Some c → by_code q.record_type c answers last sets ≡ None) → cond b (Some k) o ≡ Some c → by_code q.record_type c answers last sets ≡ None
+    silent_at k h true o more p = ap (λ c. by_code q.record_type c answers last sets) (sym (same k c p)) ∙ h
     silent_at k h false o more p = more p
 
 -- ---- the sets of the proofs, where a zone denies by NSEC
@@ -201,7 +201,7 @@ module _ (z : Zone) (q : Query) (r : Sections) (zone : IsZone z.sets) (soa : RRs
     where
       same : (a : List RRset) → same_result (Ok a) (Ok sets) → a ≡ sets
       same a e = cc
-  made_by true f passes (Err why) g is = by_code_alone code.ServFail is (λ last sets. refl)
+  made_by true f passes (Err why) g is = by_code_alone code.ServFail is (λ answers last sets. refl)
   made_by false f passes found g is =
       by_parts
       (record {
@@ -225,11 +225,11 @@ pub how_answered : (z : Zone) (q : Query) (r : Sections) → IsZone z.sets → I
 how_answered z q r zone = by (refusal z.origin q) refl
   where
     along : (soa : RRset) → set_at z.sets z.origin SOA ≡ Some soa → (b : Bool) → fails (path (inquiry z q) q.name).end ≡ b → MatchBool b (r ≡ bare code.ServFail) (IsProvenResponse z (inquiry z q) soa (path (inquiry z q) q.name) r) → HowAnswered z q r
-    along soa e true f is = by_code_alone code.ServFail is (λ last sets. refl)
+    along soa e true f is = by_code_alone code.ServFail is (λ answers last sets. refl)
     along soa e false f is = made_of z q r zone soa e f is
 
     found : (o : Option RRset) → set_at z.sets z.origin SOA ≡ o → MatchOption o (r ≡ bare code.ServFail) (λ soa. IsResponseAlong z (inquiry z q) soa (path (inquiry z q) q.name) r) → HowAnswered z q r
-    found None e is = by_code_alone code.ServFail is (λ last sets. refl)
+    found None e is = by_code_alone code.ServFail is (λ answers last sets. refl)
     found (Some soa) e is = along soa e (fails (path (inquiry z q) q.name).end) refl is
 
     by : (o : Option ResponseCode) → refusal z.origin q ≡ o → MatchOption o (IsSearched z (inquiry z q) q.name r) (λ c. r ≡ bare c) → HowAnswered z q r

@@ -30,7 +30,7 @@ response_says_how_it_ends z q r zone is = by (how_answered z q r zone is)
   where
     by : HowAnswered z q r → SaysHowItEnds z q r
     by (by_code_alone c e silent) =
-        inl (e ∙ ap bare (sym (ap (λ (s : Sections). s.code) e)), ap (saying q) e ∙ silent (last_name q.record_type q.name []) [])
+        inl (e ∙ ap bare (sym (ap (λ (s : Sections). s.code) e)), ap (saying q) e ∙ silent [] (last_name q.record_type q.name []) [])
     by (by_parts h) = inr (says_end z zone q r h)
 
 -- a code alone shows nothing and says nothing
@@ -51,7 +51,7 @@ pub response_proves_what_it_says : ResponseProvesWhatItSays
 response_proves_what_it_says z q r d signed is = by (how_answered z q r d.circle.zone is)
   where
     by : HowAnswered z q r → ProvesWhatItSays z q r
-    by (by_code_alone c e silent) = subst (ProvesWhatItSays z q) (sym e) (code_alone z q d c (silent (last_name q.record_type q.name []) []))
+    by (by_code_alone c e silent) = subst (ProvesWhatItSays z q) (sym e) (code_alone z q d c (silent [] (last_name q.record_type q.name []) []))
     by (by_parts h) = record {
       authorities = authorities_proved z q r d signed h;
       answers = answers_proved z q r d signed h;
@@ -90,7 +90,7 @@ pub response_proves_by_hashes : ResponseProvesByHashes
 response_proves_by_hashes z parameters q r d signed is = by (how_answered z q r d.circle.zone is)
   where
     by : HowAnswered z q r → ProvesByHashes z parameters q r
-    by (by_code_alone c e silent) = subst (ProvesByHashes z parameters q) (sym e) (hashed_code_alone z parameters q d c (silent (last_name q.record_type q.name []) []))
+    by (by_code_alone c e silent) = subst (ProvesByHashes z parameters q) (sym e) (hashed_code_alone z parameters q d c (silent [] (last_name q.record_type q.name []) []))
     by (by_parts h) = record {
       authorities = hashed.authorities_proved z parameters q r d signed h;
       answers = hashed.answers_proved z parameters q r d signed h;

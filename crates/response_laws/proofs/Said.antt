@@ -21,7 +21,7 @@ use Rattle.zone_response.specs.Steps.{End, complete, referred, missing, outside,
 use Rattle.zone_response.specs.Turns.{cut}
 use Rattle.response_laws.specs.Sayings.{data_of, name_error, no_data, referral, is_of, last_name, referral_to, unanswered, without_error, with_name_error, by_code, saying, SaysEnd}
 use Rattle.response_laws.proofs.Leads.{sent_type}
-use Rattle.response_laws.proofs.LastNames.{IsMissing, IsAliasAsked, IsReferred, EndOf, PathEnd, stops, arrives, path_end}
+use Rattle.response_laws.proofs.LastNames.{IsMissing, IsAliasAsked, IsReferred, IsUntold, EndOf, PathEnd, stops, arrives, path_end}
 use Rattle.response_laws.proofs.Parts.{path_of, as_proof, IsMadeOf}
 use Rattle.response_laws.proofs.Stepped.{IsUnturned}
 use Rattle.response_laws.proofs.Turned.{turned_first, cut_set}
@@ -35,7 +35,7 @@ pub data Said (z : Zone) (q : Query) (r : Sections) : Type 0 where
   says_missing : (y : Name) (star : Option Name) (there : Bool) → saying q r ≡ Some (cond there (no_data y) (name_error y)) → (path_of z q).end ≡ missing y star there → IsUnturned (inquiry z q) y
       → IsMissing (inquiry z q) y star there → Said z q r
 
-none_any : {X : Type 0} (p : X → Bool) (xs : List X) → ((x : X) → In x xs → p x ≡ false) → list_any p xs ≡ false
+pub none_any : {X : Type 0} (p : X → Bool) (xs : List X) → ((x : X) → In x xs → p x ≡ false) → list_any p xs ≡ false
 none_any p [] h = refl
 none_any p (x ∷ xs) h = λ i. h x (inl refl) i || none_any p xs (λ y j. h y (inr j)) i
 
@@ -66,8 +66,12 @@ module _ (z : Zone) (zone : IsZone z.sets) (q : Query) (r : Sections) (h : IsMad
   all e = end_sets (ds_at z.sets e) q.signed h.soa e ++ proofs
 
   saying_is : (y : Name) (sets : List RRset) (e : End) → ends ≡ e → last_name t q.name (path_of z q).answers ≡ record { name = y; sets = sets }
-      → saying q r ≡ by_code t (code_at e) (record { name = y; sets = sets }) (all e)
-  saying_is y sets e f g = λ i. by_code t ((h.code ∙ ap code_at f) i) ((ap (last_name t q.name) h.answers ∙ g) i) ((h.authorities ∙ ap all f) i)
+      → saying q r ≡ by_code t (code_at e) (path_of z q).answers (record { name = y; sets = sets }) (all e)
+  saying_is y sets e f g = λ i. by_code t ((h.code ∙ ap code_at f) i) (h.answers i) ((ap (last_name t q.name) h.answers ∙ g) i) ((h.authorities ∙ ap all f) i)
+
+  -- where no set tells what is asked for, the authority section says it
+  by_authorities : (y : Name) (e : End) → IsUntold (inquiry z q) (path_of z q).answers y → without_error t (path_of z q).answers y [] (all e) ≡ unanswered y (all e)
+  by_authorities y e untold = ap (λ b. cond b (Some (data_of y)) (unanswered y (all e))) untold
 
   -- no set of denial is of another type
   no_proof_of : (u : ℕ) → is_denial_type u ≡ false → (s : RRset) → In s proofs → is_of u s ≡ false
@@ -117,6 +121,9 @@ module _ (z : Zone) (zone : IsZone z.sets) (q : Query) (r : Sections) (h : IsMad
 
   -- ---- by the end
 
+  abbrev answers : List RRset
+  answers = (path_of z q).answers
+
   -- what is said of y, where the search ends so
   abbrev SaysAt : Name → End → Type 0
   SaysAt y complete = saying q r ≡ Some (data_of y)
@@ -125,36 +132,41 @@ module _ (z : Zone) (zone : IsZone z.sets) (q : Query) (r : Sections) (h : IsMad
   SaysAt y _ = saying q r ≡ None
 
   says_at : (y : Name) (sets : List RRset) (e : End) → ends ≡ e → last_name t q.name (path_of z q).answers ≡ record { name = y; sets = sets } → EndOf (inquiry z q) (path_of z q).answers y sets e → SaysAt y e
-  says_at y sets complete f g (a, u) =
-      saying_is y sets complete f g ∙ ap (λ s. without_error t y s (all complete)) a.alone ∙ ap (λ b. cond b (Some (data_of y)) None) a.answers_it
-  says_at y sets (referred c) f g (u, a) =
+  says_at y sets complete f g (inl (a, u)) =
+      saying_is y sets complete f g ∙ ap (λ s. without_error t answers y s (all complete)) a.alone ∙ ap (λ b. cond b (Some (data_of y)) None) a.answers_it
+  says_at y sets complete f g (inr a) =
+      saying_is y sets complete f g ∙ ap (λ s. without_error t answers y s (all complete)) a.none ∙ ap (λ b. cond b (Some (data_of y)) (unanswered y (all complete))) a.told
+  says_at y sets (referred c) f g (u, a, k) =
       let n = cut_stands (inquiry z q) y c u in
-      saying_is y sets (referred c) f g ∙ ap (λ s. without_error t y s (all (referred c))) a ∙ servers_say y c n.0 n.1 (cut_above (inquiry z q) zone y c u)
-  says_at y sets (missing x star true) f g (u, m, e, a) =
-      saying_is y sets (missing x star true) f g ∙ ap (λ s. without_error t y s (all (missing x star true))) a ∙ soa_says y x star
-  says_at y sets (missing x star false) f g (u, m, e, a) = saying_is y sets (missing x star false) f g ∙ ap (with_name_error y) a
-  says_at y sets (outside x) f g a = saying_is y sets (outside x) f g ∙ ap (λ s. without_error t y s (all (outside x))) a ∙ silent y
+      saying_is y sets (referred c) f g ∙ ap (λ s. without_error t answers y s (all (referred c))) a ∙ by_authorities y (referred c) k
+      ∙ servers_say y c n.0 n.1 (cut_above (inquiry z q) zone y c u)
+  says_at y sets (missing x star true) f g (u, m, e, a, k) =
+      saying_is y sets (missing x star true) f g ∙ ap (λ s. without_error t answers y s (all (missing x star true))) a ∙ by_authorities y (missing x star true) k ∙ soa_says y x star
+  says_at y sets (missing x star false) f g (u, m, e, a, k) = saying_is y sets (missing x star false) f g ∙ ap (with_name_error y) a
+  says_at y sets (outside x) f g (a, k) =
+      saying_is y sets (outside x) f g ∙ ap (λ s. without_error t answers y s (all (outside x))) a ∙ by_authorities y (outside x) k ∙ silent y
   says_at y sets unfollowed f g a = absurd a
   says_at y sets too_long f g a = saying_is y sets too_long f g
   says_at y sets failed f g a = absurd (true≢false (sym (ap fails f) ∙ h.passes))
 
-  stops_silent : (y : Name) → ends ≡ unfollowed → last_name t q.name (path_of z q).answers ≡ record { name = y; sets = [] } → saying q r ≡ None
-  stops_silent y f g = saying_is y [] unfollowed f g ∙ silent y
+  stops_silent : (y : Name) → ends ≡ unfollowed → last_name t q.name (path_of z q).answers ≡ record { name = y; sets = [] } → IsUntold (inquiry z q) (path_of z q).answers y → saying q r ≡ None
+  stops_silent y f g k = saying_is y [] unfollowed f g ∙ by_authorities y unfollowed k ∙ silent y
 
   pub said : Said z q r
   said = by (path_end (inquiry z q) zone q.name)
     where
       of : (y : Name) (sets : List RRset) (e : End) → ends ≡ e → last_name t q.name (path_of z q).answers ≡ record { name = y; sets = sets } → SaysAt y e → EndOf (inquiry z q) (path_of z q).answers y sets e → Said z q r
-      of y sets complete f g s (a, u) = says_data y sets s g u
-      of y sets (referred c) f g s (u, a) = says_referral y c s f u
-      of y sets (missing x star there) f g s (u, m, e, a) = says_missing y star there s (f ∙ ap (λ n. missing n star there) e) u m
+      of y sets complete f g s (inl (a, u)) = says_data y sets s g u
+      of y sets complete f g s (inr a) = says_data y sets s g (inl a.unturned)
+      of y sets (referred c) f g s (u, a, k) = says_referral y c s f u
+      of y sets (missing x star there) f g s (u, m, e, a, k) = says_missing y star there s (f ∙ ap (λ n. missing n star there) e) u m
       of y sets (outside x) f g s a = says_nothing s
       of y sets unfollowed f g s a = says_nothing s
       of y sets too_long f g s a = says_nothing s
       of y sets failed f g s a = says_nothing s
 
       by : PathEnd (inquiry z q) zone [] q.name (path_of z q) → Said z q r
-      by (stops y f g) = says_nothing (stops_silent y f g)
+      by (stops y f g k) = says_nothing (stops_silent y f g k)
       by (arrives y sets e f g a) = of y sets e f g (says_at y sets e f g a) a
 
   pub says_end : SaysEnd (path (inquiry z q) q.name).end (saying q r)
@@ -163,7 +175,7 @@ module _ (z : Zone) (zone : IsZone z.sets) (q : Query) (r : Sections) (h : IsMad
       of : (y : Name) (sets : List RRset) (e : End) → SaysAt y e → EndOf (inquiry z q) (path_of z q).answers y sets e → SaysEnd e (saying q r)
       of y sets complete s a = (y, s)
       of y sets (referred c) s a = s
-      of y sets (missing x star there) s (u, m, e, a) = s ∙ ap (λ n. Some (cond there (no_data n) (name_error n))) (sym e)
+      of y sets (missing x star there) s (u, m, e, a, k) = s ∙ ap (λ n. Some (cond there (no_data n) (name_error n))) (sym e)
       of y sets (outside x) s a = s
       of y sets unfollowed s a = s
       of y sets too_long s a = s
@@ -173,7 +185,7 @@ module _ (z : Zone) (zone : IsZone z.sets) (q : Query) (r : Sections) (h : IsMad
       to e f s = subst (λ e. SaysEnd e (saying q r)) (sym f) s
 
       by : PathEnd (inquiry z q) zone [] q.name (path_of z q) → SaysEnd ends (saying q r)
-      by (stops y f g) = to unfollowed f (stops_silent y f g)
+      by (stops y f g k) = to unfollowed f (stops_silent y f g k)
       by (arrives y sets e f g a) = to e f (of y sets e (says_at y sets e f g a) a)
 
   -- the NS set stands in the zone to which a search is referred
@@ -181,7 +193,7 @@ module _ (z : Zone) (zone : IsZone z.sets) (q : Query) (r : Sections) (h : IsMad
   referred_stands c e = by (path_end (inquiry z q) zone q.name)
     where
       of : (y : Name) (sets : List RRset) (w : End) → w ≡ referred c → EndOf (inquiry z q) (path_of z q).answers y sets w → (n : Name) × (set_at z.sets n NS ≡ Some c)
-      of y sets (referred s) f (u, a) = let n = cut_stands (inquiry z q) y s u in (n.0, n.1 ∙ same s f)
+      of y sets (referred s) f (u, a, k) = let n = cut_stands (inquiry z q) y s u in (n.0, n.1 ∙ same s f)
         where
           same : (s : RRset) → referred s ≡ referred c → Some s ≡ Some c
           same s e = cc
@@ -193,5 +205,5 @@ module _ (z : Zone) (zone : IsZone z.sets) (q : Query) (r : Sections) (h : IsMad
       of y sets failed f a = absurd cc
 
       by : PathEnd (inquiry z q) zone [] q.name (path_of z q) → (n : Name) × (set_at z.sets n NS ≡ Some c)
-      by (stops y f g) = let p : unfollowed ≡ referred c = sym f ∙ e in absurd cc
+      by (stops y f g k) = let p : unfollowed ≡ referred c = sym f ∙ e in absurd cc
       by (arrives y sets w f g a) = of y sets w (sym f ∙ e) a

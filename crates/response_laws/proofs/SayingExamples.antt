@@ -24,6 +24,7 @@ use Rattle.zone_response.specs.Responses.{IsResponse}
 use Rattle.zone_response.specs.Sections.{Sections, sent, as_it_is}
 use Rattle.zone_response.specs.Turns.{DNAME}
 use Rattle.response_laws.specs.ProvedSayings.{shown, is_signed_by}
+use Rattle.response_laws.specs.Repeats.{repeats}
 use Rattle.response_laws.specs.Sayings.{data_of, name_error, no_data, referral, saying}
 
 abbrev pub zone : Sets → Zone
@@ -189,6 +190,28 @@ of_new_alias = record { code = refl; authoritative = refl; answers = refl; autho
 
 new_alias_says : saying (asked (under_b (codes "x")) CNAME) (sections code.NoError (new_name (codes "x")) []) ≡ Some (data_of (under_b (codes "x")))
 new_alias_says = refl
+
+-- where DNAME is asked for, and the search comes back to the owner of one that it passed, that set is the answer
+abbrev back : RrKey × RRset
+back = entry (under_a (codes "x")) CNAME (V.CNAME b)
+
+abbrev led_back : Sections
+led_back = sections code.NoError (new_name (codes "x") ++ back.1 ∷ []) []
+
+of_led_back : IsResponse (zone (start ∷ renaming ∷ back ∷ [])) (asked (under_b (codes "x")) DNAME) led_back
+unfolding path
+of_led_back = record { code = refl; authoritative = refl; answers = refl; authorities = refl; additionals = refl; glue = refl; left_at = refl }
+
+led_back_says : saying (asked (under_b (codes "x")) DNAME) led_back ≡ Some (data_of b)
+led_back_says = refl
+
+-- were it there once more, it would repeat the first
+led_back_twice : repeats renaming.1 renaming.1 ≡ true
+led_back_twice = refl
+
+-- for another type these sets say nothing
+led_back_otherwise : saying (asked (under_b (codes "x")) MX) led_back ≡ None
+led_back_otherwise = refl
 
 -- ---- a star
 

@@ -72,8 +72,11 @@ module _ (q : Inquiry) (x : Name) (s v : RRset) (a : AreOfLast q x s v) (owned :
   abbrev sent_addresses : RRset
   sent_addresses = as_it_is (part_for q.signed) v
 
-  owned_so : same_name sent_addresses.owner x ≡ true
+  pub owned_so : same_name sent_addresses.owner x ≡ true
   owned_so = ap (λ n. same_name n x) (sent_owner (part_for q.signed) v.ttl v ∙ ap (λ (v : RRset). v.owner) a.is) ∙ owned
+
+  pub of_asked_type : sent_addresses.record_type ≡ q.record_type
+  of_asked_type = sent_type (part_for q.signed) v.ttl v ∙ ap (λ (v : RRset). v.record_type) a.is
 
   pub addresses_stay : renames x sent_addresses ≡ false
   addresses_stay = stays_by_owner x sent_addresses owned_so
@@ -94,4 +97,4 @@ module _ (q : Inquiry) (x : Name) (s v : RRset) (a : AreOfLast q x s v) (owned :
   addresses_answer = λ i. owned_so i && (typed i || (q.record_type == ANY) || (q.record_type == RRSIG))
     where
       typed : (sent_addresses.record_type == q.record_type) ≡ true
-      typed = ap (λ u. u == q.record_type) (sent_type (part_for q.signed) v.ttl v ∙ ap (λ (v : RRset). v.record_type) a.is) ∙ eq-eqb q.record_type q.record_type refl
+      typed = eq-eqb sent_addresses.record_type q.record_type of_asked_type

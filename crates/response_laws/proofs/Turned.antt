@@ -47,6 +47,10 @@ module _ (origin : Name) (m : Sets) (x : Name) (t : ℕ) where
       by own above (inl q) = ap at q ∙ own
       by own above (inr v) = above v
 
+  pub none_down_to : (n : Name) → ((a : Name) → IsAtOrAbove a n → at a ≡ None) → turn_down_to origin m x t n ≡ None
+  none_down_to [] h = h [] ([], refl)
+  none_down_to (l ∷ n) h = λ i. option_or (none_down_to n (λ a u. h a (l ∷ u.0, ap (λ k. l ∷ k) u.1)) i) (h (l ∷ n) ([], refl) i)
+
   -- the name that turns, above which none does
   pub record IsFirstTurn (n : Name) (w : Turn) : Type 0 where
     pub name : Name
@@ -122,6 +126,18 @@ module _ (origin : Name) (m : Sets) (x : Name) (t : ℕ) where
       by true q = asked (name_eq a x) refl (of_renaming (cut_at origin m x t a) (dname_at m x a) q)
       by false q = absurd cc
 
+  -- which is no zone cut
+  pub renaming_uncut : (a : Name) (s : RRset) → turn_at origin m x t a ≡ Some (renaming s) → (is_at_or_above origin a ≡ true) × (cut_at origin m x t a ≡ None)
+  renaming_uncut a s e = by (is_at_or_above origin a) refl e
+    where
+      of_renaming : (o d : Option RRset) → option_or (option_map cut o) (option_map renaming d) ≡ Some (renaming s) → o ≡ None
+      of_renaming (Some v) d q = absurd cc
+      of_renaming None d q = refl
+
+      by : (b : Bool) → is_at_or_above origin a ≡ b → cond b (said_at a) None ≡ Some (renaming s) → (is_at_or_above origin a ≡ true) × (cut_at origin m x t a ≡ None)
+      by true i q = (i, of_renaming (cut_at origin m x t a) (dname_at m x a) q)
+      by false i q = absurd cc
+
 -- ---- names that are reached
 
 lower_above : (b y x : Name) → IsAbove b y → IsAtOrAbove y x → IsAbove b x
@@ -137,6 +153,46 @@ not_above b x u = by (name_eq b x) refl
     by : (c : Bool) → name_eq b x ≡ c → c ≡ false
     by false e = refl
     by true e = absurd (irrefl name_order x (ap (λ n. name_cmp n x) (sym ((name_eq-Decides b x).0 e)) ∙ above_is_less b x u))
+
+-- the owner of a DNAME set that turns a search turns nothing on the way down to itself
+pub renaming_unturned : (origin : Name) (m : Sets) (x : Name) (t : ℕ) (s : RRset) (f : IsFirstTurn origin m x t x (renaming s)) → turn origin m f.name t ≡ None
+renaming_unturned origin m x t s f = none_down_to origin m f.name t f.name (λ a u. at_each a (above_cases a f.name u))
+  where
+    n : Name
+    n = f.name
+
+    other : name_eq n x ≡ false
+    other = (renaming_set origin m x t n s f.turns).0
+
+    place : (is_at_or_above origin n ≡ true) × (cut_at origin m x t n ≡ None)
+    place = renaming_uncut origin m x t n s f.turns
+
+    -- what a name turns, by whether it is the one that is searched
+    turns : Name → Bool → Option Turn
+    turns a b = cond (is_at_or_above origin a) (option_or (option_map cut (cond (name_eq a origin || (b && (t == DS))) None (set_at m a NS))) (option_map renaming (cond b None (set_at m a DNAME)))) None
+
+    above : (a : Name) → IsAbove a n → turn_at origin m n t a ≡ None
+    above a u = ap (turns a) (not_above a n u ∙ sym (not_above a x (lower_above a n x u f.above))) ∙ f.first a u
+
+    no_cut_at : (b c : Bool) (o : Option RRset) → cond (b || (false && c)) None o ≡ None → cond (b || c) None o ≡ None
+    no_cut_at true c o e = refl
+    no_cut_at false true o e = refl
+    no_cut_at false false o e = e
+
+    uncut : cut_at origin m n t n ≡ None
+    uncut =
+        by (name_eq n n) (sym (λ i. cond (name_eq n origin || (other i && (t == DS))) None (set_at m n NS)) ∙ place.1)
+      where
+        by : (b : Bool) → cond (name_eq n origin || (false && (t == DS))) None (set_at m n NS) ≡ None → cond (name_eq n origin || (b && (t == DS))) None (set_at m n NS) ≡ None
+        by true e = no_cut_at (name_eq n origin) (t == DS) (set_at m n NS) e
+        by false e = e
+
+    here : turn_at origin m n t n ≡ None
+    here = λ i. cond (place.0 i) (option_or (option_map cut (uncut i)) (option_map renaming (cond ((name_eq-Decides n n).1 refl i) None (set_at m n DNAME)))) None
+
+    at_each : (a : Name) → (a ≡ n) ⊎ IsAbove a n → turn_at origin m n t a ≡ None
+    at_each a (inl e) = ap (turn_at origin m n t) e ∙ here
+    at_each a (inr u) = above a u
 
 module _ (z : Zone) (no_dname_above : (a : Name) → IsAbove a z.origin → owns z.sets a DNAME ≡ false) (x : Name) (t : ℕ) (y : Name) (up : IsAtOrAbove y x) (inside : is_at_or_above z.origin y ≡ true) (none : (b : Name) → IsAbove b y → turn_at z.origin z.sets x t b ≡ None) where
   no_servers : (b : Name) → IsAbove b y → is_at_or_above z.origin b ≡ true → name_eq b z.origin ≡ false → owns z.sets b NS ≡ false

@@ -3,3 +3,4 @@ pub mod NewNames
 pub mod Sayings
 pub mod ProvedSayings
 pub mod HashedSayings
+pub mod Repeats

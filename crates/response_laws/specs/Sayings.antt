@@ -9,7 +9,7 @@ use Rattle.zone_proto.specs.Sets.{RRset}
 use Rattle.zone_proto.specs.Types.{NS, CNAME, SOA, RRSIG, ANY}
 use Rattle.zone_map.specs.Chains.{cname_target}
 use Rattle.zone_map.specs.Zones.{IsZone}
-use Rattle.zone_response.specs.Paths.{path}
+use Rattle.zone_response.specs.Paths.{is_told_by, path}
 use Rattle.zone_response.specs.Queries.{Zone, Query, inquiry}
 use Rattle.zone_response.specs.Responses.{bare, IsResponse}
 use Rattle.zone_response.specs.Sections.{Sections}
@@ -70,11 +70,11 @@ unanswered x authorities = cond (list_any (is_of SOA) authorities) (Some (no_dat
 abbrev pub is_answer : ℕ → Name → RRset → Bool
 is_answer t x s = same_name s.owner x && (is_of t s || (t == ANY) || (t == RRSIG))
 
--- without error: one set is the answer
-abbrev pub without_error : ℕ → Name → List RRset → List RRset → Option Saying
-without_error t x [] authorities = unanswered x authorities
-without_error t x (s ∷ []) authorities = cond (is_answer t x s) (Some (data_of x)) None
-without_error t x (s ∷ (r ∷ sets)) authorities = None
+-- without error: one set behind the aliases to x is the answer; or with none there, one that was passed, of all these
+abbrev pub without_error : ℕ → List RRset → Name → List RRset → List RRset → Option Saying
+without_error t answers x [] authorities = cond (list_any (is_told_by t x) answers) (Some (data_of x)) (unanswered x authorities)
+without_error t answers x (s ∷ []) authorities = cond (is_answer t x s) (Some (data_of x)) None
+without_error t answers x (s ∷ (r ∷ sets)) authorities = None
 
 -- with a name error, there is none
 abbrev pub with_name_error : Name → List RRset → Option Saying
@@ -82,14 +82,14 @@ with_name_error x [] = Some (name_error x)
 with_name_error x (s ∷ sets) = None
 
 -- any other code says nothing of a name
-abbrev pub by_code : ℕ → ResponseCode → LastName → List RRset → Option Saying
-by_code t code.NoError last authorities = without_error t last.name last.sets authorities
-by_code t code.NXDomain last authorities = with_name_error last.name last.sets
-by_code t _ last authorities = None
+abbrev pub by_code : ℕ → ResponseCode → List RRset → LastName → List RRset → Option Saying
+by_code t code.NoError answers last authorities = without_error t answers last.name last.sets authorities
+by_code t code.NXDomain answers last authorities = with_name_error last.name last.sets
+by_code t _ answers last authorities = None
 
 -- what a response says to a query; nothing, where it has another form
 abbrev pub saying : Query → Sections → Option Saying
-saying q r = by_code q.record_type r.code (last_name q.record_type q.name r.answers) r.authorities
+saying q r = by_code q.record_type r.code r.answers (last_name q.record_type q.name r.answers) r.authorities
 
 -- the name of which something is said
 abbrev pub name_of : Saying → Name

@@ -6,6 +6,7 @@
 ghost use Rattle.response_laws.specs.HashedSayings.{ResponseProvesByHashes};
 ghost use Rattle.response_laws.specs.NewNames.{OwnersAreReplaced, TargetsAreRead};
 ghost use Rattle.response_laws.specs.ProvedSayings.{ResponseProvesWhatItSays};
+ghost use Rattle.response_laws.specs.Repeats.{AnswersStandOnce};
 ghost use Rattle.response_laws.specs.Sayings.{ResponseSaysHowItEnds};
 ghost use Rattle.response_laws.specs.Agreement.{ProvableByOwners, ResponsesAgree};
 
@@ -14,6 +15,12 @@ ghost use Rattle.response_laws.specs.Agreement.{ProvableByOwners, ResponsesAgree
 /// that leaves the zone, isn't followed any farther, or comes to a name that a DNAME makes too long, and nothing by a code alone.
 pub fn responses_say_how_they_end()
     ensures { ResponseSaysHowItEnds }
+{}
+
+/// Each set stands once in the answer section of each response, however often a search comes below a DNAME or back to its owner
+/// (RFC 2181 section 5): of two of one owner and type, not both have records, and not both signatures (`repeats`).
+pub fn answers_stand_once()
+    ensures { AnswersStandOnce }
 {}
 
 /// The answer section of a response has the sets that a lookup answers with, as they go out, the addresses by ANAME with the same

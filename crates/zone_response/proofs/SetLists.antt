@@ -1,16 +1,19 @@
 -- Lists of sets that are lent or go out
-use Rattle.std.proofs.Common.{Bor, ◌≡◌, ℕ, zero, suc, ◌||◌, ◌-◌, ◌<◌, Bool, true, false, cond, List, [], ◌∷◌, ◌++◌, map, length, get_or, refl, sym, ap, ◌∙◌, append_assoc, arith}
+use Rattle.std.proofs.Common.{Bor, ◌≡◌, ℕ, zero, suc, ◌||◌, ◌-◌, ◌<◌, Bool, true, false, cond, List, [], ◌∷◌, ◌++◌, map, filter, length, get_or, refl, sym, ap, ◌∙◌, ◌⊎◌, inl, inr, append_assoc, arith}
 use Rattle.std.specs.Prelude.{Option, Some, None, slice_get, option_map, option_to_list}
 use Rattle.std.specs.List.{list_any, cons_option}
 use Rattle.std.proofs.lemmas.List.{length-map, map-append}
 use Rattle.std.proofs.lemmas.Option.{slice_get-map}
+use Rattle.zone_proto.specs.declared.record.Record.{Record}
 use Rattle.zone_proto.specs.Names.{same_name}
 use Rattle.zone_proto.specs.Sets.{RRset}
 use Rattle.zone_inner.specs.Flattening.{last_set}
 use Rattle.zone_inner.specs.Runs.{with_new}
 use Rattle.zone_response.specs.declared.response.Sent.{Sent}
 use Rattle.zone_response.specs.Denials.{same_owner}
-use Rattle.zone_response.specs.Sections.{is_alike, sent_set}
+use Rattle.zone_response.specs.declared.response.Part.{Part}
+use Rattle.zone_response.specs.declared.response.Part.TheVariants as part
+use Rattle.zone_response.specs.Sections.{covers, is_signed, with_ttl, sent, sent_set}
 
 -- ---- sets that are lent, by their owners
 
@@ -47,13 +50,33 @@ both_sent f xs ys zs a b e g =
     by (Some x) None = refl
     by (Some x) (Some y) = refl
 
--- ---- sets of one owner and type
+-- ---- a set that passes a test
 
 any_or : (b : Bool) → b || true ≡ true
 any_or true = refl
 any_or false = refl
 
-pub alike_among : (s : RRset) (sets : List Sent) (i : ℕ) (item : Sent) → i < length sets → item ≡ get_or sets i item → is_alike s (sent_set item) ≡ true → list_any (is_alike s) (map sent_set sets) ≡ true
-alike_among s [] i item lt e h = absurd (omega (arith, lt))
-alike_among s (x ∷ sets) zero item lt e h = ap (λ b. b || list_any (is_alike s) (map sent_set sets)) (ap (λ (y : Sent). is_alike s (sent_set y)) (sym e) ∙ h)
-alike_among s (x ∷ sets) (suc i) item lt e h = ap (λ b. is_alike s (sent_set x) || b) (alike_among s sets i item (omega (arith, lt)) e h) ∙ any_or (is_alike s (sent_set x))
+pub passes_among : (p : RRset → Bool) (sets : List Sent) (i : ℕ) (item : Sent) → i < length sets → item ≡ get_or sets i item → p (sent_set item) ≡ true → list_any p (map sent_set sets) ≡ true
+passes_among p [] i item lt e h = absurd (omega (arith, lt))
+passes_among p (x ∷ sets) zero item lt e h = ap (λ b. b || list_any p (map sent_set sets)) (ap (λ (y : Sent). p (sent_set y)) (sym e) ∙ h)
+passes_among p (x ∷ sets) (suc i) item lt e h = ap (λ b. p (sent_set x) || b) (passes_among p sets i item (omega (arith, lt)) e h) ∙ any_or (p (sent_set x))
+
+-- ---- signatures that go out
+
+-- a set that goes out with its signatures has one that covers its type, if the set has
+module _ (ttl : ℕ) (s : RRset) where
+  abbrev covers_type : Record → Bool
+  covers_type r = covers s.record_type r.rdata
+
+  kept : (rs : List Record) → list_any covers_type (map (with_ttl ttl) (filter covers_type rs)) ≡ list_any covers_type rs
+  kept [] = refl
+  kept (r ∷ rs) = by (covers_type r) refl (kept rs)
+    where
+      by : (b : Bool) → covers_type r ≡ b → list_any covers_type (map (with_ttl ttl) (filter covers_type rs)) ≡ list_any covers_type rs
+          → list_any covers_type (map (with_ttl ttl) (cond b (r ∷ filter covers_type rs) (filter covers_type rs))) ≡ b || list_any covers_type rs
+      by true e rest = λ i. e i || list_any covers_type (map (with_ttl ttl) (filter covers_type rs))
+      by false e rest = rest
+
+  pub signed_out : (p : Part) → (p ≡ part.Signed) ⊎ (p ≡ part.Signatures) → is_signed s ≡ is_signed (sent p ttl s)
+  signed_out p (inl e) = sym (ap (λ p. is_signed (sent p ttl s)) e ∙ kept s.signatures)
+  signed_out p (inr e) = sym (ap (λ p. is_signed (sent p ttl s)) e ∙ kept s.signatures)

@@ -1,12 +1,14 @@
 -- The path of a query: its name, and the names that its aliases and DNAMEs lead on to (RFC 1034 section 4.3.2 step 3a, RFC 6672 section 3.2)
-use Rattle.std.specs.Prelude.{ℕ, zero, suc, cond, List, [], ◌∷◌, ◌++◌}
+use Rattle.std.specs.Prelude.{ℕ, zero, suc, Bool, ◌&&◌, ◌||◌, cond, List, [], ◌∷◌, ◌++◌, ◌==◌}
 use Rattle.std.specs.List.{list_any}
-use Rattle.zone_proto.specs.Names.{Name, name_eq}
+use Rattle.zone_proto.specs.Names.{Name, lower, name_eq}
 use Rattle.zone_proto.specs.Sets.{RRset}
+use Rattle.zone_proto.specs.Types.{RRSIG}
 use Rattle.zone_response.specs.declared.paths.Path.{Path as KeptPath}
 use Rattle.zone_response.specs.Queries.{Inquiry}
-use Rattle.zone_response.specs.Sections.{sent_sets}
-use Rattle.zone_response.specs.Steps.{End, unfollowed, Next, on, ends, step, end_of}
+use Rattle.zone_response.specs.Sections.{is_signed, sent_sets}
+use Rattle.zone_response.specs.Steps.{End, complete, unfollowed, Next, on, ends, step, end_of}
+use Rattle.zone_response.specs.Turns.{DNAME}
 
 -- the sets of the answer section, the names for which a star answered, and how the search ends
 pub record Path : Type 0 where
@@ -21,17 +23,30 @@ ended e = record { answers = []; made = []; end = e }
 abbrev pub behind : List RRset → List Name → Path → Path
 behind answers made p = record { answers = answers ++ p.answers; made = made ++ p.made; end = p.end }
 
+-- a set that was passed tells what a query of t asks for of x: a DNAME set of x, where DNAME is asked for; or where RRSIG is, and the set stands there with a signature
+abbrev pub is_told_by : ℕ → Name → RRset → Bool
+is_told_by t x s = (s.record_type == DNAME) && name_eq (lower s.owner) x && ((t == DNAME) || (t == RRSIG) && is_signed s)
+
+-- what comes next behind these sets of the answer section. Where one of them tells what is asked for, it is the answer: a set stands once in a section (RFC 2181 section 5)
+abbrev pub unless_told : ℕ → List RRset → Next → Next
+unless_told t sets (on x) = cond (list_any (is_told_by t x) sets) (ends complete) (on x)
+unless_told t sets (ends e) = ends e
+
 -- what comes next, searched
 abbrev pub searched : (Name → Path) → Next → Path
 searched search (on x) = search x
 searched search (ends e) = ended e
 
 module _ (q : Inquiry) where
+  -- what comes next behind the step from x
+  abbrev pub next_behind : List RRset → Name → Next
+  next_behind before x = unless_told q.record_type (before ++ (step q before x).answers) (step q before x).next
+
   -- the path from x on, of k names at most, behind these sets; a name that was searched isn't searched again
   abbrev pub path_from : ℕ → List Name → List RRset → Name → Path
   path_from zero seen before x = ended unfollowed
   path_from (suc k) seen before x = cond (list_any (name_eq x) seen) (ended unfollowed)
-      (behind (step q before x).answers (step q before x).made (searched (path_from k (seen ++ x ∷ []) (before ++ (step q before x).answers)) (step q before x).next))
+      (behind (step q before x).answers (step q before x).made (searched (path_from k (seen ++ x ∷ []) (before ++ (step q before x).answers)) (next_behind before x)))
 
   -- a chain has 8 names at most
   unfoldable pub path : Name → Path

@@ -34,7 +34,9 @@ use zone_proto::{
 ///   search goes on at the CNAME's target (RFC 6672 section 3.2), but for a query of CNAME or ANY. Where that name would have
 ///   more than 255 octets, the code is YXDOMAIN, `Other(6)`; and `ServFail` where the set has several records (section 2.4), or
 ///   its octets are the wire form of no name.
-/// - An alias is followed as long as its target is a name of the zone that wasn't searched, up to 8 names.
+/// - An alias is followed as long as its target is a name of the zone that wasn't searched, up to 8 names. Where DNAME is asked for,
+///   and it leads back to the owner of a DNAME that the search passed, that set is the answer, since a set stands once in a section
+///   (RFC 2181 section 5); so it is of the set's signatures, where RRSIG is asked for with DNSSEC.
 /// - With DNSSEC, the authority section has the NSEC sets (RFC 4035 section 3.1.3) or NSEC3 sets (RFC 5155 section 7.2), each
 ///   once, that prove a name error, absent data, an unsigned child, and each answer of a wildcard. Where the zone denies by NSEC3
 ///   and its hash has no digest of a name that is hashed for this, or one that makes no owner name, the code is `ServFail`.

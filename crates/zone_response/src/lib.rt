@@ -26,6 +26,7 @@ mod sources;
 mod stand_ins;
 mod standing;
 mod steps;
+mod told;
 mod turns;
 
 pub use answering::respond;

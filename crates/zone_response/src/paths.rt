@@ -11,6 +11,7 @@ use crate::names::has_name;
 use crate::response::Sent;
 use crate::standing::Standing;
 use crate::steps::{Asked, End, Next, SoFar, step};
+use crate::told::unless_told;
 use zone_handler::LookupError;
 use zone_inner::InnerInMemory;
 use zone_proto::{LowerName, Signer};
@@ -52,7 +53,8 @@ pub(crate) fn walk<'z, S: Signer>(
         if has_name(&seen, &name) {
             return Ok(ended(so_far, End::Unfollowed));
         }
-        match step(inner, asked, apex, &name, &mut so_far)? {
+        let next = step(inner, asked, apex, &name, &mut so_far)?;
+        match unless_told(next, asked.record_type, &so_far.answers)? {
             Next::On(target) => {
                 push(&mut seen, name)?;
                 name = target;

@@ -3,9 +3,9 @@ use Rattle.std.specs.List.{list_any}
 use Rattle.zone_proto.specs.Names.{name_eq}
 use Rattle.zone_response.specs.Queries.{inquiry_of}
 use Rattle.zone_response.specs.Sections.{sent_set, sent_sets}
-use Rattle.zone_response.specs.Paths.{path}
+use Rattle.zone_response.specs.Paths.{unless_told, path}
 use Rattle.zone_response.specs.Steps.{end_of, next_of}
-use Rattle.zone_response.proofs.PathSteps.{begins, none_left, known, goes_on, comes_to}
+use Rattle.zone_response.proofs.PathSteps.{begins, none_left, known, told, goes_on, comes_to}
 use Rattle.zone_response.proofs.paths.walk.Goals as goal
 
 pub loop-count-init : goal.loop-count-init
@@ -29,24 +29,36 @@ pub loop-count-preserved : goal.loop-count-preserved
 loop-count-preserved g c =
     let q = inquiry_of g.S.Signer.signature_of c.args.asked c.args.inner.now in
     let l = c.loop-count in
+    let w = path q c.args.name.now in
     let j : ℕ = 8 - (l._count + 1) in
     let more : 8 - l._count ≡ suc j = omega (arith, c.loop-count-test.true) in
     let new : list_any (name_eq l.name) l.seen.items ≡ false = ap (list_any (name_eq l.name)) (sym c.deref.ensures.value) ∙ sym c.has_name.ensures ∙ c.if-has_name.false in
-    let takes = c.in_ok-target.ensures.ok in
-    goes_on q (path q c.args.name.now) (sent_sets l.so_far.answers) l.so_far.made.items (8 - l._count) l.seen.items l.name l.invariant j more new
-    (sent_sets c.step.new.so_far.answers) c.step.new.so_far.made.items takes.answers takes.made c.in-On.target c.push.new.list.items (ap next_of (sym c.in-On.is) ∙ takes.next) c.in_ok-push-in-On.ensures.ok
+    let takes = c.in_ok-next.ensures.ok in
+    let next =
+    told q w (sent_sets l.so_far.answers) l.so_far.made.items (8 - l._count) l.seen.items l.name l.invariant j more new
+    (sent_sets c.step.new.so_far.answers) c.step.new.so_far.made.items takes.answers takes.made
+    (next_of c.in_ok-target.field-0) (next_of c.in_ok-next.next)
+    (c.in_ok-target.ensures.ok ∙ ap (λ sets. unless_told q.record_type (map sent_set sets) (next_of c.in_ok-next.next)) c.deref-in-loop-count.ensures.value) takes.next in
+    goes_on q w (sent_sets l.so_far.answers) l.so_far.made.items (8 - l._count) l.seen.items l.name l.invariant j more new
+    (sent_sets c.step.new.so_far.answers) c.step.new.so_far.made.items takes.answers takes.made c.in-On.target c.push.new.list.items (ap next_of (sym c.in-On.is) ∙ next) c.in_ok-push-in-On.ensures.ok
 
 pub returns-in-Ends-clause-ok : goal.returns-in-Ends-clause-ok
 returns-in-Ends-clause-ok g c =
     let q = inquiry_of g.S.Signer.signature_of c.args.asked c.args.inner.now in
     let l = c.loop-count in
+    let w = path q c.args.name.now in
     let j : ℕ = 8 - (l._count + 1) in
     let more : 8 - l._count ≡ suc j = omega (arith, c.loop-count-test.true) in
     let new : list_any (name_eq l.name) l.seen.items ≡ false = ap (list_any (name_eq l.name)) (sym c.deref.ensures.value) ∙ sym c.has_name.ensures ∙ c.if-has_name.false in
-    let takes = c.in_ok-target.ensures.ok in
+    let takes = c.in_ok-next.ensures.ok in
+    let next =
+    told q w (sent_sets l.so_far.answers) l.so_far.made.items (8 - l._count) l.seen.items l.name l.invariant j more new
+    (sent_sets c.step.new.so_far.answers) c.step.new.so_far.made.items takes.answers takes.made
+    (next_of c.in_ok-target.field-0) (next_of c.in_ok-next.next)
+    (c.in_ok-target.ensures.ok ∙ ap (λ sets. unless_told q.record_type (map sent_set sets) (next_of c.in_ok-next.next)) c.deref-in-loop-count.ensures.value) takes.next in
     (λ i. record { answers = sent_sets (c.ended-in-Ends.ensures.answers i); made = (c.ended-in-Ends.ensures.made i).items; end = end_of (c.ended-in-Ends.ensures.end i) })
-    ∙ comes_to q (path q c.args.name.now) (sent_sets l.so_far.answers) l.so_far.made.items (8 - l._count) l.seen.items l.name l.invariant j more new
-    (sent_sets c.step.new.so_far.answers) c.step.new.so_far.made.items takes.answers takes.made (end_of c.in-Ends.end) (ap next_of (sym c.in-Ends.is) ∙ takes.next)
+    ∙ comes_to q w (sent_sets l.so_far.answers) l.so_far.made.items (8 - l._count) l.seen.items l.name l.invariant j more new
+    (sent_sets c.step.new.so_far.answers) c.step.new.so_far.made.items takes.answers takes.made (end_of c.in-Ends.end) (ap next_of (sym c.in-Ends.is) ∙ next)
 
 -- no name is left of the eight: what was found is the whole
 pub returns-clause-ok : goal.returns-clause-ok

@@ -1,0 +1,28 @@
+-- The sets of an answer section, of which each stands there once (RFC 2181 section 5)
+use Rattle.std.specs.Prelude.{◌≡◌, Bool, false, true, ◌&&◌, ◌||◌, List, [], ◌∷◌, ◌++◌, IsFalse}
+use Rattle.std.specs.List.{list_any}
+use Rattle.zone_proto.specs.declared.record.Record.{Record}
+use Rattle.zone_proto.specs.Names.{lower}
+use Rattle.zone_proto.specs.Sets.{RRset}
+use Rattle.zone_map.specs.Zones.{IsZone}
+use Rattle.zone_response.specs.Queries.{Zone, Query}
+use Rattle.zone_response.specs.Responses.{IsResponse}
+use Rattle.zone_response.specs.Sections.{Sections, is_signed, is_alike}
+
+-- both have records
+abbrev pub have_both : List Record → List Record → Bool
+have_both [] rs = false
+have_both (k ∷ ks) [] = false
+have_both (k ∷ ks) (r ∷ rs) = true
+
+-- a set repeats another of its owner and type: both have records, or both have signatures
+abbrev pub repeats : RRset → RRset → Bool
+repeats s r = is_alike s r && (have_both s.records r.records || is_signed s && is_signed r)
+
+-- none repeats one that stands before it
+abbrev pub StandOnce : List RRset → Type 0
+StandOnce sets = (before back : List RRset) (s : RRset) → sets ≡ before ++ s ∷ back → IsFalse (list_any (repeats s) before)
+
+-- so it is in the answer section of each response; a query's name is in lower case
+abbrev pub AnswersStandOnce : Type 0
+AnswersStandOnce = (z : Zone) (q : Query) (r : Sections) → IsZone z.sets → lower q.name ≡ q.name → IsResponse z q r → StandOnce r.answers
