@@ -14,7 +14,8 @@ The status is 1 where an answer differs otherwise than by what a server may choo
 - NSD puts the zone's NS set and its servers' addresses beside positive answers, which RFC 2181 section 5 leaves to the server.
 - NSD puts addresses that a wildcard gives a host beside an answer or a referral, now and then under the wildcard's own name. RFC 4592
   has wildcards answer queries, and asks for none beside them.
-- NSD writes an alias twice that a wildcard leads back to itself.
+- NSD writes an alias twice that a wildcard leads back to itself, and Knot a DNAME set that is asked for, where a name below it leads
+  back to its owner. RFC 2181 section 5 has a set stand once.
 - Knot puts addresses at a cut and below it beside answers that name such a host. They are glue, which RFC 1034 section 4.2.1 has for
   referrals.
 - For a name that begins with `*` and has no data, and an alias's target that does, NSD sends one NSEC3 set more than the one that RFC 5155

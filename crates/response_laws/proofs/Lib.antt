@@ -33,6 +33,10 @@ pub mod HashedDenied
 pub mod HashedEmpty
 pub mod HashedReferrals
 pub mod Responses
+pub mod Once
+pub mod AnswersOnce
+pub mod AuthoritiesOnce
+pub mod AdditionalsOnce
 pub mod Repeats
 pub mod AgreementNames
 pub mod AgreementSteps

@@ -21,7 +21,7 @@ use Rattle.zone_response.specs.Denials.{star_proof, star_proof_by, denial, denia
 use Rattle.zone_response.specs.Paths.{Path, path}
 use Rattle.zone_response.specs.Queries.{Zone, Query, inquiry}
 use Rattle.zone_response.specs.QueryTypes.{is_no_data}
-use Rattle.zone_response.specs.Responses.{bare, code_at, negative_ttl, ds_at, end_sets, fails, refusal, IsResponse, IsSearched, IsResponseAlong, IsProvenResponse, IsResponseBy}
+use Rattle.zone_response.specs.Responses.{additional_sets, glue_at, bare, code_at, negative_ttl, ds_at, end_sets, fails, refusal, IsResponse, IsSearched, IsResponseAlong, IsProvenResponse, IsResponseBy}
 use Rattle.zone_response.specs.Sections.{Sections, sent}
 use Rattle.zone_response.specs.Steps.{End, referred, missing}
 use Rattle.response_laws.specs.Sayings.{LastName, by_code}
@@ -62,11 +62,14 @@ pub record IsMadeOf (z : Zone) (q : Query) (r : Sections) : Type 0 where
   pub passes : fails (path_of z q).end ≡ false
   pub code : r.code ≡ code_at (path_of z q).end
   pub answers : r.answers ≡ (path_of z q).answers
+  pub additionals : r.additionals ≡ additional_sets (inquiry z q) (path_of z q).answers (path_of z q).end
+  pub glue : r.glue ≡ glue_at z.sets (path_of z q).end
   -- the sets of denial, with DNSSEC those that prove what is said; where NSEC denies they are the zone's, and the closest ones of these names are among them
   pub proofs : List RRset
   pub authorities : r.authorities ≡ end_sets (ds_at z.sets (path_of z q).end) q.signed soa (path_of z q).end ++ map (as_proof (negative_ttl soa)) proofs
   pub denials : (s : RRset) → In s proofs → is_denial_type s.record_type ≡ true
   pub given : q.signed ≡ true → ProofsOf z (path_of z q) proofs
+  pub unproved : q.signed ≡ false → proofs ≡ []
   pub owners : z.nx_proof_kind ≡ Some kind.Nsec → AreOwnersNsec z.sets proofs
   pub tells : z.nx_proof_kind ≡ Some kind.Nsec → q.signed ≡ true → (x : Name) (s : RRset) → In x (told_names z q (path_of z q).end) → closest_nsec z.sets x ≡ Some s → In s proofs
 
@@ -191,10 +194,13 @@ module _ (z : Zone) (q : Query) (r : Sections) (zone : IsZone z.sets) (soa : RRs
         passes = passes;
         code = is.code;
         answers = is.answers;
+        additionals = is.additionals;
+        glue = is.glue;
         proofs = sets;
         authorities = is.authorities;
         denials = proofs_are_denials z zone ds p.made p.end sets g;
         given = λ k. g;
+        unproved = λ k. absurd (true≢false (sym f ∙ k));
         owners = λ n. let found = proofs_are z zone n ds p.made p.end in subst (AreOwnersNsec z.sets) (same found.sets (sym found.all ∙ g)) found.owners;
         tells = λ n k x s i c. let found = proofs_are z zone n ds p.made p.end in subst (In s) (same found.sets (sym found.all ∙ g)) (found.tells x s i c);
       })
@@ -210,10 +216,13 @@ module _ (z : Zone) (q : Query) (r : Sections) (zone : IsZone z.sets) (soa : RRs
         passes = passes;
         code = is.code;
         answers = is.answers;
+        additionals = is.additionals;
+        glue = is.glue;
         proofs = [];
         authorities = is.authorities;
         denials = λ s i. absurd i;
         given = λ k. absurd (true≢false (sym k ∙ f));
+        unproved = λ k. refl;
         owners = λ n s i. absurd i;
         tells = λ n k. absurd (true≢false (sym k ∙ f));
       })

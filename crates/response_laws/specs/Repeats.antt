@@ -1,4 +1,4 @@
--- The sets of an answer section, of which each stands there once (RFC 2181 section 5)
+-- The sets of a section, of which each stands there once (RFC 2181 section 5)
 use Rattle.std.specs.Prelude.{◌≡◌, Bool, false, true, ◌&&◌, ◌||◌, List, [], ◌∷◌, ◌++◌, IsFalse}
 use Rattle.std.specs.List.{list_any}
 use Rattle.zone_proto.specs.declared.record.Record.{Record}
@@ -23,6 +23,12 @@ repeats s r = is_alike s r && (have_both s.records r.records || is_signed s && i
 abbrev pub StandOnce : List RRset → Type 0
 StandOnce sets = (before back : List RRset) (s : RRset) → sets ≡ before ++ s ∷ back → IsFalse (list_any (repeats s) before)
 
--- so it is in the answer section of each response; a query's name is in lower case
-abbrev pub AnswersStandOnce : Type 0
-AnswersStandOnce = (z : Zone) (q : Query) (r : Sections) → IsZone z.sets → lower q.name ≡ q.name → IsResponse z q r → StandOnce r.answers
+-- so it is in each section of a response; glue and what goes besides are the additional section
+pub record IsEachOnce (r : Sections) : Type 0 where
+  pub answers : StandOnce r.answers
+  pub authorities : StandOnce r.authorities
+  pub additionals : StandOnce (r.glue ++ r.additionals)
+
+-- of each response; a query's name is in lower case
+abbrev pub SetsStandOnce : Type 0
+SetsStandOnce = (z : Zone) (q : Query) (r : Sections) → IsZone z.sets → lower q.name ≡ q.name → IsResponse z q r → IsEachOnce r

@@ -6,7 +6,7 @@
 ghost use Rattle.response_laws.specs.HashedSayings.{ResponseProvesByHashes};
 ghost use Rattle.response_laws.specs.NewNames.{OwnersAreReplaced, TargetsAreRead};
 ghost use Rattle.response_laws.specs.ProvedSayings.{ResponseProvesWhatItSays};
-ghost use Rattle.response_laws.specs.Repeats.{AnswersStandOnce};
+ghost use Rattle.response_laws.specs.Repeats.{SetsStandOnce};
 ghost use Rattle.response_laws.specs.Sayings.{ResponseSaysHowItEnds};
 ghost use Rattle.response_laws.specs.Agreement.{ProvableByOwners, ResponsesAgree};
 
@@ -17,10 +17,10 @@ pub fn responses_say_how_they_end()
     ensures { ResponseSaysHowItEnds }
 {}
 
-/// Each set stands once in the answer section of each response, however often a search comes below a DNAME or back to its owner
-/// (RFC 2181 section 5): of two of one owner and type, not both have records, and not both signatures (`repeats`).
-pub fn answers_stand_once()
-    ensures { AnswersStandOnce }
+/// Each set stands once in a section of each response, as in the answer section, however often a search comes below a DNAME or back
+/// to its owner (RFC 2181 section 5): of two of one owner and type, not both have records, and not both signatures (`repeats`).
+pub fn sets_stand_once()
+    ensures { SetsStandOnce }
 {}
 
 /// The answer section of a response has the sets that a lookup answers with, as they go out, the addresses by ANAME with the same
