@@ -27,6 +27,7 @@ use Rattle.zone_response.specs.Turns.{DNAME, turn}
 use Rattle.response_laws.specs.Agreement.{IsOrdinaryZone, IsOrdinaryType, IsOrdinary, NoStandIn, led_on_to, unfound_name, chain_names, searched_names}
 use Rattle.response_laws.proofs.AgreementNames.{found_outside}
 use Rattle.response_laws.proofs.Leads.{sent_type}
+use Rattle.response_laws.proofs.Said.{none_any}
 use Rattle.response_laws.proofs.AgreementSteps.{StepAsFound, answers_by, leads_by, stands_in, lacks, step_as_found}
 
 abbrev names : List (Name × RRset) → List Name
@@ -136,8 +137,7 @@ module _ (q : Inquiry) (zone : IsOrdinaryZone q.origin q.sets) (plain : IsOrdina
 
   -- none tells what is asked for then
   untold : (sets : List RRset) → HaveNoDname sets → (y : Name) → list_any (is_told_by t y) sets ≡ false
-  untold [] h y = refl
-  untold (r ∷ sets) h y = λ i. h r (inl refl) i && name_eq (lower r.owner) y && ((t == DNAME) || (t == RRSIG) && is_signed r) || untold sets (λ s j. h s (inr j)) y i
+  untold sets h y = none_any (is_told_by t y) sets (λ r i j. h r i j && name_eq (lower r.owner) y && ((t == DNAME) || (t == RRSIG) && is_signed r))
 
   alias_behind : (sets : List RRset) → HaveNoDname sets → (s : RRset) → is_followed t s ≡ true → HaveNoDname (sets ++ as_it_is (part_for q.signed) s ∷ [])
   alias_behind sets h s followed r i = by (In-from_append r sets (as_it_is (part_for q.signed) s ∷ []) i)

@@ -25,8 +25,8 @@ use Rattle.response_laws.specs.Repeats.{have_both, repeats}
 use Rattle.response_laws.specs.Sayings.{asks_alias}
 use Rattle.response_laws.proofs.Dnames.{sent_dname, AreDnames, IsAboveBy, turned_by, in_unless}
 use Rattle.response_laws.proofs.LastNames.{IsUntold, untold_on, followed_on, dnames_on}
-use Rattle.response_laws.proofs.Leads.{sent_owner, sent_type, made_type, asked_stands, found_owner}
-use Rattle.response_laws.proofs.Once.{Once, once_both, unlike, none_alike, lowers}
+use Rattle.response_laws.proofs.Leads.{same_in_lower, sent_owner, sent_type, made_type, asked_stands, found_owner}
+use Rattle.response_laws.proofs.Once.{Once, once_both, unlike, none_alike}
 use Rattle.response_laws.proofs.Said.{none_any}
 use Rattle.response_laws.proofs.StandIns.{aname_stands, addresses_of_last, owned_so, of_asked_type}
 use Rattle.response_laws.proofs.Stepped.{NodeOf, has_set, has_alias, has_stand_in, has_nothing, node_of, StepOf, leaves, refers, fails, new_name, at_name, no_star, at_star, star_gone, step_of}
@@ -74,7 +74,7 @@ module _ (q : Inquiry) (zone : IsZone q.sets) where
         by : (b : Bool) → is_alike s r ≡ b → b ≡ false
         by false f = refl
         by true f =
-            let same : y ≡ x = sym e ∙ lowers r.owner s.owner (and_right (r.record_type == s.record_type) (same_name r.owner s.owner) f) ∙ lowers s.owner x owned ∙ lowered in
+            let same : y ≡ x = sym e ∙ same_in_lower r.owner s.owner (and_right (r.record_type == s.record_type) (same_name r.owner s.owner) f) ∙ same_in_lower s.owner x owned ∙ lowered in
             absurd (none_passes (name_eq x) y seen new i ((name_eq-Decides x y).1 (sym same)))
 
     -- and if it is no DNAME set, it repeats none
@@ -107,7 +107,7 @@ module _ (q : Inquiry) (zone : IsZone q.sets) where
             alike : (b : Bool) → is_alike s r ≡ b → name_eq (lower r.owner) x ≡ false → b ≡ false
             alike false f g = refl
             alike true f g =
-                let same : lower r.owner ≡ x = lowers r.owner s.owner (and_right (r.record_type == s.record_type) (same_name r.owner s.owner) f) ∙ lowers s.owner x owned ∙ lowered in
+                let same : lower r.owner ≡ x = same_in_lower r.owner s.owner (and_right (r.record_type == s.record_type) (same_name r.owner s.owner) f) ∙ same_in_lower s.owner x owned ∙ lowered in
                 absurd (true≢false (sym ((name_eq-Decides (lower r.owner) x).1 same) ∙ g))
 
             of_owner : (b : Bool) → name_eq (lower r.owner) x ≡ b → (is_alike s r ≡ false) ⊎ (asks r ≡ false)
@@ -150,7 +150,7 @@ module _ (q : Inquiry) (zone : IsZone q.sets) where
     only s owned e = ((e, tt), of)
       where
         of : AreOf (seen ++ x ∷ []) (s ∷ [])
-        of r (inl same) = inl (x, In-append_right x seen (x ∷ []) (inl refl), ap (λ (k : RRset). lower k.owner) (sym same) ∙ lowers s.owner x owned ∙ lowered)
+        of r (inl same) = inl (x, In-append_right x seen (x ∷ []) (inl refl), ap (λ (k : RRset). lower k.owner) (sym same) ∙ same_in_lower s.owner x owned ∙ lowered)
         of r (inr i) = absurd i
 
     node_once : (star : Option Name) (a : Name) → (star ≡ None → a ≡ x) → OnceOf (step_at q star x a).answers

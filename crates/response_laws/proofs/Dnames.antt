@@ -6,13 +6,12 @@ use Rattle.std.specs.Option.{option_map_or}
 use Rattle.std.proofs.lemmas.List.{map-append}
 use Rattle.zone_proto.specs.declared.record.Record.{Record}
 use Rattle.zone_proto.specs.NameLaws.{caseless_eq_equiv}
-use Rattle.zone_proto.specs.Names.{Name, name_cmp, lower_label, lower, name_eq, same_name, is_above, IsAbove, wire_length}
+use Rattle.zone_proto.specs.Names.{Name, lower_label, lower, name_eq, same_name, is_above, IsAbove, wire_length}
 use Rattle.zone_proto.specs.Sets.{RRset}
 use Rattle.zone_proto.proofs.Members.{In, In-from_any, In-from_append, In-append_left, In-append_right, and_left, and_right}
 use Rattle.zone_proto.proofs.Names.Lower.{lower-lower}
 use Rattle.zone_proto.proofs.Names.NameTree.{name_eq-Decides, above_test}
-use Rattle.zone_proto.proofs.Names.Tree.{name_order, above_cases}
-use Rattle.zone_proto.proofs.Ordering.KeyOrder.{equal_of}
+use Rattle.zone_proto.proofs.Names.Tree.{above_cases}
 use Rattle.zone_proto.specs.Types.{RRSIG}
 use Rattle.zone_map.specs.Zones.{set_at, IsZone}
 use Rattle.zone_response.specs.declared.response.Part.TheVariants as part
@@ -22,7 +21,7 @@ use Rattle.zone_response.specs.Renamings.{only_target, dname_target, unless_long
 use Rattle.zone_response.specs.Sections.{with_ttl, as_it_is, part_for, is_signed, is_alike, unless_among}
 use Rattle.zone_response.specs.Turns.{DNAME, renaming, turn}
 use Rattle.response_laws.specs.Sayings.{asks_alias, is_of, renames, leads_to, last_name}
-use Rattle.response_laws.proofs.Leads.{sent_owner, sent_type}
+use Rattle.response_laws.proofs.Leads.{same_in_lower, sent_owner, sent_type}
 use Rattle.response_laws.proofs.Stepped.{IsUnturned}
 use Rattle.response_laws.proofs.Turned.{turned_first, renaming_set, renaming_uncut, renaming_unturned}
 
@@ -124,7 +123,7 @@ module _ (q : Inquiry) where
         same v w e = cc
 
         owners : lower r.owner ≡ lower (sent_dname s).owner
-        owners = name_order.exact (lower r.owner) (lower (sent_dname s).owner) (equal_of (name_cmp (lower r.owner) (lower (sent_dname s).owner)) alike)
+        owners = same_in_lower r.owner (sent_dname s).owner alike
 
         names : h.name ≡ a.name
         names = sent_name r h ∙ owners ∙ ap lower (sent_owner (part_for q.signed) s.ttl s) ∙ a.owner

@@ -67,10 +67,13 @@ pub made_type : (keep : Bool) (star : Option Name) (x : Name) (s : RRset) → (m
 made_type keep None x s = refl
 made_type keep (Some star) x s = refl
 
+-- names that are the same are so in lower case
+pub same_in_lower : (n x : Name) → same_name n x ≡ true → lower n ≡ lower x
+same_in_lower n x h = name_order.exact (lower n) (lower x) (equal_of (name_cmp (lower n) (lower x)) h)
+
 -- no name is above one that is the same
 not_above : (n x : Name) → same_name n x ≡ true → is_above (lower n) (lower x) ≡ false
-not_above n x h =
-    ap (λ k. is_above k (lower x)) (name_order.exact (lower n) (lower x) (equal_of (name_cmp (lower n) (lower x)) h)) ∙ by (is_above (lower x) (lower x)) refl
+not_above n x h = ap (λ k. is_above k (lower x)) (same_in_lower n x h) ∙ by (is_above (lower x) (lower x)) refl
   where
     by : (b : Bool) → is_above (lower x) (lower x) ≡ b → b ≡ false
     by false e = refl

@@ -2,14 +2,13 @@
 use Rattle.std.proofs.Common.{◌≡◌, ℕ, Bool, true, false, cond, List, [], ◌∷◌, ◌++◌, refl, sym, ap, ◌∙◌, subst, ◌⊎◌, inl, inr}
 use Rattle.std.specs.Prelude.{Some, fold}
 use Rattle.std.specs.List.{list_any}
-use Rattle.zone_proto.specs.Names.{name_cmp, lower}
+use Rattle.zone_proto.specs.Names.{lower}
 use Rattle.zone_proto.specs.Sets.{RRset}
 use Rattle.zone_proto.proofs.Members.{In, In-from_any, In-from_append, In-append_left, In-append_right}
-use Rattle.zone_proto.proofs.Names.Tree.{name_order}
-use Rattle.zone_proto.proofs.Ordering.KeyOrder.{equal_of}
 use Rattle.zone_map.specs.Zones.{Sets, set_at}
 use Rattle.zone_inner.specs.Runs.{with_new}
 use Rattle.zone_response.specs.Denials.{same_owner}
+use Rattle.response_laws.proofs.Leads.{same_in_lower}
 
 -- each set is that of its owner and a type
 abbrev pub AreOwners : ℕ → Sets → List RRset → Type 0
@@ -23,7 +22,7 @@ module _ (t : ℕ) (m : Sets) where
   -- sets of one owner are one
   same_set : (s r : RRset) → set_at m (lower s.owner) t ≡ Some s → set_at m (lower r.owner) t ≡ Some r → same_owner r s ≡ true → r ≡ s
   same_set s r e f h =
-      let same : lower r.owner ≡ lower s.owner = name_order.exact (lower r.owner) (lower s.owner) (equal_of (name_cmp (lower r.owner) (lower s.owner)) h) in
+      let same : lower r.owner ≡ lower s.owner = same_in_lower r.owner s.owner h in
       same_value r s (sym f ∙ ap (λ n. set_at m n t) same ∙ e)
     where
       same_value : (a b : RRset) → Some a ≡ Some b → a ≡ b

@@ -1,5 +1,5 @@
-//! Laws of what a response says, of what a lookup says beside it, and of what it proves to a validator; and of the names that a DNAME
-//! gives. Each is an empty function whose contract is the law, so a program has no need to call one.
+//! Laws of what a response says, of what a lookup says beside it, and of what it proves to a validator; of the sets of its sections,
+//! and of the names that a DNAME gives. Each is an empty function whose contract is the law, so a program has no need to call one.
 //!
 //! What a response says is read in the response alone: the data of a name, a name error, no data, or a referral (`saying`); and so are
 //! the NSEC or NSEC3 records by which it proves that. Signatures are taken as verified.
@@ -17,8 +17,8 @@ pub fn responses_say_how_they_end()
     ensures { ResponseSaysHowItEnds }
 {}
 
-/// Each set stands once in a section of each response, as in the answer section, however often a search comes below a DNAME or back
-/// to its owner (RFC 2181 section 5): of two of one owner and type, not both have records, and not both signatures (`repeats`).
+/// Each set stands once in a section of each response, however often a search comes below a DNAME or back to its owner (RFC 2181
+/// section 5): of two of one owner and type, not both have records, and not both signatures (`repeats`).
 pub fn sets_stand_once()
     ensures { SetsStandOnce }
 {}
