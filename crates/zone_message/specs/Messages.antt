@@ -1,5 +1,5 @@
 -- A message: its header, its questions and the records of its three sections, to its last octet (RFC 1035 section 4.1)
-use Rattle.std.specs.Prelude.{◌≡◌, ℕ, zero, suc, List, [], ◌∷◌, Option, Some, None, Result, Ok, Err}
+use Rattle.std.specs.Prelude.{◌≡◌, ℕ, zero, suc, ◌==◌, ◌&&◌, not, Bool, if◌then◌else◌, List, [], ◌∷◌, Option, Some, None, Result, Ok, Err}
 use Rattle.zone_proto.specs.Names.{Name}
 use Rattle.zone_proto.specs.declared.record.Record.{Record}
 use Rattle.zone_message.specs.declared.header.Header.{Header}
@@ -100,6 +100,20 @@ sections_of message header octets =
 -- the message that octets are
 unfoldable pub message_of : List ℕ → Option Parts
 message_of message = header_of message >>= λ header. sections_of message header.0 header.1
+
+-- one question and no answers are counted, and an authority at least
+abbrev pub has_first_authority : Header → Bool
+has_first_authority header = (header.questions == 1) && (header.answers == 0) && not (header.authorities == 0)
+
+-- the record that the authority section of a query begins with, behind its question (RFC 1995 section 3); what follows it isn't read
+unfoldable pub first_authority_behind : List ℕ → Header → List ℕ → Option Record
+first_authority_behind message header octets =
+    (if has_first_authority header then question_of message octets else None) >>= λ question.
+    record_of message question.1 >>= λ first.
+    Some first.0
+
+abbrev pub first_authority_of : List ℕ → Option Record
+first_authority_of message = header_of message >>= λ header. first_authority_behind message header.0 header.1
 
 -- why octets are not read: they are no message, or memory ran out
 abbrev pub FailsToRead : MessageError → Option Parts → Type 0

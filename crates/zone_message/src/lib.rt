@@ -31,7 +31,7 @@ pub use error::{MessageError, ReadError};
 pub use header::Header;
 pub use header_reader::read_header;
 pub use message::Message;
-pub use message_reader::read_message;
+pub use message_reader::{read_first_authority, read_message};
 pub use query::{Extension, Query};
 pub use query_reader::read_query;
 pub use question::Question;

@@ -1,6 +1,6 @@
 //! Whole messages read.
 ghost use Rattle.std.specs.Prelude.{◌≡◌, IfOk, option_map};
-ghost use Rattle.zone_message.specs.Messages.{message_of, question_of, fields_of, record_of, sections_of, several, parts_of, ReadsMessage};
+ghost use Rattle.zone_message.specs.Messages.{message_of, question_of, fields_of, first_authority_behind, first_authority_of, record_of, sections_of, several, parts_of, ReadsMessage};
 
 use crate::data::data_of;
 use crate::error::MessageError;
@@ -33,6 +33,41 @@ pub fn read_message(alloc: Global, message: &[u8]) -> Result<Message, MessageErr
     match sections_of(alloc, message, header, rest)? {
         None => Err(MessageError::Malformed),
         Some(read) => Ok(read),
+    }
+}
+
+/// Reads the record that the authority section of a query begins with (RFC 1995 section 3), behind the one question of the query;
+/// none where the header counts answers, another number of questions, or no record of that section, or where question and record
+/// aren't of their form. What follows the record is not read, so the rest of the message may have any length. Refused for want of
+/// memory alone.
+pub fn read_first_authority(alloc: Global, message: &[u8]) -> Result<Option<Record>, ProtoError>
+    ensures { IfOk result (λ first. first ≡ first_authority_of message.now) }
+{
+    match read_header(message) {
+        None => Ok(None),
+        Some((header, rest)) => first_authority_behind(alloc, message, header, rest),
+    }
+}
+
+/// The first record of the authority section of a query with this header, and what stands after it.
+#[tactic(auto, unfolding(crate::specs::Messages::first_authority_behind))]
+fn first_authority_behind(
+    alloc: Global,
+    message: &[u8],
+    header: Header,
+    octets: &[u8],
+) -> Result<Option<Record>, ProtoError>
+    ensures { IfOk result (λ first. first ≡ first_authority_behind message.now header octets.now) }
+{
+    if header.questions != 1 || header.answers != 0 || header.authorities == 0 {
+        return Ok(None);
+    }
+    let Some((_, rest)) = question_of(alloc, message, octets)? else {
+        return Ok(None);
+    };
+    match record_of(alloc, message, rest)? {
+        None => Ok(None),
+        Some((record, _)) => Ok(Some(record)),
     }
 }
 

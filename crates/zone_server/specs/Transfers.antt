@@ -7,11 +7,11 @@ use Rattle.zone_proto.specs.declared.record.Record.{Record}
 use Rattle.zone_proto.specs.declared.response_code.ResponseCode.{ResponseCode}
 use Rattle.zone_proto.specs.declared.response_code.ResponseCode.TheVariants as code
 use Rattle.zone_proto.specs.Names.{Name, lower, name_eq}
-use Rattle.zone_proto.specs.Sets.{RRset, first_serial}
+use Rattle.zone_proto.specs.Sets.{RRset, first_serial, soa_serial}
 use Rattle.zone_proto.specs.Types.{AXFR, IN, SOA}
 use Rattle.zone_message.specs.declared.header.Header.{Header}
 use Rattle.zone_message.specs.declared.query.Query.{Query as ReadQuery}
-use Rattle.zone_message.specs.Messages.{Parts, message_of}
+use Rattle.zone_message.specs.Messages.{Parts, first_authority_of, message_of}
 use Rattle.zone_message.specs.Octets.{◌>>=◌}
 use Rattle.zone_handler.specs.declared.axfr_policy.AxfrPolicy.{AxfrPolicy}
 use Rattle.zone_handler.specs.declared.axfr_policy.AxfrPolicy.TheVariants.{AllowAll, Deny}
@@ -168,7 +168,7 @@ IXFR = 251
 
 -- the serial that the client has: that of the SOA with which the authority section of its query begins (RFC 1995 section 3)
 abbrev pub client_serial : List ℕ → Option ℕ
-client_serial message = message_of message >>= λ read. first_serial read.authorities
+client_serial message = first_authority_of message >>= λ first. soa_serial first.rdata
 
 -- the serial of an SOA
 abbrev pub serial_of : RRset → ℕ

@@ -1,7 +1,7 @@
 //! What a query for a whole zone, or for a zone's changes, is answered with (RFC 5936, RFC 1995).
 ghost use Rattle.std.specs.Prelude.{◌≡◌, IfOk, map, option_map};
 ghost use Rattle.zone_proto.specs.Keys.{key as key_at};
-ghost use Rattle.zone_proto.specs.Sets.{first_serial};
+ghost use Rattle.zone_proto.specs.Sets.{first_serial, soa_serial};
 ghost use Rattle.zone_proto.specs.Types.{SOA};
 ghost use Rattle.zone_map.specs.Zones.{set_at};
 ghost use Rattle.zone_response.specs.Queries.{zone_of};
@@ -12,7 +12,7 @@ use crate::transport::Transport;
 use std::alloc::{AllocError, Global};
 use std::collections::BTreeMap;
 use zone_handler::AxfrPolicy;
-use zone_message::{MessageError, Query, read_message};
+use zone_message::{Query, read_first_authority};
 use zone_proto::{
     DNSClass, LowerName, Nsec3Hash, ProtoError, RData, Record, RecordSet, RecordType, ResponseCode,
     RrKey, Signer,
@@ -184,15 +184,15 @@ fn changes_reply<'z>(
     }
 }
 
-/// The serial of the SOA in the authority section of a query for changes (RFC 1995 section 3); none where there is no SOA, or the
-/// section isn't of the form of records.
+/// The serial of the SOA with which the authority section of a query for changes begins (RFC 1995 section 3); none where it begins
+/// with another record, or with none. Records behind that one are not read.
 fn client_serial(alloc: Global, message: &[u8]) -> Result<Option<u32>, AllocError>
     ensures { IfOk result (λ serial. serial ≡ client_serial message.now) }
 {
-    match read_message(alloc, message) {
-        Ok(read) => Ok(first_serial(read.authorities.as_slice())),
-        Err(MessageError::Malformed) => Ok(None),
-        Err(MessageError::Memory) => Err(AllocError),
+    match read_first_authority(alloc, message) {
+        Ok(Some(record)) => Ok(serial_in(&record)),
+        Ok(None) => Ok(None),
+        Err(_) => Err(AllocError),
     }
 }
 
@@ -207,7 +207,14 @@ fn serial_of(soa: &RecordSet) -> u32
 fn first_serial(records: &[Record]) -> Option<u32>
     ensures { result ≡ first_serial records.now }
 {
-    match &records.first()?.rdata {
+    serial_in(records.first()?)
+}
+
+/// The serial of a record that is an SOA.
+fn serial_in(soa_record: &Record) -> Option<u32>
+    ensures { result ≡ soa_serial soa_record.now.rdata }
+{
+    match &soa_record.rdata {
         RData::SOA(soa) => Some(soa.serial),
         _ => None,
     }
