@@ -18,7 +18,7 @@ pub either : (a b : Bool) → a || b ≡ true → (a ≡ true) ⊎ (b ≡ true)
 either true b h = inl refl
 either false b h = inr h
 
-upto_through : (a b c : Name) → is_upto name_cmp a b ≡ true → is_upto name_cmp b c ≡ true → is_upto name_cmp a c ≡ true
+pub upto_through : (a b c : Name) → is_upto name_cmp a b ≡ true → is_upto name_cmp b c ≡ true → is_upto name_cmp a c ≡ true
 upto_through a b c h k = by (upto_cases name_order b c k)
   where
     by : (b ≡ c) ⊎ (name_cmp b c ≡ Less) → is_upto name_cmp a c ≡ true

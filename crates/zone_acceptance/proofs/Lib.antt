@@ -16,6 +16,7 @@ mod JudgedExamples
 mod MetPremises
 mod Nsec3JudgedExamples
 pub mod Circles
+pub mod Chains
 pub mod Nsec3Readings
 pub mod Nsec3Matches
 pub mod Nsec3Shown

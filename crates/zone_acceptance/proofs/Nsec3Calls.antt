@@ -57,7 +57,7 @@ denial_stands {E} m hashed wildcard x answer e r c some = by (nsec3_denying_owne
 
 -- ---- no records prove nothing
 
-nothing_by_none : (origin : Name) (hash : Name → Option (List ℕ)) (x : Name) (t : ℕ) → nsec3_proof origin hash [] x t ≡ None
+pub nothing_by_none : (origin : Name) (hash : Name → Option (List ℕ)) (x : Name) (t : ℕ) → nsec3_proof origin hash [] x t ≡ None
 nothing_by_none origin hash x t =
     only_answers origin hash [] x (λ cover rest. right_false (is_above origin x && not (is_matched origin hash [] x)) (enclosed rest (shown_encloser origin hash [] x)) (unenclosed rest (shown_encloser origin hash [] x)))
     (λ t. right_false (is_at_or_above origin x) false refl) (right_false (is_above origin x) false refl) t
@@ -79,7 +79,7 @@ nothing_by_none origin hash x t =
 
 -- ---- the record of one set
 
-single_is : (n : Name) (a : Nsec3Data) (rs : List Record) → length rs ≡ 1 → first_nsec3 rs ≡ Some a → All (λ (r : Record). lower r.name ≡ n) rs → (r : Record) → In r rs → (nsec3_data r.rdata ≡ Some a) × (lower r.name ≡ n)
+pub single_is : (n : Name) (a : Nsec3Data) (rs : List Record) → length rs ≡ 1 → first_nsec3 rs ≡ Some a → All (λ (r : Record). lower r.name ≡ n) rs → (r : Record) → In r rs → (nsec3_data r.rdata ≡ Some a) × (lower r.name ≡ n)
 single_is n a [] one says named r i = absurd i
 single_is n a (q ∷ []) one says named r (inl e) = (ap (λ (q : Record). nsec3_data q.rdata) (sym e) ∙ says, ap (λ (q : Record). lower q.name) (sym e) ∙ All-head (λ (r : Record). lower r.name ≡ n) q [] named)
 single_is n a (q ∷ []) one says named r (inr i) = absurd i

@@ -37,7 +37,7 @@ read_data : (n : Name) (a : Nsec3Data) (r : Record) → nsec3_data r.rdata ≡ S
 read_data n a r says named =
     ap (option_map (nsec3_record r.name)) says ∙ (λ i. Some (record { owner = named i; next = a.next_hashed_owner_name; types = map (λ t. t.0) a.types; opt_out = a.opt_out }))
 
-read_single : (n : Name) (a : Nsec3Data) (rs : List Record) → length rs ≡ 1 → first_nsec3 rs ≡ Some a → All (λ (r : Record). lower r.name ≡ n) rs
+pub read_single : (n : Name) (a : Nsec3Data) (rs : List Record) → length rs ≡ 1 → first_nsec3 rs ≡ Some a → All (λ (r : Record). lower r.name ≡ n) rs
     → nsec3_records rs ≡ record { owner = n; next = a.next_hashed_owner_name; types = map (λ t. t.0) a.types; opt_out = a.opt_out } ∷ []
 read_single n a [] one says named = absurd (omega (arith, one))
 read_single n a (r ∷ []) one says named = ap (λ o. cons_option o []) (read_data n a r says (All-head (λ (r : Record). lower r.name ≡ n) r [] named))
@@ -45,7 +45,7 @@ read_single n a (r ∷ (q ∷ rs)) one says named = absurd (omega (arith, one))
 
 -- ---- several sets
 
-read_from : (sets : List RRset) (s : RRset) (r : Nsec3Record) → In s sets → In r (nsec3_records s.records) → In r (read_nsec3_sets sets)
+pub read_from : (sets : List RRset) (s : RRset) (r : Nsec3Record) → In s sets → In r (nsec3_records s.records) → In r (read_nsec3_sets sets)
 read_from sets s r i j =
     let q = In-from_filter_map read_nsec3 r s.records j in
     In-filter_map read_nsec3 q.0 r (flat_map (λ (s : RRset). s.records) sets) (In-flat_map (λ (s : RRset). s.records) s q.0 sets i q.1) q.2

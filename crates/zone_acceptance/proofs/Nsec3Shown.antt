@@ -24,7 +24,7 @@ use Rattle.zone_validation.specs.Nsec3Records.{Nsec3Record, nsec3_records}
 use Rattle.zone_acceptance.specs.Nsec3Judged.{read_nsec3_sets, AreNsec3OfZone}
 use Rattle.zone_acceptance.proofs.Nsec3Readings.{record_of, shown, from_read}
 
-same_answer : {E : Type 0} (a b : List RRset) → ◌≡◌ {A = Result (List RRset) E} (Ok a) (Ok b) → a ≡ b
+pub same_answer : {E : Type 0} (a b : List RRset) → ◌≡◌ {A = Result (List RRset) E} (Ok a) (Ok b) → a ≡ b
 same_answer a b e = cc
 
 -- a denial's records are the zone's

@@ -42,7 +42,7 @@ use Rattle.zone_acceptance.proofs.Nsec3Shown.{nsec3_denial_of_zone, enclosing_sh
 use Rattle.zone_acceptance.proofs.OwnTypes.{neither}
 use Rattle.zone_acceptance.proofs.Tests.{refuted, right_false, find_some}
 
-In-from_reverse : {X : Type 0} (y : X) (xs : List X) → In y (reverse xs) → In y xs
+pub In-from_reverse : {X : Type 0} (y : X) (xs : List X) → In y (reverse xs) → In y xs
 In-from_reverse y [] i = i
 In-from_reverse y (x ∷ xs) i = by (In-from_append y (reverse xs) (x ∷ []) (subst (In y) (reverse_onto xs x []) i)) (In-from_reverse y xs)
   where
@@ -51,7 +51,7 @@ In-from_reverse y (x ∷ xs) i = by (In-from_append y (reverse xs) (x ∷ []) (s
     by (inr (inl e)) more = inl e
     by (inr (inr j)) more = absurd j
 
-same_proof : (p q : Proof) → Some p ≡ Some q → p ≡ q
+pub same_proof : (p q : Proof) → Some p ≡ Some q → p ≡ q
 same_proof p q e = cc
 
 -- ---- where neither the name nor an encloser of it is shown, at most an answer of a star is proved

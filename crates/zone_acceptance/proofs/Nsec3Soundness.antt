@@ -119,7 +119,7 @@ module _ {origin : Name} {m : Sets} {hash : Name → Option (List ℕ)} {paramet
               (not_owned_at CNAME (not_true (lists r CNAME) (and_right (not (t == ANY) && not (lists r t)) (not (lists r CNAME)) three))) flat
 
 -- nothing is found at what owns nothing, in such a place
-bare_direct : (origin : Name) (m : Sets) (y : Name) → Unreferred origin m → is_at_or_above origin y ≡ true → is_below_cut origin m y ≡ false → ((u : ℕ) → owns m y u ≡ false) → (t : ℕ) → direct m y t ≡ None
+pub bare_direct : (origin : Name) (m : Sets) (y : Name) → Unreferred origin m → is_at_or_above origin y ≡ true → is_below_cut origin m y ≡ false → ((u : ℕ) → owns m y u ≡ false) → (t : ℕ) → direct m y t ≡ None
 bare_direct origin m y unreferred inside uncut none t = direct_none origin m y unreferred inside uncut t (λ d k. absurd (true≢false (sym k ∙ none NS))) (none t) (none CNAME) (λ d. none ANAME)
 
 -- a name that counts for the circle owns a set of another type than NSEC3
@@ -180,7 +180,7 @@ nsec3_empty_sound origin m hash parameters rs x j of_zone (r, c, matched, none) 
 
 -- ---- by a wildcard
 
-first_label : (k l : List ℕ) (ks ls : Name) → ◌≡◌ {A = Name} (k ∷ ks) (l ∷ ls) → k ≡ l
+pub first_label : (k l : List ℕ) (ks ls : Name) → ◌≡◌ {A = Name} (k ∷ ks) (l ∷ ls) → k ≡ l
 first_label k l ks ls e = cc
 
 -- a star owns no NSEC3 set: the text of a digest has more octets than its label, or none
@@ -319,7 +319,7 @@ nsec3_name_error_sound origin m hash parameters rs x j of_zone p =
 -- ---- an answer of a star
 
 -- a name above another stands below no cut that the other doesn't
-above_uncut : (origin : Name) (m : Sets) (n x : Name) → IsAtOrAbove n x → is_below_cut origin m x ≡ false → is_below_cut origin m n ≡ false
+pub above_uncut : (origin : Name) (m : Sets) (n x : Name) → IsAtOrAbove n x → is_below_cut origin m x ≡ false → is_below_cut origin m n ≡ false
 above_uncut origin m n x u uncut = by (is_below_cut origin m n) refl
   where
     by : (b : Bool) → is_below_cut origin m n ≡ b → b ≡ false

@@ -45,12 +45,12 @@ use Rattle.zone_acceptance.proofs.Soundness.{there_from, present}
 use Rattle.zone_acceptance.proofs.Sums.{cut_of, not_cut}
 use Rattle.zone_acceptance.proofs.Tests.{refuted, right_false}
 
-kept : {X : Type 0} (o : Option X) → option_or o None ≡ o
+pub kept : {X : Type 0} (o : Option X) → option_or o None ≡ o
 kept None = refl
 kept (Some v) = refl
 
 -- the judgement by its tests
-abbrev steps : Bool → Bool → Bool → Bool → Bool → Bool → Bool → Option Proof → Option Proof
+abbrev pub steps : Bool → Bool → Bool → Bool → Bool → Bool → Bool → Option Proof → Option Proof
 steps handed first error out delegation none bare answer =
     if handed then None
     else (if first then Some UnsignedDelegation

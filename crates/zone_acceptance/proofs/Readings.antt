@@ -39,7 +39,7 @@ read_data owner n ts r next types named = by (nsec_data r.rdata) next types
         let types : map (λ t. t.0) a.types ≡ ts = same_value (map (λ t. t.0) a.types) ts q in
         λ i. Some (record { owner = named i; next = next i; types = types i })
 
-read_single : (owner n : Name) (ts : List ℕ) (rs : List Record) → length rs ≡ 1 → option_map (λ (a : NsecData). lower a.next_domain_name) (first_nsec rs) ≡ Some n
+pub read_single : (owner n : Name) (ts : List ℕ) (rs : List Record) → length rs ≡ 1 → option_map (λ (a : NsecData). lower a.next_domain_name) (first_nsec rs) ≡ Some n
     → option_map (λ (a : NsecData). map (λ t. t.0) a.types) (first_nsec rs) ≡ Some ts → All (λ (r : Record). lower r.name ≡ owner) rs → nsec_records rs ≡ record { owner = owner; next = n; types = ts } ∷ []
 read_single owner n ts [] one next types named = absurd (omega (arith, one))
 read_single owner n ts (r ∷ []) one next types named = ap (λ o. cons_option o []) (read_data owner n ts r next types (All-head (λ (r : Record). lower r.name ≡ owner) r [] named))
@@ -47,7 +47,7 @@ read_single owner n ts (r ∷ (q ∷ rs)) one next types named = absurd (omega (
 
 -- ---- several sets
 
-read_from : (sets : List RRset) (s : RRset) (r : NsecRecord) → In s sets → In r (nsec_records s.records) → In r (read sets)
+pub read_from : (sets : List RRset) (s : RRset) (r : NsecRecord) → In s sets → In r (nsec_records s.records) → In r (read sets)
 read_from sets s r i j =
     let q = In-from_filter_map read_nsec r s.records j in
     In-filter_map read_nsec q.0 r (flat_map (λ (s : RRset). s.records) sets) (In-flat_map (λ (s : RRset). s.records) s q.0 sets i q.1) q.2

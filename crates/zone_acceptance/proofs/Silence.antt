@@ -39,7 +39,7 @@ covers_above origin r x c =
     (and_left (is_of_zone origin r && is_above origin x) (is_before name_cmp r.owner x)
     (and_left (is_of_zone origin r && is_above origin x && is_before name_cmp r.owner x) (is_before name_cmp x r.next || name_eq r.next origin) c))
 
-left_false : (a b : Bool) → a ≡ false → a && b ≡ false
+pub left_false : (a b : Bool) → a ≡ false → a && b ≡ false
 left_false a b e = ap (λ c. c && b) e
 
 -- ---- records that neither tell of a name nor are the name's prove nothing
@@ -65,7 +65,7 @@ module _ (origin : Name) (rs : List NsecRecord) (x : Name) (told : (r : NsecReco
     unenclosed : denied_encloser origin rs x ≡ None
     unenclosed = ap (option_and_then (λ r. shown_encloser r x)) (find_none (λ r. denies_name origin r x) rs undenied)
 
-    silent : (t : ℕ) → nsec_proof origin rs x t ≡ None
+    pub silent : (t : ℕ) → nsec_proof origin rs x t ≡ None
     silent t =
         λ i. if unstarred (is_denied origin rs) i then Some (NameError false)
         else (if undelegated i then Some UnsignedDelegation

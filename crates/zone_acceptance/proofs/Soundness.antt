@@ -31,7 +31,7 @@ use Rattle.zone_acceptance.proofs.ShownEnclosers.{judged_star, shown_is}
 use Rattle.zone_acceptance.proofs.Speaking.{empty_off}
 use Rattle.zone_acceptance.proofs.Stars.{exists_is, asked_only}
 
-neither : (a b : Bool) → a || b ≡ false → (a ≡ false) × (b ≡ false)
+pub neither : (a b : Bool) → a || b ≡ false → (a ≡ false) × (b ≡ false)
 neither true b e = absurd (true≢false e)
 neither false b e = (refl, e)
 
@@ -102,7 +102,7 @@ searched_by m x t e = ap (λ b. cond b (any_type m x) t) e
 pub unasked : (m : Sets) (x : Name) → exists m x ≡ true → asked_star m x ≡ None
 unasked m x e = ap (λ b. cond b None (option_map star_under (closest_encloser m x))) (or_right (is_root x || is_wildcard x) (exists m x) e)
 
-nothing_by : (m : Sets) (signed : Bool) (x : Name) (t : ℕ) → (t == ANY) ≡ false → direct m x t ≡ None → wildcard m signed x t ≡ None → found m signed x (searched_type m x t) ≡ None
+pub nothing_by : (m : Sets) (signed : Bool) (x : Name) (t : ℕ) → (t == ANY) ≡ false → direct m x t ≡ None → wildcard m signed x t ≡ None → found m signed x (searched_type m x t) ≡ None
 nothing_by m signed x t one d w = ap (found m signed x) (searched_by m x t one) ∙ (λ i. option_or (d i) (w i))
 
 module _ (origin : Name) (m : Sets) (x : Name) (j : IsJudged origin m x) where

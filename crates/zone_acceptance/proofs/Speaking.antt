@@ -62,7 +62,7 @@ cover_from_last answer x n c = (
   refl,
 )
 
-three : (a b c : Bool) → a ≡ true → b ≡ true → c ≡ true → a && b && c ≡ true
+pub three : (a b c : Bool) → a ≡ true → b ≡ true → c ≡ true → a && b && c ≡ true
 three a b c p q r = λ i. p i && q i && r i
 
 module _ (origin : Name) (m : Sets) (y : Name) (j : IsJudged origin m y) where

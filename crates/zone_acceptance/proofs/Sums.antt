@@ -39,7 +39,7 @@ pub not_cut : (m : Sets) (x : Name) → owns m x NS ≡ false → is_unsigned m 
 not_cut m x e = λ i. e i && not (owns m x DS) && not (owns m x SOA)
 
 -- the judgement by its tests
-abbrev steps : Bool → Bool → Bool → Bool → Bool → Option Name → Option Proof
+abbrev pub steps : Bool → Bool → Bool → Bool → Bool → Option Name → Option Proof
 steps error delegation empty none bare answer =
     if error then Some (NameError false)
     else (if delegation then Some UnsignedDelegation

@@ -6,3 +6,5 @@ pub mod Nsec3Acceptance
 pub mod Nsec3Soundness
 pub mod Sums
 pub mod Nsec3Calls
+pub mod Chains
+pub mod Nsec3Chains

@@ -7,7 +7,8 @@ use Rattle.zone_proto.specs.Sets.{RRset}
 use Rattle.zone_proto.specs.Types.{DS, RRSIG, NSEC, NSEC3, ANY}
 use Rattle.zone_map.specs.Zones.{Sets, set_at, owns}
 use Rattle.zone_denial.specs.Authority.{is_below_cut}
-use Rattle.zone_denial.specs.Nsec3Denial.{closest_encloser}
+use Rattle.zone_denial.specs.Nsec3Denial.{encloser_on}
+use Rattle.zone_denial.specs.Nsec3Names.{nsec3_names}
 use Rattle.zone_denial.specs.Nsec3Zones.{IsNsec3Zone, IsHashed, TellsApart}
 use Rattle.zone_denial.specs.StarLaws.{OwnsNone}
 use Rattle.zone_validation.specs.NsecProofs.{DNAME}
@@ -38,9 +39,13 @@ pub record IsNsec3Judged (origin : Name) (m : Sets) (hash : Name → Option (Lis
   pub unreferred : Unreferred origin m
   pub no_hashed_owner : IsFalse (owns m x NSEC3)
 
--- a type whose absence at x can be shown: neither RRSIG nor ANY; and DS where neither x nor the star under its closest encloser is one of which the parent denies it
-pub record IsNsec3JudgedType (origin : Name) (m : Sets) (opt_out : Bool) (x : Name) (t : ℕ) : Type 0 where
+-- a type whose absence at x can be shown, by names that have NSEC3 sets: neither RRSIG nor ANY; and DS where neither x nor the star under its closest encloser is one of which the parent denies it
+pub record IsNsec3JudgedTypeOn (origin : Name) (m : Sets) (names : List Name) (x : Name) (t : ℕ) : Type 0 where
   pub no_signature : t ≢ RRSIG
   pub one_type : t ≢ ANY
   pub no_apex : t ≡ DS → IsFalse (is_parents_ds origin m x)
-  pub no_star_apex : t ≡ DS → (e : Name) → closest_encloser origin m opt_out x ≡ Some e → IsFalse (is_parents_ds origin m (star_under e))
+  pub no_star_apex : t ≡ DS → (e : Name) → encloser_on names x ≡ Some e → IsFalse (is_parents_ds origin m (star_under e))
+
+-- so by those of the circle
+abbrev pub IsNsec3JudgedType : Name → Sets → Bool → Name → ℕ → Type 0
+IsNsec3JudgedType origin m opt_out x t = IsNsec3JudgedTypeOn origin m (nsec3_names origin m opt_out) x t

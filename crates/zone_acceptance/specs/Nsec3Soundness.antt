@@ -9,8 +9,8 @@ use Rattle.zone_proto.specs.Types.{NSEC3}
 use Rattle.zone_map.specs.Wildcards.{exists, closest_encloser as found_encloser}
 use Rattle.zone_map.specs.Zones.{Sets, owns, owns_at_or_below}
 use Rattle.zone_denial.specs.Authority.{is_below_cut}
-use Rattle.zone_denial.specs.Nsec3Denial.{closest_encloser, nsec3_denial}
-use Rattle.zone_denial.specs.Nsec3Names.{is_unsigned_delegation}
+use Rattle.zone_denial.specs.Nsec3Denial.{encloser_on, nsec3_denial}
+use Rattle.zone_denial.specs.Nsec3Names.{is_unsigned_delegation, nsec3_names}
 use Rattle.zone_denial.specs.Nsec3Zones.{IsNsec3Zone, IsHashed, IsCircleName, TellsApart}
 use Rattle.zone_validation.specs.declared.proof.Proof.{Proof}
 use Rattle.zone_validation.specs.declared.proof.Proof.TheVariants.{WildcardAnswer}
@@ -40,9 +40,12 @@ abbrev pub Nsec3EmptySound : Type 0
 Nsec3EmptySound = (origin : Name) (m : Sets) (hash : Name → Option (List ℕ)) (parameters : Nsec3Parameters) (rs : List Nsec3Record) (x : Name) → IsNsec3Judged origin m hash parameters x
     → AreNsec3OfZone m rs → ShowsEmpty origin hash rs x → IsEmptyNonTerminal m x
 
--- the star under the closest encloser that the circle has for x owns no ANAME that would answer for type t
+-- the star under the closest encloser that names with NSEC3 sets have for x owns no ANAME that would answer for type t
+abbrev pub IsStarUnflattenedOn : Sets → List Name → Name → ℕ → Type 0
+IsStarUnflattenedOn m names x t = (e : Name) → encloser_on names x ≡ Some e → IsUnflattened m (star_under e) t
+
 abbrev pub IsStarUnflattened : Name → Sets → Bool → Name → ℕ → Type 0
-IsStarUnflattened origin m opt_out x t = (e : Name) → closest_encloser origin m opt_out x ≡ Some e → IsUnflattened m (star_under e) t
+IsStarUnflattened origin m opt_out x t = IsStarUnflattenedOn m (nsec3_names origin m opt_out) x t
 
 -- by a wildcard: of a name that isn't starred, since a lookup asks no star for one that is
 abbrev pub Nsec3WildcardNoDataSound : Type 0
@@ -74,14 +77,18 @@ Nsec3AllInSound = (origin : Name) (m : Sets) (hash : Name → Option (List ℕ))
 
 -- ---- all of it
 
--- what the records rs prove of x is so
-pub record IsNsec3Sound (origin : Name) (m : Sets) (hash : Name → Option (List ℕ)) (opt_out : Bool) (x : Name) (rs : List Nsec3Record) : Type 0 where
+-- what the records rs prove of x is so, by names that have NSEC3 sets
+pub record IsNsec3SoundOn (origin : Name) (m : Sets) (hash : Name → Option (List ℕ)) (names : List Name) (x : Name) (rs : List Nsec3Record) : Type 0 where
   pub error : IsTrue (proves_name_error origin hash rs x) → IsNoName origin m x
   pub data' : (t : ℕ) → IsUnflattened m x t → IsTrue (proves_no_data origin hash rs x t) → IsWithoutData origin m x t
   pub empty : ShowsEmpty origin hash rs x → IsEmptyNonTerminal m x
-  pub wildcard_data : (t : ℕ) → IsFalse (is_wildcard x) → IsStarUnflattened origin m opt_out x t → IsTrue (proves_wildcard_no_data origin hash rs x t) → IsWithoutDataByStar origin m x t
+  pub wildcard_data : (t : ℕ) → IsFalse (is_wildcard x) → IsStarUnflattenedOn m names x t → IsTrue (proves_wildcard_no_data origin hash rs x t) → IsWithoutDataByStar origin m x t
   pub answer : (e : Name) → IsTrue (proves_wildcard_answer origin hash rs x e) → IsAbsentBelow origin m x e
   pub delegation : IsTrue (proves_unsigned_delegation origin hash rs x) → IsUnsignedDelegation origin m x
+
+-- so by those of the circle
+abbrev pub IsNsec3Sound : Name → Sets → (Name → Option (List ℕ)) → Bool → Name → List Nsec3Record → Type 0
+IsNsec3Sound origin m hash opt_out x rs = IsNsec3SoundOn origin m hash (nsec3_names origin m opt_out) x rs
 
 -- ---- where nothing is proved
 

@@ -9,14 +9,15 @@ use Rattle.zone_map.specs.AnyTypes.{searched_type}
 use Rattle.zone_map.specs.Wildcards.{found, asked_star}
 use Rattle.zone_map.specs.Zones.{Sets, owns, owns_at_or_below}
 use Rattle.zone_denial.specs.NsecDenial.{nsec_encloser}
-use Rattle.zone_denial.specs.Nsec3Denial.{closest_encloser, nsec3_denial}
+use Rattle.zone_denial.specs.Nsec3Denial.{encloser_on, nsec3_denial}
+use Rattle.zone_denial.specs.Nsec3Names.{nsec3_names}
 use Rattle.zone_inner.specs.Replies.{name_exists, nx_domain, negative_answer}
 use Rattle.zone_validation.specs.declared.proof.Proof.TheVariants.{NameError, UnsignedDelegation, EmptyNonTerminal, NoData, WildcardNoData, WildcardAnswer}
 use Rattle.zone_validation.specs.Judgement.{nsec_proof, nsec3_proof}
 use Rattle.zone_validation.specs.NsecRecords.{NsecRecord}
 use Rattle.zone_validation.specs.Nsec3Records.{Nsec3Record}
 use Rattle.zone_acceptance.specs.Judged.{denial_records, IsJudged, IsJudgedType}
-use Rattle.zone_acceptance.specs.Nsec3Judged.{read_nsec3_sets, IsNsec3Judged, IsNsec3JudgedType}
+use Rattle.zone_acceptance.specs.Nsec3Judged.{read_nsec3_sets, IsNsec3Judged, IsNsec3JudgedTypeOn}
 use Rattle.zone_acceptance.specs.Soundness.{IsUnflattened}
 
 -- x owns NS, and neither DS nor SOA
@@ -46,17 +47,20 @@ abbrev pub AreAnswersSummedUp : Name → Sets → (Name → Option (List ℕ)) �
 AreAnswersSummedUp origin m hash x rs = (signed : Bool) (t : ℕ) (e : Name) → asked_star m x ≡ Some (star_under e) → negative_answer origin m x ≡ name_exists → IsUnflattened m (star_under e) t
     → found m signed x (searched_type m x t) ≢ None → nsec3_proof origin hash rs x t ≡ Some (WildcardAnswer (length e) false)
 
--- the cases are the same, but that of an empty non-terminal, which is no data
-pub record IsNsec3SummedUp (origin : Name) (m : Sets) (hash : Name → Option (List ℕ)) (opt_out : Bool) (x : Name) (rs : List Nsec3Record) : Type 0 where
+-- the cases are the same, but that of an empty non-terminal, which is no data, by names that have NSEC3 sets
+pub record IsNsec3SummedUpOn (origin : Name) (m : Sets) (hash : Name → Option (List ℕ)) (names : List Name) (x : Name) (rs : List Nsec3Record) : Type 0 where
   pub error : (t : ℕ) → IsFalse (is_wildcard x) → negative_answer origin m x ≡ nx_domain → nsec3_proof origin hash rs x t ≡ Some (NameError false)
-  pub starred_error : (t : ℕ) (e : Name) → closest_encloser origin m opt_out x ≡ Some e → IsFalse (owns_at_or_below m (star_under e)) → negative_answer origin m x ≡ nx_domain
+  pub starred_error : (t : ℕ) (e : Name) → encloser_on names x ≡ Some e → IsFalse (owns_at_or_below m (star_under e)) → negative_answer origin m x ≡ nx_domain
       → nsec3_proof origin hash rs x t ≡ Some (NameError false)
   pub delegation : (t : ℕ) → IsTrue (is_unsigned m x) → nsec3_proof origin hash rs x t ≡ Some UnsignedDelegation
-  pub data' : (signed : Bool) (t : ℕ) → IsNsec3JudgedType origin m opt_out x t → IsTrue (owns_at_or_below m x) → IsFalse (is_unsigned m x) → found m signed x (searched_type m x t) ≡ None
+  pub data' : (signed : Bool) (t : ℕ) → IsNsec3JudgedTypeOn origin m names x t → IsTrue (owns_at_or_below m x) → IsFalse (is_unsigned m x) → found m signed x (searched_type m x t) ≡ None
       → nsec3_proof origin hash rs x t ≡ Some NoData
-  pub wildcard_data : (signed : Bool) (t : ℕ) → IsNsec3JudgedType origin m opt_out x t → IsFalse (owns_at_or_below m x) → negative_answer origin m x ≡ name_exists → found m signed x (searched_type m x t) ≡ None
+  pub wildcard_data : (signed : Bool) (t : ℕ) → IsNsec3JudgedTypeOn origin m names x t → IsFalse (owns_at_or_below m x) → negative_answer origin m x ≡ name_exists → found m signed x (searched_type m x t) ≡ None
       → nsec3_proof origin hash rs x t ≡ Some (WildcardNoData false)
   pub answer : AreAnswersSummedUp origin m hash x rs
+
+abbrev pub IsNsec3SummedUp : Name → Sets → (Name → Option (List ℕ)) → Bool → Name → List Nsec3Record → Type 0
+IsNsec3SummedUp origin m hash opt_out x rs = IsNsec3SummedUpOn origin m hash (nsec3_names origin m opt_out) x rs
 
 -- so it is of a judged name's denial to which no wildcard answered
 abbrev pub Nsec3DenialSummedUp : Type 0

@@ -7,6 +7,9 @@
 //! them nor an origin, or a name above it, with NS and no SOA (`IsJudged`).
 //! Signatures are taken as verified.
 ghost use Rattle.zone_acceptance.specs.Acceptance.{NameErrorAccepted, StarredErrorAccepted, NoDataAccepted, EmptyAccepted, WildcardNoDataAccepted, WildcardAnswerAccepted, UnsignedDelegationAccepted, DenialAccepted};
+ghost use Rattle.zone_acceptance.specs.Chains.{ChainDenialAccepted, ChainStarredErrorAccepted, ChainEmptyAccepted, ChainRecordsSound, ChainUnsignedDelegationSound, ChainNothingBelowCut};
+ghost use Rattle.zone_acceptance.specs.Nsec3Chains.{Nsec3ChainDenialAccepted, Nsec3ChainWildcardAnswerAccepted, Nsec3ChainStarredErrorAccepted, Nsec3ChainRecordsSound, Nsec3ChainUnsignedDelegationSound, Nsec3ChainOptOutSound};
+ghost use Rattle.zone_acceptance.specs.Nsec3Chains.{Nsec3ChainNothingBelowCut, Nsec3ChainOwnNothingBelowCut, Nsec3ChainAnswersBelowCut, Nsec3ChainParametersFound};
 ghost use Rattle.zone_acceptance.specs.Soundness.{NameErrorSound, NoDataSound, EmptySound, WildcardNoDataSound, WildcardAnswerSound, UnsignedDelegationSound, NothingBelowCut, NothingOutside};
 ghost use Rattle.zone_acceptance.specs.Nsec3Acceptance.{Nsec3DenialAccepted, Nsec3WildcardAnswerAccepted, Nsec3StarredErrorAccepted};
 ghost use Rattle.zone_acceptance.specs.Sums.{DenialSummedUp, Nsec3DenialSummedUp, Nsec3WildcardSummedUp};
@@ -168,4 +171,31 @@ pub fn denials_are_summed_up()
     ensures nsec3 { Nsec3DenialSummedUp }
     ensures wildcard { Nsec3WildcardSummedUp }
     ensures parameters { Nsec3ParametersFound }
+{}
+
+/// What the laws above say of a zone whose NSEC sets are a circle is so where they are a chain, as BIND, ldns and Knot write it: a
+/// name's own denial is accepted for what the zone has, and a starred name's error and an empty non-terminal by it; whatever records
+/// of the chain are shown, what they prove is so; and below a zone cut above which no DNAME stands they prove nothing.
+pub fn nsec_chains_are_judged()
+    ensures accepted { ChainDenialAccepted }
+    ensures starred { ChainStarredErrorAccepted }
+    ensures empty { ChainEmptyAccepted }
+    ensures sound { ChainRecordsSound }
+    ensures delegation { ChainUnsignedDelegationSound }
+    ensures below_cut { ChainNothingBelowCut }
+{}
+
+/// The same of a chain of NSEC3 sets through any names that it may go through. With opt-out it leaves out delegations without DS,
+/// whatever glue stands at or below them, and names below a DNAME; below a zone cut that is one of its names nothing is proved.
+pub fn nsec3_chains_are_judged()
+    ensures accepted { Nsec3ChainDenialAccepted }
+    ensures wildcard { Nsec3ChainWildcardAnswerAccepted }
+    ensures starred { Nsec3ChainStarredErrorAccepted }
+    ensures sound { Nsec3ChainRecordsSound }
+    ensures delegation { Nsec3ChainUnsignedDelegationSound }
+    ensures opt_out { Nsec3ChainOptOutSound }
+    ensures below_cut { Nsec3ChainNothingBelowCut }
+    ensures own { Nsec3ChainOwnNothingBelowCut }
+    ensures answers { Nsec3ChainAnswersBelowCut }
+    ensures parameters { Nsec3ChainParametersFound }
 {}

@@ -4,5 +4,6 @@ pub mod Nsec3Examples
 mod Nsec3SetExamples
 mod Nsec3FalseCover
 mod StarExamples
+mod ChainExamples
 mod NsecPremises
 mod Nsec3Premises

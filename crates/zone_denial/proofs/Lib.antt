@@ -5,4 +5,5 @@ pub mod Names
 pub mod Sets
 pub mod Chain
 pub mod Hashed
+pub mod Chains
 pub mod Examples

@@ -23,3 +23,5 @@ pub mod Nsec3Laws
 pub mod StarLaws
 pub mod Nsec3Lent
 pub mod StandingSets
+pub mod Chains
+pub mod ChainLaws

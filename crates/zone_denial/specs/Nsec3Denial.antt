@@ -12,9 +12,13 @@ use Rattle.zone_denial.specs.TypeLists.{in_order}
 
 -- ---- the names that a denial proves something of (RFC 5155 section 1.3)
 
--- of q, the longest proper ancestor that has an NSEC3 set on the circle: the closest provable encloser
+-- of q, the longest proper ancestor among names that have NSEC3 sets: the closest provable encloser
+abbrev pub encloser_on : List Name → Name → Option Name
+encloser_on names q = find (λ a. list_any (name_eq a) names) (proper_ancestors q)
+
+-- so by those of the circle
 abbrev pub closest_encloser : Name → Sets → Bool → Name → Option Name
-closest_encloser origin m opt_out q = find (λ a. list_any (name_eq a) (nsec3_names origin m opt_out)) (proper_ancestors q)
+closest_encloser origin m opt_out q = encloser_on (nsec3_names origin m opt_out) q
 
 -- the name one label longer than an ancestor of q, which is q or an ancestor of it
 abbrev pub next_closer : Name → Name → Option Name

@@ -14,7 +14,8 @@ use Rattle.zone_map.specs.Zones.{Sets, IsZone, set_at, owns, owns_at_or_below}
 use Rattle.zone_denial.specs.Authority.{is_below_cut}
 use Rattle.zone_denial.specs.Covering.{covers}
 use Rattle.zone_denial.specs.Nsec3Circle.{first_nsec3}
-use Rattle.zone_denial.specs.Nsec3Denial.{closest_encloser, next_closer, nsec3_denial}
+use Rattle.zone_denial.specs.Nsec3Denial.{encloser_on, next_closer, nsec3_denial}
+use Rattle.zone_denial.specs.Nsec3Names.{nsec3_names}
 use Rattle.zone_denial.specs.Nsec3Sets.{HasNsec3Sets}
 use Rattle.zone_denial.specs.Nsec3Zones.{IsNsec3Zone, IsCircleName, IsHashed, TellsApart}
 
@@ -48,22 +49,24 @@ module _ (origin : Name) (m : Sets) (hash : Name → Option (List ℕ)) where
     pub hashed : hash n ≡ Some digest
     pub covered : IsTrue (covers octets_cmp owner next digest)
 
-  -- an answer has the NSEC3 set of n, where n is on the circle, and else a set that covers n
-  pub record HasSetOrCover (opt_out : Bool) (n : Name) (answer : List RRset) : Type 0 where
-    pub on : IsCircleName origin m opt_out n → (s : RRset) × IsSetOf n s × Contains answer s
-    pub off : (IsCircleName origin m opt_out n → ⊥) → (s : RRset) × CoversName s n × Contains answer s
+  -- ---- by names that have NSEC3 sets
 
-  module _ (opt_out : Bool) (x : Name) where
+  module _ (names : List Name) where
+    -- an answer has the NSEC3 set of n, where n is one of the names, and else a set that covers n
+    pub record HasSetOrCoverOn (n : Name) (answer : List RRset) : Type 0 where
+      pub on : Contains names n → (s : RRset) × IsSetOf n s × Contains answer s
+      pub off : (Contains names n → ⊥) → (s : RRset) × CoversName s n × Contains answer s
+
     -- an answer has the set of the star under the closest encloser of x, or covers the star
-    pub record ProvesStar (answer : List RRset) : Type 0 where
+    pub record ProvesStarOn (x : Name) (answer : List RRset) : Type 0 where
       pub encloser : Name
-      pub is_encloser : closest_encloser origin m opt_out x ≡ Some encloser
-      pub star : HasSetOrCover opt_out (star_under encloser) answer
+      pub is_encloser : encloser_on names x ≡ Some encloser
+      pub star : HasSetOrCoverOn (star_under encloser) answer
 
     -- an answer has the set of the closest encloser of x, and one that covers the next closer name (RFC 5155 section 7.2.1)
-    pub record ProvesEncloser (answer : List RRset) : Type 0 where
+    pub record ProvesEncloserOn (x : Name) (answer : List RRset) : Type 0 where
       pub encloser : Name
-      pub is_encloser : closest_encloser origin m opt_out x ≡ Some encloser
+      pub is_encloser : encloser_on names x ≡ Some encloser
       pub closer : Name
       pub is_closer : next_closer x encloser ≡ Some closer
       pub match : RRset
@@ -73,11 +76,27 @@ module _ (origin : Name) (m : Sets) (hash : Name → Option (List ℕ)) where
       pub covers : CoversName cover closer
       pub has_cover : Contains answer cover
 
-    -- an answer is the NSEC3 set of x alone, where x is on the circle; else it proves the closest encloser
-    pub record FindsOrEncloses (answer : List RRset) : Type 0 where
-      pub on : IsCircleName origin m opt_out x → (s : RRset) × IsSetOf x s × (answer ≡ s ∷ [])
-      pub off : (IsCircleName origin m opt_out x → ⊥) → ProvesEncloser answer
+    -- an answer is the NSEC3 set of x alone, where x is one of the names; else it proves the closest encloser
+    pub record FindsOrEnclosesOn (x : Name) (answer : List RRset) : Type 0 where
+      pub on : Contains names x → (s : RRset) × IsSetOf x s × (answer ≡ s ∷ [])
+      pub off : (Contains names x → ⊥) → ProvesEncloserOn x answer
 
+  -- ---- on a circle
+
+  module _ (opt_out : Bool) where
+    abbrev pub HasSetOrCover : Name → List RRset → Type 0
+    HasSetOrCover = HasSetOrCoverOn (nsec3_names origin m opt_out)
+
+    abbrev pub ProvesStar : Name → List RRset → Type 0
+    ProvesStar = ProvesStarOn (nsec3_names origin m opt_out)
+
+    abbrev pub ProvesEncloser : Name → List RRset → Type 0
+    ProvesEncloser = ProvesEncloserOn (nsec3_names origin m opt_out)
+
+    abbrev pub FindsOrEncloses : Name → List RRset → Type 0
+    FindsOrEncloses = FindsOrEnclosesOn (nsec3_names origin m opt_out)
+
+  module _ (opt_out : Bool) (x : Name) where
     -- what x owns besides NSEC3 is in the list of its NSEC3 set, where x is on the circle; where it isn't and is a name of the zone, it stands below a zone cut, or is an unsigned delegation that opt-out leaves out
     pub record IsNsec3Listed (t : ℕ) : Type 0 where
       pub on : IsCircleName origin m opt_out x → (s : RRset) (types : List ℕ) → IsSetOf x s → types3_of s ≡ Some types → Contains types t

@@ -6,7 +6,7 @@ use Rattle.zone_proto.specs.Names.{Name, IsAtOrAbove, star_under}
 use Rattle.zone_proto.specs.Ranges.{IsOctet}
 use Rattle.zone_map.specs.Zones.{Sets, IsZone}
 use Rattle.zone_denial.specs.Nsec3Circle.{IsNsec3Circle}
-use Rattle.zone_denial.specs.Nsec3Denial.{closest_encloser}
+use Rattle.zone_denial.specs.Nsec3Denial.{encloser_on}
 use Rattle.zone_denial.specs.Nsec3Names.{nsec3_names}
 
 -- of a hash by algorithm, salt, name and iterations, its digest of a name with a zone's parameters (RFC 5155 section 5)
@@ -27,16 +27,25 @@ pub record TellsApart (IsNamed : Name → Type 0) (hash : Name → Option (List 
   pub alike : (n k : Name) → IsNamed n → IsNamed k → length (digest n) ≡ length (digest k)
   pub octets : (n : Name) → IsNamed n → AllByRecursion IsOctet (digest n)
 
+module _ (names : List Name) (x : Name) where
+  -- the names that are hashed for a denial of x by names that have NSEC3 sets: x and its ancestors up to its closest encloser, and the star under that
+  abbrev pub IsAskedOn : Name → Type 0
+  IsAskedOn n = (a : Name) × (encloser_on names x ≡ Some a) × ((IsAtOrAbove n x × IsAtOrAbove a n) ⊎ (n ≡ star_under a))
+
+  -- with these names: a denial of x asks of the hash that it tells these apart
+  abbrev pub IsHashedOn : Name → Type 0
+  IsHashedOn n = Contains names n ⊎ IsAskedOn n
+
+-- ---- on a circle
+
 module _ (origin : Name) (m : Sets) (opt_out : Bool) where
-  -- the names of the circle
+  -- its names
   abbrev pub IsCircleName : Name → Type 0
   IsCircleName n = Contains (nsec3_names origin m opt_out) n
 
-module _ (origin : Name) (m : Sets) (opt_out : Bool) (x : Name) where
-  -- the names that are hashed for a denial of x: x and its ancestors up to its closest encloser, and the star under that
-  abbrev pub IsAsked : Name → Type 0
-  IsAsked n = (a : Name) × (closest_encloser origin m opt_out x ≡ Some a) × ((IsAtOrAbove n x × IsAtOrAbove a n) ⊎ (n ≡ star_under a))
+  -- those that are hashed for a denial of x
+  abbrev pub IsAsked : Name → Name → Type 0
+  IsAsked x = IsAskedOn (nsec3_names origin m opt_out) x
 
-  -- with those of the circle: a denial of x asks of the hash that it tells these apart
-  abbrev pub IsHashed : Name → Type 0
-  IsHashed n = IsCircleName origin m opt_out n ⊎ IsAsked n
+  abbrev pub IsHashed : Name → Name → Type 0
+  IsHashed x = IsHashedOn (nsec3_names origin m opt_out) x

@@ -11,9 +11,10 @@ use Rattle.zone_map.specs.Zones.{Sets, owns, owns_at_or_below}
 use Rattle.zone_denial.specs.Authority.{is_below_cut}
 use Rattle.zone_denial.specs.NsecDenial.{nsec_encloser, nsec_denial}
 use Rattle.zone_denial.specs.NsecLaws.{IsNsecZone, HasCover}
-use Rattle.zone_denial.specs.Nsec3Denial.{closest_encloser, nsec3_denial}
+use Rattle.zone_denial.specs.Nsec3Denial.{encloser_on, closest_encloser, nsec3_denial}
 use Rattle.zone_denial.specs.Nsec3Laws.{CoversName}
-use Rattle.zone_denial.specs.Nsec3Zones.{IsNsec3Zone, IsCircleName, IsHashed, TellsApart}
+use Rattle.zone_denial.specs.Nsec3Names.{nsec3_names}
+use Rattle.zone_denial.specs.Nsec3Zones.{IsNsec3Zone, IsHashed, TellsApart}
 
 -- no name owns a set of type t
 abbrev pub OwnsNone : Sets → ℕ → Type 0
@@ -52,16 +53,19 @@ Nsec3ProvedStarIsAsked = (origin : Name) (m : Sets) (hash : Name → Option (Lis
     → (x : Name) → IsTrue (is_above origin x) → IsFalse (is_below_cut origin m x) → IsFalse (is_wildcard x) → IsFalse (exists m x)
     → (a : Name) → closest_encloser origin m parameters.opt_out x ≡ Some a → asked_star m x ≡ Some (star_under a)
 
--- the denial of x by NSEC3, to which no wildcard answered, says that there is no star under its closest encloser: that star isn't on the circle, and a set of the denial covers it
-pub record Nsec3StarIsDenied (origin : Name) (m : Sets) (hash : Name → Option (List ℕ)) (opt_out : Bool) (x : Name) : Type 0 where
+-- the denial of x by NSEC3, to which no wildcard answered, says that there is no star under its closest encloser: that star isn't one of the names that have NSEC3 sets, and a set of the denial covers it
+pub record Nsec3StarIsDeniedOn (origin : Name) (m : Sets) (hash : Name → Option (List ℕ)) (names : List Name) (x : Name) : Type 0 where
   pub answer : List RRset
   pub denial : nsec3_denial m (λ n. owner_or_refusal origin (hash n)) false x ≡ Ok answer
   pub encloser : Name
-  pub is_encloser : closest_encloser origin m opt_out x ≡ Some encloser
-  pub off : IsCircleName origin m opt_out (star_under encloser) → ⊥
+  pub is_encloser : encloser_on names x ≡ Some encloser
+  pub off : Contains names (star_under encloser) → ⊥
   pub cover : RRset
   pub covers : CoversName origin m hash cover (star_under encloser)
   pub has_cover : Contains answer cover
+
+abbrev pub Nsec3StarIsDenied : Name → Sets → (Name → Option (List ℕ)) → Bool → Name → Type 0
+Nsec3StarIsDenied origin m hash opt_out x = Nsec3StarIsDeniedOn origin m hash (nsec3_names origin m opt_out) x
 
 -- it says so of the same names (RFC 5155 section 7.2.2)
 abbrev pub Nsec3AbsentStarIsDenied : Type 0

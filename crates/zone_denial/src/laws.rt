@@ -13,6 +13,10 @@ ghost use Rattle.std.specs.Ordering.{nat_cmp};
 ghost use Rattle.zone_proto.specs.Names.{Name, name_cmp};
 ghost use Rattle.zone_proto.specs.Types.{NSEC, RRSIG};
 ghost use Rattle.zone_map.specs.Zones.{Sets, owns};
+ghost use Rattle.zone_denial.specs.ChainLaws.{ChainSetsAreOfZone, ChainSetsAreExact, ChainSetsAreOfOneKind, ChainSetsKeepSets, ChainSetsKeepFound, ChainSetsKeepNames};
+ghost use Rattle.zone_denial.specs.ChainLaws.{NsecCircleIsChain, Nsec3CircleIsChain, NsecCircleStays, Nsec3CircleStays};
+ghost use Rattle.zone_denial.specs.ChainLaws.{ChainFindsOrCovers, ChainProvesStar, ChainListsAllOwned, ChainDenialsAgree, ChainNoNextBelowAbsent, ChainNextBelowEmpty, ChainEnclosersAgree, ChainProvedStarIsAsked, ChainAbsentStarIsDenied};
+ghost use Rattle.zone_denial.specs.ChainLaws.{Nsec3ChainFindsOrEncloses, Nsec3ChainProvesStar, Nsec3ChainListsAllOwned, Nsec3ChainDenialsAgree, Nsec3ChainEnclosersAgree, Nsec3ChainProvedStarIsAsked, Nsec3ChainAbsentStarIsDenied};
 ghost use Rattle.zone_denial.specs.Nsec3Circle.{nsec3_types, IsNsec3Type};
 ghost use Rattle.zone_denial.specs.Nsec3Laws.{Nsec3CircleListsAllOwned, Nsec3DenialFindsOrEncloses, Nsec3DenialProvesStar, Nsec3DenialsAgree, SecuredIsNsec3Circle};
 ghost use Rattle.zone_denial.specs.Nsec3Names.{nsec3_names, IsNsec3Name};
@@ -183,4 +187,59 @@ pub fn nsec3_enclosers_agree()
 /// where no name owns NSEC, and the hash tells the names on the circle and those that the denial asks of apart.
 pub fn nsec3_absent_star_is_denied()
     ensures { Nsec3AbsentStarIsDenied }
+{}
+
+/// The sets of a zone without those of denial that don't belong to the chain by which it denies are the sets of a zone, and a
+/// look-up finds among them exactly those that stand in the zone and either are no sets of denial or belong to the chain: the NSEC
+/// sets, or the NSEC3 sets of its algorithm, salt and iterations (RFC 5155 sections 7.2 and 8.2). So none of the other kind is left.
+pub fn chain_sets_are_exact()
+    ensures zone { ChainSetsAreOfZone }
+    ensures sets { ChainSetsAreExact }
+    ensures kind { ChainSetsAreOfOneKind }
+{}
+
+/// Without the denials a search finds the same among these sets as in the zone: the same sets, so that the same names exist, for
+/// which the same stars are asked, and which stand below the same zone cuts and DNAME sets.
+pub fn chain_sets_find_the_same()
+    ensures sets { ChainSetsKeepSets }
+    ensures found { ChainSetsKeepFound }
+    ensures names { ChainSetsKeepNames }
+{}
+
+/// A circle of NSEC sets, as a zone has it once it is secured, is a chain; and so is one of NSEC3 sets, through the names that
+/// get one. Where the zone has no sets of denial of the other kind, its sets are all of that chain.
+pub fn circles_are_chains()
+    ensures nsec { NsecCircleIsChain }
+    ensures nsec3 { Nsec3CircleIsChain }
+    ensures nsec_sets { NsecCircleStays }
+    ensures nsec3_sets { Nsec3CircleStays }
+{}
+
+/// What the laws above say of a circle of NSEC sets is so of a chain: the denial of a name of the zone is the name's own set or
+/// covers the name, and has the set of the star under its closest encloser or covers that star; the lists have what is owned, as
+/// far as they tell of it, and no denial contradicts one; and the next name tells an empty name from none, the encloser is the
+/// one that exists, and its star the one that is asked. The last three are so where neither a zone cut nor a DNAME stands above the
+/// name, since a chain may leave out names below a DNAME.
+pub fn nsec_chains_deny()
+    ensures found_or_covered { ChainFindsOrCovers }
+    ensures star { ChainProvesStar }
+    ensures listed { ChainListsAllOwned }
+    ensures agree { ChainDenialsAgree }
+    ensures absent { ChainNoNextBelowAbsent }
+    ensures empty { ChainNextBelowEmpty }
+    ensures encloser { ChainEnclosersAgree }
+    ensures asked_star { ChainProvedStarIsAsked }
+    ensures absent_star { ChainAbsentStarIsDenied }
+{}
+
+/// The same as [`nsec_chains_deny`], of a chain of NSEC3 sets through any names that it may go through: what the laws above say of
+/// the names on a circle is so of these. The last three are so without opt-out.
+pub fn nsec3_chains_deny()
+    ensures found_or_enclosed { Nsec3ChainFindsOrEncloses }
+    ensures star { Nsec3ChainProvesStar }
+    ensures listed { Nsec3ChainListsAllOwned }
+    ensures agree { Nsec3ChainDenialsAgree }
+    ensures encloser { Nsec3ChainEnclosersAgree }
+    ensures asked_star { Nsec3ChainProvedStarIsAsked }
+    ensures absent_star { Nsec3ChainAbsentStarIsDenied }
 {}

@@ -21,7 +21,7 @@ one_longer : (l : Label) (f a : Name) → (c : Name) × IsAtOrAbove c ((l ∷ f)
 one_longer l [] a = (l ∷ a, ([], refl), refl)
 one_longer l (k ∷ f) a = let r = one_longer k f a in (r.0, (l ∷ r.1.0, ap (λ n. l ∷ n) r.1.1), r.2)
 
-next_closer_is : (x a : Name) → IsAbove a x → (c : Name) × (next_closer x a ≡ Some c) × IsAtOrAbove c x × (length c ≡ suc (length a))
+pub next_closer_is : (x a : Name) → IsAbove a x → (c : Name) × (next_closer x a ≡ Some c) × IsAtOrAbove c x × (length c ≡ suc (length a))
 next_closer_is x a (l, f, e) = by (next_closer x a) refl
   where
     longer : Name → Bool
@@ -36,7 +36,7 @@ next_closer_is x a (l, f, e) = by (next_closer x a) refl
         (c, h, r.0, eqb-true (length c) (suc (length a)) r.1)
 
 -- it stands at or below the ancestor
-below_ancestor : (x a c : Name) → IsAbove a x → IsAtOrAbove c x → length c ≡ suc (length a) → IsAtOrAbove a c
+pub below_ancestor : (x a c : Name) → IsAbove a x → IsAtOrAbove c x → length c ≡ suc (length a) → IsAtOrAbove a c
 below_ancestor x a c (l, f, e) (g, q) h = by (comparable (l ∷ f) g a c (sym e ∙ q))
   where
     by : IsAtOrAbove a c ⊎ IsAtOrAbove c a → IsAtOrAbove a c

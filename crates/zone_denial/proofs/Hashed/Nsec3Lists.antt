@@ -42,7 +42,7 @@ all_pass p t (u ∷ us) a i = by (p u) refl a i (λ b j. all_pass p t us b j)
     by true q a (inl e) ih = ap p (sym e) ∙ q
     by true q a (inr j) ih = ih a j
 
-delegation_type : (m : Sets) (x : Name) (t : ℕ) → t ≢ NSEC3 → owns m x t ≡ true → is_unsigned_delegation m x ≡ true → t ≡ NS
+pub delegation_type : (m : Sets) (x : Name) (t : ℕ) → t ≢ NSEC3 → owns m x t ≡ true → is_unsigned_delegation m x ≡ true → t ≡ NS
 delegation_type m x t ne k a = by (t == NS) (t == NSEC3) refl refl (all_pass (λ u. (u == NS) || (u == NSEC3)) t (types_at m x) a (type_in m x t k))
   where
     by : (b c : Bool) → (t == NS) ≡ b → (t == NSEC3) ≡ c → b || c ≡ true → t ≡ NS

@@ -41,7 +41,7 @@ fault_by_length k l ls e =
 text_length : (d : List ℕ) → length (base32_text d) ≡ base32_count (length d)
 text_length d = length-map-range_with_len (λ i. digit_char (five_bits d (i * 5))) 0 (base32_count (length d))
 
-owner_faults : (zone : Name) (d e : List ℕ) → length d ≡ length e → fault_of (hashed_owner zone d) ≡ fault_of (hashed_owner zone e)
+pub owner_faults : (zone : Name) (d e : List ℕ) → length d ≡ length e → fault_of (hashed_owner zone d) ≡ fault_of (hashed_owner zone e)
 owner_faults zone d e same = fault_by_length (base32_text d) (base32_text e) zone (text_length d ∙ ap base32_count same ∙ sym (text_length e))
 
 pub same_value : (d e : List ℕ) → Some d ≡ Some e → d ≡ e

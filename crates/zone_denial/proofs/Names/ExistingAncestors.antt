@@ -33,7 +33,7 @@ module _ (m : Sets) where
       let e = has_entry m d t k in
       any_from_In (shows n) (key d t) (keys_of m) (In-map (λ (e : RrKey × RRset). e.0) (key d t, e.0) m e.1) (λ i. is_at_or_above_complete n d u i && not (o i))
 
-  from_exists : (n : Name) → exists m n ≡ true → (d : Name) × (t : ℕ) × (owns m d t ≡ true) × (is_denial_type t ≡ false) × IsAtOrAbove n d
+  pub from_exists : (n : Name) → exists m n ≡ true → (d : Name) × (t : ℕ) × (owns m d t ≡ true) × (is_denial_type t ≡ false) × IsAtOrAbove n d
   from_exists n e =
       let r = In-from_any (shows n) (keys_of m) e in
       let s = In-from_map (λ (e : RrKey × RRset). e.0) r.0 m r.1 in (

@@ -1,0 +1,26 @@
+-- What a validator makes of the denials by chains of NSEC and NSEC3 sets
+pub mod Readings
+pub mod Gaps
+pub mod Stars
+pub mod ShownEnclosers
+pub mod Speaking
+pub mod OwnTypes
+pub mod NameErrors
+pub mod EmptyAnswers
+pub mod Soundness
+pub mod Silence
+pub mod Sums
+pub mod Accepted
+pub mod Nsec3Readings
+pub mod Nsec3Matches
+pub mod Nsec3Shown
+pub mod Nsec3Judging
+pub mod Nsec3Proved
+pub mod Nsec3NameErrors
+pub mod Nsec3EmptyAnswers
+pub mod Nsec3Soundness
+pub mod Nsec3Silence
+pub mod Nsec3LeftOut
+pub mod Nsec3Sums
+pub mod Nsec3Accepted
+pub mod Nsec3Calls

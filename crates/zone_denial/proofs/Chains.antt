@@ -1,0 +1,17 @@
+-- The chains of NSEC and NSEC3 sets, of which a circle is one, and the denials by them
+pub mod ChainSets
+pub mod SameSets
+pub mod Circles
+pub mod NsecLinks
+pub mod NsecClosest
+pub mod NsecStar
+pub mod NsecLists
+pub mod NsecBelow
+pub mod NsecAskedStar
+pub mod Nsec3Names
+pub mod Nsec3Owners
+pub mod Nsec3Covers
+pub mod Nsec3Encloses
+pub mod Nsec3Star
+pub mod Nsec3Lists
+pub mod Nsec3AskedStar

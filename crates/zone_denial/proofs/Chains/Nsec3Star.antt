@@ -1,0 +1,86 @@
+-- On a chain of NSEC3 sets, the denial of a name off it has the set of the star under the closest encloser, or covers the star
+use Rattle.std.proofs.Common.{◌≡◌, ℕ, Bool, true, false, cond, List, [], ◌∷◌, refl, sym, ap, ◌∙◌, subst, inl, inr}
+use Rattle.std.specs.Prelude.{Option, Some, None, Result, Ok, option_map, option_to_list}
+use Rattle.std.specs.List.{Contains}
+use Rattle.std.specs.Option.{option_or}
+use Rattle.zone_proto.specs.declared.error.ProtoError.{ProtoError}
+use Rattle.zone_proto.specs.declared.rdata.denial.NSEC3PARAM.{NSEC3PARAM as Nsec3Parameters}
+use Rattle.zone_proto.specs.HashedOwners.{owner_or_refusal}
+use Rattle.zone_proto.specs.Names.{Name, is_at_or_above, star_under}
+use Rattle.zone_proto.specs.Sets.{RRset}
+use Rattle.zone_proto.specs.Types.{NSEC3}
+use Rattle.zone_proto.proofs.Members.{In, In-Contains, Contains-In}
+use Rattle.zone_map.specs.Zones.{Sets, owns}
+use Rattle.zone_denial.specs.ChainLaws.{Nsec3ChainProvesStar}
+use Rattle.zone_denial.specs.Chains.{IsNsec3Chain}
+use Rattle.zone_denial.specs.Nsec3Circle.{digests, next_digest}
+use Rattle.zone_denial.specs.Nsec3Denial.{cover_owner, enclosed, star_part, nsec3_denial}
+use Rattle.zone_denial.specs.Nsec3Laws.{HasSetOrCoverOn, ProvesStarOn}
+use Rattle.zone_denial.specs.Nsec3Zones.{IsHashedOn, TellsApart}
+use Rattle.zone_denial.proofs.Chains.Nsec3Covers.{has_cover}
+use Rattle.zone_denial.proofs.Chains.Nsec3Names.{is_named, named_in, IsEnclosed, enclosed_off}
+use Rattle.zone_denial.proofs.Chains.Nsec3Encloses.{Has, star_hashed, star_owners, star_answered, answer_off}
+use Rattle.zone_denial.proofs.Chains.Nsec3Owners.{named_hashed, owner, set_of_named, named_owns, owns_as_named}
+
+module _ {origin : Name} {m : Sets} {hash : Name → Option (List ℕ)} {parameters : Nsec3Parameters} {names : List Name} {x : Name} (zone : IsNsec3Chain origin m hash parameters names) (apart : TellsApart (IsHashedOn names x) hash) where
+  abbrev hashed : Name → Result Name ProtoError
+  hashed n = owner_or_refusal origin (hash n)
+
+  module _ (a c : Name) (e : IsEnclosed names x a c) (answer : List RRset)
+      (has : (o : Name) → In o (star_owners zone apart a) → Has zone apart answer o)
+    where
+      abbrev star : Name
+      star = star_under a
+
+      -- the owners of the star's part, by whether its hashed owner owns NSEC3
+      owners_are : (b : Bool) → owns m (owner zone apart star) NSEC3 ≡ b
+          → star_owners zone apart a ≡ option_to_list (option_or (cond b (Some (owner zone apart star)) None) (cover_owner m (owner zone apart star)))
+      owners_are b h = ap (λ b. option_to_list (option_or (cond b (Some (owner zone apart star)) None) (cover_owner m (owner zone apart star)))) h
+
+      star_proved : HasSetOrCoverOn origin m hash names star answer
+      star_proved = record {
+        on = λ on.
+            let i = Contains-In star names on in
+            let s = set_of_named zone apart star i in
+            (s.0, (apart.digest star, apart.answers star (star_hashed zone apart a c e), s.1), has (owner zone apart star) (subst (In (owner zone apart star)) (sym (owners_are true (named_owns zone apart star i))) (inl refl)) s.0 s.1);
+        off = λ off.
+            let h = star_hashed zone apart a c e in
+            let cover = has_cover zone apart star h (λ i. off (In-Contains star names i)) in
+            let s = set_of_named zone apart cover.0 cover.1.on in
+            let is : star_owners zone apart a ≡ owner zone apart cover.0 ∷ [] = owners_are false (owns_as_named zone apart star h ∙ unnamed off (is_named names star) refl) ∙ ap option_to_list cover.1.is_cover in (
+              s.0,
+              record {
+                owner = apart.digest cover.0;
+                octets = apart.octets cover.0 (named_hashed zone apart cover.0 cover.1.on);
+                next = next_digest (digests hash names) (apart.digest cover.0);
+                digest = apart.digest star;
+                stands = s.1;
+                said = ap (option_map (λ a. a.next_hashed_owner_name)) s.2.says;
+                hashed = apart.answers star h;
+                covered = cover.1.covered;
+              },
+              has (owner zone apart cover.0) (subst (In (owner zone apart cover.0)) (sym is) (inl refl)) s.0 s.1,
+            );
+      }
+        where
+          unnamed : (Contains names star → ⊥) → (b : Bool) → is_named names star ≡ b → is_named names star ≡ false
+          unnamed off true h = absurd (off (In-Contains star names (named_in names star h)))
+          unnamed off false h = h
+
+  star_of_denial : is_at_or_above origin x ≡ true → (Contains names x → ⊥)
+      → (answer : List RRset) × (nsec3_denial m hashed false x ≡ Ok answer) × ProvesStarOn origin m hash names x answer
+  star_of_denial inside off =
+      let away = λ (i : In x names). off (In-Contains x names i) in
+      let n = enclosed_off names origin zone.begins x inside away in
+      let r = answer_off zone apart (enclosed m hashed false x) (star_part m hashed) (λ a. refl) away n.0 n.1 n.2 (star_owners zone apart n.0) (star_answered zone apart n.0 (star_hashed zone apart n.0 n.1 n.2)) in (
+        r.0,
+        r.1.given,
+        record {
+          encloser = n.0;
+          is_encloser = n.2.is_encloser;
+          star = star_proved n.0 n.1 n.2 r.0 (λ o i. r.1.has o (inr (inr i)));
+        },
+      )
+
+pub proves_star : Nsec3ChainProvesStar
+proves_star origin m hash parameters names zone x inside apart off = star_of_denial zone apart inside off

@@ -1,0 +1,26 @@
+use Rattle.zone_denial.proofs.Chains.Nsec3AskedStar.{enclosers_agree, proved_star_is_asked, absent_star_is_denied}
+use Rattle.zone_denial.proofs.Chains.Nsec3Encloses.{finds_or_encloses}
+use Rattle.zone_denial.proofs.Chains.Nsec3Lists.{lists_all_owned, denials_agree}
+use Rattle.zone_denial.proofs.Chains.Nsec3Star.{proves_star}
+use Rattle.zone_denial.proofs.laws.nsec3_chains_deny.Goals as goal
+
+pub returns-clause-found_or_enclosed : goal.returns-clause-found_or_enclosed
+returns-clause-found_or_enclosed c = finds_or_encloses
+
+pub returns-clause-star : goal.returns-clause-star
+returns-clause-star c = proves_star
+
+pub returns-clause-listed : goal.returns-clause-listed
+returns-clause-listed c = lists_all_owned
+
+pub returns-clause-agree : goal.returns-clause-agree
+returns-clause-agree c = denials_agree
+
+pub returns-clause-encloser : goal.returns-clause-encloser
+returns-clause-encloser c = enclosers_agree
+
+pub returns-clause-asked_star : goal.returns-clause-asked_star
+returns-clause-asked_star c = proved_star_is_asked
+
+pub returns-clause-absent_star : goal.returns-clause-absent_star
+returns-clause-absent_star c = absent_star_is_denied
