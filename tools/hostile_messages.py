@@ -1,8 +1,8 @@
 #!/usr/bin/env python3
 """Hands zoned messages that no client should send, a million unless another count is named: random octets, queries of which some octets
 are turned, for transfers too, and fronts of good queries, each with a limit of its own. Every answer has to come in order, under the
-identifier of its message, with its opcode, RD and CD, within its limit, and to what has a header and is no response alone. It is no part
-of the gate.
+identifier of its message, with its opcode and RD, without AD and CD, within its limit, and to what has a header and is no response alone.
+It is no part of the gate.
 
   tools/hostile_messages.py [COUNT [SEED]]
 
@@ -90,7 +90,7 @@ def fault(message, limit, response):
     (number, flags), (own_number, own_flags) = struct.unpack_from("!HH", message), struct.unpack_from("!HH", response)
     if number != own_number:
         return "another identifier"
-    if not own_flags & 0x8000 or (flags ^ own_flags) & 0x7910:
+    if not own_flags & 0x8000 or (flags ^ own_flags) & 0x7900 or own_flags & 0x0030:
         return f"flags {own_flags:04x} to {flags:04x}"
     return None
 

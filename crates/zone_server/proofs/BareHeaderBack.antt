@@ -42,37 +42,23 @@ high_is opcode false small =
       rd = let even : n % 2 ≡ 0 = omega arith in ap (λ x. eqb x 1) even;
     }
 
--- ---- CD and the response code
+-- ---- the response code
 
-abbrev low_of : Bool → ℕ → ℕ
-low_of disabled code = (if disabled then 16 else 0) + code
-
-record IsLow (disabled : Bool) (code n : ℕ) : Type 0 where
+record IsLow (code n : ℕ) : Type 0 where
   ra : has_bit 128 n ≡ false
   z : has_bit 64 n ≡ false
   ad : has_bit 32 n ≡ false
-  cd : has_bit 16 n ≡ disabled
+  cd : has_bit 16 n ≡ false
   rcode : n % 16 ≡ code
 
-low_is : (disabled : Bool) (code : ℕ) → code < 16 → IsLow disabled code (low_of disabled code)
-low_is true code small =
-    let n = 16 + code in
-    record {
-      ra = bit_is 128 n 0 (omega arith);
-      z = bit_is 64 n 0 (omega arith);
-      ad = bit_is 32 n 0 (omega arith);
-      cd = bit_is 16 n 1 (omega arith);
-      rcode = omega arith;
-    }
-low_is false code small =
-    let n = 0 + code in
-    record {
-      ra = bit_is 128 n 0 (omega arith);
-      z = bit_is 64 n 0 (omega arith);
-      ad = bit_is 32 n 0 (omega arith);
-      cd = bit_is 16 n 0 (omega arith);
-      rcode = omega arith;
-    }
+low_is : (code : ℕ) → code < 16 → IsLow code code
+low_is code small = record {
+  ra = bit_is 128 code 0 (omega arith);
+  z = bit_is 64 code 0 (omega arith);
+  ad = bit_is 32 code 0 (omega arith);
+  cd = bit_is 16 code 0 (omega arith);
+  rcode = omega arith;
+}
 
 -- ---- the header
 
@@ -80,7 +66,7 @@ pub bare_back : (h : Header) (code : ℕ) → h.opcode < 16 → code < 16 → Is
 unfolding message_of sections_of several
 bare_back h code small_opcode small_code =
     let high = high_is h.opcode h.recursion_desired small_opcode in
-    let low = low_is h.checking_disabled code small_code in
+    let low = low_is code small_code in
     let id : (h.id / 256) * 256 + h.id % 256 ≡ h.id = omega arith in
     λ i. Some (record {
       header = record {

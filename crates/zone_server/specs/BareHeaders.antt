@@ -6,7 +6,7 @@ use Rattle.zone_message.specs.declared.error.ReadError.{ReadError}
 use Rattle.zone_message.specs.declared.error.ReadError.TheVariants.{NotImplemented, Malformed}
 use Rattle.zone_message.specs.Messages.{message_of}
 
--- identifier, opcode, RD and CD are the query's (RFC 1035 section 4.1.1, RFC 4035 section 3.2.2)
+-- identifier, opcode and RD are the query's (RFC 1035 section 4.1.1), and AD and CD are clear (RFC 4035 section 3.1.6)
 abbrev pub bare_header : Header → ℕ → Header
 bare_header h code = record {
   id = h.id;
@@ -18,7 +18,7 @@ bare_header h code = record {
   recursion_available = false;
   reserved = false;
   authentic_data = false;
-  checking_disabled = h.checking_disabled;
+  checking_disabled = false;
   response_code = code;
   questions = 0;
   answers = 0;
@@ -32,12 +32,12 @@ IsBareHeader h code octets =
     message_of octets
     ≡ Some (record { header = bare_header h code; questions = []; answers = []; authorities = []; additionals = [] })
 
--- What is written; what it means is said by reading alone. The third octet has QR, the opcode and RD, the fourth CD and the code.
+-- What is written; what it means is said by reading alone. The third octet has QR, the opcode and RD, the fourth the code.
 abbrev pub bare_text : Header → ℕ → List ℕ
 bare_text h code =
     (h.id / 256) ∷ (h.id % 256)
     ∷ (128 + (h.opcode * 8 + (if h.recursion_desired then 1 else 0)))
-    ∷ ((if h.checking_disabled then 16 else 0) + code)
+    ∷ code
     ∷ 0 ∷ 0 ∷ 0 ∷ 0 ∷ 0 ∷ 0 ∷ 0 ∷ 0 ∷ []
 
 -- a header that is to be answered has an opcode of four bits

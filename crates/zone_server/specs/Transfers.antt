@@ -54,7 +54,7 @@ groups_sent soa m =
 abbrev pub joined : {A : Type 0} → List (List A) → List A
 joined xss = flat_map (λ xs. xs) xss
 
--- AA is set and TC is clear; identifier, RD and CD are the query's (RFC 5936 section 2.2.1, RFC 4035 section 3.1.6)
+-- AA is set, and TC, AD and CD are clear; identifier and RD are the query's (RFC 5936 section 2.2.1, RFC 4035 section 3.1.6)
 abbrev pub transfer_header : ReadQuery → ℕ → ℕ → Header
 transfer_header q answers additionals = record {
   id = q.header.id;
@@ -66,7 +66,7 @@ transfer_header q answers additionals = record {
   recursion_available = false;
   reserved = false;
   authentic_data = false;
-  checking_disabled = q.header.checking_disabled;
+  checking_disabled = false;
   response_code = 0;
   questions = 1;
   answers = answers;

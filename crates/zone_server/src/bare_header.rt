@@ -27,9 +27,10 @@ fn write_octets(out: &mut Vec<u8>, header: Header, code: u8) -> Result<(), Alloc
     ensures { OnOk result (out.new.items ≡ bare_text header code) }
 {
     let (high_id, low_id) = ((header.id / 256) as u8, (header.id % 256) as u8);
-    let (high, low) = (high_flags(header), low_flags(header, code));
+    let high = high_flags(header);
     out.clear();
-    out.extend_from_slice(&[high_id, low_id, high, low, 0, 0, 0, 0, 0, 0, 0, 0])
+    // (AD and CD are clear: RFC 4035 section 3.1.6)
+    out.extend_from_slice(&[high_id, low_id, high, code, 0, 0, 0, 0, 0, 0, 0, 0])
 }
 
 /// QR, the opcode and RD (RFC 1035 section 4.1.1).
@@ -39,13 +40,4 @@ fn high_flags(header: Header) -> u8
 {
     let recursion_desired = if header.recursion_desired { 1u8 } else { 0 };
     128 + (header.opcode * 8 + recursion_desired)
-}
-
-/// CD (RFC 4035 section 3.2.2) and the response code.
-fn low_flags(header: Header, code: u8) -> u8
-    requires { code < 16 }
-    ensures { result ≡ (if header.checking_disabled then 16 else 0) + code }
-{
-    let checking_disabled = if header.checking_disabled { 16u8 } else { 0 };
-    checking_disabled + code
 }

@@ -62,15 +62,14 @@ pub front_back : (limit : ℕ) (r : Response) (blank start end all octets : List
     → IsFrontPut (limit - opt_length r) start end r.answers.now (record { groups = count; records = records })
     → AppendsAll strict_record_of end all (opt_of r) → opts ≡ length (opt_of r) → length all ≤ limit
     → octets ≡ header_text r.query.now.header.id (high_text r.authoritative false r.query.now.header.recursion_desired)
-    (low_text r.query.now.header.checking_disabled r.code) records 0 opts ++ drop 12 all
+    (low_text r.code) records 0 opts ++ drop 12 all
     → IsFront limit r count octets
 front_back limit r blank start end all octets count records opts twelve question put opt counted within is =
     let q = r.query.now in
     let aa = r.authoritative in
     let rd = q.header.recursion_desired in
-    let cd = q.header.checking_disabled in
     let answers : List Record = all_records (take count r.answers.now) in
-    let top : List ℕ = header_text q.header.id (high_text aa false rd) (low_text cd r.code) records 0 opts in
+    let top : List ℕ = header_text q.header.id (high_text aa false rd) (low_text r.code) records 0 opts in
     let long : 12 ≤ length all = omega (
       arith,
       twelve,
@@ -84,8 +83,8 @@ front_back limit r blank start end all octets count records opts twelve question
     let goes_on : Continues all [] octets = record { size = size; body = rest ∙ sym (append-nil (drop 12 all)) } in
     let h : Header = header_for r false answers [] (opt_of r) in
     let read : header_of octets ≡ Some (h, drop 12 octets) =
-    ap header_of is ∙ header_back q.header.id r.code records 0 opts aa false rd cd (drop 12 all)
-    ∙ λ i. Some (header q.header.id true 0 aa false rd false false false cd (r.code % 16) 1 (put.counted i) 0 (counted i), sym rest i) in
+    ap header_of is ∙ header_back q.header.id r.code records 0 opts aa false rd (drop 12 all)
+    ∙ λ i. Some (header q.header.id true 0 aa false rd false false false false (r.code % 16) 1 (put.counted i) 0 (counted i), sym rest i) in
     record {
       at_most = put.at_most;
       reads = message_back blank start end end all octets h q.question answers [] (opt_of r) twelve question put.written refl opt goes_on read

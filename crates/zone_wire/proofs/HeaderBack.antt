@@ -1,5 +1,5 @@
 -- The header of a response, read back
-use Rattle.std.proofs.Common.{◌≡◌, ℕ, ◌+◌, ◌/◌, ◌%◌, Bool, true, false, eqb, List, ◌∷◌, ◌++◌, Some, refl, ap, ◌∙◌, arith}
+use Rattle.std.proofs.Common.{◌≡◌, ℕ, ◌/◌, ◌%◌, Bool, true, false, eqb, List, ◌∷◌, ◌++◌, Some, refl, ap, ◌∙◌, arith}
 use Rattle.zone_message.specs.declared.header.Header.{Header}
 use Rattle.zone_message.specs.Octets.{octet_of, short_of}
 use Rattle.zone_message.specs.Headers.{header_of, has_bit}
@@ -24,28 +24,19 @@ high_is false true false = record { response = refl; opcode = refl; aa = refl; t
 high_is false false true = record { response = refl; opcode = refl; aa = refl; tc = refl; rd = refl }
 high_is false false false = record { response = refl; opcode = refl; aa = refl; tc = refl; rd = refl }
 
-record IsLow (disabled : Bool) (code l : ℕ) : Type 0 where
+record IsLow (code l : ℕ) : Type 0 where
   ra : has_bit 128 l ≡ false
   z : has_bit 64 l ≡ false
   ad : has_bit 32 l ≡ false
-  cd : has_bit 16 l ≡ disabled
+  cd : has_bit 16 l ≡ false
   rcode : l % 16 ≡ code % 16
 
 bit_is : (l weight n : ℕ) → l / weight ≡ n → has_bit weight l ≡ eqb (n % 2) 1
 bit_is l weight n e = ap (λ x. eqb (x % 2) 1) e
 
-low_is : (cd : Bool) (code : ℕ) → IsLow cd code (low_text cd code)
-low_is true code =
-    let l = 16 + code % 16 in
-    record {
-      ra = bit_is l 128 0 (omega arith);
-      z = bit_is l 64 0 (omega arith);
-      ad = bit_is l 32 0 (omega arith);
-      cd = bit_is l 16 1 (omega arith);
-      rcode = omega arith;
-    }
-low_is false code =
-    let l = 0 + code % 16 in
+low_is : (code : ℕ) → IsLow code (low_text code)
+low_is code =
+    let l = code % 16 in
     record {
       ra = bit_is l 128 0 (omega arith);
       z = bit_is l 64 0 (omega arith);
@@ -84,14 +75,14 @@ header_from : (octets : List ℕ) (id high low questions answers authorities add
     )
 header_from octets id high low questions answers authorities additionals e₁ e₂ e₃ e₄ e₅ e₆ e₇ = rw (e₁, e₂, e₃, e₄, e₅, e₆, e₇) refl
 
-pub header_back : (id code answers authorities additionals : ℕ) (aa tc rd cd : Bool) (after : List ℕ)
-    → header_of (header_text id (high_text aa tc rd) (low_text cd code) answers authorities additionals ++ after)
-    ≡ Some (header id true 0 aa tc rd false false false cd (code % 16) 1 answers authorities additionals, after)
-header_back id code answers authorities additionals aa tc rd cd after =
+pub header_back : (id code answers authorities additionals : ℕ) (aa tc rd : Bool) (after : List ℕ)
+    → header_of (header_text id (high_text aa tc rd) (low_text code) answers authorities additionals ++ after)
+    ≡ Some (header id true 0 aa tc rd false false false false (code % 16) 1 answers authorities additionals, after)
+header_back id code answers authorities additionals aa tc rd after =
     let h = high_text aa tc rd in
-    let l = low_text cd code in
+    let l = low_text code in
     let high = high_is aa tc rd in
-    let low = low_is cd code in
+    let low = low_is code in
     let s₆ : List ℕ = short_text additionals ++ after in
     let s₅ : List ℕ = short_text authorities ++ s₆ in
     let s₄ : List ℕ = short_text answers ++ s₅ in

@@ -37,15 +37,14 @@ pub response_back : (limit : ℕ) (r : Response) (blank start end all octets : L
     → length all ≡ length end + opt_length r
     → a ≡ length answers → b ≡ length authorities → c ≡ length (additionals ++ opt_of r) → length all ≤ limit
     → octets ≡ header_text r.query.now.header.id (high_text r.authoritative truncated r.query.now.header.recursion_desired)
-    (low_text r.query.now.header.checking_disabled r.code) a b c ++ drop 12 all
+    (low_text r.code) a b c ++ drop 12 all
     → IsWritten limit r octets
 response_back limit r blank start end all octets answers authorities additionals truncated a b c twelve question body opt eleven e₁ e₂ e₃ within is =
     let q = r.query.now in
     let aa = r.authoritative in
     let rd = q.header.recursion_desired in
-    let cd = q.header.checking_disabled in
     let room = limit - opt_length r in
-    let top : List ℕ = header_text q.header.id (high_text aa truncated rd) (low_text cd r.code) a b c in
+    let top : List ℕ = header_text q.header.id (high_text aa truncated rd) (low_text r.code) a b c in
     let first = section_all room start body.behind_answers r.answers.now answers body.answers_whole body.answers_are in
     let second = section_all room body.behind_answers body.behind_authorities
     (if_whole body.answers_whole r.authorities.now) authorities body.authorities_whole body.authorities_are in
@@ -71,8 +70,8 @@ response_back limit r blank start end all octets answers authorities additionals
     let goes_on : Continues all [] octets = record { size = size; body = rest ∙ sym (append-nil (drop 12 all)) } in
     let h : Header = header_for r truncated answers authorities (additionals ++ opt_of r) in
     let read : header_of octets ≡ Some (h, drop 12 octets) =
-    ap header_of is ∙ header_back q.header.id r.code a b c aa truncated rd cd (drop 12 all)
-    ∙ λ i. Some (header q.header.id true 0 aa truncated rd false false false cd (r.code % 16) 1 (e₁ i) (e₂ i) (e₃ i), sym rest i) in
+    ap header_of is ∙ header_back q.header.id r.code a b c aa truncated rd (drop 12 all)
+    ∙ λ i. Some (header q.header.id true 0 aa truncated rd false false false false (r.code % 16) 1 (e₁ i) (e₂ i) (e₃ i), sym rest i) in
     record {
       answers = answers;
       authorities = authorities;

@@ -10,9 +10,9 @@ abbrev pub high_text : Bool → Bool → Bool → ℕ
 high_text authoritative truncated recursion_desired =
     128 + (weight_if authoritative 4 + (weight_if truncated 2 + weight_if recursion_desired 1))
 
--- CD and the lower four bits of the response code
-abbrev pub low_text : Bool → ℕ → ℕ
-low_text checking_disabled code = weight_if checking_disabled 16 + code % 16
+-- the lower four bits of the response code
+abbrev pub low_text : ℕ → ℕ
+low_text code = code % 16
 
 -- one question, and the counts of the sections
 abbrev pub header_text : ℕ → ℕ → ℕ → ℕ → ℕ → ℕ → List ℕ

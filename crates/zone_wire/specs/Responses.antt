@@ -95,8 +95,8 @@ pub record IsBody (room : ℕ) (r : Response) (start end : List ℕ) (answers au
 
 -- ---- what is written
 
--- The header of a response: identifier, RD and CD are the query's (RFC 1035 section 4.1.1, RFC 4035 section 3.1.6), and the opcode is
--- that of a standard query.
+-- The header of a response: identifier and RD are the query's (RFC 1035 section 4.1.1), the opcode is that of a standard query, and AD
+-- and CD are clear (RFC 4035 section 3.1.6).
 abbrev pub header_for : Response → Bool → List Record → List Record → List Record → Header
 header_for r truncated answers authorities additionals = record {
   id = r.query.now.header.id;
@@ -108,7 +108,7 @@ header_for r truncated answers authorities additionals = record {
   recursion_available = false;
   reserved = false;
   authentic_data = false;
-  checking_disabled = r.query.now.header.checking_disabled;
+  checking_disabled = false;
   response_code = r.code % 16;
   questions = 1;
   answers = length answers;

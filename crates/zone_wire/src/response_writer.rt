@@ -189,17 +189,11 @@ fn high_flags(response: &Response<'_, '_>, truncated: bool) -> u8
     128 + (authoritative + (truncated + recursion_desired))
 }
 
-/// CD (RFC 4035 section 3.1.6) and the lower four bits of the response code.
+/// The lower four bits of the response code. AD and CD are clear (RFC 4035 section 3.1.6).
 fn low_flags(response: &Response<'_, '_>) -> u8
-    ensures { result ≡ low_text response.now.query.now.header.checking_disabled
-        response.now.code }
+    ensures { result ≡ low_text response.now.code }
 {
-    let checking_disabled = if response.query.header.checking_disabled {
-        16u8
-    } else {
-        0
-    };
-    checking_disabled + (response.code % 16) as u8
+    (response.code % 16) as u8
 }
 
 /// Puts the header in the place of the first twelve octets.
@@ -211,7 +205,7 @@ pub(crate) fn put_header(out: &mut Vec<u8>, response: &Response<'_, '_>, counts:
     ensures { out.new.items ≡ header_text response.now.query.now.header.id
         (high_text response.now.authoritative counts.truncated
         response.now.query.now.header.recursion_desired)
-        (low_text response.now.query.now.header.checking_disabled response.now.code)
+        (low_text response.now.code)
         counts.answers counts.authorities counts.additionals ++ drop 12 out.old.items }
 {
     put_short(out, 0, response.query.header.id);
