@@ -23,7 +23,7 @@ use Rattle.zone_response.specs.Sections.{Sections, sent}
 
 -- an unsigned zone, and a query without DNSSEC
 abbrev zone_at : Name → Sets → Zone
-zone_at o m = record { origin = o; sets = m; nx_proof_kind = None; digest_of = λ algorithm salt n iterations. None; sign = λ signed s. [] }
+zone_at o m = record { origin = o; sets = m; denials = m; nx_proof_kind = None; digest_of = λ algorithm salt n iterations. None; sign = λ signed s. [] }
 
 abbrev zone : Sets → Zone
 zone m = zone_at origin (start ∷ m)

@@ -53,7 +53,7 @@ abbrev sets : Sets
 sets = start ∷ alias a made ∷ alias c gone ∷ address star ∷ []
 
 abbrev zone : Zone
-zone = record { origin = origin; sets = sets; nx_proof_kind = None; digest_of = λ algorithm salt n iterations. None; sign = λ signed s. [] }
+zone = record { origin = origin; sets = sets; denials = sets; nx_proof_kind = None; digest_of = λ algorithm salt n iterations. None; sign = λ signed s. [] }
 
 pub soa_stored : IsStoredAt origin SOA start.1
 soa_stored = record { named = name_by_tests origin refl refl; owner = refl; record_type = refl; filled = λ e. cc; set = IsSet-alone origin SOA _ refl refl }

@@ -90,11 +90,11 @@ module _ (m : Sets) (hashed : Name → Result Name ProtoError) (owned : (x : Nam
 
 module _ (z : Zone) where
   star_ok : (k : Option NxProofKind) → HasHashedOwners z k → (x : Name) → IsOk (star_proof_by z k x)
-  star_ok (Some (kind.Nsec3 algorithm salt iterations opt_out)) owned x = denial_ok z.sets (hashed_owner_of z algorithm salt iterations) owned true x
+  star_ok (Some (kind.Nsec3 algorithm salt iterations opt_out)) owned x = denial_ok z.denials (hashed_owner_of z algorithm salt iterations) owned true x
   star_ok k owned x = refl
 
   absence_ok : (k : Option NxProofKind) → HasHashedOwners z k → (x : Name) (star : Option Name) → IsOk (denial_by z k x star)
-  absence_ok (Some (kind.Nsec3 algorithm salt iterations opt_out)) owned x star = lack_ok z.sets (hashed_owner_of z algorithm salt iterations) owned x star
+  absence_ok (Some (kind.Nsec3 algorithm salt iterations opt_out)) owned x star = lack_ok z.denials (hashed_owner_of z algorithm salt iterations) owned x star
   absence_ok k owned x star = refl
 
   module _ (owned : HasHashedOwners z z.nx_proof_kind) where

@@ -44,7 +44,7 @@ abbrev signatures : RRset → List Record
 signatures s = record_of s (V.RRSIG (record { type_covered = record { 0 = s.record_type }; algorithm = 253; num_labels = 2; original_ttl = s.ttl; expiration = 86400; inception = 0; key_tag = 1; signer_name = origin; signature = [] })) ∷ []
 
 abbrev zone : Zone
-zone = record { origin = origin; sets = sets; nx_proof_kind = Some kind.Nsec; digest_of = λ algorithm salt n iterations. None; sign = λ signed s. cond signed (signatures s) [] }
+zone = record { origin = origin; sets = sets; denials = sets; nx_proof_kind = Some kind.Nsec; digest_of = λ algorithm salt n iterations. None; sign = λ signed s. cond signed (signatures s) [] }
 
 aname_stored : IsStoredAt a ANAME aname.1
 aname_stored = record { named = name_by_tests a refl refl; owner = refl; record_type = refl; filled = λ e. cc; set = IsSet-alone a ANAME _ refl refl }

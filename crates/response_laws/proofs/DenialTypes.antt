@@ -26,11 +26,11 @@ AreDenials sets = (s : RRset) → In s sets → is_denial_type s.record_type ≡
 denials_of_both : (sets more : List RRset) → AreDenials sets → AreDenials more → AreDenials (sets ++ more)
 denials_of_both = each_of_both (λ s. is_denial_type s.record_type ≡ true)
 
-module _ (z : Zone) (zone : IsZone z.sets) where
+module _ (z : Zone) (zone : IsZone z.denials) where
   abbrev m : Sets
-  m = z.sets
+  m = z.denials
 
-  nsec3_set : (o : Name) (s : RRset) → set_at z.sets o NSEC3 ≡ Some s → is_denial_type s.record_type ≡ true
+  nsec3_set : (o : Name) (s : RRset) → set_at z.denials o NSEC3 ≡ Some s → is_denial_type s.record_type ≡ true
   nsec3_set o s e = ap is_denial_type (zone.stored o NSEC3 s e).record_type
 
   of_closest : (x : Name) → AreDenials (closest_sets m zone x)

@@ -75,7 +75,7 @@ module _ (z : Zone) (parameters : Nsec3Parameters) (q : Query) (r : Sections) (d
   -- the sets that prove what is said of a name without what is asked for
   pub lack : (x : Name) (star : Option Name) (there : Bool) → (path_of z q).end ≡ missing x star there → (own : List RRset) × (lack_proof z.sets (λ n. owner_or_refusal z.origin (zone_hash z parameters n)) x star ≡ Ok own) × ((s : RRset) → In s own → In s h.proofs)
   lack x star there end =
-      of_missing z zone parameters d.kind (path_of z q).made x star there h.proofs (subst (λ e. proofs z (ds_at m e) (path_of z q).made e ≡ Ok h.proofs) end (h.given signed))
+      of_missing z zone d.denials parameters d.kind (path_of z q).made x star there h.proofs (subst (λ e. proofs z (ds_at m e) (path_of z q).made e ≡ Ok h.proofs) end (h.given signed))
 
   module _ (x : Name) (u : IsUnturned (inquiry z q) x) (apart : HashesApart z parameters x) where
     abbrev k : IsReached o m x

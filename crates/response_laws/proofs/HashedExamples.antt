@@ -67,11 +67,16 @@ digest = digest_in ((origin, 64 ∷ []) ∷ (star, 96 ∷ []) ∷ (a, 96 ∷ [])
 abbrev at_apex : RRset
 at_apex = says (64 ∷ []) (96 ∷ []) (SOA ∷ RRSIG ∷ NSEC3PARAM ∷ [])
 
--- a zone with the NSEC3 sets of its origin and of another name, by a hash
+-- sets with the NSEC3 sets of the origin and of another name
+abbrev hashed_sets : Sets → RRset → Sets
+hashed_sets m other = put (put (put m origin NSEC3PARAM (entry origin NSEC3PARAM (V.NSEC3PARAM parameters)).1) (hashed_owner origin (64 ∷ [])) NSEC3 at_apex) (hashed_owner origin (96 ∷ [])) NSEC3 other
+
+-- a zone with these, by a hash
 abbrev zone_by : (Name → Option (List ℕ)) → Sets → RRset → Zone
 zone_by digest m other = record {
   origin = origin;
-  sets = put (put (put m origin NSEC3PARAM (entry origin NSEC3PARAM (V.NSEC3PARAM parameters)).1) (hashed_owner origin (64 ∷ [])) NSEC3 at_apex) (hashed_owner origin (96 ∷ [])) NSEC3 other;
+  sets = hashed_sets m other;
+  denials = hashed_sets m other;
   nx_proof_kind = Some (kind.Nsec3 parameters.algorithm parameters.salt parameters.iterations parameters.opt_out);
   digest_of = λ algorithm salt n iterations. digest n;
   sign = λ signed s. [];

@@ -75,6 +75,7 @@ abbrev zone : Bool → Zone
 zone opt_out = record {
   origin = origin;
   sets = alone opt_out;
+  denials = alone opt_out;
   nx_proof_kind = Some (kind.Nsec3 (parameters opt_out).algorithm (parameters opt_out).salt (parameters opt_out).iterations (parameters opt_out).opt_out);
   digest_of = λ algorithm salt n iterations. digest_in table n;
   sign = λ signed s. [];
@@ -263,6 +264,7 @@ unowned opt_out n t c p s k =
 denies : (opt_out : Bool) → DeniesByNsec3 (zone opt_out) (parameters opt_out)
 denies opt_out = record {
   kind = refl;
+  denials = refl;
   circle = alone_is_nsec3_zone opt_out;
   one_kind = λ n. unowned opt_out n NSEC refl refl refl refl;
   unreferred = λ a u k. absurd (true≢false (sym k ∙ unowned opt_out a NS refl refl refl refl));

@@ -96,8 +96,8 @@ module _ (z : Zone) (parameters : Nsec3Parameters) (q : Query) (r : Sections) (d
   abbrev rs : List Nsec3Record
   rs = shown_nsec3 r
 
-  pub all : AreHashedProofs z d.circle.zone parameters d.kind (ds_at z.sets (path_of z q).end) (path_of z q).made (path_of z q).end h.proofs
-  all = hashed_proofs z zone parameters d.kind (ds_at m ends) (path_of z q).made ends h.proofs (h.given signed)
+  pub all : AreHashedProofs z d.circle.zone d.denials parameters d.kind (ds_at z.sets (path_of z q).end) (path_of z q).made (path_of z q).end h.proofs
+  all = hashed_proofs z zone d.denials parameters d.kind (ds_at m ends) (path_of z q).made ends h.proofs (h.given signed)
 
   -- ---- the sets
 

@@ -68,7 +68,7 @@ module _ (z : Zone) (parameters : Nsec3Parameters) (q : Query) (r : Sections) (d
 
     own : (own : List RRset) × (lack_proof m hashed child None ≡ Ok own) × ((s : RRset) → In s own → In s h.proofs)
     own =
-        of_child z zone parameters d.kind (path_of z q).made c h.proofs
+        of_child z zone d.denials parameters d.kind (path_of z q).made c h.proofs
         (subst (λ ds. proofs z ds (path_of z q).made (referred c) ≡ Ok h.proofs) unsigned (subst (λ e. proofs z (ds_at m e) (path_of z q).made e ≡ Ok h.proofs) end (h.given signed)))
 
     ns : owns m child NS ≡ true

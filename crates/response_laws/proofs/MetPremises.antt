@@ -108,6 +108,7 @@ unowned n t c s k = others n t c ∙ (λ i. is_some (cond (type_apart n origin t
 denies : DeniesByNsec (zone bare)
 denies = record {
   kind = refl;
+  denials = refl;
   circle = linked_is_nsec_zone;
   one_kind = λ n. unowned n NSEC3 refl refl refl;
   unreferred = λ a u k. absurd (true≢false (sym k ∙ unowned a NS refl refl refl));

@@ -64,14 +64,14 @@ pub record IsMadeOf (z : Zone) (q : Query) (r : Sections) : Type 0 where
   pub answers : r.answers ≡ (path_of z q).answers
   pub additionals : r.additionals ≡ additional_sets (inquiry z q) (path_of z q).answers (path_of z q).end
   pub glue : r.glue ≡ glue_at z.sets (path_of z q).end
-  -- the sets of denial, with DNSSEC those that prove what is said; where NSEC denies they are the zone's, and the closest ones of these names are among them
+  -- the sets of denial, with DNSSEC those that prove what is said; where NSEC denies they are those of its denials, and the closest ones of these names are among them
   pub proofs : List RRset
   pub authorities : r.authorities ≡ end_sets (ds_at z.sets (path_of z q).end) q.signed soa (path_of z q).end ++ map (as_proof (negative_ttl soa)) proofs
   pub denials : (s : RRset) → In s proofs → is_denial_type s.record_type ≡ true
   pub given : q.signed ≡ true → ProofsOf z (path_of z q) proofs
   pub unproved : q.signed ≡ false → proofs ≡ []
-  pub owners : z.nx_proof_kind ≡ Some kind.Nsec → AreOwnersNsec z.sets proofs
-  pub tells : z.nx_proof_kind ≡ Some kind.Nsec → q.signed ≡ true → (x : Name) (s : RRset) → In x (told_names z q (path_of z q).end) → closest_nsec z.sets x ≡ Some s → In s proofs
+  pub owners : z.nx_proof_kind ≡ Some kind.Nsec → AreOwnersNsec z.denials proofs
+  pub tells : z.nx_proof_kind ≡ Some kind.Nsec → q.signed ≡ true → (x : Name) (s : RRset) → In x (told_names z q (path_of z q).end) → closest_nsec z.denials x ≡ Some s → In s proofs
 
 -- a response is a code that says nothing of a name, or made of these parts
 pub data HowAnswered (z : Zone) (q : Query) (r : Sections) : Type 0 where
@@ -93,16 +93,16 @@ refusal_silent z q c e answers last sets =
 
 -- ---- the sets of the proofs, where a zone denies by NSEC
 
--- they are the zone's, and the closest ones of these names are among them
+-- they stand in it, and the closest ones of these names are among them
 pub record AreProofs (m : Sets) (names : List Name) (found : Result (List RRset) ProtoError) : Type 0 where
   pub sets : List RRset
   pub all : found ≡ Ok sets
   pub owners : AreOwnersNsec m sets
   pub tells : (x : Name) (s : RRset) → In x names → closest_nsec m x ≡ Some s → In s sets
 
-module _ (z : Zone) (zone : IsZone z.sets) (nsec : z.nx_proof_kind ≡ Some kind.Nsec) where
+module _ (z : Zone) (zone : IsZone z.denials) (nsec : z.nx_proof_kind ≡ Some kind.Nsec) where
   abbrev m : Sets
-  m = z.sets
+  m = z.denials
 
   star_proof_is : (x : Name) → star_proof z x ≡ Ok (closest_sets m zone x)
   star_proof_is x = ap (λ k. star_proof_by z k x) nsec
@@ -176,7 +176,7 @@ abbrev same_result : Result (List RRset) ProtoError → Result (List RRset) Prot
 same_result a b = a ≡ b
 
 -- of a search that doesn't fail
-module _ (z : Zone) (q : Query) (r : Sections) (zone : IsZone z.sets) (soa : RRset) (e : set_at z.sets z.origin SOA ≡ Some soa) where
+module _ (z : Zone) (q : Query) (r : Sections) (zone : IsZone z.denials) (soa : RRset) (e : set_at z.sets z.origin SOA ≡ Some soa) where
   abbrev p : Path
   p = path (inquiry z q) q.name
 
@@ -201,7 +201,7 @@ module _ (z : Zone) (q : Query) (r : Sections) (zone : IsZone z.sets) (soa : RRs
         denials = proofs_are_denials z zone ds p.made p.end sets g;
         given = λ k. g;
         unproved = λ k. absurd (true≢false (sym f ∙ k));
-        owners = λ n. let found = proofs_are z zone n ds p.made p.end in subst (AreOwnersNsec z.sets) (same found.sets (sym found.all ∙ g)) found.owners;
+        owners = λ n. let found = proofs_are z zone n ds p.made p.end in subst (AreOwnersNsec z.denials) (same found.sets (sym found.all ∙ g)) found.owners;
         tells = λ n k x s i c. let found = proofs_are z zone n ds p.made p.end in subst (In s) (same found.sets (sym found.all ∙ g)) (found.tells x s i c);
       })
     where
@@ -230,7 +230,7 @@ module _ (z : Zone) (q : Query) (r : Sections) (zone : IsZone z.sets) (soa : RRs
   pub made_of : fails p.end ≡ false → IsProvenResponse z (inquiry z q) soa p r → HowAnswered z q r
   made_of passes is = made_by q.signed refl passes (proofs z ds p.made p.end) refl is
 
-pub how_answered : (z : Zone) (q : Query) (r : Sections) → IsZone z.sets → IsResponse z q r → HowAnswered z q r
+pub how_answered : (z : Zone) (q : Query) (r : Sections) → IsZone z.denials → IsResponse z q r → HowAnswered z q r
 how_answered z q r zone = by (refusal z.origin q) refl
   where
     along : (soa : RRset) → set_at z.sets z.origin SOA ≡ Some soa → (b : Bool) → fails (path (inquiry z q) q.name).end ≡ b → MatchBool b (r ≡ bare code.ServFail) (IsProvenResponse z (inquiry z q) soa (path (inquiry z q) q.name) r) → HowAnswered z q r

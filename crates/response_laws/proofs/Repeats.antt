@@ -10,7 +10,7 @@ use Rattle.response_laws.proofs.Once.{stand_once}
 use Rattle.response_laws.proofs.Parts.{path_of, HowAnswered, by_code_alone, by_parts, how_answered}
 
 pub sets_stand_once : SetsStandOnce
-sets_stand_once z q r zone lowered is = by (how_answered z q r zone is)
+sets_stand_once z q r zone denials lowered is = by (how_answered z q r denials.zone is)
   where
     by : HowAnswered z q r → IsEachOnce r
     by (by_code_alone c e silent) = record {

@@ -6,6 +6,7 @@ use Rattle.zone_proto.specs.declared.response_code.ResponseCode.{ResponseCode}
 use Rattle.zone_proto.specs.Names.{Name, is_at_or_above}
 use Rattle.zone_proto.proofs.Members.{Contains-In, and_right}
 use Rattle.zone_validation.specs.Nsec3Proofs.{proves_no_data}
+use Rattle.zone_map.specs.Zones.{IsZone}
 use Rattle.zone_acceptance.proofs.Nsec3Calls.{nsec3_parameters_found}
 use Rattle.zone_acceptance.proofs.Nsec3LeftOut.{nsec3_opt_out_sound}
 use Rattle.zone_acceptance.proofs.Nsec3Soundness.{nsec3_records_sound}
@@ -26,7 +27,7 @@ use Rattle.response_laws.proofs.Said.{says_end}
 use Rattle.response_laws.proofs.Signatures.{signed_in_authority}
 
 pub response_says_how_it_ends : ResponseSaysHowItEnds
-response_says_how_it_ends z q r zone is = by (how_answered z q r zone is)
+response_says_how_it_ends z q r zone denials is = by (how_answered z q r denials.zone is)
   where
     by : HowAnswered z q r → SaysHowItEnds z q r
     by (by_code_alone c e silent) =
@@ -48,7 +49,7 @@ code_alone z q d c silent = record {
 }
 
 pub response_proves_what_it_says : ResponseProvesWhatItSays
-response_proves_what_it_says z q r d signed is = by (how_answered z q r d.circle.zone is)
+response_proves_what_it_says z q r d signed is = by (how_answered z q r (subst IsZone (sym d.denials) d.circle.zone) is)
   where
     by : HowAnswered z q r → ProvesWhatItSays z q r
     by (by_code_alone c e silent) = subst (ProvesWhatItSays z q) (sym e) (code_alone z q d c (silent [] (last_name q.record_type q.name []) []))
@@ -87,7 +88,7 @@ hashed_code_alone z parameters q d c silent = record {
     no_data x t p = true≢false (sym (and_right (is_at_or_above z.origin x) false p))
 
 pub response_proves_by_hashes : ResponseProvesByHashes
-response_proves_by_hashes z parameters q r d signed is = by (how_answered z q r d.circle.zone is)
+response_proves_by_hashes z parameters q r d signed is = by (how_answered z q r (subst IsZone (sym d.denials) d.circle.zone) is)
   where
     by : HowAnswered z q r → ProvesByHashes z parameters q r
     by (by_code_alone c e silent) = subst (ProvesByHashes z parameters q) (sym e) (hashed_code_alone z parameters q d c (silent [] (last_name q.record_type q.name []) []))

@@ -28,7 +28,7 @@ use Rattle.response_laws.specs.Repeats.{repeats}
 use Rattle.response_laws.specs.Sayings.{data_of, name_error, no_data, referral, saying}
 
 abbrev pub zone : Sets → Zone
-zone m = record { origin = origin; sets = linked m; nx_proof_kind = Some kind.Nsec; digest_of = λ algorithm salt n iterations. None; sign = λ signed s. [] }
+zone m = record { origin = origin; sets = linked m; denials = linked m; nx_proof_kind = Some kind.Nsec; digest_of = λ algorithm salt n iterations. None; sign = λ signed s. [] }
 
 -- a query with DNSSEC
 abbrev pub asked : Name → ℕ → Query

@@ -8,7 +8,7 @@ use Rattle.zone_proto.proofs.Members.{In}
 use Rattle.zone_proto.proofs.Names.NameTree.{above_test}
 use Rattle.zone_map.specs.Wildcards.{exists, closest_encloser}
 use Rattle.zone_map.specs.Zones.{set_at, owns_at_or_below}
-use Rattle.zone_denial.specs.NsecDenial.{nsec_encloser}
+use Rattle.zone_denial.specs.NsecDenial.{closest_nsec, nsec_encloser}
 use Rattle.zone_denial.proofs.Chain.NsecAskedStar.{enclosers_agree}
 use Rattle.zone_denial.proofs.Chain.NsecLists.{off_circle}
 use Rattle.zone_validation.specs.NsecRecords.{read_nsec}
@@ -23,6 +23,7 @@ use Rattle.zone_response.specs.Sources.{star_of}
 use Rattle.response_laws.specs.HashedSayings.{IsReached}
 use Rattle.response_laws.specs.ProvedSayings.{DeniesByNsec, shown, IsSentSet, authority_part}
 use Rattle.response_laws.proofs.LastNames.{IsReferred}
+use Rattle.response_laws.proofs.NsecSets.{AreOwnersNsec}
 use Rattle.response_laws.proofs.Parts.{path_of, told_names, IsMadeOf}
 use Rattle.response_laws.proofs.ReadSets.{nsec_reader, read_of_zone, read_proof}
 use Rattle.response_laws.proofs.SaidNames.{reached_unturned, reached_cut, authorities_are, authority_of}
@@ -69,14 +70,14 @@ module _ (z : Zone) (q : Query) (r : Sections) (d : DeniesByNsec z) (signed : q.
         owner = c.owner;
         among =
             subst (λ (sets : List RRset). In (record_at z.origin z.sets j.zone c.owner) (read sets)) (sym (authorities_are z q r d.circle.zone signed h))
-            (read_proof read_nsec NSEC nsec_reader (negative_ttl h.soa) h.proofs c.set (record_at z.origin z.sets j.zone c.owner) (h.tells d.kind signed y c.set i c.closest)
+            (read_proof read_nsec NSEC nsec_reader (negative_ttl h.soa) h.proofs c.set (record_at z.origin z.sets j.zone c.owner) (h.tells d.kind signed y c.set i (ap (λ m. closest_nsec m y) d.denials ∙ c.closest))
             (subst (In (record_at z.origin z.sets j.zone c.owner)) (sym (read_set z.origin z.sets j.zone c.owner c.set c.stands)) (inl refl)) front);
         where' = c.where';
       }
 
   -- each set is the zone's
   pub authority_is : (s : RRset) → In s r.authorities → IsSentSet z.sets (authority_part s) s
-  authority_is = authority_of z q r d.circle.zone signed h NSEC refl (h.owners d.kind)
+  authority_is = authority_of z q r d.circle.zone signed h NSEC refl (subst (λ m. AreOwnersNsec m h.proofs) d.denials (h.owners d.kind))
 
   pub shown_of_zone : AreOfZone z.sets (shown r)
   shown_of_zone = read_of_zone read_nsec NSEC nsec_reader z.sets d.circle.zone r.authorities authority_is

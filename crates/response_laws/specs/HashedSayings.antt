@@ -43,6 +43,7 @@ zone_hash z parameters = hash_with z.digest_of parameters
 -- a zone that denies by NSEC3 alone, with these parameters, as it is once it is secured, above whose origin nothing refers elsewhere
 pub record DeniesByNsec3 (z : Zone) (parameters : Nsec3Parameters) : Type 0 where
   pub kind : z.nx_proof_kind ≡ Some (kind.Nsec3 parameters.algorithm parameters.salt parameters.iterations parameters.opt_out)
+  pub denials : z.denials ≡ z.sets
   pub circle : IsNsec3Zone z.origin z.sets (zone_hash z parameters) parameters
   pub one_kind : OwnsNone z.sets NSEC
   pub unreferred : Unreferred z.origin z.sets

@@ -34,6 +34,7 @@ use Rattle.response_laws.specs.Sayings.{Saying, data_of, name_error, no_data, re
 -- a zone that denies by NSEC alone, as it is once it is secured, above whose origin nothing refers elsewhere
 pub record DeniesByNsec (z : Zone) : Type 0 where
   pub kind : z.nx_proof_kind ≡ Some kind.Nsec
+  pub denials : z.denials ≡ z.sets
   pub circle : IsNsecZone z.origin z.sets
   pub one_kind : OwnsNone z.sets NSEC3
   pub unreferred : Unreferred z.origin z.sets

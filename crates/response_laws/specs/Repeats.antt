@@ -5,7 +5,7 @@ use Rattle.zone_proto.specs.declared.record.Record.{Record}
 use Rattle.zone_proto.specs.Names.{lower}
 use Rattle.zone_proto.specs.Sets.{RRset}
 use Rattle.zone_map.specs.Zones.{IsZone}
-use Rattle.zone_response.specs.Queries.{Zone, Query}
+use Rattle.zone_response.specs.Queries.{Zone, Query, HasOwnDenials}
 use Rattle.zone_response.specs.Responses.{IsResponse}
 use Rattle.zone_response.specs.Sections.{Sections, is_signed, is_alike}
 
@@ -31,4 +31,4 @@ pub record IsEachOnce (r : Sections) : Type 0 where
 
 -- of each response; a query's name is in lower case
 abbrev pub SetsStandOnce : Type 0
-SetsStandOnce = (z : Zone) (q : Query) (r : Sections) → IsZone z.sets → lower q.name ≡ q.name → IsResponse z q r → IsEachOnce r
+SetsStandOnce = (z : Zone) (q : Query) (r : Sections) → IsZone z.sets → HasOwnDenials z → lower q.name ≡ q.name → IsResponse z q r → IsEachOnce r

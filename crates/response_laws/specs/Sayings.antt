@@ -10,7 +10,7 @@ use Rattle.zone_proto.specs.Types.{NS, CNAME, SOA, RRSIG, ANY}
 use Rattle.zone_map.specs.Chains.{cname_target}
 use Rattle.zone_map.specs.Zones.{IsZone}
 use Rattle.zone_response.specs.Paths.{is_told_by, path}
-use Rattle.zone_response.specs.Queries.{Zone, Query, inquiry}
+use Rattle.zone_response.specs.Queries.{Zone, Query, HasOwnDenials, inquiry}
 use Rattle.zone_response.specs.Responses.{bare, IsResponse}
 use Rattle.zone_response.specs.Sections.{Sections}
 use Rattle.zone_response.specs.Steps.{End, complete, referred, missing}
@@ -113,4 +113,4 @@ SaysHowItEnds z q r = ((r ≡ bare r.code) × (saying q r ≡ None)) ⊎ SaysEnd
 
 -- so it is of each response of each zone, signed or not
 abbrev pub ResponseSaysHowItEnds : Type 0
-ResponseSaysHowItEnds = (z : Zone) (q : Query) (r : Sections) → IsZone z.sets → IsResponse z q r → SaysHowItEnds z q r
+ResponseSaysHowItEnds = (z : Zone) (q : Query) (r : Sections) → IsZone z.sets → HasOwnDenials z → IsResponse z q r → SaysHowItEnds z q r

@@ -20,8 +20,9 @@
 //!
 //! `$ server` begins a server without zones, `$ zone` adds a zone of an origin, which denies by `nsec` or by `nsec3` where one of
 //! these follows; behind `nsec3` may stand the algorithm, the salt in hex, the iterations, and then `optout`. `>` is followed by a
-//! record that goes into it, and `$ secure` signs it at the moment 0. `$ policy` is followed by who may transfer the first zone,
-//! `Deny`, `AllowAll` or `AllowSigned`; the next one by who may transfer the second; and so on.
+//! record that goes into it, and `$ secure` signs it at the moment 0. `$ denials` makes one zone of the last two: the last one with the
+//! NSEC3 sets of the one before it, by which it denies. `$ policy` is followed by who may transfer the first zone, `Deny`, `AllowAll`
+//! or `AllowSigned`; the next one by who may transfer the second; and so on.
 //!
 //! `=` asks the last zone a question: a name, a type, a class by its number, `dnssec` where the query asks for DNSSEC, and behind that
 //! `at` and a moment, if it isn't asked at the moment 0. Below it stands what the zone says, by its sections: the code, and `aa` of an

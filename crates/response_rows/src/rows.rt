@@ -1,7 +1,7 @@
 //! Rows: questions and messages, and the responses that are wanted.
 
 use crate::questions::{say, say_at_last};
-use crate::zones::{Zone, add, ask, read_policy, read_zone, secure, serve};
+use crate::zones::{Zone, add, ask, read_policy, read_zone, secure, serve, take_denials};
 use std::alloc::Global;
 use zone_handler::AxfrPolicy;
 use zone_text::Words;
@@ -65,6 +65,8 @@ fn take_line<'t>(alloc: Global, reader: &mut Reader<'t>, line: &'t str) -> anyho
         reader.policies.push(read_policy(word)?)?;
     } else if line == "$ secure" {
         secure(&mut reader.zones)?;
+    } else if line == "$ denials" {
+        take_denials(&mut reader.zones)?;
     } else if line == "$ server" {
         reader.zones.clear();
         reader.policies.clear();

@@ -6,15 +6,24 @@ use crate::queries::{message_of, transport_of};
 use anyhow::bail;
 use std::alloc::Global;
 use zone_handler::{AxfrPolicy, ZoneHandler, ZoneType};
-use zone_proto::{NxProofKind, Seq};
+use zone_proto::{NxProofKind, RecordType, Seq};
 use zone_response::ServedZone;
 use zone_server::{Answered, Mode, Server, answer, serve_frames};
 use zone_store::InMemoryZoneHandler;
 use zone_store::program::{DemoSigner, Sha1Hash};
 use zone_text::{Words, read_hex, read_name, read_record, read_u8};
 
+/// A zone in memory.
+type Handler = InMemoryZoneHandler<DemoSigner, Sha1Hash>;
+
 /// A zone that is served.
-pub type Zone = InMemoryZoneHandler<DemoSigner, Sha1Hash>;
+#[derive(Drop)]
+pub struct Zone {
+    /// The zone itself.
+    own: Handler,
+    /// A zone whose sets it denies by, if these aren't its own.
+    denials: Option<Handler>,
+}
 
 /// A zone without records by its words.
 pub fn read_zone(alloc: Global, words: &mut Words<'_>) -> anyhow::Result<Zone> {
@@ -25,7 +34,26 @@ pub fn read_zone(alloc: Global, words: &mut Words<'_>) -> anyhow::Result<Zone> {
         Some(_) => Some(read_hashed_kind(alloc, words)?),
     };
     let (zone_type, policy) = (ZoneType::Primary, AxfrPolicy::Deny);
-    Ok(Zone::empty(origin, zone_type, policy, kind, Sha1Hash))
+    Ok(Zone {
+        own: Handler::empty(origin, zone_type, policy, kind, Sha1Hash),
+        denials: None,
+    })
+}
+
+/// Puts the NSEC3 sets of the last zone but one into the last, which denies by those from then on. The other is none of the zones
+/// any more.
+pub fn take_denials(zones: &mut Vec<Zone>) -> anyhow::Result<()> {
+    let (Some(mut zone), Some(other)) = (zones.pop(), zones.pop()) else {
+        bail!("there are no two zones");
+    };
+    for (key, set) in other.own.inner().as_map() {
+        if key.record_type == RecordType::NSEC3 && zone.own.put_set(set.clone()?).is_err() {
+            bail!("a set wasn't taken");
+        }
+    }
+    zone.denials = Some(other.own);
+    zones.push(zone)?;
+    Ok(())
 }
 
 /// Who may transfer a zone, by its word.
@@ -65,8 +93,9 @@ pub fn secure(zones: &mut Vec<Zone>) -> anyhow::Result<()> {
     let Some(zone) = zones.last_mut() else {
         bail!("there is no zone to be signed");
     };
-    let signer = DemoSigner::new(1, zone.origin())?;
-    if zone.add_zone_signing_key_mut(signer).is_err() || zone.secure_zone_mut(0).is_err() {
+    let own = &mut zone.own;
+    let signer = DemoSigner::new(1, own.origin())?;
+    if own.add_zone_signing_key_mut(signer).is_err() || own.secure_zone_mut(0).is_err() {
         bail!("a zone wasn't signed");
     }
     Ok(())
@@ -78,8 +107,8 @@ pub fn add(alloc: Global, zones: &mut Vec<Zone>, words: &mut Words<'_>) -> anyho
         bail!("there is no zone for a record");
     };
     let new = read_record(alloc, words)?;
-    let serial = zone.serial();
-    if !zone.upsert(new, serial)? {
+    let serial = zone.own.serial();
+    if !zone.own.upsert(new, serial)? {
         bail!("a record wasn't taken");
     }
     Ok(())
@@ -87,10 +116,13 @@ pub fn add(alloc: Global, zones: &mut Vec<Zone>, words: &mut Words<'_>) -> anyho
 
 /// A zone as it is served at a moment.
 pub fn lent(zone: &Zone, moment: u64) -> ServedZone<'_, DemoSigner, Sha1Hash> {
+    let own = &zone.own;
+    let denials = zone.denials.as_ref().unwrap_or(own);
     ServedZone {
-        origin: zone.origin(),
-        inner: zone.inner(),
-        nx_proof_kind: zone.nx_proof_kind(),
+        origin: own.origin(),
+        inner: own.inner(),
+        denials: denials.inner().record_map(),
+        nx_proof_kind: denials.nx_proof_kind(),
         hash: &Sha1Hash,
         moment,
     }

@@ -20,7 +20,7 @@ never_signed signer part inception class = None
 
 -- a zone as a query finds it
 abbrev pub served_zone : Zone → queries.Zone
-served_zone z = record { origin = z.origin; sets = z.inner.records; nx_proof_kind = z.nx_proof_kind; digest_of = name_digest; sign = λ signed. answer_signatures never_signed 0 signed z.inner.signers }
+served_zone z = record { origin = z.origin; sets = z.inner.records; denials = z.inner.records; nx_proof_kind = z.nx_proof_kind; digest_of = name_digest; sign = λ signed. answer_signatures never_signed 0 signed z.inner.signers }
 
 -- zones as they are asked
 abbrev pub IsServed : List Zone → List (ServedZone StaticSigner Sha1Hash) → Type 0

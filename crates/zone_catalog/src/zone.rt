@@ -127,6 +127,7 @@ pub(crate) fn lent(zone: &Zone) -> ServedZone<'_, StaticSigner, Sha1Hash>
     ServedZone {
         origin: &zone.origin,
         inner: &zone.inner,
+        denials: zone.inner.record_map(),
         nx_proof_kind: zone.nx_proof_kind.as_ref(),
         hash: &Sha1Hash,
         // Nobody signs here, at any moment.

@@ -266,6 +266,14 @@ impl<S: Signer> InnerInMemory<S> {
         self.records.as_map()
     }
 
+    /// The record sets with the index of the owners of NSEC and NSEC3 sets that the zone keeps of them.
+    pub fn record_map(&self) -> &RecordMap
+        ensures sets { result.now ≡ self.now.records }
+        ensures zone { IsZone self.now.records }
+    {
+        &self.records
+    }
+
     /// The set that stands under `key`; None where none does.
     pub fn get(&self, key: &RrKey) -> Option<&RecordSet>
         ensures { option_copied result

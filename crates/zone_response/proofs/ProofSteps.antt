@@ -1,6 +1,6 @@
 -- The sets that prove what is said: of one name, and name after name
 use Rattle.std.proofs.Common.{◌≡◌, ◌⊎◌, inl, inr, true, List, [], ◌∷◌, ◌++◌, refl, sym, ap, ◌∙◌, subst}
-use Rattle.std.specs.Prelude.{fold, is_err, option_and_then, option_to_list, Option, Some, None, Result, Ok, Err, IfErr, IsErr, IsErrAnd}
+use Rattle.std.specs.Prelude.{fold, option_and_then, option_to_list, Option, Some, None, Result, Ok, Err, IfErr, IsErr, IsErrAnd}
 use Rattle.zone_proto.specs.declared.error.ProtoError.{ProtoError}
 use Rattle.zone_proto.specs.declared.nx_proof_kind.NxProofKind.{NxProofKind}
 use Rattle.zone_proto.specs.declared.nx_proof_kind.NxProofKind.TheVariants as kind
@@ -9,7 +9,6 @@ use Rattle.zone_proto.specs.Sets.{RRset}
 use Rattle.zone_handler.specs.declared.lookup_error.LookupError.{LookupError}
 use Rattle.zone_handler.specs.declared.lookup_error.LookupError.TheVariants as error
 use Rattle.zone_handler.specs.declared.nsec3_query_info.Nsec3QueryInfo.{Nsec3QueryInfo}
-use Rattle.zone_handler.specs.Errors.{error_of_proto}
 use Rattle.zone_denial.specs.Nsec3Denial.{result_and_then, nsec3_denial}
 use Rattle.zone_denial.specs.Nsec3Lent.{hashed_for, query_denial}
 use Rattle.zone_denial.specs.NsecDenial.{closest_nsec}
@@ -34,42 +33,36 @@ pub or_refused : {X Y E D : Type 0} (e : LookupError) (o : Result X E) (r : Resu
 or_refused e o r goes (inl memory) = inl memory
 or_refused e o r goes (inr refused) = inr (goes refused)
 
--- an error of a query by hashed names
-pub refused_query : (e : LookupError) (o r : Result (List RRset) ProtoError) → o ≡ r
-    → (e ≡ error.Memory) ⊎ ((refusal : ProtoError) × (o ≡ Err refusal) × (e ≡ error_of_proto refusal)) → (e ≡ error.Memory) ⊎ IsErr r
-refused_query e o r same (inl memory) = inl memory
-refused_query e o r same (inr (refusal, is, from)) = inr (ap is_err (sym same ∙ is))
-
 -- ---- of one name, by how the zone denies
 
 module _ (z : Zone) (x : Name) where
   -- for a name for which a star answered
-  pub starred_by_hash : (k : Option NxProofKind) (q : Nsec3QueryInfo) → AsksByHash k x (Some q) → query_denial z.digest_of z.origin z.sets (record q { has_wildcard_match = true }) ≡ star_proof_by z k x
+  pub starred_by_hash : (k : Option NxProofKind) (q : Nsec3QueryInfo) → AsksByHash k x (Some q) → query_denial z.digest_of z.origin z.denials (record q { has_wildcard_match = true }) ≡ star_proof_by z k x
   starred_by_hash None q h = cc
   starred_by_hash (Some kind.Nsec) q h = cc
   starred_by_hash (Some (kind.Nsec3 algorithm salt iterations opt_out)) q h =
-      λ i. nsec3_denial z.sets (hashed_owner_of z (h.algorithm i) (h.salt i) (h.iterations i)) true (h.name i)
+      λ i. nsec3_denial z.denials (hashed_owner_of z (h.algorithm i) (h.salt i) (h.iterations i)) true (h.name i)
 
-  pub starred_by_name : (k : Option NxProofKind) → AsksByHash k x None → star_proof_by z k x ≡ Ok (option_to_list (closest_nsec z.sets x))
+  pub starred_by_name : (k : Option NxProofKind) → AsksByHash k x None → star_proof_by z k x ≡ Ok (option_to_list (closest_nsec z.denials x))
   starred_by_name None h = refl
   starred_by_name (Some kind.Nsec) h = refl
   starred_by_name (Some (kind.Nsec3 algorithm salt iterations opt_out)) h = absurd h
 
   -- for a name that doesn't exist
-  pub absent_by_hash : (k : Option NxProofKind) (q : Nsec3QueryInfo) (star : Name) → AsksByHash k x (Some q) → query_denial z.digest_of z.origin z.sets q ≡ denial_by z k x (Some star)
+  pub absent_by_hash : (k : Option NxProofKind) (q : Nsec3QueryInfo) (star : Name) → AsksByHash k x (Some q) → query_denial z.digest_of z.origin z.denials q ≡ denial_by z k x (Some star)
   absent_by_hash None q star h = cc
   absent_by_hash (Some kind.Nsec) q star h = cc
   absent_by_hash (Some (kind.Nsec3 algorithm salt iterations opt_out)) q star h =
-      λ i. nsec3_denial z.sets (hashed_owner_of z (h.algorithm i) (h.salt i) (h.iterations i)) (h.unstarred i) (h.name i)
+      λ i. nsec3_denial z.denials (hashed_owner_of z (h.algorithm i) (h.salt i) (h.iterations i)) (h.unstarred i) (h.name i)
 
   -- for a name that exists
-  pub present_by_hash : (k : Option NxProofKind) (q : Nsec3QueryInfo) → AsksByHash k x (Some q) → no_data_proof z.sets (hashed_for z.origin z.digest_of q) q.qname.now ≡ denial_by z k x None
+  pub present_by_hash : (k : Option NxProofKind) (q : Nsec3QueryInfo) → AsksByHash k x (Some q) → no_data_proof z.denials (hashed_for z.origin z.digest_of q) q.qname.now ≡ denial_by z k x None
   present_by_hash None q h = cc
   present_by_hash (Some kind.Nsec) q h = cc
   present_by_hash (Some (kind.Nsec3 algorithm salt iterations opt_out)) q h =
-      λ i. no_data_proof z.sets (hashed_owner_of z (h.algorithm i) (h.salt i) (h.iterations i)) (h.name i)
+      λ i. no_data_proof z.denials (hashed_owner_of z (h.algorithm i) (h.salt i) (h.iterations i)) (h.name i)
 
-  pub denied_by_name : (k : Option NxProofKind) (star : Option Name) → AsksByHash k x None → denial_by z k x star ≡ Ok (option_to_list (closest_nsec z.sets x) ++ option_to_list (option_and_then (closest_nsec z.sets) star))
+  pub denied_by_name : (k : Option NxProofKind) (star : Option Name) → AsksByHash k x None → denial_by z k x star ≡ Ok (option_to_list (closest_nsec z.denials x) ++ option_to_list (option_and_then (closest_nsec z.denials) star))
   denied_by_name None star h = refl
   denied_by_name (Some kind.Nsec) star h = refl
   denied_by_name (Some (kind.Nsec3 algorithm salt iterations opt_out)) star h = absurd h

@@ -105,7 +105,7 @@ sets =
     ∷ []
 
 abbrev zone : Zone
-zone = record { origin = example; sets = sets; nx_proof_kind = Some kind.Nsec; digest_of = λ algorithm salt n iterations. None; sign = λ signed s. [] }
+zone = record { origin = example; sets = sets; denials = sets; nx_proof_kind = Some kind.Nsec; digest_of = λ algorithm salt n iterations. None; sign = λ signed s. [] }
 
 -- a query that asks for DNSSEC
 abbrev asked : Name → ℕ → Query
@@ -221,10 +221,13 @@ hashed_sets =
 
 -- with the algorithm 1 alone
 abbrev hashed_zone : ℕ → Zone
-hashed_zone algorithm = record { origin = example; sets = hashed_sets; nx_proof_kind = Some (kind.Nsec3 algorithm [] 0 true); digest_of = λ algorithm salt n iterations. cond (algorithm == 1) (Some (octets n ∷ [])) None; sign = λ signed s. [] }
+hashed_zone algorithm = record { origin = example; sets = hashed_sets; denials = hashed_sets; nx_proof_kind = Some (kind.Nsec3 algorithm [] 0 true); digest_of = λ algorithm salt n iterations. cond (algorithm == 1) (Some (octets n ∷ [])) None; sign = λ signed s. [] }
 
 -- a name error: one set matches the closest encloser, and covers the name, of 9 octets, and the star, of 8
-of_hashed_absence : IsResponse (hashed_zone 1) (asked (under (codes "no")) A) (record { code = code.NXDomain; authoritative = true; answers = []; authorities = soa 300 ∷ of_apex 300 ∷ []; additionals = []; glue = []; left_at = None })
+abbrev hashed_absence : Sections
+hashed_absence = record { code = code.NXDomain; authoritative = true; answers = []; authorities = soa 300 ∷ of_apex 300 ∷ []; additionals = []; glue = []; left_at = None }
+
+of_hashed_absence : IsResponse (hashed_zone 1) (asked (under (codes "no")) A) hashed_absence
 unfolding path octets
 of_hashed_absence = record { code = refl; authoritative = refl; answers = refl; authorities = refl; additionals = refl; glue = refl; left_at = refl }
 
@@ -242,6 +245,22 @@ below_hashed_child = record { code = refl; authoritative = refl; answers = refl;
 below_left_out : IsResponse (hashed_zone 1) (asked (under (codes "unsigned")) A) (sections false [] (servers (under (codes "unsigned")) ∷ of_mail 300 ∷ of_apex 300 ∷ []) [] [])
 unfolding path octets
 below_left_out = record { code = refl; authoritative = refl; answers = refl; authorities = refl; additionals = refl; glue = refl; left_at = refl }
+
+-- a set that is left of another chain, and stands nearer before the name than that of the apex
+abbrev left_over : RRset
+left_over = signed 3600 (codes "12" ∷ example) NSEC3 2 (V.NSEC3 (record { algorithm = 1; opt_out = false; iterations = 0; salt = 1 ∷ []; next_hashed_owner_name = 1 ∷ []; types = [] }))
+
+abbrev sets_of_two_chains : Sets
+sets_of_two_chains =
+    (key example SOA, soa 3600)
+    ∷ (key (codes "0s" ∷ example) NSEC3, of_apex 3600) ∷ (key (codes "12" ∷ example) NSEC3, left_over) ∷ (key (codes "18" ∷ example) NSEC3, of_sub 3600) ∷ (key (codes "1c" ∷ example) NSEC3, of_mail 3600)
+    ∷ (key (under (codes "mail")) A, mail) ∷ (key (under (codes "sub")) NS, servers (under (codes "sub"))) ∷ (key (under (codes "unsigned")) NS, servers (under (codes "unsigned")))
+    ∷ []
+
+-- proves nothing where the zone lends its denials without it
+of_absence_beside_another_chain : IsResponse (record (hashed_zone 1) { sets = sets_of_two_chains }) (asked (under (codes "no")) A) hashed_absence
+unfolding path octets
+of_absence_beside_another_chain = record { code = refl; authoritative = refl; answers = refl; authorities = refl; additionals = refl; glue = refl; left_at = refl }
 
 -- without a digest nothing is said that has to be proved
 of_undigested_absence : IsResponse (hashed_zone 2) (asked (under (codes "no")) A) (bare code.ServFail)

@@ -24,13 +24,13 @@ module _ (z : Zone) where
 
   -- what proves that a star may answer for a name: the NSEC set that covers the name (RFC 4035 section 3.1.3.3), or the NSEC3 set that covers the next closer name (RFC 5155 section 7.2.6)
   abbrev pub star_proof_by : Option NxProofKind → Name → Result (List RRset) ProtoError
-  star_proof_by (Some (kind.Nsec3 algorithm salt iterations opt_out)) x = nsec3_denial z.sets (hashed_owner_of algorithm salt iterations) true x
-  star_proof_by _ x = Ok (option_to_list (closest_nsec z.sets x))
+  star_proof_by (Some (kind.Nsec3 algorithm salt iterations opt_out)) x = nsec3_denial z.denials (hashed_owner_of algorithm salt iterations) true x
+  star_proof_by _ x = Ok (option_to_list (closest_nsec z.denials x))
 
   -- what proves that a name, and the star that was asked for it, hasn't what is asked for: by NSEC, the sets of these, which list what they own, or else those that cover them (RFC 4035 sections 3.1.3.1, 3.1.3.2 and 3.1.3.4)
   abbrev pub denial_by : Option NxProofKind → Name → Option Name → Result (List RRset) ProtoError
-  denial_by (Some (kind.Nsec3 algorithm salt iterations opt_out)) x star = lack_proof z.sets (hashed_owner_of algorithm salt iterations) x star
-  denial_by _ x star = Ok (option_to_list (closest_nsec z.sets x) ++ option_to_list (option_and_then (closest_nsec z.sets) star))
+  denial_by (Some (kind.Nsec3 algorithm salt iterations opt_out)) x star = lack_proof z.denials (hashed_owner_of algorithm salt iterations) x star
+  denial_by _ x star = Ok (option_to_list (closest_nsec z.denials x) ++ option_to_list (option_and_then (closest_nsec z.denials) star))
 
   abbrev pub star_proof : Name → Result (List RRset) ProtoError
   star_proof = star_proof_by z.nx_proof_kind

@@ -1,12 +1,12 @@
 -- The zone that is asked, and the query
-use Rattle.std.specs.Prelude.{ℕ, Bool, ◌&&◌, List, Option, is_some, option_copied}
+use Rattle.std.specs.Prelude.{◌≡◌, ℕ, Bool, ◌&&◌, List, Option, Some, is_some, option_copied}
 use Rattle.zone_proto.specs.declared.nx_proof_kind.NxProofKind.{NxProofKind}
 use Rattle.zone_proto.specs.declared.rdata.signing.RRSIG.{RRSIG}
 use Rattle.zone_proto.specs.declared.record.Record.{Record}
 use Rattle.zone_proto.specs.Names.{Name}
 use Rattle.zone_proto.specs.Sets.{RRset}
 use Rattle.zone_proto.specs.Signing.{SignedPart}
-use Rattle.zone_map.specs.Zones.{Sets}
+use Rattle.zone_map.specs.Zones.{Sets, set_at, IsZone}
 use Rattle.zone_inner.specs.Inner.{Inner}
 use Rattle.zone_response.specs.declared.question.Question.{Question}
 use Rattle.zone_response.specs.declared.question.ServedZone.{ServedZone}
@@ -18,12 +18,19 @@ pub record Zone : Type 0 where
   pub origin : Name
   -- its record sets
   pub sets : Sets
+  -- the sets in which the NSEC or NSEC3 sets are looked up that prove what is said: its record sets, or those without the NSEC and NSEC3 sets of all chains but one (RFC 5155 section 7.3)
+  pub denials : Sets
   -- how it denies what it doesn't hold
   pub nx_proof_kind : Option NxProofKind
   -- the digest of an algorithm, a salt, a name and a count of iterations, or none, where it denies by hashed names (RFC 5155 section 5)
   pub digest_of : ℕ → List ℕ → Name → ℕ → Option (List ℕ)
   -- the signatures of a set that is made for a response, to a query that asks for DNSSEC or doesn't
   pub sign : Bool → RRset → List Record
+
+-- the sets in which the proofs are looked up are sets of the zone, as they are where it lends its own, or those of one chain
+pub record HasOwnDenials (z : Zone) : Type 0 where
+  pub zone : IsZone z.denials
+  pub own : (n : Name) (t : ℕ) (s : RRset) → set_at z.denials n t ≡ Some s → set_at z.sets n t ≡ Some s
 
 -- a question (RFC 1035 section 4.1.2), and whether it asks for DNSSEC (RFC 3225 section 3)
 pub record Query : Type 0 where
@@ -53,6 +60,7 @@ abbrev pub zone_of : {S H : Type 0} → (S → SignedPart → ℕ → ℕ → Op
 zone_of signature_of digest_of z = record {
   origin = z.origin.now;
   sets = z.inner.now.records;
+  denials = z.denials.now;
   nx_proof_kind = option_copied z.nx_proof_kind;
   digest_of = digest_of z.hash.now;
   sign = λ signed. answer_signatures signature_of z.moment signed z.inner.now.signers;

@@ -10,13 +10,14 @@ ghost use Rattle.zone_response.specs.Queries.{zone_of};
 ghost use Rattle.zone_response.specs.Sections.{sent_sets};
 ghost use Rattle.zone_response.specs.Steps.{end_of};
 
-use crate::hashed_denials::no_data_proof;
+use crate::hashed_denials::{no_data_proof, query_denial};
 use crate::lists::{lend_for, push};
 use crate::question::ServedZone;
 use crate::response::{Part, Sent};
 use crate::steps::End;
+use zone_denial::closest::closest_nsec;
 use zone_handler::{LookupError, Nsec3QueryInfo};
-use zone_inner::InnerInMemory;
+use zone_map::RecordMap;
 use zone_proto::{LowerName, Nsec3Hash, NxProofKind, ProtoError, RecordSet, RecordType, Signer};
 
 /// The sets that prove that a star may answer for each name for which one did, and what the end says; each set once. `ds` is the DS
@@ -83,9 +84,9 @@ fn star_proof<'z, S: Signer, H: Nsec3Hash>(
                 has_wildcard_match: true,
                 ..query
             };
-            zone.inner.proof(starred, zone.origin, zone.hash)
+            query_denial(zone, starred)
         }
-        None => nsec_proof(zone.inner, name, None),
+        None => nsec_proof(zone.denials, name, None),
     }
 }
 
@@ -131,10 +132,10 @@ fn denial<'z, S: Signer, H: Nsec3Hash>(
 {
     match hashed_query(zone.nx_proof_kind, name) {
         Some(query) => match star {
-            Some(_) => zone.inner.proof(query, zone.origin, zone.hash),
+            Some(_) => query_denial(zone, query),
             None => no_data_proof(zone, query),
         },
-        None => nsec_proof(zone.inner, name, star),
+        None => nsec_proof(zone.denials, name, star),
     }
 }
 
@@ -167,39 +168,39 @@ fn hashed_query<'q>(
 }
 
 /// The NSEC sets of a name and of the star that was asked for it, or else those that cover them.
-fn nsec_proof<'z, S: Signer>(
-    inner: &'z InnerInMemory<S>,
+fn nsec_proof<'z>(
+    denials: &'z RecordMap,
     name: &LowerName,
     star: Option<&LowerName>,
 ) -> Result<Vec<&'z RecordSet>, LookupError>
     ensures ok { IfOk result
         (λ sets. map (λ s. s.now) sets.items
-        ≡ option_to_list (closest_nsec inner.now.records name.now)
+        ≡ option_to_list (closest_nsec denials.now name.now)
         ++ option_to_list
-        (option_and_then (closest_nsec inner.now.records) (option_copied star.entry))) }
+        (option_and_then (closest_nsec denials.now) (option_copied star.entry))) }
     ensures err { IsOkUnless result LookupError.Memory }
 {
     let mut sets = Vec::new(name.alloc());
-    add_closest(inner, name, &mut sets)?;
+    add_closest(denials, name, &mut sets)?;
     if let Some(star) = star {
-        add_closest(inner, star, &mut sets)?;
+        add_closest(denials, star, &mut sets)?;
     }
     Ok(sets)
 }
 
 /// Puts the NSEC set of a name last, or else the one that covers it, if there is one.
-fn add_closest<'z, S: Signer>(
-    inner: &'z InnerInMemory<S>,
+fn add_closest<'z>(
+    denials: &'z RecordMap,
     name: &LowerName,
     sets: &mut Vec<&'z RecordSet>,
 ) -> Result<(), LookupError>
     ensures ok { OnOk result
         (map (λ s. s.now) sets.new.items
         ≡ map (λ s. s.now) sets.old.items
-        ++ option_to_list (closest_nsec inner.now.records name.now)) }
+        ++ option_to_list (closest_nsec denials.now name.now)) }
     ensures err { IsOkUnless result LookupError.Memory }
 {
-    match inner.closest_nsec(name)? {
+    match closest_nsec(denials, name)? {
         Some(set) => Ok(push(sets, set)?),
         None => Ok(()),
     }

@@ -1,6 +1,7 @@
 //! What is asked, and of which zone.
 
 use zone_inner::InnerInMemory;
+use zone_map::RecordMap;
 use zone_proto::{DNSClass, LowerName, Nsec3Hash, NxProofKind, RecordType, Signer};
 
 /// A zone that is asked: of an `InMemoryZoneHandler` what its calls `origin`, `inner` and `nx_proof_kind` lend, and a hash of
@@ -11,6 +12,11 @@ pub struct ServedZone<'z, S: Signer, H: Nsec3Hash> {
     pub origin: &'z LowerName,
     /// Its record sets.
     pub inner: &'z InnerInMemory<S>,
+    /// The record sets in which the NSEC or NSEC3 sets are looked up that prove what is said. A zone that has NSEC and NSEC3 sets of
+    /// one chain alone lends its record sets, [`InnerInMemory::record_map`]; one that has sets of several chains, or those that are
+    /// left of an old one, lends its record sets without those of the others, with which a proof mustn't be mixed (RFC 5155 section
+    /// 7.3).
+    pub denials: &'z RecordMap,
     /// How it denies what it doesn't hold.
     pub nx_proof_kind: Option<&'z NxProofKind>,
     /// What names are hashed by, where it denies by NSEC3 (RFC 5155 section 5).

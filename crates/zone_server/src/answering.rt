@@ -181,6 +181,7 @@ fn lent<'z, S: Signer, H: Nsec3Hash>(zone: &ServedZone<'z, S, H>) -> ServedZone<
     ServedZone {
         origin: zone.origin,
         inner: zone.inner,
+        denials: zone.denials,
         nx_proof_kind: zone.nx_proof_kind,
         hash: zone.hash,
         moment: zone.moment,

@@ -9,7 +9,7 @@ use Rattle.zone_response.proofs.hashed_denials.nearest_matching.Goals as goal
 
 pub returns-in_err-set-clause-err : goal.returns-in_err-set-clause-err
 returns-in_err-set-clause-err g c =
-    let m = c.args.zone.now.inner.now.records in
+    let m = c.args.zone.now.denials.now in
     let hashed = hashed_for c.args.zone.now.origin.now (g.H.Nsec3Hash.digest_of c.args.zone.now.hash.now) c.args.query in
     let x = c.loop-query.above in
     let below : x ≡ [] → ⊥ = λ e. true≢false (sym (c.is_root.ensures.1 e) ∙ c.loop-query-test.true) in
@@ -19,7 +19,7 @@ returns-in_err-set-clause-err g c =
 
 pub returns-in-Some-clause-ok : goal.returns-in-Some-clause-ok
 returns-in-Some-clause-ok g c =
-    let m = c.args.zone.now.inner.now.records in
+    let m = c.args.zone.now.denials.now in
     let hashed = hashed_for c.args.zone.now.origin.now (g.H.Nsec3Hash.digest_of c.args.zone.now.hash.now) c.args.query in
     let x = c.loop-query.above in
     let below : x ≡ [] → ⊥ = λ e. true≢false (sym (c.is_root.ensures.1 e) ∙ c.loop-query-test.true) in
