@@ -225,7 +225,7 @@ module _ (z : Zone) (q : Query) (r : Sections) (zone : IsOrdinaryZone z.origin z
           same : (d c : NegativeAnswer) → negative d ≡ negative c → c ≡ d
           same d c e = cc
 
-pub responses_agree : ResponsesAgree
+pub responses_agree : ResponsesAgree IsResponse
 responses_agree sign z q r reply zone query stand_ins provable is says = by (found z.sets q.signed q.name q.record_type) refl
   where
     y : Inquiry

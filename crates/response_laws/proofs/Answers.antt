@@ -1,11 +1,11 @@
 -- The sets of an answer section are the zone's own, those of a star, a CNAME that a DNAME set makes, or addresses for which an ANAME set stands in
-use Rattle.std.proofs.Common.{◌≡◌, ℕ, zero, suc, Bool, true, false, cond, not, ◌&&◌, List, [], ◌∷◌, ◌++◌, refl, sym, ap, ◌∙◌, subst, ◌⊎◌, inl, inr, eqb-true, append_assoc}
-use Rattle.std.specs.Prelude.{Option, Some, None, ◌==◌, ◌||◌}
+use Rattle.std.proofs.Common.{◌≡◌, ℕ, zero, suc, Bool, true, false, cond, not, ◌&&◌, List, [], ◌∷◌, ◌++◌, refl, sym, ap, ◌∙◌, subst, ◌⊎◌, inl, inr, eqb-true, true≢false, append_assoc}
+use Rattle.std.specs.Prelude.{Option, Some, None, ◌==◌}
 use Rattle.std.specs.List.{list_any}
-use Rattle.zone_proto.specs.Names.{Name, name_eq, IsAbove}
+use Rattle.zone_proto.specs.Names.{Name, lower, name_eq, IsAbove}
 use Rattle.zone_proto.specs.Sets.{RRset}
 use Rattle.zone_proto.specs.Types.{CNAME, RRSIG, ANAME}
-use Rattle.zone_proto.proofs.Members.{In, In-Contains, Contains-In, In-from_append, In-append_left, In-append_right}
+use Rattle.zone_proto.proofs.Members.{In, In-Contains, In-from_append, In-append_left, In-append_right}
 use Rattle.zone_map.specs.Wildcards.{exists, renamed}
 use Rattle.zone_map.specs.Zones.{Sets, set_at, IsZone}
 use Rattle.zone_response.specs.declared.response.Part.{Part}
@@ -14,16 +14,17 @@ use Rattle.zone_response.specs.Nodes.{AtNode, chosen_type}
 use Rattle.zone_response.specs.Paths.{next_behind, Path, ended, behind, searched, path_from, path}
 use Rattle.zone_response.specs.Queries.{Inquiry}
 use Rattle.zone_response.specs.Renamings.{dname_target, in_place_of, unless_long, made_alias}
-use Rattle.zone_response.specs.Sections.{sent, is_signed, as_it_is, part_for, unless_among}
+use Rattle.zone_response.specs.Sections.{is_signed, as_it_is, part_for, unless_among}
 use Rattle.zone_response.specs.Sources.{star_of}
 use Rattle.zone_response.specs.StandIns.{StandInAnswer, addresses, no_addresses, untold, stand_in_answer}
-use Rattle.zone_response.specs.Steps.{complete, referred, missing, outside, unfollowed, failed, Next, on, ends, Step, at_end, made_by, made_names, keeps, own_part, addresses_step, stood_in_step, node_step, new_name_step, step_at, step}
+use Rattle.zone_response.specs.Steps.{complete, referred, missing, outside, unfollowed, failed, Next, on, ends, Step, at_end, made_by, made_names, keeps, own_part, stood_in_step, node_step, new_name_step, step_at, step}
 use Rattle.zone_response.specs.Turns.{DNAME}
-use Rattle.response_laws.specs.ProvedSayings.{IsSentSet, IsMadeAlias, IsAnswerPart}
+use Rattle.response_laws.specs.Contents.{IsAnswerPart, IsMadeAlias, Origin, own, of_star, of_dname, of_aname}
 use Rattle.response_laws.proofs.Dnames.{sent_dname_target, short_is, sent_dname, AreDnames, IsAboveBy, turned_by, stands_among, in_unless}
 use Rattle.response_laws.proofs.LastNames.{dnames_on}
-use Rattle.response_laws.proofs.Leads.{asked_stands}
-use Rattle.response_laws.proofs.StandIns.{aname_stands}
+use Rattle.response_laws.proofs.Leads.{sent_owner, sent_type, asked_stands}
+use Rattle.response_laws.proofs.Origins.{origin_by, origin_in_longer}
+use Rattle.response_laws.proofs.StandIns.{aname_stands, made_signatures, made_ttl}
 use Rattle.response_laws.proofs.Stepped.{NodeOf, has_set, has_alias, has_stand_in, has_nothing, node_of, IsUnturned, StepOf, leaves, refers, fails, new_name, at_name, no_star, at_star, star_gone, step_of}
 
 -- a name that doesn't exist, for which its star answers
@@ -38,104 +39,66 @@ pub record IsMadeFound (q : Inquiry) (y : Name) (u : ℕ) (found : RRset) : Type
   pub made : IsMade q y star
   pub stored : RRset
   pub stands : set_at q.sets star u ≡ Some stored
-  pub is : found ≡ renamed true star y stored
+  pub is : found ≡ renamed (keeps q.signed q.record_type) star y stored
 
--- and as it goes out
-pub record IsMadeSet (q : Inquiry) (y : Name) (p : Part) (s : RRset) : Type 0 where
-  pub record_type : ℕ
-  pub found : RRset
-  pub by_star : IsMadeFound q y record_type found
-  pub ttl : ℕ
-  pub sent : s ≡ sent p ttl found
+-- so it is of one of these names
+abbrev pub ByStarOf : Inquiry → List Name → Name → ℕ → RRset → Type 0
+ByStarOf q made y u found = In y made × IsMadeFound q y u found
 
--- a set that is found, where stars answered for these names
-pub record IsFound (q : Inquiry) (made : List Name) (s : RRset) : Type 0 where
-  pub part' : Part
-  pub goes_out : IsAnswerPart q.record_type part'
-  pub set : IsSentSet q.sets part' s ⊎ ((y : Name) × In y made × IsMadeSet q y part' s)
-
--- addresses for which an ANAME set stands in, where stars answered for these names
-pub record IsStoodIn (q : Inquiry) (made : List Name) (s : RRset) : Type 0 where
-  pub name : Name
-  pub aname : RRset
-  pub stands : (set_at q.sets name ANAME ≡ Some aname) ⊎ (In name made × IsMadeFound q name ANAME aname)
-  pub set : RRset
-  pub leads : stand_in_answer q name aname ≡ addresses set
-  pub signed : is_signed set ≡ true
-  pub sent : s ≡ as_it_is part.Signed set
-
--- a set of a name: it is found, or made of addresses
-abbrev OfName : Inquiry → List Name → RRset → Type 0
-OfName q made s = IsFound q made s ⊎ IsStoodIn q made s
-
--- a set that answers: one of a name, or one that is made by a DNAME set that stands in the section
+-- a set that answers in a section, where stars answered for these names
 abbrev pub IsAnswer : Inquiry → List Name → List RRset → RRset → Type 0
-IsAnswer q made all s = IsFound q made s ⊎ IsMadeAlias q.sets all s ⊎ IsStoodIn q made s
+IsAnswer q made all s = Origin q all (ByStarOf q made) s
 
--- among more names
-among_more : (q : Inquiry) (made more : List Name) (s : RRset) → ((y : Name) → In y made → In y more) → IsFound q made s → IsFound q more s
-among_more q made more s more_of a = record { part' = a.part'; goes_out = a.goes_out; set = by a.set }
+among_more : (q : Inquiry) (made more : List Name) (all : List RRset) (s : RRset) → ((y : Name) → In y made → In y more) → IsAnswer q made all s → IsAnswer q more all s
+among_more q made more all s more_of = origin_by q all s (ByStarOf q made) (ByStarOf q more) (λ n t found k. (more_of n k.0, k.1))
+
+-- a DNAME set as it goes out has the same TTL and the same target, and makes the same CNAME
+sent_ttl : (p : Part) (s : RRset) → (as_it_is p s).ttl ≡ s.ttl
+sent_ttl part.Records s = refl
+sent_ttl part.Signed s = refl
+sent_ttl part.Signatures s = refl
+
+sent_target : (q : Inquiry) (v : RRset) → dname_target (sent_dname q v) ≡ dname_target v
+sent_target q v = by q.signed
   where
-    by : IsSentSet q.sets a.part' s ⊎ ((y : Name) × In y made × IsMadeSet q y a.part' s) → IsSentSet q.sets a.part' s ⊎ ((y : Name) × In y more × IsMadeSet q y a.part' s)
-    by (inl h) = inl h
-    by (inr (y, i, h)) = inr (y, more_of y i, h)
+    by : (b : Bool) → dname_target (as_it_is (part_for b) v) ≡ dname_target v
+    by true = sent_dname_target v
+    by false = sent_dname_target v
 
-stood_among_more : (q : Inquiry) (made more : List Name) (s : RRset) → ((y : Name) → In y made → In y more) → IsStoodIn q made s → IsStoodIn q more s
-stood_among_more q made more s more_of a = record { name = a.name; aname = a.aname; stands = by a.stands; set = a.set; leads = a.leads; signed = a.signed; sent = a.sent }
+sent_alias : (q : Inquiry) (v : RRset) (x target : Name) → made_alias v x (in_place_of v.owner target x) ≡ made_alias (sent_dname q v) x (in_place_of (sent_dname q v).owner target x)
+sent_alias q v x target = by q.signed
   where
-    by : (set_at q.sets a.name ANAME ≡ Some a.aname) ⊎ (In a.name made × IsMadeFound q a.name ANAME a.aname) → (set_at q.sets a.name ANAME ≡ Some a.aname) ⊎ (In a.name more × IsMadeFound q a.name ANAME a.aname)
-    by (inl h) = inl h
-    by (inr (i, h)) = inr (more_of a.name i, h)
+    by : (b : Bool) → made_alias v x (in_place_of v.owner target x) ≡ made_alias (as_it_is (part_for b) v) x (in_place_of (as_it_is (part_for b) v).owner target x)
+    by true = refl
+    by false = refl
 
--- in a longer section
-in_longer : (q : Inquiry) (made : List Name) (all more : List RRset) (s : RRset) → IsAnswer q made all s → IsAnswer q made (all ++ more) s
-in_longer q made all more s (inl h) = inl h
-in_longer q made all more s (inr (inr h)) = inr (inr h)
-in_longer q made all more s (inr (inl a)) =
-    inr (inl (record {
-      dname = a.dname;
-      among = In-Contains a.dname (all ++ more) (In-append_left a.dname all more (Contains-In a.dname all a.among));
-      record_type = a.record_type;
-      stands = a.stands;
-      target = a.target;
-      told = a.told;
-      name = a.name;
-      below = a.below;
-      made = a.made;
-    }))
-
-module _ (q : Inquiry) (zone : IsZone q.sets) (signed : q.signed ≡ true) (proved : q.is_proved ≡ true) where
+module _ (q : Inquiry) (zone : IsZone q.sets) where
   abbrev t : ℕ
   t = q.record_type
 
   abbrev m : Sets
   m = q.sets
 
-  own_goes_out : IsAnswerPart t (own_part q.signed t)
+  own_goes_out : IsAnswerPart q (own_part q.signed t)
   own_goes_out = by (t == RRSIG) refl
     where
-      by : (b : Bool) → (t == RRSIG) ≡ b → IsAnswerPart t (cond b part.Signatures (part_for q.signed))
+      by : (b : Bool) → (t == RRSIG) ≡ b → IsAnswerPart q (cond b part.Signatures (part_for q.signed))
       by true e = inr (eqb-true t RRSIG e, refl)
-      by false e = inl (ap part_for signed)
+      by false e = inl refl
 
   -- ---- one step
 
   -- the set of the star of x, as it is found for x
   star_found : (w x a : Name) → (a ≡ w) × IsMade q x w → (u : ℕ) (s : RRset) → set_at m a u ≡ Some s → IsMadeFound q x u (made_by (keeps q.signed t) (Some w) x s)
   star_found w x a made u s e =
-      record { star = w; made = made.1; stored = s; stands = ap (λ n. set_at m n u) (sym made.0) ∙ e; is = ap (λ b. renamed (b || (t == RRSIG)) w x s) signed }
+      record { star = w; made = made.1; stored = s; stands = ap (λ n. set_at m n u) (sym made.0) ∙ e; is = refl }
 
   -- a set as it is found for x, at the name or at its star
   found_answer : (star : Option Name) (x a : Name) → (star ≡ None → a ≡ x) → ((w : Name) → star ≡ Some w → (a ≡ w) × IsMade q x w) → (u : ℕ) (s : RRset) → set_at m a u ≡ Some s
-      → (p : Part) → IsAnswerPart t p → IsFound q (made_names star x) (sent p (made_by (keeps q.signed t) star x s).ttl (made_by (keeps q.signed t) star x s))
-  found_answer None x a here of u s e p g = record { part' = p; goes_out = g; set = inl (record { name = a; record_type = u; stored = s; stands = e; ttl = s.ttl; sent = refl }) }
-  found_answer (Some w) x a here of u s e p g =
-      let made = of w refl in
-      record {
-        part' = p;
-        goes_out = g;
-        set = inr (x, inl refl, record { record_type = u; found = made_by (keeps q.signed t) (Some w) x s; by_star = star_found w x a made u s e; ttl = s.ttl; sent = refl });
-      }
+      → (p : Part) → IsAnswerPart q p → (all : List RRset) → IsAnswer q (made_names star x) all (as_it_is p (made_by (keeps q.signed t) star x s))
+  found_answer None x a here of u s e p g all = own p g (record { name = a; record_type = u; stored = s; stands = e; sent = refl })
+  found_answer (Some w) x a here of u s e p g all =
+      of_star p g (record { name = x; record_type = u; found = made_by (keeps q.signed t) (Some w) x s; by_star = (inl refl, star_found w x a (of w refl) u s e); sent = refl })
 
   -- an ANAME set that stands in for addresses of x, at the name or at its star
   aname_found : (star : Option Name) (x a : Name) → (star ≡ None → a ≡ x) → ((w : Name) → star ≡ Some w → (a ≡ w) × IsMade q x w) → (s : RRset) → set_at m a ANAME ≡ Some s
@@ -144,7 +107,7 @@ module _ (q : Inquiry) (zone : IsZone q.sets) (signed : q.signed ≡ true) (prov
   aname_found (Some w) x a here of s e = inr (inl refl, star_found w x a (of w refl) ANAME s e)
 
   node_answers : (star : Option Name) (x a : Name) → (star ≡ None → a ≡ x) → ((w : Name) → star ≡ Some w → (a ≡ w) × IsMade q x w) → (s : RRset) → In s (step_at q star x a).answers
-      → OfName q (step_at q star x a).made s
+      → (all : List RRset) → IsAnswer q (step_at q star x a).made all s
   node_answers star x a here of s = by (node_of m a t)
     where
       at : AtNode → Step
@@ -154,39 +117,49 @@ module _ (q : Inquiry) (zone : IsZone q.sets) (signed : q.signed ≡ true) (prov
       kept = made_by (keeps q.signed t) star x
 
       HasAnswers : Step → Type 0
-      HasAnswers v = In s v.answers → OfName q v.made s
+      HasAnswers v = In s v.answers → (all : List RRset) → IsAnswer q v.made all s
 
-      only : (made : List Name) (r : RRset) → OfName q made r → In s (r ∷ []) → OfName q made s
-      only made r h (inl e) = subst (OfName q made) e h
-      only made r h (inr i) = absurd i
+      only : (made : List Name) (r : RRset) → ((all : List RRset) → IsAnswer q made all r) → In s (r ∷ []) → (all : List RRset) → IsAnswer q made all s
+      only made r h (inl e) all = subst (IsAnswer q made all) e (h all)
+      only made r h (inr i) all = absurd i
 
-      -- addresses, which answer where they are signed
-      addressed : (r v : RRset) → set_at m a ANAME ≡ Some r → stand_in_answer q x (kept r) ≡ addresses v → (b : Bool) → is_signed v ≡ b → HasAnswers (addresses_step q.is_proved q.signed star x v)
-      addressed r v k f b e = subst HasAnswers (sym (ap stepped (λ i. proved i && not (e i)))) (answers b e)
-        where
-          stepped : Bool → Step
-          stepped bogus = cond bogus (at_end failed) (record { answers = as_it_is (part_for q.signed) v ∷ []; made = made_names star x; next = ends complete })
+      stands_in : (r v : RRset) → set_at m a ANAME ≡ Some r → stand_in_answer q x (kept r) ≡ addresses v → (q.is_proved ≡ true → is_signed v ≡ true) → In s (as_it_is (part_for q.signed) v ∷ [])
+          → (all : List RRset) → IsAnswer q (made_names star x) all s
+      stands_in r v k f signed =
+          only (made_names star x) (as_it_is (part_for q.signed) v)
+          (λ all.
+          of_aname (record {
+            name = x;
+            aname = kept r;
+            stands = aname_found star x a here of r k;
+            made = v;
+            leads = f;
+            signatures = made_signatures q x (kept r) v f;
+            signed = signed;
+            sent = refl;
+            ttl = made_ttl q x (kept r) v f;
+          }))
 
-          answers : (b : Bool) → is_signed v ≡ b → HasAnswers (stepped (not b))
-          answers false e = λ i. absurd i
-          answers true e =
-              only (made_names star x) (as_it_is (part_for q.signed) v)
-              (inr (record { name = x; aname = kept r; stands = aname_found star x a here of r k; set = v; leads = f; signed = e; sent = ap (λ b. as_it_is (part_for b) v) signed }))
+      -- addresses, which answer unless they are to be proved and aren't signed
+      addressed : (r v : RRset) → set_at m a ANAME ≡ Some r → stand_in_answer q x (kept r) ≡ addresses v → (p : Bool) → q.is_proved ≡ p → (b : Bool) → is_signed v ≡ b
+          → HasAnswers (cond (p && not b) (at_end failed) (record { answers = as_it_is (part_for q.signed) v ∷ []; made = made_names star x; next = ends complete }))
+      addressed r v k f true e false g = λ i. absurd i
+      addressed r v k f true e true g = stands_in r v k f (λ p. g)
+      addressed r v k f false e b g = stands_in r v k f (λ p. absurd (true≢false (sym p ∙ e)))
 
       stood_in : (r : RRset) → set_at m a ANAME ≡ Some r → (w : StandInAnswer) → stand_in_answer q x (kept r) ≡ w → HasAnswers (stood_in_step q.is_proved q.signed star x w)
-      stood_in r k (addresses v) f = addressed r v k f (is_signed v) refl
+      stood_in r k (addresses v) f = addressed r v k f q.is_proved refl (is_signed v) refl
       stood_in r k no_addresses f = λ i. absurd i
       stood_in r k untold f = λ i. absurd i
 
       by : NodeOf m a t → HasAnswers (step_at q star x a)
       by (has_set r e f) =
           subst (λ n. HasAnswers (at n)) (sym f)
-          (only (made_names star x) (sent (own_part q.signed t) (kept r).ttl (kept r))
-          (inl (found_answer star x a here of (chosen_type m a t) r (asked_stands m a t r e) (own_part q.signed t) own_goes_out)))
+          (only (made_names star x) (as_it_is (own_part q.signed t) (kept r))
+          (found_answer star x a here of (chosen_type m a t) r (asked_stands m a t r e) (own_part q.signed t) own_goes_out))
       by (has_alias r e f g) =
           subst (λ n. HasAnswers (at n)) (sym g)
-          (only (made_names star x) (sent (part_for q.signed) (kept r).ttl (kept r))
-          (inl (found_answer star x a here of CNAME r f (part_for q.signed) (inl (ap part_for signed)))))
+          (only (made_names star x) (as_it_is (part_for q.signed) (kept r)) (found_answer star x a here of CNAME r f (part_for q.signed) (inl refl)))
       by (has_stand_in r e f k g) = subst (λ n. HasAnswers (at n)) (sym g) (stood_in r (aname_stands m a t r k) (stand_in_answer q x (kept r)) refl)
       by (has_nothing e f g) = subst (λ n. HasAnswers (at n)) (sym g) (λ i. absurd i)
 
@@ -196,36 +169,30 @@ module _ (q : Inquiry) (zone : IsZone q.sets) (signed : q.signed ≡ true) (prov
     sets = unless_among before (sent_dname q v)
 
     dname_answers : (all : List RRset) (s : RRset) → In s sets → IsAnswer q [] all s
-    dname_answers all s i =
-        inl (record {
-          part' = part.Signed;
-          goes_out = inl refl;
-          set = inl (record { name = a.name; record_type = DNAME; stored = v; stands = a.stands; ttl = v.ttl; sent = in_unless q before (sent_dname q v) s i ∙ ap (λ b. as_it_is (part_for b) v) signed });
-        })
+    dname_answers all s i = own (part_for q.signed) (inl refl) (record { name = a.name; record_type = DNAME; stored = v; stands = a.stands; sent = in_unless q before (sent_dname q v) s i })
 
     new_name_answers : (o : Option Name) → unless_long (in_place_of v.owner target x) ≡ o → (s : RRset) → In s (new_name_step q.signed t before x v o).answers
         → IsAnswer q (new_name_step q.signed t before x v o).made (before ++ (new_name_step q.signed t before x v o).answers) s
     new_name_answers None e s i = dname_answers (before ++ sets) s i
     new_name_answers (Some n) e s i = by (In-from_append s sets (made_alias v x n ∷ []) i)
       where
-        alias : made_alias v x n ≡ s → IsMadeAlias m (before ++ (sets ++ made_alias v x n ∷ [])) s
+        alias : made_alias v x n ≡ s → IsMadeAlias q (before ++ (sets ++ made_alias v x n ∷ [])) s
         alias same = record {
-          dname = as_it_is part.Signed v;
-          among =
-              In-Contains (as_it_is part.Signed v) (before ++ (sets ++ made_alias v x n ∷ []))
-              (subst (λ b. In (as_it_is (part_for b) v) (before ++ (sets ++ made_alias v x n ∷ []))) signed (stands_among q zone before (made_alias v x n ∷ []) x v dnames a));
-          record_type = a.type';
-          stands = record { name = a.name; record_type = DNAME; stored = v; stands = a.stands; ttl = v.ttl; sent = refl };
+          dname = sent_dname q v;
+          among = In-Contains (sent_dname q v) (before ++ (sets ++ made_alias v x n ∷ [])) (stands_among q zone before (made_alias v x n ∷ []) x v dnames a);
+          record_type = sent_type (part_for q.signed) v.ttl v ∙ a.type';
+          stands = record { name = a.name; record_type = DNAME; stored = v; stands = a.stands; sent = refl };
           target = target;
-          told = sent_dname_target v ∙ told;
+          told = sent_target q v ∙ told;
           name = x;
-          below = subst (λ k. IsAbove k x) (sym a.owner) a.above;
-          made = sym same ∙ ap (made_alias v x) (short_is (in_place_of v.owner target x) n e);
+          below = subst (λ k. IsAbove k x) (sym (ap lower (sent_owner (part_for q.signed) v.ttl v) ∙ a.owner)) a.above;
+          made = sym same ∙ ap (made_alias v x) (short_is (in_place_of v.owner target x) n e) ∙ sent_alias q v x target;
+          ttl = ap (λ (r : RRset). r.ttl) (sym same) ∙ sym (sent_ttl (part_for q.signed) v);
         }
 
         by : In s sets ⊎ In s (made_alias v x n ∷ []) → IsAnswer q [] (before ++ (sets ++ made_alias v x n ∷ [])) s
         by (inl k) = dname_answers (before ++ (sets ++ made_alias v x n ∷ [])) s k
-        by (inr (inl same)) = inr (inl (alias same))
+        by (inr (inl same)) = of_dname (alias same)
         by (inr (inr k)) = absurd k
 
   step_answers : (before : List RRset) → AreDnames q before → (x : Name) (s : RRset) → In s (step q before x).answers → IsAnswer q (step q before x).made (before ++ (step q before x).answers) s
@@ -237,21 +204,17 @@ module _ (q : Inquiry) (zone : IsZone q.sets) (signed : q.signed ≡ true) (prov
       of : (v : Step) → step q before x ≡ v → HasAnswers v → HasAnswers (step q before x)
       of v e h = subst HasAnswers (sym e) h
 
-      of_name : (made : List Name) (all : List RRset) → OfName q made s → IsAnswer q made all s
-      of_name made all (inl a) = inl a
-      of_name made all (inr a) = inr (inr a)
-
       by : StepOf q before x → HasAnswers (step q before x)
       by (leaves i e) = of (at_end (outside x)) e (λ i. absurd i)
       by (refers r i f e) = of (at_end (referred r)) e (λ i. absurd i)
-      by (fails e) = of (at_end failed) e (λ i. absurd i)
+      by (fails r f g e) = of (at_end failed) e (λ i. absurd i)
       by (new_name v target o f told g e) = of (new_name_step q.signed t before x v o) e (new_name_answers before dnames x v target (turned_by q zone x v f) told o g s)
-      by (at_name u there e) = of (step_at q None x x) e (λ i. of_name (step_at q None x x).made (before ++ (step_at q None x x).answers) (node_answers None x x (λ k. refl) (λ w k. absurd cc) s i))
+      by (at_name u there e) = of (step_at q None x x) e (λ i. node_answers None x x (λ k. refl) (λ w k. absurd cc) s i (before ++ (step_at q None x x).answers))
       by (no_star u absent f e) = of (at_end (missing x None false)) e (λ i. absurd i)
       by (at_star w u absent f g e) =
           of (step_at q (Some w) x w) e
-          (λ i. of_name (step_at q (Some w) x w).made (before ++ (step_at q (Some w) x w).answers)
-          (node_answers (Some w) x w (λ k. absurd cc) (λ v k. (same w v k, subst (IsMade q x) (same w v k) (record { unturned = u; absent = absent; star = f }))) s i))
+          (λ i. node_answers (Some w) x w (λ k. absurd cc) (λ v k. (same w v k, subst (IsMade q x) (same w v k) (record { unturned = u; absent = absent; star = f }))) s i
+          (before ++ (step_at q (Some w) x w).answers))
         where
           same : (a b : Name) → Some a ≡ Some b → a ≡ b
           same a b e = cc
@@ -287,12 +250,10 @@ module _ (q : Inquiry) (zone : IsZone q.sets) (signed : q.signed ≡ true) (prov
       either p h s i = subst (λ all. IsAnswer q (made ++ p.made) all s) (append_assoc before answers p.answers) (of (In-from_append s answers p.answers i))
         where
           more_made : (more : List Name) → ((y : Name) → In y more → In y (made ++ p.made)) → IsAnswer q more ((before ++ answers) ++ p.answers) s → IsAnswer q (made ++ p.made) ((before ++ answers) ++ p.answers) s
-          more_made more all (inl f) = inl (among_more q more (made ++ p.made) s all f)
-          more_made more all (inr (inl a)) = inr (inl a)
-          more_made more all (inr (inr a)) = inr (inr (stood_among_more q more (made ++ p.made) s all a))
+          more_made more more_of = among_more q more (made ++ p.made) ((before ++ answers) ++ p.answers) s more_of
 
           of : In s answers ⊎ In s p.answers → IsAnswer q (made ++ p.made) ((before ++ answers) ++ p.answers) s
-          of (inl u) = more_made made (λ y. In-append_left y made p.made) (in_longer q made (before ++ answers) p.answers s (step_answers before dnames x s u))
+          of (inl u) = more_made made (λ y. In-append_left y made p.made) (origin_in_longer q (before ++ answers) s (ByStarOf q made) p.answers (step_answers before dnames x s u))
           of (inr u) = more_made p.made (λ y. In-append_right y made p.made) (h s u)
 
       by : From → (b : Bool) → Answer before (cond b (ended unfollowed) (behind answers made (rest (next_behind q before x))))

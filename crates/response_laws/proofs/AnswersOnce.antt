@@ -260,7 +260,7 @@ module _ (q : Inquiry) (zone : IsZone q.sets) where
         by : StepOf q before x → OnceOf (step q before x).answers
         by (leaves i e) = of (at_end (outside x)) e none
         by (refers s i f e) = of (at_end (referred s)) e none
-        by (fails e) = of (at_end failed) e none
+        by (fails s f g e) = of (at_end failed) e none
         by (new_name s target o f told g e) = of (new_name_step q.signed t before x s o) e (new_name_once s (turned_by q zone x s f) o)
         by (at_name u there e) = of (step_at q None x x) e (node_once None x (λ k. refl))
         by (no_star u absent f e) = of (at_end (missing x None false)) e none

@@ -11,9 +11,9 @@ use Rattle.zone_response.specs.declared.response.Part.TheVariants as part
 use Rattle.zone_response.specs.Responses.{negative_ttl, child_ds, ds_at, end_sets}
 use Rattle.zone_response.specs.Sections.{sent, as_it_is}
 use Rattle.zone_response.specs.Steps.{End, complete, referred, missing, outside, unfollowed, too_long, failed}
-use Rattle.response_laws.specs.ProvedSayings.{IsSentSet, authority_part}
 use Rattle.response_laws.proofs.OwnerSets.{AreOwners}
 use Rattle.response_laws.proofs.Parts.{as_proof}
+use Rattle.response_laws.proofs.SentSets.{IsSentSet, authority_part}
 
 module _ (m : Sets) (zone : IsZone m) where
   -- ---- the sets

@@ -160,4 +160,4 @@ module _ (z : Zone) (zone : IsZone z.sets) (q : Query) (r : Sections) (h : IsMad
       by : ((k : RRset) → In k (end_sets (ds_at z.sets ends) q.signed h.soa ends) → is_denial_type k.record_type ≡ false) → (s k : RRset) → In s (map (as_proof (negative_ttl h.soa)) h.proofs) → In k (end_sets (ds_at z.sets ends) q.signed h.soa ends) → is_alike s k ≡ false
       by plain s k i j =
           let v = In-from_map (as_proof (negative_ttl h.soa)) s h.proofs i in
-          other_type s k (differ s k (ap (λ (s : RRset). is_denial_type s.record_type) (sym v.2) ∙ h.denials v.0 v.1) (plain k j) (k.record_type == s.record_type) refl)
+          other_type s k (differ s k (ap (λ (s : RRset). is_denial_type s.record_type) (sym v.2) ∙ (h.denials v.0 v.1).denial) (plain k j) (k.record_type == s.record_type) refl)

@@ -1,5 +1,5 @@
 -- What proves something in a response are sets of denial
-use Rattle.std.proofs.Common.{◌≡◌, Bool, true, false, cond, List, [], ◌∷◌, ◌++◌, refl, ap, subst, inl, inr}
+use Rattle.std.proofs.Common.{◌≡◌, ℕ, Bool, true, false, cond, List, [], ◌∷◌, ◌++◌, refl, ap, ◌∙◌, subst, inl, inr}
 use Rattle.std.specs.Prelude.{Option, Some, None, Result, Ok, Err, fold, option_and_then, option_to_list}
 use Rattle.std.specs.List.{list_any}
 use Rattle.zone_proto.specs.declared.error.ProtoError.{ProtoError}
@@ -19,72 +19,83 @@ use Rattle.zone_response.specs.Steps.{End, referred, missing}
 use Rattle.response_laws.proofs.HashedSets.{Gives, each_of_both, of_denial, of_lack}
 use Rattle.response_laws.proofs.NsecSets.{closest_sets, closest_owners}
 
--- each set is one of denial
-abbrev pub AreDenials : List RRset → Type 0
-AreDenials sets = (s : RRset) → In s sets → is_denial_type s.record_type ≡ true
+-- a set of denial that is its owner's
+pub record IsDenial (m : Sets) (s : RRset) : Type 0 where
+  pub denial : is_denial_type s.record_type ≡ true
+  pub stands : set_at m (lower s.owner) s.record_type ≡ Some s
 
-denials_of_both : (sets more : List RRset) → AreDenials sets → AreDenials more → AreDenials (sets ++ more)
-denials_of_both = each_of_both (λ s. is_denial_type s.record_type ≡ true)
+abbrev pub AreDenials : Sets → List RRset → Type 0
+AreDenials m sets = (s : RRset) → In s sets → IsDenial m s
 
 module _ (z : Zone) (zone : IsZone z.denials) where
   abbrev m : Sets
   m = z.denials
 
-  nsec3_set : (o : Name) (s : RRset) → set_at z.denials o NSEC3 ≡ Some s → is_denial_type s.record_type ≡ true
-  nsec3_set o s e = ap is_denial_type (zone.stored o NSEC3 s e).record_type
+  -- each set is one of denial
+  abbrev AreAll : List RRset → Type 0
+  AreAll = AreDenials z.denials
 
-  of_closest : (x : Name) → AreDenials (closest_sets m zone x)
-  of_closest x s i = ap is_denial_type (zone.stored (lower s.owner) NSEC s (closest_owners m zone x s i)).record_type
+  denials_of_both : (sets more : List RRset) → AreAll sets → AreAll more → AreAll (sets ++ more)
+  denials_of_both = each_of_both (IsDenial z.denials)
 
-  of_star : (x : Name) → Gives AreDenials (star_proof z x)
+  is_denial : (o : Name) (t : ℕ) (s : RRset) → is_denial_type t ≡ true → set_at z.denials o t ≡ Some s → IsDenial z.denials s
+  is_denial o t s d e = let k = zone.stored o t s e in record { denial = ap is_denial_type k.record_type ∙ d; stands = (λ i. set_at m (k.owner i) (k.record_type i)) ∙ e }
+
+  nsec3_set : (o : Name) (s : RRset) → set_at z.denials o NSEC3 ≡ Some s → IsDenial z.denials s
+  nsec3_set o s e = is_denial o NSEC3 s refl e
+
+  of_closest : (x : Name) → AreAll (closest_sets m zone x)
+  of_closest x s i = is_denial (lower s.owner) NSEC s refl (closest_owners m zone x s i)
+
+  of_star : (x : Name) → Gives AreAll (star_proof z x)
   of_star x = by z.nx_proof_kind
     where
-      by : (k : Option NxProofKind) → Gives AreDenials (star_proof_by z k x)
+      by : (k : Option NxProofKind) → Gives AreAll (star_proof_by z k x)
       by None = of_closest x
       by (Some kind.Nsec) = of_closest x
-      by (Some (kind.Nsec3 algorithm salt iterations opt_out)) = of_denial (λ s. is_denial_type s.record_type ≡ true) m nsec3_set (hashed_owner_of z algorithm salt iterations) true x
+      by (Some (kind.Nsec3 algorithm salt iterations opt_out)) = of_denial (IsDenial m) m nsec3_set (hashed_owner_of z algorithm salt iterations) true x
 
-  denied : (x : Name) (star : Option Name) → Gives AreDenials (denial z x star)
+  denied : (x : Name) (star : Option Name) → Gives AreAll (denial z x star)
   denied x star = by z.nx_proof_kind
     where
-      at_star : (star : Option Name) → AreDenials (option_to_list (option_and_then (closest_nsec m) star))
+      at_star : (star : Option Name) → AreAll (option_to_list (option_and_then (closest_nsec m) star))
       at_star (Some w) = of_closest w
       at_star None = λ s i. absurd i
 
-      by : (k : Option NxProofKind) → Gives AreDenials (denial_by z k x star)
+      by : (k : Option NxProofKind) → Gives AreAll (denial_by z k x star)
       by None = denials_of_both (closest_sets m zone x) (option_to_list (option_and_then (closest_nsec m) star)) (of_closest x) (at_star star)
       by (Some kind.Nsec) = denials_of_both (closest_sets m zone x) (option_to_list (option_and_then (closest_nsec m) star)) (of_closest x) (at_star star)
-      by (Some (kind.Nsec3 algorithm salt iterations opt_out)) = of_lack (λ s. is_denial_type s.record_type ≡ true) m nsec3_set (hashed_owner_of z algorithm salt iterations) x star
+      by (Some (kind.Nsec3 algorithm salt iterations opt_out)) = of_lack (IsDenial m) m nsec3_set (hashed_owner_of z algorithm salt iterations) x star
 
-  of_end : (ds : Option RRset) (e : End) → Gives AreDenials (end_proof z ds e)
+  of_end : (ds : Option RRset) (e : End) → Gives AreAll (end_proof z ds e)
   of_end ds (missing x star there) = denied x star
   of_end None (referred c) = denied (lower c.owner) None
   of_end (Some s) (referred c) = λ r i. absurd i
   of_end ds _ = λ r i. absurd i
 
-  with_one : (sets : List RRset) (s : RRset) → AreDenials sets → is_denial_type s.record_type ≡ true → AreDenials (with_new same_owner sets s)
+  with_one : (sets : List RRset) (s : RRset) → AreAll sets → IsDenial m s → AreAll (with_new same_owner sets s)
   with_one sets s h e = new (list_any (λ y. same_owner y s) sets)
     where
-      new : (b : Bool) → AreDenials (cond b sets (sets ++ s ∷ []))
+      new : (b : Bool) → AreAll (cond b sets (sets ++ s ∷ []))
       new true = h
       new false = denials_of_both sets (s ∷ []) h one
         where
-          one : AreDenials (s ∷ [])
-          one r (inl q) = subst (λ v. is_denial_type v.record_type ≡ true) q e
+          one : AreAll (s ∷ [])
+          one r (inl q) = subst (IsDenial m) q e
           one r (inr i) = absurd i
 
-  with_all : (sets more : List RRset) → AreDenials sets → AreDenials more → AreDenials (fold (with_new same_owner) sets more)
+  with_all : (sets more : List RRset) → AreAll sets → AreAll more → AreAll (fold (with_new same_owner) sets more)
   with_all sets [] h k = h
   with_all sets (s ∷ more) h k = with_all (with_new same_owner sets s) more (with_one sets s h (k s (inl refl))) (λ r i. k r (inr i))
 
-  of_together : (sets more : Result (List RRset) ProtoError) → Gives AreDenials sets → Gives AreDenials more → Gives AreDenials (together sets more)
+  of_together : (sets more : Result (List RRset) ProtoError) → Gives AreAll sets → Gives AreAll more → Gives AreAll (together sets more)
   of_together (Ok sets) (Ok more) h k = with_all sets more h k
   of_together (Ok sets) (Err e) h k = tt
   of_together (Err e) more h k = tt
 
-  of_stars : (made : List Name) (sets : Result (List RRset) ProtoError) → Gives AreDenials sets → Gives AreDenials (fold (with_star_proof z) sets made)
+  of_stars : (made : List Name) (sets : Result (List RRset) ProtoError) → Gives AreAll sets → Gives AreAll (fold (with_star_proof z) sets made)
   of_stars [] sets h = h
   of_stars (x ∷ made) sets h = of_stars made (with_star_proof z sets x) (of_together sets (star_proof z x) h (of_star x))
 
-  pub proofs_are_denials : (ds : Option RRset) (made : List Name) (e : End) (sets : List RRset) → proofs z ds made e ≡ Ok sets → AreDenials sets
-  proofs_are_denials ds made e sets is = subst (Gives AreDenials) is (of_together (fold (with_star_proof z) (Ok []) made) (end_proof z ds e) (of_stars made (Ok []) (λ s i. absurd i)) (of_end ds e))
+  pub proofs_are_denials : (ds : Option RRset) (made : List Name) (e : End) (sets : List RRset) → proofs z ds made e ≡ Ok sets → AreDenials z.denials sets
+  proofs_are_denials ds made e sets is = subst (Gives AreAll) is (of_together (fold (with_star_proof z) (Ok []) made) (end_proof z ds e) (of_stars made (Ok []) (λ s i. absurd i)) (of_end ds e))

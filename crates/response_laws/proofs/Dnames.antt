@@ -2,7 +2,6 @@
 use Rattle.std.proofs.Common.{◌≡◌, ℕ, Bool, true, false, cond, ◌&&◌, ◌||◌, not, List, [], ◌∷◌, ◌++◌, map, refl, sym, ap, ◌∙◌, subst, true≢false, ◌⊎◌, inl, inr, eqb-true}
 use Rattle.std.specs.Prelude.{Some, None, nat_lt, ◌==◌}
 use Rattle.std.specs.List.{list_any}
-use Rattle.std.specs.Option.{option_map_or}
 use Rattle.std.proofs.lemmas.List.{map-append}
 use Rattle.zone_proto.specs.declared.record.Record.{Record}
 use Rattle.zone_proto.specs.NameLaws.{caseless_eq_equiv}
@@ -22,6 +21,7 @@ use Rattle.zone_response.specs.Sections.{with_ttl, as_it_is, part_for, is_signed
 use Rattle.zone_response.specs.Turns.{DNAME, renaming, turn}
 use Rattle.response_laws.specs.Sayings.{asks_alias, is_of, renames, leads_to, last_name}
 use Rattle.response_laws.proofs.Leads.{same_in_lower, sent_owner, sent_type}
+use Rattle.response_laws.proofs.Passages.{passed_over}
 use Rattle.response_laws.proofs.Stepped.{IsUnturned}
 use Rattle.response_laws.proofs.Turned.{turned_first, renaming_set, renaming_uncut, renaming_unturned}
 
@@ -174,7 +174,7 @@ module _ (q : Inquiry) where
       where
         by : (b : Bool) → last_name t x (cond b [] (sent_dname s ∷ []) ++ more) ≡ last_name t x more
         by true = refl
-        by false = ap (λ b. cond b (last_name t x more) (option_map_or (λ target. last_name t target more) (leads_to t x (sent_dname s)) (record { name = x; sets = sent_dname s ∷ more }))) is_above_x
+        by false = passed_over t x (sent_dname s) more is_above_x
 
   -- the CNAME that it makes leads on, unless it is what is asked for
   pub alias_leads : (x n : Name) (s : RRset) → asks_alias t ≡ false → leads_to t x (made_alias s x n) ≡ Some (lower n)

@@ -24,8 +24,8 @@ use Rattle.zone_acceptance.proofs.Nsec3Calls.{nsec3_parameters_found}
 use Rattle.zone_response.specs.declared.response.Part.{Part}
 use Rattle.zone_response.specs.declared.response.Part.TheVariants as part
 use Rattle.zone_response.specs.Sections.{with_ttl}
-use Rattle.response_laws.specs.ProvedSayings.{IsSentSet, authority_part}
 use Rattle.response_laws.proofs.ReadSets.{nsec3_reader}
+use Rattle.response_laws.proofs.SentSets.{IsSentSet, authority_part}
 
 -- ---- records without regard to their TTLs
 

@@ -32,13 +32,13 @@ use Rattle.response_laws.specs.HashedSayings.{zone_hash, DeniesByNsec3, HashesAp
 use Rattle.response_laws.specs.Sayings.{name_error, saying}
 use Rattle.response_laws.proofs.HashedNames.{origin_there, encloser_agrees}
 use Rattle.response_laws.proofs.HashedParts.{of_missing}
-use Rattle.response_laws.proofs.HashedProved.{records_proved, sound_proved, shown_of, hashed_name, judged_name, asked_star, off}
+use Rattle.response_laws.proofs.HashedProved.{same_name, records_proved, sound_proved, shown_of, hashed_name, judged_name, asked_star, off}
 use Rattle.response_laws.proofs.HashedShown.{IsEncloserShown}
 use Rattle.response_laws.proofs.HashedSummed.{sum_of_error}
 use Rattle.response_laws.proofs.HashedTold.{IsHashedName, away, below, enclosed, not_handed, opted_out_is, error_proved}
 use Rattle.response_laws.proofs.LastNames.{IsMissing, bare, bare_star, starless, gone}
 use Rattle.response_laws.proofs.Parts.{path_of, IsMadeOf}
-use Rattle.response_laws.proofs.SaidNames.{reached_unturned, soa_shown, IsMissingName, missing_said}
+use Rattle.response_laws.proofs.SaidNames.{reached_unturned, IsMissingName, missing_said}
 use Rattle.response_laws.proofs.Stepped.{IsUnturned}
 
 module _ (z : Zone) (parameters : Nsec3Parameters) (q : Query) (r : Sections) (d : DeniesByNsec3 z parameters) (signed : q.signed ≡ true) (h : IsMadeOf z q r) where
@@ -79,7 +79,7 @@ module _ (z : Zone) (parameters : Nsec3Parameters) (q : Query) (r : Sections) (d
 
   module _ (x : Name) (u : IsUnturned (inquiry z q) x) (apart : HashesApart z parameters x) where
     abbrev k : IsReached o m x
-    k = reached_unturned z q d.no_dname x u
+    k = reached_unturned z q d.top.no_dname x u
 
     abbrev j : IsHashedName o m hash parameters x
     j = hashed_name z parameters q r d signed h x k apart
@@ -167,11 +167,11 @@ module _ (z : Zone) (parameters : Nsec3Parameters) (q : Query) (r : Sections) (d
           by true f = or_right (proves_name_error o hash rs x) (proves_opted_out o hash rs x) (out_is ∙ f)
           by false f = or_left (proves_name_error o hash rs x) (proves_opted_out o hash rs x) (error_shown none (λ e. absurd (true≢false (sym e ∙ f))))
 
-      error_told : (there : Bool) → (path_of z q).end ≡ missing x (Some w) there → exists m w ≡ false → IsHashedError z parameters r x
-      error_told there end none = record {
-        soa = soa_shown z q r zone signed h x (Some w) there end;
+      error_told : (there : Bool) → (path_of z q).end ≡ missing x (Some w) there → star_of m x ≡ Some w → exists m w ≡ false → IsHashedError z parameters r x
+      error_told there end source none = record {
         proved = error_shown none;
         told = λ has u. sum_of_error o hash rs x u unhanded parameters.opt_out out_is (error_shown none has);
+        one_star = λ all_in e is. source ∙ ap Some (sym (s.agrees all_in) ∙ ap star_under (same_name s.encloser e (sym s.is.is_encloser ∙ is)));
         left_out = nsec3_absence_sound o m hash parameters rs x t d.circle apart of_zone (out_by parameters.opt_out refl none);
         none = λ all_in unhashed.
             (sound_proved z parameters q r d signed h x (judged_name z parameters q r d signed h x k apart all_in unhashed)).error (error_shown none (λ f. absurd (true≢false (sym f ∙ all_in))));
@@ -185,13 +185,13 @@ module _ (z : Zone) (parameters : Nsec3Parameters) (q : Query) (r : Sections) (d
       -- a name below the origin has a star
       has_star : (x : Name) → IsUnturned (inquiry z q) x → HashesApart z parameters x → exists m x ≡ false → star_of m x ≡ None → ⊥
       has_star x u apart absent f =
-          let j = hashed_name z parameters q r d signed h x (reached_unturned z q d.no_dname x u) apart in
+          let j = hashed_name z parameters q r d signed h x (reached_unturned z q d.top.no_dname x u) apart in
           let e = longest_above (exists m) x o (below j (off z parameters q r d signed h x absent)) (origin_there o m parameters.opt_out announced d.one_kind) in
           let p : None ≡ Some (star_under e.0) = sym f ∙ ap (option_map star_under) e.1.found in
           cc
 
       at_star : (w : Name) → (path_of z q).end ≡ missing x (Some w) false → exists m x ≡ false → star_of m x ≡ Some w → exists m w ≡ false → IsUnturned (inquiry z q) x → IsHashedError z parameters r x
-      at_star w end absent source none u = error_told x u apart w (absent_shown x u apart w false end absent source) false end none
+      at_star w end absent source none u = error_told x u apart w (absent_shown x u apart w false end absent source) false end source none
 
       of : (star : Option Name) → (path_of z q).end ≡ missing x star false → IsUnturned (inquiry z q) x → IsMissing (inquiry z q) x star false → IsHashedError z parameters r x
       of star end u (bare e f g b) = absurd (true≢false (sym e))

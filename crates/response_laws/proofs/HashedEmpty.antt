@@ -42,7 +42,7 @@ use Rattle.response_laws.proofs.HashedTold.{IsHashedName, away, below, enclosed,
 use Rattle.response_laws.proofs.HashedTypes.{own_denies}
 use Rattle.response_laws.proofs.LastNames.{IsBare, IsMissing, bare, bare_star, starless, gone}
 use Rattle.response_laws.proofs.Parts.{path_of, IsMadeOf}
-use Rattle.response_laws.proofs.SaidNames.{reached_unturned, soa_shown, missing_said}
+use Rattle.response_laws.proofs.SaidNames.{reached_unturned, missing_said}
 use Rattle.response_laws.proofs.Stepped.{IsUnturned}
 
 module _ (z : Zone) (parameters : Nsec3Parameters) (q : Query) (r : Sections) (d : DeniesByNsec3 z parameters) (signed : q.signed ≡ true) (h : IsMadeOf z q r) where
@@ -78,7 +78,7 @@ module _ (z : Zone) (parameters : Nsec3Parameters) (q : Query) (r : Sections) (d
 
   module _ (x : Name) (u : IsUnturned (inquiry z q) x) (apart : HashesApart z parameters x) where
     abbrev k : IsReached o m x
-    k = reached_unturned z q d.no_dname x u
+    k = reached_unturned z q d.top.no_dname x u
 
     abbrev j : IsHashedName o m hash parameters x
     j = hashed_name z parameters q r d signed h x k apart
@@ -160,10 +160,10 @@ module _ (z : Zone) (parameters : Nsec3Parameters) (q : Query) (r : Sections) (d
 
         by : (b : Bool) → (t == DS) ≡ b → t ≡ DS
         by true e = eqb-true t DS e
-        by false e = absurd (true≢false (sym (beside_soa (inquiry z q) x u d.unreferred e cut.delegated) ∙ cut.no_apex))
+        by false e = absurd (true≢false (sym (beside_soa (inquiry z q) x u d.top.unreferred e cut.delegated) ∙ cut.no_apex))
 
     no_data_by : IsHashedShowable o m x t → In x names → In (record_of j.zone j.apart x) rs → IsBare m x t → proves_no_data o hash rs x t ≡ true
-    no_data_by s on own b = own_denied j rs of_zone on own t (own_denies j.zone j.apart x t b s.no_signature s.no_apex (beside_soa (inquiry z q) x u d.unreferred))
+    no_data_by s on own b = own_denied j rs of_zone on own t (own_denies j.zone j.apart x t b s.no_signature s.no_apex (beside_soa (inquiry z q) x u d.top.unreferred))
 
     star_data_by : IsHashedShowable o m x t → exists m x ≡ false → (a c : Name) (out : on_circle x ≡ false) (e : IsEnclosed o m parameters.opt_out x a c) (has : IsEncloserShown j.zone j.apart a c rs) → star_of m x ≡ Some (star_under a)
         → In (star_under a) names → In (record_of j.zone j.apart (star_under a)) rs → IsBare m (star_under a) t → proves_wildcard_no_data o hash rs x t ≡ true
@@ -223,7 +223,6 @@ module _ (z : Zone) (parameters : Nsec3Parameters) (q : Query) (r : Sections) (d
       let s = missing_said z q r zone signed h true x e in
       let b = bare_by x s.unturned apart s.star true s.end refl s.how in
       record {
-        soa = soa_shown z q r zone signed h x s.star true s.end;
         proved = λ can. proved_by x s.unturned apart can b;
         told = λ can. told_by x s.unturned apart can b;
         unsigned = unsigned_by x s.unturned apart b;

@@ -51,7 +51,7 @@ parameters opt_out = record { algorithm = 1; opt_out = opt_out; iterations = 0; 
 abbrev owner : Name
 owner = hashed_owner origin (64 ∷ [])
 
-abbrev own_set : Bool → RRset
+abbrev pub own_set : Bool → RRset
 own_set opt_out = record {
   owner = hashed_owner origin (64 ∷ []);
   record_type = NSEC3;
@@ -68,10 +68,10 @@ announcing opt_out = (entry origin NSEC3PARAM (V.NSEC3PARAM (parameters opt_out)
 abbrev announced : Bool → Sets
 announced opt_out = put bare origin NSEC3PARAM (announcing opt_out)
 
-abbrev alone : Bool → Sets
+abbrev pub alone : Bool → Sets
 alone opt_out = put (announced opt_out) owner NSEC3 (own_set opt_out)
 
-abbrev zone : Bool → Zone
+abbrev pub zone : Bool → Zone
 zone opt_out = record {
   origin = origin;
   sets = alone opt_out;
@@ -170,7 +170,7 @@ announcing_stored opt_out = record { named = name_by_tests origin refl refl; own
 own_stored : (opt_out : Bool) → IsStoredAt owner NSEC3 (own_set opt_out)
 own_stored opt_out = record { named = name_by_tests owner refl refl; owner = refl; record_type = refl; filled = λ e. cc; set = IsSet-alone owner NSEC3 _ refl refl }
 
-alone_zone : (opt_out : Bool) → IsZone (alone opt_out)
+pub alone_zone : (opt_out : Bool) → IsZone (alone opt_out)
 alone_zone opt_out =
     IsZone-put (announced opt_out) (key owner NSEC3) (own_set opt_out) (IsZone-put bare (key origin NSEC3PARAM) (announcing opt_out) bare_zone (announcing_stored opt_out)) (own_stored opt_out)
 
@@ -267,22 +267,21 @@ denies opt_out = record {
   denials = refl;
   circle = alone_is_nsec3_zone opt_out;
   one_kind = λ n. unowned opt_out n NSEC refl refl refl refl;
-  unreferred = λ a u k. absurd (true≢false (sym k ∙ unowned opt_out a NS refl refl refl refl));
-  no_dname = λ a u. unowned opt_out a DNAME refl refl refl refl;
+  top = record { unreferred = λ a u k. absurd (true≢false (sym k ∙ unowned opt_out a NS refl refl refl refl)); no_dname = λ a u. unowned opt_out a DNAME refl refl refl refl };
 }
 
 -- ---- and a name that isn't there is proved so
 
-abbrev response : Bool → Sections
+abbrev pub response : Bool → Sections
 response opt_out = sections code.NXDomain [] (sent part.Signed 60 start.1 ∷ sent part.Signed 60 (own_set opt_out) ∷ [])
 
-of_missing : (opt_out : Bool) → IsResponse (zone opt_out) (asked b A) (response opt_out)
+pub of_missing : (opt_out : Bool) → IsResponse (zone opt_out) (asked b A) (response opt_out)
 unfolding path
 of_missing true = record { code = refl; authoritative = refl; answers = refl; authorities = refl; additionals = refl; glue = refl; left_at = refl }
 of_missing false = record { code = refl; authoritative = refl; answers = refl; authorities = refl; additionals = refl; glue = refl; left_at = refl }
 
 missing_proved : (opt_out : Bool) → IsHashedError (zone opt_out) (parameters opt_out) (response opt_out) b
-missing_proved opt_out = (response_proves_by_hashes (zone opt_out) (parameters opt_out) (asked b A) (response opt_out) (denies opt_out) refl (of_missing opt_out)).error b refl (table_tells_apart opt_out)
+missing_proved opt_out = (response_proves_by_hashes (zone opt_out) (parameters opt_out) (asked b A) (response opt_out) (denies opt_out) refl (of_missing opt_out)).says.error b refl (table_tells_apart opt_out)
 
 -- the standard has a proof of it, with opt-out too
 has_proof : (opt_out : Bool) → HasErrorProof (zone opt_out) (parameters opt_out) b

@@ -7,7 +7,7 @@ use Rattle.zone_proto.specs.declared.rdata.denial.NSEC3PARAM.{NSEC3PARAM as Nsec
 use Rattle.zone_proto.specs.HashedOwners.{owner_or_refusal}
 use Rattle.zone_proto.specs.Names.{Name, lower, IsAbove, star_under, is_at_or_above}
 use Rattle.zone_proto.specs.Sets.{RRset}
-use Rattle.zone_proto.specs.Types.{NS, NSEC3, NSEC3PARAM, ANAME}
+use Rattle.zone_proto.specs.Types.{NS, RRSIG, NSEC3, NSEC3PARAM}
 use Rattle.zone_proto.proofs.Members.{In, In-Contains, Contains-In}
 use Rattle.zone_proto.proofs.Names.NameTree.{is_at_or_above_sound}
 use Rattle.zone_map.specs.Wildcards.{exists, renamed, closest_encloser as found_encloser}
@@ -29,26 +29,27 @@ use Rattle.zone_acceptance.proofs.Nsec3LeftOut.{nsec3_opt_out_sound}
 use Rattle.zone_acceptance.proofs.Nsec3Readings.{from_read, record_of}
 use Rattle.zone_acceptance.proofs.Nsec3Shown.{closer_shown}
 use Rattle.zone_acceptance.proofs.Nsec3Soundness.{nsec3_records_sound}
-use Rattle.zone_response.specs.declared.response.Part.{Part}
 use Rattle.zone_response.specs.Queries.{Zone, Query, inquiry}
 use Rattle.zone_response.specs.Responses.{negative_ttl, ds_at, end_sets}
 use Rattle.zone_response.specs.Sections.{Sections}
 use Rattle.zone_response.specs.Sources.{star_of}
 use Rattle.zone_response.specs.Steps.{End}
-use Rattle.response_laws.specs.HashedSayings.{zone_hash, DeniesByNsec3, HashesApart, IsReached, shown_nsec3, may_leave_out, IsHashedFoundByStar, IsHashedStarSet, IsLacking, shown_records}
-use Rattle.response_laws.specs.ProvedSayings.{IsSentSet, IsMadeAlias, IsMadeAddresses, IsAliasData, IsAnswerPart, authority_part}
+use Rattle.response_laws.specs.Contents.{Origin}
+use Rattle.response_laws.specs.HashedSayings.{zone_hash, DeniesByNsec3, HashesApart, IsReached, shown_nsec3, may_leave_out, IsHashedFoundByStar, IsLacking, shown_records}
+use Rattle.response_laws.specs.ProvedSayings.{IsAliasData}
 use Rattle.response_laws.specs.Sayings.{Saying, data_of, name_error, no_data, referral, saying, name_of}
-use Rattle.response_laws.proofs.Answers.{IsMadeFound, IsFound, IsStoodIn, IsAnswer, IsMadeSet, path_answers}
+use Rattle.response_laws.proofs.Answers.{IsMadeFound, ByStarOf, path_answers}
 use Rattle.response_laws.proofs.HashedCalls.{told_is}
 use Rattle.response_laws.proofs.HashedLacks.{lacking, lacking_named}
 use Rattle.response_laws.proofs.HashedNames.{absent_off, encloser_agrees, encloser_of_star}
 use Rattle.response_laws.proofs.HashedParts.{AreHashedProofs, hashed_proofs}
 use Rattle.response_laws.proofs.HashedTold.{IsHashedName, below, enclosed, answer_proved}
-use Rattle.response_laws.proofs.Parts.{path_of, is_proved_by, IsMadeOf}
+use Rattle.response_laws.proofs.Origins.{origin_by}
+use Rattle.response_laws.proofs.Parts.{path_of, IsMadeOf}
 use Rattle.response_laws.proofs.ReadSets.{nsec3_reader, read_of_zone, read_proof}
 use Rattle.response_laws.proofs.Said.{Said, says_nothing, says_data, says_referral, says_missing, said}
 use Rattle.response_laws.proofs.SaidNames.{same_saying, reached_unturned, reached_cut, authorities_are, authority_of, alias_said}
-use Rattle.response_laws.proofs.StandIns.{made_signatures}
+use Rattle.response_laws.proofs.SentSets.{IsSentSet, authority_part}
 
 -- one for which a test fails
 some_fails : {A : Type 0} (p : A → Bool) (xs : List A) → list_all p xs ≡ false → (x : A) × In x xs × (p x ≡ false)
@@ -59,7 +60,7 @@ some_fails p (x ∷ xs) e = by (p x) refl (some_fails p xs) e
     by false f rest q = (x, inl refl, f)
     by true f rest q = let y = rest q in (y.0, inr y.1, y.2)
 
-same_name : (a b : Name) → Some a ≡ Some b → a ≡ b
+pub same_name : (a b : Name) → Some a ≡ Some b → a ≡ b
 same_name a b e = cc
 
 module _ (z : Zone) (parameters : Nsec3Parameters) (q : Query) (r : Sections) (d : DeniesByNsec3 z parameters) (signed : q.signed ≡ true) (h : IsMadeOf z q r) where
@@ -132,7 +133,7 @@ module _ (z : Zone) (parameters : Nsec3Parameters) (q : Query) (r : Sections) (d
       (read_proof read_nsec3 NSEC3 nsec3_reader (negative_ttl h.soa) h.proofs s.0 n (among s.0 s.1) s.2 (end_sets (ds_at m ends) true h.soa ends))
 
   pub hashed_name : (x : Name) → IsReached z.origin z.sets x → HashesApart z parameters x → IsHashedName z.origin z.sets (zone_hash z parameters) parameters x
-  hashed_name x k apart = record { zone = d.circle; one_kind = d.one_kind; unreferred = d.unreferred; reached = k; apart = apart }
+  hashed_name x k apart = record { zone = d.circle; one_kind = d.one_kind; unreferred = d.top.unreferred; reached = k; apart = apart }
 
   pub judged_name : (x : Name) → IsReached z.origin z.sets x → HashesApart z parameters x → parameters.opt_out ≡ false → owns z.sets x NSEC3 ≡ false → IsNsec3Judged z.origin z.sets (zone_hash z parameters) parameters x
   judged_name x k apart all_in none = record {
@@ -143,7 +144,7 @@ module _ (z : Zone) (parameters : Nsec3Parameters) (q : Query) (r : Sections) (d
     inside = k.inside;
     uncut = k.uncut;
     no_dname = k.no_dname;
-    unreferred = d.unreferred;
+    unreferred = d.top.unreferred;
     no_hashed_owner = none;
   }
 
@@ -161,10 +162,10 @@ module _ (z : Zone) (parameters : Nsec3Parameters) (q : Query) (r : Sections) (d
 
       by : Said z q r → IsReached z.origin z.sets (name_of w) ⊎ IsAliasData z q r w
       by (says_nothing f) = let p : None ≡ Some w = sym f ∙ e in absurd cc
-      by (says_data y sets f g (inl u)) = of (data_of y) f (reached_unturned z q d.no_dname y u)
+      by (says_data y sets f g (inl u)) = of (data_of y) f (reached_unturned z q d.top.no_dname y u)
       by (says_data y sets f g (inr a)) = inr (alias_said z q r zone signed h y sets w (same_saying w (data_of y) (saying q r) e f) g a)
-      by (says_referral y c f g u) = of (referral (lower c.owner)) f (reached_cut z q d.no_dname zone y c u).reached
-      by (says_missing y star there f g u k) = of (cond there (no_data y) (name_error y)) f (either there y (reached_unturned z q d.no_dname y u))
+      by (says_referral y c f g u) = of (referral (lower c.owner)) f (reached_cut z q d.top.no_dname zone y c u).reached
+      by (says_missing y star there f g u k) = of (cond there (no_data y) (name_error y)) f (either there y (reached_unturned z q d.top.no_dname y u))
 
   -- ---- the star that is asked for a name
 
@@ -233,42 +234,12 @@ module _ (z : Zone) (parameters : Nsec3Parameters) (q : Query) (r : Sections) (d
         encloser = w.encloser;
         stored = k.stored;
         stands = ap (λ n. set_at m n u) w.is ∙ k.stands;
-        made = k.is ∙ ap (λ n. renamed true n y k.stored) (sym w.is);
-        proved = star_proved y w.encloser i (reached_unturned z q d.no_dname y k.made.unturned) k.made.absent w.found;
+        made = k.is ∙ (λ i. renamed (signed i || (t == RRSIG)) (sym w.is i) y k.stored);
+        proved = star_proved y w.encloser i (reached_unturned z q d.top.no_dname y k.made.unturned) k.made.absent w.found;
       }
 
-  -- of those that are found
-  found_proved : (s : RRset) → IsFound (inquiry z q) (path_of z q).made s → (p : Part) × IsAnswerPart q.record_type p × (IsSentSet z.sets p s ⊎ IsHashedStarSet z parameters (shown_nsec3 r) p s)
-  found_proved s a = (a.part', a.goes_out, by a.part' a.set)
-    where
-      by : (p : Part) → IsSentSet m p s ⊎ ((y : Name) × In y (path_of z q).made × IsMadeSet (inquiry z q) y p s) → IsSentSet m p s ⊎ IsHashedStarSet z parameters (shown_nsec3 r) p s
-      by p (inl k) = inl k
-      by p (inr (y, i, k)) = inr (record { name = y; record_type = k.record_type; found = k.found; by_star = by_star_proved y i k.record_type k.found k.by_star; ttl = k.ttl; sent = k.sent })
-
-  -- addresses for which an ANAME set stands in
-  addresses_proved : (s : RRset) → IsStoodIn (inquiry z q) (path_of z q).made s → IsMadeAddresses z q (IsHashedFoundByStar z parameters (shown_nsec3 r)) s
-  addresses_proved s a = record {
-    name = a.name;
-    aname = a.aname;
-    stands = by a.stands;
-    made = a.set;
-    leads = a.leads;
-    signatures = made_signatures (inquiry z q) a.name a.aname a.set a.leads ∙ ap (λ b. z.sign b (record a.set { signatures = [] })) signed;
-    signed = a.signed;
-    sent = a.sent;
-  }
-    where
-      by : (set_at m a.name ANAME ≡ Some a.aname) ⊎ (In a.name (path_of z q).made × IsMadeFound (inquiry z q) a.name ANAME a.aname)
-          → (set_at m a.name ANAME ≡ Some a.aname) ⊎ IsHashedFoundByStar z parameters (shown_nsec3 r) a.name ANAME a.aname
-      by (inl k) = inl k
-      by (inr (i, k)) = inr (by_star_proved a.name i ANAME a.aname k)
-
-  pub answers_proved : (s : RRset) → Contains r.answers s
-      → ((p : Part) × IsAnswerPart q.record_type p × (IsSentSet z.sets p s ⊎ IsHashedStarSet z parameters (shown_nsec3 r) p s)) ⊎ IsMadeAlias z.sets r.answers s ⊎ IsMadeAddresses z q (IsHashedFoundByStar z parameters (shown_nsec3 r)) s
-  answers_proved s c = by (path_answers (inquiry z q) zone signed (is_proved_by z q _ signed d.kind) q.name s (subst (In s) h.answers (Contains-In s r.answers c)))
-    where
-      by : IsAnswer (inquiry z q) (path_of z q).made (path_of z q).answers s
-          → ((p : Part) × IsAnswerPart q.record_type p × (IsSentSet z.sets p s ⊎ IsHashedStarSet z parameters (shown_nsec3 r) p s)) ⊎ IsMadeAlias z.sets r.answers s ⊎ IsMadeAddresses z q (IsHashedFoundByStar z parameters (shown_nsec3 r)) s
-      by (inl a) = inl (found_proved s a)
-      by (inr (inl a)) = inr (inl (subst (λ all. IsMadeAlias m all s) (sym h.answers) a))
-      by (inr (inr a)) = inr (inr (addresses_proved s a))
+  pub answers_proved : (s : RRset) → Contains r.answers s → Origin (inquiry z q) r.answers (IsHashedFoundByStar z parameters (shown_nsec3 r)) s
+  answers_proved s c =
+      origin_by (inquiry z q) r.answers s (ByStarOf (inquiry z q) (path_of z q).made) (IsHashedFoundByStar z parameters (shown_nsec3 r)) (λ y u found k. by_star_proved y k.0 u found k.1)
+      (subst (λ all. Origin (inquiry z q) all (ByStarOf (inquiry z q) (path_of z q).made) s) (sym h.answers)
+      (path_answers (inquiry z q) zone q.name s (subst (In s) h.answers (Contains-In s r.answers c))))

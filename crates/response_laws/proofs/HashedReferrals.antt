@@ -25,8 +25,8 @@ use Rattle.zone_response.specs.Queries.{Zone, Query}
 use Rattle.zone_response.specs.Responses.{child_ds, ds_at}
 use Rattle.zone_response.specs.Sections.{Sections}
 use Rattle.zone_response.specs.Steps.{referred}
-use Rattle.response_laws.specs.HashedSayings.{zone_hash, DeniesByNsec3, HashesApart, shown_nsec3, IsHashedUnsigned, IsHashedReferral}
-use Rattle.response_laws.specs.ProvedSayings.{HasAuthority}
+use Rattle.response_laws.specs.HashedSayings.{zone_hash, DeniesByNsec3, HashesApart, shown_nsec3, IsHashedUnsigned}
+use Rattle.response_laws.specs.ProvedSayings.{HasAuthority, IsProvedReferral}
 use Rattle.response_laws.specs.Sayings.{referral, saying}
 use Rattle.response_laws.proofs.HashedParts.{of_child}
 use Rattle.response_laws.proofs.HashedProved.{records_proved, shown_of, hashed_name, there_on}
@@ -56,7 +56,7 @@ module _ (z : Zone) (parameters : Nsec3Parameters) (q : Query) (r : Sections) (d
   rs = shown_nsec3 r
 
   -- a child without DS, which no SOA shows to be an apex
-  module _ (c : RRset) (end : (path_of z q).end ≡ referred c) (unsigned : child_ds m c ≡ None) (k : IsCut z q d.no_dname c) (no_apex : owns m (lower c.owner) SOA ≡ false) (apart : HashesApart z parameters (lower c.owner)) where
+  module _ (c : RRset) (end : (path_of z q).end ≡ referred c) (unsigned : child_ds m c ≡ None) (k : IsCut z q d.top.no_dname c) (no_apex : owns m (lower c.owner) SOA ≡ false) (apart : HashesApart z parameters (lower c.owner)) where
     abbrev child : Name
     child = lower c.owner
 
@@ -79,7 +79,7 @@ module _ (z : Zone) (parameters : Nsec3Parameters) (q : Query) (r : Sections) (d
     under = by (above_cases o child (is_at_or_above_sound o child k.reached.inside))
       where
         by : (o ≡ child) ⊎ IsAbove o child → IsAbove o child
-        by (inl e) = absurd (true≢false (sym (d.unreferred child ([], e) ns) ∙ no_apex))
+        by (inl e) = absurd (true≢false (sym (d.top.unreferred child ([], e) ns) ∙ no_apex))
         by (inr u) = u
 
     proved_by : (b : Bool) → is_named o m parameters.opt_out child ≡ b → IsHashedUnsigned z parameters r child
@@ -128,19 +128,19 @@ module _ (z : Zone) (parameters : Nsec3Parameters) (q : Query) (r : Sections) (d
             })
             ∙ opts
 
-  pub referral_said : (c : Name) → saying q r ≡ Some (referral c) → HashesApart z parameters c → IsHashedReferral z parameters r c
-  referral_said c e = subst (λ n. HashesApart z parameters n → IsHashedReferral z parameters r n) k.child whole
+  pub referral_said : (c : Name) → saying q r ≡ Some (referral c) → IsProvedReferral z r (λ n. HashesApart z parameters n → IsHashedUnsigned z parameters r n) c
+  referral_said c e = subst (IsProvedReferral z r Unsigned) k.child (record { servers = k.servers cut.stands; keys = λ no_apex. keys no_apex k.keys })
     where
+      Unsigned : Name → Type 0
+      Unsigned n = HashesApart z parameters n → IsHashedUnsigned z parameters r n
+
       k : IsReferralTo z q r zone signed h c
       k = referral_of z q r zone signed h c e
 
-      cut : IsCut z q d.no_dname k.set
-      cut = reached_cut z q d.no_dname zone k.last k.set k.refers
+      cut : IsCut z q d.top.no_dname k.set
+      cut = reached_cut z q d.top.no_dname zone k.last k.set k.refers
 
-      keys : HashesApart z parameters (lower k.set.owner) → owns m (lower k.set.owner) SOA ≡ false → HasAuthority z r part.Signed (lower k.set.owner) DS ⊎ (child_ds m k.set ≡ None)
-          → HasAuthority z r part.Signed (lower k.set.owner) DS ⊎ IsHashedUnsigned z parameters r (lower k.set.owner)
-      keys apart no_apex (inl ds) = inl ds
-      keys apart no_apex (inr f) = inr (proved_by k.set k.end f cut no_apex apart (is_named o m parameters.opt_out (lower k.set.owner)) refl)
-
-      whole : HashesApart z parameters (lower k.set.owner) → IsHashedReferral z parameters r (lower k.set.owner)
-      whole apart = record { servers = k.servers cut.stands; keys = λ no_apex. keys apart no_apex k.keys }
+      keys : owns m (lower k.set.owner) SOA ≡ false → HasAuthority z r part.Signed (lower k.set.owner) DS ⊎ (child_ds m k.set ≡ None)
+          → HasAuthority z r part.Signed (lower k.set.owner) DS ⊎ Unsigned (lower k.set.owner)
+      keys no_apex (inl ds) = inl ds
+      keys no_apex (inr f) = inr (λ apart. proved_by k.set k.end f cut no_apex apart (is_named o m parameters.opt_out (lower k.set.owner)) refl)

@@ -2,7 +2,6 @@
 use Rattle.std.proofs.Common.{◌≡◌, ℕ, zero, suc, Bool, true, false, cond, not, ◌&&◌, ◌||◌, List, [], ◌∷◌, ◌++◌, refl, sym, ap, ◌∙◌, subst, ◌⊎◌, inl, inr, true≢false, eqb-true, eq-eqb, arith, append_assoc}
 use Rattle.std.specs.Prelude.{Option, Some, None, ◌==◌}
 use Rattle.std.specs.List.{list_any}
-use Rattle.std.specs.Option.{option_map_or}
 use Rattle.std.proofs.lemmas.List.{append-nil}
 use Rattle.zone_proto.specs.NameLaws.{caseless_eq_equiv}
 use Rattle.zone_proto.specs.Names.{Name, lower, name_eq, is_at_or_above}
@@ -22,9 +21,10 @@ use Rattle.zone_response.specs.Sources.{star_of}
 use Rattle.zone_response.specs.StandIns.{StandInAnswer, addresses, no_addresses, untold, stand_in_answer}
 use Rattle.zone_response.specs.Steps.{End, complete, referred, missing, outside, unfollowed, too_long, failed, Next, on, ends, Step, at_end, made_by, made_names, after_alias, keeps, own_part, stood_in_step, node_step, new_name_step, step_at, step}
 use Rattle.zone_response.specs.Turns.{DNAME, cut, turn}
-use Rattle.response_laws.specs.Sayings.{asks_alias, renames, leads_to, last_name, is_answer}
+use Rattle.response_laws.specs.Sayings.{asks_alias, last_name, is_answer}
 use Rattle.response_laws.proofs.Dnames.{sent_dname, short_is, AreDnames, both_dnames, IsAboveBy, turned_by, told_unturned, stands_among, in_unless, passed, alias_leads as dname_leads, alias_stays}
 use Rattle.response_laws.proofs.Leads.{sent_type, made_type, has_target, lowered_target, follows, asked_stands, found_owner, found_stays, alias_leads, own_leads, own_answers}
+use Rattle.response_laws.proofs.Passages.{led, last_here}
 use Rattle.response_laws.proofs.StandIns.{aname_stands, addresses_of_last, addresses_stay, addresses_lead_nowhere, addresses_answer}
 use Rattle.response_laws.proofs.Stepped.{NodeOf, has_set, has_alias, has_stand_in, has_nothing, node_of, IsUnturned, StepOf, leaves, refers, fails, new_name, at_name, no_star, at_star, star_gone, step_of}
 
@@ -77,9 +77,9 @@ abbrev pub EndOf : Inquiry → List RRset → Name → List RRset → End → Ty
 EndOf q all x answers complete = (IsAnswered q x answers × (IsUnturned q x ⊎ IsAliasAsked q all x answers)) ⊎ IsTold q all x answers
 EndOf q all x answers (referred s) = IsReferred q x s × (answers ≡ []) × IsUntold q all x
 EndOf q all x answers (missing y star there) = IsUnturned q x × IsMissing q x star there × (y ≡ x) × (answers ≡ []) × IsUntold q all x
-EndOf q all x answers (outside y) = (answers ≡ []) × IsUntold q all x
+EndOf q all x answers (outside y) = (y ≡ x) × (answers ≡ []) × IsUntold q all x
 EndOf q all x answers unfollowed = ⊥
-EndOf q all x answers too_long = Unit {0}
+EndOf q all x answers too_long = answers ≡ []
 EndOf q all x answers failed = Unit {0}
 
 -- ---- one step
@@ -98,15 +98,6 @@ pub data StepEnd (q : Inquiry) (before : List RRset) (x : Name) (s : Step) : Typ
 -- nor behind a step that adds none
 still_untold : (q : Inquiry) (before : List RRset) (x : Name) → IsUntold q before x → IsUntold q (before ++ []) x
 still_untold q before x h = ap (list_any (is_told_by q.record_type x)) (append-nil before) ∙ h
-
--- a set that isn't of a name above x is looked at
-module _ (t : ℕ) (x : Name) (r : RRset) (rest : List RRset) (stays : renames x r ≡ false) where
-  led : (target : Name) → leads_to t x r ≡ Some target → last_name t x (r ∷ rest) ≡ last_name t target rest
-  led target e = λ i. cond (stays i) (last_name t x rest) (option_map_or (λ n. last_name t n rest) (e i) (record { name = x; sets = r ∷ rest }))
-
-  -- and if it leads nowhere, it is the last
-  last_here : leads_to t x r ≡ None → last_name t x (r ∷ rest) ≡ record { name = x; sets = r ∷ rest }
-  last_here e = λ i. cond (stays i) (last_name t x rest) (option_map_or (λ n. last_name t n rest) (e i) (record { name = x; sets = r ∷ rest }))
 
 module _ (q : Inquiry) (zone : IsZone q.sets) where
   abbrev t : ℕ
@@ -178,7 +169,7 @@ module _ (q : Inquiry) (zone : IsZone q.sets) where
     are_dnames r i e = record { name = a.name; stored = s; stands = a.stands; sent = in_unless q before (sent_dname q s) r i; unturned = a.unturned }
 
     new_name_end : (o : Option Name) → unless_long (in_place_of s.owner target x) ≡ o → StepEnd q before x (new_name_step q.signed t before x s o)
-    new_name_end None e = comes_to too_long [] refl (ap (last_name t x) (sym (append-nil sets)) ∙ passed q x s a before []) (λ h. tt)
+    new_name_end None e = comes_to too_long [] refl (ap (last_name t x) (sym (append-nil sets)) ∙ passed q x s a before []) (λ h. refl)
     new_name_end (Some n) e = by (asks_alias t) refl
       where
         r : RRset
@@ -229,9 +220,9 @@ module _ (q : Inquiry) (zone : IsZone q.sets) where
       of s e h = subst (StepEnd q before x) (sym e) h
 
       by : StepOf q before x → StepEnd q before x (step q before x)
-      by (leaves i e) = of (at_end (outside x)) e (comes_to (outside x) [] refl refl (λ h. (refl, still_untold q before x h)))
+      by (leaves i e) = of (at_end (outside x)) e (comes_to (outside x) [] refl refl (λ h. (refl, refl, still_untold q before x h)))
       by (refers s i f e) = of (at_end (referred s)) e (comes_to (referred s) [] refl refl (λ h. (record { inside = i; turned = f }, refl, still_untold q before x h)))
-      by (fails e) = of (at_end failed) e (comes_to failed [] refl refl (λ h. tt))
+      by (fails s f g e) = of (at_end failed) e (comes_to failed [] refl refl (λ h. tt))
       by (new_name s target o f told g e) = of (new_name_step q.signed t before x s o) e (new_name_end before dnames x s target (turned_by q zone x s f) told o g)
       by (at_name u there e) = of (step_at q None x x) e (node_end before None x x (λ k. refl) u (λ b. bare refl refl there b))
       by (no_star u absent f e) = of (at_end (missing x None false)) e (comes_to (missing x None false) [] refl refl (λ h. (u, starless refl absent f, refl, refl, still_untold q before x h)))

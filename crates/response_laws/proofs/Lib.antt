@@ -2,9 +2,15 @@ pub mod Told
 pub mod Turned
 pub mod Stepped
 pub mod Leads
+pub mod Passages
 pub mod StandIns
 pub mod Dnames
 pub mod LastNames
+pub mod Starts
+pub mod Faults
+pub mod Hashings
+pub mod SentSets
+pub mod Origins
 pub mod OwnerSets
 pub mod NsecSets
 pub mod HashedSets
@@ -32,6 +38,10 @@ pub mod HashedProved
 pub mod HashedDenied
 pub mod HashedEmpty
 pub mod HashedReferrals
+pub mod OwnDenials
+pub mod Helpful
+pub mod Reasons
+pub mod Filled
 pub mod Responses
 pub mod Once
 pub mod AnswersOnce
@@ -43,6 +53,7 @@ pub mod AgreementSteps
 pub mod AgreementPaths
 pub mod Agreement
 pub mod AgreementProofs
+pub mod Failing
 pub mod AgreementMet
 mod AgreementStandIns
 mod AgreementExamples
@@ -50,3 +61,5 @@ mod SayingExamples
 mod MetPremises
 mod HashedExamples
 mod HashedMetPremises
+mod WrongServers
+mod WrongSets

@@ -27,7 +27,7 @@ use Rattle.response_laws.specs.ProvedSayings.{DeniesByNsec, IsProvedError}
 use Rattle.response_laws.proofs.Responses.{response_proves_what_it_says}
 use Rattle.response_laws.proofs.SayingExamples.{zone, asked, negative, b}
 
-soa_stored : IsStoredAt origin SOA start.1
+pub soa_stored : IsStoredAt origin SOA start.1
 soa_stored = record { named = name_by_tests origin refl refl; owner = refl; record_type = refl; filled = λ e. cc; set = IsSet-alone origin SOA _ refl refl }
 
 key_stored : IsStoredAt origin DNSKEY public_key.1
@@ -39,7 +39,7 @@ nsec_stored = record { named = name_by_tests origin refl refl; owner = refl; rec
 pub bare_zone : IsZone bare
 bare_zone = IsZone-put (start ∷ []) (key origin DNSKEY) public_key.1 (IsZone-put [] (key origin SOA) start.1 IsZone-none soa_stored) key_stored
 
-linked_zone : IsZone (linked bare)
+pub linked_zone : IsZone (linked bare)
 linked_zone = IsZone-put bare (key origin NSEC) bare_set bare_zone nsec_stored
 
 -- ---- under every other key it has what was there
@@ -102,27 +102,26 @@ linked_is_nsec_zone = record {
 
 -- ---- so the zone denies by NSEC
 
-unowned : (n : Name) (t : ℕ) → (t == NSEC) ≡ false → (t == SOA) ≡ false → (t == DNSKEY) ≡ false → owns (linked bare) n t ≡ false
+pub unowned : (n : Name) (t : ℕ) → (t == NSEC) ≡ false → (t == SOA) ≡ false → (t == DNSKEY) ≡ false → owns (linked bare) n t ≡ false
 unowned n t c s k = others n t c ∙ (λ i. is_some (cond (type_apart n origin t SOA s i) (Some start.1) (cond (type_apart n origin t DNSKEY k i) (Some public_key.1) None)))
 
-denies : DeniesByNsec (zone bare)
+pub denies : DeniesByNsec (zone bare)
 denies = record {
   kind = refl;
   denials = refl;
   circle = linked_is_nsec_zone;
   one_kind = λ n. unowned n NSEC3 refl refl refl;
-  unreferred = λ a u k. absurd (true≢false (sym k ∙ unowned a NS refl refl refl));
-  no_dname = λ a u. unowned a DNAME refl refl refl;
+  top = record { unreferred = λ a u k. absurd (true≢false (sym k ∙ unowned a NS refl refl refl)); no_dname = λ a u. unowned a DNAME refl refl refl };
 }
 
 -- ---- and a name that isn't there is proved so
 
-abbrev response : Sections
+abbrev pub response : Sections
 response = negative bare code.NXDomain (origin ∷ [])
 
-of_missing : IsResponse (zone bare) (asked b A) response
+pub of_missing : IsResponse (zone bare) (asked b A) response
 unfolding path
 of_missing = record { code = refl; authoritative = refl; answers = refl; authorities = refl; additionals = refl; glue = refl; left_at = refl }
 
 missing_proved : IsProvedError (zone bare) response b
-missing_proved = (response_proves_what_it_says (zone bare) (asked b A) response denies refl of_missing).error b refl
+missing_proved = (response_proves_what_it_says (zone bare) (asked b A) response denies refl of_missing).says.error b refl

@@ -1,10 +1,9 @@
 -- What a response is made of, where it is more than a code
-use Rattle.std.proofs.Common.{◌≡◌, ℕ, Bool, true, false, cond, not, ◌&&◌, ◌||◌, List, [], ◌∷◌, ◌++◌, map, refl, sym, ap, ◌∙◌, subst, true≢false, ◌⊎◌, inl, inr, append_assoc}
-use Rattle.std.specs.Prelude.{Option, Some, None, is_some, Result, Ok, Err, min, fold, option_and_then, option_to_list, MatchOption, MatchResult, ◌==◌}
+use Rattle.std.proofs.Common.{◌≡◌, ℕ, Bool, true, false, cond, not, ◌||◌, List, [], ◌∷◌, ◌++◌, map, refl, sym, ap, ◌∙◌, subst, true≢false, eq-eqb, ◌⊎◌, inl, inr, append_assoc}
+use Rattle.std.specs.Prelude.{Option, Some, None, Result, Ok, Err, min, fold, option_and_then, option_to_list, MatchOption, MatchResult, ◌==◌}
 use Rattle.std.specs.Bool.{MatchBool}
 use Rattle.std.proofs.lemmas.List.{append-nil}
 use Rattle.zone_proto.specs.declared.error.ProtoError.{ProtoError}
-use Rattle.zone_proto.specs.declared.nx_proof_kind.NxProofKind.{NxProofKind}
 use Rattle.zone_proto.specs.declared.nx_proof_kind.NxProofKind.TheVariants as kind
 use Rattle.zone_proto.specs.declared.response_code.ResponseCode.{ResponseCode}
 use Rattle.zone_proto.specs.declared.response_code.ResponseCode.TheVariants as code
@@ -12,7 +11,6 @@ use Rattle.zone_proto.specs.Names.{Name, lower, is_at_or_above}
 use Rattle.zone_proto.specs.Sets.{RRset}
 use Rattle.zone_proto.specs.Types.{IN, SOA, NSEC}
 use Rattle.zone_proto.proofs.Members.{In, In-from_append, In-append_left, In-append_right}
-use Rattle.zone_map.specs.Upserts.{is_denial_type}
 use Rattle.zone_map.specs.Zones.{Sets, set_at, IsZone}
 use Rattle.zone_denial.specs.Nsec3Denial.{result_and_then}
 use Rattle.zone_denial.specs.NsecDenial.{closest_nsec}
@@ -21,21 +19,19 @@ use Rattle.zone_response.specs.Denials.{star_proof, star_proof_by, denial, denia
 use Rattle.zone_response.specs.Paths.{Path, path}
 use Rattle.zone_response.specs.Queries.{Zone, Query, inquiry}
 use Rattle.zone_response.specs.QueryTypes.{is_no_data}
-use Rattle.zone_response.specs.Responses.{additional_sets, glue_at, bare, code_at, negative_ttl, ds_at, end_sets, fails, refusal, IsResponse, IsSearched, IsResponseAlong, IsProvenResponse, IsResponseBy}
+use Rattle.zone_response.specs.Responses.{additional_sets, glue_at, bare, is_authority, code_at, negative_ttl, ds_at, end_sets, fails, refusal, IsResponse, IsSearched, IsResponseAlong, IsProvenResponse, IsResponseBy}
 use Rattle.zone_response.specs.Sections.{Sections, sent}
-use Rattle.zone_response.specs.Steps.{End, referred, missing}
-use Rattle.response_laws.specs.Sayings.{LastName, by_code}
-use Rattle.response_laws.proofs.DenialTypes.{proofs_are_denials}
+use Rattle.zone_response.specs.Steps.{End, referred, missing, failed}
+use Rattle.response_laws.specs.Failures.{without_soa, at_fault, unprovable, WhyAlone}
+use Rattle.response_laws.proofs.DenialTypes.{AreDenials, proofs_are_denials}
+use Rattle.response_laws.proofs.Faults.{fault_of}
 use Rattle.response_laws.proofs.NsecSets.{AreOwnersNsec, closest_sets, closest_owners, is_closest}
+use Rattle.response_laws.proofs.Hashings.{unhashed}
 use Rattle.response_laws.proofs.OwnerSets.{all_of, owners_of_all, kept_in_all, more_in_all}
 
 -- the path of a query
 abbrev pub path_of : Zone → Query → Path
 path_of z q = path (inquiry z q) q.name
-
--- with DNSSEC, a zone that denies proves what is said
-pub is_proved_by : (z : Zone) (q : Query) (k : NxProofKind) → q.signed ≡ true → z.nx_proof_kind ≡ Some k → (inquiry z q).is_proved ≡ true
-is_proved_by z q k signed denies = λ i. signed i && is_some (denies i)
 
 -- the names of which a response says something: those for which a star answered; the name without the set that is asked for, and the star that was asked for it; and a child without DS
 abbrev pub told_at : Option RRset → End → List Name
@@ -59,7 +55,9 @@ ProofsOf z p sets = proofs z (ds_at z.sets p.end) p.made p.end ≡ Ok sets
 pub record IsMadeOf (z : Zone) (q : Query) (r : Sections) : Type 0 where
   pub soa : RRset
   pub stands : set_at z.sets z.origin SOA ≡ Some soa
+  pub inside : is_at_or_above z.origin q.name ≡ true
   pub passes : fails (path_of z q).end ≡ false
+  pub authoritative : r.authoritative ≡ is_authority (path_of z q).end (path_of z q).answers
   pub code : r.code ≡ code_at (path_of z q).end
   pub answers : r.answers ≡ (path_of z q).answers
   pub additionals : r.additionals ≡ additional_sets (inquiry z q) (path_of z q).answers (path_of z q).end
@@ -67,29 +65,47 @@ pub record IsMadeOf (z : Zone) (q : Query) (r : Sections) : Type 0 where
   -- the sets of denial, with DNSSEC those that prove what is said; where NSEC denies they are those of its denials, and the closest ones of these names are among them
   pub proofs : List RRset
   pub authorities : r.authorities ≡ end_sets (ds_at z.sets (path_of z q).end) q.signed soa (path_of z q).end ++ map (as_proof (negative_ttl soa)) proofs
-  pub denials : (s : RRset) → In s proofs → is_denial_type s.record_type ≡ true
+  pub denials : AreDenials z.denials proofs
   pub given : q.signed ≡ true → ProofsOf z (path_of z q) proofs
   pub unproved : q.signed ≡ false → proofs ≡ []
   pub owners : z.nx_proof_kind ≡ Some kind.Nsec → AreOwnersNsec z.denials proofs
   pub tells : z.nx_proof_kind ≡ Some kind.Nsec → q.signed ≡ true → (x : Name) (s : RRset) → In x (told_names z q (path_of z q).end) → closest_nsec z.denials x ≡ Some s → In s proofs
 
--- a response is a code that says nothing of a name, or made of these parts
+-- a response is a code alone, for which there is a reason, or made of these parts
 pub data HowAnswered (z : Zone) (q : Query) (r : Sections) : Type 0 where
-  by_code_alone : (c : ResponseCode) → r ≡ bare c → ((answers : List RRset) (last : LastName) (sets : List RRset) → by_code q.record_type c answers last sets ≡ None) → HowAnswered z q r
+  by_code_alone : (c : ResponseCode) → WhyAlone z q c → r ≡ bare c → HowAnswered z q r
   by_parts : IsMadeOf z q r → HowAnswered z q r
 
-refusal_silent : (z : Zone) (q : Query) (c : ResponseCode) → refusal z.origin q ≡ Some c → (answers : List RRset) (last : LastName) (sets : List RRset) → by_code q.record_type c answers last sets ≡ None
-refusal_silent z q c e answers last sets =
-    silent_at code.Refused refl (not (q.class == IN) || not (is_at_or_above z.origin q.name)) (cond (is_no_data q.record_type) (Some code.NotImp) None)
-    (silent_at code.NotImp refl (is_no_data q.record_type) None (λ p. absurd cc)) e
-  where
-    same : (a b : ResponseCode) → Some a ≡ Some b → a ≡ b
-    same a b e = cc
+same_code : (a b : ResponseCode) → Some a ≡ Some b → a ≡ b
+same_code a b e = cc
 
-    -- one test after the other
-    silent_at : (k : ResponseCode) → by_code q.record_type k answers last sets ≡ None → (b : Bool) (o : Option ResponseCode) → (o ≡ Some c → by_code q.record_type c answers last sets ≡ None) → cond b (Some k) o ≡ Some c → by_code q.record_type c answers last sets ≡ None
-    silent_at k h true o more p = ap (λ c. by_code q.record_type c answers last sets) (sym (same k c p)) ∙ h
-    silent_at k h false o more p = more p
+-- a query that is refused has a reason for it
+refusal_why : (z : Zone) (q : Query) (c : ResponseCode) → refusal z.origin q ≡ Some c → WhyAlone z q c
+refusal_why z q c = by (q.class == IN) refl (is_at_or_above z.origin q.name) refl (is_no_data q.record_type) refl
+  where
+    is : (k : ResponseCode) → WhyAlone z q k → Some k ≡ Some c → WhyAlone z q c
+    is k why e = subst (WhyAlone z q) (same_code k c e) why
+
+    by : (k : Bool) → (q.class == IN) ≡ k → (i : Bool) → is_at_or_above z.origin q.name ≡ i → (n : Bool) → is_no_data q.record_type ≡ n
+        → cond (not k || not i) (Some code.Refused) (cond n (Some code.NotImp) None) ≡ Some c → WhyAlone z q c
+    by false e i f n g = is code.Refused (inl (λ same. true≢false (sym (eq-eqb q.class IN same) ∙ e)))
+    by true e false f n g = is code.Refused (inr f)
+    by true e true f true g = is code.NotImp g
+    by true e true f false g = λ p. absurd cc
+
+-- and one that isn't asks for a name of the zone
+not_refused : (z : Zone) (q : Query) → refusal z.origin q ≡ None → is_at_or_above z.origin q.name ≡ true
+not_refused z q = by (q.class == IN) (is_at_or_above z.origin q.name) (is_no_data q.record_type)
+  where
+    by : (k i n : Bool) → cond (not k || not i) (Some code.Refused) (cond n (Some code.NotImp) None) ≡ None → i ≡ true
+    by k true n e = refl
+    by true false n e = absurd cc
+    by false false n e = absurd cc
+
+-- a search fails at its end alone
+pub fails_at : (e : End) → fails e ≡ true → e ≡ failed
+fails_at failed h = refl
+fails_at _ h = absurd (true≢false (sym h))
 
 -- ---- the sets of the proofs, where a zone denies by NSEC
 
@@ -176,7 +192,7 @@ abbrev same_result : Result (List RRset) ProtoError → Result (List RRset) Prot
 same_result a b = a ≡ b
 
 -- of a search that doesn't fail
-module _ (z : Zone) (q : Query) (r : Sections) (zone : IsZone z.denials) (soa : RRset) (e : set_at z.sets z.origin SOA ≡ Some soa) where
+module _ (z : Zone) (q : Query) (r : Sections) (zone : IsZone z.denials) (inside : is_at_or_above z.origin q.name ≡ true) (soa : RRset) (e : set_at z.sets z.origin SOA ≡ Some soa) where
   abbrev p : Path
   p = path (inquiry z q) q.name
 
@@ -191,7 +207,9 @@ module _ (z : Zone) (q : Query) (r : Sections) (zone : IsZone z.denials) (soa : 
       (record {
         soa = soa;
         stands = e;
+        inside = inside;
         passes = passes;
+        authoritative = is.authoritative;
         code = is.code;
         answers = is.answers;
         additionals = is.additionals;
@@ -207,13 +225,15 @@ module _ (z : Zone) (q : Query) (r : Sections) (zone : IsZone z.denials) (soa : 
     where
       same : (a : List RRset) → same_result (Ok a) (Ok sets) → a ≡ sets
       same a e = cc
-  made_by true f passes (Err why) g is = by_code_alone code.ServFail is (λ answers last sets. refl)
+  made_by true f passes (Err why) g is = by_code_alone code.ServFail (unprovable why f (ap (λ b. cond b (proofs z ds p.made p.end) (Ok [])) f ∙ g) (unhashed z p.made ds p.end why g)) is
   made_by false f passes found g is =
       by_parts
       (record {
         soa = soa;
         stands = e;
+        inside = inside;
         passes = passes;
+        authoritative = is.authoritative;
         code = is.code;
         answers = is.answers;
         additionals = is.additionals;
@@ -233,14 +253,14 @@ module _ (z : Zone) (q : Query) (r : Sections) (zone : IsZone z.denials) (soa : 
 pub how_answered : (z : Zone) (q : Query) (r : Sections) → IsZone z.denials → IsResponse z q r → HowAnswered z q r
 how_answered z q r zone = by (refusal z.origin q) refl
   where
-    along : (soa : RRset) → set_at z.sets z.origin SOA ≡ Some soa → (b : Bool) → fails (path (inquiry z q) q.name).end ≡ b → MatchBool b (r ≡ bare code.ServFail) (IsProvenResponse z (inquiry z q) soa (path (inquiry z q) q.name) r) → HowAnswered z q r
-    along soa e true f is = by_code_alone code.ServFail is (λ answers last sets. refl)
-    along soa e false f is = made_of z q r zone soa e f is
+    along : is_at_or_above z.origin q.name ≡ true → (soa : RRset) → set_at z.sets z.origin SOA ≡ Some soa → (b : Bool) → fails (path (inquiry z q) q.name).end ≡ b → MatchBool b (r ≡ bare code.ServFail) (IsProvenResponse z (inquiry z q) soa (path (inquiry z q) q.name) r) → HowAnswered z q r
+    along inside soa e true f is = let at = fails_at (path (inquiry z q) q.name).end f in by_code_alone code.ServFail (at_fault at (fault_of (inquiry z q) q.name at)) is
+    along inside soa e false f is = made_of z q r zone inside soa e f is
 
-    found : (o : Option RRset) → set_at z.sets z.origin SOA ≡ o → MatchOption o (r ≡ bare code.ServFail) (λ soa. IsResponseAlong z (inquiry z q) soa (path (inquiry z q) q.name) r) → HowAnswered z q r
-    found None e is = by_code_alone code.ServFail is (λ answers last sets. refl)
-    found (Some soa) e is = along soa e (fails (path (inquiry z q) q.name).end) refl is
+    found : is_at_or_above z.origin q.name ≡ true → (o : Option RRset) → set_at z.sets z.origin SOA ≡ o → MatchOption o (r ≡ bare code.ServFail) (λ soa. IsResponseAlong z (inquiry z q) soa (path (inquiry z q) q.name) r) → HowAnswered z q r
+    found inside None e is = by_code_alone code.ServFail (without_soa e) is
+    found inside (Some soa) e is = along inside soa e (fails (path (inquiry z q) q.name).end) refl is
 
     by : (o : Option ResponseCode) → refusal z.origin q ≡ o → MatchOption o (IsSearched z (inquiry z q) q.name r) (λ c. r ≡ bare c) → HowAnswered z q r
-    by (Some c) e is = by_code_alone c is (refusal_silent z q c e)
-    by None e is = found (set_at z.sets z.origin SOA) refl is
+    by (Some c) e is = by_code_alone c (refusal_why z q c e) is
+    by None e is = found (not_refused z q e) (set_at z.sets z.origin SOA) refl is

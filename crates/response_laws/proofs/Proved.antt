@@ -1,11 +1,11 @@
 -- What a response says is proved, case by case
-use Rattle.std.proofs.Common.{◌≡◌, ℕ, Bool, true, false, cond, ◌||◌, [], refl, sym, ap, ◌∙◌, subst, true≢false, ◌⊎◌, inl, inr, eqb-true, IsFalse}
+use Rattle.std.proofs.Common.{◌≡◌, ℕ, Bool, true, false, cond, ◌||◌, refl, sym, ap, ◌∙◌, subst, true≢false, ◌⊎◌, inl, inr, eqb-true, IsFalse}
 use Rattle.std.specs.Prelude.{Option, Some, None, is_some, ◌==◌}
 use Rattle.std.specs.List.{Contains}
 use Rattle.std.specs.Option.{option_map_or}
 use Rattle.zone_proto.specs.Names.{Name, lower, star_under, is_wildcard}
 use Rattle.zone_proto.specs.Sets.{RRset}
-use Rattle.zone_proto.specs.Types.{NS, SOA, DS, NSEC, ANAME}
+use Rattle.zone_proto.specs.Types.{NS, SOA, DS, RRSIG, NSEC}
 use Rattle.zone_proto.proofs.Members.{or_left, or_right, In, Contains-In, In-append_left, In-append_right}
 use Rattle.zone_map.specs.Wildcards.{exists, renamed, closest_encloser, asked_star_exists}
 use Rattle.zone_map.specs.Zones.{Sets, set_at, owns, owns_at_or_below, IsZone}
@@ -18,23 +18,24 @@ use Rattle.zone_acceptance.specs.Soundness.{IsWithoutData, IsUnsignedDelegation,
 use Rattle.zone_acceptance.proofs.ShownEnclosers.{judged_star}
 use Rattle.zone_acceptance.proofs.Soundness.{there_from, present, empty_without_data, records_sound}
 use Rattle.zone_acceptance.proofs.Stars.{exists_is}
-use Rattle.zone_response.specs.declared.response.Part.{Part}
 use Rattle.zone_response.specs.declared.response.Part.TheVariants as part
 use Rattle.zone_response.specs.Queries.{Zone, Query, inquiry}
 use Rattle.zone_response.specs.Responses.{child_ds, ds_at}
 use Rattle.zone_response.specs.Sections.{Sections}
 use Rattle.zone_response.specs.Sources.{star_of}
 use Rattle.zone_response.specs.Steps.{End, referred, missing}
-use Rattle.response_laws.specs.ProvedSayings.{DeniesByNsec, shown, IsSentSet, IsFoundByStar, IsStarSet, IsMadeAlias, IsMadeAddresses, IsAliasData, IsAnswerPart, authority_part, HasAuthority, HasNoStandIn, IsShowable, IsProvedError, IsProvedEmpty, IsProvedUnsigned, IsProvedReferral}
+use Rattle.response_laws.specs.Contents.{Origin}
+use Rattle.response_laws.specs.ProvedSayings.{DeniesByNsec, shown, IsFoundByStar, IsAliasData, HasAuthority, HasNoStandIn, IsShowable, IsProvedError, IsProvedEmpty, IsProvedUnsigned, IsProvedReferral}
 use Rattle.response_laws.specs.Sayings.{Saying, data_of, name_error, no_data, referral, saying, name_of}
-use Rattle.response_laws.proofs.Answers.{IsMadeFound, IsFound, IsStoodIn, IsAnswer, IsMadeSet, path_answers}
+use Rattle.response_laws.proofs.Answers.{IsMadeFound, ByStarOf, path_answers}
 use Rattle.response_laws.proofs.BareNames.{not_any, type_unowned, beside_soa}
 use Rattle.response_laws.proofs.AgreementNames.{star_asked}
 use Rattle.response_laws.proofs.LastNames.{IsBare, IsMissing, bare, bare_star, starless, gone}
-use Rattle.response_laws.proofs.Parts.{path_of, is_proved_by, told_at, IsMadeOf}
+use Rattle.response_laws.proofs.Origins.{origin_by}
+use Rattle.response_laws.proofs.Parts.{path_of, told_at, IsMadeOf}
 use Rattle.response_laws.proofs.Said.{Said, says_nothing, says_data, says_referral, says_missing, said}
-use Rattle.response_laws.proofs.SaidNames.{same_saying, soa_shown, missing_said, alias_said, IsReferralTo, referral_of}
-use Rattle.response_laws.proofs.StandIns.{made_signatures}
+use Rattle.response_laws.proofs.SaidNames.{same_saying, missing_said, alias_said, IsReferralTo, referral_of}
+use Rattle.response_laws.proofs.SentSets.{IsSentSet, authority_part}
 use Rattle.response_laws.proofs.Stepped.{IsUnturned}
 use Rattle.response_laws.proofs.Summed.{sum_of_error, sum_of_delegation, sum_of_empty}
 use Rattle.response_laws.proofs.Told.{IsTold, over, error_proved, answer_proved, bare as told_bare, bare_by, star_bare_by, delegation_proved}
@@ -76,7 +77,7 @@ module _ (z : Zone) (q : Query) (r : Sections) (d : DeniesByNsec z) (signed : q.
     encloser = nsec_encloser o m y;
     stored = k.stored;
     stands = ap (λ n. set_at m n u) (sym star) ∙ k.stands;
-    made = k.is ∙ ap (λ n. renamed true n y k.stored) star;
+    made = k.is ∙ (λ i. renamed (signed i || (t == RRSIG)) (star i) y k.stored);
     proved =
         answer_proved o m y j (shown r) (tells z q r d signed h y j (In-append_left y (path_of z q).made (told_at (ds_at m ends) ends) i)) (unowned z d y k.made.absent) (nsec_encloser o m y) e.0;
   }
@@ -90,40 +91,11 @@ module _ (z : Zone) (q : Query) (r : Sections) (d : DeniesByNsec z) (signed : q.
       star : k.star ≡ star_under (nsec_encloser o m y)
       star = same_name k.star (star_under (nsec_encloser o m y)) (sym k.made.star ∙ e.1)
 
-  -- of those that are found
-  found_proved : (s : RRset) → IsFound (inquiry z q) (path_of z q).made s → (p : Part) × IsAnswerPart q.record_type p × (IsSentSet z.sets p s ⊎ IsStarSet z.origin z.sets (shown r) p s)
-  found_proved s a = (a.part', a.goes_out, by a.part' a.set)
-    where
-      by : (p : Part) → IsSentSet m p s ⊎ ((y : Name) × In y (path_of z q).made × IsMadeSet (inquiry z q) y p s) → IsSentSet m p s ⊎ IsStarSet o m (shown r) p s
-      by p (inl k) = inl k
-      by p (inr (y, i, k)) = inr (record { name = y; record_type = k.record_type; found = k.found; by_star = star_proved y i k.record_type k.found k.by_star; ttl = k.ttl; sent = k.sent })
-
-  -- addresses for which an ANAME set stands in
-  addresses_proved : (s : RRset) → IsStoodIn (inquiry z q) (path_of z q).made s → IsMadeAddresses z q (IsFoundByStar z.origin z.sets (shown r)) s
-  addresses_proved s a = record {
-    name = a.name;
-    aname = a.aname;
-    stands = by a.stands;
-    made = a.set;
-    leads = a.leads;
-    signatures = made_signatures (inquiry z q) a.name a.aname a.set a.leads ∙ ap (λ b. z.sign b (record a.set { signatures = [] })) signed;
-    signed = a.signed;
-    sent = a.sent;
-  }
-    where
-      by : (set_at m a.name ANAME ≡ Some a.aname) ⊎ (In a.name (path_of z q).made × IsMadeFound (inquiry z q) a.name ANAME a.aname) → (set_at m a.name ANAME ≡ Some a.aname) ⊎ IsFoundByStar o m (shown r) a.name ANAME a.aname
-      by (inl k) = inl k
-      by (inr (i, k)) = inr (star_proved a.name i ANAME a.aname k)
-
-  pub answers_proved : (s : RRset) → Contains r.answers s
-      → ((p : Part) × IsAnswerPart q.record_type p × (IsSentSet z.sets p s ⊎ IsStarSet z.origin z.sets (shown r) p s)) ⊎ IsMadeAlias z.sets r.answers s ⊎ IsMadeAddresses z q (IsFoundByStar z.origin z.sets (shown r)) s
-  answers_proved s c = by (path_answers (inquiry z q) d.circle.zone signed (is_proved_by z q _ signed d.kind) q.name s (subst (In s) h.answers (Contains-In s r.answers c)))
-    where
-      by : IsAnswer (inquiry z q) (path_of z q).made (path_of z q).answers s
-          → ((p : Part) × IsAnswerPart q.record_type p × (IsSentSet z.sets p s ⊎ IsStarSet z.origin z.sets (shown r) p s)) ⊎ IsMadeAlias z.sets r.answers s ⊎ IsMadeAddresses z q (IsFoundByStar z.origin z.sets (shown r)) s
-      by (inl a) = inl (found_proved s a)
-      by (inr (inl a)) = inr (inl (subst (λ all. IsMadeAlias m all s) (sym h.answers) a))
-      by (inr (inr a)) = inr (inr (addresses_proved s a))
+  pub answers_proved : (s : RRset) → Contains r.answers s → Origin (inquiry z q) r.answers (IsFoundByStar z.origin z.sets (shown r)) s
+  answers_proved s c =
+      origin_by (inquiry z q) r.answers s (ByStarOf (inquiry z q) (path_of z q).made) (IsFoundByStar o m (shown r)) (λ y u found k. star_proved y k.0 u found k.1)
+      (subst (λ all. Origin (inquiry z q) all (ByStarOf (inquiry z q) (path_of z q).made) s) (sym h.answers)
+      (path_answers (inquiry z q) zone q.name s (subst (In s) h.answers (Contains-In s r.answers c))))
 
   -- ---- of whom something is said
 
@@ -186,7 +158,7 @@ module _ (z : Zone) (q : Query) (r : Sections) (d : DeniesByNsec z) (signed : q.
     bare_shown so s (bare e f there' b) =
         by
         (bare_by o m x j (shown r) told_itself (sym (exists_is o m d.circle d.one_kind x) ∙ there') t s.no_signature (not_any m x t b NSEC) (type_unowned m x t b d.one_kind s.no_signature) (ap is_some b.alias)
-        (beside_soa (inquiry z q) x u d.unreferred) s.no_apex)
+        (beside_soa (inquiry z q) x u d.top.unreferred) s.no_apex)
       where
         by : (proves_no_data o (shown r) x t ≡ true) ⊎ (proves_empty_non_terminal o (shown r) x ≡ true) → BareBy
         by (inl p) = by_own p
@@ -239,11 +211,10 @@ module _ (z : Zone) (q : Query) (r : Sections) (d : DeniesByNsec z) (signed : q.
 
         by : (b : Bool) → (t == DS) ≡ b → t ≡ DS
         by true e = eqb-true t DS e
-        by false e = absurd (true≢false (sym (beside_soa (inquiry z q) x u d.unreferred e cut.delegated) ∙ cut.no_apex))
+        by false e = absurd (true≢false (sym (beside_soa (inquiry z q) x u d.top.unreferred e cut.delegated) ∙ cut.no_apex))
 
     pub empty_shown : there ≡ true → IsMissing (inquiry z q) x star there → IsProvedEmpty z r x t
     empty_shown so k = record {
-      soa = soa_shown z q r zone signed h x star there end;
       proved = λ s. empty_from (bare_shown so s k);
       told = λ s plain. sum_of_empty o (shown r) x t (no_error so plain k) is_digest (empty_from (bare_shown so s k));
       none = λ s plain flat. none_from plain flat (bare_shown so s k);
@@ -256,7 +227,6 @@ module _ (z : Zone) (q : Query) (r : Sections) (d : DeniesByNsec z) (signed : q.
       let k = missing_said z q r zone signed h false x e in
       let p = error_shown x k.star false k.end k.unturned refl k.how in
       record {
-        soa = soa_shown z q r zone signed h x k.star false k.end;
         proved = p;
         told = λ u. sum_of_error o (shown r) x u p;
         none = (sound_proved x (judged_unturned z q d x k.unturned)).error p;
@@ -279,8 +249,8 @@ module _ (z : Zone) (q : Query) (r : Sections) (d : DeniesByNsec z) (signed : q.
           let w : nx_domain ≡ name_exists = sym ((sound_proved c k).error e).denied ∙ present o m c (or_left (owns_at_or_below m c) (asked_star_exists m c) (there_from m c NS ns)) in
           absurd cc
 
-  pub referral_said : (c : Name) → saying q r ≡ Some (referral c) → IsProvedReferral z r c
-  referral_said c e = subst (IsProvedReferral z r) k.child (record { servers = k.servers cut.0; keys = λ no_apex. keys no_apex k.keys })
+  pub referral_said : (c : Name) → saying q r ≡ Some (referral c) → IsProvedReferral z r (IsProvedUnsigned z r) c
+  referral_said c e = subst (IsProvedReferral z r (IsProvedUnsigned z r)) k.child (record { servers = k.servers cut.0; keys = λ no_apex. keys no_apex k.keys })
     where
       k : IsReferralTo z q r zone signed h c
       k = referral_of z q r zone signed h c e

@@ -17,8 +17,8 @@ use Rattle.zone_validation.specs.Nsec3Records.{Nsec3Record, nsec3_data, nsec3_re
 use Rattle.zone_response.specs.declared.response.Part.{Part}
 use Rattle.zone_response.specs.declared.response.Part.TheVariants as part
 use Rattle.zone_response.specs.Sections.{with_ttl, sent}
-use Rattle.response_laws.specs.ProvedSayings.{IsSentSet, authority_part}
 use Rattle.response_laws.proofs.Parts.{as_proof}
+use Rattle.response_laws.proofs.SentSets.{IsSentSet, authority_part}
 
 -- what is read in a record of a type, whatever its TTL
 pub record IsReader {R : Type 0} (reader : Record → Option R) (t : ℕ) : Type 0 where

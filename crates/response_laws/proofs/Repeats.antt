@@ -1,6 +1,7 @@
 -- No set of a section repeats one that stands before it
 use Rattle.std.proofs.Common.{[], ◌++◌, ap}
 use Rattle.zone_response.specs.Queries.{inquiry}
+use Rattle.zone_response.specs.Responses.{IsResponse}
 use Rattle.zone_response.specs.Sections.{Sections}
 use Rattle.response_laws.specs.Repeats.{IsEachOnce, SetsStandOnce}
 use Rattle.response_laws.proofs.AdditionalsOnce.{additionals_once}
@@ -9,11 +10,11 @@ use Rattle.response_laws.proofs.AuthoritiesOnce.{authorities_once}
 use Rattle.response_laws.proofs.Once.{stand_once}
 use Rattle.response_laws.proofs.Parts.{path_of, HowAnswered, by_code_alone, by_parts, how_answered}
 
-pub sets_stand_once : SetsStandOnce
+pub sets_stand_once : SetsStandOnce IsResponse
 sets_stand_once z q r zone denials lowered is = by (how_answered z q r denials.zone is)
   where
     by : HowAnswered z q r → IsEachOnce r
-    by (by_code_alone c e silent) = record {
+    by (by_code_alone c why e) = record {
       answers = stand_once r.answers [] (ap (λ (r : Sections). r.answers) e) tt;
       authorities = stand_once r.authorities [] (ap (λ (r : Sections). r.authorities) e) tt;
       additionals = stand_once (r.glue ++ r.additionals) [] (ap (λ (r : Sections). r.glue ++ r.additionals) e) tt;

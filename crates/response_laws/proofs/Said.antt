@@ -19,10 +19,11 @@ use Rattle.zone_response.specs.Responses.{code_at, negative_ttl, child_ds, ds_at
 use Rattle.zone_response.specs.Sections.{Sections, as_it_is, part_for}
 use Rattle.zone_response.specs.Steps.{End, complete, referred, missing, outside, unfollowed, too_long, failed}
 use Rattle.zone_response.specs.Turns.{cut}
-use Rattle.response_laws.specs.Sayings.{data_of, name_error, no_data, referral, is_of, last_name, referral_to, unanswered, without_error, with_name_error, by_code, saying, SaysEnd}
+use Rattle.response_laws.specs.Sayings.{data_of, name_error, no_data, referral, is_of, last_name, referral_to, unanswered, without_error, with_name_error, by_code, saying, LeadsAway, SaysEnd}
 use Rattle.response_laws.proofs.Leads.{sent_type}
 use Rattle.response_laws.proofs.LastNames.{IsMissing, IsAliasAsked, IsReferred, IsUntold, EndOf, PathEnd, stops, arrives, path_end}
 use Rattle.response_laws.proofs.Parts.{path_of, as_proof, IsMadeOf}
+use Rattle.response_laws.proofs.Starts.{IsAway, away_answers}
 use Rattle.response_laws.proofs.Stepped.{IsUnturned}
 use Rattle.response_laws.proofs.Turned.{turned_first, cut_set}
 
@@ -77,7 +78,7 @@ module _ (z : Zone) (zone : IsZone z.sets) (q : Query) (r : Sections) (h : IsMad
   no_proof_of : (u : ℕ) → is_denial_type u ≡ false → (s : RRset) → In s proofs → is_of u s ≡ false
   no_proof_of u other s i =
       let v = In-from_map (as_proof (negative_ttl h.soa)) s h.proofs i in
-      subst (λ s. is_of u s ≡ false) v.2 (by v.0.record_type (h.denials v.0 v.1) (v.0.record_type == u) refl)
+      subst (λ s. is_of u s ≡ false) v.2 (by v.0.record_type (h.denials v.0 v.1).denial (v.0.record_type == u) refl)
     where
       by : (k : ℕ) → is_denial_type k ≡ true → (b : Bool) → (k == u) ≡ b → b ≡ false
       by k d false e = refl
@@ -143,7 +144,7 @@ module _ (z : Zone) (zone : IsZone z.sets) (q : Query) (r : Sections) (h : IsMad
   says_at y sets (missing x star true) f g (u, m, e, a, k) =
       saying_is y sets (missing x star true) f g ∙ ap (λ s. without_error t answers y s (all (missing x star true))) a ∙ by_authorities y (missing x star true) k ∙ soa_says y x star
   says_at y sets (missing x star false) f g (u, m, e, a, k) = saying_is y sets (missing x star false) f g ∙ ap (with_name_error y) a
-  says_at y sets (outside x) f g (a, k) =
+  says_at y sets (outside x) f g (e, a, k) =
       saying_is y sets (outside x) f g ∙ ap (λ s. without_error t answers y s (all (outside x))) a ∙ by_authorities y (outside x) k ∙ silent y
   says_at y sets unfollowed f g a = absurd a
   says_at y sets too_long f g a = saying_is y sets too_long f g
@@ -169,24 +170,33 @@ module _ (z : Zone) (zone : IsZone z.sets) (q : Query) (r : Sections) (h : IsMad
       by (stops y f g k) = says_nothing (stops_silent y f g k)
       by (arrives y sets e f g a) = of y sets e f g (says_at y sets e f g a) a
 
-  pub says_end : SaysEnd (path (inquiry z q) q.name).end (saying q r)
+  -- aliases lead away to the last name, of which nothing is said
+  leads_away : (y x : Name) (sets : List RRset) → last_name t q.name (path_of z q).answers ≡ record { name = y; sets = sets } → y ≡ x → sets ≡ [] → saying q r ≡ None → (e : End) → ends ≡ e → IsAway e → LeadsAway q r (code_at e) x
+  leads_away y x sets g same none s e f away = record {
+    code = h.code ∙ ap code_at f;
+    leads = ap (last_name t q.name) h.answers ∙ g ∙ (λ i. record { name = same i; sets = none i });
+    aliases = λ empty. away_answers (inquiry z q) q.name h.inside (subst IsAway (sym f) away) (sym h.answers ∙ empty);
+    silent = s;
+  }
+
+  pub says_end : SaysEnd q r (path (inquiry z q) q.name).end
   says_end = by (path_end (inquiry z q) zone q.name)
     where
-      of : (y : Name) (sets : List RRset) (e : End) → SaysAt y e → EndOf (inquiry z q) (path_of z q).answers y sets e → SaysEnd e (saying q r)
-      of y sets complete s a = (y, s)
-      of y sets (referred c) s a = s
-      of y sets (missing x star there) s (u, m, e, a, k) = s ∙ ap (λ n. Some (cond there (no_data n) (name_error n))) (sym e)
-      of y sets (outside x) s a = s
-      of y sets unfollowed s a = s
-      of y sets too_long s a = s
-      of y sets failed s a = s
+      of : (y : Name) (sets : List RRset) (e : End) → ends ≡ e → last_name t q.name (path_of z q).answers ≡ record { name = y; sets = sets } → SaysAt y e → EndOf (inquiry z q) (path_of z q).answers y sets e → SaysEnd q r e
+      of y sets complete f g s a = (y, s)
+      of y sets (referred c) f g s a = s
+      of y sets (missing x star there) f g s (u, m, e, a, k) = s ∙ ap (λ n. Some (cond there (no_data n) (name_error n))) (sym e)
+      of y sets (outside x) f g s (e, a, k) = leads_away y x sets g (sym e) a s (outside x) f tt
+      of y sets unfollowed f g s a = absurd a
+      of y sets too_long f g s a = (y, leads_away y y sets g refl a s too_long f tt)
+      of y sets failed f g s a = absurd (true≢false (sym (ap fails f) ∙ h.passes))
 
-      to : (e : End) → ends ≡ e → SaysEnd e (saying q r) → SaysEnd ends (saying q r)
-      to e f s = subst (λ e. SaysEnd e (saying q r)) (sym f) s
+      to : (e : End) → ends ≡ e → SaysEnd q r e → SaysEnd q r ends
+      to e f s = subst (SaysEnd q r) (sym f) s
 
-      by : PathEnd (inquiry z q) zone [] q.name (path_of z q) → SaysEnd ends (saying q r)
-      by (stops y f g k) = to unfollowed f (stops_silent y f g k)
-      by (arrives y sets e f g a) = to e f (of y sets e (says_at y sets e f g a) a)
+      by : PathEnd (inquiry z q) zone [] q.name (path_of z q) → SaysEnd q r ends
+      by (stops y f g k) = to unfollowed f (y, leads_away y y [] g refl refl (stops_silent y f g k) unfollowed f tt)
+      by (arrives y sets e f g a) = to e f (of y sets e f g (says_at y sets e f g a) a)
 
   -- the NS set stands in the zone to which a search is referred
   pub referred_stands : (c : RRset) → ends ≡ referred c → (n : Name) × (set_at z.sets n NS ≡ Some c)

@@ -12,11 +12,11 @@ use Rattle.zone_response.specs.declared.response.Part.TheVariants as part
 use Rattle.zone_response.specs.Queries.{Zone, Query, inquiry}
 use Rattle.zone_response.specs.Responses.{negative_ttl, child_ds, ds_at, end_sets}
 use Rattle.zone_response.specs.Renamings.{in_place_of, made_alias}
-use Rattle.zone_response.specs.Sections.{Sections, sent, as_it_is, part_for}
+use Rattle.zone_response.specs.Sections.{Sections, as_it_is, part_for}
 use Rattle.zone_response.specs.Steps.{End, referred, missing}
 use Rattle.zone_response.specs.Turns.{cut}
 use Rattle.response_laws.specs.HashedSayings.{IsReached}
-use Rattle.response_laws.specs.ProvedSayings.{IsSentSet, IsAliasData, authority_part, HasAuthority, HasSoa}
+use Rattle.response_laws.specs.ProvedSayings.{IsAliasData, HasAuthority}
 use Rattle.response_laws.specs.Sayings.{Saying, data_of, name_error, no_data, referral, last_name, saying}
 use Rattle.response_laws.proofs.Authorities.{proof_is, front_is}
 use Rattle.response_laws.proofs.Dnames.{sent_dname_target}
@@ -24,6 +24,7 @@ use Rattle.response_laws.proofs.LastNames.{IsMissing, IsAliasAsked, IsReferred}
 use Rattle.response_laws.proofs.OwnerSets.{AreOwners}
 use Rattle.response_laws.proofs.Parts.{path_of, as_proof, IsMadeOf}
 use Rattle.response_laws.proofs.Said.{Said, says_nothing, says_data, says_referral, says_missing, said, referred_stands}
+use Rattle.response_laws.proofs.SentSets.{IsSentSet, authority_part}
 use Rattle.response_laws.proofs.Stepped.{IsUnturned}
 use Rattle.response_laws.proofs.Turned.{turned_first, unturned, cut_set, reached}
 
@@ -78,14 +79,6 @@ module _ (z : Zone) (q : Query) (r : Sections) (zone : IsZone z.sets) (signed : 
       by : In s (end_sets (ds_at z.sets ends) true h.soa ends) ⊎ In s proofs → IsSentSet z.sets (authority_part s) s
       by (inl k) = front_is z.sets zone z.origin h.soa ends h.stands (referred_stands z zone q r h) s k
       by (inr k) = proof_is z.sets zone t other (negative_ttl h.soa) h.proofs owners s k
-
-  -- the SOA of a negative response stands there
-  pub soa_shown : (x : Name) (star : Option Name) (there : Bool) → (path_of z q).end ≡ missing x star there → HasSoa z r
-  soa_shown x star there end = record {
-    stored = h.soa;
-    stands = h.stands;
-    among = In-Contains (sent part.Signed (negative_ttl h.soa) h.soa) r.authorities (among (missing x star there) end (sent part.Signed (negative_ttl h.soa) h.soa) (inl refl));
-  }
 
   -- ---- a negative response
 
@@ -147,12 +140,13 @@ module _ (z : Zone) (q : Query) (r : Sections) (zone : IsZone z.sets) (signed : 
       dname = as_it_is part.Signed a.dname;
       among = In-Contains (as_it_is part.Signed a.dname) r.answers (subst (In (as_it_is part.Signed a.dname)) (sym h.answers) (subst (λ b. In (as_it_is (part_for b) a.dname) (path_of z q).answers) signed a.among));
       record_type = a.above.type';
-      stands = record { name = a.above.name; record_type = DNAME; stored = a.dname; stands = a.above.stands; ttl = a.dname.ttl; sent = refl };
+      stands = record { name = a.above.name; record_type = DNAME; stored = a.dname; stands = a.above.stands; sent = ap (λ b. as_it_is (part_for b) a.dname) (sym signed) };
       target = a.target;
       told = sent_dname_target a.dname ∙ a.told;
       name = y;
       below = subst (λ k. IsAbove k y) (sym a.above.owner) a.above.above;
       made = refl;
+      ttl = refl;
     };
   }
 

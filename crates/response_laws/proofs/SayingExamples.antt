@@ -47,22 +47,22 @@ sections c answers authorities = record { code = c; authoritative = true; answer
 abbrev pub negative : Sets → ResponseCode → List Name → Sections
 negative m c owners = sections c [] (sent part.Signed 60 start.1 ∷ map (proof m) owners)
 
-abbrev a : Name
+abbrev pub a : Name
 a = at_origin (codes "a")
 
 abbrev pub b : Name
 b = at_origin (codes "b")
 
-abbrev star : Name
+abbrev pub star : Name
 star = star_under origin
 
-abbrev server : Name
+abbrev pub server : Name
 server = codes "ns" ∷ b
 
-abbrev alias : Name → RrKey × RRset
+abbrev pub alias : Name → RrKey × RRset
 alias target = entry a CNAME (V.CNAME target)
 
-abbrev servers : Name → RrKey × RRset
+abbrev pub servers : Name → RrKey × RRset
 servers n = entry n NS (V.NS (codes "org" ∷ []))
 
 -- ---- negative responses
@@ -146,20 +146,20 @@ leaving_says = refl
 
 -- ---- below a DNAME
 
-abbrev renaming : RrKey × RRset
+abbrev pub renaming : RrKey × RRset
 renaming = entry b DNAME (V.Other (record { record_type = record { 0 = DNAME }; octets = wire_form a; other = refl }))
 
-abbrev under_a : List ℕ → Name
+abbrev pub under_a : List ℕ → Name
 under_a label = label ∷ a
 
-abbrev under_b : List ℕ → Name
+abbrev pub under_b : List ℕ → Name
 under_b label = label ∷ b
 
 abbrev renamed_names : Sets
 renamed_names = start ∷ renaming ∷ address (under_a (codes "x")) ∷ []
 
 -- the DNAME set of b, and the CNAME that it makes
-abbrev new_name : List ℕ → List RRset
+abbrev pub new_name : List ℕ → List RRset
 new_name label = renaming.1 ∷ made_alias renaming.1 (under_b label) (under_a label) ∷ []
 
 of_new_name : IsResponse (zone renamed_names) (asked (under_b (codes "x")) A) (sections code.NoError (new_name (codes "x") ++ (address (under_a (codes "x"))).1 ∷ []) [])

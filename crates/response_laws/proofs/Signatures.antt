@@ -13,7 +13,8 @@ use Rattle.zone_acceptance.proofs.OwnTypes.{differs}
 use Rattle.zone_response.specs.declared.response.Part.TheVariants as part
 use Rattle.zone_response.specs.Queries.{Zone}
 use Rattle.zone_response.specs.Sections.{covers, own_signatures, with_ttl, sent}
-use Rattle.response_laws.specs.ProvedSayings.{IsSentSet, authority_part, counted_labels, signs, is_signed_by, AreSigned}
+use Rattle.response_laws.specs.ProvedSayings.{counted_labels, signs, is_signed_by, AreSigned}
+use Rattle.response_laws.proofs.SentSets.{IsSentSet, authority_part}
 
 module _ (origin : Name) (s : RRset) where
   covers_type : (d : RData) → signs origin s d ≡ true → covers s.record_type d ≡ true

@@ -1,7 +1,8 @@
 -- What an ANAME set stands for, as it goes out
-use Rattle.std.proofs.Common.{◌≡◌, ℕ, Bool, true, false, cond, ◌&&◌, ◌||◌, [], map, refl, sym, ap, ◌∙◌, subst, eqb-true, eq-eqb}
+use Rattle.std.proofs.Common.{◌≡◌, ℕ, ◌≤◌, Bool, true, false, cond, ◌&&◌, ◌||◌, [], map, refl, sym, ap, ◌∙◌, subst, eqb-true, eq-eqb}
 use Rattle.std.specs.Prelude.{Option, Some, None, unwrap_or, ◌==◌}
 use Rattle.std.specs.Option.{option_or, option_map_or}
+use Rattle.std.proofs.Math.Nat.{min-le_left}
 use Rattle.zone_proto.specs.Names.{Name, same_name, is_at_or_above}
 use Rattle.zone_proto.specs.Sets.{RRset, record_under}
 use Rattle.zone_proto.specs.Types.{RRSIG, ANY, ANAME}
@@ -65,6 +66,10 @@ addresses_of_last q x s v e = by (run_target t l) refl e
 -- they have the signatures of the response
 pub made_signatures : (q : Inquiry) (x : Name) (s v : RRset) → stand_in_answer q x s ≡ addresses v → v.signatures ≡ q.sign (record v { signatures = [] })
 made_signatures q x s v e = subst (λ (v : RRset). v.signatures ≡ q.sign (record v { signatures = [] })) (sym (addresses_of_last q x s v e).is) refl
+
+-- and no greater TTL than the ANAME set
+pub made_ttl : (q : Inquiry) (x : Name) (s v : RRset) → stand_in_answer q x s ≡ addresses v → v.ttl ≤ s.ttl
+made_ttl q x s v e = subst (λ (v : RRset). v.ttl ≤ s.ttl) (sym (addresses_of_last q x s v e).is) (min-le_left s.ttl (last_of q x s).ttl)
 
 -- ---- the addresses in the answer section
 

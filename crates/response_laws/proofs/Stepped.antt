@@ -38,7 +38,7 @@ pub record IsUnturned (q : Inquiry) (x : Name) : Type 0 where
 pub data StepOf (q : Inquiry) (before : List RRset) (x : Name) : Type 0 where
   leaves : is_at_or_above q.origin x ≡ false → step q before x ≡ at_end (outside x) → StepOf q before x
   refers : (s : RRset) → is_at_or_above q.origin x ≡ true → turn q.origin q.sets x q.record_type ≡ Some (cut s) → step q before x ≡ at_end (referred s) → StepOf q before x
-  fails : step q before x ≡ at_end failed → StepOf q before x
+  fails : (s : RRset) → turn q.origin q.sets x q.record_type ≡ Some (renaming s) → dname_target s ≡ None → step q before x ≡ at_end failed → StepOf q before x
   new_name : (s : RRset) (target : Name) (new : Option Name) → turn q.origin q.sets x q.record_type ≡ Some (renaming s) → dname_target s ≡ Some target → unless_long (in_place_of s.owner target x) ≡ new
       → step q before x ≡ new_name_step q.signed q.record_type before x s new → StepOf q before x
   at_name : IsUnturned q x → exists q.sets x ≡ true → step q before x ≡ step_at q None x x → StepOf q before x
@@ -70,7 +70,7 @@ module _ (q : Inquiry) (before : List RRset) (x : Name) where
       by (Some target) f =
           new_name s target (unless_long (in_place_of s.owner target x)) e f refl
           (step_is ∙ ap (turned_step q before x) e ∙ ap (target_step q.signed q.record_type before x s) f)
-      by None f = fails (step_is ∙ ap (turned_step q before x) e ∙ ap (target_step q.signed q.record_type before x s) f)
+      by None f = fails s e f (step_is ∙ ap (turned_step q before x) e ∙ ap (target_step q.signed q.record_type before x s) f)
   by_turn inside step_is None e = by (exists q.sets x) refl
     where
       by : (b : Bool) → exists q.sets x ≡ b → StepOf q before x

@@ -21,27 +21,28 @@ use Rattle.zone_response.specs.Responses.{negative_ttl, ds_at, end_sets}
 use Rattle.zone_response.specs.Sections.{Sections}
 use Rattle.zone_response.specs.Sources.{star_of}
 use Rattle.response_laws.specs.HashedSayings.{IsReached}
-use Rattle.response_laws.specs.ProvedSayings.{DeniesByNsec, shown, IsSentSet, authority_part}
+use Rattle.response_laws.specs.ProvedSayings.{DeniesByNsec, shown}
 use Rattle.response_laws.proofs.LastNames.{IsReferred}
 use Rattle.response_laws.proofs.NsecSets.{AreOwnersNsec}
 use Rattle.response_laws.proofs.Parts.{path_of, told_names, IsMadeOf}
 use Rattle.response_laws.proofs.ReadSets.{nsec_reader, read_of_zone, read_proof}
 use Rattle.response_laws.proofs.SaidNames.{reached_unturned, reached_cut, authorities_are, authority_of}
+use Rattle.response_laws.proofs.SentSets.{IsSentSet, authority_part}
 use Rattle.response_laws.proofs.Stepped.{IsUnturned}
 use Rattle.response_laws.proofs.Told.{IsTold, has_closest}
 
 -- ---- names that are judged
 
 judged : (z : Zone) → DeniesByNsec z → (y : Name) → IsReached z.origin z.sets y → IsJudged z.origin z.sets y
-judged z d y r = record { zone = d.circle; one_kind = d.one_kind; unreferred = d.unreferred; inside = r.inside; uncut = r.uncut; no_dname = r.no_dname }
+judged z d y r = record { zone = d.circle; one_kind = d.one_kind; unreferred = d.top.unreferred; inside = r.inside; uncut = r.uncut; no_dname = r.no_dname }
 
 -- the search ends at a name that nothing turns
 pub judged_unturned : (z : Zone) (q : Query) → DeniesByNsec z → (y : Name) → IsUnturned (inquiry z q) y → IsJudged z.origin z.sets y
-judged_unturned z q d y u = judged z d y (reached_unturned z q d.no_dname y u)
+judged_unturned z q d y u = judged z d y (reached_unturned z q d.top.no_dname y u)
 
 -- or at a cut
 pub judged_cut : (z : Zone) (q : Query) → DeniesByNsec z → (y : Name) (c : RRset) → IsReferred (inquiry z q) y c → (set_at z.sets (lower c.owner) NS ≡ Some c) × IsJudged z.origin z.sets (lower c.owner)
-judged_cut z q d y c h = let k = reached_cut z q d.no_dname d.circle.zone y c h in (k.stands, judged z d (lower c.owner) k.reached)
+judged_cut z q d y c h = let k = reached_cut z q d.top.no_dname d.circle.zone y c h in (k.stands, judged z d (lower c.owner) k.reached)
 
 -- ---- a name that isn't there
 

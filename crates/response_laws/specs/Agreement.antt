@@ -20,11 +20,12 @@ use Rattle.zone_response.specs.Denials.{hashed_owner_of}
 use Rattle.zone_response.specs.Paths.{Path, path}
 use Rattle.zone_response.specs.Queries.{Zone, Query, Inquiry, inquiry}
 use Rattle.zone_response.specs.QueryTypes.{is_no_data}
-use Rattle.zone_response.specs.Responses.{ds_at, proof_sets, IsResponse}
+use Rattle.zone_response.specs.Responses.{ds_at, proof_sets}
 use Rattle.zone_response.specs.Sections.{Sections, as_it_is, part_for, is_signed}
 use Rattle.zone_response.specs.Sources.{asked_star}
 use Rattle.zone_response.specs.StandIns.{addresses, stand_in_answer}
 use Rattle.zone_response.specs.Turns.{turn}
+use Rattle.response_laws.specs.Servers.{Server}
 
 -- ---- what both find alike
 
@@ -136,10 +137,10 @@ pub record Agrees (z : Zone) (q : Query) (r : Sections) (reply : Reply) : Type 0
   pub no_error : ((x : Name) → unfound_name (inquiry z q) q.name ≡ Some x → IsFalse (is_at_or_above z.origin x)) → r.code ≡ code.NoError
 
 -- each response to such a query agrees with each reply of a lookup, whatever signs it, but for addresses by ANAME
-abbrev pub ResponsesAgree : Type 0
-ResponsesAgree =
+abbrev pub ResponsesAgree : Server → Type 0
+ResponsesAgree server =
     (sign : RRset → List Record) (z : Zone) (q : Query) (r : Sections) (reply : Reply) → IsOrdinaryZone z.origin z.sets → IsOrdinaryQuery z q → StandInsLead sign (inquiry z q) q.name → IsProvable z q (path (inquiry z q) q.name)
-    → IsResponse z q r → IsReply sign z.origin z.sets q.signed q.name q.record_type reply → Agrees z q r reply
+    → server z q r → IsReply sign z.origin z.sets q.signed q.name q.record_type reply → Agrees z q r reply
 
 -- ---- what is provable
 

@@ -1,12 +1,11 @@
 -- What a response of a zone that denies by NSEC3 proves to a validator, with opt-out and without
 use Rattle.std.specs.Prelude.{◌≡◌, ◌≢◌, ℕ, Bool, ◌⊎◌, ◌&&◌, cond, List, flat_map, Option, Some, ◌==◌, IsTrue, IsFalse, true}
-use Rattle.std.specs.List.{Contains}
 use Rattle.zone_proto.specs.declared.nx_proof_kind.NxProofKind.TheVariants as kind
 use Rattle.zone_proto.specs.declared.rdata.denial.NSEC3PARAM.{NSEC3PARAM as Nsec3Parameters}
 use Rattle.zone_proto.specs.declared.record.Record.{Record}
 use Rattle.zone_proto.specs.Names.{Name, is_at_or_above, IsAbove, star_under, is_wildcard}
 use Rattle.zone_proto.specs.Sets.{RRset}
-use Rattle.zone_proto.specs.Types.{NS, CNAME, SOA, DS, RRSIG, NSEC, NSEC3}
+use Rattle.zone_proto.specs.Types.{NS, CNAME, DS, RRSIG, NSEC, NSEC3}
 use Rattle.zone_map.specs.Wildcards.{exists, renamed}
 use Rattle.zone_map.specs.Zones.{Sets, set_at, owns}
 use Rattle.zone_denial.specs.Authority.{is_below_cut}
@@ -20,19 +19,16 @@ use Rattle.zone_validation.specs.Judgement.{nsec3_proof}
 use Rattle.zone_validation.specs.NsecProofs.{DNAME}
 use Rattle.zone_validation.specs.Nsec3Proofs.{proves_name_error, proves_no_data, proves_empty_answer, proves_wildcard_answer, proves_unsigned_delegation}
 use Rattle.zone_validation.specs.Nsec3Records.{Nsec3Record}
-use Rattle.zone_acceptance.specs.Judged.{Unreferred, is_parents_ds}
+use Rattle.zone_acceptance.specs.Judged.{is_parents_ds}
 use Rattle.zone_acceptance.specs.Nsec3Calls.{told}
 use Rattle.zone_acceptance.specs.Nsec3Judged.{read_nsec3_sets, AreNsec3OfZone, IsNsec3Judged}
 use Rattle.zone_acceptance.specs.Nsec3Soundness.{IsNsec3Sound, IsLeftOut, IsOptOutSound}
 use Rattle.zone_acceptance.specs.Soundness.{IsNoName, IsWithoutData, IsUnflattened, IsUnsignedDelegation}
-use Rattle.zone_response.specs.declared.response.Part.{Part}
-use Rattle.zone_response.specs.declared.response.Part.TheVariants as part
 use Rattle.zone_response.specs.Queries.{Zone, Query}
-use Rattle.zone_response.specs.Responses.{IsResponse}
-use Rattle.zone_response.specs.Sections.{Sections, sent}
+use Rattle.zone_response.specs.Sections.{Sections}
 use Rattle.zone_response.specs.Sources.{star_of}
-use Rattle.response_laws.specs.ProvedSayings.{IsSentSet, IsMadeAlias, IsMadeAddresses, IsAliasData, IsAnswerPart, authority_part, is_signed_by, AreSigned, HasAuthority, HasSoa, IsEmptyProof}
-use Rattle.response_laws.specs.Sayings.{Saying, name_error, no_data, referral, saying, name_of}
+use Rattle.response_laws.specs.ProvedSayings.{IsUnreferred, IsEmptyProof, ProvesBy}
+use Rattle.response_laws.specs.Servers.{Server}
 
 -- ---- the zone
 
@@ -40,14 +36,13 @@ use Rattle.response_laws.specs.Sayings.{Saying, name_error, no_data, referral, s
 abbrev pub zone_hash : Zone → Nsec3Parameters → Name → Option (List ℕ)
 zone_hash z parameters = hash_with z.digest_of parameters
 
--- a zone that denies by NSEC3 alone, with these parameters, as it is once it is secured, above whose origin nothing refers elsewhere
+-- a zone that denies by NSEC3 alone, with these parameters, as it is once it is secured
 pub record DeniesByNsec3 (z : Zone) (parameters : Nsec3Parameters) : Type 0 where
   pub kind : z.nx_proof_kind ≡ Some (kind.Nsec3 parameters.algorithm parameters.salt parameters.iterations parameters.opt_out)
   pub denials : z.denials ≡ z.sets
   pub circle : IsNsec3Zone z.origin z.sets (zone_hash z parameters) parameters
   pub one_kind : OwnsNone z.sets NSEC
-  pub unreferred : Unreferred z.origin z.sets
-  pub no_dname : (a : Name) → IsAbove a z.origin → IsFalse (owns z.sets a DNAME)
+  pub top : IsUnreferred z
 
 -- the hash tells apart the names that a denial of x hashes, and those of the circle
 abbrev pub HashesApart : Zone → Nsec3Parameters → Name → Type 0
@@ -89,15 +84,6 @@ pub record IsHashedFoundByStar (z : Zone) (parameters : Nsec3Parameters) (rs : L
   pub made : found ≡ renamed true (star_under encloser) name stored
   pub proved : HashesApart z parameters name → IsFalse (may_leave_out parameters.opt_out z.sets (star_under encloser)) → IsTrue (proves_wildcard_answer z.origin (zone_hash z parameters) rs name encloser)
 
--- such a set, with one TTL for all its records and signatures
-pub record IsHashedStarSet (z : Zone) (parameters : Nsec3Parameters) (rs : List Nsec3Record) (p : Part) (s : RRset) : Type 0 where
-  pub name : Name
-  pub record_type : ℕ
-  pub found : RRset
-  pub by_star : IsHashedFoundByStar z parameters rs name record_type found
-  pub ttl : ℕ
-  pub sent : s ≡ sent p ttl found
-
 -- ---- a name error
 
 -- the standard has a proof of a name error of x: always without opt-out, and with it only where no star exists under the closest encloser that has an NSEC3 set, since that star is to be denied (RFC 5155 section 7.2.2). Above an empty name that opt-out leaves out one may stand
@@ -110,9 +96,10 @@ error_proof opt_out t = cond (t == DS && opt_out) UnsignedDelegation (NameError 
 
 -- there is no such name, and that is proved (RFC 5155 section 7.2.2). With opt-out no more is proved of it than that what is there is left out
 pub record IsHashedError (z : Zone) (parameters : Nsec3Parameters) (r : Sections) (x : Name) : Type 0 where
-  pub soa : HasSoa z r
   pub proved : HasErrorProof z parameters x → IsTrue (proves_name_error z.origin (zone_hash z parameters) (shown_nsec3 r) x)
   pub told : HasErrorProof z parameters x → (t : ℕ) → proof_in z parameters r x t ≡ Some (error_proof parameters.opt_out t)
+  -- the star that is denied, under the closest encloser that has an NSEC3 set, is the one that is asked for x; with opt-out another may be asked
+  pub one_star : IsFalse parameters.opt_out → (e : Name) → closest_encloser z.origin z.sets parameters.opt_out x ≡ Some e → star_of z.sets x ≡ Some (star_under e)
   pub left_out : IsLeftOut z.origin z.sets parameters.opt_out x
   pub none : IsFalse parameters.opt_out → IsFalse (owns z.sets x NSEC3) → IsNoName z.origin z.sets x
 
@@ -149,7 +136,6 @@ pub record IsLacking (z : Zone) (parameters : Nsec3Parameters) (x : Name) (t : �
 
 -- a name has no data of a type, and that is proved (RFC 5155 sections 7.2.3 to 7.2.5). Where opt-out leaves the name out, what is proved of it is insecure, and of DS that it may be an unsigned delegation
 pub record IsHashedEmpty (z : Zone) (parameters : Nsec3Parameters) (r : Sections) (x : Name) (t : ℕ) : Type 0 where
-  pub soa : HasSoa z r
   pub proved : IsHashedShowable z.origin z.sets x t → IsTrue (proves_empty_answer z.origin (zone_hash z parameters) (shown_nsec3 r) x t)
   pub told : IsHashedShowable z.origin z.sets x t → IsEmptyProof t (proof_in z parameters r x t) ⊎ HasNoHashedSet z parameters x
   pub unsigned : HasNoHashedSet z parameters x → t ≡ DS → proof_in z parameters r x t ≡ Some UnsignedDelegation
@@ -164,21 +150,14 @@ pub record IsHashedUnsigned (z : Zone) (parameters : Nsec3Parameters) (r : Secti
   pub told : proof_in z parameters r c DS ≡ Some UnsignedDelegation
   pub none : IsUnsignedDelegation z.origin z.sets c
 
--- the name's servers are told, and what is proved of its keys, as `IsProvedReferral` has it for NSEC
-pub record IsHashedReferral (z : Zone) (parameters : Nsec3Parameters) (r : Sections) (c : Name) : Type 0 where
-  pub servers : HasAuthority z r part.Records c NS
-  pub keys : IsFalse (owns z.sets c SOA) → HasAuthority z r part.Signed c DS ⊎ IsHashedUnsigned z parameters r c
-
 -- ---- all of it
 
 -- what is said of a name is proved where the hash tells the names apart that a denial of it hashes
 pub record ProvesByHashes (z : Zone) (parameters : Nsec3Parameters) (q : Query) (r : Sections) : Type 0 where
-  -- each set is the zone's, but for a CNAME that a DNAME set makes, and addresses for which an ANAME set stands in
-  pub authorities : (s : RRset) → Contains r.authorities s → IsSentSet z.sets (authority_part s) s
-  pub answers : (s : RRset) → Contains r.answers s
-      → ((p : Part) × IsAnswerPart q.record_type p × (IsSentSet z.sets p s ⊎ IsHashedStarSet z parameters (shown_nsec3 r) p s)) ⊎ IsMadeAlias z.sets r.answers s ⊎ IsMadeAddresses z q (IsHashedFoundByStar z parameters (shown_nsec3 r)) s
-  -- where each set of a type is signed by the zone, NS aside, so is each of these
-  pub signatures : (t : ℕ) → t ≢ NS → AreSigned z t → (s : RRset) → Contains r.authorities s → s.record_type ≡ t → IsTrue (is_signed_by z.origin s)
+  pub says : ProvesBy z q r (IsHashedFoundByStar z parameters (shown_nsec3 r)) (IsReached z.origin z.sets)
+      (λ x. HashesApart z parameters x → IsHashedError z parameters r x)
+      (λ x. HashesApart z parameters x → IsHashedEmpty z parameters r x q.record_type)
+      (λ c. HashesApart z parameters c → IsHashedUnsigned z parameters r c)
   -- each NSEC3 record shown is the zone's, and they prove nothing of any name but what is so; with opt-out as far as that goes
   pub records : AreNsec3OfZone z.sets (shown_nsec3 r)
   pub sound : (x : Name) → IsNsec3Judged z.origin z.sets (zone_hash z parameters) parameters x → IsNsec3Sound z.origin z.sets (zone_hash z parameters) parameters.opt_out x (shown_nsec3 r)
@@ -186,13 +165,8 @@ pub record ProvesByHashes (z : Zone) (parameters : Nsec3Parameters) (q : Query) 
   pub data_sound : (x : Name) (t : ℕ) → HashesApart z parameters x → IsTrue (proves_no_data z.origin (zone_hash z parameters) (shown_nsec3 r) x t) → IsLacking z parameters x t
   -- a validator finds the zone's parameters in what stands there: what it tells by these records is what they prove by the zone's hash
   pub parameters_found : (x : Name) (t : ℕ) → HashesApart z parameters x → told_by z (shown_records r) x t ≡ proof_in z parameters r x t
-  -- what is said is said of a name that neither a cut nor a DNAME stands above, but for an alias by a DNAME that was asked for; and proved
-  pub reached : (w : Saying) → saying q r ≡ Some w → IsReached z.origin z.sets (name_of w) ⊎ IsAliasData z q r w
-  pub error : (x : Name) → saying q r ≡ Some (name_error x) → HashesApart z parameters x → IsHashedError z parameters r x
-  pub empty : (x : Name) → saying q r ≡ Some (no_data x) → HashesApart z parameters x → IsHashedEmpty z parameters r x q.record_type
-  pub delegation : (c : Name) → saying q r ≡ Some (referral c) → HashesApart z parameters c → IsHashedReferral z parameters r c
 
 -- ---- each response to a query with DNSSEC
 
-abbrev pub ResponseProvesByHashes : Type 0
-ResponseProvesByHashes = (z : Zone) (parameters : Nsec3Parameters) (q : Query) (r : Sections) → DeniesByNsec3 z parameters → IsTrue q.signed → IsResponse z q r → ProvesByHashes z parameters q r
+abbrev pub ResponseProvesByHashes : Server → Type 0
+ResponseProvesByHashes server = (z : Zone) (parameters : Nsec3Parameters) (q : Query) (r : Sections) → DeniesByNsec3 z parameters → IsTrue q.signed → server z q r → ProvesByHashes z parameters q r

@@ -1,6 +1,9 @@
+pub mod Servers
 pub mod Agreement
 pub mod NewNames
+pub mod Failures
 pub mod Sayings
+pub mod Contents
 pub mod ProvedSayings
 pub mod HashedSayings
 pub mod Repeats

@@ -1,4 +1,4 @@
--- What a response of a zone that denies by NSEC proves to a validator
+-- What a response of a zone that denies by NSEC proves to a validator; and what is common to both kinds of denial
 use Rattle.std.specs.Prelude.{◌≡◌, ◌≢◌, ℕ, Bool, true, false, ◌⊎◌, cond, ◌==◌, List, [], ◌∷◌, Option, Some, IsTrue, IsFalse, ◌&&◌, length}
 use Rattle.std.specs.List.{Contains, list_any}
 use Rattle.zone_proto.specs.declared.nx_proof_kind.NxProofKind.TheVariants as kind
@@ -7,7 +7,7 @@ use Rattle.zone_proto.specs.declared.rdata.RData.TheVariants as V
 use Rattle.zone_proto.specs.declared.record.Record.{Record}
 use Rattle.zone_proto.specs.Names.{Name, lower, name_eq, IsAbove, star_under, is_wildcard, base_name}
 use Rattle.zone_proto.specs.Sets.{RRset}
-use Rattle.zone_proto.specs.Types.{NS, SOA, DS, RRSIG, NSEC3, ANAME}
+use Rattle.zone_proto.specs.Types.{NS, SOA, DS, RRSIG, NSEC3}
 use Rattle.zone_map.specs.Wildcards.{exists, renamed}
 use Rattle.zone_map.specs.Zones.{Sets, set_at, owns}
 use Rattle.zone_denial.specs.NsecDenial.{nsec_encloser}
@@ -23,85 +23,25 @@ use Rattle.zone_acceptance.specs.Soundness.{IsNoName, IsWithoutData, IsUnflatten
 use Rattle.zone_response.specs.declared.response.Part.{Part}
 use Rattle.zone_response.specs.declared.response.Part.TheVariants as part
 use Rattle.zone_response.specs.Queries.{Zone, Query, inquiry}
-use Rattle.zone_response.specs.Renamings.{dname_target, in_place_of, made_alias}
-use Rattle.zone_response.specs.Responses.{negative_ttl, IsResponse}
-use Rattle.zone_response.specs.Sections.{Sections, sent, as_it_is, is_signed}
-use Rattle.zone_response.specs.StandIns.{addresses, stand_in_answer}
+use Rattle.zone_response.specs.Sections.{Sections, as_it_is}
+use Rattle.response_laws.specs.Contents.{IsMadeAlias, Origin}
 use Rattle.response_laws.specs.Sayings.{Saying, data_of, name_error, no_data, referral, asks_alias, last_name, saying, name_of}
+use Rattle.response_laws.specs.Servers.{Server}
 
 -- ---- the zone
 
--- a zone that denies by NSEC alone, as it is once it is secured, above whose origin nothing refers elsewhere
+-- nothing at the origin or above it refers elsewhere
+pub record IsUnreferred (z : Zone) : Type 0 where
+  pub unreferred : Unreferred z.origin z.sets
+  pub no_dname : (a : Name) → IsAbove a z.origin → IsFalse (owns z.sets a DNAME)
+
+-- a zone that denies by NSEC alone, as it is once it is secured
 pub record DeniesByNsec (z : Zone) : Type 0 where
   pub kind : z.nx_proof_kind ≡ Some kind.Nsec
   pub denials : z.denials ≡ z.sets
   pub circle : IsNsecZone z.origin z.sets
   pub one_kind : OwnsNone z.sets NSEC3
-  pub unreferred : Unreferred z.origin z.sets
-  pub no_dname : (a : Name) → IsAbove a z.origin → IsFalse (owns z.sets a DNAME)
-
--- ---- the sets of a response
-
--- the NSEC records that a validator reads in the authority section
-abbrev pub shown : Sections → List NsecRecord
-shown r = read r.authorities
-
--- the zone's own set of a name and a type, with one TTL for all its records and signatures, of which those are there that cover the type
-pub record IsSentSet (m : Sets) (p : Part) (s : RRset) : Type 0 where
-  pub name : Name
-  pub record_type : ℕ
-  pub stored : RRset
-  pub stands : set_at m name record_type ≡ Some stored
-  pub ttl : ℕ
-  pub sent : s ≡ sent p ttl stored
-
--- a set as it is found for a name by a star: the star's under that name, for which the star may answer, as the records rs prove (RFC 4035 section 3.1.3.3)
-pub record IsFoundByStar (origin : Name) (m : Sets) (rs : List NsecRecord) (name : Name) (record_type : ℕ) (found : RRset) : Type 0 where
-  pub encloser : Name
-  pub stored : RRset
-  pub stands : set_at m (star_under encloser) record_type ≡ Some stored
-  pub made : found ≡ renamed true (star_under encloser) name stored
-  pub proved : IsTrue (proves_wildcard_answer origin rs name encloser)
-
--- such a set, with one TTL for all its records and signatures
-pub record IsStarSet (origin : Name) (m : Sets) (rs : List NsecRecord) (p : Part) (s : RRset) : Type 0 where
-  pub name : Name
-  pub record_type : ℕ
-  pub found : RRset
-  pub by_star : IsFoundByStar origin m rs name record_type found
-  pub ttl : ℕ
-  pub sent : s ≡ sent p ttl found
-
--- the CNAME that a DNAME set of the section makes for a name below its owner: a validator makes it anew from that set, which is the zone's and goes out signed (RFC 6672 section 5.3.1)
-pub record IsMadeAlias (m : Sets) (answers : List RRset) (s : RRset) : Type 0 where
-  pub dname : RRset
-  pub among : Contains answers dname
-  pub record_type : dname.record_type ≡ DNAME
-  pub stands : IsSentSet m part.Signed dname
-  pub target : Name
-  pub told : dname_target dname ≡ Some target
-  pub name : Name
-  pub below : IsAbove (lower dname.owner) name
-  pub made : s ≡ made_alias dname name (in_place_of dname.owner target name)
-
--- the addresses for which an ANAME set stands in, made for the response and signed for it by the zone. The ANAME set is the name's own, or one that a star has for it (`IsByStar`)
-pub record IsMadeAddresses (z : Zone) (q : Query) (IsByStar : Name → ℕ → RRset → Type 0) (s : RRset) : Type 0 where
-  pub name : Name
-  pub aname : RRset
-  pub stands : (set_at z.sets name ANAME ≡ Some aname) ⊎ IsByStar name ANAME aname
-  pub made : RRset
-  pub leads : stand_in_answer (inquiry z q) name aname ≡ addresses made
-  pub signatures : made.signatures ≡ z.sign true (record made { signatures = [] })
-  pub signed : IsTrue (is_signed made)
-  pub sent : s ≡ as_it_is part.Signed made
-
--- a set of the answer section goes out signed, or where RRSIG is asked for as its signatures alone
-abbrev pub IsAnswerPart : ℕ → Part → Type 0
-IsAnswerPart t p = (p ≡ part.Signed) ⊎ ((t ≡ RRSIG) × (p ≡ part.Signatures))
-
--- one of the authority section is signed, but for NS, which here is a child's (RFC 4035 section 2.2)
-abbrev pub authority_part : RRset → Part
-authority_part s = cond (s.record_type == NS) part.Records part.Signed
+  pub top : IsUnreferred z
 
 -- ---- signatures
 
@@ -121,13 +61,61 @@ is_signed_by origin s = list_any (λ (r : Record). signs origin s r.rdata) s.sig
 abbrev pub AreSigned : Zone → ℕ → Type 0
 AreSigned z t = (n : Name) (s : RRset) → set_at z.sets n t ≡ Some s → IsTrue (is_signed_by z.origin s)
 
--- ---- what is said
+-- ---- by either kind
 
 -- a set of a name and a type stands in the authority section, with its own TTL
 pub record HasAuthority (z : Zone) (r : Sections) (p : Part) (x : Name) (t : ℕ) : Type 0 where
   pub stored : RRset
   pub stands : set_at z.sets x t ≡ Some stored
   pub among : Contains r.authorities (as_it_is p stored)
+
+-- the servers of a child are told, and what is proved of its keys: their digests are there, or that it has none (RFC 4035 section 3.1.4). A name that owns SOA too is the apex of a zone that stands in this one, of which no record of the parent is there
+pub record IsProvedReferral (z : Zone) (r : Sections) (IsUnsigned : Name → Type 0) (c : Name) : Type 0 where
+  pub servers : HasAuthority z r part.Records c NS
+  pub keys : IsFalse (owns z.sets c SOA) → HasAuthority z r part.Signed c DS ⊎ IsUnsigned c
+
+-- the data of a name that are an alias by a DNAME, which was asked for: the name is below the DNAME, where no record of denial tells of it
+pub record IsAliasData (z : Zone) (q : Query) (r : Sections) (w : Saying) : Type 0 where
+  pub name : Name
+  pub says : w ≡ data_of name
+  pub asked : IsTrue (asks_alias q.record_type)
+  pub alias : RRset
+  pub answer : last_name q.record_type q.name r.answers ≡ record { name = name; sets = alias ∷ [] }
+  pub made : IsMadeAlias (inquiry z q) r.answers alias
+
+-- what a response says is proved, by records that prove of a set that a star may answer with it, of a name that there is none, that it has no data, that it is a child without keys; and that tell of such names
+pub record ProvesBy (z : Zone) (q : Query) (r : Sections) (IsByStar : Name → ℕ → RRset → Type 0) (IsTold IsError IsEmpty IsUnsigned : Name → Type 0) : Type 0 where
+  -- each set of the answer section is the zone's, or made of one that is
+  pub answers : (s : RRset) → Contains r.answers s → Origin (inquiry z q) r.answers IsByStar s
+  -- where each set of a type is signed by the zone, NS aside, so is each of these
+  pub signatures : (t : ℕ) → t ≢ NS → AreSigned z t → (s : RRset) → Contains r.authorities s → s.record_type ≡ t → IsTrue (is_signed_by z.origin s)
+  -- what is said is said of a name of which records tell, but for an alias by a DNAME that was asked for; and proved
+  pub told : (w : Saying) → saying q r ≡ Some w → IsTold (name_of w) ⊎ IsAliasData z q r w
+  pub error : (x : Name) → saying q r ≡ Some (name_error x) → IsError x
+  pub empty : (x : Name) → saying q r ≡ Some (no_data x) → IsEmpty x
+  pub delegation : (c : Name) → saying q r ≡ Some (referral c) → IsProvedReferral z r IsUnsigned c
+
+-- what sums up to no data of type t; where DS is asked for, also that a zone cut has none
+abbrev pub IsEmptyProof : ℕ → Option Proof → Type 0
+IsEmptyProof t (Some NoData) = Unit {0}
+IsEmptyProof t (Some EmptyNonTerminal) = Unit {0}
+IsEmptyProof t (Some (WildcardNoData opted_out)) = opted_out ≡ false
+IsEmptyProof t (Some UnsignedDelegation) = t ≡ DS
+IsEmptyProof t _ = ⊥
+
+-- ---- by NSEC
+
+-- the NSEC records that a validator reads in the authority section
+abbrev pub shown : Sections → List NsecRecord
+shown r = read r.authorities
+
+-- a set as it is found for a name by a star: the star's under that name, for which the star may answer, as the records rs prove (RFC 4035 section 3.1.3.3)
+pub record IsFoundByStar (origin : Name) (m : Sets) (rs : List NsecRecord) (name : Name) (record_type : ℕ) (found : RRset) : Type 0 where
+  pub encloser : Name
+  pub stored : RRset
+  pub stands : set_at m (star_under encloser) record_type ≡ Some stored
+  pub made : found ≡ renamed true (star_under encloser) name stored
+  pub proved : IsTrue (proves_wildcard_answer origin rs name encloser)
 
 -- a type whose absence at x can be shown: not RRSIG, which every name on the circle owns; and not DS where the parent denies it. Where x doesn't exist, the same of the star under its closest encloser, which is no delegation either, since no standard says what that makes of x (RFC 4592 section 4.2)
 pub record IsShowable (origin : Name) (m : Sets) (x : Name) (t : ℕ) : Type 0 where
@@ -141,30 +129,14 @@ pub record HasNoStandIn (origin : Name) (m : Sets) (x : Name) (t : ℕ) : Type 0
   pub own : IsUnflattened m x t
   pub star : IsFalse (exists m x) → IsUnflattened m (star_under (nsec_encloser origin m x)) t
 
--- the zone's SOA stands there, with the TTL of a negative response (RFC 2308 section 3)
-pub record HasSoa (z : Zone) (r : Sections) : Type 0 where
-  pub stored : RRset
-  pub stands : set_at z.sets z.origin SOA ≡ Some stored
-  pub among : Contains r.authorities (sent part.Signed (negative_ttl stored) stored)
-
 -- there is no such name, and that is proved (RFC 4035 section 3.1.3.2)
 pub record IsProvedError (z : Zone) (r : Sections) (x : Name) : Type 0 where
-  pub soa : HasSoa z r
   pub proved : IsTrue (proves_name_error z.origin (shown r) x)
   pub told : (t : ℕ) → nsec_proof z.origin (shown r) x t ≡ Some (NameError false)
   pub none : IsNoName z.origin z.sets x
 
--- what sums up to no data of type t; where DS is asked for, also that a zone cut has none
-abbrev pub IsEmptyProof : ℕ → Option Proof → Type 0
-IsEmptyProof t (Some NoData) = Unit {0}
-IsEmptyProof t (Some EmptyNonTerminal) = Unit {0}
-IsEmptyProof t (Some (WildcardNoData opted_out)) = opted_out ≡ false
-IsEmptyProof t (Some UnsignedDelegation) = t ≡ DS
-IsEmptyProof t _ = ⊥
-
 -- a name has no data of a type, and that is proved (RFC 4035 sections 3.1.3.1 and 3.1.3.4). A lookup asks no star for a name that begins with `*`
 pub record IsProvedEmpty (z : Zone) (r : Sections) (x : Name) (t : ℕ) : Type 0 where
-  pub soa : HasSoa z r
   pub proved : IsShowable z.origin z.sets x t → IsTrue (proves_empty_answer z.origin (shown r) x t)
   pub told : IsShowable z.origin z.sets x t → IsFalse (is_wildcard x) → IsEmptyProof t (nsec_proof z.origin (shown r) x t)
   pub none : IsShowable z.origin z.sets x t → IsFalse (is_wildcard x) → HasNoStandIn z.origin z.sets x t → IsWithoutData z.origin z.sets x t
@@ -175,39 +147,15 @@ pub record IsProvedUnsigned (z : Zone) (r : Sections) (c : Name) : Type 0 where
   pub told : (t : ℕ) → nsec_proof z.origin (shown r) c t ≡ Some UnsignedDelegation
   pub none : IsUnsignedDelegation z.origin z.sets c
 
--- the name's servers are told, and what is proved of its keys: their digests are there, or that it has none (RFC 4035 section 3.1.4). A name that owns SOA too is the apex of a zone that stands in this one, of which no record of the parent is there
-pub record IsProvedReferral (z : Zone) (r : Sections) (c : Name) : Type 0 where
-  pub servers : HasAuthority z r part.Records c NS
-  pub keys : IsFalse (owns z.sets c SOA) → HasAuthority z r part.Signed c DS ⊎ IsProvedUnsigned z r c
-
--- the data of a name that are an alias by a DNAME, which was asked for: the name is below the DNAME, where no record of denial tells of it
-pub record IsAliasData (z : Zone) (q : Query) (r : Sections) (w : Saying) : Type 0 where
-  pub name : Name
-  pub says : w ≡ data_of name
-  pub asked : IsTrue (asks_alias q.record_type)
-  pub alias : RRset
-  pub answer : last_name q.record_type q.name r.answers ≡ record { name = name; sets = alias ∷ [] }
-  pub made : IsMadeAlias z.sets r.answers alias
-
 -- ---- all of it
 
 pub record ProvesWhatItSays (z : Zone) (q : Query) (r : Sections) : Type 0 where
-  -- each set is the zone's, but for a CNAME that a DNAME set makes, and addresses for which an ANAME set stands in
-  pub authorities : (s : RRset) → Contains r.authorities s → IsSentSet z.sets (authority_part s) s
-  pub answers : (s : RRset) → Contains r.answers s
-      → ((p : Part) × IsAnswerPart q.record_type p × (IsSentSet z.sets p s ⊎ IsStarSet z.origin z.sets (shown r) p s)) ⊎ IsMadeAlias z.sets r.answers s ⊎ IsMadeAddresses z q (IsFoundByStar z.origin z.sets (shown r)) s
-  -- where each set of a type is signed by the zone, NS aside, so is each of these
-  pub signatures : (t : ℕ) → t ≢ NS → AreSigned z t → (s : RRset) → Contains r.authorities s → s.record_type ≡ t → IsTrue (is_signed_by z.origin s)
+  pub says : ProvesBy z q r (IsFoundByStar z.origin z.sets (shown r)) (IsJudged z.origin z.sets) (IsProvedError z r) (λ x. IsProvedEmpty z r x q.record_type) (IsProvedUnsigned z r)
   -- each NSEC record shown is the zone's, and they prove nothing of any name but what is so
   pub records : AreOfZone z.sets (shown r)
   pub sound : (x : Name) → IsJudged z.origin z.sets x → IsSound z.origin z.sets x (shown r)
-  -- what is said is said of a name that is judged, but for an alias by a DNAME that was asked for; and proved
-  pub judged : (w : Saying) → saying q r ≡ Some w → IsJudged z.origin z.sets (name_of w) ⊎ IsAliasData z q r w
-  pub error : (x : Name) → saying q r ≡ Some (name_error x) → IsProvedError z r x
-  pub empty : (x : Name) → saying q r ≡ Some (no_data x) → IsProvedEmpty z r x q.record_type
-  pub delegation : (c : Name) → saying q r ≡ Some (referral c) → IsProvedReferral z r c
 
 -- ---- each response to a query with DNSSEC
 
-abbrev pub ResponseProvesWhatItSays : Type 0
-ResponseProvesWhatItSays = (z : Zone) (q : Query) (r : Sections) → DeniesByNsec z → IsTrue q.signed → IsResponse z q r → ProvesWhatItSays z q r
+abbrev pub ResponseProvesWhatItSays : Server → Type 0
+ResponseProvesWhatItSays server = (z : Zone) (q : Query) (r : Sections) → DeniesByNsec z → IsTrue q.signed → server z q r → ProvesWhatItSays z q r

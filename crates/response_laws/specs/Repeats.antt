@@ -6,8 +6,8 @@ use Rattle.zone_proto.specs.Names.{lower}
 use Rattle.zone_proto.specs.Sets.{RRset}
 use Rattle.zone_map.specs.Zones.{IsZone}
 use Rattle.zone_response.specs.Queries.{Zone, Query, HasOwnDenials}
-use Rattle.zone_response.specs.Responses.{IsResponse}
 use Rattle.zone_response.specs.Sections.{Sections, is_signed, is_alike}
+use Rattle.response_laws.specs.Servers.{Server}
 
 -- both have records
 abbrev pub have_both : List Record → List Record → Bool
@@ -30,5 +30,5 @@ pub record IsEachOnce (r : Sections) : Type 0 where
   pub additionals : StandOnce (r.glue ++ r.additionals)
 
 -- of each response; a query's name is in lower case
-abbrev pub SetsStandOnce : Type 0
-SetsStandOnce = (z : Zone) (q : Query) (r : Sections) → IsZone z.sets → HasOwnDenials z → lower q.name ≡ q.name → IsResponse z q r → IsEachOnce r
+abbrev pub SetsStandOnce : Server → Type 0
+SetsStandOnce server = (z : Zone) (q : Query) (r : Sections) → IsZone z.sets → HasOwnDenials z → lower q.name ≡ q.name → server z q r → IsEachOnce r

@@ -1,5 +1,5 @@
 -- What a response says to who asked, read in the response alone (RFC 2308 section 2)
-use Rattle.std.specs.Prelude.{◌≡◌, ℕ, Bool, ◌&&◌, ◌||◌, not, ◌⊎◌, cond, List, [], ◌∷◌, ◌==◌, Option, Some, None, find, option_and_then}
+use Rattle.std.specs.Prelude.{◌≡◌, ◌≢◌, ℕ, Bool, ◌&&◌, ◌||◌, not, ◌⊎◌, cond, List, [], ◌∷◌, ◌==◌, Option, Some, None, find, option_and_then}
 use Rattle.std.specs.List.{list_any}
 use Rattle.std.specs.Option.{option_map_or}
 use Rattle.zone_proto.specs.declared.response_code.ResponseCode.{ResponseCode}
@@ -11,10 +11,12 @@ use Rattle.zone_map.specs.Chains.{cname_target}
 use Rattle.zone_map.specs.Zones.{IsZone}
 use Rattle.zone_response.specs.Paths.{is_told_by, path}
 use Rattle.zone_response.specs.Queries.{Zone, Query, HasOwnDenials, inquiry}
-use Rattle.zone_response.specs.Responses.{bare, IsResponse}
+use Rattle.zone_response.specs.Responses.{bare, yx_domain}
 use Rattle.zone_response.specs.Sections.{Sections}
-use Rattle.zone_response.specs.Steps.{End, complete, referred, missing}
+use Rattle.zone_response.specs.Steps.{End, complete, referred, missing, outside, unfollowed, too_long, failed}
 use Rattle.zone_response.specs.Turns.{DNAME}
+use Rattle.response_laws.specs.Failures.{WhyAlone}
+use Rattle.response_laws.specs.Servers.{Server}
 
 pub data Saying : Type 0 where
   -- these are the data of this name
@@ -44,15 +46,33 @@ leads_to t x s = cond (asks_alias t || not (same_name s.owner x)) None (cname_ta
 abbrev pub renames : Name → RRset → Bool
 renames x s = is_of DNAME s && is_above (lower s.owner) (lower x)
 
+-- what a set is to who follows the aliases, and has come to x
+pub data Passage : Type 0 where
+  -- it is passed over, and the next one is looked at
+  passed : Passage
+  -- it leads on to this name
+  leads_on : Name → Passage
+  -- it does neither, so that x is the last name
+  stays : Passage
+
+abbrev pub passage : ℕ → Name → RRset → Passage
+passage t x s = cond (renames x s) passed (option_map_or leads_on (leads_to t x s) stays)
+
 -- the last name of an answer section, with the sets that stand behind the aliases to it
 pub record LastName : Type 0 where
   pub name : Name
   pub sets : List RRset
 
--- along the aliases from x on, DNAME sets above the names passed over
+-- what is last behind a set at x, which is this itself where it stays
+abbrev pub last_behind : Passage → Name → (Name → LastName) → LastName → LastName
+last_behind passed x further itself = further x
+last_behind (leads_on y) x further itself = further y
+last_behind stays x further itself = itself
+
+-- along the aliases from x on
 abbrev pub last_name : ℕ → Name → List RRset → LastName
 last_name t x [] = record { name = x; sets = [] }
-last_name t x (s ∷ sets) = cond (renames x s) (last_name t x sets) (option_map_or (λ target. last_name t target sets) (leads_to t x s) (record { name = x; sets = s ∷ sets }))
+last_name t x (s ∷ sets) = last_behind (passage t x s) x (λ y. last_name t y sets) (record { name = x; sets = s ∷ sets })
 
 -- ---- the authority section
 
@@ -100,17 +120,27 @@ name_of (referral x) = x
 
 -- ---- what is to be said
 
--- what is said where a search ends: of a chain that leaves the zone, isn't followed any farther, or comes to a name that a DNAME makes too long, nothing
-abbrev pub SaysEnd : End → Option Saying → Type 0
-SaysEnd complete w = (x : Name) × (w ≡ Some (data_of x))
-SaysEnd (referred c) w = w ≡ Some (referral (lower c.owner))
-SaysEnd (missing x star there) w = w ≡ Some (cond there (no_data x) (name_error x))
-SaysEnd _ w = w ≡ None
+-- with this code, aliases lead from the name that is asked for to x, of which nothing is said
+pub record LeadsAway (q : Query) (r : Sections) (c : ResponseCode) (x : Name) : Type 0 where
+  pub code : r.code ≡ c
+  pub leads : last_name q.record_type q.name r.answers ≡ record { name = x; sets = [] }
+  pub aliases : r.answers ≢ []
+  pub silent : saying q r ≡ None
 
--- a response says nothing by its code alone, or it says how its search ends
+-- what is said where a search ends: nothing of a name outside the zone, of one that isn't followed any farther, or of one to which a DNAME gives a name that is too long (RFC 6672 section 2.2); but the aliases that lead there are told
+abbrev pub SaysEnd : Query → Sections → End → Type 0
+SaysEnd q r complete = (x : Name) × (saying q r ≡ Some (data_of x))
+SaysEnd q r (referred c) = saying q r ≡ Some (referral (lower c.owner))
+SaysEnd q r (missing x star there) = saying q r ≡ Some (cond there (no_data x) (name_error x))
+SaysEnd q r (outside x) = LeadsAway q r code.NoError x
+SaysEnd q r unfollowed = (x : Name) × LeadsAway q r code.NoError x
+SaysEnd q r too_long = (x : Name) × LeadsAway q r yx_domain x
+SaysEnd q r failed = ⊥
+
+-- a response is a code alone, for which there is a reason, or it says how its search ends
 abbrev pub SaysHowItEnds : Zone → Query → Sections → Type 0
-SaysHowItEnds z q r = ((r ≡ bare r.code) × (saying q r ≡ None)) ⊎ SaysEnd (path (inquiry z q) q.name).end (saying q r)
+SaysHowItEnds z q r = ((r ≡ bare r.code) × WhyAlone z q r.code) ⊎ SaysEnd q r (path (inquiry z q) q.name).end
 
 -- so it is of each response of each zone, signed or not
-abbrev pub ResponseSaysHowItEnds : Type 0
-ResponseSaysHowItEnds = (z : Zone) (q : Query) (r : Sections) → IsZone z.sets → HasOwnDenials z → IsResponse z q r → SaysHowItEnds z q r
+abbrev pub ResponseSaysHowItEnds : Server → Type 0
+ResponseSaysHowItEnds server = (z : Zone) (q : Query) (r : Sections) → IsZone z.sets → HasOwnDenials z → server z q r → SaysHowItEnds z q r

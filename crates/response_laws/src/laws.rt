@@ -1,26 +1,60 @@
-//! Laws of what a response says, of what a lookup says beside it, and of what it proves to a validator; of the sets of its sections,
-//! and of the names that a DNAME gives. Each is an empty function whose contract is the law, so a program has no need to call one.
+//! Laws of what a response says, of what stands in it, of what a lookup says beside it, and of what it proves to a validator; of
+//! failures, and of the names that a DNAME gives. Each is an empty function whose contract is the law, so a program has no need to call
+//! one.
 //!
 //! What a response says is read in the response alone: the data of a name, a name error, no data, or a referral (`saying`); and so are
-//! the NSEC or NSEC3 records by which it proves that. Signatures are taken as verified.
+//! the NSEC or NSEC3 records by which it proves that. Signatures are taken as verified. A law of responses is said of any server, and
+//! its contract says it of the responses of `zone_response` (`IsResponse`).
+ghost use Rattle.zone_response.specs.Responses.{IsResponse};
+ghost use Rattle.response_laws.specs.Agreement.{ProvableByOwners, ResponsesAgree};
+ghost use Rattle.response_laws.specs.Contents.{NegativeTtlIsLesser, ResponseHasContents};
+ghost use Rattle.response_laws.specs.Failures.{AnswerableIsAnswered, FailureHasReason, FailureIsTold};
 ghost use Rattle.response_laws.specs.HashedSayings.{ResponseProvesByHashes};
 ghost use Rattle.response_laws.specs.NewNames.{OwnersAreReplaced, TargetsAreRead};
 ghost use Rattle.response_laws.specs.ProvedSayings.{ResponseProvesWhatItSays};
 ghost use Rattle.response_laws.specs.Repeats.{SetsStandOnce};
 ghost use Rattle.response_laws.specs.Sayings.{ResponseSaysHowItEnds};
-ghost use Rattle.response_laws.specs.Agreement.{ProvableByOwners, ResponsesAgree};
 
 /// Each response of each zone says how its search ends: where with the set that is asked for, that these are the data; at a zone cut,
-/// a referral to it; at a name without the set, a name error or no data (RFC 2308 section 2). It says nothing of a chain of aliases
-/// that leaves the zone, isn't followed any farther, or comes to a name that a DNAME makes too long, and nothing by a code alone.
+/// a referral to it; at a name without the set, a name error or no data (RFC 2308 section 2). Of a name outside the zone, of one that
+/// isn't followed any farther, and of one to which a DNAME gives a name that is too long it says nothing, but has the aliases that lead
+/// there. Only a refusal, a type that no record has, and a failure are told by a code alone, each for its reason (`WhyAlone`).
 pub fn responses_say_how_they_end()
-    ensures { ResponseSaysHowItEnds }
+    ensures { ResponseSaysHowItEnds IsResponse }
+{}
+
+/// SERVFAIL comes for a reason (`Failure`): the zone has no SOA; the search ends at a DNAME set without a target, or at an ANAME set that
+/// leads to a name which the zone doesn't tell, or to addresses that have to be proved and that nobody signs (`Fault`); or something is
+/// to be proved, and a name has no hashed owner. So it doesn't come where the zone has an SOA and no such fault, and each name has a
+/// hashed owner, as in each zone that doesn't deny by hashed names (`IsAnswerable`); and wherever there is a reason, it comes alone.
+pub fn failures_have_reasons()
+    ensures reason { FailureHasReason IsResponse }
+    ensures answered { AnswerableIsAnswered IsResponse }
+    ensures told { FailureIsTold IsResponse }
+{}
+
+/// What stands in the sections of each response of each zone, signed or not (`HasContents`).
+///
+/// AA is set but in a refusal and a failure, and where the queried name is at a zone cut or below it (RFC 1035 section 4.1.1). Each set
+/// of the answer section is the zone's own, or that of the star that is asked for the owner, with its own TTL; or the CNAME that a DNAME
+/// set of the section makes, with that one's TTL (RFC 6672 section 3.1); or has the addresses for which an ANAME set stands in
+/// (`Origin`). All records and signatures of a set have its TTL (RFC 2181 section 5.2, RFC 4034 section 3).
+///
+/// The authority section has the SOA of a negative response, with the lesser of its own TTL and its MINIMUM (RFC 2308 sections 3 and 5);
+/// the NS set of the child to which it refers, and with DNSSEC its DS set; and with DNSSEC, where something is to be proved
+/// (`HasToProve`), sets of NSEC or NSEC3, with no greater TTL than that of a negative response (RFC 9077 section 3); and nothing else
+/// (`AuthorityOrigin`). The glue of a referral is each address of
+/// each server that its NS set names and that stands in the child (RFC 9471 section 3.1), of the first 64 records of that set, and
+/// nothing else (`HasGlue`); what else is in the additional section are sets of the zone with their own TTL (`IsHelpful`).
+pub fn sections_have_what_belongs_there()
+    ensures contents { ResponseHasContents IsResponse }
+    ensures negative_ttl { NegativeTtlIsLesser }
 {}
 
 /// Each set stands once in a section of each response, however often a search comes below a DNAME or back to its owner (RFC 2181
 /// section 5): of two of one owner and type, not both have records, and not both signatures (`repeats`).
 pub fn sets_stand_once()
-    ensures { SetsStandOnce }
+    ensures { SetsStandOnce IsResponse }
 {}
 
 /// The answer section of a response has the sets that a lookup answers with, as they go out, the addresses by ANAME with the same
@@ -37,7 +71,7 @@ pub fn sets_stand_once()
 /// without DNSSEC, and in each zone that doesn't deny by hashed names or in which each name has a hashed owner. A name that owns sets
 /// of denial alone, as NSEC3, is told by the code of a name error, where a lookup may say that it exists (RFC 5155 section 7.2.8).
 pub fn responses_agree_with_lookups()
-    ensures agreement { ResponsesAgree }
+    ensures agreement { ResponsesAgree IsResponse }
     ensures provable { ProvableByOwners }
 {}
 
@@ -62,7 +96,7 @@ pub fn targets_are_read()
 /// finds the ANAME; where none stands in, it finds nothing (`HasNoStandIn`). A referral to a name that owns SOA too isn't proved
 /// unsigned, since the NSEC set there is the child's.
 pub fn responses_prove_what_they_say()
-    ensures { ResponseProvesWhatItSays }
+    ensures { ResponseProvesWhatItSays IsResponse }
 {}
 
 /// Each response to a query with DNSSEC proves what it says, from a zone that denies by NSEC3, with opt-out or without: its NSEC3 sets
@@ -84,5 +118,5 @@ pub fn responses_prove_what_they_say()
 /// star that is asked for it owns no NS (`IsHashedShowable`); where no ANAME stands in (`HasNoHashedStandIn`), a lookup finds nothing
 /// then. A validator finds the parameters in the records (`told_by`).
 pub fn hashed_responses_prove_what_they_say()
-    ensures { ResponseProvesByHashes }
+    ensures { ResponseProvesByHashes IsResponse }
 {}

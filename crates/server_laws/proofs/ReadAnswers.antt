@@ -1,5 +1,5 @@
 -- What a message that wasn't cut has of the sections that it was written of
-use Rattle.std.proofs.Common.{◌≡◌, ℕ, ◌%◌, ◌&&◌, Bool, true, false, not, List, [], ◌∷◌, ◌++◌, map, refl, sym, ap, subst, ◌∙◌, true≢false, inl, inr}
+use Rattle.std.proofs.Common.{◌≡◌, ℕ, ◌%◌, ◌&&◌, Bool, true, false, not, List, [], ◌∷◌, ◌++◌, map, refl, sym, ap, subst, ◌∙◌, true≢false, append_assoc, inl, inr}
 use Rattle.std.specs.Prelude.{◌⊎◌, Option, Some, None, Ok}
 use Rattle.std.specs.List.{flat_map}
 use Rattle.zone_proto.specs.declared.record.Record.{Record}
@@ -14,17 +14,19 @@ use Rattle.zone_response.specs.Queries.{Zone}
 use Rattle.zone_response.specs.Responses.{bare, IsResponse}
 use Rattle.zone_response.specs.Sections.{Sections}
 use Rattle.zone_wire.specs.declared.response.Group.{Group}
-use Rattle.zone_wire.specs.Responses.{records_of, all_records, if_whole, IsSection}
+use Rattle.zone_wire.specs.Responses.{records_of, all_records, opt_of, if_whole, IsSection}
 use Rattle.zone_server.specs.declared.transport.Transport.{Transport}
 use Rattle.zone_server.specs.Answers.{asked_of, records_sent, AreSets, IsAnswer, IsAnswerTo, IsResponseTo, IsSent, GoesOut, Says}
 use Rattle.zone_server.specs.Limits.{limit_for}
 use Rattle.zone_server.specs.ServedZones.{IsAnswering}
+use Rattle.response_laws.specs.Contents.{HasContents}
 use Rattle.response_laws.specs.HashedSayings.{told_by, ProvesByHashes}
 use Rattle.response_laws.specs.ProvedSayings.{ProvesWhatItSays}
-use Rattle.response_laws.proofs.Responses.{response_proves_what_it_says, response_proves_by_hashes}
+use Rattle.response_laws.proofs.OwnDenials.{lends_own}
+use Rattle.response_laws.proofs.Responses.{response_has_contents, response_proves_what_it_says, response_proves_by_hashes}
 use Rattle.server_laws.specs.ProvedAnswers.{HasSections, ProvesInMessage, ProvesByHashesInMessage, IsFailure, AnswerProvesWhatItSays, AnswerProvesByHashes}
 use Rattle.server_laws.proofs.OneZone.{one_answers}
-use Rattle.server_laws.proofs.ShownRecords.{nsec_unsigned, nsec3_unsigned, shown_in_sets}
+use Rattle.server_laws.proofs.ShownRecords.{nsec_unsigned, nsec3_unsigned, each_sent, shown_in_sets}
 use Rattle.server_laws.proofs.ToldRecords.{told_sent}
 
 -- groups that are sets have their records
@@ -45,8 +47,9 @@ whole : (room : ℕ) (old new : List ℕ) (gs : List Group) (kept : List Record)
 whole room old new gs kept true e h = h.0
 whole room old new gs kept false e h = absurd (true≢false (sym e))
 
-all_true : (a b c : Bool) → false ≡ not (a && (b && c)) → (a ≡ true) × (b ≡ true)
-all_true true true c e = (refl, refl)
+all_true : (a b c : Bool) → false ≡ not (a && (b && c)) → (a ≡ true) × (b ≡ true) × (c ≡ true)
+all_true true true true e = (refl, refl, refl)
+all_true true true false e = absurd (true≢false (sym e))
 all_true true false c e = absurd (true≢false (sym e))
 all_true false b c e = absurd (true≢false (sym e))
 
@@ -61,6 +64,9 @@ has_sections limit q s octets m sent reads uncut =
     let is = some_same m _ (sym reads ∙ w.reads) in
     let trues = all_true w.body.answers_whole w.body.authorities_whole w.body.glue_whole
     (sym uncut ∙ ap (λ (x : Parts). x.header.truncated) is ∙ w.body.truncated_is) in
+    let glue_is = whole _ _ _ (if_whole (w.body.answers_whole && w.body.authorities_whole) r.glue.now) w.body.glue w.body.glue_whole trues.2 w.body.glue_is
+    ∙ (λ i. all_records (if_whole (trues.0 i && trues.1 i) r.glue.now))
+    ∙ of_groups r.glue.now s.glue sent.means.glue in
     record {
       code = ap (λ (x : Parts). x.header.response_code) is ∙ ap (λ n. n % 16) sent.means.code;
       authoritative = ap (λ (x : Parts). x.header.authoritative) is ∙ sent.means.authoritative;
@@ -71,6 +77,11 @@ has_sections limit q s octets m sent reads uncut =
           ∙ whole _ _ _ (if_whole w.body.answers_whole r.authorities.now) w.authorities w.body.authorities_whole trues.1 w.body.authorities_are
           ∙ ap (λ b. all_records (if_whole b r.authorities.now)) trues.0
           ∙ of_groups r.authorities.now s.authorities sent.means.authorities;
+      others = w.body.helpful ++ opt_of r;
+      glue = ap (λ (x : Parts). x.additionals) is
+          ∙ ap (λ rs. rs ++ opt_of r) w.body.additionals_are
+          ∙ append_assoc w.body.glue w.body.helpful (opt_of r)
+          ∙ ap (λ rs. rs ++ (w.body.helpful ++ opt_of r)) glue_is;
     }
 
 -- ---- what goes out proves what is said, or is a failure
@@ -106,11 +117,14 @@ answer_proves zs t message octets q z m asked is answering denies signed reads u
     said' : IsSaid z q m
     said' = said_by zs t message octets q z m asked is answering reads uncut
 
+    c : HasContents z (asked_of q) said'.sections
+    c = response_has_contents z (asked_of q) said'.sections denies.circle.zone (lends_own z denies.circle.zone denies.denials) said'.says
+
     p : ProvesWhatItSays z (asked_of q) said'.sections
     p = response_proves_what_it_says z (asked_of q) said'.sections denies signed said'.says
 
     by : HasSections said'.sections m ⊎ IsFailure z q m → ProvesInMessage z q m ⊎ IsFailure z q m
-    by (inl has) = inl (record { said = said'.sections; proved = p; sections = has; shown = ap nsec_records has.authorities ∙ shown_in_sets read_nsec nsec_unsigned z.sets said'.sections p.authorities })
+    by (inl has) = inl (record { said = said'.sections; contents = c; proved = p; sections = has; shown = ap nsec_records has.authorities ∙ shown_in_sets read_nsec nsec_unsigned said'.sections (each_sent c) })
     by (inr failure) = inr failure
 
 pub answer_proves_by_hashes : AnswerProvesByHashes
@@ -118,6 +132,9 @@ answer_proves_by_hashes zs t message octets q z parameters m asked is answering 
   where
     said' : IsSaid z q m
     said' = said_by zs t message octets q z m asked is answering reads uncut
+
+    c : HasContents z (asked_of q) said'.sections
+    c = response_has_contents z (asked_of q) said'.sections denies.circle.zone (lends_own z denies.circle.zone denies.denials) said'.says
 
     p : ProvesByHashes z parameters (asked_of q) said'.sections
     p = response_proves_by_hashes z parameters (asked_of q) said'.sections denies signed said'.says
@@ -127,10 +144,11 @@ answer_proves_by_hashes zs t message octets q z parameters m asked is answering 
         inl
         (record {
           said = said'.sections;
+          contents = c;
           proved = p;
           sections = has;
-          shown = ap nsec3_records has.authorities ∙ shown_in_sets read_nsec3 nsec3_unsigned z.sets said'.sections p.authorities;
+          shown = ap nsec3_records has.authorities ∙ shown_in_sets read_nsec3 nsec3_unsigned said'.sections (each_sent c);
           parameters_found = λ x u apart.
-              ap (λ rs. told_by z rs x u) has.authorities ∙ told_sent z said'.sections p.authorities x u ∙ p.parameters_found x u apart;
+              ap (λ rs. told_by z rs x u) has.authorities ∙ told_sent z said'.sections (each_sent c) x u ∙ p.parameters_found x u apart;
         })
     by (inr failure) = inr failure

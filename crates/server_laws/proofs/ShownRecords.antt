@@ -1,6 +1,6 @@
 -- What is read in the sets of an authority section is read in their records: a signature is neither an NSEC nor an NSEC3 record
 use Rattle.std.proofs.Common.{◌≡◌, ℕ, Bool, true, false, cond, List, [], ◌∷◌, ◌++◌, map, refl, sym, ap, ◌∙◌, true≢false}
-use Rattle.std.specs.Prelude.{Option, None, All, filter, filter_map, option_map}
+use Rattle.std.specs.Prelude.{Option, None, All, filter, filter_map, min, option_map}
 use Rattle.std.specs.List.{cons_option, flat_map, Contains}
 use Rattle.std.proofs.lemmas.List.{append-nil}
 use Rattle.std.proofs.lemmas.List.Elements.{filter_map-append, All-head, All-tail, All-weaker, All-contains_itself}
@@ -8,14 +8,15 @@ use Rattle.zone_proto.specs.declared.record.Record.{Record}
 use Rattle.zone_proto.specs.declared.rdata.RData.{RData}
 use Rattle.zone_proto.specs.declared.rdata.RData.TheVariants as V
 use Rattle.zone_proto.specs.Sets.{RRset}
-use Rattle.zone_map.specs.Zones.{Sets}
 use Rattle.zone_validation.specs.NsecRecords.{nsec_data, nsec_record, read_nsec}
 use Rattle.zone_validation.specs.Nsec3Records.{nsec3_data, nsec3_record, read_nsec3}
 use Rattle.zone_response.specs.declared.response.Part.{Part}
 use Rattle.zone_response.specs.declared.response.Part.TheVariants as part
-use Rattle.zone_response.specs.Sections.{Sections, covers, with_ttl, sent}
+use Rattle.zone_response.specs.Queries.{Zone, Query}
+use Rattle.zone_response.specs.Responses.{negative_ttl}
+use Rattle.zone_response.specs.Sections.{Sections, covers, with_ttl, sent, part_for}
 use Rattle.zone_server.specs.Answers.{records_sent}
-use Rattle.response_laws.specs.ProvedSayings.{IsSentSet, authority_part}
+use Rattle.response_laws.specs.Contents.{AuthorityOrigin, start, servers, digests, denial, HasContents}
 
 -- a record that covers a type is a signature, in which nothing is read
 abbrev pub ReadsNoSignature : {R : Type 0} → (Record → Option R) → Type 0
@@ -28,6 +29,23 @@ nsec_unsigned t ttl r _ is e = absurd (true≢false (sym e))
 pub nsec3_unsigned : ReadsNoSignature read_nsec3
 nsec3_unsigned t ttl r (V.RRSIG a) is e = ap (λ d. option_map (nsec3_record r.name) (nsec3_data d)) is
 nsec3_unsigned t ttl r _ is e = absurd (true≢false (sym e))
+
+-- a set goes out with one TTL
+pub record IsSent (s : RRset) : Type 0 where
+  pub part' : Part
+  pub ttl : ℕ
+  pub stored : RRset
+  pub sent : s ≡ sent part' ttl stored
+
+-- so does each of an authority section
+pub each_sent : {z : Zone} {q : Query} {r : Sections} → HasContents z q r → (s : RRset) → Contains r.authorities s → IsSent s
+each_sent {z} {q} {r} h s c = by (h.authorities s c)
+  where
+    by : AuthorityOrigin z q r s → IsSent s
+    by (start soa n f e) = record { part' = part_for q.signed; ttl = negative_ttl soa; stored = soa; sent = e }
+    by (servers c stored f g e) = record { part' = part.Records; ttl = stored.ttl; stored = stored; sent = e }
+    by (digests c stored signed f g e) = record { part' = part.Signed; ttl = stored.ttl; stored = stored; sent = e }
+    by (denial soa n t stored signed p f d g e) = record { part' = part.Signed; ttl = min stored.ttl (negative_ttl soa); stored = stored; sent = e }
 
 module _ {R : Type 0} (reader : Record → Option R) (unsigned : ReadsNoSignature reader) where
   abbrev read_in : List Record → List R
@@ -68,11 +86,11 @@ module _ {R : Type 0} (reader : Record → Option R) (unsigned : ReadsNoSignatur
       ∙ (λ i. All-head P s ss h i ++ of_sets ss (All-tail P s ss h) i)
       ∙ sym (filter_map-append reader s.records (flat_map (λ (x : RRset). x.records) ss))
 
-  pub shown_in_sets : (m : Sets) (r : Sections) → ((s : RRset) → Contains r.authorities s → IsSentSet m (authority_part s) s)
+  pub shown_in_sets : (r : Sections) → ((s : RRset) → Contains r.authorities s → IsSent s)
       → filter_map reader (flat_map records_sent r.authorities) ≡ filter_map reader (flat_map (λ (s : RRset). s.records) r.authorities)
-  shown_in_sets m r h =
+  shown_in_sets r h =
       let P : RRset → Type 0 = λ s. read_in (records_sent s) ≡ read_in s.records in
       let each : (s : RRset) → Contains r.authorities s → P s = λ s c.
       let is = h s c in
-      of_set s (ap (λ (x : RRset). read_in x.signatures) is.sent ∙ none_of_sent (authority_part s) is.ttl is.stored) in
+      of_set s (ap (λ (x : RRset). read_in x.signatures) is.sent ∙ none_of_sent is.part' is.ttl is.stored) in
       of_sets r.authorities (All-weaker (Contains r.authorities) P each r.authorities (All-contains_itself r.authorities))

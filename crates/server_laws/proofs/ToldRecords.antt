@@ -13,9 +13,8 @@ use Rattle.zone_response.specs.Queries.{Zone}
 use Rattle.zone_response.specs.Sections.{Sections, with_ttl}
 use Rattle.zone_server.specs.Answers.{records_sent}
 use Rattle.response_laws.specs.HashedSayings.{told_by, shown_records}
-use Rattle.response_laws.specs.ProvedSayings.{IsSentSet, authority_part}
 use Rattle.response_laws.proofs.HashedCalls.{same_told}
-use Rattle.server_laws.proofs.ShownRecords.{ReadsNoSignature, nsec3_unsigned, shown_in_sets}
+use Rattle.server_laws.proofs.ShownRecords.{ReadsNoSignature, nsec3_unsigned, IsSent, shown_in_sets}
 
 data_unsigned : (origin : Name) → ReadsNoSignature (zone_data origin)
 data_unsigned origin t ttl r (V.RRSIG a) is e = ap (λ d. option_and_then (λ (d : Nsec3Data). cond (is_of_zone origin (lower r.name) d.next_hashed_owner_name) (Some d) None) (nsec3_data d)) is
@@ -41,8 +40,8 @@ as_one passes (v ∷ rs) = by (passes v) (as_one passes rs)
     by true more = ap (cons_option (read_nsec3 v)) more
     by false more = more
 
-pub told_sent : (z : Zone) (r : Sections) → ((s : RRset) → Contains r.authorities s → IsSentSet z.sets (authority_part s) s) → (x : Name) (t : ℕ) → told_by z (flat_map records_sent r.authorities) x t ≡ told_by z (shown_records r) x t
+pub told_sent : (z : Zone) (r : Sections) → ((s : RRset) → Contains r.authorities s → IsSent s) → (x : Name) (t : ℕ) → told_by z (flat_map records_sent r.authorities) x t ≡ told_by z (shown_records r) x t
 told_sent z r h =
-    same_told z.digest_of z.origin (flat_map records_sent r.authorities) (shown_records r) (shown_in_sets (zone_data z.origin) (data_unsigned z.origin) z.sets r h)
-    (λ p. as_one (has_parameters z.origin p) (flat_map records_sent r.authorities) ∙ shown_in_sets (passing (has_parameters z.origin p)) (passing_unsigned (has_parameters z.origin p)) z.sets r h
+    same_told z.digest_of z.origin (flat_map records_sent r.authorities) (shown_records r) (shown_in_sets (zone_data z.origin) (data_unsigned z.origin) r h)
+    (λ p. as_one (has_parameters z.origin p) (flat_map records_sent r.authorities) ∙ shown_in_sets (passing (has_parameters z.origin p)) (passing_unsigned (has_parameters z.origin p)) r h
     ∙ sym (as_one (has_parameters z.origin p) (shown_records r)))

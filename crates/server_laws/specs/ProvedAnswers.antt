@@ -1,7 +1,8 @@
 -- What a message proves to a validator that answers a query
-use Rattle.std.specs.Prelude.{◌≡◌, ℕ, false, ◌⊎◌, ◌%◌, List, [], Option, Some, Ok, IsTrue}
+use Rattle.std.specs.Prelude.{◌≡◌, ℕ, false, ◌⊎◌, ◌%◌, List, [], ◌++◌, Option, Some, Ok, IsTrue}
 use Rattle.std.specs.List.{flat_map}
 use Rattle.zone_proto.specs.declared.rdata.denial.NSEC3PARAM.{NSEC3PARAM as Nsec3Parameters}
+use Rattle.zone_proto.specs.declared.record.Record.{Record}
 use Rattle.zone_proto.specs.declared.response_code.ResponseCode.TheVariants as code
 use Rattle.zone_proto.specs.Names.{Name}
 use Rattle.zone_message.specs.declared.query.Query.{Query as ReadQuery}
@@ -15,6 +16,7 @@ use Rattle.zone_response.specs.Sections.{Sections}
 use Rattle.zone_server.specs.declared.transport.Transport.{Transport}
 use Rattle.zone_server.specs.Answers.{asked_of, code_number, records_sent, AreUnsendable, IsAnswer}
 use Rattle.zone_server.specs.ServedZones.{IsAnswering}
+use Rattle.response_laws.specs.Contents.{HasContents}
 use Rattle.response_laws.specs.HashedSayings.{DeniesByNsec3, HashesApart, told_by, shown_nsec3, proof_in, ProvesByHashes}
 use Rattle.response_laws.specs.ProvedSayings.{DeniesByNsec, ProvesWhatItSays, shown}
 
@@ -22,16 +24,21 @@ use Rattle.response_laws.specs.ProvedSayings.{DeniesByNsec, ProvesWhatItSays, sh
 abbrev pub OneZoneAnswers : Type 0
 OneZoneAnswers = (zs : List Zone) (x : Name) (t : ℕ) (a b : Option Zone) → IsAnswering zs x t a → IsAnswering zs x t b → a ≡ b
 
--- a message has the code, the answer section and the authority section of what is said; the lower four bits of the code stand in its header (RFC 6891 section 6.1.3)
+-- a message has the code, AA, the answer section, the authority section and the glue of what is said; the lower four bits of the code stand in its header (RFC 6891 section 6.1.3)
 pub record HasSections (said : Sections) (m : Parts) : Type 0 where
   pub code : m.header.response_code ≡ code_number said.code % 16
   pub authoritative : m.header.authoritative ≡ said.authoritative
   pub answers : m.answers ≡ flat_map records_sent said.answers
   pub authorities : m.authorities ≡ flat_map records_sent said.authorities
+  -- the glue is whole, or TC would be set (RFC 9471 section 3.1), and others stand behind it
+  pub others : List Record
+  pub glue : m.additionals ≡ flat_map records_sent said.glue ++ others
 
 -- a message has the sections of what a zone says to a query, and they prove it
 pub record ProvesInMessage (z : Zone) (q : ReadQuery) (m : Parts) : Type 0 where
   pub said : Sections
+  -- they have what belongs there, and each set its TTL
+  pub contents : HasContents z (asked_of q) said
   pub proved : ProvesWhatItSays z (asked_of q) said
   pub sections : HasSections said m
   -- the NSEC records that a validator reads in it are those by which it is proved
@@ -40,6 +47,7 @@ pub record ProvesInMessage (z : Zone) (q : ReadQuery) (m : Parts) : Type 0 where
 -- so it is by NSEC3 records
 pub record ProvesByHashesInMessage (z : Zone) (parameters : Nsec3Parameters) (q : ReadQuery) (m : Parts) : Type 0 where
   pub said : Sections
+  pub contents : HasContents z (asked_of q) said
   pub proved : ProvesByHashes z parameters (asked_of q) said
   pub sections : HasSections said m
   pub shown : nsec3_records m.authorities ≡ shown_nsec3 said

@@ -1,0 +1,81 @@
+-- A response is a failure exactly where there is a reason for it
+use Rattle.std.proofs.Common.{◌≡◌, Bool, true, false, List, ◌++◌, map, sym, ap, ◌∙◌, subst, true≢false}
+use Rattle.std.specs.Prelude.{Option, Some, None, is_some, Result, Ok, MatchOption, MatchResult}
+use Rattle.std.specs.Bool.{MatchBool}
+use Rattle.zone_proto.specs.declared.error.ProtoError.{ProtoError}
+use Rattle.zone_proto.specs.declared.response_code.ResponseCode.TheVariants as code
+use Rattle.zone_proto.specs.Sets.{RRset}
+use Rattle.zone_proto.specs.Types.{SOA}
+use Rattle.zone_map.specs.Zones.{set_at}
+use Rattle.zone_denial.specs.Nsec3Denial.{result_and_then}
+use Rattle.zone_response.specs.Denials.{sent_proof}
+use Rattle.zone_response.specs.Paths.{Path, path}
+use Rattle.zone_response.specs.Queries.{Zone, Query, Inquiry, inquiry}
+use Rattle.zone_response.specs.Responses.{bare, code_at, negative_ttl, ds_at, end_sets, fails, refusal, IsResponse, IsSearched, IsResponseAlong, IsProvenResponse, IsResponseBy}
+use Rattle.zone_response.specs.Sections.{Sections}
+use Rattle.zone_response.specs.Steps.{End, complete, referred, missing, outside, unfollowed, too_long, failed}
+use Rattle.response_laws.specs.Failures.{Failure, without_soa, at_fault, unprovable, WhyAlone, FailureHasReason, AnswerableIsAnswered, FailureIsTold}
+use Rattle.response_laws.proofs.AgreementProofs.{all_hashed}
+use Rattle.response_laws.proofs.Parts.{HowAnswered, by_code_alone, by_parts, how_answered}
+
+no_failure : (e : End) → code_at e ≡ code.ServFail → ⊥
+no_failure (missing x star true) h = absurd cc
+no_failure (missing x star false) h = absurd cc
+no_failure (referred c) h = absurd cc
+no_failure complete h = absurd cc
+no_failure (outside x) h = absurd cc
+no_failure unfollowed h = absurd cc
+no_failure too_long h = absurd cc
+no_failure failed h = absurd cc
+
+pub failure_has_reason : FailureHasReason IsResponse
+failure_has_reason z q r zone denials is failure = by (how_answered z q r denials.zone is)
+  where
+    by : HowAnswered z q r → Failure z q
+    by (by_code_alone c why e) = subst (WhyAlone z q) (sym (ap (λ (s : Sections). s.code) e) ∙ failure) why
+    by (by_parts h) = absurd (no_failure (path (inquiry z q) q.name).end (sym h.code ∙ failure))
+
+pub answerable_is_answered : AnswerableIsAnswered IsResponse
+answerable_is_answered z q r zone denials a is failure = by (failure_has_reason z q r zone denials is failure)
+  where
+    by : Failure z q → ⊥
+    by (without_soa e) = true≢false (sym a.soa ∙ ap is_some e)
+    by (at_fault e f) = a.faultless f
+    by (unprovable why signed e u) = all_hashed z z.nx_proof_kind (a.hashed signed) why u
+
+module _ (z : Zone) (q : Query) (r : Sections) (asked : refusal z.origin q ≡ None) (is : IsResponse z q r) where
+  abbrev i : Inquiry
+  i = inquiry z q
+
+  abbrev p : Path
+  p = path i q.name
+
+  abbrev Fails : Type 0
+  Fails = r ≡ bare code.ServFail
+
+  -- what is said of a zone with an SOA set, or without one
+  abbrev Found : Option RRset → Type 0
+  Found o = MatchOption o Fails (λ soa. IsResponseAlong z i soa p r)
+
+  found : Found (set_at z.sets z.origin SOA)
+  found = subst (λ o. MatchOption o (IsSearched z i q.name r) (λ c. r ≡ bare c)) asked is
+
+  -- it fails there, if it does with an SOA set
+  with_soa : (o : Option RRset) → ((soa : RRset) → IsResponseAlong z i soa p r → Fails) → Found o → Fails
+  with_soa None so h = h
+  with_soa (Some soa) so h = so soa h
+
+  pub told : Failure z q → r ≡ bare code.ServFail
+  told (without_soa e) = subst Found e found
+  told (at_fault e f) = with_soa (set_at z.sets z.origin SOA) (λ soa h. subst (λ b. MatchBool b Fails (IsProvenResponse z i soa p r)) (ap fails e) h) found
+  told (unprovable why signed e u) = with_soa (set_at z.sets z.origin SOA) (λ soa h. by soa (fails p.end) h) found
+    where
+      by : (soa : RRset) (b : Bool) → MatchBool b Fails (IsProvenResponse z i soa p r) → Fails
+      by soa true h = h
+      by soa false h =
+          subst
+          (λ (sets : Result (List RRset) ProtoError).
+          MatchResult (result_and_then (λ sets. Ok (end_sets (ds_at z.sets p.end) q.signed soa p.end ++ map (sent_proof (negative_ttl soa)) sets)) sets) (λ sets. IsResponseBy i p sets r) (λ refusal. Fails)) e h
+
+pub failure_is_told : FailureIsTold IsResponse
+failure_is_told z q r asked failure is = told z q r asked is failure

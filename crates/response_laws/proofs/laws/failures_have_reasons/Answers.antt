@@ -1,0 +1,11 @@
+use Rattle.response_laws.proofs.Failing.{failure_has_reason, answerable_is_answered, failure_is_told}
+use Rattle.response_laws.proofs.laws.failures_have_reasons.Goals as goal
+
+pub returns-clause-reason : goal.returns-clause-reason
+returns-clause-reason c = failure_has_reason
+
+pub returns-clause-answered : goal.returns-clause-answered
+returns-clause-answered c = answerable_is_answered
+
+pub returns-clause-told : goal.returns-clause-told
+returns-clause-told c = failure_is_told
