@@ -7,7 +7,7 @@ ghost use Rattle.zone_program.specs.Steps.{signer_of, IsKeyed, IsRenewed, IsSecu
 use crate::demo_signer::DemoSigner;
 use crate::session::{Served, empty_zone};
 use std::alloc::AllocError;
-use zone_handler::{KeyError, SecureError, ZoneHandler};
+use zone_handler::{DnssecZoneHandler, KeyError, SecureError, ZoneHandler};
 use zone_proto::{Name, NxProofKind, ProtoError};
 
 /// Makes the zone anew, without records and signers, and of this kind. The moment of the last `secure` stays.
@@ -46,7 +46,7 @@ pub fn add_key(served: &mut Served, number: u16, answer: &mut String) -> Result<
     let Ok(signer) = signer_for(served, number) else {
         return answer.push_str("refused Memory\n");
     };
-    match served.zone.add_zone_signing_key_mut(signer) {
+    match served.zone.add_zone_signing_key(signer) {
         Ok(()) => answer.push_str("ok\n"),
         Err(KeyError::NoKey) => answer.push_str("refused NoKey\n"),
         Err(KeyError::Memory) => answer.push_str("refused Memory\n"),
@@ -66,7 +66,7 @@ pub fn secure(served: &mut Served, now: u64, answer: &mut String) -> Result<(), 
     ensures { OnOk result
         (AddsTo (λ reply. IsSecuredAt served.old now reply served.new) answer.old answer.new) }
 {
-    match served.zone.secure_zone_mut(now) {
+    match served.zone.secure_zone(now) {
         Ok(()) => {
             served.moment = now;
             writeln!(answer, "ok {}", served.zone.serial())

@@ -10,16 +10,16 @@ returns-in_default c =
     let old = c.args.served.now in
     pushed (λ (reply : Reply). IsKeyed old c.args.number reply old) (refused memory) _ _ _ c.push_str.ensures.bytes (inr (refl, refl))
 
-pub returns-in-Ok-add_zone_signing_key_mut : goal.returns-in-Ok-add_zone_signing_key_mut
-returns-in-Ok-add_zone_signing_key_mut c =
+pub returns-in-Ok-add_zone_signing_key : goal.returns-in-Ok-add_zone_signing_key
+returns-in-Ok-add_zone_signing_key c =
     let old = c.args.served.now in
-    let new = c.add_zone_signing_key_mut.new.self in
-    pushed (λ (reply : Reply). IsKeyed old c.args.number reply (with_zone old new)) done _ _ _ c.push_str-in-Ok-add_zone_signing_key_mut.ensures.bytes
-    (key_added old new c.args.number c.in-Ok.signer c.in-Ok.ensures.made _ _ c.in-Ok-add_zone_signing_key_mut.is c.add_zone_signing_key_mut.ensures)
+    let new = c.add_zone_signing_key.new.self in
+    pushed (λ (reply : Reply). IsKeyed old c.args.number reply (with_zone old new)) done _ _ _ c.push_str-in-Ok-add_zone_signing_key.ensures.bytes
+    (key_added old new c.args.number c.in-Ok.signer c.in-Ok.ensures.made _ _ c.in-Ok-add_zone_signing_key.is c.add_zone_signing_key.ensures)
 
 pub returns-in-Err-Memory : goal.returns-in-Err-Memory
 returns-in-Err-Memory c =
     let old = c.args.served.now in
-    let new = c.add_zone_signing_key_mut.new.self in
+    let new = c.add_zone_signing_key.new.self in
     pushed (λ (reply : Reply). IsKeyed old c.args.number reply (with_zone old new)) (refused memory) _ _ _ c.push_str-in-Err-Memory.ensures.bytes
-    (key_refused old new c.args.number c.in-Ok.signer _ _ c.in-Err-Memory.is c.add_zone_signing_key_mut.ensures)
+    (key_refused old new c.args.number c.in-Ok.signer _ _ c.in-Err-Memory.is c.add_zone_signing_key.ensures)
