@@ -5,6 +5,7 @@ pub mod KeptCircles
 pub mod Lookups
 pub mod CircleAgreement
 pub mod Nsec3Agreement
+pub mod Nsec3Closers
 pub mod ValidatorAgreement
 pub mod Requesting
 pub mod Transferring

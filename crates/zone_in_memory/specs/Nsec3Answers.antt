@@ -3,7 +3,7 @@ use Rattle.std.specs.Prelude.{◌≡◌, ◌≢◌, ℕ, Bool, List, Option, Som
 use Rattle.std.specs.List.{Contains}
 use Rattle.zone_proto.specs.declared.response_code.ResponseCode.TheVariants as code
 use Rattle.zone_proto.specs.declared.rdata.denial.NSEC3PARAM.{NSEC3PARAM as Nsec3Parameters}
-use Rattle.zone_proto.specs.Names.{Name}
+use Rattle.zone_proto.specs.Names.{Name, is_above}
 use Rattle.zone_proto.specs.Sets.{RRset}
 use Rattle.zone_proto.specs.Types.{NSEC3, RRSIG}
 use Rattle.zone_handler.specs.declared.auth_lookup.AuthLookup.{AuthLookup}
@@ -17,8 +17,9 @@ use Rattle.zone_handler.specs.declared.nsec3_query_info.Nsec3QueryInfo.{Nsec3Que
 use Rattle.zone_handler.specs.Answers.{sets_in}
 use Rattle.zone_handler.specs.Hashing.{digest_for}
 use Rattle.zone_map.specs.Zones.{Sets, owns}
-use Rattle.zone_denial.specs.Nsec3Laws.{types3_of, IsSetOf, FindsOrEncloses, ProvesStar, IsNsec3Listed}
-use Rattle.zone_denial.specs.Nsec3Zones.{IsCircleName}
+use Rattle.zone_denial.specs.Nsec3Denial.{closest_encloser, next_closer}
+use Rattle.zone_denial.specs.Nsec3Laws.{types3_of, IsSetOf, CoversName, FindsOrEncloses, ProvesStar, IsNsec3Listed}
+use Rattle.zone_denial.specs.Nsec3Zones.{IsNsec3Zone, IsCircleName, IsHashed, TellsApart}
 use Rattle.zone_acceptance.specs.Nsec3Acceptance.{IsNsec3Accepted, IsAskedStarAccepted}
 use Rattle.zone_acceptance.specs.Nsec3Judged.{read_nsec3_sets, IsNsec3Judged}
 use Rattle.zone_in_memory.specs.AnsweredSets.{AnswersSetsOrMemory}
@@ -32,6 +33,16 @@ module _ (origin : Name) (m : Sets) (hash : Name → Option (List ℕ)) (opt_out
   -- an answer that has the NSEC3 set of the star under the closest encloser of n, or one that covers the star; or no memory
   abbrev pub HasNsec3StarProof : LookupControlFlow AuthLookup LookupError → Type 0
   HasNsec3StarProof step = AnswersSetsOrMemory (ProvesStar origin m hash opt_out n) step
+
+  -- sets have one that covers the next closer name of n, which is one label longer than the closest encloser (RFC 5155 section 1.3)
+  pub record CoversNextCloser (sets : List RRset) : Type 0 where
+    pub encloser : Name
+    pub is_encloser : closest_encloser origin m opt_out n ≡ Some encloser
+    pub closer : Name
+    pub is_closer : next_closer n encloser ≡ Some closer
+    pub cover : RRset
+    pub covers : CoversName origin m hash cover closer
+    pub has_cover : Contains sets cover
 
   -- how a lookup of n and t agrees with a circle of NSEC3 sets: a name that is denied isn't on it; a type that is denied of a name on it isn't in the list of that name, RRSIG aside; and what is owned, NSEC3 aside, is listed, or stands below a zone cut, or is an unsigned delegation that opt-out leaves out
   pub record AgreesWithNsec3Circle (t : ℕ) (step : LookupControlFlow AuthLookup LookupError) : Type 0 where
@@ -53,3 +64,10 @@ module _ {S H : Type 0} (digest_of : H → ℕ → List ℕ → Name → ℕ →
   abbrev pub HasAskedStarProof : Type 0
   HasAskedStarProof = (parameters : Nsec3Parameters) → IsNsec3Judged zone.origin zone.inner.records hash parameters query.qname.now
       → (s : LookupRecords) → step ≡ Continue (Ok (answer.Records s None)) → IsAskedStarAccepted zone.origin zone.inner.records hash parameters.opt_out query.qname.now (read_nsec3_sets (sets_in s))
+
+  -- below the origin of a zone whose NSEC3 sets are a circle by a hash that tells names apart: an answer, also where a wildcard answered for the name; its sets cover the next closer name, unless the name is on the circle; or no memory
+  abbrev pub HasNextCloser : Type 0
+  HasNextCloser = (parameters : Nsec3Parameters) → IsNsec3Zone zone.origin zone.inner.records hash parameters
+      → TellsApart (IsHashed zone.origin zone.inner.records parameters.opt_out query.qname.now) hash → IsTrue (is_above zone.origin query.qname.now)
+      → AnswersSetsOrMemory (λ sets. (IsCircleName zone.origin zone.inner.records parameters.opt_out query.qname.now → ⊥)
+      → CoversNextCloser zone.origin zone.inner.records hash parameters.opt_out query.qname.now sets) step

@@ -15,7 +15,7 @@ ghost use Rattle.zone_acceptance.specs.Nsec3Judged.{IsNsec3Judged};
 ghost use Rattle.zone_acceptance.specs.Soundness.{IsTopmostCut};
 ghost use Rattle.zone_in_memory.specs.NsecAnswers.{IsNsecAnswer, HasNsecProof, HasStarProof, HasAcceptedRecords, AgreesWithCircle};
 ghost use Rattle.zone_in_memory.specs.Nsec3Steps.{IsNsec3Answer};
-ghost use Rattle.zone_in_memory.specs.Nsec3Answers.{AgreesWithNsec3Circle, HasNsec3Proof, HasNsec3StarProof, HasAcceptedNsec3Records, HasAskedStarProof};
+ghost use Rattle.zone_in_memory.specs.Nsec3Answers.{AgreesWithNsec3Circle, HasNsec3Proof, HasNsec3StarProof, HasAcceptedNsec3Records, HasAskedStarProof, HasNextCloser};
 ghost use Rattle.zone_in_memory.specs.ValidatorAnswers.{HasNoProof, HasNoProofBelowCut, HasFoundParameters, HasOptOutProof, AgreesWithProofs, AgreesWithNsec3Proofs};
 ghost use Rattle.zone_in_memory.specs.Requests.{IsSearch};
 ghost use Rattle.zone_in_memory.specs.Transfers.{IsZoneTransfer};
@@ -240,7 +240,9 @@ impl<S: Signer, H: Nsec3Hash> ZoneHandler for InMemoryZoneHandler<S, H> {
     /// deny each name of the zone to which no wildcard answered: the name's own set is found, where the name is on the circle,
     /// and else the set of its closest encloser and one that covers the next closer name (RFC 5155 section 7.2.1), and the set of
     /// the star under that encloser or one that covers the star (section 7.2.2). That is so where the hash gives the names on
-    /// the circle and those that it is asked of digests of one length that differ.
+    /// the circle and those that it is asked of digests of one length that differ. Then a query for a name below the origin is
+    /// also answered where a wildcard answered it, and refused by `Memory` alone: unless the name is on the circle, its sets
+    /// have one that covers the next closer name (section 7.2.6).
     ///
     /// Without opt-out a validator makes of their records what is answered, as with [`InMemoryZoneHandler::nsec_records`] (RFC
     /// 5155 section 8): of such a name that owns no NSEC3, where no name owns NSEC and the origin is no delegation. With opt-out
@@ -280,6 +282,7 @@ impl<S: Signer, H: Nsec3Hash> ZoneHandler for InMemoryZoneHandler<S, H> {
             → HasNsec3StarProof self.now.origin self.now.inner.records
             (digest_for (H.digest_of self.now.hash) info.entry) parameters.opt_out
             info.entry.qname.now result }
+        ensures closer { HasNextCloser H.digest_of self.now info.entry result }
         ensures accepted { info.entry.has_wildcard_match ≡ false
             → HasAcceptedNsec3Records H.digest_of self.now info.entry result }
         ensures wildcard { info.entry.has_wildcard_match ≡ true
