@@ -9,6 +9,6 @@ pub mod laws;
 mod lines;
 mod serving;
 
-pub use command::{Command, SHA_1, read_command};
+pub use command::{Command, SHA_1};
 pub use lines::{Line, Lines};
 pub use serving::{Session, Stop, serve};

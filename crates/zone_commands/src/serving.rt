@@ -44,9 +44,9 @@ pub enum Stop {
     Write,
 }
 
-/// Has a session answer each line of an input, one after the other, and tells whether all lines were good. A line is answered as
-/// [`read_command`] reads it: a command is carried out, a bad line is answered by `bad line N`, counted from 1, and a blank line
-/// and a comment by nothing. Where no memory is found to read a line, its answer is `error Memory`.
+/// Has a session answer each line of an input, one after the other, and tells whether all lines were good. A
+/// command is carried out, a bad line is answered by `bad line N`, counted from 1, and a blank line and a comment, which begins
+/// with `#`, by nothing. Where no memory is found to read a line, its answer is `error Memory`.
 ///
 /// Answers to lines that were read together are written together: those that wait are written in one piece before `input` is
 /// read again and at its end, and as soon as they have 4,096 octets or more.

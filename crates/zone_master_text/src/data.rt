@@ -15,7 +15,7 @@ use zone_text::DataText;
 /// as dates, keys, signatures and digests in one piece. The data of a type that has no form of its
 /// own here, and those that aren't of the form of their type, are `\#`, their length and hex digits (RFC 3597 section 5).
 #[derive(Drop)]
-pub struct MasterDataText<'r>(pub &'r RData);
+pub(crate) struct MasterDataText<'r>(pub &'r RData);
 
 impl fmt::Display for MasterDataText<'_> {
     ghost output = { λ d. Some (master_data_text d.0.now) };

@@ -14,5 +14,4 @@ mod signing;
 mod strings;
 mod types;
 
-pub use data::MasterDataText;
 pub use record::MasterText;

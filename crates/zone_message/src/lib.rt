@@ -29,7 +29,6 @@ mod type_map;
 pub use data::plain_data_of;
 pub use error::{MessageError, ReadError};
 pub use header::Header;
-pub use header_reader::read_header;
 pub use message::Message;
 pub use message_reader::{read_first_authority, read_message};
 pub use query::{Extension, Query};

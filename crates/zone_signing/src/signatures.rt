@@ -26,7 +26,7 @@ pub fn sign_set<S: Signer>(set: &mut RecordSet, signers: &[S], now: u64) -> Resu
 /// Puts the signatures of a set by each signer in order, at the moment `now`, in seconds since 1970 (RFC 4034 section 3),
 /// behind those that were made; a signer that declines is passed over. Those that the set has are never signed. Refused by
 /// `Memory` alone, of a signer too.
-pub fn add_signatures<S: Signer>(
+pub(crate) fn add_signatures<S: Signer>(
     made: &mut Rrsigs,
     set: &RecordSet,
     signers: &[S],

@@ -21,6 +21,6 @@ pub use data::{DataText, read_data};
 pub use error::TextError;
 pub use hex::{HexText, read_hex};
 pub use names::{read_key, read_name, read_type};
-pub use numbers::{read_timer, read_u8, read_u16, read_u32, read_u64};
+pub use numbers::{read_u8, read_u16, read_u32};
 pub use record::{RecordText, read_record};
 pub use words::Words;

@@ -67,7 +67,7 @@ pub fn read_u32(word: &[u8]) -> Option<u32>
 }
 
 /// Reads a number from 0 to 18446744073709551615, as `read_u8` one to 255.
-pub fn read_u64(word: &[u8]) -> Option<u64>
+pub(crate) fn read_u64(word: &[u8]) -> Option<u64>
     ensures { result ≡ number_within 10 18446744073709551615 word.now }
 {
     read_number(word, 10, u64::MAX)
@@ -75,7 +75,7 @@ pub fn read_u64(word: &[u8]) -> Option<u64>
 
 /// Reads a number of seconds from 0 to 2147483647, as the timers of an SOA are (RFC 1035 section 3.3.13), as `read_u8` one
 /// to 255.
-pub fn read_timer(word: &[u8]) -> Option<i32>
+pub(crate) fn read_timer(word: &[u8]) -> Option<i32>
     ensures { result ≡ option_map pos (number_within 10 2147483647 word.now) }
 {
     Some(read_number(word, 10, 2147483647)? as i32)

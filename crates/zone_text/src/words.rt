@@ -75,7 +75,7 @@ impl<'l> Words<'l> {
         read_u32(word).ok_or(TextError::BadText)
     }
 
-    /// Takes the next word as `take_u16` does, as [`read_u64`] reads it.
+    /// Takes the next word as `take_u16` does, as a number from 0 to 18446744073709551615.
     #[tactic(auto, using(crate::proofs::ReadingFacts::reading))]
     pub fn take_u64(&mut self) -> Result<u64, TextError>
         ensures ok { IfOk result (λ n. next_u64 self.old ≡ Some (n, self.new)) }
@@ -85,7 +85,8 @@ impl<'l> Words<'l> {
         read_u64(word).ok_or(TextError::BadText)
     }
 
-    /// Takes the next word as `take_u16` does, as seconds that [`read_timer`] reads.
+    /// Takes the next word as `take_u16` does, as a number of seconds from 0 to 2147483647, as the timers of an SOA are (RFC
+    /// 1035 section 3.3.13).
     #[tactic(auto, using(crate::proofs::ReadingFacts::reading))]
     pub fn take_timer(&mut self) -> Result<i32, TextError>
         ensures ok { IfOk result (λ n. next_timer self.old ≡ Some (n, self.new)) }
