@@ -1,12 +1,12 @@
 #!/usr/bin/env python3
-"""Checks the list of public calls that may be refused for want of memory, calls-with-memory.txt of crates/zone_calls.
+"""Checks the lists of public calls that take memory and of those that take none, calls-with-memory.txt and
+calls-without-memory.txt of crates/zone_calls.
 
-A line there is `CALL: ROW`, `CALL: by ROW`, `CALL: transcript NAME` or `CALL: none`, as the head of the list says. Each public
-call that answers a Result or a step of a lookup has to stand there, and once: a call that answers anything else can't be refused,
-and its contract says what it answers. What a line names has to be there: a row of crates/zone_calls/data that refuses memory to
-the call, or a transcript of crates/zone_transcripts that refuses memory to its lines. The file that makes the calls of a row has to
-name the call, if the line doesn't say that another call makes it; of a transcript's call a source of the program has to, and
-beside it the type or module that has the call.
+A line there is `CALL: ROW`, `CALL: by ROW` or `CALL: transcript NAME`, as the heads of the lists say. Each public call has to
+stand in one of the lists, and once, and what a line names has to be there: a row of crates/zone_calls/data that refuses memory
+to the call, or a transcript of crates/zone_transcripts that refuses memory to its lines. The file that makes the calls of a row
+has to name the call, if the line doesn't say that another call makes it; of a transcript's call a source of the program has to,
+and beside it the type or module that has the call.
 Prints what is wrong, and ends with status 1 where something is.
 """
 import glob
@@ -39,12 +39,9 @@ MAKERS = ["value_calls", "zone_calls"]
 # The program of the transcripts.
 PROGRAM = "zonectl"
 
-# Where the list is, beside the rows that it names; and how a row refuses memory to its call.
+# Where the lists are, beside the rows that they name; each, and how a row of it refuses memory to its call.
 FOLDER = "crates/zone_calls"
-LIST, REFUSING = f"{FOLDER}/calls-with-memory.txt", r"after [1-9]\d* refusals: "
-
-# What a call answers that may be refused.
-REFUSED = r"->.*(Result|LookupControlFlow)<"
+LISTS = [("calls-with-memory.txt", r"after [1-9]\d* refusals: "), ("calls-without-memory.txt", "without memory: ")]
 
 
 def read(path):
@@ -62,53 +59,40 @@ def offered(crate):
     return {name for use in uses for name in re.findall(r"\w+", use)}
 
 
-def may_be_refused(text, name):
-    """Whether a call of this name, whose signature begins a text, answers what may be refused."""
-    signature = re.match(rf".*?\bfn {name}\b.*?(?=\n *(?:requires|ensures|ghost)\b|\{{\n|\n *\{{|;\n)", text, re.S)
-    return signature is not None and re.search(REFUSED, signature[0], re.S) is not None
-
-
 def module_calls(crate):
-    """The calls of the modules that a crate of the library hands out, as `module::call`, and whether each may be refused. Laws do
-    nothing, and aren't calls."""
+    """The calls of the modules that a crate of the library hands out, as `module::call`. Laws do nothing, and aren't calls."""
     for module in re.findall(r"^pub mod (\w+);", read(f"crates/{crate}/src/lib.rt"), re.M):
-        if module.endswith("laws"):
-            continue
-        text = read(f"crates/{crate}/src/{module}.rt")
-        for call in re.finditer(r"^pub fn (\w+)", text, re.M):
-            yield f"{module}::{call[1]}", may_be_refused(text[call.start() :], call[1])
+        if not module.endswith("laws"):
+            yield from (f"{module}::{call}" for call in re.findall(r"^pub fn (\w+)", read(f"crates/{crate}/src/{module}.rt"), re.M))
 
 
 def calls_in(text, items):
-    """The public calls of these items in a source, as `Type::call`, `Trait::call` or `call`, and whether each may be refused."""
+    """The public calls of these items in a source, as `Type::call`, `Trait::call` or `call`."""
     owner, are_public = "", False
     # What is hidden from the library's documents is for the crates above.
-    text = re.sub(r"#\[doc\(hidden\)\]\nimpl.*?\n}\n", "", text, flags=re.S)
-    for line in re.finditer(r"^.*$", text, re.M):
-        if head := re.match(r"(pub trait|impl)(?:<.*?>)? (?:(\w+)(?:<.*>)? for )?&?(?:'\w+ )?(\w+)", line[0]):
+    for line in re.sub(r"#\[doc\(hidden\)\]\nimpl.*?\n}\n", "", text, flags=re.S).split("\n"):
+        if head := re.match(r"(pub trait|impl)(?:<.*?>)? (?:(\w+)(?:<.*>)? for )?&?(?:'\w+ )?(\w+)", line):
             owner, are_public = head[3] + "::", head[1] == "pub trait" or head[2] in TRAITS
-        elif line[0] == "}":
+        elif line == "}":
             owner, are_public = "", False
-        elif call := re.match(r"(?:    )?(pub )?(?:const )?fn (\w+)", line[0]):
+        elif call := re.match(r"(?:    )?(pub )?(?:const )?fn (\w+)", line):
             if (call[1] or are_public) and (owner.removesuffix("::") or call[2]) in items:
-                yield owner + call[2], may_be_refused(text[line.start() :], call[2])
+                yield owner + call[2]
 
 
 def public_calls():
-    """The public calls, and whether each may be refused."""
-    calls = {}
+    calls = set()
     for crate in OWN + HANDED_ON:
         items = offered(crate if crate in OWN else "zone_store")
-        for text in texts(f"crates/{crate}/src/**/*.rt"):
-            calls.update(calls_in(text, items))
+        calls.update(*(calls_in(text, items) for text in texts(f"crates/{crate}/src/**/*.rt")))
     for crate in OWN:
         calls.update(module_calls(crate))
     return calls
 
 
-def listed():
-    """The lines of the list: each call, and where its growths are refused."""
-    lines = [it for it in read(LIST).split("\n") if it and not it.startswith("#")]
+def listed(name):
+    """The lines of a list: each call, and where its growths are refused."""
+    lines = [it for it in read(f"{FOLDER}/{name}").split("\n") if it and not it.startswith("#")]
     return [tuple(it.split(": ", 1)) for it in lines]
 
 
@@ -154,22 +138,21 @@ def runs(call):
 def main():
     rows, others = "\n".join(texts(f"{FOLDER}/data/*")), transcripts()
     seen, wrong = set(), []
-    for call, where in listed():
-        if call in seen:
-            wrong.append(f"{call} is listed twice")
-        seen.add(call)
-        row = where.removeprefix("by ")
-        if where == "none":
-            continue
-        if where not in others and not re.search(f"^{REFUSING}{re.escape(row)} ", rows, re.M):
-            wrong.append(f"{LIST}: {call}: nothing refuses memory to '{row}'")
-        elif where in others and not runs(call):
-            wrong.append(f"{LIST}: {call}: no source of {PROGRAM} makes it")
-        elif where == row and where not in others and not makes(row, call):
-            wrong.append(f"{LIST}: {call}: what makes '{row}' doesn't name it")
+    for name, form in LISTS:
+        for call, where in listed(name):
+            if call in seen:
+                wrong.append(f"{call} is listed twice")
+            seen.add(call)
+            row = where.removeprefix("by ")
+            if where not in others and not re.search(f"^{form}{re.escape(row)} ", rows, re.M):
+                wrong.append(f"{FOLDER}/{name}: {call}: nothing refuses memory to '{row}'")
+            elif where in others and not runs(call):
+                wrong.append(f"{FOLDER}/{name}: {call}: no source of {PROGRAM} makes it")
+            elif where == row and where not in others and not makes(row, call):
+                wrong.append(f"{FOLDER}/{name}: {call}: what makes '{row}' doesn't name it")
     public = public_calls()
-    wrong += [f"{LIST}: {it} is a public call that may be refused, and isn't there" for it in sorted(public) if public[it] and it not in seen]
-    wrong += [f"{LIST}: {it} is listed, and is no public call" for it in sorted(seen.difference(public))]
+    wrong += [f"{it} is a public call, and in no list of {FOLDER}" for it in sorted(public - seen)]
+    wrong += [f"{it} is listed, and is no public call" for it in sorted(seen - public)]
     for it in wrong:
         print(f"memory_calls: {it}")
     return 1 if wrong else 0

@@ -8,7 +8,8 @@ use std::collections::BTreeMap;
 use std::mem;
 use zone_handler::{AxfrPolicy, LookupOptions, Request, ZoneType};
 use zone_proto::{
-    DNSClass, LowerName, Name, NxProofKind, Query, RData, Record, RecordSet, RecordType, RrKey,
+    DNSClass, LowerName, Message, Name, NxProofKind, Query, RData, Record, RecordSet, RecordType,
+    RrKey, Rrsigs, SoaRecord,
 };
 
 /// Record sets by their keys.
@@ -26,9 +27,10 @@ pub struct Arguments<'r> {
     pub numbers: Vec<u64>,
     pub octets: Vec<Vec<u8>>,
     pub data: Vec<RData>,
-    pub data_type: RecordType,
-    pub class: DNSClass,
+    pub data_types: Vec<RecordType>,
+    pub classes: Vec<DNSClass>,
     pub queries: Vec<Query>,
+    pub sections: Message,
     pub is_flagged: bool,
     pub zone_type: ZoneType,
     pub policy: AxfrPolicy,
@@ -36,10 +38,13 @@ pub struct Arguments<'r> {
     pub hash: RowHash,
     pub manner: Manner,
     pub sets: Sets,
+    pub copies: Vec<RecordSet>,
+    pub rrsigs: Option<Rrsigs>,
+    pub soa: Option<Box<SoaRecord>>,
 }
 
 impl<'r> Arguments<'r> {
-    /// Nothing, of class IN; for a zone, a primary that anybody may transfer, which denies by nothing, and whose hash has no
+    /// Nothing; for a zone, a primary that anybody may transfer, which denies by nothing, and whose hash has no
     /// digests. It takes no memory.
     pub fn new(alloc: Global) -> Arguments<'r> {
         Arguments {
@@ -51,9 +56,10 @@ impl<'r> Arguments<'r> {
             numbers: Vec::new(alloc),
             octets: Vec::new(alloc),
             data: Vec::new(alloc),
-            data_type: RecordType::A,
-            class: DNSClass::IN,
+            data_types: Vec::new(alloc),
+            classes: Vec::new(alloc),
             queries: Vec::new(alloc),
+            sections: no_sections(alloc),
             is_flagged: false,
             zone_type: ZoneType::Primary,
             policy: AxfrPolicy::AllowAll,
@@ -61,6 +67,9 @@ impl<'r> Arguments<'r> {
             hash: RowHash::new(alloc),
             manner: Manner::Whole(u64::MAX),
             sets: BTreeMap::new(alloc),
+            copies: Vec::new(alloc),
+            rrsigs: None,
+            soa: None,
         }
     }
 
@@ -125,6 +134,11 @@ impl<'r> Arguments<'r> {
         take(&mut self.octets, Vec::new(self.alloc))
     }
 
+    /// All octets, in the order in which they were read.
+    pub fn take_labels(&mut self) -> Vec<Vec<u8>> {
+        mem::replace(&mut self.octets, Vec::new(self.alloc))
+    }
+
     pub fn take_hash(&mut self) -> RowHash {
         mem::replace(&mut self.hash, RowHash::new(self.alloc))
     }
@@ -137,12 +151,27 @@ impl<'r> Arguments<'r> {
         mem::replace(&mut self.sets, BTreeMap::new(self.alloc))
     }
 
+    /// The set of which a copy was put last to the others, if there is one.
+    pub fn take_copy(&mut self) -> Option<RecordSet> {
+        self.copies.pop()
+    }
+
+    /// All sets of which there are copies, in the order in which these were made.
+    pub fn take_copies(&mut self) -> Vec<RecordSet> {
+        mem::replace(&mut self.copies, Vec::new(self.alloc))
+    }
+
+    /// The response whose sections were read.
+    pub fn take_sections(&mut self) -> Message {
+        mem::replace(&mut self.sections, no_sections(self.alloc))
+    }
+
     /// A record of the data that were read, and of the owner name and the TTL before them.
     pub fn take_record(&mut self) -> Record {
         let rdata = self.take_data();
         let ttl = self.take_long();
         let mut record = Record::from_rdata(self.take_name(), ttl, rdata);
-        record.dns_class = self.class;
+        record.dns_class = take(&mut self.classes, DNSClass::IN);
         record
     }
 
@@ -151,6 +180,15 @@ impl<'r> Arguments<'r> {
         LookupOptions {
             dnssec_ok: self.is_flagged,
         }
+    }
+}
+
+/// A response without records.
+fn no_sections(alloc: Global) -> Message {
+    Message {
+        answers: Vec::new(alloc),
+        authorities: Vec::new(alloc),
+        additionals: Vec::new(alloc),
     }
 }
 

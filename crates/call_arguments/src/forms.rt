@@ -5,21 +5,28 @@
 /// - `NAME`, `TYPE` and the data of a record are written as in the program's lines; `NUMBER` has up to 64 bits. `RECORD` is
 ///   `NAME TTL TYPE DATA`, or with `CH` before its type, `DATA` a type and data, `QUERIES` a number and so many names with
 ///   types, and `QUESTIONS` a number of questions for the root and their type.
-/// - `OCTETS` are in hex, `-` for none, and `41*63` is one octet 63 times.
+/// - `OCTETS` are in hex, `-` for none, and `41*63` is one octet 63 times; `LABELS` are as many of them as follow.
 /// - `ZONETYPE` is what the server is to a zone, `POLICY` who may transfer it, and `KIND` how it denies: nothing, `nsec`, or
 ///   `nsec3` or `optout` without salt and iterations. `DIGESTS` is `NAME OCTETS ..`, the digests of a hash, and `for NUMBER`
 ///   where the hash finds memory for so many calls.
 /// - `MANNER` is what a demonstration signer of a number and an origin does: `keyless`, `idle` or `choosy` where it has no key,
 ///   signs nothing, or signs sets of odd types alone, or `for NUMBER` where it finds memory for so many calls.
-/// - `TEXT` is the rest of the row, `WORD` a word, `TTL` whether `ttl` stands where `serial` may, `DNSSEC` whether `dnssec`
-///   follows.
-/// - `SETS` reads nothing, and stands for copies of the sets that were collected.
+/// - `TEXT` is the rest of the row, `WORD` a word, `TTL` whether `ttl` stands where `serial` may, `DNSSEC` and `SIGNED` whether
+///   `dnssec` or `signed` follows. `ANSWER`, `AUTHORITY` and `ADDITIONAL` are records of the sections of a response.
+/// - The rest reads nothing: `SETS` and `LIST` stand for copies of the sets that were collected, `SET` and `KEPT` for one of the
+///   current set and of the one that is kept, `RRSIGS` for the two records before it, and `SOA` for one of the root.
 ///
 /// What is in lower case has to stand there itself.
 const FORMS: &str = "names: parse: TEXT
 names: lower parse: TEXT
+names: labels: LABELS
+names: lower labels: LABELS
+names: describe: NAME
+names: lower describe: NAME
 names: base: NAME
 names: lower base: NAME
+names: star: NAME
+names: lower star: NAME
 names: prepend: OCTETS NAME
 names: lower prepend: OCTETS NAME
 names: wire: NAME
@@ -27,23 +34,50 @@ names: lower wire: NAME
 names: read wire: OCTETS
 names: copy name: NAME
 names: lower copy: NAME
+names: shorten: NAME
 names: lowered: NAME
+names: converted: NAME
 names: holds: NAME NAME
+names: lower holds: NAME NAME
 names: order: NAME NAME
+names: lower order: NAME NAME
+names: same: NAME NAME
+names: lower same: NAME NAME
+names: exactly: NAME NAME
+names: suffixes: NAME
+names: lower suffixes: NAME
+names: keys: NAME TYPE NAME TYPE
 names: copy key: NAME TYPE
 records: type: TEXT
+records: types: TYPE TYPE
 records: class: NUMBER
 records: code: NUMBER
+records: record: RECORD
 records: copy record: RECORD
 records: copy data: DATA
 records: copy kind: NUMBER OCTETS NUMBER
+records: equal: RECORD = RECORD
+records: octets: TYPE OCTETS
+records: other: TYPE OCTETS
+records: list: OCTETS
 records: vec: OCTETS
+records: of type: RECORD
+records: question: NAME TYPE
+sets: set serial: NUMBER
 sets: set: NAME TYPE TTL NUMBER
 sets: insert: serial NUMBER RECORD
 sets: add: DATA
 sets: sign: RECORD
+sets: unsign:
 sets: show:
+sets: records: SIGNED
+sets: slice:
 sets: copy set:
+sets: keep:
+sets: kept:
+sets: step serial:
+sets: exchange: NUMBER RECORD RECORD RRSIGS
+sets: replace: RECORD RECORD RRSIGS
 sets: collect under: NAME TYPE
 sets: collect:
 zones: empty: NAME ZONETYPE POLICY KIND DIGESTS
@@ -55,16 +89,20 @@ zones: put:
 zones: remove: NAME TYPE
 zones: clear:
 zones: dump:
+zones: get: NAME TYPE
 zones: map: NUMBER RECORD
 zones: signers:
 zones: key mut: NUMBER NAME MANNER
 zones: key: NUMBER NAME MANNER
 zones: secure mut: NUMBER
 zones: secure: NUMBER
+zones: signer: NUMBER NUMBER NAME MANNER
 searches: any: NAME
 searches: search: NAME TYPE DNSSEC
 searches: chase: NAME TYPE DNSSEC
 searches: additionals: NAME NAME TYPE DNSSEC
+searches: made: SET
+searches: counts:
 denials: closest: NAME
 denials: counted: NAME
 denials: exists: NAME
@@ -85,16 +123,36 @@ handlers: deny: NAME DNSSEC
 handlers: hashed: NAME TYPE DNSSEC
 handlers: expanded: NAME TYPE DNSSEC
 handlers: is:
+handlers: kind:
 handlers: consult: WORD NAME TYPE
+handlers: update: QUERIES
+parked: parked lookup: NAME TYPE DNSSEC
+parked: parked request: QUERIES
 parked: parked transfer: QUESTIONS DNSSEC
+parked: parked deny: NAME DNSSEC
+parked: parked hashed: NAME TYPE DNSSEC
+parked: parked kind:
 parked: parked is:
 parked: parked consult: WORD NAME TYPE
+parked: parked update: QUERIES
+answers: section: SET DNSSEC
+answers: answer: LIST SET DNSSEC
+answers: response: ANSWER AUTHORITY ADDITIONAL
+answers: parts: LIST SET KEPT DNSSEC
+steps: step: SET WORD
+answers: defaults:
+answers: edns: WORD
 zones: refusal zone:
 refusals: refusal: WORD
+refusals: negative: NUMBER SOA AUTHORITY
+refusals: refused: NUMBER
 judgements: judge hashed: NAME NAME TYPE
 judgements: judge: NAME NAME TYPE
 judgements: proves hashed: WORD NAME NAME TYPE NUMBER
 judgements: proves: WORD NAME NAME TYPE NUMBER
+words: number: TEXT
+words: words: TEXT
+words: numbers: TEXT
 words: written: TEXT
 words: policy: TEXT
 ";

@@ -5,10 +5,11 @@ use std::alloc::Global;
 use std::collections::BTreeMap;
 use zone_proto::RecordSet;
 
-/// The current set, and the sets that are collected for the next zone.
+/// The current set, one that is kept beside it, and the sets that are collected for the next zone.
 #[derive(Drop)]
 pub struct Held {
     pub set: Option<RecordSet>,
+    pub kept: Option<RecordSet>,
     pub collected: Sets,
 }
 
@@ -17,6 +18,7 @@ impl Held {
     pub fn new(alloc: Global) -> Held {
         Held {
             set: None,
+            kept: None,
             collected: BTreeMap::new(alloc),
         }
     }

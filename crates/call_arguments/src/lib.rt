@@ -9,6 +9,7 @@ mod forms;
 mod held;
 mod manner;
 mod read_arguments;
+mod read_made;
 mod read_octets;
 mod read_records;
 mod read_zones;

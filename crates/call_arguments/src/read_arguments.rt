@@ -4,7 +4,8 @@ use crate::arguments::Arguments;
 use crate::fault::Fault;
 use crate::forms::{Form, find_form};
 use crate::held::Held;
-use crate::read_octets::read_octets;
+use crate::read_made::{copy_held, gather_rrsigs, make_soa, read_section};
+use crate::read_octets::{read_labels, read_octets};
 use crate::read_records::{read_record, read_typed_data};
 use crate::read_zones::{read_digests, read_kind, read_manner, read_policy, read_zone_type};
 use std::str;
@@ -34,21 +35,24 @@ fn read_rest<'r>(held: &Held, arguments: &mut Arguments<'r>, kinds: &str, rest: 
     }
     let mut words = Words::new(rest.as_bytes());
     for kind in kinds.split(' ') {
-        read_part(held, arguments, &mut words, kind);
+        read_part(arguments, &mut words, kind);
+        copy_held(held, arguments, kind);
     }
     arguments.fault.put(&mut (), words.end());
 }
 
 /// Reads what is of a kind, which may have parts that are of kinds themselves.
-fn read_part<'r>(held: &Held, arguments: &mut Arguments<'r>, words: &mut Words<'r>, kind: &str) {
+fn read_part<'r>(arguments: &mut Arguments<'r>, words: &mut Words<'r>, kind: &str) {
     match kind {
         "RECORD" => read_record(arguments, words),
         "DATA" => read_typed_data(arguments, words),
         "QUERIES" => read_queries(arguments, words),
         "QUESTIONS" => read_questions(arguments, words),
         "DIGESTS" => read_digests(arguments, words),
-        "SETS" => copy_sets(held, arguments),
         "WORD" => arguments.text = take_text(words),
+        "ANSWER" | "AUTHORITY" | "ADDITIONAL" => read_section(arguments, words, kind),
+        "RRSIGS" => gather_rrsigs(arguments),
+        "SOA" => make_soa(arguments),
         kind => read_kind_alone(arguments, words, kind),
     }
 }
@@ -69,6 +73,7 @@ fn read_kind_alone(arguments: &mut Arguments<'_>, words: &mut Words<'_>, kind: &
         "TYPES" => read_types(&mut arguments.types, fault, words),
         "NUMBER" => fault.push(&mut arguments.numbers, words.take_u64()),
         "OCTETS" => fault.push(&mut arguments.octets, read_octets(alloc, words)),
+        "LABELS" => read_labels(alloc, &mut arguments.octets, fault, words),
         _ => read_choice(arguments, words, kind),
     }
 }
@@ -82,7 +87,9 @@ fn read_choice(arguments: &mut Arguments<'_>, words: &mut Words<'_>, kind: &str)
         "ZONETYPE" => fault.put(&mut arguments.zone_type, read_zone_type(words)),
         "POLICY" => fault.put(&mut arguments.policy, read_policy(words)),
         "KIND" => fault.put(&mut arguments.kind, read_kind(arguments.alloc, words)),
+        "SIGNED" => fault.put(&mut arguments.is_flagged, words.take_flag(b"signed")),
         "serial" => fault.put(&mut false, words.take_flag(b"serial")),
+        "=" => fault.put(&mut false, words.take_flag(b"=")),
         "MANNER" => fault.put(&mut arguments.manner, read_manner(words)),
         _ => {}
     }
@@ -133,14 +140,5 @@ fn read_questions(arguments: &mut Arguments<'_>, words: &mut Words<'_>) {
         let mut query = arguments.take_query();
         query.query_type = query_type;
         arguments.fault.push(&mut arguments.queries, Ok(query));
-    }
-}
-
-/// Copies the sets that were collected, under their keys.
-fn copy_sets(held: &Held, arguments: &mut Arguments<'_>) {
-    for (key, set) in &held.collected {
-        arguments
-            .fault
-            .insert(&mut arguments.sets, key.clone(), set.clone());
     }
 }

@@ -1,5 +1,6 @@
 //! Reads octets.
 
+use crate::fault::Fault;
 use crate::read_arguments::take_text;
 use std::alloc::Global;
 use zone_text::{TextError, Words, read_hex};
@@ -25,4 +26,19 @@ fn repeated(alloc: Global, part: &str, count: &str) -> Result<Vec<u8>, TextError
     let count = count.parse::<u16>().ok().ok_or(TextError::BadText)?;
     let word = part.repeat(alloc, usize::from(count))?;
     octets_of(alloc, word.as_str())
+}
+
+/// Reads the octets that are left of a row.
+pub fn read_labels(
+    alloc: Global,
+    labels: &mut Vec<Vec<u8>>,
+    fault: &mut Fault,
+    words: &mut Words<'_>,
+) {
+    for _ in 0..u64::MAX {
+        match words.take() {
+            Some(word) => fault.push(labels, read_octets(alloc, &mut Words::new(word))),
+            None => break,
+        }
+    }
 }

@@ -8,9 +8,10 @@ use zone_text::{TextError, Words, read_data, read_type};
 /// Reads `NAME TTL TYPE DATA`, or the same with `CH` before the type.
 pub fn read_record(arguments: &mut Arguments<'_>, words: &mut Words<'_>) {
     read_kinds(arguments, words, "NAME NUMBER");
-    let record_type = read_type_after_class(words, &mut arguments.class);
-    arguments.fault.put(&mut arguments.data_type, record_type);
-    read_parts(arguments, words);
+    let mut class = DNSClass::IN;
+    let record_type = read_type_after_class(words, &mut class);
+    arguments.fault.push(&mut arguments.classes, Ok(class));
+    read_parts(arguments, words, record_type);
 }
 
 /// Reads a type, which `CH` may stand before.
@@ -29,18 +30,22 @@ fn read_type_after_class(
 
 /// Reads a type and its data.
 pub fn read_typed_data(arguments: &mut Arguments<'_>, words: &mut Words<'_>) {
-    arguments
-        .fault
-        .put(&mut arguments.data_type, read_type(words));
-    read_parts(arguments, words);
+    let record_type = read_type(words);
+    read_parts(arguments, words, record_type);
 }
 
-/// Reads the parts of data, or data whose parts the program reads.
-fn read_parts(arguments: &mut Arguments<'_>, words: &mut Words<'_>) {
-    match parts_of(arguments.data_type) {
+/// Reads the parts of data of a type, or data whose parts the program reads.
+fn read_parts(
+    arguments: &mut Arguments<'_>,
+    words: &mut Words<'_>,
+    record_type: Result<RecordType, TextError>,
+) {
+    let data_type = record_type.unwrap_or(RecordType::A);
+    arguments.fault.push(&mut arguments.data_types, record_type);
+    match parts_of(data_type) {
         Some(kinds) => read_kinds(arguments, words, kinds),
         None => {
-            let rdata = read_data(arguments.alloc, arguments.data_type, words);
+            let rdata = read_data(arguments.alloc, data_type, words);
             arguments.fault.push(&mut arguments.data, rdata);
         }
     }
@@ -63,7 +68,7 @@ fn parts_of(record_type: RecordType) -> Option<&'static str> {
 impl<'r> Arguments<'r> {
     /// The data of the type that was read, of their parts from the last on.
     pub fn take_data(&mut self) -> RData {
-        match self.data_type {
+        match take(&mut self.data_types, RecordType::A) {
             RecordType::DNSKEY => RData::DNSKEY(self.take_key_data()),
             RecordType::NSEC => RData::NSEC(self.take_denial()),
             RecordType::NSEC3 => RData::NSEC3(self.take_hashed_denial()),

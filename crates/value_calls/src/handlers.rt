@@ -140,15 +140,15 @@ impl ZoneHandler for Parked {
 
 /// Makes a call of a handler that exists and owns nothing.
 pub fn make_parked_call(out: &mut Answer, verb: &str, arguments: &mut Arguments<'_>) {
-    let parked = Parked::new(arguments.alloc);
+    let mut parked = Parked::new(arguments.alloc);
     let verb = verb.strip_prefix("parked ").unwrap_or(verb);
-    make_handler_call(out, &parked, verb, arguments);
+    make_handler_call(out, &mut parked, verb, arguments);
 }
 
 /// Makes a call of any handler.
 pub fn make_handler_call<Z: ZoneHandler>(
     out: &mut Answer,
-    zone: &Z,
+    zone: &mut Z,
     verb: &str,
     arguments: &mut Arguments<'_>,
 ) {
@@ -158,6 +158,8 @@ pub fn make_handler_call<Z: ZoneHandler>(
         "transfer" => transfer(out, zone, arguments),
         "consult" => write_flow(out, consulted(zone, arguments)),
         "is" => write_itself(out, zone),
+        "kind" => write_denial_kind(out, zone),
+        "update" => update(out, zone, arguments),
         "deny" => write_flow(out, denied(zone, arguments)),
         verb => write_flow(out, denied_by_hash(zone, verb == "expanded", arguments)),
     }
@@ -270,6 +272,24 @@ fn write_itself<Z: ZoneHandler>(out: &mut Answer, zone: &Z) {
     out.hold(zone.can_validate_dnssec());
 }
 
+/// Writes how any zone denies, as the type of the sets that deny.
+fn write_denial_kind<Z: ZoneHandler>(out: &mut Answer, zone: &Z) {
+    out.say(match zone.nx_proof_kind() {
+        None => "nothing",
+        Some(NxProofKind::Nsec) => "NSEC",
+        Some(NxProofKind::Nsec3 { .. }) => "NSEC3",
+    });
+}
+
+/// Writes what any zone answers to an update.
+fn update<Z: ZoneHandler>(out: &mut Answer, zone: &mut Z, arguments: &mut Arguments<'_>) {
+    let request = arguments.take_request();
+    match alone(zone.update(&request, 5)) {
+        Some(answer) => out.tell(answer),
+        None => out.say("signed"),
+    }
+}
+
 /// The step that a word stands for.
 fn step_of(word: &str) -> LookupControlFlow<AuthLookup> {
     match word {
@@ -309,7 +329,7 @@ fn write_transfer(out: &mut Answer, answer: Result<ZoneTransfer, LookupError>) {
 }
 
 /// Writes the records of a transfer, and their count; after the last it lends nothing.
-fn write_parts(out: &mut Answer, transfer: &ZoneTransfer) {
+pub fn write_parts(out: &mut Answer, transfer: &ZoneTransfer) {
     let mut records = transfer.into_iter();
     let count = write_records(out, records.by_ref());
     out.put(&count);

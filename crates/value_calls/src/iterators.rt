@@ -1,9 +1,26 @@
-//! Writes what sets and answers lend.
+//! Writes what names, sets and answers lend.
 ghost use Rattle.std.specs.Iterator.{IsFinite};
 
 use crate::write::Answer;
-use zone_proto::Record;
-use zone_text::RecordText;
+use zone_proto::{Labels, Record, Suffixes};
+use zone_text::{HexText, RecordText};
+
+/// Writes labels in hex, each after a space.
+pub fn write_labels(out: &mut Answer, labels: Labels<'_>) {
+    for label in labels.clone() {
+        out.say(" ");
+        out.put(&HexText(label));
+    }
+}
+
+/// Writes the count of the labels of each suffix, and the labels.
+pub fn write_suffixes(out: &mut Answer, suffixes: Suffixes<'_>) {
+    for suffix in suffixes {
+        out.put(&suffix.len());
+        write_labels(out, suffix);
+        out.say("; ");
+    }
+}
 
 /// Writes records, each with a semicolon after it, and answers how many they are.
 pub fn write_records<'r, I: Iterator<Item = &'r Record> + Drop>(out: &mut Answer, records: I) -> u64

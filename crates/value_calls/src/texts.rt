@@ -77,7 +77,7 @@ fn write_answer(out: &mut Answer, answer: &Result<AuthLookup, LookupError>) {
 }
 
 /// Writes the records of an answer, and those that may help beside them.
-fn write_sections(out: &mut Answer, answer: &AuthLookup) {
+pub fn write_sections(out: &mut Answer, answer: &AuthLookup) {
     let count = write_records(out, answer.iter());
     out.put(&count);
     out.say(" records");
@@ -88,7 +88,7 @@ fn write_sections(out: &mut Answer, answer: &AuthLookup) {
 }
 
 /// Writes the records of a section, each after a semicolon.
-fn write_section(out: &mut Answer, section: LookupRecordsIter<'_>) {
+pub fn write_section(out: &mut Answer, section: LookupRecordsIter<'_>) {
     for record in section {
         out.say("; ");
         out.put(&RecordText(record));

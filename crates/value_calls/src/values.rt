@@ -1,10 +1,12 @@
 //! The calls that need no zone of rows, by their subjects.
 
+use crate::answers::make_answer_call;
 use crate::handlers::make_parked_call;
 use crate::hashes::make_hash_call;
 use crate::names::make_name_call;
 use crate::records::make_record_call;
-use crate::refusals::write_refusal;
+use crate::refusals::make_refusal_call;
+use crate::steps::make_step;
 use crate::words::make_word_call;
 use crate::write::Answer;
 use call_arguments::{Arguments, Form};
@@ -16,7 +18,9 @@ pub fn make_value_call(out: &mut Answer, call: Form, arguments: &mut Arguments<'
         "names" => make_name_call(out, verb, arguments),
         "records" => make_record_call(out, verb, arguments),
         "hashes" => make_hash_call(out, verb, arguments),
-        "refusals" => write_refusal(out, arguments.text),
+        "answers" => make_answer_call(out, verb, arguments),
+        "steps" => make_step(out, arguments),
+        "refusals" => make_refusal_call(out, verb, arguments),
         "parked" => make_parked_call(out, verb, arguments),
         _ => make_word_call(out, verb, arguments),
     }

@@ -9,6 +9,9 @@
 //! - `after 3 refusals: CALL => ANSWER` makes it with no memory left, and then with a little more each time, until memory is
 //!   no longer refused to it. It has to be refused three times or more, and each time all has to stay as it was.
 //!
+//! `1000 times: CALL then CALL => ANSWER then ANSWER` makes the calls so often, with each number from 0 on in the place of `#`,
+//! in the answers too.
+//!
 //! What a call is passed is read by its form into lists, one for each kind of value (`arguments.rt` of `call_arguments`); so
 //! a few functions read all calls. The functions that make them, here and in `value_calls`, take it from there, have no early
 //! exit, and write what is answered as text into room that is there from the start. So a further call is a line of its form

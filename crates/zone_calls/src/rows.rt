@@ -24,12 +24,61 @@ fn make_rows(
     for row in text.lines() {
         if let Some((call, wanted)) = row.split_once(" => ") {
             rows = rows.saturating_add(1);
-            if !is_right(runner, state, call, wanted, faults)? {
+            if !is_row_right(runner, state, call, wanted, faults)? {
                 wrong = wrong.saturating_add(1);
             }
         }
     }
     Ok((rows, wrong))
+}
+
+/// Makes the calls of a row, as often as it says: whether all answers are those that are wanted.
+fn is_row_right(
+    runner: &mut Runner,
+    state: &mut State,
+    row: &str,
+    wanted: &str,
+    faults: &mut String,
+) -> Result<bool, AllocError> {
+    let Some((times, calls)) = split_times(row) else {
+        return is_right(runner, state, row, wanted, faults);
+    };
+    for number in 0..times {
+        let calls = numbered(runner.alloc, calls, number)?;
+        let wanted = numbered(runner.alloc, wanted, number)?;
+        if !are_right(runner, state, calls.as_str(), wanted.as_str(), faults)? {
+            return Ok(false);
+        }
+    }
+    Ok(true)
+}
+
+/// Splits `N times: CALLS`.
+fn split_times(row: &str) -> Option<(u64, &str)> {
+    let (times, calls) = row.split_once(" times: ")?;
+    Some((times.parse::<u64>().ok()?, calls))
+}
+
+/// A text with a number in the place of each `#`.
+fn numbered(alloc: Global, text: &str, number: u64) -> Result<String, AllocError> {
+    let digits = format!(in alloc; "{number}")?;
+    text.replace(alloc, "#", digits.as_str())
+}
+
+/// Makes calls one after the other, up to the first that has another answer.
+fn are_right(
+    runner: &mut Runner,
+    state: &mut State,
+    calls: &str,
+    wanted: &str,
+    faults: &mut String,
+) -> Result<bool, AllocError> {
+    for (call, wanted) in calls.split(" then ").zip(wanted.split(" then ")) {
+        if !is_right(runner, state, call, wanted, faults)? {
+            return Ok(false);
+        }
+    }
+    Ok(true)
 }
 
 /// Makes the call of a row: whether its answer is the one that is wanted. Else a line is added to the faults.

@@ -25,7 +25,7 @@ const REFUSED: &str = "error: out of memory";
 /// Makes the calls of rows, refuses memory to them, and has the answer to the last one.
 #[derive(Drop)]
 pub struct Runner {
-    alloc: Global,
+    pub alloc: Global,
     scarcity: Scarcity,
     answer: Answer,
     before: Answer,

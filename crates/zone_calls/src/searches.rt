@@ -4,10 +4,10 @@ use crate::signers::RowSigner;
 use crate::state::State;
 use crate::texts::write_chain;
 use call_arguments::Arguments;
-use value_calls::{Answer, write_made_set};
+use value_calls::{Answer, write_made_set, write_set};
 use zone_handler::LookupOptions;
-use zone_proto::{LowerName, RecordType};
-use zone_store::{Found, InnerInMemory, Searches};
+use zone_proto::{LowerName, RecordSet, RecordType};
+use zone_store::{Found, InnerInMemory, Reads, Searches};
 
 /// Makes a call that searches the zone.
 pub fn make_search_call(
@@ -21,8 +21,38 @@ pub fn make_search_call(
         "any" => choose(out, state.zone.inner(), &name),
         "search" => search(out, state, &name, arguments),
         "chase" => chase(out, state.zone.inner(), &name, arguments),
+        "counts" => write_counts(out, &InnerInMemory::new(arguments.alloc)),
+        "made" => write_made(out, arguments.take_copy()),
         _ => add(out, state.zone.inner(), &name, arguments),
     }
+}
+
+/// Writes how counts and a map by itself begin.
+fn write_counts(out: &mut Answer, map: &InnerInMemory<RowSigner>) {
+    let mut reads = Reads::default();
+    reads.add_one();
+    out.put(&reads.count());
+    out.say(" read, ");
+    out.put(&Searches::new().count());
+    out.say(" searched, ");
+    out.put(&map.record_map().as_map().len());
+    out.say(" sets, ");
+    out.put(&map.signers().len());
+    out.say(" signers");
+}
+
+/// Writes a set as one that a search made, which is lent, and then handed out.
+fn write_made(out: &mut Answer, set: Option<RecordSet>) {
+    match set {
+        Some(set) => lend_and_give(out, Found::Made(set)),
+        None => out.say("no current set"),
+    }
+}
+
+fn lend_and_give(out: &mut Answer, found: Found<'_>) {
+    write_set(out, found.set());
+    out.say(" | ");
+    write_made_set(out, found.into_set());
 }
 
 /// Chooses a type in the place of ANY.

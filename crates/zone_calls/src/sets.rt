@@ -2,13 +2,15 @@
 
 use crate::state::replace;
 use call_arguments::{Arguments, Held};
-use value_calls::{Answer, write_made_set, write_set};
-use zone_proto::{LowerName, ProtoError, RecordSet, RecordType, RrKey};
+use value_calls::{Answer, write_made_set, write_records, write_set};
+use zone_proto::{LowerName, ProtoError, RecordSet, RecordType, RrKey, Rrsigs};
 
 /// Makes a call on sets.
 pub fn make_set_call(out: &mut Answer, held: &mut Held, verb: &str, arguments: &mut Arguments<'_>) {
     match verb {
         "set" => replace(out, &mut held.set, Some(new_set(arguments))),
+        "keep" => keep(out, held),
+        "kept" => out.hold(held.set == held.kept),
         "collect" => collect(out, held),
         "collect under" => collect_under(out, held, arguments.take_key()),
         verb => match &mut held.set {
@@ -29,6 +31,21 @@ fn new_set(arguments: &mut Arguments<'_>) -> RecordSet {
         RecordSet::with_ttl(name, record_type, number)
     } else {
         RecordSet::new(name, record_type, number)
+    }
+}
+
+/// Keeps a copy of the current set.
+fn keep(out: &mut Answer, held: &mut Held) {
+    match &held.set {
+        Some(set) => put_copy(out, &mut held.kept, set.clone()),
+        None => out.say("no current set"),
+    }
+}
+
+fn put_copy(out: &mut Answer, place: &mut Option<RecordSet>, copy: Result<RecordSet, ProtoError>) {
+    match copy {
+        Ok(copy) => replace(out, place, Some(copy)),
+        Err(error) => out.fail(error),
     }
 }
 
@@ -65,7 +82,65 @@ fn make_on_set(out: &mut Answer, set: &mut RecordSet, verb: &str, arguments: &mu
         "add" => add(out, set, arguments),
         "sign" => sign(out, set, arguments),
         "copy set" => write_made_set(out, set.clone()),
-        _ => show(out, set),
+        "records" => write_lent(out, set, arguments.is_flagged),
+        "show" => show(out, set),
+        "slice" => out.put(&set.as_slice().len()),
+        verb => change(out, set, verb, arguments),
+    }
+}
+
+/// Makes a call that changes signatures or serials.
+fn change(out: &mut Answer, set: &mut RecordSet, verb: &str, arguments: &mut Arguments<'_>) {
+    match verb {
+        "unsign" => {
+            set.clear_rrsigs();
+            out.say("done");
+        }
+        "step serial" => {
+            set.step_serial();
+            out.put(&set.serial());
+        }
+        "set serial" => {
+            set.set_serial(arguments.take_long());
+            out.put(&set.serial());
+        }
+        verb => sign_anew(out, set, verb, arguments),
+    }
+}
+
+/// Makes a call that takes a list of signatures.
+fn sign_anew(out: &mut Answer, set: &mut RecordSet, verb: &str, arguments: &mut Arguments<'_>) {
+    match arguments.rrsigs.take() {
+        Some(rrsigs) if verb == "replace" => {
+            set.replace_rrsigs(rrsigs);
+            out.put(&set.rrsigs().len());
+            out.say(" signatures");
+        }
+        Some(rrsigs) => exchange(out, set, rrsigs, arguments.take_number()),
+        None => out.say("no signatures"),
+    }
+}
+
+/// Exchanges signatures from a place on.
+fn exchange(out: &mut Answer, set: &mut RecordSet, mut others: Rrsigs, start: u64) {
+    let moved = set.exchange_rrsigs(&mut others, usize::try_from(start).unwrap_or(0));
+    out.put(&moved);
+    out.say(" exchanged, ");
+    out.put(&others.len());
+    out.say(" in the list, ");
+    out.put(&set.rrsigs().len());
+    out.say(" in the set");
+    drop(others);
+}
+
+/// Writes the records that a set lends, with its signatures or without them; after the last it lends nothing.
+fn write_lent(out: &mut Answer, set: &RecordSet, signed: bool) {
+    let mut records = set.records(signed);
+    let lent = write_records(out, records.by_ref());
+    out.put(&lent);
+    out.say(" lent");
+    if records.next().is_some() || records.next().is_some() {
+        out.say(", and more");
     }
 }
 

@@ -47,7 +47,7 @@ impl State {
             "zones" => make_zone_call(out, self, verb, arguments),
             "searches" => make_search_call(out, self, verb, arguments),
             "denials" => make_denial_call(out, self, verb, arguments),
-            "handlers" => make_handler_call(out, &self.zone, verb, arguments),
+            "handlers" => make_handler_call(out, &mut self.zone, verb, arguments),
             "judgements" => make_judgement_call(out, self, verb, arguments),
             _ => make_value_call(out, call, arguments),
         }

@@ -5,9 +5,11 @@ use crate::state::{State, replace};
 use crate::texts::{Zone, write_about, write_zone};
 use call_arguments::Arguments;
 use std::fmt::Display;
-use value_calls::{Answer, write_set_handed_out};
+use value_calls::{Answer, write_set_handed_out, write_set_if_any};
 use zone_handler::{DnssecZoneHandler, KeyError, LookupOptions, SecureError};
-use zone_proto::{DNSClass, LowerName, Record, RecordSet, RecordType, Signer};
+use zone_proto::{
+    DNSClass, DNSKEY, LowerName, ProtoError, RRSIG, Record, RecordSet, RecordType, RrKey, Signer,
+};
 use zone_store::{Found, InMemoryZoneHandler, InnerInMemory, PutRefused, Searches, ZoneError};
 
 /// Makes a call on the zone.
@@ -24,6 +26,7 @@ pub fn make_zone_call(
         "map" => make_map(out, arguments),
         "key" | "key mut" => add_key(out, &mut state.zone, verb, arguments),
         "secure" | "secure mut" => secure(out, &mut state.zone, verb, arguments.take_number()),
+        "signer" => ask_signer(out, &state.held.set, arguments),
         verb => make_on_zone(out, &mut state.zone, verb, arguments),
     }
 }
@@ -33,7 +36,8 @@ fn make_on_zone(out: &mut Answer, zone: &mut Zone, verb: &str, arguments: &mut A
     match verb {
         "about" => write_about(out, zone),
         "dump" => write_zone(out, zone),
-        "signers" => out.put(&zone.secure_keys().len()),
+        "signers" => write_signers(out, zone),
+        "get" => get(out, zone.inner(), &arguments.take_key()),
         "upsert" | "upsert mut" => upsert(out, zone, verb, arguments),
         "remove" => remove(out, zone, arguments),
         "refusal zone" => out.put(&ZoneError::Memory),
@@ -42,6 +46,21 @@ fn make_on_zone(out: &mut Answer, zone: &mut Zone, verb: &str, arguments: &mut A
             out.say("done");
         }
     }
+}
+
+/// Writes how many signers the zone has, and whether its map says otherwise.
+fn write_signers(out: &mut Answer, zone: &Zone) {
+    out.put(&zone.secure_keys().len());
+    if zone.inner().signers().len() != zone.secure_keys().len() {
+        out.say(" and others");
+    }
+}
+
+/// Writes how many sets a map has, and the one under a key.
+fn get(out: &mut Answer, inner: &InnerInMemory<RowSigner>, key: &RrKey) {
+    out.put(&inner.as_map().len());
+    out.say(" sets, ");
+    write_set_if_any(out, inner.get(key));
 }
 
 fn upsert(out: &mut Answer, zone: &mut Zone, verb: &str, arguments: &mut Arguments<'_>) {
@@ -250,4 +269,44 @@ fn secure_any<S: Signer, Z: DnssecZoneHandler<S>>(zone: &mut Z, now: u64) -> Res
     ensures { Z.secures zone.old now result zone.new }
 {
     zone.secure_zone(now)
+}
+
+/// Makes a signer, and writes the flags of its key, and the tag of its signature of the current set at a moment.
+fn ask_signer(out: &mut Answer, set: &Option<RecordSet>, arguments: &mut Arguments<'_>) {
+    let (origin, number) = (arguments.take_lower(), arguments.take_short());
+    match RowSigner::new(number, &origin, arguments.manner) {
+        Ok(signer) => write_asked(out, signer, set.as_ref(), arguments.take_number()),
+        Err(error) => out.fail(error),
+    }
+}
+
+/// The same of any signer.
+fn write_asked<S: Signer + Drop>(out: &mut Answer, signer: S, set: Option<&RecordSet>, now: u64) {
+    write_flags(out, signer.dnskey());
+    if let Some(set) = set {
+        write_tag(out, signer.sign(set, DNSClass::IN, now));
+    }
+}
+
+fn write_flags(out: &mut Answer, key: Result<Option<DNSKEY>, ProtoError>) {
+    match key {
+        Ok(Some(key)) => {
+            out.say("flags ");
+            out.put(&key.flags);
+        }
+        Ok(None) => out.say("no key"),
+        Err(error) => out.fail(error),
+    }
+    out.say(", ");
+}
+
+fn write_tag(out: &mut Answer, signature: Result<Option<RRSIG>, ProtoError>) {
+    match signature {
+        Ok(Some(rrsig)) => {
+            out.say("tag ");
+            out.put(&rrsig.key_tag);
+        }
+        Ok(None) => out.say("no signature"),
+        Err(error) => out.fail(error),
+    }
 }
