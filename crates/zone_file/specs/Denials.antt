@@ -1,7 +1,7 @@
 -- The data of NSEC, NSEC3 and NSEC3PARAM records in the form of their standards (RFC 4034 section 4.2, RFC 5155 sections 3.3
 -- and 4.3)
-use Rattle.std.specs.Prelude.{ℕ, ◌+◌, ◌==◌, List, [], ◌∷◌, length, nat_le, nat_lt, Bool, Option, Some, None, option_map, option_and_then, Result, Ok, if◌then◌else◌}
-use Rattle.std.specs.List.{prefix_len}
+use Rattle.std.specs.Prelude.{ℕ, ◌==◌, List, [], ◌∷◌, length, nat_le, Bool, Option, Some, None, option_map, option_and_then, Result, Ok, Err, if◌then◌else◌}
+use Rattle.std.specs.Ordering.{match_ordering, nat_cmp}
 use Rattle.zone_proto.specs.declared.rdata.denial.NSEC.{NSEC as DenialData}
 use Rattle.zone_proto.specs.declared.rdata.denial.NSEC3.{NSEC3 as HashedData}
 use Rattle.zone_proto.specs.declared.rdata.denial.NSEC3PARAM.{NSEC3PARAM as HashParameters}
@@ -9,6 +9,7 @@ use Rattle.zone_proto.specs.declared.record_type.RecordType.{RecordType}
 use Rattle.zone_proto.specs.Names.{Name}
 use Rattle.zone_text.specs.Hex.{hex_word}
 use Rattle.zone_text.specs.Numbers.{number_within}
+use Rattle.zone_entries.specs.declared.place.Place.{Place}
 use Rattle.zone_entries.specs.Entries.{WordText}
 use Rattle.zone_words.specs.Base32.{base32_octets}
 use Rattle.zone_file.specs.declared.fault.Reason.TheVariants as reason
@@ -16,30 +17,43 @@ use Rattle.zone_file.specs.declared.fault.Fault.{Fault}
 use Rattle.zone_file.specs.Readings.{fault, or_else_fault, ◌>>=◌}
 use Rattle.zone_file.specs.Fields.{Left, Reading, left_at, next, next_name, next_u8, next_u16, record_type_named}
 
--- Types, to the end of the entry. They are a set, which data have in ascending order (RFC 4034 section 4.1.2): a type goes among
--- others to its place, and one that is there stays.
+-- the types that words name, in their order
+abbrev pub types_named : List WordText → Result (List RecordType) Fault
+types_named [] = Ok []
+types_named (w ∷ ws) =
+    or_else_fault (record_type_named w.octets) (fault w.place reason.Type) >>= λ t. (types_named ws >>= λ ts. Ok (t ∷ ts))
+
+-- a type at its place among others, which ascend, unless it is there
 abbrev pub with_type : RecordType → List RecordType → List RecordType
 with_type t [] = t ∷ []
-with_type t (u ∷ us) = if nat_lt t.0 u.0 then t ∷ u ∷ us else (if t.0 == u.0 then u ∷ us else u ∷ with_type t us)
+with_type t (u ∷ us) = match_ordering (nat_cmp t.0 u.0) (t ∷ u ∷ us) (u ∷ us) (u ∷ with_type t us)
 
--- how many types stand before the first that isn't less
-abbrev pub place_of : RecordType → List RecordType → ℕ
-place_of t ts = prefix_len (λ u. nat_lt u.0 t.0) ts
+-- types in ascending order, each once, as data have them (RFC 4034 section 4.1.2)
+abbrev pub ascending : List RecordType → List RecordType
+ascending [] = []
+ascending (t ∷ ts) = with_type t (ascending ts)
 
--- these types, and those that words name
-abbrev pub types_with : List RecordType → List WordText → Result (List RecordType) Fault
-types_with ts [] = Ok ts
-types_with ts (w ∷ ws) =
-    or_else_fault (record_type_named w.octets) (fault w.place reason.Type) >>= λ t. types_with (with_type t ts) ws
+-- the types to the end of the entry
+abbrev pub types_at : Place → List WordText → Reading (List RecordType)
+types_at p ws = types_named ws >>= λ ts. Ok (ascending ts, left_at p [])
 
 abbrev pub next_types : Left → Reading (List RecordType)
-next_types l = types_with [] l.words >>= λ ts. Ok (ts, left_at l.place [])
+next_types l = types_at l.place l.words
 
--- NSEC: RFC 4034 section 4.2
+-- the same where there has to be one
+abbrev pub some_types_at : Place → List WordText → Reading (List RecordType)
+some_types_at p [] = Err (fault p reason.Missing)
+some_types_at p (w ∷ ws) = types_at p (w ∷ ws)
+
+abbrev pub next_some_types : Left → Reading (List RecordType)
+next_some_types l = some_types_at l.place l.words
+
+-- NSEC: RFC 4034 section 4.2. It lists a type at least: a map of none would have no block, and a block of no types isn't
+-- allowed (section 4.1.2). NSEC3 may list none (RFC 5155 section 7.1).
 unfoldable pub next_nsec : Name → Left → Reading DenialData
 next_nsec origin l = do
   next_domain ← next_name origin l
-  ts ← next_types next_domain.1
+  ts ← next_some_types next_domain.1
   Ok (record { next_domain_name = next_domain.0; types = ts.0 }, ts.1)
 
 -- the flags, of which opt-out alone has a meaning: 1, or 0 without it (RFC 5155 section 3.1.2)

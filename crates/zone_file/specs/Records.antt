@@ -11,7 +11,7 @@ use Rattle.zone_proto.specs.TypeText.{or_else}
 use Rattle.zone_proto.specs.TextForm.{is_digit}
 use Rattle.zone_entries.specs.declared.place.Place.{Place}
 use Rattle.zone_entries.specs.Entries.{EntryWords, WordText}
-use Rattle.zone_words.specs.Ttls.{ttl_of_word}
+use Rattle.zone_words.specs.Ttls.{longest, ttl_of_word}
 use Rattle.zone_words.specs.Types.{class_named, upper}
 use Rattle.zone_file.specs.declared.fault.Reason.TheVariants as reason
 use Rattle.zone_file.specs.declared.fault.Fault.{Fault}
@@ -73,7 +73,7 @@ abbrev pub ttl_and_class : Left → Reading (Option ℕ)
 ttl_and_class l = ttl_if_there l >>= λ first. (class_if_there first.1 >>= λ behind. ttl_behind first.0 behind)
 
 -- Which TTL. The one that is given; else, of a signature, its original TTL (RFC 4034 section 3); else that of $TTL (RFC 2308
--- section 4); else that of the record before, which is the last one stated (RFC 1035 section 5.1); else, of an SOA, its minimum.
+-- section 4); else the last one stated (RFC 1035 section 5.1). What a signature takes from its data isn't stated.
 abbrev pub original_ttl_of : RData → Option ℕ
 original_ttl_of (V.RRSIG d) = Some d.original_ttl
 original_ttl_of _ = None
@@ -82,8 +82,17 @@ abbrev pub minimum_of : RData → Option ℕ
 minimum_of (V.SOA d) = Some d.minimum
 minimum_of _ = None
 
+-- the last TTL stated up to a record: the one that it is given; else that of the records before; else, of an SOA, its minimum
+abbrev pub last_stated : Context → Option ℕ → RData → Option ℕ
+last_stated c given d = or_else given (or_else c.last_ttl (minimum_of d))
+
 abbrev pub ttl_for : Context → Option ℕ → RData → Option ℕ
-ttl_for c given d = or_else given (or_else (original_ttl_of d) (or_else c.ttl (or_else c.last_ttl (minimum_of d))))
+ttl_for c given d = or_else given (or_else (original_ttl_of d) (or_else c.ttl (last_stated c given d)))
+
+-- the TTL of a record at a place, which has 31 bits at most (RFC 2181 section 8)
+abbrev pub bounded_ttl : Option ℕ → Place → Result ℕ Fault
+bounded_ttl None p = Err (fault p reason.NoTtl)
+bounded_ttl (Some t) p = if nat_lt longest t then Err (fault p reason.LongTtl) else Ok t
 
 -- what was read, if no words are left
 abbrev pub if_none_left : {X : Type 0} → X → List WordText → Result X Fault
@@ -105,8 +114,8 @@ read_record c indented p l = do
   t ← next_type given.1
   d ← next_data c.origin t.0.0 t.1
   short ← if_short d.0 t.1.place
-  ttl ← or_else_fault (ttl_for c given.0 d.0) (fault p reason.NoTtl)
-  if_none_left (record c { owner = Some owner.0; last_ttl = Some ttl }, class_in owner.0 ttl d.0) d.1.words
+  ttl ← bounded_ttl (ttl_for c given.0 d.0) p
+  if_none_left (record c { owner = Some owner.0; last_ttl = last_stated c given.0 d.0 }, class_in owner.0 ttl d.0) d.1.words
 
 -- a control entry: $ORIGIN and a name, $TTL and a TTL; $INCLUDE and the file that it names, which isn't read
 unfoldable pub read_control : Context → List ℕ → Left → Result Context Fault

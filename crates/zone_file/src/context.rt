@@ -11,6 +11,6 @@ pub struct Context {
     pub owner: Option<Name>,
     /// The seconds of the last `$TTL`.
     pub ttl: Option<u32>,
-    /// The seconds of the TTL of the record before.
+    /// The seconds of the last TTL that a record was given, or of an SOA's minimum in its place.
     pub last_ttl: Option<u32>,
 }

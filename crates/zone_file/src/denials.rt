@@ -1,9 +1,8 @@
 //! Denials: NSEC, NSEC3 and NSEC3PARAM.
-ghost use Rattle.std.specs.Prelude.{◌≡◌, ◌≤◌, ◌↔◌, [], length, slice_get, Ok, Some, None, IfOk, OnOk, IsTrue, option_map, option_and_then};
-ghost use Rattle.std.specs.List.Sorted.{IsNonDecreasingBy};
+ghost use Rattle.std.specs.Prelude.{◌≡◌, IfOk, option_map};
 ghost use Rattle.zone_file.specs.Readings.{Gives};
 ghost use Rattle.zone_file.specs.Fields.{Left};
-ghost use Rattle.zone_file.specs.Denials.{hash_of_word, if_countable, if_hash, next_hash, next_nsec, next_nsec3, next_nsec3param, next_opt_out, next_salt, next_types, opt_out_of_word, place_of, salt_of_word, types_with, with_type};
+ghost use Rattle.zone_file.specs.Denials.{ascending, hash_of_word, if_countable, if_hash, next_hash, next_nsec, next_nsec3, next_nsec3param, next_opt_out, next_salt, next_some_types, next_types, opt_out_of_word, salt_of_word, types_named};
 
 use crate::fault::{Fault, ReadError, Reason};
 use crate::fields::{read_record_type, take_u8, take_u16};
@@ -26,7 +25,7 @@ pub(crate) fn take_nsec(
 {
     Ok(NSEC {
         next_domain_name: take_name(alloc, origin, words)?,
-        types: Seq::from_vec(take_types(alloc, words)?),
+        types: Seq::from_vec(take_some_types(alloc, words)?),
     })
 }
 
@@ -143,18 +142,28 @@ fn if_hash(octets: Vec<u8>) -> Option<Vec<u8>>
     }
 }
 
-/// Takes types to the end of the entry.
+/// Takes types to the end of the entry, in any order, and gives them ascending, each once.
 fn take_types(alloc: Global, words: &mut Words<'_>) -> Result<Vec<RecordType>, ReadError>
     ensures { Gives (λ ts. (ts.items, words.new)) result (next_types words.old) }
 {
     let rest = words.take_rest();
-    Ok(read_types(alloc, rest)?)
+    let types = read_types(alloc, rest)?;
+    Ok(ascending(types))
 }
 
-/// The types that words name, in ascending order.
-#[tactic(auto, using(crate::proofs::TypeFacts::none_ascend))]
+/// The same, and refuses an entry that names none.
+fn take_some_types(alloc: Global, words: &mut Words<'_>) -> Result<Vec<RecordType>, ReadError>
+    ensures { Gives (λ ts. (ts.items, words.new)) result (next_some_types words.old) }
+{
+    if words.rest().is_empty() {
+        return Err(words.fault(Reason::Missing));
+    }
+    Ok(take_types(alloc, words)?)
+}
+
+/// The types that words name, in their order.
 fn read_types(alloc: Global, words: &[Word]) -> Result<Vec<RecordType>, ReadError>
-    ensures { Gives (λ ts. ts.items) result (types_with [] words.now) }
+    ensures { Gives (λ ts. ts.items) result (types_named words.now) }
 {
     let mut types = Vec::new(alloc);
     for word in words {
@@ -164,41 +173,16 @@ fn read_types(alloc: Global, words: &[Word]) -> Result<Vec<RecordType>, ReadErro
                 reason: Reason::Type,
             }));
         };
-        put_type(&mut types, record_type)?;
+        types.push(record_type)?;
     }
     Ok(types)
 }
 
-/// Puts a type to its place among others, which ascend, unless it is there.
-#[tactic(auto, using(crate::proofs::TypeFacts::put, crate::proofs::TypeFacts::there, crate::proofs::TypeFacts::put_ascend))]
-fn put_type(types: &mut Vec<RecordType>, record_type: RecordType) -> Result<(), AllocError>
-    requires { IsNonDecreasingBy (λ t. t.0) types.old.items }
-    ensures put { OnOk result (types.new.items ≡ with_type record_type types.old.items) }
-    ensures ascending { OnOk result (IsNonDecreasingBy (λ t. t.0) types.new.items) }
+/// Types in ascending order, each once.
+fn ascending(mut types: Vec<RecordType>) -> Vec<RecordType>
+    ensures { result.items ≡ ascending types.items }
 {
-    let at = place_of(types.as_slice(), record_type);
-    if is_at(types.as_slice(), at, record_type) {
-        return Ok(());
-    }
-    types.insert(at, record_type)?;
-    Ok(())
-}
-
-/// How many types of a list that ascends are less than a type.
-fn place_of(types: &[RecordType], record_type: RecordType) -> usize
-    requires { IsNonDecreasingBy (λ t. t.0) types.now }
-    ensures value { result ≡ place_of record_type types.now }
-    ensures within { result ≤ length types.now }
-{
-    types.partition_point(|other| other.0 < record_type.0)
-}
-
-/// Whether a type stands at an index of a list.
-fn is_at(types: &[RecordType], at: usize, record_type: RecordType) -> bool
-    ensures { IsTrue result ↔ (slice_get types.now at ≡ Some record_type) }
-{
-    match types.get(at) {
-        Some(other) => other.0 == record_type.0,
-        None => false,
-    }
+    types.sort_unstable();
+    types.dedup();
+    types
 }

@@ -27,6 +27,9 @@ pub enum Reason {
     /// No TTL is given, and nothing before gave one.
     #[error("no TTL is given, and nothing before has one")]
     NoTtl,
+    /// No TTL is given, and the one that the data state is too long (RFC 2181 section 8).
+    #[error("no TTL is given, and that of the data is more than 2147483647 seconds")]
+    LongTtl,
     /// A word that isn't read as a name, for this cause.
     #[error("a name is needed here ({0})")]
     Name(ProtoError),

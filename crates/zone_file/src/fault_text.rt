@@ -53,6 +53,7 @@ fn lead_of(reason: Reason) -> Option<&'static str> {
         Reason::Entry(_) => None,
         Reason::NoOwner => None,
         Reason::NoTtl => None,
+        Reason::LongTtl => None,
         Reason::Octets => None,
         Reason::TooLong => None,
         _ => Some(", not "),

@@ -4,7 +4,7 @@ ghost use Rattle.zone_proto.specs.Data.{same_octets};
 ghost use Rattle.zone_file.specs.Readings.{Gives};
 ghost use Rattle.zone_file.specs.Faults.{Answers, at_word, with_word};
 ghost use Rattle.zone_file.specs.Fields.{Left, left_at, next_any_word};
-ghost use Rattle.zone_file.specs.Records.{read_entry, read_words, read_record, read_control, next_owner, begins_with_digit, begins_with_dollar, is_ttl_word, ttl_and_class, ttl_if_there, class_if_there, class_of_word, if_short, ttl_for, minimum_of, original_ttl_of, is_control};
+ghost use Rattle.zone_file.specs.Records.{read_entry, read_words, read_record, read_control, next_owner, begins_with_digit, begins_with_dollar, is_ttl_word, ttl_and_class, ttl_if_there, class_if_there, class_of_word, if_short, bounded_ttl, last_stated, ttl_for, minimum_of, original_ttl_of, is_control};
 
 use crate::context::Context;
 use crate::data::{is_too_long, take_data};
@@ -19,6 +19,9 @@ use std::alloc::{AllocError, Global};
 use zone_entries::{Entry, Place, Word};
 use zone_proto::{DNSClass, Name, RData, Record};
 use zone_words::{read_class, read_ttl, to_upper};
+
+/// The greatest TTL, in seconds: it has 31 bits (RFC 2181 section 8).
+const LONGEST_TTL: u32 = 2_147_483_647;
 
 /// Reads an entry: a record of class IN, which it gives with its place, or a control entry, `$ORIGIN` or `$TTL`. What the
 /// entries behind it take from it goes into the context.
@@ -132,13 +135,11 @@ fn read_record(
     let type_place = words.place();
     let rdata = take_data(alloc, &context.origin, record_type, words)?;
     check_length(&rdata, type_place)?;
-    let Some(ttl) = ttl_for(context, given, &rdata) else {
-        return Err(fault(place, Reason::NoTtl));
-    };
+    let ttl = bounded_ttl(ttl_for(context, given, &rdata), place)?;
     words.end()?;
-    let stated = copy(&owner)?;
-    context.owner = Some(stated);
-    context.last_ttl = Some(ttl);
+    let last_owner = copy(&owner)?;
+    context.last_ttl = last_stated(context, given, &rdata);
+    context.owner = Some(last_owner);
     Ok(Record::from_rdata(owner, ttl, rdata))
 }
 
@@ -267,16 +268,34 @@ fn class_of(alloc: Global, word: &Word) -> Result<Option<DNSClass>, AllocError>
     }
 }
 
-/// The TTL of a record: the one that is given, the original one of a signature, that of `$TTL`, that of the record before, or an
-/// SOA's minimum.
+/// The TTL of a record: the one that is given, the original one of a signature, that of `$TTL`, or the last one stated.
 fn ttl_for(context: &Context, given: Option<u32>, rdata: &RData) -> Option<u32>
     ensures { result ≡ ttl_for context.now given rdata.now }
 {
     given
         .or(original_ttl_of(rdata))
         .or(context.ttl)
-        .or(context.last_ttl)
-        .or(minimum_of(rdata))
+        .or(last_stated(context, given, rdata))
+}
+
+/// The last TTL stated up to a record: the one that it is given, that of the records before, or an SOA's minimum.
+fn last_stated(context: &Context, given: Option<u32>, rdata: &RData) -> Option<u32>
+    ensures { result ≡ last_stated context.now given rdata.now }
+{
+    given.or(context.last_ttl).or(minimum_of(rdata))
+}
+
+/// The TTL of a record that begins at a place. A fault where there is none, or one of more than 31 bits.
+fn bounded_ttl(ttl: Option<u32>, place: Place) -> Result<u32, ReadError>
+    ensures { Gives (λ t. t) result (bounded_ttl ttl place) }
+{
+    let Some(seconds) = ttl else {
+        return Err(fault(place, Reason::NoTtl));
+    };
+    if seconds > LONGEST_TTL {
+        return Err(fault(place, Reason::LongTtl));
+    }
+    Ok(seconds)
 }
 
 /// The original TTL of a signature.

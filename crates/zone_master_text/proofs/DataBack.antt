@@ -1,8 +1,10 @@
 -- What is printed of data is read as these data, whatever the origin is.
-use Rattle.std.proofs.Common.{◌≡◌, ◌≢◌, ◌≤◌, ◌<◌, ℕ, ◌+◌, ◌==◌, List, [], ◌∷◌, ◌++◌, map, length, Bool, true, false, cond, ◌||◌, ◌&&◌, None, Some, Ok, refl, sym, ap, subst, ◌∙◌, arith, append_assoc, append-nil, codes}
+use Rattle.std.proofs.Common.{◌≡◌, ◌≢◌, ◌≤◌, ◌<◌, ℕ, ◌+◌, ◌==◌, List, [], ◌∷◌, ◌++◌, map, length, Bool, true, false, cond, ◌||◌, ◌&&◌, None, Some, Ok, refl, sym, ap, subst, ◌∙◌, arith, append-nil, codes, Less}
 use Rattle.std.specs.Prelude.{nat_le, nat_lt, not, unwrap_or}
 use Rattle.std.specs.Fmt.{decimal}
+use Rattle.std.specs.Cmp.{nat_cmp_is}
 use Rattle.std.specs.List.{list_all, list_any, AllByRecursion}
+use Rattle.std.specs.Ordering.{match_ordering}
 use Rattle.std.proofs.lemmas.Bool.Decides.{leb_tells, nat_tests}
 use Rattle.std.proofs.lemmas.Fmt.{decimal_is_IsNumeral}
 use Rattle.std.specs.Str.Parse.{AllDigits}
@@ -38,7 +40,7 @@ use Rattle.zone_text.proofs.PrintedWords.{and_both}
 use Rattle.zone_text.proofs.RoundTrips.{decimal_read, hex_read}
 use Rattle.zone_entries.specs.declared.place.Place.{Place}
 use Rattle.zone_file.specs.Fields.{Left, Reading, left_at, next_name}
-use Rattle.zone_file.specs.Denials.{next_nsec, next_nsec3, next_nsec3param, salt_of_word, types_with, with_type, opt_out_of_word}
+use Rattle.zone_file.specs.Denials.{next_nsec, next_nsec3, next_nsec3param, salt_of_word, ascending, some_types_at, types_at, types_named, with_type, opt_out_of_word}
 use Rattle.zone_file.specs.Data.{data_size, read_as, next_data, next_other, next_own, next_own_octets, next_soa, next_mx, next_srv}
 use Rattle.zone_file.proofs.DataFacts.{other_made}
 use Rattle.zone_file.specs.Keys.{next_dnskey, next_rrsig}
@@ -118,39 +120,32 @@ signature_read origin d q p h =
     )
     refl
 
--- types that stand below a number
-abbrev AllBelow : ℕ → List RecordType → Type 0
-AllBelow least [] = Unit {0}
-AllBelow least (t ∷ ts) = (t.0 < least) × AllBelow least ts
+ascending_types : (least : ℕ) (ts : List RecordType) → AreTypesFrom least ts → ascending ts ≡ ts
+ascending_types least [] h = refl
+ascending_types least (t ∷ ts) h = ap (with_type t) (ascending_types (t.0 + 1) ts h.2) ∙ first t ts h.2
+  where
+    first : (t : RecordType) (ts : List RecordType) → AreTypesFrom (t.0 + 1) ts → with_type t ts ≡ t ∷ ts
+    first t [] h = refl
+    first t (u ∷ us) h = ap (λ r. match_ordering r (t ∷ u ∷ us) (u ∷ us) (u ∷ with_type t us)) (sym (nat_cmp_is t.0 u.0 Less (omega (arith, h.0))))
 
-below_more : (least more : ℕ) (ts : List RecordType) → least ≤ more → AllBelow least ts → AllBelow more ts
-below_more least more [] h all = tt
-below_more least more (t ∷ ts) h all = (omega (arith, all.0), below_more least more ts h all.1)
+types_named_back : (least : ℕ) (ts : List RecordType) (p : Place) → AreTypesFrom least ts → types_named (words_from p (type_texts ts)) ≡ Ok ts
+types_named_back least [] p h = refl
+types_named_back least (t ∷ ts) p h =
+    rw (type_back t h.1, types_named_back (t.0 + 1) ts (behind p (Bare (type_word t.0))) h.2) refl
 
-below_append : (least : ℕ) (ts : List RecordType) (t : RecordType) → t.0 < least → AllBelow least ts → AllBelow least (ts ++ t ∷ [])
-below_append least [] t h all = (h, tt)
-below_append least (u ∷ us) t h all = (all.0, below_append least us t h all.1)
+types_read : (q p : Place) (ts : List RecordType) → AreTypesFrom 0 ts → types_at q (words_from p (type_texts ts)) ≡ Ok (ts, left_at q [])
+types_read q p ts h = rw (types_named_back 0 ts p h, ascending_types 0 ts h) refl
 
-at_end : (least : ℕ) (t : RecordType) (ts : List RecordType) → least ≤ t.0 → AllBelow least ts → with_type t ts ≡ ts ++ t ∷ []
-at_end least t [] h all = refl
-at_end least t (u ∷ us) h all =
-    let less : nat_lt t.0 u.0 ≡ false = grind (arith, leb_tells, all.0) in
-    let other : (t.0 == u.0) ≡ false = grind (arith, nat_tests, all.0) in
-    rw (less, other) (ap (λ (vs : List RecordType). u ∷ vs) (at_end least t us h all.1))
-
-types_read : (least : ℕ) (so_far ts : List RecordType) (p : Place) → AllBelow least so_far → AreTypesFrom least ts
-    → types_with so_far (words_from p (type_texts ts)) ≡ Ok (so_far ++ ts)
-types_read least so_far [] p below h = ap Ok (sym (append-nil so_far))
-types_read least so_far (t ∷ ts) p below h =
-    rw (type_back t h.1, at_end least t so_far h.0 below)
-    (types_read (t.0 + 1) (so_far ++ t ∷ []) ts (behind p (Bare (type_word t.0))) (below_append (t.0 + 1) so_far t (omega arith) (below_more least (t.0 + 1) so_far (omega (arith, h.0)) below)) h.2
-    ∙ ap Ok (append_assoc so_far (t ∷ []) ts))
+some_types_read : (q p : Place) (ts : List RecordType) → 0 < length ts → AreTypesFrom 0 ts
+    → some_types_at q (words_from p (type_texts ts)) ≡ Ok (ts, left_at q [])
+some_types_read q p [] some h = absurd (omega arith)
+some_types_read q p (t ∷ ts) some h = types_read q p (t ∷ ts) h
 
 denial_read : (origin : Name) (d : DenialData) (q p : Place) → IsPrintableDenial d
     → next_nsec origin (left q p (data_words (V.NSEC d))) ≡ Ok (d, left_at p [])
 unfolding next_nsec
 denial_read origin d q p h =
-    rw (name_there origin d.next_domain_name h.next, types_read 0 [] d.types (behind p (Bare (name_text d.next_domain_name))) tt h.types) refl
+    rw (name_there origin d.next_domain_name h.next, some_types_read p (behind p (Bare (name_text d.next_domain_name))) d.types h.some h.types) refl
 
 opt_out_back : (b : Bool) → opt_out_of_word (decimal (opt_out_flag b)) ≡ Some b
 opt_out_back true = rw (decimal_read 1 1 (omega arith) (omega arith)) refl
@@ -182,7 +177,7 @@ hashed_read d q p h =
       u16_back d.iterations h.iterations,
       salt_back d.salt h.salt h.short,
       hash_back d.next_hashed_owner_name h.hash h.some h.short_hash,
-      types_read 0 [] d.types (behind (hash_place d p) (Bare (base32_text d.next_hashed_owner_name))) tt h.types,
+      types_read (hash_place d p) (behind (hash_place d p) (Bare (base32_text d.next_hashed_owner_name))) d.types h.types,
     )
     refl
 

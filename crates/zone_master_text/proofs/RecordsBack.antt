@@ -130,6 +130,9 @@ no_dollar (b ∷ s) h = h
 fits : (n : ℕ) → n ≤ 65535 → nat_lt 65535 n ≡ false
 fits n h = grind (arith, leb_tells)
 
+bounded : (n : ℕ) → n < 2147483648 → nat_lt 2147483647 n ≡ false
+bounded n h = grind (arith, leb_tells)
+
 in_class : (r : Record) → r.dns_class.0 ≡ 1 → class_in r.name r.ttl r.rdata ≡ r
 in_class r e = let made : ℕ → Record = λ k. record { name = r.name; dns_class = record { 0 = k }; ttl = r.ttl; rdata = r.rdata } in ap made (sym e)
 
@@ -150,6 +153,7 @@ words_read r c p h =
       type_back (record { 0 = type_of r.rdata }) (type_in r.rdata h.rdata),
       made.is,
       fits (data_size r.rdata) h.size,
+      bounded r.ttl h.ttl,
     )
     refl
 

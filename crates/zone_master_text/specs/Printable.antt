@@ -72,6 +72,7 @@ pub record IsPrintableSignature (d : SignatureData) : Type 0 where
 -- an NSEC
 pub record IsPrintableDenial (d : DenialData) : Type 0 where
   pub next : IsName d.next_domain_name
+  pub some : 0 < length d.types
   pub types : AreTypesFrom 0 d.types
 
 -- an NSEC3 with a hash, whose salt and hash an octet counts each

@@ -1,10 +1,7 @@
-use Rattle.std.proofs.Common.{◌≡◌, [], drop}
-use Rattle.std.specs.List.Sorted.{IsNonDecreasingBy}
-use Rattle.zone_file.specs.Denials.{types_with}
+use Rattle.std.proofs.Common.{◌≡◌, ◌++◌, drop, Ok}
+use Rattle.zone_file.specs.Readings.{◌>>=◌}
+use Rattle.zone_file.specs.Denials.{types_named}
 use Rattle.zone_file.proofs.denials.read_types.Given as goal
 
 abbrev pub invariant-loop-word : goal.invariant-loop-word
-invariant-loop-word l = record {
-  named : types_with l.types.items (drop l.word-index l.words) ≡ types_with [] l.words;
-  ascending : IsNonDecreasingBy (λ t. t.0) l.types.items;
-}
+invariant-loop-word l = (types_named (drop l.word-index l.words) >>= λ more. Ok (l.types.items ++ more)) ≡ types_named l.words

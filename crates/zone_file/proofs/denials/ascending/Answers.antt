@@ -1,0 +1,8 @@
+use Rattle.std.proofs.Common.{◌≡◌}
+use Rattle.zone_file.proofs.TypeFacts.{sorted_once}
+use Rattle.zone_file.proofs.denials.ascending.Goals as goal
+
+pub returns : goal.returns
+returns c =
+    sorted_once c.args.types.items c.sort_unstable.new.self.items c.dedup.new.self.items
+    c.sort_unstable.ensures.permutation c.sort_unstable.ensures.sorted c.dedup.ensures.filtered
