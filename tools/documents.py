@@ -9,6 +9,8 @@ and line, and ends with status 1 where something is.
   as code stands somewhere in the sources.
 - ARCHITECTURE has each crate, with what it stands on, and each file of its sources; DEFINITIONS each file of definitions, and
   PROOFS each file of lemmas.
+- RFCS names definitions of the crates that it says, its rows are in order, and each section that is cited elsewhere has a row, or
+  its RFC is one of those without.
 - Links lead to files and headings that are there. Prose has at most 120 characters a line."""
 
 import functools
@@ -20,10 +22,11 @@ import sys
 sys.dont_write_bytecode = True
 
 import markdown
+import rfcs
 import sources
 
 README, ARCHITECTURE, DEFINITIONS, PROOFS = "README.md", "docs/ARCHITECTURE.md", "docs/DEFINITIONS.md", "docs/PROOFS.md"
-DIFFERENCES = "docs/DIFFERENCES.md"
+DIFFERENCES, RFCS = "docs/DIFFERENCES.md", "docs/RFCS.md"
 LONGEST_README, LONGEST_PROSE = 220, 120
 EXAMPLE = "crates/library_example/src"
 
@@ -139,13 +142,19 @@ def without_crate(name):
     return rest if crate in crates() else name
 
 
+def of_crate(item):
+    """An item of a cell without the crate that stands behind it, if one does; and that crate."""
+    found = re.fullmatch(r"(.*) of `(\w+)`", item.strip())
+    return found.groups() if found and found[2] in crates() else (item.strip(), "")
+
+
 def wrong_contracts(cell, crate):
     """Items part by semicolons. Each is functions, types or records of definitions, perhaps with clauses that each of those has
     which have clauses, and perhaps of another crate."""
     for item in cell.split(";"):
-        other = re.search(r" of `(zone_\w+)`$", item.strip())
-        names = names_for(other[1] if other else crate)
-        owners, _, clauses = re.sub(r" of `zone_\w+`$", "", item.strip()).partition("clause")
+        words, other = of_crate(item)
+        names = names_for(other or crate)
+        owners, _, clauses = words.partition("clause")
         for owner in map(without_crate, markdown.spans(owners)):
             if not names.has(owner):
                 yield f"no contract {owner}"
@@ -164,6 +173,17 @@ def wrong_definitions(cell, crate):
         name = span.split()[0]
         if name not in all_names().definitions and name not in all_names().clauses and name not in all_names().files:
             yield f"no definition {name}"
+
+
+def wrong_own_definitions(cell, crate):
+    """Items part by semicolons: public words of definitions, and the crate that has them."""
+    for item in filter(None, cell.split(";")):
+        words, owner = of_crate(item)
+        for word in markdown.spans(words):
+            if not owner:
+                yield f"no crate stands behind {word}"
+            elif word not in names_of(owner).definitions:
+                yield f"{owner} has no definition {word}"
 
 
 def wrong_files(cell, crate):
@@ -201,6 +221,7 @@ COLUMNS = {
     "Call": wrong_contracts,
     "Words": wrong_definitions,
     "Word": wrong_definitions,
+    "Definition": wrong_own_definitions,
     "Relation": wrong_definitions,
     "Part": wrong_parts,
     "Lemmas": wrong_files,
@@ -287,6 +308,36 @@ def check_proofs(path):
                 yield 1, f"{name} isn't in the table of {crate}/proofs"
 
 
+# ---- the table of RFCs
+
+
+def check_rfcs(path):
+    """Its rows are in order and say whether they are kept; what they say of a definition or a contract names one."""
+    if path != RFCS:
+        return
+    before = ()
+    for row in rfcs.rows(path):
+        order = (row.rfc, row.sections[0] if row.sections else ())
+        if order < before:
+            yield row.line, "this section belongs before the one above"
+        before = order
+        if not re.match(r"(yes|in part|no)\b", row.kept):
+            yield row.line, "it begins with none of yes, in part and no"
+        elif row.kept.startswith("yes") and not markdown.spans(row.named):
+            yield row.line, "no definition and no contract is named"
+
+
+def check_citations(path):
+    """Each RFC that a document or a source cites, and each section, has a row, or the RFC is one without rows."""
+    if path != RFCS:
+        return
+    told = rfcs.told_in(path)
+    for cited in sources.files_below(".", ".md", ".rt", ".antt", ".py", ".c", ".h", ".rs"):
+        for rfc, section in rfcs.cited_in(cited) if cited != path else ():
+            if not told.has(rfc, section):
+                yield 1, f"no row tells of RFC {rfc} {rfcs.text_of(section)}, which {cited} cites"
+
+
 # ---- names in prose
 
 
@@ -341,6 +392,8 @@ CHECKS = [
     check_architecture,
     check_definitions,
     check_proofs,
+    check_rfcs,
+    check_citations,
     check_names,
 ]
 
