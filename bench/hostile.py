@@ -4,12 +4,19 @@ Each zone is made twice, the second time with four times as many names, types or
 A record that is added is dropped with its set at once, and the figure is the mean of the two commands.
 
 Before it is timed, the program has to give the right answers in a small zone of each kind.
+
+Behind the zones come queries: the dearest ones that are known for zoned, where ZONED names it, each beside a plain one of its kind, in
+microseconds of a processor. tools/dear_queries.py has them.
 """
 
 import os
 import subprocess
 import sys
+import tempfile
 
+sys.path.insert(0, os.path.join(os.path.dirname(os.path.realpath(__file__)), "..", "tools"))
+
+import dear_queries
 from hostile_zones import FILLING, PEAK, RECORD, ZONES, aname_zone
 from measure import ENOUGH, answers_rightly, quotient, shown, text, time_load, time_question
 from workload import ORIGIN
@@ -91,6 +98,10 @@ def main():
     for make, size in ZONES:
         print_pair(make, max(min(SMALL, size), size // part), program, runs)
     print_searches(program, max(SMALL, 1000 // part))
+    if os.environ.get("ZONED"):
+        print("\nQueries to zoned, from frame to frame\n")
+        with tempfile.TemporaryDirectory() as folder:
+            dear_queries.told(os.environ["ZONED"], folder)
 
 
 if __name__ == "__main__":

@@ -295,6 +295,33 @@ def many_iterations(n):
     return Pair("NSEC3 with 65535 iterations", hashed_zone(n, 65535), hashed_zone(n, 0))
 
 
+# Names of 110 labels right below the origin: with a letter in each, and with an octet 0.
+ABSENT = {"deny a name of 110 labels": f"{'a.' * 110}{ORIGIN}", "deny one of 110 labels of an octet 0": "\\000." * 110 + ORIGIN}
+
+
+def absent_names(title, load, question):
+    """A zone that is asked for long names that aren't there, and the same zone that is asked for a short one."""
+    slow = [question(told, name) for told, name in ABSENT.items()]
+    return Pair(title, Zone(load, slow), Zone(load, [question("deny a name", f"a.{ORIGIN}")] * len(slow)))
+
+
+def absent_unsigned(n):
+    return absent_names("long names, unsigned", filled(hosts(n)), lambda told, name: asked(told, f"lookup {name} A", "error NXDomain"))
+
+
+def absent_by_nsec(n):
+    # (each of the names stands between the origin and the first host, so that the origin's record denies it and the star)
+    circle = nsec_records(filled(hosts(n)).commands)
+    question = lambda told, name: asked(told, f"deny {name} A", proof(circle[ORIGIN]))
+    return absent_names("long names, with NSEC", denied("nsec", hosts(n)), question)
+
+
+def absent_by_nsec3(n):
+    circle = nsec3_records(filled(hosts(n)).commands)
+    question = lambda told, name: hashed_denial(told, circle, name, 0)
+    return absent_names("long names, with NSEC3", denied("nsec3 - 0", hosts(n)), question)
+
+
 # The zones, and the size of the smaller one of each.
 ZONES = [
     (aliases_in_a_row, 4000),
@@ -314,5 +341,8 @@ ZONES = [
     (chain_of_deep_stars, 25000),
     (aliases_in_a_ring, 25000),
     (sets_that_do_not_reach, 25000),
+    (absent_unsigned, 10000),
+    (absent_by_nsec, 10000),
+    (absent_by_nsec3, 10000),
     (many_iterations, 10),
 ]

@@ -3,6 +3,7 @@
 import bisect
 import hashlib
 import random
+import re
 from typing import NamedTuple
 
 ORIGIN = "example.com."
@@ -164,8 +165,8 @@ BASE32 = "0123456789abcdefghijklmnopqrstuv"
 
 
 def hashed(name, iterations=0):
-    """The digest of a name by SHA-1, without salt, in base32hex (RFC 5155 section 5)."""
-    labels = name.encode().split(b".")
+    """The digest of a name by SHA-1, without salt, in base32hex (RFC 5155 section 5). An octet of a label may stand as \\DDD."""
+    labels = [re.sub(rb"\\([0-9]{3})", lambda it: bytes([int(it[1])]), label) for label in name.encode().split(b".")]
     digest = b"".join(bytes([len(label)]) + label for label in labels)
     for _ in range(1 + iterations):
         digest = hashlib.sha1(digest).digest()

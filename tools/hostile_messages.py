@@ -8,10 +8,11 @@ It is no part of the gate.
 
 Prints how long it took, in a process that also makes and checks the messages, and how much memory the program had at its most, for a
 tenth of them and for all: the two figures of memory should be alike. The tenth goes out one by one, and the processor time of the one that
-took longest is told. The status is 1 where an answer isn't as it has to be.
+took longest is told. With them go the dearest queries that are known (dear_queries.py), each by itself: a table has the processor time of
+each beside that of a plain one of its kind. The status is 1 where an answer isn't as it has to be, or where a dear query takes more than
+eight times the plain one's; but for those of which the table says that this is known. Signed zones are made by dnssec-signzone, of Debian's
+package bind9-utils; without it the unsigned one alone is asked.
 """
-import importlib.machinery
-import importlib.util
 import random
 import struct
 import subprocess
@@ -21,6 +22,9 @@ import time
 
 sys.dont_write_bytecode = True
 
+import dear_queries
+from dear_queries import worked
+from questions import frames, zoned_path
 from sources import TOP
 
 ZONE = f"example.com.={TOP}/examples/zones/example.zone"
@@ -32,17 +36,6 @@ LIMITS = [0, 1, 511, 512, 513, 1231, 1232, 1400, 4096, 65534, 65535]
 
 # How many messages are handed over before their answers are read.
 TOGETHER = 200
-
-
-def frames_tool():
-    """The tool that makes messages of words."""
-    loader = importlib.machinery.SourceFileLoader("frames", f"{TOP}/tools/frames")
-    tool = importlib.util.module_from_spec(importlib.util.spec_from_loader("frames", loader))
-    loader.exec_module(tool)
-    return tool
-
-
-frames = frames_tool()
 
 
 def good():
@@ -100,12 +93,6 @@ def is_answered(message):
     return len(message) >= 12 and not message[2] & 0x80
 
 
-def worked(process):
-    """The nanoseconds of a processor that a process has taken."""
-    with open(f"/proc/{process.pid}/schedstat", encoding="ascii") as it:
-        return int(it.read().split()[0])
-
-
 def tried(program, count, together):
     """Hands over so many messages, so many of them together: what was wrong, how many octets of memory the program had at its most, and the
     nanoseconds of a processor that it took longest for those together, but for the first, for which it loads the zone."""
@@ -134,19 +121,18 @@ def tried(program, count, together):
 
 
 def main(count="1000000", seed="1"):
-    path = subprocess.run([f"{TOP}/tools/program", "path", "zoned"], stdout=subprocess.PIPE, text=True)
-    if path.returncode:
-        return path.returncode
+    path = zoned_path()
     random.seed(int(seed))
     for some, together in ((int(count) // 10, 1), (int(count), TOGETHER)):
         began = time.monotonic()
-        wrong, most, took = tried(path.stdout.strip(), some, together)
+        wrong, most, took = tried(path, some, together)
         slowest = f", at most {took / 1000:.0f} microseconds of a processor for one" if together == 1 else ""
-        print(f"{some} messages: {time.monotonic() - began:.1f} s, {most} kilobytes{slowest}")
+        print(f"{some} messages: {time.monotonic() - began:.1f} s, {most} kilobytes{slowest}", flush=True)
         if wrong:
             print(*wrong[:5], sep="\n")
             return 1
-    return 0
+    with tempfile.TemporaryDirectory() as folder:
+        return 0 if dear_queries.told(path, folder) else 1
 
 
 if __name__ == "__main__":

@@ -1,4 +1,7 @@
-"""Random zones, and random zones with DNAME, of which other_servers.py, secondaries.py and validating_resolver.py ask."""
+"""Random zones, and random zones with DNAME, of which other_servers.py, secondaries.py, validating_resolver.py and closed_zones.py ask.
+
+A name is text as tools/frames writes it: octets that are no letter, digit, `-`, `_` or `*` stand as `\\DDD`, a dot within a label too, so that
+its labels are what stands between dots."""
 import random
 
 # The target of a DNAME; below it LABEL makes a name of 255 octets, which no name may have more of (RFC 1035 section 2.3.4).
@@ -47,11 +50,28 @@ ns.n.from A 192.0.2.8
 """
 
 
+# Labels that few names have: with octets 0 and 255, a dot, a space, and what stands beside the star in order.
+ODD = (r"\000", r"a\000b", r"a\046b", r"b\032c", r"\255", r"\001", "-", r"\041")
+
+# The least TTL of a negative response, which may be more than that of the SOA record (RFC 2308 section 3).
+MINIMA = (60, 300, 300, 9000)
+
+
+def under(labels, origin):
+    """The name with these labels before an origin, which may be the root."""
+    return f"{labels}." if origin == "." else f"{labels}.{origin}"
+
+
+def above(name):
+    """The name above one that isn't the root."""
+    return name.split(".", 1)[1] or "."
+
+
 def random_name(origin):
-    labels = [random.choice("abcd") for _ in range(random.choice([1, 1, 2, 2, 3]))]
+    labels = [random.choice(ODD if random.random() < 0.04 else "abcd") for _ in range(random.choice([1, 1, 2, 2, 3]))]
     if random.random() < 0.25:
         labels[0] = "*"
-    return ".".join(labels) + "." + origin
+    return under(".".join(labels), origin)
 
 
 def random_records(origin, owned, signed):
@@ -64,18 +84,31 @@ def random_records(origin, owned, signed):
     address = f"192.0.2.{random.randint(1, 250)}"
     data = {"A": address, "AAAA": f"2001:db8::{random.randint(1, 999):x}", "TXT": '"t"', "MX": f"10 {target}", "SRV": f"1 2 3 {target}"}
     records = [(owner, kind, data.get(kind, target))]
-    if kind == "NS" and random.random() < 0.7 and owned.get(f"ns.{owner}") != {"CNAME"}:
+    return records + at_cut(owner, owned, address, signed) if kind == "NS" else records
+
+
+def at_cut(owner, owned, address, signed):
+    """What stands at a cut and below it besides a server: glue, at the cut itself too, text that nobody is given, and DS."""
+    records = []
+    if random.random() < 0.7 and owned.get(f"ns.{owner}") != {"CNAME"}:
         owned.setdefault(f"ns.{owner}", set()).add("A")
         records.append((f"ns.{owner}", "A", address))
-    if kind == "NS" and signed and random.random() < 0.4:
+    if random.random() < 0.3:
+        owned[owner] |= {"A"}
+        records += [(owner, "NS", owner), (owner, "A", address)]
+    if random.random() < 0.15:
+        owned[owner] |= {"TXT"}
+        records.append((owner, "TXT", '"beside the cut"'))
+    if signed and random.random() < 0.4:
         records.append((owner, "DS", "12345 13 2 " + "00" * 32))
     return records
 
 
 def random_zone(origin, signed):
-    owned = {}
-    records = [(origin, "SOA", f"ns.{origin} h.{origin} 1 7200 900 1209600 300"), (origin, "NS", f"ns.{origin}")]
-    records += [(origin, "NS", random_name(origin)), (f"ns.{origin}", "A", "192.0.2.1")]
+    owned, host = {}, under("ns", origin)
+    records = [(origin, "SOA", f"{host} {under('h', origin)} 1 7200 900 1209600 {random.choice(MINIMA)}"), (origin, "NS", host)]
+    # (BIND gives up a zone whose own servers have no address)
+    records += [(origin, "NS", random_name(origin))] * (random.random() < 0.4) + [(host, "A", "192.0.2.1")]
     for _ in range(random.randint(8, 22)):
         records += random_records(origin, owned, signed)
     return list(dict.fromkeys(records))

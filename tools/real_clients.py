@@ -26,16 +26,18 @@ sys.dont_write_bytecode = True
 
 import library_test
 import other_servers
+import signed_zones
 from other_servers import connected, found, free_port
+from signed_zones import Way, delegation_signer
 from sources import TOP
 
 SYSTEM_PYTHON = "/usr/bin/python3"
 
-# The zones, and the words by which dnssec-signzone signs each, in lines of one record.
+# The zones, and how dnssec-signzone signs each.
 ZONES = {
-    "nsec.test.": ["-O", "full"],
-    "nsec3.test.": ["-O", "full", "-3", "aabbccdd", "-H", "1"],
-    "optout.test.": ["-O", "full", "-3", "-", "-H", "0", "-A"],
+    "nsec.test.": Way(kind="nsec"),
+    "nsec3.test.": Way(kind="nsec3", salt="aabbccdd", iterations=1),
+    "optout.test.": Way(kind="opt-out"),
 }
 
 # More than a datagram takes.
@@ -254,7 +256,7 @@ def wanted_read(question):
 def wanted_word(origin, question):
     """What delv has to say. Of a name error and of no data in a zone with opt-out it says `fully validated` too, by signatures and
     covers, where a resolver leaves AD clear."""
-    is_insecure = not question.is_signed or question.expands and "-A" in ZONES[origin]
+    is_insecure = not question.is_signed or question.expands and ZONES[origin].opts_out
     return ("" if question.answers else "negative response, ") + ("unsigned answer" if is_insecure else "fully validated")
 
 
@@ -267,22 +269,21 @@ def made(folder):
     for origin, signing in ZONES.items():
         for child, way in ((f"signed.{origin}", signing), (f"unsigned.{origin}", None)):
             records = [tuple(at(child, part) for part in record) for record in CHILD]
-            files[child] = other_servers.written(folder, child, records, way)
+            files[child] = signed_file(folder, child, records, way)
         records = [tuple(at(origin, part) for part in record) for record in RECORDS]
-        records += [(f"signed.{origin}", "DS", digest) for digest in digests(folder, f"signed.{origin}")]
-        files[origin] = other_servers.written(folder, origin, records, signing)
-        for digest in digests(folder, origin):
-            tag, algorithm, kind, octets = digest.split(None, 3)
-            anchors.append(f'"{origin}" static-ds {tag} {algorithm} {kind} "{octets}";')
+        records.append((f"signed.{origin}", "DS", delegation_signer(folder, f"signed.{origin}")))
+        files[origin] = signed_file(folder, origin, records, signing)
+        tag, algorithm, kind, octets = delegation_signer(folder, origin).split(None, 3)
+        anchors.append(f'"{origin}" static-ds {tag} {algorithm} {kind} "{octets}";')
     with open(f"{folder}/anchors", "w", encoding="ascii") as it:
         it.write("trust-anchors {\n" + "\n".join(anchors) + "\n};\n")
     return files, f"{folder}/anchors"
 
 
-def digests(folder, origin):
-    """The data of the DS records of a signed zone."""
-    with open(f"{folder}/dsset-{origin}", encoding="ascii") as it:
-        return [line.split(None, 3)[3].strip() for line in it]
+def signed_file(folder, origin, records, way):
+    """The file of a zone, signed where there is a way."""
+    path = signed_zones.written(folder, origin, records)
+    return signed_zones.signed(folder, origin, path, way)[0] if way else path
 
 
 def fronts(folder, files):

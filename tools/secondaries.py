@@ -6,9 +6,10 @@ Where a server isn't there, it is left out, and a line says so. It is no part of
 
   tools/secondaries.py [SEED [ROUNDS]]
 
-The servers are Debian's packages nsd and knot; zones are signed by dnssec-signzone of bind9-utils. The status is 1 where a copy differs
+The servers are Debian's packages nsd and knot; zones are signed by those of signed_zones.py. The status is 1 where a copy differs
 from its zone, or doesn't come.
 """
+import dataclasses
 import os
 import random
 import socket
@@ -21,6 +22,7 @@ import time
 sys.dont_write_bytecode = True
 
 import other_servers
+import signed_zones
 from other_servers import connected, found, frames, free_port
 from random_zones import random_zone
 from sources import TOP
@@ -59,12 +61,13 @@ def large_set(origin):
 
 def made_zones():
     """The records of each zone, and how it is signed."""
-    is_there = found("dnssec-keygen") and found("dnssec-signzone")
-    if not is_there:
-        print("secondaries: dnssec-keygen and dnssec-signzone aren't there, so no zone is signed")
-    signing = other_servers.SIGNING if is_there else [None]
-    ways = {f"z{number}.test.": signing[number % len(signing)] for number in range(12)}
+    signers = signed_zones.signers()
+    if not signers:
+        print("secondaries: there is no signer, so no zone is signed")
+    ways = {f"z{number}.test.": signed_zones.some_way(signers, 0.25) for number in range(12)}
     zones = {origin: random_zone(origin, way is not None) for origin, way in ways.items()}
+    # (Knot doesn't load each zone with two NSEC3PARAM records)
+    ways = {origin: dataclasses.replace(way, beside="") if way and way.beside == "second" else way for origin, way in ways.items()}
     zones |= {"many.test.": many_names("many.test."), "large.test.": large_set("large.test.")}
     return zones, ways
 
@@ -191,7 +194,7 @@ def main(seed="1", rounds="1"):
             versions = []
             for number, change in enumerate([lambda records: records, later], 1):
                 os.makedirs(f"{folder}/{number}")
-                write = lambda origin: other_servers.written(f"{folder}/{number}", origin, change(zones[origin]), ways.get(origin))
+                write = lambda origin: other_servers.made(f"{folder}/{number}", origin, change(zones[origin]), ways.get(origin)).path
                 versions.append({origin: write(origin) for origin in zones})
             for server in servers:
                 given = [{it: files[it] for it in files if it not in NOT_GIVEN.get(server, ())} for files in versions]

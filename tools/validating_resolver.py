@@ -1,23 +1,33 @@
 #!/usr/bin/env python3
-"""Has Unbound, a resolver that validates, ask zoned by ./serve's front: random zones that dnssec-signzone signs, with NSEC, and with
-NSEC3, with opt-out and without. Each response has to be one that Unbound finds secure, and answers in its turn with the same code and
-the same records; one of a zone with opt-out may stay without AD (RFC 5155 section 9.2), but has to be no bogus one. Where a tool isn't
-there, nothing is asked, and a line says so. It is no part of the gate.
+"""Has validators ask zoned: Unbound, a resolver, by ./serve's front, and delv. Each response has to be one that Unbound finds secure, and
+answers in its turn with the same code and the same records; one of a zone with opt-out may stay without AD (RFC 5155 section 9.2), but has to
+be no bogus one. Where a tool isn't there, what needs it is left out, and a line says so. It is no part of the gate.
 
   tools/validating_resolver.py [SEED [ROUNDS]]
 
-A round has nine zones. The tools are Debian's packages unbound and bind9-utils. The status is 1 where Unbound answers otherwise.
-These questions are left out:
+The zones are random ones (random_zones.py) that dnssec-signzone, ldns-signzone and kzonesign sign, with NSEC, and with NSEC3, with opt-out
+and without; some with NSEC3 have a second chain, the rest of an old one, or NSEC records beside it (signed_zones.py). A round has twelve
+of them, two with DNAME, and two with three children each, which are served beside them: of one the parent has the DS record, so that Unbound
+has to find it secure by the parent's key; one is signed without, and one isn't signed, so that it has to find these insecure, by proof. A
+root zone with such a child is asked by itself. Of zones with something beside their chain delv is asked 40 questions each, and has to
+say `fully validated`.
 
-- those that lead out of the zone, to a zone cut or round in a circle, as no server is there that could answer them;
+The tools are Debian's packages unbound, bind9-utils, bind9-dnsutils, ldnsutils and knot-dnssecutils. The status is 1 where a validator answers
+otherwise. These questions are left out:
+
+- those that lead out of the zone, to a zone cut or round in a circle, as no server is there that could answer them, or as an alias into
+  another zone ends where it does;
 - with opt-out, those for names that aren't there below an empty name that no NSEC3 set matches, where a wildcard stands above that. RFC
   5155 has no proof of such a name error: the wildcard would have to be denied. What BIND sends of it Unbound finds bogus as well;
 - with opt-out, those for no data of an empty name that no NSEC3 set matches, where the set that covers it, or the name above it that is
   next closer, is that of the wildcard beside it, and the wildcard owns the type or an alias. No other set covers the name, and Unbound
   takes that one for the wildcard's, which has what is asked for. Which questions these are is computed from the digests of the names of
   the zone;
+- those whose aliases lead below one DNAME twice, and those for CNAME, DNAME or ANY below one: Unbound answers SERVFAIL or goes on, with
+  what BIND sends of them too; and those for DNAME of a name that gets too long, whose response it leaves without AD;
 - those that a wildcard answers under a name that itself begins with `*`, which Unbound takes for the wildcard's own; delv doesn't.
 """
+import dataclasses
 import hashlib
 import random
 import struct
@@ -28,8 +38,12 @@ import tempfile
 sys.dont_write_bytecode = True
 
 import other_servers
-from other_servers import SIGNING, TOP, connected, found, frames, free_port, queries, received, sections
-from random_zones import random_zone
+import server_choices
+import signed_zones
+from other_servers import connected, found, frames, free_port, queries, received, sections, zone_of
+from random_zones import above, is_below, random_zone, zone_with_dnames
+from signed_zones import BESIDE, KINDS, OTHER_ITERATIONS, OTHER_SALT
+from sources import TOP
 
 RESOLVER = """server:
  username: ""
@@ -50,15 +64,30 @@ RESOLVER = """server:
  local-zone: "test." nodefault
 """
 
-# The zones of a round, each signed in one of the ways.
-ZONES = 9
-WAYS = SIGNING[1:]
+# How many zones of a round have no children and no DNAME; how many have DNAME, and how many have children.
+ZONES, WITH_DNAMES, PARENTS = 12, 2, 2
+
+# Seconds in which Unbound has to answer.
+ANSWERS = 5
+
+# How many questions for a zone with something beside its chain delv is asked.
+DELVED = 40
 
 
 def asked(stream, message):
     """The message that a server answers."""
     stream.sendall(struct.pack("!H", len(message)) + message)
     return received(stream.makefile("rb").read)
+
+
+def asked_anew(port, message):
+    """The message that a server answers over a connection of its own, or none where that takes too long."""
+    with connected(port) as stream:
+        stream.settimeout(ANSWERS)
+        try:
+            return asked(stream, message)
+        except (OSError, struct.error):
+            return None
 
 
 def types_and_owners(lines):
@@ -71,25 +100,33 @@ def is_whole(name, kind, parts):
     return kind.lower() in kinds or any(word == "soa" for word, _ in types_and_owners(parts["AUTHORITY"]))
 
 
+def is_twice_below_dname(kind, parts):
+    """Whether aliases lead below one DNAME twice, or below one a type is asked for that would end there."""
+    owners = {word: [owner for its, owner in types_and_owners(parts["ANSWER"]) if its == word] for word in ("dname", "cname")}
+    made = [sum(is_below(it, dname) for it in owners["cname"]) for dname in owners["dname"]]
+    return max(made, default=0) > 1 or bool(made) and max(made) > 0 and kind in ("CNAME", "DNAME", "ANY")
+
+
 def is_made_as_a_star(records, parts):
     """Whether a wildcard answers under a name that begins with `*`."""
     owners = {owner for owner, _, _ in records}
     return any(owner.startswith("*.") and owner not in owners for _, owner in types_and_owners(parts["ANSWER"]))
 
 
-def digest(name):
-    """The digest of a name by the parameters of the zones that have opt-out here: no salt, and no iteration but the first (RFC 5155
-    section 5). Digests are in the order of the owners that they are of."""
-    labels = name.lower().rstrip(".").split(".")
-    return hashlib.sha1(b"".join(bytes([len(it)]) + it.encode() for it in labels) + b"\0").digest()
+def digest(name, salt, iterations):
+    """The digest of a name by these parameters (RFC 5155 section 5). Digests are in the order of the owners that they are of."""
+    octets = frames.octets_of(name.lower())
+    for _ in range(iterations + 1):
+        octets = hashlib.sha1(octets + bytes.fromhex(salt)).digest()
+    return octets
 
 
 def from_origin(origin, name):
     """The names from the origin down to a name."""
-    above = [name]
-    while above[-1] != origin:
-        above.append(above[-1].split(".", 1)[1])
-    return above[::-1]
+    names = [name]
+    while names[-1] != origin:
+        names.append(above(names[-1]))
+    return names[::-1]
 
 
 def matched_names(origin, records):
@@ -101,23 +138,34 @@ def matched_names(origin, records):
     return {name for run in runs if run[-1] not in left_out and not cuts & set(run[:-1]) for name in run}
 
 
-def is_covered_by_star(origin, name, kind, records):
+def is_covered_by_star(origin, name, kind, zone):
     """Whether no set matches a name, and the one that covers its next closer name is that of the wildcard beside that, which has what is
-    asked for."""
-    matched, run = matched_names(origin, records), from_origin(origin, name)
+    asked for; in either chain, where there are two."""
+    matched, run = matched_names(origin, zone.records), from_origin(origin, name)
     if name in matched:
         return False
     closer = next(it for it in run if it not in matched)
-    star = f"*.{closer.split('.', 1)[1]}"
-    before = [it for it in matched if digest(it) < digest(closer)] or matched
-    has_it = any(owner == star and its_kind in (kind, "CNAME") for owner, its_kind, _ in records)
-    return has_it and max(before, key=digest) == star
+    star = f"*.{above(closer)}" if above(closer) != "." else "*."
+    has_it = any(owner == star and its_kind in (kind, "CNAME") for owner, its_kind, _ in zone.records)
+    second = [(OTHER_SALT, OTHER_ITERATIONS)] if zone.way.beside == "second" else []
+    return has_it and any(is_of_star(matched, closer, star, *it) for it in [(zone.way.salt, zone.way.iterations), *second])
 
 
-def is_left_out(origin, name, kind, code, parts, opted_out, records):
-    has_no_proof = opted_out and other_servers.has_no_proof(name, code, records)
-    is_taken_for_star = opted_out and not code and not parts["ANSWER"] and is_covered_by_star(origin, name, kind, records)
-    return has_no_proof or is_taken_for_star or not is_whole(name, kind, parts) or is_made_as_a_star(records, parts)
+def is_of_star(matched, closer, star, *parameters):
+    """Whether the set that covers a name is that of a wildcard."""
+    digests = {digest(it, *parameters): it for it in matched}
+    before = [it for it in digests if it < digest(closer, *parameters)] or digests
+    return digests[max(before)] == star
+
+
+def is_left_out(origin, name, kind, code, parts, zones):
+    zone = zones[origin]
+    if server_choices.leads_into_other_zone(parts, origin, zones) or not is_whole(name, kind, parts) or is_made_as_a_star(zone.records, parts):
+        return True
+    if is_twice_below_dname(kind, parts) or code == server_choices.YXDOMAIN and kind == "DNAME":
+        return True
+    has_no_proof = zone.opts_out and server_choices.has_no_proof(name, code, zone.records)
+    return has_no_proof or zone.opts_out and not code and not parts["ANSWER"] and is_covered_by_star(origin, name, kind, zone)
 
 
 def data(lines):
@@ -126,71 +174,149 @@ def data(lines):
     return sorted({(it[0], *it[2:]) for it in records if it[3] != "rrsig"})
 
 
-def differences(origin, records, opted_out, served, resolver):
-    """How many responses were looked at, how many were secure, and what Unbound answers otherwise."""
-    count, secure, differing = 0, 0, []
-    for name, kind, words in queries(origin, records):
-        if not words or (name, kind) == (origin, "DS"):
+@dataclasses.dataclass
+class Sums:
+    """How many responses were looked at and were secure, and what a validator answers otherwise."""
+
+    count: int = 0
+    secure: int = 0
+    differing: list = dataclasses.field(default_factory=list)
+    delved: int = 0
+    delved_otherwise: list = dataclasses.field(default_factory=list)
+
+
+def look_at(sums, zones, origin, anchored, served, resolver):
+    """Asks for one zone, and for what its children answer of its names."""
+    for name, kind, words in queries(origin, zones[origin].records):
+        answering = zone_of(name, kind, zones)
+        if not words or kind == "DS" and name in anchored:
             continue
         (_, code), parts = sections(asked(served, frames.query([name, kind, *words])))
-        if is_left_out(origin, name, kind, code, parts, opted_out, records):
+        if is_left_out(answering, name, kind, code, parts, zones):
             continue
-        message = asked(resolver, frames.query([name, kind, "rd", *words]))
+        told = f"{answering} by {zones[answering].way}"
+        message = asked_anew(resolver, frames.query([name, kind, "rd", *words]))
+        if not message:
+            sums.differing.append((told, f"{name} {kind}: no answer in {ANSWERS} seconds"))
+            continue
         (_, their_code), their_parts = sections(message)
-        is_secure = bool(message[3] & 0x20)
-        count, secure = count + 1, secure + is_secure
-        if (code, data(parts["ANSWER"])) != (their_code, data(their_parts["ANSWER"])) or not (is_secure or opted_out):
-            differing.append(f"{name} {kind}: code {code} and {their_code}, {'secure' if is_secure else 'not secure'}")
-    return count, secure, differing
+        is_secure, must_be = bool(message[3] & 0x20), answering in anchored and not zones[answering].opts_out
+        sums.count, sums.secure = sums.count + 1, sums.secure + is_secure
+        is_same = (code, data(parts["ANSWER"])) == (their_code, data(their_parts["ANSWER"]))
+        if not is_same or is_secure < must_be or is_secure and answering not in anchored:
+            sums.differing.append((told, f"{name} {kind}: code {code} and {their_code}, {'secure' if is_secure else 'not secure'}"))
+
+
+def delve(sums, zones, origin, anchors, served, stream):
+    """Asks delv for a zone."""
+    asks = [(name, kind) for name, kind, words in queries(origin, zones[origin].records) if words and zone_of(name, kind, zones) == origin]
+    for name, kind in random.sample(asks, min(DELVED, len(asks))):
+        (_, code), parts = sections(asked(stream, frames.query([name, kind, "edns=4096", "do"])))
+        if is_left_out(origin, name, kind, code, parts, zones):
+            continue
+        words = [found("delv"), "@127.0.0.1", "-p", str(served), "-a", anchors, f"+root={origin}", "+tcp", name, kind]
+        said = subprocess.run(words, stdout=subprocess.PIPE, stderr=subprocess.STDOUT, text=True, errors="replace").stdout
+        sums.delved += 1
+        if "fully validated" not in said and not zones[origin].opts_out or "bogus" in said or "broken" in said:
+            sums.delved_otherwise.append(f"{name} {kind} of {zones[origin].way}: {' '.join(said.split())[:150]}")
+
+
+# ---- zones and servers
+
+
+def plain(way):
+    """The same way without salt and iterations with opt-out, whose digests are computed here."""
+    return dataclasses.replace(way, salt="", iterations=0) if way.opts_out else way
+
+
+def zones_together(folder, signers):
+    """The zones of a round by those that are served together, and the zones whose keys are trust anchors, with the children that they sign."""
+    zones, number = {}, 0
+    turn = lambda: plain(signed_zones.random_way(random.choice(signers), random.choice(KINDS), random.choice(("", "", "", *BESIDE))))
+    for number in range(ZONES):
+        beside = ("", *BESIDE)[number % 4]
+        way = plain(signed_zones.random_way(signers[number % len(signers)], KINDS[number % 3] if not beside else KINDS[1 + number % 2], beside))
+        zones[f"z{number}.test."] = other_servers.made(folder, f"z{number}.test.", random_zone(f"z{number}.test.", True), way)
+    for number in range(WITH_DNAMES):
+        zones[f"d{number}.test."] = other_servers.made(folder, f"d{number}.test.", zone_with_dnames(f"d{number}.test.", True), turn())
+    for number in range(PARENTS):
+        children = [("signed", turn(), True), ("island", turn(), False), ("unsigned", None, False)]
+        zones |= other_servers.parent_and_children(folder, f"p{number}.test.", turn(), children)
+    return [zones, other_servers.parent_and_children(folder, ".", turn(), [("signed", turn(), True)])]
+
+
+def anchors_of(zones):
+    """The zones whose keys Unbound is given."""
+    return [it for it in zones if not any(is_below(it, other) or other == "." != it for other in zones)]
 
 
 def configured(folder, zones, port, served):
-    """Writes the resolver's configuration, with the DS records of the zones as trust anchors."""
+    """Writes the resolver's configuration, with the keys of the zones as trust anchors."""
     lines = [RESOLVER.format(folder=folder, port=port)]
-    lines += [f' trust-anchor-file: "{folder}/dsset-{origin}"\n' for origin in zones]
+    lines += [f' trust-anchor-file: "{signed_zones.anchor(folder, origin)}"\n' for origin in anchors_of(zones)]
     lines += [f'stub-zone:\n name: "{origin}"\n stub-addr: 127.0.0.1@{served}\n' for origin in zones]
     with open(f"{folder}/unbound.conf", "w", encoding="ascii") as it:
         it.write("".join(lines))
     return f"{folder}/unbound.conf"
 
 
-def looked_at(folder, zoned):
-    """A round: how many responses were looked at, how many were secure, and what Unbound answers otherwise."""
-    ways = {f"z{number}.test.": WAYS[number % len(WAYS)] for number in range(ZONES)}
-    zones = {origin: random_zone(origin, True) for origin in ways}
-    words = [f"{origin}={other_servers.written(folder, origin, records, ways[origin])}" for origin, records in zones.items()]
+def for_delv(folder, origin):
+    """The file of a zone's key, as delv reads it."""
+    tag, algorithm, kind, octets = signed_zones.delegation_signer(folder, origin).split(None, 3)
+    with open(f"{folder}/{origin}anchor", "w", encoding="ascii") as it:
+        it.write(f'trust-anchors {{ "{origin}" static-ds {tag} {algorithm} {kind} "{octets}"; }};\n')
+    return f"{folder}/{origin}anchor"
+
+
+def look_at_all(sums, folder, zones, zoned):
+    """Asks for all zones that are served together."""
     served, port = free_port(), free_port()
+    words = [f"{origin}={zone.path}" for origin, zone in zones.items()]
     command = [sys.executable, f"{TOP}/examples/serving/front.py", str(served), zoned, "--limits", *words]
     front = subprocess.Popen(command, stderr=subprocess.DEVNULL)
     command = [found("unbound"), "-d", "-c", configured(folder, zones, port, served)]
     resolver = subprocess.Popen(command, stderr=subprocess.DEVNULL)
+    anchored = {it for it in zones if it in anchors_of(zones) or it.startswith("signed.")}
     try:
-        with connected(port) as theirs:
-            sums = [0, 0, []]
-            for origin, records in zones.items():
-                # (a connection to the front ends where nothing comes by it for a while)
+        for origin, zone in zones.items():
+            # (a connection to the front ends where nothing comes by it for a while)
+            with connected(served) as ours:
+                look_at(sums, zones, origin, anchored, ours, port)
+            if found("delv") and zone.way and zone.way.beside and origin in anchors_of(zones):
                 with connected(served) as ours:
-                    parts = differences(origin, records, "-A" in ways[origin], ours, theirs)
-                sums = [one + other for one, other in zip(sums, parts)]
-            return sums
+                    delve(sums, zones, origin, for_delv(folder, origin), served, ours)
     finally:
         for process in (resolver, front):
             process.terminate()
             process.wait()
 
 
+def tell(sums):
+    """Tells what came of it; what is otherwise by the zones, each with its first question."""
+    by_zone = {}
+    for zone, question in sums.differing:
+        by_zone.setdefault(zone, []).append(question)
+    shown = [f"{zone}: {len(those)}, as {those[0]}" for zone, those in by_zone.items()]
+    print(f"{sums.count} responses, {sums.secure} of them secure, {len(sums.differing)} answered otherwise", *shown, sep="\n    ")
+    print(f"delv: {sums.delved} responses, {len(sums.delved_otherwise)} otherwise", *sums.delved_otherwise[:5], sep="\n    ", flush=True)
+
+
 def main(seed="1", rounds="1"):
-    missing = [tool for tool in ("unbound", "dnssec-keygen", "dnssec-signzone") if not found(tool)]
-    if missing:
-        print(f"validating_resolver: {', '.join(missing)}: not there, so nothing is asked")
+    signers = signed_zones.signers()
+    if not found("unbound") or not signers:
+        print("validating_resolver: unbound, or a signer, isn't there, so nothing is asked")
         return 0
+    for tool in [it for it in (*signed_zones.SIGNERS, "delv") if it not in signers and not (it == "delv" and found(it))]:
+        print(f"validating_resolver: {tool}, or what it needs, isn't there, so it is left out")
     path, differs = other_servers.zoned_path(), False
     random.seed(int(seed))
     for _ in range(int(rounds)):
+        sums = Sums()
         with tempfile.TemporaryDirectory() as folder:
-            count, secure, differing = looked_at(folder, path)
-        print(f"{count} responses, {secure} of them secure, {len(differing)} answered otherwise", *differing[:5], sep="\n    ")
-        differs = differs or bool(differing)
+            for zones in zones_together(folder, signers):
+                look_at_all(sums, folder, zones, path)
+        tell(sums)
+        differs = differs or bool(sums.differing or sums.delved_otherwise)
     return 1 if differs else 0
 
 

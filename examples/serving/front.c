@@ -3,7 +3,9 @@
  *     cc -O2 front.c $(pkg-config --cflags --libs ningkraet) -o front
  *     ./front 5300 example.com.=example.zone
  *
- * One process, one poll loop. SIGHUP reads the zone files anew, and a zone whose file is bad stays as it is; SIGTERM and SIGINT end it.
+ * One process, one poll loop, whose turns end by the time that answers took: the datagrams of IPv4, those of IPv6 and all connections
+ * together have SHARE each, and of that a connection has SLICE. SIGHUP reads the zone files anew, and a zone whose file is bad stays as it
+ * is; SIGTERM and SIGINT end it.
  */
 #define _GNU_SOURCE
 #include <arpa/inet.h>
@@ -24,7 +26,9 @@ enum {
     QUERY = 4096,          /* octets of a query by UDP, at most: what is longer is cut, and is no query then */
     BATCH = 64,            /* datagrams that are read and sent by one call of the kernel */
     FRAME = 2 + 65535,     /* octets of a message by TCP with its length, at most */
-    TURN = 1 << 16,        /* octets of responses to one client after which others have their turn */
+    SHARE = 2000,          /* microseconds that answers of one kind take before those of the others have their turn: one answer at least */
+    SLICE = 200,           /* microseconds that answers to one connection take before the next one has its turn: one answer at least */
+    TURN = 1 << 16,        /* octets of responses to one connection before the next one has its turn */
     CONNECTIONS = 1024,    /* TCP connections at once; one more takes the place of the one that has asked nothing for longest */
     IDLE = 10              /* seconds without an octet either way after which a connection is closed (RFC 7766 section 6.2.3) */
 };
@@ -32,13 +36,22 @@ enum {
 /* A TCP connection. `unsent` are responses that the client hasn't read yet: until it has, no more of its queries are answered. */
 struct connection {
     int fd, ended;         /* -1: none; whether the client has closed its half, and what it asked is still answered (section 6.2.4) */
-    time_t moved;          /* when an octet went either way */
+    uint64_t moved;        /* the microsecond in which an octet went either way */
     unsigned long asked;   /* its place in the order in which connections were accepted or sent a whole query */
     uint8_t *in, *unsent;
     size_t have, left, sent;
 };
 
+/* Datagrams that were read by one call, of which those from `at` on are still to be answered. */
+struct datagrams {
+    uint8_t octets[BATCH][QUERY];
+    struct sockaddr_storage clients[BATCH];
+    struct mmsghdr read[BATCH];
+    int count, at;
+};
+
 static nk_zones zones = NK_ZONES_NONE;
+static struct datagrams datagrams[2];
 static struct connection connections[CONNECTIONS];
 static int in_use;             /* behind the last of them that is open: the kernel looks at no more */
 static unsigned long order;
@@ -46,6 +59,13 @@ static struct pollfd polled[4 + CONNECTIONS];
 static volatile sig_atomic_t stopped, renewed;
 
 static void on_signal(int number) { *(number == SIGHUP ? &renewed : &stopped) = 1; }
+
+/* A clock that nobody sets, in microseconds. */
+static uint64_t microseconds(void) {
+    struct timespec now;
+    clock_gettime(CLOCK_MONOTONIC, &now);
+    return (uint64_t)now.tv_sec * 1000000 + now.tv_nsec / 1000;
+}
 
 /* The octets of a file, or NULL. */
 static uint8_t *octets_of(const char *path, size_t *length) {
@@ -84,24 +104,35 @@ static int load(const char *word) {
     return code == NK_DONE;
 }
 
-/* Answers the datagrams that have come, up to BATCH. */
-static void answer_datagrams(int fd, time_t now) {
-    static uint8_t queries[BATCH][QUERY], responses[BATCH][DATAGRAM];
-    static struct sockaddr_storage clients[BATCH];
-    struct mmsghdr in[BATCH], out[BATCH];
-    struct iovec to_read[BATCH], to_send[BATCH];
-    int count, answers = 0;
+/* Reads datagrams that have come, up to BATCH, once those of before are answered. */
+static void read_datagrams(struct datagrams *d, int fd) {
+    struct iovec rooms[BATCH];
     for (int i = 0; i < BATCH; i++) {
-        to_read[i] = (struct iovec){queries[i], QUERY};
-        in[i].msg_hdr = (struct msghdr){.msg_name = &clients[i], .msg_namelen = sizeof clients[i], .msg_iov = &to_read[i], .msg_iovlen = 1};
+        rooms[i] = (struct iovec){d->octets[i], QUERY};
+        d->read[i].msg_hdr = (struct msghdr){.msg_name = &d->clients[i], .msg_namelen = sizeof d->clients[i], .msg_iov = &rooms[i], .msg_iovlen = 1};
     }
-    if ((count = recvmmsg(fd, in, BATCH, MSG_DONTWAIT, NULL)) < 0) return;
-    for (int i = 0; i < count; i++) {
+    d->count = recvmmsg(fd, d->read, BATCH, MSG_DONTWAIT, NULL);
+    d->at = 0;
+}
+
+/* Answers datagrams that have come, until none is left of those that were read, or their time is over. */
+static void answer_datagrams(struct datagrams *d, int fd, time_t now) {
+    static uint8_t responses[BATCH][DATAGRAM];
+    struct mmsghdr out[BATCH];
+    struct iovec to_send[BATCH];
+    int answers = 0;
+    if (d->at >= d->count) read_datagrams(d, fd);
+    for (uint64_t until = microseconds() + SHARE; d->at < d->count;) {
+        struct msghdr *client = &d->read[d->at].msg_hdr;
         size_t written;
-        if (nk_zones_answer(&zones, now, queries[i], in[i].msg_len, DATAGRAM, NK_UDP, responses[i], DATAGRAM, &written) != NK_DONE) continue;
-        to_send[answers] = (struct iovec){responses[i], written};
-        out[answers].msg_hdr = (struct msghdr){.msg_name = &clients[i], .msg_namelen = in[i].msg_hdr.msg_namelen, .msg_iov = &to_send[answers], .msg_iovlen = 1};
-        answers++;
+        uint32_t code = nk_zones_answer(&zones, now, d->octets[d->at], d->read[d->at].msg_len, DATAGRAM, NK_UDP, responses[answers], DATAGRAM, &written);
+        d->at++;
+        if (code == NK_DONE) {
+            to_send[answers] = (struct iovec){responses[answers], written};
+            out[answers].msg_hdr = (struct msghdr){.msg_name = client->msg_name, .msg_namelen = client->msg_namelen, .msg_iov = &to_send[answers], .msg_iovlen = 1};
+            answers++;
+        }
+        if (microseconds() >= until) break;
     }
     for (int sent = 0, more; sent < answers; sent += more)
         if ((more = sendmmsg(fd, out + sent, answers - sent, MSG_DONTWAIT)) <= 0) more = 1;   /* one that can't be sent is lost, as by a network */
@@ -115,25 +146,26 @@ static void close_connection(struct connection *c) {
 }
 
 /* Takes a new connection, if need be in the place of the one that has asked nothing for longest. Tells whether there was one. */
-static int take_connection(int listener, time_t now) {
+static int take_connection(int listener) {
     int fd = accept4(listener, NULL, NULL, SOCK_NONBLOCK | SOCK_CLOEXEC), one = 1;
     if (fd < 0) return 0;
     struct connection *c = connections;
     for (struct connection *other = connections; other < connections + CONNECTIONS; other++)
         if (c->fd >= 0 && (other->fd < 0 || other->asked < c->asked)) c = other;
     if (c->fd >= 0) close_connection(c);
-    *c = (struct connection){.fd = fd, .moved = now, .asked = ++order, .in = malloc(FRAME)};
+    *c = (struct connection){.fd = fd, .moved = microseconds(), .asked = ++order, .in = malloc(FRAME)};
     if (in_use <= c - connections) in_use = c - connections + 1;
     if (!c->in) close_connection(c);
     else setsockopt(fd, IPPROTO_TCP, TCP_NODELAY, &one, sizeof one);
     return 1;
 }
 
-/* Answers whole queries that were read, until none is left, or the client has TURN octets to read. Tells whether the connection goes on. */
+/* Answers whole queries that were read, until none is left, the client has TURN octets to read, or its time is over. Tells whether the
+ * connection goes on. */
 static int answer_frames(struct connection *c, time_t now) {
     static uint8_t out[TURN + FRAME];
     size_t at = 0, made = 0, written;
-    while (made < TURN && c->have - at >= 2) {
+    for (uint64_t until = microseconds() + SLICE; made < TURN && c->have - at >= 2 && (!at || microseconds() < until);) {
         size_t length = c->in[at] << 8 | c->in[at + 1];
         if (c->have - at - 2 < length) break;
         uint32_t code = nk_zones_answer(&zones, now, c->in + at + 2, length, 65535, NK_TCP, out + made + 2, 65535, &written);
@@ -164,7 +196,7 @@ static int move_octets(struct connection *c, short events, time_t now) {
     if (c->left && events & (POLLOUT | POLLERR | POLLHUP)) {
         ssize_t count = send(c->fd, c->unsent + c->sent, c->left, MSG_DONTWAIT | MSG_NOSIGNAL);
         if (count < 0) return errno == EAGAIN || errno == EINTR;
-        c->moved = now;
+        c->moved = microseconds();
         c->sent += count;
         if ((c->left -= count)) return 1;
         free(c->unsent);
@@ -176,7 +208,7 @@ static int move_octets(struct connection *c, short events, time_t now) {
         if (count < 0) return errno == EAGAIN || errno == EINTR;
         c->ended = count == 0;
         c->have += count;
-        c->moved = now;
+        c->moved = microseconds();
     }
     if (has_frame(c) && !answer_frames(c, now)) return 0;
     return !(c->ended && !c->left && !has_frame(c));
@@ -198,17 +230,37 @@ static int socket_at(int family, int kind, int port) {
     return fd;
 }
 
+/* Moves octets of connections and answers their queries, from the one of this number on round to the one before it, until their time is
+ * over. Gives the number of the one whose turn is next. */
+static int answer_connections(int first, time_t now) {
+    uint64_t began = microseconds();
+    for (int count = 0; count < in_use; count++) {
+        int i = (first + count) % in_use;
+        struct connection *c = &connections[i];
+        if (c->fd < 0) continue;
+        uint64_t moment = microseconds();
+        if (moment - began >= SHARE) return i;
+        if ((polled[4 + i].revents || (!c->left && has_frame(c))) && !move_octets(c, polled[4 + i].revents, now)) close_connection(c);
+        else if (moment > c->moved && moment - c->moved > IDLE * 1000000ull) close_connection(c);
+    }
+    return first;
+}
+
+/* Whether something that was read waits for its answer. */
+static int has_more(void) {
+    for (int i = 0; i < 2; i++)
+        if (datagrams[i].at < datagrams[i].count) return 1;
+    for (int i = 0; i < in_use; i++)
+        if (connections[i].fd >= 0 && !connections[i].left && has_frame(&connections[i])) return 1;
+    return 0;
+}
+
 /* Serves until a signal ends it. */
 static void serve(char **words, sigset_t *waiting) {
-    while (!stopped) {
-        int waits = 1000;
+    for (int next = 0; !stopped;) {
         while (in_use && connections[in_use - 1].fd < 0) in_use--;
-        for (int i = 0; i < in_use; i++) {
-            struct connection *c = &connections[i];
-            polled[4 + i] = (struct pollfd){c->fd, c->left ? POLLOUT : POLLIN, 0};
-            if (c->fd >= 0 && !c->left && has_frame(c)) waits = 0;
-        }
-        struct timespec wait = {waits / 1000, 0};
+        for (int i = 0; i < in_use; i++) polled[4 + i] = (struct pollfd){connections[i].fd, connections[i].left ? POLLOUT : POLLIN, 0};
+        struct timespec wait = {has_more() ? 0 : 1, 0};
         int ready = ppoll(polled, 4 + in_use, &wait, waiting);
         time_t now = time(NULL);
         if (renewed) {
@@ -217,15 +269,10 @@ static void serve(char **words, sigset_t *waiting) {
         }
         if (ready < 0) continue;
         for (int i = 0; i < 2; i++)
-            if (polled[i].revents) answer_datagrams(polled[i].fd, now);
-        for (int i = 0; i < in_use; i++) {
-            struct connection *c = &connections[i];
-            if (c->fd < 0) continue;
-            if ((polled[4 + i].revents || (!c->left && has_frame(c))) && !move_octets(c, polled[4 + i].revents, now)) close_connection(c);
-            else if (now - c->moved > IDLE) close_connection(c);
-        }
+            if (polled[i].revents || datagrams[i].at < datagrams[i].count) answer_datagrams(&datagrams[i], polled[i].fd, now);
+        next = answer_connections(next, now);
         for (int i = 2; i < 4; i++)
-            for (int taken = 0; polled[i].revents && taken < BATCH && take_connection(polled[i].fd, now); taken++) {}
+            for (int taken = 0; polled[i].revents && taken < BATCH && take_connection(polled[i].fd); taken++) {}
     }
 }
 

@@ -5,6 +5,9 @@ The program is started once, as `zoned --limits ZONE..`. Each query goes to its 
 the response may be (65535 where it came by TCP) and two octets of length, under an identifier of the front's own; responses come from
 its standard output behind two octets of length. The front reads of a message no more than its header's first three octets. By TCP
 several may answer a query, as a whole zone does: so a header alone is asked behind each, and once it is answered, all came.
+
+The program answers in order, so what waits for it is what a datagram waits for. So no more than TURNS queries by TCP wait for it at a time,
+and connections get their turns in the order in which they ask.
 """
 import asyncio
 import contextlib
@@ -16,6 +19,8 @@ import sys
 DATAGRAM, STREAM = 4096, 65535
 # How many queries may wait for the program; where more come by UDP they are dropped, as a network drops them.
 WAITING = 32768
+# How many queries by TCP may wait for the program at a time, over all connections.
+TURNS = 2
 # Seconds: how long a TCP connection may be idle (RFC 7766 section 6.2.3), and how long answers are waited for once it is half closed.
 IDLE, LINGER = 10, 5
 # Octets: what a TCP client may leave unread; all others wait LINGER seconds for it to read before its connection is closed.
@@ -26,7 +31,7 @@ class Program:
     """The program, and who waits for which of its responses."""
 
     def __init__(self):
-        self.waiting, self.last = {}, 0
+        self.waiting, self.last, self.turns = {}, 0, asyncio.Semaphore(TURNS)
 
     async def start(self, words):
         pipe = asyncio.subprocess.PIPE
@@ -95,7 +100,15 @@ class Connection:
         except (asyncio.TimeoutError, ConnectionError):
             self.writer.transport.abort()
 
+    async def ask(self, message):
+        await self.program.turns.acquire()
+        if self.program.ask(message, STREAM, self.give, self.end):
+            self.open += 1
+        else:
+            self.program.turns.release()
+
     async def end(self, answered):
+        self.program.turns.release()
         self.open -= 1
         self.answered.set()
 
@@ -107,7 +120,7 @@ class Connection:
         with contextlib.suppress(asyncio.IncompleteReadError, asyncio.TimeoutError, ConnectionError):
             while True:
                 message = await asyncio.wait_for(self.message(), IDLE)
-                self.open += self.program.ask(message, STREAM, self.give, self.end)
+                await self.ask(message)
                 await self.writer.drain()
         # What was asked before the client closed its half is still answered (RFC 7766 section 6.2.4).
         with contextlib.suppress(asyncio.TimeoutError, ConnectionError):
