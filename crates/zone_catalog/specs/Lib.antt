@@ -1,5 +1,6 @@
 pub mod Calls
 pub mod Catalogs
+pub mod ChainsBeside
 pub mod Denials
 pub mod Holding
 pub mod Outcomes

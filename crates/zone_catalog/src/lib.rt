@@ -4,6 +4,7 @@
 
 pub mod calls;
 mod catalog;
+mod chain;
 mod handle;
 mod loads;
 mod outcome;

@@ -7,6 +7,7 @@ ghost use Rattle.zone_sha1.specs.Digests.{name_digest};
 ghost use Rattle.zone_catalog.specs.Denials.{denial_kind, first_parameters, kind_by, kind_of, parameters_at};
 ghost use Rattle.zone_catalog.specs.Zones.{never_signed, served_zone, zone_of_records, IsServed};
 
+use crate::chain::chain_beside;
 use crate::static_signer::StaticSigner;
 use std::alloc::{AllocError, Global};
 use zone_inner::InnerInMemory;
@@ -26,20 +27,26 @@ pub struct Zone {
     pub inner: InnerInMemory<StaticSigner>,
     /// How it denies what it doesn't hold.
     pub nx_proof_kind: Option<NxProofKind>,
+    /// Where it has NSEC or NSEC3 sets that don't belong to the chain by which it denies: its sets without these, in which its
+    /// denials are looked up.
+    pub denials: Option<RecordMap>,
 }
 
 /// The zone of an origin that has these sets. It denies as its sets say: by the hashed names of its NSEC3PARAM set (RFC 5155
-/// section 4), else by NSEC where its origin owns NSEC (RFC 4035 section 2.3). Refused by `Memory` alone.
+/// section 4), else by NSEC where its origin owns NSEC (RFC 4035 section 2.3); and by the sets of that chain alone, where sets of
+/// another one stand beside them (RFC 5155 section 7.3), or those that are left of an old one. Refused by `Memory` alone.
 pub fn zone_of(alloc: Global, origin: LowerName, records: RecordMap) -> Result<Zone, ProtoError>
     requires { IsZone records }
     ensures zone { IfOk result (λ z. z ≡ zone_of_records origin records) }
     ensures err { IsOkUnless result ProtoError.Memory }
 {
     let nx_proof_kind = denial_of(&origin, &records)?;
+    let denials = chain_beside(alloc, nx_proof_kind.as_ref(), &records)?;
     Ok(Zone {
         origin,
         inner: InnerInMemory::with_records(alloc, records),
         nx_proof_kind,
+        denials,
     })
 }
 
@@ -127,7 +134,10 @@ pub(crate) fn lent(zone: &Zone) -> ServedZone<'_, StaticSigner, Sha1Hash>
     ServedZone {
         origin: &zone.origin,
         inner: &zone.inner,
-        denials: zone.inner.record_map(),
+        denials: match &zone.denials {
+            Some(chain) => chain,
+            None => zone.inner.record_map(),
+        },
         nx_proof_kind: zone.nx_proof_kind.as_ref(),
         hash: &Sha1Hash,
         // Nobody signs here, at any moment.
