@@ -1,5 +1,6 @@
 pub mod CallFacts
 pub mod Handles
+pub mod OwnDenials
 pub mod PutsInOrder
 pub mod RawBoxes
 pub mod Sharing

@@ -3,9 +3,9 @@ use Rattle.std.specs.Prelude.{◌≡◌, ℕ, List, [], map, Option, None, unwra
 use Rattle.zone_proto.specs.declared.rdata.signing.RRSIG.{RRSIG}
 use Rattle.zone_proto.specs.Names.{Name}
 use Rattle.zone_proto.specs.Signing.{SignedPart}
-use Rattle.zone_map.specs.Zones.{Sets}
+use Rattle.zone_map.specs.Zones.{Sets, IsZone}
 use Rattle.zone_response.specs.declared.question.ServedZone.{ServedZone}
-use Rattle.zone_response.specs.Queries.{zone_of}
+use Rattle.zone_response.specs.Queries.{zone_of, HasOwnDenials}
 use Rattle.zone_response.specs.Queries as queries
 use Rattle.zone_sha1.specs.declared.sha1_hash.Sha1Hash.{Sha1Hash}
 use Rattle.zone_catalog.specs.declared.static_signer.StaticSigner.{StaticSigner}
@@ -30,3 +30,7 @@ IsServed zs served = map (zone_of never_signed (λ h. name_digest)) served ≡ m
 -- the zone of an origin with these sets, which nobody signs here
 abbrev pub zone_of_records : Name → Sets → Zone
 zone_of_records origin sets = record { origin = origin; inner = record { records = sets; signers = [] }; nx_proof_kind = denial_kind sets origin; denials = chain_beside (denial_kind sets origin) sets }
+
+-- its denials are looked up among sets of its own
+abbrev pub ZonesHaveOwnDenials : Type 0
+ZonesHaveOwnDenials = (origin : Name) (m : Sets) → IsZone m → HasOwnDenials (served_zone (zone_of_records origin m))

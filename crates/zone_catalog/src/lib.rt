@@ -6,6 +6,7 @@ pub mod calls;
 mod catalog;
 mod chain;
 mod handle;
+pub mod laws;
 mod loads;
 mod outcome;
 mod raw_box;
