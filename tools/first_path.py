@@ -1,7 +1,7 @@
 #!/usr/bin/env python3
 """Checks that the first path that is computed by the definitions is the one that the README shows.
 
-The texts `input` and `output` of crates/zone_program/proofs/FirstPath.antt have to be those of examples/first-path.txt and of
+The texts `input` and `output` of crates/zonectl_session/proofs/FirstPath.antt have to be those of examples/first-path.txt and of
 its answers. Prints what differs, and ends with status 1 where something does.
 """
 import os
@@ -9,7 +9,7 @@ import re
 import sys
 
 TOP = os.path.dirname(os.path.dirname(os.path.realpath(__file__)))
-PROOF = "crates/zone_program/proofs/FirstPath.antt"
+PROOF = "crates/zonectl_session/proofs/FirstPath.antt"
 EXAMPLES = {"input": "examples/first-path.txt", "output": "examples/answers/first-path.txt"}
 
 

@@ -11,7 +11,7 @@ sys.dont_write_bytecode = True
 
 import sources
 
-HEADER, EXPORTS, CODES = "include/ningkraet.h", "crates/ningkraet/src/lib.rt", "crates/zone_catalog/src/outcome.rt"
+HEADER, EXPORTS, CODES = "include/ningkraet.h", "crates/ningkraet/src/lib.rt", "crates/zone_database/src/outcome.rt"
 
 # What a parameter is in C. The allocator is none there, since it takes no octets.
 KINDS = {

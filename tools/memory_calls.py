@@ -1,10 +1,10 @@
 #!/usr/bin/env python3
 """Checks the lists of public calls that take memory and of those that take none, calls-with-memory.txt and
-calls-without-memory.txt of crates/zone_calls.
+calls-without-memory.txt of crates/library_rows.
 
 A line there is `CALL: ROW`, `CALL: by ROW` or `CALL: transcript NAME`, as the heads of the lists say. Each public call has to
-stand in one of the lists, and once, and what a line names has to be there: a row of crates/zone_calls/data that refuses memory
-to the call, or a transcript of crates/zone_transcripts that refuses memory to its lines. The file that makes the calls of a row
+stand in one of the lists, and once, and what a line names has to be there: a row of crates/library_rows/data that refuses memory
+to the call, or a transcript of crates/zonectl_rows that refuses memory to its lines. The file that makes the calls of a row
 has to name the call, if the line doesn't say that another call makes it; of a transcript's call a source of the program has to,
 and beside it the type or module that has the call.
 Prints what is wrong, and ends with status 1 where something is.
@@ -21,8 +21,8 @@ import sources
 TOP = os.path.dirname(os.path.dirname(os.path.realpath(__file__)))
 
 # The crates whose items all are the library's, and those of which zone_store hands items on.
-OWN = ["zone_proto", "zone_text", "zone_validation", "zone_handler"]
-HANDED_ON = ["zone_map", "zone_inner", "zone_in_memory", "zone_program"]
+OWN = ["zone_proto", "line_text", "denial_validation", "zone_handler"]
+HANDED_ON = ["zone_map", "zone_lookup", "zone_in_memory", "zonectl_session"]
 
 # The calls that a type has by these traits are listed too; those of the library's own traits stand under the trait.
 TRAITS = ["Clone", "Default", "From", "IntoIterator", "Iterator", "Ord", "PartialEq", "PartialOrd"]
@@ -34,13 +34,13 @@ WRITTEN = {"eq": r"==", "next": r"\.next\(|\bfor \w+ in\b"}
 WRITERS = ["iterators", "texts", "write"]
 
 # The crates whose files make the calls of rows.
-MAKERS = ["value_calls", "zone_calls"]
+MAKERS = ["library_rows_values", "library_rows"]
 
 # The program of the transcripts.
 PROGRAM = "zonectl"
 
 # Where the lists are, beside the rows that they name; each, and how a row of it refuses memory to its call.
-FOLDER = "crates/zone_calls"
+FOLDER = "crates/library_rows"
 LISTS = [("calls-with-memory.txt", r"after [1-9]\d* refusals: "), ("calls-without-memory.txt", "without memory: ")]
 
 
@@ -99,7 +99,7 @@ def listed(name):
 def transcripts():
     """The transcripts that refuse memory to their lines, as the lists name them."""
     form = r"^## (\w+)\n(?:[#$].*\n)*! memory is refused to each line$"
-    return {f"transcript {it}" for it in re.findall(form, "\n".join(texts("crates/zone_transcripts/data/*")), re.M)}
+    return {f"transcript {it}" for it in re.findall(form, "\n".join(texts("crates/zonectl_rows/data/*")), re.M)}
 
 
 def source(name):
@@ -109,7 +109,7 @@ def source(name):
 
 def forms():
     """The verbs of rows, in the order in which they are looked for, and the files that make their calls."""
-    lines = re.search(r'const FORMS: &str = "(.*?)"', read("crates/call_arguments/src/forms.rt"), re.S)[1].split("\n")
+    lines = re.search(r'const FORMS: &str = "(.*?)"', read("crates/library_rows_arguments/src/forms.rt"), re.S)[1].split("\n")
     subjects = [it.split(":") for it in lines if it]
     return [(verb.strip(), {"parked": "handlers"}.get(subject, subject)) for subject, verb, _ in subjects]
 

@@ -2,16 +2,16 @@
 ghost use Rattle.std.specs.Prelude.{◌≡◌, map, IfOk};
 ghost use Rattle.zone_proto.specs.Types.{A};
 ghost use Rattle.zone_handler.specs.AuthLookup.{records_of};
-ghost use Rattle.zone_validation.specs.Judgement.{nsec_proof};
-ghost use Rattle.zone_validation.specs.NsecRecords.{lent_nsec};
+ghost use Rattle.denial_validation.specs.Judgement.{nsec_proof};
+ghost use Rattle.denial_validation.specs.NsecRecords.{lent_nsec};
 
+use denial_validation::{Proof, nsec};
+use line_text::{RecordText, Words, read_record};
 use std::alloc::{AllocError, Global};
 use zone_handler::{AuthLookup, AxfrPolicy, LookupError, LookupOptions, ZoneHandler, ZoneType};
 use zone_proto::{LowerName, Name, NxProofKind, Record, RecordType};
 use zone_store::InMemoryZoneHandler;
 use zone_store::program::{DemoSigner, Sha1Hash};
-use zone_text::{RecordText, Words, read_record};
-use zone_validation::{Proof, nsec};
 
 /// The moment at which the zone is signed, in seconds since 1970.
 const NOW: u64 = 1_081_535_779;

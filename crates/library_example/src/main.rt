@@ -5,6 +5,7 @@ mod judged;
 mod unsigned;
 
 use judged::judge_a_denial;
+use line_text::{RecordText, Words, read_record};
 use std::alloc::Global;
 use unsigned::{NoHash, NoSigner};
 use zone_handler::{
@@ -13,7 +14,6 @@ use zone_handler::{
 };
 use zone_proto::{DNSClass, LowerName, Name, Query, RData, Record, RecordType};
 use zone_store::InMemoryZoneHandler;
-use zone_text::{RecordText, Words, read_record};
 
 /// A zone that is never signed.
 type Zone = InMemoryZoneHandler<NoSigner, NoHash>;

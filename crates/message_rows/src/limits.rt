@@ -1,8 +1,8 @@
 //! Responses written at each limit, and read.
 
+use message_reading::{Header, MessageError, read_message};
+use message_writing::{Response, WriteError, write_response};
 use std::alloc::{AllocError, Global};
-use zone_message::{Header, MessageError, read_message};
-use zone_wire::{Response, WriteError, write_response};
 
 /// What became of a response: how many records the message has in its sections, and whether TC is set; or why there is none.
 #[derive(Clone, Copy, PartialEq, Eq, Debug)]

@@ -1,10 +1,10 @@
 //! Responses that rows mean.
 
 use crate::sets::{Set, groups_of, octets_of, read_set};
+use line_text::{TextError, Words};
+use message_reading::{Query, ReadError, read_query};
+use message_writing::{Group, Response};
 use std::alloc::{AllocError, Global};
-use zone_message::{Query, ReadError, read_query};
-use zone_text::{TextError, Words};
-use zone_wire::{Group, Response};
 
 /// A response, and how many octets it may have.
 #[derive(Drop)]

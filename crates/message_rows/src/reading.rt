@@ -2,11 +2,11 @@
 
 use crate::rows::{ROOMS, STEP, without_spaces};
 use crate::text::{message_text, query_text};
-use scarce::Scarcity;
+use alloc_failures::Scarcity;
+use line_text::{DataText, read_hex};
+use message_reading::{MessageError, ReadError, plain_data_of, read_message, read_query};
 use std::alloc::{AllocError, Global};
-use zone_message::{MessageError, ReadError, plain_data_of, read_message, read_query};
 use zone_proto::{ProtoError, RecordType};
-use zone_text::{DataText, read_hex};
 
 /// The answer to a call that reads octets.
 pub fn read_answer(alloc: Global, verb: &str, words: &str) -> Result<String, AllocError> {

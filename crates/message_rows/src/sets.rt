@@ -1,11 +1,11 @@
 //! Sets of records that rows mean.
 
 use crate::rows::without_spaces;
+use line_text::{TextError, Words, read_data, read_hex, read_name, read_type};
+use message_reading::plain_data_of;
+use message_writing::Group;
 use std::alloc::{AllocError, Global};
-use zone_message::plain_data_of;
 use zone_proto::{RData, Record, RecordType};
-use zone_text::{TextError, Words, read_data, read_hex, read_name, read_type};
-use zone_wire::Group;
 
 /// The type whose data a row gives as a count of octets 0: the first for private use (RFC 6895 section 3.1).
 const ZEROS: u16 = 65280;

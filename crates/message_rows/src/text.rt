@@ -1,11 +1,11 @@
 //! What was read, as text.
 
-use std::alloc::{AllocError, Global};
-use zone_message::{
+use line_text::RecordText;
+use message_reading::{
     Header, Message, MessageError, Query, Question, ReadError, read_message, read_query,
 };
+use std::alloc::{AllocError, Global};
 use zone_proto::Record;
-use zone_text::RecordText;
 
 /// What octets are as a query, or why they are refused.
 pub fn query_text(alloc: Global, octets: &[u8]) -> Result<String, AllocError> {

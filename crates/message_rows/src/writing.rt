@@ -3,10 +3,10 @@
 use crate::limits::limits_answer;
 use crate::meant::{Meant, read_meant, response_of, sections_of};
 use crate::rows::{ROOMS, STEP};
-use scarce::Scarcity;
+use alloc_failures::Scarcity;
+use line_text::{HexText, TextError};
+use message_writing::{Response, WriteError, write_response};
 use std::alloc::{AllocError, Global};
-use zone_text::{HexText, TextError};
-use zone_wire::{Response, WriteError, write_response};
 
 /// The answer to a call that writes a response.
 pub fn written_answer(alloc: Global, verb: &str, words: &str) -> Result<String, AllocError> {

@@ -1,13 +1,13 @@
 //! The zones of a server for programs that aren't written in Rattle: what `include/ningkraet.h` declares, each by one call of
-//! `zone_catalog`. C passes no allocator; a slice is a pointer and a length to it, and a `&mut` a pointer.
+//! `zone_database`. C passes no allocator; a slice is a pointer and a length to it, and a `&mut` a pointer.
 #![tactic(auto)]
 
 ghost use Rattle.std.specs.Prelude.{◌≡◌, [], None};
-ghost use Rattle.zone_catalog.specs.Calls.{transport_of, AnswersHeld, AsksHeld, ChangesHeld, IsAdded, IsCreated, IsDropped, IsLoaded, IsSerial, IsTold};
-ghost use Rattle.zone_catalog.specs.Outcomes.{code_of, Codes};
+ghost use Rattle.zone_database.specs.Calls.{transport_of, AnswersHeld, AsksHeld, ChangesHeld, IsAdded, IsCreated, IsDropped, IsLoaded, IsSerial, IsTold};
+ghost use Rattle.zone_database.specs.Outcomes.{code_of, Codes};
 
 use std::alloc::Global;
-use zone_catalog::{Handle, calls};
+use zone_database::{Handle, calls};
 
 /// The number of the interface. It grows where a call or a code changes or goes.
 #[unsafe(no_mangle)]
@@ -17,7 +17,7 @@ pub extern "C" fn nk_interface() -> u32
     1
 }
 
-/// Makes a catalog without zones in the place of what is kept.
+/// Makes a database without zones in the place of what is kept.
 #[unsafe(no_mangle)]
 pub extern "C" fn nk_zones_new(alloc: Global, zones: &mut Handle) -> u32
     ensures { Codes result (λ o. IsCreated [] zones.old.held o zones.new.held) }

@@ -9,7 +9,7 @@ use Rattle.zone_proto.specs.Sets.{RRset}
 use Rattle.zone_proto.specs.Types.{A, AAAA, NS}
 use Rattle.zone_proto.proofs.Members.{In, In-from_append, In-append_right, In-from_flat_map}
 use Rattle.zone_proto.proofs.Names.NameTree.{name_eq-Decides}
-use Rattle.zone_inner.specs.Flattening.{last_set}
+use Rattle.zone_lookup.specs.Flattening.{last_set}
 use Rattle.zone_map.specs.Zones.{Sets, set_at, IsZone}
 use Rattle.zone_response.specs.declared.response.Part.{Part}
 use Rattle.zone_response.specs.declared.response.Part.TheVariants as part

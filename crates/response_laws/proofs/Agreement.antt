@@ -20,11 +20,11 @@ use Rattle.zone_map.specs.Zones.{Sets, owns_at_or_below}
 use Rattle.zone_map.proofs.ExistingNames.{absent_where_unowned, owned_where_existing}
 use Rattle.zone_map.proofs.Owned.{set_of}
 use Rattle.zone_denial.specs.Nsec3Denial.{result_and_then}
-use Rattle.zone_inner.specs.Additionals.{next_name, AreAdditionals}
-use Rattle.zone_inner.specs.Flattening.{stands_for_addresses, alone, beside, flattened, unsigned_flattened, last_set}
-use Rattle.zone_inner.specs.Replies.{NegativeAnswer, name_exists, nx_domain, refused, absent, is_present, negative_answer, Answers, one_set, chained, Reply, negative, answered, is_followed, answer_sets, AreFrom, answer_section, IsAnswer, IsReplyFor}
-use Rattle.zone_acceptance.proofs.OwnTypes.{differs}
-use Rattle.zone_acceptance.proofs.Soundness.{searched_by}
+use Rattle.zone_lookup.specs.Additionals.{next_name, AreAdditionals}
+use Rattle.zone_lookup.specs.Flattening.{stands_for_addresses, alone, beside, flattened, unsigned_flattened, last_set}
+use Rattle.zone_lookup.specs.Replies.{NegativeAnswer, name_exists, nx_domain, refused, absent, is_present, negative_answer, Answers, one_set, chained, Reply, negative, answered, is_followed, answer_sets, AreFrom, answer_section, IsAnswer, IsReplyFor}
+use Rattle.denial_laws.proofs.OwnTypes.{differs}
+use Rattle.denial_laws.proofs.Soundness.{searched_by}
 use Rattle.zone_response.specs.declared.response.Part.TheVariants as part
 use Rattle.zone_response.specs.Denials.{sent_proof}
 use Rattle.zone_response.specs.Paths.{Path, path}

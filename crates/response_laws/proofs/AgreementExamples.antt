@@ -14,7 +14,7 @@ use Rattle.zone_map.specs.Zones.{Sets}
 use Rattle.zone_denial.proofs.Examples.NsecExamples.{origin, at_origin, entry, address, start}
 use Rattle.zone_denial.specs.Nsec3Circle.{nsec3_data}
 use Rattle.zone_denial.proofs.Examples.Nsec3Examples.{parameters}
-use Rattle.zone_inner.specs.Replies.{name_exists, nx_domain, negative_answer}
+use Rattle.zone_lookup.specs.Replies.{name_exists, nx_domain, negative_answer}
 use Rattle.zone_response.specs.declared.response.Part.TheVariants as part
 use Rattle.zone_response.specs.Paths.{path}
 use Rattle.zone_response.specs.Queries.{Zone, Query}

@@ -19,8 +19,8 @@ use Rattle.zone_map.specs.Zones.{Sets, owns, IsStoredAt, IsZone}
 use Rattle.zone_map.proofs.Owned.{has_entry}
 use Rattle.zone_map.proofs.Stored.{IsZone-none, IsZone-put}
 use Rattle.zone_denial.proofs.Examples.NsecExamples.{origin, at_origin, entry, address, start}
-use Rattle.zone_inner.specs.Flattening.{stands_for_addresses}
-use Rattle.zone_inner.specs.Replies.{chained, Reply, answered, IsReply}
+use Rattle.zone_lookup.specs.Flattening.{stands_for_addresses}
+use Rattle.zone_lookup.specs.Replies.{chained, Reply, answered, IsReply}
 use Rattle.zone_response.specs.declared.response.Part.TheVariants as part
 use Rattle.zone_response.specs.Paths.{path}
 use Rattle.zone_response.specs.Queries.{Zone, Query, Inquiry, inquiry}

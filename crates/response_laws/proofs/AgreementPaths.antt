@@ -14,8 +14,8 @@ use Rattle.zone_map.specs.Direct.{is_address}
 use Rattle.zone_map.specs.Wildcards.{found}
 use Rattle.zone_map.specs.Zones.{Sets}
 use Rattle.zone_map.proofs.Chains.{rest_of, rest_none, rest_seen, rest_unfound, rest_more, chain_begins}
-use Rattle.zone_inner.specs.Flattening.{stands_for_addresses}
-use Rattle.zone_inner.specs.Replies.{is_followed}
+use Rattle.zone_lookup.specs.Flattening.{stands_for_addresses}
+use Rattle.zone_lookup.specs.Replies.{is_followed}
 use Rattle.zone_response.specs.Paths.{is_told_by, unless_told, next_behind, Path, ended, behind, searched, path_from, path}
 use Rattle.zone_response.specs.Queries.{Inquiry}
 use Rattle.zone_response.specs.Responses.{code_at, fails}

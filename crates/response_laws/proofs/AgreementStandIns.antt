@@ -18,7 +18,7 @@ use Rattle.zone_map.specs.Zones.{Sets, owns, IsStoredAt, IsZone}
 use Rattle.zone_map.proofs.Owned.{has_entry}
 use Rattle.zone_map.proofs.Stored.{IsZone-none, IsZone-put}
 use Rattle.zone_denial.proofs.Examples.NsecExamples.{origin, at_origin, entry, address, start}
-use Rattle.zone_inner.specs.Replies.{one_set, Reply, answered, IsReply}
+use Rattle.zone_lookup.specs.Replies.{one_set, Reply, answered, IsReply}
 use Rattle.zone_response.specs.Paths.{path}
 use Rattle.zone_response.specs.Queries.{Zone, Query, Inquiry, inquiry}
 use Rattle.zone_response.specs.Responses.{IsResponse}

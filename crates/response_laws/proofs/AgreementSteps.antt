@@ -17,10 +17,10 @@ use Rattle.zone_map.specs.Zones.{Sets, set_at, owns}
 use Rattle.zone_map.proofs.ExistingNames.{owner_exists}
 use Rattle.zone_denial.proofs.Chain.NsecBelow.{above_at}
 use Rattle.zone_denial.proofs.Names.LongestAncestors.{above_above, longest_is}
-use Rattle.zone_inner.specs.Flattening.{stands_for_addresses}
-use Rattle.zone_inner.specs.Replies.{is_followed}
-use Rattle.zone_acceptance.proofs.OwnTypes.{differs}
-use Rattle.zone_acceptance.proofs.Soundness.{unasked}
+use Rattle.zone_lookup.specs.Flattening.{stands_for_addresses}
+use Rattle.zone_lookup.specs.Replies.{is_followed}
+use Rattle.denial_laws.proofs.OwnTypes.{differs}
+use Rattle.denial_laws.proofs.Soundness.{unasked}
 use Rattle.zone_response.specs.declared.response.Part.TheVariants as part
 use Rattle.zone_response.specs.Nodes.{AtNode, own, alias, stand_in, nothing, asked_set, stand_in_set, first_of, at_node}
 use Rattle.zone_response.specs.Queries.{Inquiry}

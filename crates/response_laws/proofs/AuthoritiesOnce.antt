@@ -7,7 +7,7 @@ use Rattle.zone_proto.specs.Names.{Name, lower, same_name}
 use Rattle.zone_proto.specs.Sets.{RRset}
 use Rattle.zone_proto.specs.Types.{NS, SOA, DS}
 use Rattle.zone_proto.proofs.Members.{In, In-from_map, none_passes}
-use Rattle.zone_inner.specs.Runs.{with_new}
+use Rattle.zone_lookup.specs.Runs.{with_new}
 use Rattle.zone_map.specs.Upserts.{is_denial_type}
 use Rattle.zone_map.specs.Zones.{IsZone}
 use Rattle.zone_response.specs.declared.response.Part.TheVariants as part

@@ -8,8 +8,8 @@ use Rattle.zone_proto.proofs.Names.NameTree.{name_eq-Decides}
 use Rattle.zone_map.specs.AnyTypes.{any_type}
 use Rattle.zone_map.specs.Zones.{Sets, set_at, owns}
 use Rattle.zone_denial.specs.StarLaws.{OwnsNone}
-use Rattle.zone_acceptance.specs.Judged.{Unreferred}
-use Rattle.zone_acceptance.proofs.OwnTypes.{differs}
+use Rattle.denial_laws.specs.Judged.{Unreferred}
+use Rattle.denial_laws.proofs.OwnTypes.{differs}
 use Rattle.zone_response.specs.Queries.{Inquiry}
 use Rattle.zone_response.specs.Sections.{is_signed}
 use Rattle.zone_response.specs.Nodes.{asked_set}

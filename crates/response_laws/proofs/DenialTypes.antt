@@ -12,7 +12,7 @@ use Rattle.zone_proto.proofs.Members.{In}
 use Rattle.zone_map.specs.Upserts.{is_denial_type}
 use Rattle.zone_map.specs.Zones.{Sets, set_at, IsZone}
 use Rattle.zone_denial.specs.NsecDenial.{closest_nsec}
-use Rattle.zone_inner.specs.Runs.{with_new}
+use Rattle.zone_lookup.specs.Runs.{with_new}
 use Rattle.zone_response.specs.Denials.{same_owner, hashed_owner_of, star_proof, star_proof_by, denial, denial_by, end_proof, together, with_star_proof, proofs}
 use Rattle.zone_response.specs.Queries.{Zone}
 use Rattle.zone_response.specs.Steps.{End, referred, missing}

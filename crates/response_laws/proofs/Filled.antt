@@ -11,7 +11,7 @@ use Rattle.zone_proto.specs.Types.{A, AAAA, NS, SOA}
 use Rattle.zone_proto.proofs.Members.{In, In-Contains, Contains-In, In-from_any, In-from_map, In-map, In-filter_map, In-from_filter_map, In-from_append, In-append_left, In-append_right, In-from_flat_map, In-flat_map}
 use Rattle.zone_proto.proofs.Names.NameTree.{name_eq-Decides}
 use Rattle.zone_map.specs.Zones.{Sets, set_at, IsZone}
-use Rattle.zone_inner.specs.StartOfAuthority.{soa_of, first_soa}
+use Rattle.zone_lookup.specs.StartOfAuthority.{soa_of, first_soa}
 use Rattle.zone_response.specs.declared.response.Part.TheVariants as part
 use Rattle.zone_response.specs.Hosts.{host_of, with_host, hosts, addresses, glue_of}
 use Rattle.zone_response.specs.Queries.{Zone, Query, HasOwnDenials, inquiry}

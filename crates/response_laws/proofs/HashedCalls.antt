@@ -15,12 +15,12 @@ use Rattle.zone_proto.specs.Types.{NSEC3}
 use Rattle.zone_proto.proofs.Members.{In, In-Contains, Contains-In, In-from_append}
 use Rattle.zone_map.specs.Zones.{Sets, set_at, IsZone}
 use Rattle.zone_denial.specs.Nsec3Zones.{IsNsec3Zone, IsHashed, TellsApart, hash_with}
-use Rattle.zone_validation.specs.Judgement.{nsec3_proof}
-use Rattle.zone_validation.specs.Nsec3Parameters.{zone_data, has_parameters, records_with, nsec3_datas, digest_by, is_known, is_other}
-use Rattle.zone_validation.specs.Nsec3Records.{nsec3_data, nsec3_record, read_nsec3}
-use Rattle.zone_acceptance.specs.Nsec3Calls.{StandInNsec3Sets, told}
-use Rattle.zone_acceptance.specs.Nsec3Judged.{read_nsec3_sets}
-use Rattle.zone_acceptance.proofs.Nsec3Calls.{nsec3_parameters_found}
+use Rattle.denial_validation.specs.Judgement.{nsec3_proof}
+use Rattle.denial_validation.specs.Nsec3Parameters.{zone_data, has_parameters, records_with, nsec3_datas, digest_by, is_known, is_other}
+use Rattle.denial_validation.specs.Nsec3Records.{nsec3_data, nsec3_record, read_nsec3}
+use Rattle.denial_laws.specs.Nsec3Calls.{StandInNsec3Sets, told}
+use Rattle.denial_laws.specs.Nsec3Judged.{read_nsec3_sets}
+use Rattle.denial_laws.proofs.Nsec3Calls.{nsec3_parameters_found}
 use Rattle.zone_response.specs.declared.response.Part.{Part}
 use Rattle.zone_response.specs.declared.response.Part.TheVariants as part
 use Rattle.zone_response.specs.Sections.{with_ttl}

@@ -15,12 +15,12 @@ use Rattle.zone_denial.specs.Nsec3Names.{nsec3_names}
 use Rattle.zone_denial.proofs.Hashed.Nsec3Covers.{IsCover}
 use Rattle.zone_denial.proofs.Hashed.Nsec3Enclosers.{is_named, IsEnclosed}
 use Rattle.zone_denial.proofs.Names.LongestAncestors.{longest_above}
-use Rattle.zone_validation.specs.Nsec3Proofs.{is_handed_on, proves_name_error, proves_opted_out, proves_wildcard_no_data}
-use Rattle.zone_validation.specs.Nsec3Records.{Nsec3Record}
-use Rattle.zone_acceptance.specs.Nsec3Judged.{read_nsec3_sets, AreNsec3OfZone}
-use Rattle.zone_acceptance.proofs.Nsec3LeftOut.{nsec3_absence_sound}
-use Rattle.zone_acceptance.proofs.Nsec3Readings.{record_of}
-use Rattle.zone_acceptance.proofs.Nsec3Shown.{IsShown, enclosing_shown}
+use Rattle.denial_validation.specs.Nsec3Proofs.{is_handed_on, proves_name_error, proves_opted_out, proves_wildcard_no_data}
+use Rattle.denial_validation.specs.Nsec3Records.{Nsec3Record}
+use Rattle.denial_laws.specs.Nsec3Judged.{read_nsec3_sets, AreNsec3OfZone}
+use Rattle.denial_laws.proofs.Nsec3LeftOut.{nsec3_absence_sound}
+use Rattle.denial_laws.proofs.Nsec3Readings.{record_of}
+use Rattle.denial_laws.proofs.Nsec3Shown.{IsShown, enclosing_shown}
 use Rattle.zone_response.specs.Denials.{proofs}
 use Rattle.zone_response.specs.HashedDenials.{lack_proof}
 use Rattle.zone_response.specs.Queries.{Zone, Query, inquiry}

@@ -14,16 +14,16 @@ use Rattle.zone_map.specs.Zones.{Sets, owns, IsZone}
 use Rattle.zone_denial.specs.Nsec3Names.{nsec3_names}
 use Rattle.zone_denial.proofs.Chain.NsecBelow.{above_through}
 use Rattle.zone_denial.proofs.Hashed.Nsec3Enclosers.{is_named, named_in, IsEnclosed}
-use Rattle.zone_validation.specs.declared.proof.Proof.TheVariants.{UnsignedDelegation}
-use Rattle.zone_validation.specs.Judgement.{nsec3_proof}
-use Rattle.zone_validation.specs.Nsec3Proofs.{is_covered, proves_name_error, proves_no_data, proves_opted_out, proves_wildcard_no_data, proves_empty_answer, shows_unsigned_delegation}
-use Rattle.zone_validation.specs.Nsec3Records.{Nsec3Record}
-use Rattle.zone_acceptance.specs.Nsec3Judged.{read_nsec3_sets, AreNsec3OfZone}
-use Rattle.zone_acceptance.specs.Nsec3Soundness.{IsLeftOut}
-use Rattle.zone_acceptance.specs.Soundness.{IsUnflattened, IsWithoutData, IsUnsignedDelegation}
-use Rattle.zone_acceptance.proofs.Nsec3LeftOut.{nsec3_absence_sound}
-use Rattle.zone_acceptance.proofs.Nsec3Readings.{record_of}
-use Rattle.zone_acceptance.proofs.Nsec3Soundness.{nsec3_unsigned_delegation_sound}
+use Rattle.denial_validation.specs.declared.proof.Proof.TheVariants.{UnsignedDelegation}
+use Rattle.denial_validation.specs.Judgement.{nsec3_proof}
+use Rattle.denial_validation.specs.Nsec3Proofs.{is_covered, proves_name_error, proves_no_data, proves_opted_out, proves_wildcard_no_data, proves_empty_answer, shows_unsigned_delegation}
+use Rattle.denial_validation.specs.Nsec3Records.{Nsec3Record}
+use Rattle.denial_laws.specs.Nsec3Judged.{read_nsec3_sets, AreNsec3OfZone}
+use Rattle.denial_laws.specs.Nsec3Soundness.{IsLeftOut}
+use Rattle.denial_laws.specs.Soundness.{IsUnflattened, IsWithoutData, IsUnsignedDelegation}
+use Rattle.denial_laws.proofs.Nsec3LeftOut.{nsec3_absence_sound}
+use Rattle.denial_laws.proofs.Nsec3Readings.{record_of}
+use Rattle.denial_laws.proofs.Nsec3Soundness.{nsec3_unsigned_delegation_sound}
 use Rattle.zone_response.specs.HashedDenials.{lack_proof}
 use Rattle.zone_response.specs.Queries.{Zone, Query, inquiry}
 use Rattle.zone_response.specs.Sections.{Sections}

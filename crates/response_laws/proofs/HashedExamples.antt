@@ -16,9 +16,9 @@ use Rattle.zone_denial.specs.Nsec3Circle.{nsec3_data}
 use Rattle.zone_denial.specs.Nsec3Names.{nsec3_names}
 use Rattle.zone_denial.proofs.Examples.NsecExamples.{origin, at_origin, record_with, entry, address, start}
 use Rattle.zone_denial.proofs.Examples.Nsec3Examples.{digest_in}
-use Rattle.zone_validation.specs.declared.proof.Proof.TheVariants.{NameError, UnsignedDelegation}
-use Rattle.zone_validation.specs.Judgement.{nsec3_proof}
-use Rattle.zone_validation.specs.Nsec3Proofs.{proves_name_error, proves_empty_answer, proves_wildcard_answer, proves_unsigned_delegation}
+use Rattle.denial_validation.specs.declared.proof.Proof.TheVariants.{NameError, UnsignedDelegation}
+use Rattle.denial_validation.specs.Judgement.{nsec3_proof}
+use Rattle.denial_validation.specs.Nsec3Proofs.{proves_name_error, proves_empty_answer, proves_wildcard_answer, proves_unsigned_delegation}
 use Rattle.zone_response.specs.declared.response.Part.TheVariants as part
 use Rattle.zone_response.specs.Paths.{path}
 use Rattle.zone_response.specs.Queries.{Zone}

@@ -10,13 +10,13 @@ use Rattle.zone_proto.proofs.Names.NameTree.{is_at_or_above_sound}
 use Rattle.zone_map.specs.Zones.{Sets, owns}
 use Rattle.zone_denial.specs.Nsec3Names.{nsec3_names}
 use Rattle.zone_denial.specs.Nsec3Zones.{IsNsec3Zone, IsHashed, TellsApart}
-use Rattle.zone_validation.specs.Nsec3Proofs.{matches, lists, lists_none, is_wrong_side, denies_type, is_denied, proves_no_data}
-use Rattle.zone_validation.specs.Nsec3Records.{Nsec3Record}
-use Rattle.zone_acceptance.specs.Nsec3Judged.{AreNsec3OfZone}
-use Rattle.zone_acceptance.proofs.Nsec3Proved.{self_hashed, matching}
-use Rattle.zone_acceptance.proofs.Nsec3Readings.{record_of, of_name}
-use Rattle.zone_acceptance.proofs.Nsec3Soundness.{not_owned}
-use Rattle.zone_acceptance.proofs.Tests.{refuted}
+use Rattle.denial_validation.specs.Nsec3Proofs.{matches, lists, lists_none, is_wrong_side, denies_type, is_denied, proves_no_data}
+use Rattle.denial_validation.specs.Nsec3Records.{Nsec3Record}
+use Rattle.denial_laws.specs.Nsec3Judged.{AreNsec3OfZone}
+use Rattle.denial_laws.proofs.Nsec3Proved.{self_hashed, matching}
+use Rattle.denial_laws.proofs.Nsec3Readings.{record_of, of_name}
+use Rattle.denial_laws.proofs.Nsec3Soundness.{not_owned}
+use Rattle.denial_laws.proofs.Tests.{refuted}
 
 -- a record that denies a type lists none, or neither the type nor CNAME
 denied_by : (wrong none any own alias : Bool) → not wrong && (none || (not any && not own && not alias)) ≡ true → (none ≡ true) ⊎ ((own ≡ false) × (alias ≡ false))

@@ -30,8 +30,8 @@ use Rattle.zone_denial.proofs.Examples.NsecExamples.{origin, record_with, entry,
 use Rattle.response_laws.proofs.MetPremises.{type_apart, bare_zone}
 use Rattle.zone_denial.proofs.Hashed.Nsec3Secured.{secured_is_nsec3_circle}
 use Rattle.zone_denial.proofs.Examples.Nsec3Examples.{b, digest_in}
-use Rattle.zone_validation.specs.declared.proof.Proof.TheVariants.{NameError}
-use Rattle.zone_validation.specs.NsecProofs.{DNAME}
+use Rattle.denial_validation.specs.declared.proof.Proof.TheVariants.{NameError}
+use Rattle.denial_validation.specs.NsecProofs.{DNAME}
 use Rattle.zone_response.specs.declared.response.Part.TheVariants as part
 use Rattle.zone_response.specs.Paths.{path}
 use Rattle.zone_response.specs.Queries.{Zone}

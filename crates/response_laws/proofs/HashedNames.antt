@@ -21,8 +21,8 @@ use Rattle.zone_denial.proofs.Hashed.Nsec3NameLaws.{names_are_exact}
 use Rattle.zone_denial.proofs.Names.AuthoritativeNames.{authoritative_from, authoritative_listed, besides_from, from_besides}
 use Rattle.zone_denial.proofs.Names.ExistingAncestors.{exists_from}
 use Rattle.zone_denial.proofs.Names.LongestAncestors.{IsLongestAbove, longest_is, others_above, above_above}
-use Rattle.zone_acceptance.proofs.ShownEnclosers.{same_name, above_star}
-use Rattle.zone_acceptance.proofs.Tests.{refuted}
+use Rattle.denial_laws.proofs.ShownEnclosers.{same_name, above_star}
+use Rattle.denial_laws.proofs.Tests.{refuted}
 use Rattle.response_laws.specs.HashedSayings.{may_leave_out}
 
 -- ---- no cut above

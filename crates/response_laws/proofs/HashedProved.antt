@@ -19,16 +19,16 @@ use Rattle.zone_denial.specs.Nsec3Names.{is_unsigned_delegation, nsec3_names}
 use Rattle.zone_denial.proofs.Hashed.Nsec3AskedStar.{exists_on_circle}
 use Rattle.zone_denial.proofs.Hashed.Nsec3Covers.{IsCover}
 use Rattle.zone_denial.proofs.Hashed.Nsec3Enclosers.{is_named, IsEnclosed}
-use Rattle.zone_validation.specs.Judgement.{nsec3_proof}
-use Rattle.zone_validation.specs.Nsec3Proofs.{proves_no_data, proves_wildcard_answer}
-use Rattle.zone_validation.specs.Nsec3Records.{Nsec3Record, read_nsec3}
-use Rattle.zone_acceptance.specs.Nsec3Calls.{told}
-use Rattle.zone_acceptance.specs.Nsec3Judged.{read_nsec3_sets, AreNsec3OfZone, IsNsec3Judged}
-use Rattle.zone_acceptance.specs.Nsec3Soundness.{IsNsec3Sound, IsOptOutSound}
-use Rattle.zone_acceptance.proofs.Nsec3LeftOut.{nsec3_opt_out_sound}
-use Rattle.zone_acceptance.proofs.Nsec3Readings.{from_read, record_of}
-use Rattle.zone_acceptance.proofs.Nsec3Shown.{closer_shown}
-use Rattle.zone_acceptance.proofs.Nsec3Soundness.{nsec3_records_sound}
+use Rattle.denial_validation.specs.Judgement.{nsec3_proof}
+use Rattle.denial_validation.specs.Nsec3Proofs.{proves_no_data, proves_wildcard_answer}
+use Rattle.denial_validation.specs.Nsec3Records.{Nsec3Record, read_nsec3}
+use Rattle.denial_laws.specs.Nsec3Calls.{told}
+use Rattle.denial_laws.specs.Nsec3Judged.{read_nsec3_sets, AreNsec3OfZone, IsNsec3Judged}
+use Rattle.denial_laws.specs.Nsec3Soundness.{IsNsec3Sound, IsOptOutSound}
+use Rattle.denial_laws.proofs.Nsec3LeftOut.{nsec3_opt_out_sound}
+use Rattle.denial_laws.proofs.Nsec3Readings.{from_read, record_of}
+use Rattle.denial_laws.proofs.Nsec3Shown.{closer_shown}
+use Rattle.denial_laws.proofs.Nsec3Soundness.{nsec3_records_sound}
 use Rattle.zone_response.specs.Queries.{Zone, Query, inquiry}
 use Rattle.zone_response.specs.Responses.{negative_ttl, ds_at, end_sets}
 use Rattle.zone_response.specs.Sections.{Sections}

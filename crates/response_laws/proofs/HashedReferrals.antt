@@ -14,10 +14,10 @@ use Rattle.zone_map.specs.Zones.{Sets, owns, IsZone}
 use Rattle.zone_denial.specs.Nsec3Names.{nsec3_names}
 use Rattle.zone_denial.proofs.Hashed.Nsec3Enclosers.{is_named, named_in, IsEnclosed}
 use Rattle.zone_denial.proofs.Names.ExistingAncestors.{exists_from}
-use Rattle.zone_validation.specs.Nsec3Proofs.{is_covered, proves_opted_out, shows_unsigned_delegation}
-use Rattle.zone_validation.specs.Nsec3Records.{Nsec3Record}
-use Rattle.zone_acceptance.specs.Nsec3Judged.{read_nsec3_sets, AreNsec3OfZone}
-use Rattle.zone_acceptance.proofs.Nsec3Readings.{record_of}
+use Rattle.denial_validation.specs.Nsec3Proofs.{is_covered, proves_opted_out, shows_unsigned_delegation}
+use Rattle.denial_validation.specs.Nsec3Records.{Nsec3Record}
+use Rattle.denial_laws.specs.Nsec3Judged.{read_nsec3_sets, AreNsec3OfZone}
+use Rattle.denial_laws.proofs.Nsec3Readings.{record_of}
 use Rattle.zone_response.specs.declared.response.Part.TheVariants as part
 use Rattle.zone_response.specs.Denials.{proofs}
 use Rattle.zone_response.specs.HashedDenials.{lack_proof}

@@ -17,10 +17,10 @@ use Rattle.zone_denial.proofs.Hashed.Nsec3Covers.{IsCover}
 use Rattle.zone_denial.proofs.Hashed.Nsec3Enclosers.{named_in, IsEnclosed}
 use Rattle.zone_denial.proofs.Hashed.Nsec3Encloses.{encloser_is}
 use Rattle.zone_denial.proofs.Hashed.Nsec3Owners.{owner, named_hashed, set_of_named, is_owner, owns_as_named}
-use Rattle.zone_validation.specs.Nsec3Records.{Nsec3Record, read_nsec3}
-use Rattle.zone_acceptance.specs.Nsec3Judged.{read_nsec3_sets}
-use Rattle.zone_acceptance.proofs.Nsec3Readings.{from_read, record_of, shown}
-use Rattle.zone_acceptance.proofs.Nsec3Shown.{closer_shown}
+use Rattle.denial_validation.specs.Nsec3Records.{Nsec3Record, read_nsec3}
+use Rattle.denial_laws.specs.Nsec3Judged.{read_nsec3_sets}
+use Rattle.denial_laws.proofs.Nsec3Readings.{from_read, record_of, shown}
+use Rattle.denial_laws.proofs.Nsec3Shown.{closer_shown}
 use Rattle.zone_response.specs.HashedDenials.{or_else, matching, nearest_matching, encloser_proof, own_or_enclosed, no_data_proof}
 
 -- what is read in sets is read where they are among others

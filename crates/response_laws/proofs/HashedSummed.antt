@@ -3,11 +3,11 @@ use Rattle.std.proofs.Common.{◌≡◌, ℕ, Bool, true, false, cond, ◌&&◌,
 use Rattle.std.specs.Prelude.{Option, Some, None, if◌then◌else◌, ◌==◌}
 use Rattle.zone_proto.specs.Names.{Name}
 use Rattle.zone_proto.specs.Types.{DS}
-use Rattle.zone_validation.specs.declared.proof.Proof.{Proof}
-use Rattle.zone_validation.specs.declared.proof.Proof.TheVariants.{NameError, UnsignedDelegation, NoData, WildcardNoData}
-use Rattle.zone_validation.specs.Judgement.{nsec3_proof}
-use Rattle.zone_validation.specs.Nsec3Proofs.{is_handed_on, proves_opted_out, proves_name_error, shows_unsigned_delegation, proves_no_data, proves_wildcard_no_data, wildcard_answer}
-use Rattle.zone_validation.specs.Nsec3Records.{Nsec3Record}
+use Rattle.denial_validation.specs.declared.proof.Proof.{Proof}
+use Rattle.denial_validation.specs.declared.proof.Proof.TheVariants.{NameError, UnsignedDelegation, NoData, WildcardNoData}
+use Rattle.denial_validation.specs.Judgement.{nsec3_proof}
+use Rattle.denial_validation.specs.Nsec3Proofs.{is_handed_on, proves_opted_out, proves_name_error, shows_unsigned_delegation, proves_no_data, proves_wildcard_no_data, wildcard_answer}
+use Rattle.denial_validation.specs.Nsec3Records.{Nsec3Record}
 use Rattle.response_laws.specs.HashedSayings.{error_proof, IsInsecure}
 use Rattle.response_laws.specs.ProvedSayings.{IsEmptyProof}
 

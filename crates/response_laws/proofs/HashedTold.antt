@@ -19,18 +19,18 @@ use Rattle.zone_denial.proofs.Hashed.Nsec3Covers.{IsCover}
 use Rattle.zone_denial.proofs.Hashed.Nsec3Enclosers.{is_named, named_in, in_named, origin_in, IsEnclosed, enclosed_off}
 use Rattle.zone_denial.proofs.Hashed.Nsec3Encloses.{star_hashed}
 use Rattle.zone_denial.proofs.Names.LongestAncestors.{IsLongestAbove, longest_is, longest_above, others_above, above_shorter}
-use Rattle.zone_validation.specs.Encloser.{next_closer}
-use Rattle.zone_validation.specs.NsecProofs.{DNAME}
-use Rattle.zone_validation.specs.Nsec3Proofs.{matches, covers, lists, is_of_encloser, is_of_unsigned, denies_type, is_matched, is_encloser, is_handing_on, is_denied, is_covered, is_handed_on, shown_encloser, encloser_and, proves_name_error, proves_no_data, proves_opted_out, proves_wildcard_no_data, proves_wildcard_answer, shows_unsigned_delegation}
-use Rattle.zone_validation.specs.Nsec3Records.{Nsec3Record}
-use Rattle.zone_acceptance.specs.Judged.{Unreferred}
-use Rattle.zone_acceptance.specs.Nsec3Judged.{AreNsec3OfZone}
-use Rattle.zone_acceptance.proofs.Nsec3Judging.{owned_listed, listed_owned, unlisted}
-use Rattle.zone_acceptance.proofs.Nsec3Matches.{covers_is, unmatched, matches_itself, matched_by}
-use Rattle.zone_acceptance.proofs.Nsec3Proved.{sides, ancestor_named, self_hashed, uncovered, matching}
-use Rattle.zone_acceptance.proofs.Nsec3Readings.{record_of, of_name}
-use Rattle.zone_acceptance.proofs.Nsec3Soundness.{not_opted_out}
-use Rattle.zone_acceptance.proofs.Tests.{refuted, right_false}
+use Rattle.denial_validation.specs.Encloser.{next_closer}
+use Rattle.denial_validation.specs.NsecProofs.{DNAME}
+use Rattle.denial_validation.specs.Nsec3Proofs.{matches, covers, lists, is_of_encloser, is_of_unsigned, denies_type, is_matched, is_encloser, is_handing_on, is_denied, is_covered, is_handed_on, shown_encloser, encloser_and, proves_name_error, proves_no_data, proves_opted_out, proves_wildcard_no_data, proves_wildcard_answer, shows_unsigned_delegation}
+use Rattle.denial_validation.specs.Nsec3Records.{Nsec3Record}
+use Rattle.denial_laws.specs.Judged.{Unreferred}
+use Rattle.denial_laws.specs.Nsec3Judged.{AreNsec3OfZone}
+use Rattle.denial_laws.proofs.Nsec3Judging.{owned_listed, listed_owned, unlisted}
+use Rattle.denial_laws.proofs.Nsec3Matches.{covers_is, unmatched, matches_itself, matched_by}
+use Rattle.denial_laws.proofs.Nsec3Proved.{sides, ancestor_named, self_hashed, uncovered, matching}
+use Rattle.denial_laws.proofs.Nsec3Readings.{record_of, of_name}
+use Rattle.denial_laws.proofs.Nsec3Soundness.{not_opted_out}
+use Rattle.denial_laws.proofs.Tests.{refuted, right_false}
 use Rattle.response_laws.specs.HashedSayings.{IsReached}
 use Rattle.response_laws.proofs.HashedShown.{IsEncloserShown}
 

@@ -11,12 +11,12 @@ use Rattle.zone_denial.specs.Nsec3Circle.{nsec3_types, IsNsec3Type}
 use Rattle.zone_denial.specs.Nsec3Zones.{IsNsec3Zone, IsHashed, TellsApart}
 use Rattle.zone_denial.proofs.Hashed.Nsec3TypeLaws.{types_are_exact}
 use Rattle.zone_denial.proofs.Names.AuthoritativeNames.{from_besides}
-use Rattle.zone_validation.specs.Nsec3Proofs.{lists, lists_none, is_wrong_side, denies_type}
-use Rattle.zone_validation.specs.Nsec3Records.{Nsec3Record}
-use Rattle.zone_acceptance.specs.Judged.{is_parents_ds}
-use Rattle.zone_acceptance.proofs.Nsec3Judging.{listed_type, owned_listed, listed_owned, unlisted}
-use Rattle.zone_acceptance.proofs.Nsec3Readings.{record_of}
-use Rattle.zone_acceptance.proofs.Tests.{refuted}
+use Rattle.denial_validation.specs.Nsec3Proofs.{lists, lists_none, is_wrong_side, denies_type}
+use Rattle.denial_validation.specs.Nsec3Records.{Nsec3Record}
+use Rattle.denial_laws.specs.Judged.{is_parents_ds}
+use Rattle.denial_laws.proofs.Nsec3Judging.{listed_type, owned_listed, listed_owned, unlisted}
+use Rattle.denial_laws.proofs.Nsec3Readings.{record_of}
+use Rattle.denial_laws.proofs.Tests.{refuted}
 use Rattle.zone_response.specs.Nodes.{asked_set}
 use Rattle.response_laws.proofs.BareNames.{bare_unowned}
 use Rattle.response_laws.proofs.LastNames.{IsBare}

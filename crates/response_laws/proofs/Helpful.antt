@@ -7,7 +7,7 @@ use Rattle.zone_proto.specs.Sets.{RRset}
 use Rattle.zone_proto.specs.Types.{A, AAAA, NS}
 use Rattle.zone_proto.proofs.Members.{In, In-from_map, In-from_filter_map, In-from_flat_map}
 use Rattle.zone_map.specs.Zones.{set_at}
-use Rattle.zone_inner.specs.Flattening.{last_set}
+use Rattle.zone_lookup.specs.Flattening.{last_set}
 use Rattle.zone_response.specs.declared.response.Part.{Part}
 use Rattle.zone_response.specs.declared.response.Part.TheVariants as part
 use Rattle.zone_response.specs.Hosts.{hosts, addresses, turned_host, host_sets, beside, sibling_sets}

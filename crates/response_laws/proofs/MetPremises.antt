@@ -19,7 +19,7 @@ use Rattle.zone_denial.specs.NsecLaws.{IsNsecZone}
 use Rattle.zone_denial.specs.NsecSets.{nsec_set, nsec_set_at}
 use Rattle.zone_denial.proofs.Examples.NsecExamples.{origin, start, public_key, bare, bare_set, linked}
 use Rattle.zone_denial.proofs.Chain.NsecSecured.{secured_is_circle}
-use Rattle.zone_validation.specs.NsecProofs.{DNAME}
+use Rattle.denial_validation.specs.NsecProofs.{DNAME}
 use Rattle.zone_response.specs.Paths.{path}
 use Rattle.zone_response.specs.Responses.{IsResponse}
 use Rattle.zone_response.specs.Sections.{Sections}

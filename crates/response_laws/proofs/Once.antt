@@ -6,7 +6,7 @@ use Rattle.std.proofs.lemmas.List.{append-nil}
 use Rattle.zone_proto.specs.Names.{lower, same_name}
 use Rattle.zone_proto.specs.Sets.{RRset}
 use Rattle.zone_proto.proofs.Members.{In, In-from_append, In-append_left, none_passes, and_right}
-use Rattle.zone_inner.specs.Runs.{with_new}
+use Rattle.zone_lookup.specs.Runs.{with_new}
 use Rattle.zone_response.specs.Sections.{is_signed, is_alike}
 use Rattle.response_laws.specs.Repeats.{have_both, repeats, StandOnce}
 use Rattle.response_laws.proofs.Leads.{same_in_lower}

@@ -6,7 +6,7 @@ use Rattle.zone_proto.specs.Names.{lower}
 use Rattle.zone_proto.specs.Sets.{RRset}
 use Rattle.zone_proto.proofs.Members.{In, In-from_any, In-from_append, In-append_left, In-append_right}
 use Rattle.zone_map.specs.Zones.{Sets, set_at}
-use Rattle.zone_inner.specs.Runs.{with_new}
+use Rattle.zone_lookup.specs.Runs.{with_new}
 use Rattle.zone_response.specs.Denials.{same_owner}
 use Rattle.response_laws.proofs.Leads.{same_in_lower}
 

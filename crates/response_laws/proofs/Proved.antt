@@ -11,13 +11,13 @@ use Rattle.zone_map.specs.Wildcards.{exists, renamed, closest_encloser, asked_st
 use Rattle.zone_map.specs.Zones.{Sets, set_at, owns, owns_at_or_below, IsZone}
 use Rattle.zone_map.proofs.ExistingNames.{owned_where_existing}
 use Rattle.zone_denial.specs.NsecDenial.{nsec_encloser}
-use Rattle.zone_inner.specs.Replies.{name_exists, nx_domain}
-use Rattle.zone_validation.specs.NsecProofs.{proves_name_error, proves_no_data, proves_empty_non_terminal, proves_wildcard_no_data, proves_empty_answer, proves_unsigned_delegation}
-use Rattle.zone_acceptance.specs.Judged.{AreOfZone, IsJudged}
-use Rattle.zone_acceptance.specs.Soundness.{IsWithoutData, IsUnsignedDelegation, IsSound}
-use Rattle.zone_acceptance.proofs.ShownEnclosers.{judged_star}
-use Rattle.zone_acceptance.proofs.Soundness.{there_from, present, empty_without_data, records_sound}
-use Rattle.zone_acceptance.proofs.Stars.{exists_is}
+use Rattle.zone_lookup.specs.Replies.{name_exists, nx_domain}
+use Rattle.denial_validation.specs.NsecProofs.{proves_name_error, proves_no_data, proves_empty_non_terminal, proves_wildcard_no_data, proves_empty_answer, proves_unsigned_delegation}
+use Rattle.denial_laws.specs.Judged.{AreOfZone, IsJudged}
+use Rattle.denial_laws.specs.Soundness.{IsWithoutData, IsUnsignedDelegation, IsSound}
+use Rattle.denial_laws.proofs.ShownEnclosers.{judged_star}
+use Rattle.denial_laws.proofs.Soundness.{there_from, present, empty_without_data, records_sound}
+use Rattle.denial_laws.proofs.Stars.{exists_is}
 use Rattle.zone_response.specs.declared.response.Part.TheVariants as part
 use Rattle.zone_response.specs.Queries.{Zone, Query, inquiry}
 use Rattle.zone_response.specs.Responses.{child_ds, ds_at}

@@ -12,8 +12,8 @@ use Rattle.zone_proto.specs.Sets.{RRset}
 use Rattle.zone_proto.specs.Types.{NSEC, NSEC3}
 use Rattle.zone_proto.proofs.Members.{In, In-Contains, Contains-In, In-map, In-from_map, In-filter_map, In-from_filter_map, In-flat_map, In-from_flat_map, In-append_right}
 use Rattle.zone_map.specs.Zones.{Sets, set_at, IsZone}
-use Rattle.zone_validation.specs.NsecRecords.{NsecRecord, nsec_data, nsec_record, read_nsec}
-use Rattle.zone_validation.specs.Nsec3Records.{Nsec3Record, nsec3_data, nsec3_record, read_nsec3}
+use Rattle.denial_validation.specs.NsecRecords.{NsecRecord, nsec_data, nsec_record, read_nsec}
+use Rattle.denial_validation.specs.Nsec3Records.{Nsec3Record, nsec3_data, nsec3_record, read_nsec3}
 use Rattle.zone_response.specs.declared.response.Part.{Part}
 use Rattle.zone_response.specs.declared.response.Part.TheVariants as part
 use Rattle.zone_response.specs.Sections.{with_ttl, sent}

@@ -6,12 +6,12 @@ use Rattle.zone_proto.specs.declared.response_code.ResponseCode.{ResponseCode}
 use Rattle.zone_proto.specs.declared.response_code.ResponseCode.TheVariants as code
 use Rattle.zone_proto.specs.Names.{Name, is_at_or_above}
 use Rattle.zone_proto.proofs.Members.{Contains-In, and_right}
-use Rattle.zone_validation.specs.Nsec3Proofs.{proves_no_data}
+use Rattle.denial_validation.specs.Nsec3Proofs.{proves_no_data}
 use Rattle.zone_map.specs.Zones.{IsZone}
-use Rattle.zone_acceptance.proofs.Nsec3Calls.{nsec3_parameters_found}
-use Rattle.zone_acceptance.proofs.Nsec3LeftOut.{nsec3_opt_out_sound}
-use Rattle.zone_acceptance.proofs.Nsec3Soundness.{nsec3_records_sound}
-use Rattle.zone_acceptance.proofs.Soundness.{records_sound}
+use Rattle.denial_laws.proofs.Nsec3Calls.{nsec3_parameters_found}
+use Rattle.denial_laws.proofs.Nsec3LeftOut.{nsec3_opt_out_sound}
+use Rattle.denial_laws.proofs.Nsec3Soundness.{nsec3_records_sound}
+use Rattle.denial_laws.proofs.Soundness.{records_sound}
 use Rattle.zone_response.specs.Queries.{Zone, Query}
 use Rattle.zone_response.specs.Responses.{bare, IsResponse}
 use Rattle.zone_response.specs.Sections.{Sections}

@@ -11,7 +11,7 @@ use Rattle.zone_proto.proofs.Names.Lower.{lower-lower}
 use Rattle.zone_proto.proofs.Names.NameTree.{is_at_or_above_complete}
 use Rattle.zone_map.specs.Upserts.{is_denial_type}
 use Rattle.zone_map.specs.Zones.{set_at, IsZone}
-use Rattle.zone_acceptance.proofs.Silence.{find_none}
+use Rattle.denial_laws.proofs.Silence.{find_none}
 use Rattle.zone_response.specs.declared.response.Part.TheVariants as part
 use Rattle.zone_response.specs.Paths.{path}
 use Rattle.zone_response.specs.Queries.{Zone, Query, Inquiry, inquiry}

@@ -15,7 +15,7 @@ use Rattle.zone_denial.specs.NsecSets.{nsec_set}
 use Rattle.zone_denial.specs.Nsec3Circle.{nsec3_data}
 use Rattle.zone_denial.proofs.Examples.NsecExamples.{origin, at_origin, record_with, entry, address, start, linked}
 use Rattle.zone_denial.proofs.Examples.Nsec3Examples.{parameters}
-use Rattle.zone_validation.specs.NsecProofs.{proves_name_error, proves_empty_answer, proves_wildcard_answer, proves_unsigned_delegation}
+use Rattle.denial_validation.specs.NsecProofs.{proves_name_error, proves_empty_answer, proves_wildcard_answer, proves_unsigned_delegation}
 use Rattle.zone_response.specs.declared.response.Part.TheVariants as part
 use Rattle.zone_response.specs.Paths.{path}
 use Rattle.zone_response.specs.Queries.{Zone, Query}

@@ -9,7 +9,7 @@ use Rattle.zone_proto.specs.Sets.{RRset}
 use Rattle.zone_proto.specs.Types.{NS}
 use Rattle.zone_proto.proofs.Members.{In-filter, In-map, In-from_any, any_from_In, and_left}
 use Rattle.zone_map.specs.Zones.{set_at, IsZone}
-use Rattle.zone_acceptance.proofs.OwnTypes.{differs}
+use Rattle.denial_laws.proofs.OwnTypes.{differs}
 use Rattle.zone_response.specs.declared.response.Part.TheVariants as part
 use Rattle.zone_response.specs.Queries.{Zone}
 use Rattle.zone_response.specs.Sections.{covers, own_signatures, with_ttl, sent}

@@ -9,8 +9,8 @@ use Rattle.zone_proto.specs.Types.{RRSIG, ANY, ANAME}
 use Rattle.zone_map.specs.Chains.{first_target, cname_target}
 use Rattle.zone_map.specs.Direct.{is_address}
 use Rattle.zone_map.specs.Zones.{Sets, set_at}
-use Rattle.zone_inner.specs.Additionals.{next_name, run_target}
-use Rattle.zone_inner.specs.Flattening.{last_set, flattened_ttl, flattened}
+use Rattle.zone_lookup.specs.Additionals.{next_name, run_target}
+use Rattle.zone_lookup.specs.Flattening.{last_set, flattened_ttl, flattened}
 use Rattle.zone_response.specs.Nodes.{stand_in_set}
 use Rattle.zone_response.specs.Queries.{Inquiry}
 use Rattle.zone_response.specs.Sections.{as_it_is, part_for}

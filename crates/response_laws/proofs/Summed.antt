@@ -3,11 +3,11 @@ use Rattle.std.proofs.Common.{◌≡◌, ℕ, Bool, true, false, ◌||◌, List,
 use Rattle.std.specs.Prelude.{Option, Some, length, option_map, if◌then◌else◌}
 use Rattle.zone_proto.specs.Names.{Name}
 use Rattle.zone_proto.specs.Types.{DS}
-use Rattle.zone_validation.specs.declared.proof.Proof.{Proof}
-use Rattle.zone_validation.specs.declared.proof.Proof.TheVariants.{NameError, UnsignedDelegation, EmptyNonTerminal, NoData, WildcardNoData, WildcardAnswer}
-use Rattle.zone_validation.specs.Judgement.{nsec_proof}
-use Rattle.zone_validation.specs.NsecProofs.{proves_name_error, proves_unsigned_delegation, proves_no_data, proves_empty_non_terminal, proves_wildcard_no_data, proves_empty_answer, denied_encloser}
-use Rattle.zone_validation.specs.NsecRecords.{NsecRecord}
+use Rattle.denial_validation.specs.declared.proof.Proof.{Proof}
+use Rattle.denial_validation.specs.declared.proof.Proof.TheVariants.{NameError, UnsignedDelegation, EmptyNonTerminal, NoData, WildcardNoData, WildcardAnswer}
+use Rattle.denial_validation.specs.Judgement.{nsec_proof}
+use Rattle.denial_validation.specs.NsecProofs.{proves_name_error, proves_unsigned_delegation, proves_no_data, proves_empty_non_terminal, proves_wildcard_no_data, proves_empty_answer, denied_encloser}
+use Rattle.denial_validation.specs.NsecRecords.{NsecRecord}
 use Rattle.response_laws.specs.ProvedSayings.{IsEmptyProof}
 
 -- the judgement by its tests

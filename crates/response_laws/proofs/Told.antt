@@ -19,14 +19,14 @@ use Rattle.zone_denial.specs.NsecLaws.{IsNsecZone}
 use Rattle.zone_denial.proofs.Chain.NsecAskedStar.{enclosers_agree}
 use Rattle.zone_denial.proofs.Chain.NsecLists.{off_circle}
 use Rattle.zone_denial.proofs.Chain.NsecClosest.{IsClosest, reaches_from, closest_is, closest_covers}
-use Rattle.zone_validation.specs.NsecProofs.{denies_name, denies_type, shows_empty, shown_encloser, denied_and_star, is_denied, is_bare, proves_name_error, proves_no_data, proves_empty_non_terminal, proves_wildcard_no_data, proves_wildcard_answer, shows_unsigned_delegation, proves_unsigned_delegation}
-use Rattle.zone_validation.specs.NsecRecords.{NsecRecord}
-use Rattle.zone_acceptance.specs.Judged.{IsJudged, is_parents_ds}
-use Rattle.zone_acceptance.proofs.Gaps.{IsBetween, between_from_covers}
-use Rattle.zone_acceptance.proofs.OwnTypes.{unowned_denied}
-use Rattle.zone_acceptance.proofs.Readings.{record_at, owned_listed, unlisted}
-use Rattle.zone_acceptance.proofs.ShownEnclosers.{judged_star, shown_is}
-use Rattle.zone_acceptance.proofs.Speaking.{below_origin, owner_on_circle, denied, empty}
+use Rattle.denial_validation.specs.NsecProofs.{denies_name, denies_type, shows_empty, shown_encloser, denied_and_star, is_denied, is_bare, proves_name_error, proves_no_data, proves_empty_non_terminal, proves_wildcard_no_data, proves_wildcard_answer, shows_unsigned_delegation, proves_unsigned_delegation}
+use Rattle.denial_validation.specs.NsecRecords.{NsecRecord}
+use Rattle.denial_laws.specs.Judged.{IsJudged, is_parents_ds}
+use Rattle.denial_laws.proofs.Gaps.{IsBetween, between_from_covers}
+use Rattle.denial_laws.proofs.OwnTypes.{unowned_denied}
+use Rattle.denial_laws.proofs.Readings.{record_at, owned_listed, unlisted}
+use Rattle.denial_laws.proofs.ShownEnclosers.{judged_star, shown_is}
+use Rattle.denial_laws.proofs.Speaking.{below_origin, owner_on_circle, denied, empty}
 
 module _ (origin : Name) (m : Sets) (h : IsNsecZone origin m) (y : Name) where
   -- an owner that stands at a name or before it, and no other between

@@ -11,11 +11,11 @@ use Rattle.zone_map.specs.Zones.{set_at, owns_at_or_below}
 use Rattle.zone_denial.specs.NsecDenial.{closest_nsec, nsec_encloser}
 use Rattle.zone_denial.proofs.Chain.NsecAskedStar.{enclosers_agree}
 use Rattle.zone_denial.proofs.Chain.NsecLists.{off_circle}
-use Rattle.zone_validation.specs.NsecRecords.{read_nsec}
-use Rattle.zone_acceptance.specs.Judged.{read, AreOfZone, IsJudged}
-use Rattle.zone_acceptance.proofs.Readings.{record_at, read_set}
-use Rattle.zone_acceptance.proofs.Speaking.{below_origin}
-use Rattle.zone_acceptance.proofs.Stars.{exists_is}
+use Rattle.denial_validation.specs.NsecRecords.{read_nsec}
+use Rattle.denial_laws.specs.Judged.{read, AreOfZone, IsJudged}
+use Rattle.denial_laws.proofs.Readings.{record_at, read_set}
+use Rattle.denial_laws.proofs.Speaking.{below_origin}
+use Rattle.denial_laws.proofs.Stars.{exists_is}
 use Rattle.zone_response.specs.Queries.{Zone, Query, inquiry}
 use Rattle.zone_response.specs.Responses.{negative_ttl, ds_at, end_sets}
 use Rattle.zone_response.specs.Sections.{Sections}

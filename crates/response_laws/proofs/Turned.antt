@@ -14,8 +14,8 @@ use Rattle.zone_map.proofs.Owned.{owner_owned}
 use Rattle.zone_denial.specs.Authority.{is_below_cut}
 use Rattle.zone_denial.proofs.Chain.NsecBelow.{above_at, comparable}
 use Rattle.zone_denial.proofs.Names.LongestAncestors.{above_above}
-use Rattle.zone_validation.specs.NsecProofs.{DNAME}
-use Rattle.zone_acceptance.proofs.OwnTypes.{neither}
+use Rattle.denial_validation.specs.NsecProofs.{DNAME}
+use Rattle.denial_laws.proofs.OwnTypes.{neither}
 use Rattle.zone_response.specs.Queries.{Zone}
 use Rattle.zone_response.specs.Turns.{Turn, cut, renaming, cut_at, dname_at, turn_at, turn_down_to, turn}
 use Rattle.response_laws.specs.HashedSayings.{IsReached}

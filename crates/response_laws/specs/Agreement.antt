@@ -14,8 +14,8 @@ use Rattle.zone_map.specs.Chains.{chain_links, last_target, leads_on}
 use Rattle.zone_map.specs.Upserts.{CnamesStandAlone}
 use Rattle.zone_map.specs.Wildcards.{exists, found}
 use Rattle.zone_map.specs.Zones.{Sets, owns, owns_at_or_below, IsZone}
-use Rattle.zone_inner.specs.Flattening.{stands_for_addresses}
-use Rattle.zone_inner.specs.Replies.{NegativeAnswer, name_exists, nx_domain, refused, negative_answer, Answers, one_set, chained, Reply, negative, answered, is_followed, IsReply}
+use Rattle.zone_lookup.specs.Flattening.{stands_for_addresses}
+use Rattle.zone_lookup.specs.Replies.{NegativeAnswer, name_exists, nx_domain, refused, negative_answer, Answers, one_set, chained, Reply, negative, answered, is_followed, IsReply}
 use Rattle.zone_response.specs.Denials.{hashed_owner_of}
 use Rattle.zone_response.specs.Paths.{Path, path}
 use Rattle.zone_response.specs.Queries.{Zone, Query, Inquiry, inquiry}

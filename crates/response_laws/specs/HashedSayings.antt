@@ -13,17 +13,17 @@ use Rattle.zone_denial.specs.Nsec3Denial.{closest_encloser}
 use Rattle.zone_denial.specs.Nsec3Names.{is_unsigned_delegation}
 use Rattle.zone_denial.specs.Nsec3Zones.{hash_with, IsNsec3Zone, IsCircleName, IsHashed, TellsApart}
 use Rattle.zone_denial.specs.StarLaws.{OwnsNone}
-use Rattle.zone_validation.specs.declared.proof.Proof.{Proof}
-use Rattle.zone_validation.specs.declared.proof.Proof.TheVariants.{NameError, UnsignedDelegation, WildcardNoData}
-use Rattle.zone_validation.specs.Judgement.{nsec3_proof}
-use Rattle.zone_validation.specs.NsecProofs.{DNAME}
-use Rattle.zone_validation.specs.Nsec3Proofs.{proves_name_error, proves_no_data, proves_empty_answer, proves_wildcard_answer, proves_unsigned_delegation}
-use Rattle.zone_validation.specs.Nsec3Records.{Nsec3Record}
-use Rattle.zone_acceptance.specs.Judged.{is_parents_ds}
-use Rattle.zone_acceptance.specs.Nsec3Calls.{told}
-use Rattle.zone_acceptance.specs.Nsec3Judged.{read_nsec3_sets, AreNsec3OfZone, IsNsec3Judged}
-use Rattle.zone_acceptance.specs.Nsec3Soundness.{IsNsec3Sound, IsLeftOut, IsOptOutSound}
-use Rattle.zone_acceptance.specs.Soundness.{IsNoName, IsWithoutData, IsUnflattened, IsUnsignedDelegation}
+use Rattle.denial_validation.specs.declared.proof.Proof.{Proof}
+use Rattle.denial_validation.specs.declared.proof.Proof.TheVariants.{NameError, UnsignedDelegation, WildcardNoData}
+use Rattle.denial_validation.specs.Judgement.{nsec3_proof}
+use Rattle.denial_validation.specs.NsecProofs.{DNAME}
+use Rattle.denial_validation.specs.Nsec3Proofs.{proves_name_error, proves_no_data, proves_empty_answer, proves_wildcard_answer, proves_unsigned_delegation}
+use Rattle.denial_validation.specs.Nsec3Records.{Nsec3Record}
+use Rattle.denial_laws.specs.Judged.{is_parents_ds}
+use Rattle.denial_laws.specs.Nsec3Calls.{told}
+use Rattle.denial_laws.specs.Nsec3Judged.{read_nsec3_sets, AreNsec3OfZone, IsNsec3Judged}
+use Rattle.denial_laws.specs.Nsec3Soundness.{IsNsec3Sound, IsLeftOut, IsOptOutSound}
+use Rattle.denial_laws.specs.Soundness.{IsNoName, IsWithoutData, IsUnflattened, IsUnsignedDelegation}
 use Rattle.zone_response.specs.Queries.{Zone, Query}
 use Rattle.zone_response.specs.Sections.{Sections}
 use Rattle.zone_response.specs.Sources.{star_of}

@@ -13,13 +13,13 @@ use Rattle.zone_map.specs.Zones.{Sets, set_at, owns}
 use Rattle.zone_denial.specs.NsecDenial.{nsec_encloser}
 use Rattle.zone_denial.specs.NsecLaws.{IsNsecZone}
 use Rattle.zone_denial.specs.StarLaws.{OwnsNone}
-use Rattle.zone_validation.specs.declared.proof.Proof.{Proof}
-use Rattle.zone_validation.specs.declared.proof.Proof.TheVariants.{NameError, UnsignedDelegation, EmptyNonTerminal, NoData, WildcardNoData}
-use Rattle.zone_validation.specs.Judgement.{nsec_proof}
-use Rattle.zone_validation.specs.NsecProofs.{DNAME, proves_name_error, proves_empty_answer, proves_wildcard_answer, proves_unsigned_delegation}
-use Rattle.zone_validation.specs.NsecRecords.{NsecRecord}
-use Rattle.zone_acceptance.specs.Judged.{read, AreOfZone, Unreferred, IsJudged, is_parents_ds}
-use Rattle.zone_acceptance.specs.Soundness.{IsNoName, IsWithoutData, IsUnflattened, IsUnsignedDelegation, IsSound}
+use Rattle.denial_validation.specs.declared.proof.Proof.{Proof}
+use Rattle.denial_validation.specs.declared.proof.Proof.TheVariants.{NameError, UnsignedDelegation, EmptyNonTerminal, NoData, WildcardNoData}
+use Rattle.denial_validation.specs.Judgement.{nsec_proof}
+use Rattle.denial_validation.specs.NsecProofs.{DNAME, proves_name_error, proves_empty_answer, proves_wildcard_answer, proves_unsigned_delegation}
+use Rattle.denial_validation.specs.NsecRecords.{NsecRecord}
+use Rattle.denial_laws.specs.Judged.{read, AreOfZone, Unreferred, IsJudged, is_parents_ds}
+use Rattle.denial_laws.specs.Soundness.{IsNoName, IsWithoutData, IsUnflattened, IsUnsignedDelegation, IsSound}
 use Rattle.zone_response.specs.declared.response.Part.{Part}
 use Rattle.zone_response.specs.declared.response.Part.TheVariants as part
 use Rattle.zone_response.specs.Queries.{Zone, Query, inquiry}

@@ -1,4 +1,4 @@
-//! What a whole response proves to who asked: the responses of `zone_response`, laid beside the judgement of `zone_validation`,
+//! What a whole response proves to who asked: the responses of `zone_response`, laid beside the judgement of `denial_validation`,
 //! which knows no zone.
 #![tactic(auto)]
 

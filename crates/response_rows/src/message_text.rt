@@ -1,10 +1,10 @@
 //! Messages in the words of `dig`.
 
 use anyhow::bail;
+use line_text::DataText;
+use message_reading::{Header, Message, Question, read_message};
 use std::alloc::{AllocError, Global};
-use zone_message::{Header, Message, Question, read_message};
 use zone_proto::{Record, RecordType};
-use zone_text::DataText;
 
 /// The type of an OPT record (RFC 6891 section 6.1.1).
 const OPT: RecordType = RecordType(41);

@@ -1,8 +1,8 @@
 //! Octets written in hex.
 
 use anyhow::bail;
+use line_text::read_hex;
 use std::alloc::Global;
-use zone_text::read_hex;
 
 /// The octets that hex writes, in which spaces are passed over.
 pub fn octets_of(alloc: Global, hex: &str) -> anyhow::Result<Vec<u8>> {

@@ -2,10 +2,10 @@
 
 use crate::octets::octets_of;
 use anyhow::bail;
+use line_text::read_u16;
 use std::alloc::Global;
 use zone_proto::{Name, RecordType};
 use zone_server::Transport;
-use zone_text::read_u16;
 
 /// What a query has beside its name and its type.
 #[derive(Clone, Copy)]

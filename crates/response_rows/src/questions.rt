@@ -2,13 +2,13 @@
 
 use crate::response_text::ResponseText;
 use crate::zones::{Zone, lent};
+use alloc_failures::Scarcity;
 use anyhow::bail;
-use scarce::Scarcity;
+use line_text::{Words, read_key};
 use std::alloc::Global;
 use zone_handler::{LookupError, LookupOptions};
 use zone_proto::{DNSClass, RrKey};
 use zone_response::{Question, Response, respond};
-use zone_text::{Words, read_key};
 
 /// How often a question is asked at most with memory refused.
 const ROOMS: usize = 1_000;

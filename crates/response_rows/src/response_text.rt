@@ -1,9 +1,9 @@
 //! Responses as text.
 
+use line_text::DataText;
 use std::fmt;
 use zone_proto::Record;
 use zone_response::{Part, Response, Sent};
-use zone_text::DataText;
 
 /// A response, by its sections; one without records is left out.
 #[derive(Drop)]

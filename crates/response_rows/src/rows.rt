@@ -2,9 +2,9 @@
 
 use crate::questions::{say, say_at_last};
 use crate::zones::{Zone, add, ask, read_policy, read_zone, secure, serve, take_denials};
+use line_text::Words;
 use std::alloc::Global;
 use zone_handler::AxfrPolicy;
-use zone_text::Words;
 
 /// What has been read of a file.
 #[derive(Drop)]

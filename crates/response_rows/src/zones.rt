@@ -4,6 +4,7 @@ use crate::message_text::{frames_text, message_text};
 use crate::octets::octets_of;
 use crate::queries::{message_of, transport_of};
 use anyhow::bail;
+use line_text::{Words, read_hex, read_name, read_record, read_u8};
 use std::alloc::Global;
 use zone_handler::{AxfrPolicy, ZoneHandler, ZoneType};
 use zone_proto::{NxProofKind, RecordType, Seq};
@@ -11,7 +12,6 @@ use zone_response::ServedZone;
 use zone_server::{Answered, Mode, Server, answer, serve_frames};
 use zone_store::InMemoryZoneHandler;
 use zone_store::program::{DemoSigner, Sha1Hash};
-use zone_text::{Words, read_hex, read_name, read_record, read_u8};
 
 /// A zone in memory.
 type Handler = InMemoryZoneHandler<DemoSigner, Sha1Hash>;

@@ -5,16 +5,16 @@ use Rattle.std.specs.List.{flat_map}
 use Rattle.zone_proto.specs.declared.record.Record.{Record}
 use Rattle.zone_proto.specs.declared.response_code.ResponseCode.TheVariants as code
 use Rattle.zone_proto.specs.Sets.{RRset}
-use Rattle.zone_message.specs.declared.query.Query.{Query as ReadQuery}
-use Rattle.zone_message.specs.Messages.{Parts, message_of}
-use Rattle.zone_message.specs.Queries.{query_of}
-use Rattle.zone_validation.specs.NsecRecords.{read_nsec, nsec_records}
-use Rattle.zone_validation.specs.Nsec3Records.{read_nsec3, nsec3_records}
+use Rattle.message_reading.specs.declared.query.Query.{Query as ReadQuery}
+use Rattle.message_reading.specs.Messages.{Parts, message_of}
+use Rattle.message_reading.specs.Queries.{query_of}
+use Rattle.denial_validation.specs.NsecRecords.{read_nsec, nsec_records}
+use Rattle.denial_validation.specs.Nsec3Records.{read_nsec3, nsec3_records}
 use Rattle.zone_response.specs.Queries.{Zone}
 use Rattle.zone_response.specs.Responses.{bare, IsResponse}
 use Rattle.zone_response.specs.Sections.{Sections}
-use Rattle.zone_wire.specs.declared.response.Group.{Group}
-use Rattle.zone_wire.specs.Responses.{records_of, all_records, opt_of, if_whole, IsSection}
+use Rattle.message_writing.specs.declared.response.Group.{Group}
+use Rattle.message_writing.specs.Responses.{records_of, all_records, opt_of, if_whole, IsSection}
 use Rattle.zone_server.specs.declared.transport.Transport.{Transport}
 use Rattle.zone_server.specs.Answers.{asked_of, records_sent, AreSets, IsAnswer, IsAnswerTo, IsResponseTo, IsSent, GoesOut, Says}
 use Rattle.zone_server.specs.Limits.{limit_for}

@@ -8,8 +8,8 @@ use Rattle.zone_proto.specs.declared.record.Record.{Record}
 use Rattle.zone_proto.specs.declared.rdata.RData.{RData}
 use Rattle.zone_proto.specs.declared.rdata.RData.TheVariants as V
 use Rattle.zone_proto.specs.Sets.{RRset}
-use Rattle.zone_validation.specs.NsecRecords.{nsec_data, nsec_record, read_nsec}
-use Rattle.zone_validation.specs.Nsec3Records.{nsec3_data, nsec3_record, read_nsec3}
+use Rattle.denial_validation.specs.NsecRecords.{nsec_data, nsec_record, read_nsec}
+use Rattle.denial_validation.specs.Nsec3Records.{nsec3_data, nsec3_record, read_nsec3}
 use Rattle.zone_response.specs.declared.response.Part.{Part}
 use Rattle.zone_response.specs.declared.response.Part.TheVariants as part
 use Rattle.zone_response.specs.Queries.{Zone, Query}

@@ -7,8 +7,8 @@ use Rattle.zone_proto.specs.declared.rdata.denial.NSEC3.{NSEC3 as Nsec3Data}
 use Rattle.zone_proto.specs.declared.record.Record.{Record}
 use Rattle.zone_proto.specs.Names.{Name, lower}
 use Rattle.zone_proto.specs.Sets.{RRset}
-use Rattle.zone_validation.specs.Nsec3Parameters.{is_of_zone, zone_data, has_parameters}
-use Rattle.zone_validation.specs.Nsec3Records.{Nsec3Record, nsec3_data, read_nsec3}
+use Rattle.denial_validation.specs.Nsec3Parameters.{is_of_zone, zone_data, has_parameters}
+use Rattle.denial_validation.specs.Nsec3Records.{Nsec3Record, nsec3_data, read_nsec3}
 use Rattle.zone_response.specs.Queries.{Zone}
 use Rattle.zone_response.specs.Sections.{Sections, with_ttl}
 use Rattle.zone_server.specs.Answers.{records_sent}

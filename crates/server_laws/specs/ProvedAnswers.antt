@@ -5,11 +5,11 @@ use Rattle.zone_proto.specs.declared.rdata.denial.NSEC3PARAM.{NSEC3PARAM as Nsec
 use Rattle.zone_proto.specs.declared.record.Record.{Record}
 use Rattle.zone_proto.specs.declared.response_code.ResponseCode.TheVariants as code
 use Rattle.zone_proto.specs.Names.{Name}
-use Rattle.zone_message.specs.declared.query.Query.{Query as ReadQuery}
-use Rattle.zone_message.specs.Messages.{Parts, message_of}
-use Rattle.zone_message.specs.Queries.{query_of}
-use Rattle.zone_validation.specs.NsecRecords.{nsec_records}
-use Rattle.zone_validation.specs.Nsec3Records.{nsec3_records}
+use Rattle.message_reading.specs.declared.query.Query.{Query as ReadQuery}
+use Rattle.message_reading.specs.Messages.{Parts, message_of}
+use Rattle.message_reading.specs.Queries.{query_of}
+use Rattle.denial_validation.specs.NsecRecords.{nsec_records}
+use Rattle.denial_validation.specs.Nsec3Records.{nsec3_records}
 use Rattle.zone_response.specs.Queries.{Zone}
 use Rattle.zone_response.specs.Responses.{IsResponse}
 use Rattle.zone_response.specs.Sections.{Sections}

@@ -6,7 +6,7 @@ use Rattle.zone_proto.specs.Data.{type_of}
 use Rattle.zone_proto.specs.Names.{Name}
 use Rattle.zone_proto.specs.Types.{SOA}
 use Rattle.zone_file.specs.declared.placed.PlacedRecord.{PlacedRecord}
-use Rattle.zone_loading.specs.declared.given.GivenRecord.{GivenRecord}
+use Rattle.zone_builder.specs.declared.given.GivenRecord.{GivenRecord}
 
 -- a record with its place, as a zone is made of it
 abbrev pub given_of : PlacedRecord → GivenRecord

@@ -9,7 +9,7 @@ use std::cmp::Ordering;
 use std::io;
 use std::io::{ErrorKind, Read, Write};
 use zone_file::{FaultText, InputError, PlacedRecord, ZoneFault, read_zone};
-use zone_master_text::MasterText;
+use zone_file_writer::MasterText;
 use zone_proto::{Name, ProtoError, Record, RecordType};
 
 /// Reads a zone file from `input`, and gives the status of the program: 0 where a zone can be made of it, and its NSEC sets, or

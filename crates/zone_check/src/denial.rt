@@ -4,14 +4,14 @@ ghost use Rattle.zone_proto.specs.declared.rdata.denial.NSEC3PARAM.{NSEC3PARAM a
 ghost use Rattle.zone_proto.specs.Names.{Name as NameLabels};
 ghost use Rattle.zone_proto.specs.Types.{NSEC as nsec_type, NSEC3 as nsec3_type};
 ghost use Rattle.zone_map.specs.Zones.{owners};
-ghost use Rattle.zone_loading.specs.Circles.{nsec_difference};
-ghost use Rattle.zone_loading.specs.Nsec3Circles.{nsec3_difference, zone_parameters};
+ghost use Rattle.zone_builder.specs.Circles.{nsec_difference};
+ghost use Rattle.zone_builder.specs.Nsec3Circles.{nsec3_difference, zone_parameters};
 ghost use Rattle.zone_sha1.specs.Digests.{name_digest};
 
 use crate::telling::{Warning, tell_at};
 use std::fmt;
 use std::io::Write;
-use zone_loading::{Loaded, OpenCircle, closed_nsec_circle, closed_nsec3_circle};
+use zone_builder::{Loaded, OpenCircle, closed_nsec_circle, closed_nsec3_circle};
 use zone_proto::{Name, RecordType};
 use zone_sha1::Sha1Hash;
 

@@ -3,7 +3,7 @@ ghost use Rattle.std.specs.Prelude.{◌≡◌};
 
 use std::fmt::Display;
 use std::io::Write;
-use zone_entries::Place;
+use zone_scanner::Place;
 
 /// Tells why the file can't be checked, and gives the status for it.
 pub fn tell<E: Write>(fault: &mut E, why: &[u8]) -> u8

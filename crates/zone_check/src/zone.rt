@@ -9,8 +9,8 @@ use crate::wanted::Wanted;
 use std::alloc::{AllocError, Global};
 use std::io::Write;
 use std::{fmt, io};
+use zone_builder::{GivenRecord, LoadFault, Loaded, load};
 use zone_file::PlacedRecord;
-use zone_loading::{GivenRecord, LoadFault, Loaded, load};
 use zone_map::RecordMap;
 use zone_proto::{LowerName, Name, ProtoError, RecordType};
 

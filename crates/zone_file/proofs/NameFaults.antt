@@ -3,8 +3,8 @@ use Rattle.std.proofs.Common.{◌≡◌, ◌≢◌, Ok, Err, Result, refl}
 use Rattle.zone_proto.specs.declared.error.ProtoError.{ProtoError}
 use Rattle.zone_proto.specs.declared.error.ProtoError.TheVariants.{BadText, Memory, EmptyLabel, LabelTooLong, NameTooLong, Hash}
 use Rattle.zone_proto.specs.Names.{Name}
-use Rattle.zone_entries.specs.declared.place.Place.{Place}
-use Rattle.zone_words.specs.Names.{Refuses}
+use Rattle.zone_scanner.specs.declared.place.Place.{Place}
+use Rattle.zone_tokens.specs.Names.{Refuses}
 use Rattle.zone_file.specs.declared.fault.Reason.TheVariants as reason
 use Rattle.zone_file.specs.declared.fault.ReadError.{ReadError}
 use Rattle.zone_file.specs.declared.fault.ReadError.TheVariants as errors

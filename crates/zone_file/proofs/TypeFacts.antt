@@ -14,7 +14,7 @@ use Rattle.std.proofs.lemmas.List.Sorted.{Contains-permutation, IsPermutation-sy
 use Rattle.zone_proto.specs.declared.record_type.RecordType.{RecordType}
 use Rattle.zone_proto.proofs.Members.{In, In-Contains, Contains-In}
 use Rattle.zone_proto.proofs.Ordering.Orders.{IsOrder, Side, before, same, after, side, irrefl, asym, number_order}
-use Rattle.zone_entries.specs.Entries.{WordText}
+use Rattle.zone_scanner.specs.Entries.{WordText}
 use Rattle.zone_file.specs.declared.fault.Reason.TheVariants as reason
 use Rattle.zone_file.specs.declared.fault.Fault.{Fault}
 use Rattle.zone_file.specs.Denials.{ascending, types_named, with_type}

@@ -3,10 +3,10 @@ use Rattle.std.proofs.Common.{◌≡◌, ℕ, List, [], ◌∷◌, ◌++◌, Opt
 use Rattle.std.specs.Prelude.{map}
 use Rattle.std.proofs.lemmas.List.{append-nil}
 use Rattle.zone_proto.specs.Names.{Name}
-use Rattle.zone_entries.specs.declared.fault.EntryFault.{EntryFault}
-use Rattle.zone_entries.specs.declared.fault.EntryError.{EntryError}
-use Rattle.zone_entries.specs.declared.fault.EntryError.TheVariants as entries
-use Rattle.zone_entries.specs.Entries.{EntryWords, Event, Whole, Broken}
+use Rattle.zone_scanner.specs.declared.fault.EntryFault.{EntryFault}
+use Rattle.zone_scanner.specs.declared.fault.EntryError.{EntryError}
+use Rattle.zone_scanner.specs.declared.fault.EntryError.TheVariants as entries
+use Rattle.zone_scanner.specs.Entries.{EntryWords, Event, Whole, Broken}
 use Rattle.zone_file.specs.declared.context.Context.{Context}
 use Rattle.zone_file.specs.declared.placed.PlacedRecord.{PlacedRecord}
 use Rattle.zone_file.specs.declared.error.ZoneFault.{ZoneFault}

@@ -8,9 +8,9 @@ use Rattle.zone_proto.specs.declared.rdata.RData.TheVariants as V
 use Rattle.zone_proto.specs.Names.{Name}
 use Rattle.zone_proto.specs.Types as types
 use Rattle.zone_proto.specs.Types.{has_own_case}
-use Rattle.zone_message.specs.DataForms.{plain_data_of}
-use Rattle.zone_words.specs.Addresses.{ipv4_of_word, ipv6_of_word}
-use Rattle.zone_words.specs.Ttls.{timer_of_word}
+use Rattle.message_reading.specs.DataForms.{plain_data_of}
+use Rattle.zone_tokens.specs.Addresses.{ipv4_of_word, ipv6_of_word}
+use Rattle.zone_tokens.specs.Ttls.{timer_of_word}
 use Rattle.zone_file.specs.declared.fault.Reason.TheVariants as reason
 use Rattle.zone_file.specs.Readings.{fault, ◌>>=◌}
 use Rattle.zone_file.specs.Denials.{next_nsec, next_nsec3, next_nsec3param}

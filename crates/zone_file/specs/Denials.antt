@@ -7,11 +7,11 @@ use Rattle.zone_proto.specs.declared.rdata.denial.NSEC3.{NSEC3 as HashedData}
 use Rattle.zone_proto.specs.declared.rdata.denial.NSEC3PARAM.{NSEC3PARAM as HashParameters}
 use Rattle.zone_proto.specs.declared.record_type.RecordType.{RecordType}
 use Rattle.zone_proto.specs.Names.{Name}
-use Rattle.zone_text.specs.Hex.{hex_word}
-use Rattle.zone_text.specs.Numbers.{number_within}
-use Rattle.zone_entries.specs.declared.place.Place.{Place}
-use Rattle.zone_entries.specs.Entries.{WordText}
-use Rattle.zone_words.specs.Base32.{base32_octets}
+use Rattle.line_text.specs.Hex.{hex_word}
+use Rattle.line_text.specs.Numbers.{number_within}
+use Rattle.zone_scanner.specs.declared.place.Place.{Place}
+use Rattle.zone_scanner.specs.Entries.{WordText}
+use Rattle.zone_tokens.specs.Base32.{base32_octets}
 use Rattle.zone_file.specs.declared.fault.Reason.TheVariants as reason
 use Rattle.zone_file.specs.declared.fault.Fault.{Fault}
 use Rattle.zone_file.specs.Readings.{fault, or_else_fault, ◌>>=◌}

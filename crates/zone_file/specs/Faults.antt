@@ -1,10 +1,10 @@
 -- A fault of an entry, with the word that stands at its place
 use Rattle.std.specs.Prelude.{◌≡◌, ℕ, ◌==◌, ◌&&◌, List, [], ◌∷◌, Bool, Option, Some, None, Result, Ok, Err, if◌then◌else◌}
-use Rattle.zone_entries.specs.declared.place.Place.{Place}
-use Rattle.zone_entries.specs.declared.fault.EntryFault.{EntryFault}
-use Rattle.zone_entries.specs.declared.fault.EntryError.{EntryError}
-use Rattle.zone_entries.specs.declared.fault.EntryError.TheVariants as entries
-use Rattle.zone_entries.specs.Entries.{WordText}
+use Rattle.zone_scanner.specs.declared.place.Place.{Place}
+use Rattle.zone_scanner.specs.declared.fault.EntryFault.{EntryFault}
+use Rattle.zone_scanner.specs.declared.fault.EntryError.{EntryError}
+use Rattle.zone_scanner.specs.declared.fault.EntryError.TheVariants as entries
+use Rattle.zone_scanner.specs.Entries.{WordText}
 use Rattle.zone_file.specs.declared.fault.Reason.TheVariants as reason
 use Rattle.zone_file.specs.declared.fault.Fault.{Fault}
 use Rattle.zone_file.specs.declared.error.ZoneFault.{ZoneFault}

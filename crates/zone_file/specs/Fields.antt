@@ -3,13 +3,13 @@ use Rattle.std.specs.Prelude.{ℕ, ◌==◌, ◌&&◌, ◌||◌, nat_le, List, [
 use Rattle.zone_proto.specs.declared.error.ProtoError.{ProtoError}
 use Rattle.zone_proto.specs.declared.record_type.RecordType.{RecordType}
 use Rattle.zone_proto.specs.Names.{Name}
-use Rattle.zone_text.specs.Numbers.{number_within}
-use Rattle.zone_entries.specs.declared.place.Place.{Place}
-use Rattle.zone_entries.specs.Entries.{WordText}
-use Rattle.zone_words.specs.Names.{name_under}
-use Rattle.zone_words.specs.Types.{type_named, algorithm_named}
-use Rattle.zone_words.specs.Ttls.{ttl_of_word}
-use Rattle.zone_words.specs.Moments.{moment_of_word}
+use Rattle.line_text.specs.Numbers.{number_within}
+use Rattle.zone_scanner.specs.declared.place.Place.{Place}
+use Rattle.zone_scanner.specs.Entries.{WordText}
+use Rattle.zone_tokens.specs.Names.{name_under}
+use Rattle.zone_tokens.specs.Types.{type_named, algorithm_named}
+use Rattle.zone_tokens.specs.Ttls.{ttl_of_word}
+use Rattle.zone_tokens.specs.Moments.{moment_of_word}
 use Rattle.zone_file.specs.declared.fault.Reason.{Reason}
 use Rattle.zone_file.specs.declared.fault.Reason.TheVariants as reason
 use Rattle.zone_file.specs.declared.fault.Fault.{Fault}

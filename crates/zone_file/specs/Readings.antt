@@ -1,6 +1,6 @@
 -- What is read, or the first fault
 use Rattle.std.specs.Prelude.{◌≡◌, Option, Some, None, Result, Ok, Err}
-use Rattle.zone_entries.specs.declared.place.Place.{Place}
+use Rattle.zone_scanner.specs.declared.place.Place.{Place}
 use Rattle.zone_file.specs.declared.fault.Reason.{Reason}
 use Rattle.zone_file.specs.declared.fault.Fault.{Fault}
 use Rattle.zone_file.specs.declared.fault.ReadError.{ReadError}

@@ -9,10 +9,10 @@ use Rattle.zone_proto.specs.Names.{Name}
 use Rattle.zone_proto.specs.Types as types
 use Rattle.zone_proto.specs.TypeText.{or_else}
 use Rattle.zone_proto.specs.TextForm.{is_digit}
-use Rattle.zone_entries.specs.declared.place.Place.{Place}
-use Rattle.zone_entries.specs.Entries.{EntryWords, WordText}
-use Rattle.zone_words.specs.Ttls.{longest, ttl_of_word}
-use Rattle.zone_words.specs.Types.{class_named, upper}
+use Rattle.zone_scanner.specs.declared.place.Place.{Place}
+use Rattle.zone_scanner.specs.Entries.{EntryWords, WordText}
+use Rattle.zone_tokens.specs.Ttls.{longest, ttl_of_word}
+use Rattle.zone_tokens.specs.Types.{class_named, upper}
 use Rattle.zone_file.specs.declared.fault.Reason.TheVariants as reason
 use Rattle.zone_file.specs.declared.fault.Fault.{Fault}
 use Rattle.zone_file.specs.declared.context.Context.{Context}

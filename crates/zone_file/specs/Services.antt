@@ -3,7 +3,7 @@ use Rattle.std.specs.Prelude.{ℕ, ◌/◌, ◌%◌, List, [], ◌∷◌, ◌++�
 use Rattle.std.specs.Char.{is_ascii_alphanumeric}
 use Rattle.std.specs.List.{list_all}
 use Rattle.zone_proto.specs.Names.{Name, wire_form}
-use Rattle.zone_words.specs.Strings.{with_length}
+use Rattle.zone_tokens.specs.Strings.{with_length}
 use Rattle.zone_file.specs.declared.fault.Reason.TheVariants as reason
 use Rattle.zone_file.specs.Readings.{◌>>=◌}
 use Rattle.zone_file.specs.Fields.{Left, Reading, next, next_name, next_u8, next_u16}

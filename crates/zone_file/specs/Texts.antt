@@ -4,10 +4,10 @@ use Rattle.std.specs.List.{flat_map}
 use Rattle.base64.specs.Engines.{standard}
 use Rattle.base64.specs.GeneralPurpose.{decoded_of}
 use Rattle.zone_proto.specs.Data.{same_octets}
-use Rattle.zone_entries.specs.declared.place.Place.{Place}
-use Rattle.zone_entries.specs.Entries.{WordText}
-use Rattle.zone_words.specs.Hex.{hex_text}
-use Rattle.zone_words.specs.Strings.{octets_of_text, string_of_word}
+use Rattle.zone_scanner.specs.declared.place.Place.{Place}
+use Rattle.zone_scanner.specs.Entries.{WordText}
+use Rattle.zone_tokens.specs.Hex.{hex_text}
+use Rattle.zone_tokens.specs.Strings.{octets_of_text, string_of_word}
 use Rattle.zone_file.specs.declared.fault.Reason.TheVariants as reason
 use Rattle.zone_file.specs.declared.fault.Fault.{Fault}
 use Rattle.zone_file.specs.Readings.{fault, or_else_fault, ◌>>=◌}

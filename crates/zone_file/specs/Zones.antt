@@ -1,8 +1,8 @@
 -- What is read of a whole zone file
 use Rattle.std.specs.Prelude.{◌≡◌, ℕ, List, [], ◌∷◌, ◌++◌, map, Option, Some, None, Result, Ok, Err}
 use Rattle.zone_proto.specs.Names.{Name}
-use Rattle.zone_entries.specs.Entries.{Event, Whole, Broken, events_of}
-use Rattle.zone_entries.specs.Steps.{Reader, events_from}
+use Rattle.zone_scanner.specs.Entries.{Event, Whole, Broken, events_of}
+use Rattle.zone_scanner.specs.Steps.{Reader, events_from}
 use Rattle.zone_file.specs.declared.error.ZoneFault.{ZoneFault}
 use Rattle.zone_file.specs.declared.context.Context.{Context}
 use Rattle.zone_file.specs.declared.placed.PlacedRecord.{PlacedRecord}

@@ -1,6 +1,6 @@
 //! The data of a type.
 ghost use Rattle.std.specs.Prelude.{◌≡◌, ◌+◌, ◌<◌, Ok, Some, None, true, false, nat_lt, length, IfOk};
-ghost use Rattle.zone_message.specs.DataForms.{plain_data_of};
+ghost use Rattle.message_reading.specs.DataForms.{plain_data_of};
 ghost use Rattle.zone_file.specs.declared.fault.Reason.TheVariants as reason;
 ghost use Rattle.zone_proto.specs.Data.{same_octets};
 ghost use Rattle.zone_file.specs.Readings.{Gives};
@@ -17,10 +17,10 @@ use crate::services::{take_caa, take_hinfo, take_naptr, take_sshfp, take_tlsa};
 use crate::texts::{take_generic, take_strings};
 use crate::types;
 use crate::words::Words;
+use message_reading::plain_data_of;
 use std::alloc::{AllocError, Global};
-use zone_entries::Word;
-use zone_message::plain_data_of;
 use zone_proto::{MX, Name, OtherData, RData, RecordType, SOA, SRV};
+use zone_scanner::Word;
 
 /// Takes the data of a type, in the form of the type or as `\#`.
 pub(crate) fn take_data(

@@ -8,11 +8,11 @@ use crate::fault::{Fault, ReadError, Reason};
 use crate::fields::{read_record_type, take_u8, take_u16};
 use crate::names::take_name;
 use crate::words::Words;
+use line_text::read_u8;
 use std::alloc::{AllocError, Global};
-use zone_entries::Word;
 use zone_proto::{NSEC, NSEC3, NSEC3PARAM, Name, RecordType, Seq};
-use zone_text::read_u8;
-use zone_words::{read_base32, read_salt};
+use zone_scanner::Word;
+use zone_tokens::{read_base32, read_salt};
 
 /// Takes the parts of an NSEC.
 #[tactic(auto, unfolding(crate::specs::Denials::next_nsec))]

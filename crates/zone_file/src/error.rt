@@ -4,8 +4,8 @@ ghost use Rattle.std.specs.Prelude.{◌≡◌};
 use crate::fault::Reason;
 use std::alloc::{AllocError, AllocFailed};
 use std::io::ErrorKind;
-use zone_entries::{EntryError, Place};
 use zone_proto::Seq;
+use zone_scanner::{EntryError, Place};
 
 /// The first fault of a zone file.
 #[derive(Debug, Drop)]

@@ -3,8 +3,8 @@ ghost use Rattle.std.specs.Prelude.{◌≡◌};
 
 use std::alloc::{AllocError, AllocFailed};
 use thiserror::Error;
-use zone_entries::{EntryReason, Place};
 use zone_proto::ProtoError;
+use zone_scanner::{EntryReason, Place};
 
 /// What is wrong at a place of a zone file.
 #[derive(Clone, Copy, PartialEq, Eq, Debug, Error)]

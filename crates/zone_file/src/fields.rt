@@ -4,14 +4,14 @@ ghost use Rattle.zone_file.specs.declared.fault.Reason.TheVariants as reason;
 ghost use Rattle.zone_file.specs.Readings.{Gives};
 ghost use Rattle.zone_file.specs.Fields.{Left, next, is_of_messages, next_algorithm, next_moment, next_ttl, next_type, next_u8, next_u16, next_u32, record_type_named};
 ghost use Rattle.zone_file.specs.Data.{next_timer};
-ghost use Rattle.zone_words.specs.Addresses.{ipv4_of_word, ipv6_of_word};
+ghost use Rattle.zone_tokens.specs.Addresses.{ipv4_of_word, ipv6_of_word};
 
 use crate::fault::{ReadError, Reason};
 use crate::words::Words;
+use line_text::{read_u8, read_u16, read_u32};
 use std::alloc::{AllocError, Global};
 use zone_proto::RecordType;
-use zone_text::{read_u8, read_u16, read_u32};
-use zone_words::{
+use zone_tokens::{
     read_algorithm, read_ipv4_word, read_ipv6_word, read_moment, read_seconds, read_ttl,
     read_type_word,
 };

@@ -1,6 +1,6 @@
 //! Zone files (RFC 1035 section 5, RFC 2308 section 4): the records of a text whose pieces come one after the other.
 //!
-//! `ZoneReader` reads the entries of a text (`zone_entries`), and each as a record or a control entry by what the entries
+//! `ZoneReader` reads the entries of a text (`zone_scanner`), and each as a record or a control entry by what the entries
 //! before it left (`Context`). A text that isn't a zone file is refused for its first fault, with its line and column and the
 //! word that stands there; `FaultText` tells it as a line of text.
 #![tactic(auto)]

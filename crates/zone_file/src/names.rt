@@ -4,14 +4,14 @@ ghost use Rattle.zone_proto.specs.Names.{wire_form};
 ghost use Rattle.zone_file.specs.Services.{next_name_octets};
 ghost use Rattle.zone_file.specs.Readings.{Gives};
 ghost use Rattle.zone_file.specs.Fields.{Left, named_at, next_name};
-ghost use Rattle.zone_words.specs.Names.{name_under};
+ghost use Rattle.zone_tokens.specs.Names.{name_under};
 
 use crate::fault::{Fault, ReadError, Reason};
 use crate::words::Words;
 use std::alloc::{AllocError, Global};
-use zone_entries::Place;
 use zone_proto::{Name, ProtoError};
-use zone_words::read_name_under;
+use zone_scanner::Place;
+use zone_tokens::read_name_under;
 
 /// Takes a name.
 pub(crate) fn take_name(

@@ -1,7 +1,7 @@
 //! A record and where it stands.
 
-use zone_entries::Place;
 use zone_proto::Record;
+use zone_scanner::Place;
 
 /// A record of a zone file, and the place where its entry begins.
 #[derive(Debug, Drop)]

@@ -16,9 +16,9 @@ use crate::placed::PlacedRecord;
 use crate::told::at_word;
 use crate::words::Words;
 use std::alloc::{AllocError, Global};
-use zone_entries::{Entry, Place, Word};
 use zone_proto::{DNSClass, Name, RData, Record};
-use zone_words::{read_class, read_ttl, to_upper};
+use zone_scanner::{Entry, Place, Word};
+use zone_tokens::{read_class, read_ttl, to_upper};
 
 /// The greatest TTL, in seconds: it has 31 bits (RFC 2181 section 8).
 const LONGEST_TTL: u32 = 2_147_483_647;

@@ -8,8 +8,8 @@ use crate::fault::{Fault, ReadError, Reason};
 use crate::fields::take_u16;
 use crate::words::Words;
 use std::alloc::{AllocError, Global};
-use zone_entries::Word;
-use zone_words::{read_base64, read_hex_digits, read_octets, read_string};
+use zone_scanner::Word;
+use zone_tokens::{read_base64, read_hex_digits, read_octets, read_string};
 
 /// Takes a string, in quotes or not, and gives its octets behind their count.
 pub(crate) fn take_string(alloc: Global, words: &mut Words<'_>) -> Result<Vec<u8>, ReadError>

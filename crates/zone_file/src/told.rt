@@ -5,8 +5,8 @@ ghost use Rattle.zone_file.specs.Faults.{at_word, octets_at, same_place};
 use crate::error::ZoneFault;
 use crate::fault::Fault;
 use std::alloc::{AllocError, Global};
-use zone_entries::{Place, Word};
 use zone_proto::Seq;
+use zone_scanner::{Place, Word};
 
 /// A fault, with the word at its place among these.
 pub(crate) fn at_word(alloc: Global, words: &[Word], fault: Fault) -> Result<ZoneFault, AllocError>

@@ -6,7 +6,7 @@ ghost use Rattle.zone_file.specs.Records.{if_none_left};
 
 use crate::fault::{Fault, ReadError, Reason};
 use std::marker::Model;
-use zone_entries::{Place, Word};
+use zone_scanner::{Place, Word};
 
 /// The words that are left of an entry. Contracts see it as `Left`.
 #[derive(Drop)]

@@ -1,6 +1,6 @@
 //! The records of a zone file that comes in pieces.
 ghost use Rattle.std.specs.Prelude.{◌≡◌, ◌++◌, ◌≤◌, ◌<◌, ℕ, List, length, drop, [], ◌∷◌, IfOk, IfErr};
-ghost use Rattle.zone_entries.specs.Steps.{events_from};
+ghost use Rattle.zone_scanner.specs.Steps.{events_from};
 
 use crate::context::Context;
 use crate::error::{ZoneError, ZoneFault};
@@ -8,8 +8,8 @@ use crate::placed::PlacedRecord;
 use crate::records::read_entry;
 use std::alloc::Global;
 use std::marker::Model;
-use zone_entries::EntryReader;
 use zone_proto::Name;
+use zone_scanner::EntryReader;
 
 /// Reads the records of a zone file, piece by piece, and keeps no more of it than the entry in hand. Contracts say what it makes
 /// of the rest of the text, whatever that is (`outcomes_from`): the records that are left, and the first fault if there is one.

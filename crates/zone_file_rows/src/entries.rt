@@ -1,7 +1,7 @@
 //! How a text is cut into entries.
 
 use std::alloc::{AllocError, Global};
-use zone_entries::{Entry, EntryError, EntryReader, Word};
+use zone_scanner::{Entry, EntryError, EntryReader, Word};
 
 /// The entries of a text that comes in pieces of so many octets: each word with its place and in its quotes, and with `+` if
 /// it is joined to the one before; `-` before an indented entry; `/` between entries; and the fault with its place.

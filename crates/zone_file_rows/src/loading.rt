@@ -3,12 +3,12 @@
 use crate::octets::octets_of;
 use crate::plain_hash::PlainHash;
 use crate::zone::{error_line, read};
-use scarce::Scarcity;
+use alloc_failures::Scarcity;
 use std::alloc::{AllocError, Global};
-use zone_file::PlacedRecord;
-use zone_loading::{
+use zone_builder::{
     GivenRecord, LoadFault, Loaded, OpenCircle, closed_nsec_circle, closed_nsec3_circle, load,
 };
+use zone_file::PlacedRecord;
 use zone_proto::{DNSClass, Name, ProtoError, RecordType};
 
 /// How much more memory a call gets each time, in octets, and how often it is made at most.
@@ -20,7 +20,7 @@ const ROOMS: usize = 1_000;
 const CHAOS: DNSClass = DNSClass(3);
 
 /// The answer to a row, which is a call, an origin and a zone file: `load` tells how many sets the zone has that its records make,
-/// and its warnings, or why there is none; `chaos` the same once the last record is of that class; `scarce` and `circle` tell
+/// and its warnings, or why there is none; `chaos` the same once the last record is of that class; `alloc_failures` and `circle` tell
 /// whether memory was refused, and then a zone was made, or its circle found closed.
 pub fn answer(alloc: Global, row: &str) -> Result<String, AllocError> {
     let (call, rest) = row.split_once(' ').unwrap_or((row, ""));

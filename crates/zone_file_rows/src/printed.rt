@@ -4,7 +4,7 @@ use crate::octets::octets_of;
 use crate::zone;
 use std::alloc::{AllocError, Global};
 use zone_file::PlacedRecord;
-use zone_master_text::MasterText;
+use zone_file_writer::MasterText;
 
 /// The records of a zone file as they are printed, with `/` behind each; the first word of a row is the origin. What is printed is
 /// read again under another origin, and has to be printed alike.

@@ -1,11 +1,11 @@
 //! How a word is read by itself.
 
 use crate::octets::octets_of;
+use line_text::HexText;
 use std::alloc::{AllocError, Global};
 use std::fmt::Display;
 use zone_proto::{Name, ProtoError};
-use zone_text::HexText;
-use zone_words::{
+use zone_tokens::{
     read_algorithm, read_base64, read_class, read_hex_digits, read_ipv4_word, read_ipv6_word,
     read_moment, read_name_under, read_octets, read_salt, read_string, read_ttl, read_type_word,
 };

@@ -2,10 +2,10 @@
 
 use crate::octets::octets_of;
 use crate::pieces::Pieces;
+use line_text::RecordText;
 use std::alloc::{AllocError, Global};
 use zone_file::{FaultText, InputError, PlacedRecord, read_zone, read_zone_text};
 use zone_proto::Name;
-use zone_text::RecordText;
 
 /// The records of a zone file, each behind the place of its entry and with `/` behind it; or its fault. The first word of a row is
 /// the origin. What is read of the text as a whole has to be read of an input that gives it octet by octet.

@@ -25,11 +25,11 @@ use Rattle.zone_denial.proofs.Chain.NsecClosest.{finds_or_covers}
 use Rattle.zone_denial.proofs.Chain.NsecLists.{lists_all_owned, denials_agree}
 use Rattle.zone_denial.proofs.Chain.NsecBelow.{no_next_below, next_below_empty}
 use Rattle.zone_denial.proofs.Chain.NsecStar.{proves_star}
-use Rattle.zone_inner.specs.Replies.{NegativeAnswer, name_exists, nx_domain, refused, negative_answer, answered, negative, IsReplyFor}
-use Rattle.zone_inner.proofs.NegativeReplies.{reply_is_negative}
-use Rattle.zone_acceptance.specs.Acceptance.{IsAccepted}
-use Rattle.zone_acceptance.specs.Judged.{read, IsJudged}
-use Rattle.zone_acceptance.proofs.Accepted.{denial_accepted}
+use Rattle.zone_lookup.specs.Replies.{NegativeAnswer, name_exists, nx_domain, refused, negative_answer, answered, negative, IsReplyFor}
+use Rattle.zone_lookup.proofs.NegativeReplies.{reply_is_negative}
+use Rattle.denial_laws.specs.Acceptance.{IsAccepted}
+use Rattle.denial_laws.specs.Judged.{read, IsJudged}
+use Rattle.denial_laws.proofs.Accepted.{denial_accepted}
 use Rattle.zone_in_memory.specs.Lookup.{error_of, SaysOrMemory, IsNameError}
 use Rattle.zone_in_memory.specs.NsecAnswers.{IsDenialSection, IsNsecProof, HasNsecProof, HasStarProof, HasAcceptedRecords, AgreesWithCircle}
 

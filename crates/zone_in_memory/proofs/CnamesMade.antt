@@ -11,8 +11,8 @@ use Rattle.zone_map.specs.Zones.{Sets}
 use Rattle.zone_map.specs.Upserts.{all_upserted, CnamesStandAlone}
 use Rattle.zone_map.proofs.CnamesAlone.{all_alone, nothing_owned}
 use Rattle.zone_in_memory.specs.Construction.{is_own_key, after_set, inserted_sets, made_with, made}
-use Rattle.zone_inner.specs.StartOfAuthority.{soa}
-use Rattle.zone_inner.specs.declared.zone_error.ZoneError.TheVariants.{KeyMismatch}
+use Rattle.zone_lookup.specs.StartOfAuthority.{soa}
+use Rattle.zone_lookup.specs.declared.zone_error.ZoneError.TheVariants.{KeyMismatch}
 
 -- sets inserted one after the other
 inserted_alone : (origin : Name) (serial : ℕ) (m : Sets) (ss : List RRset) (n : Sets) → inserted_sets origin serial m ss ≡ Ok n → CnamesStandAlone m → CnamesStandAlone n

@@ -2,7 +2,7 @@
 use Rattle.std.proofs.Common.{◌≡◌, Bool, true, false, cond, refl, ap}
 use Rattle.zone_proto.specs.Names.{Name, IsAtOrAbove, is_at_or_above}
 use Rattle.zone_proto.proofs.Names.NameTree.{is_at_or_above_sound, is_at_or_above_complete}
-use Rattle.zone_inner.specs.Replies.{nx_domain, refused, absent}
+use Rattle.zone_lookup.specs.Replies.{nx_domain, refused, absent}
 use Rattle.zone_in_memory.specs.Lookup.{error_of}
 
 pub absent_inside : (origin n : Name) → IsAtOrAbove origin n → error_of (absent origin n) ≡ error_of nx_domain

@@ -12,9 +12,9 @@ use Rattle.zone_handler.specs.declared.lookup_options.LookupOptions.{LookupOptio
 use Rattle.zone_map.specs.Zones.{Sets, owns, owns_at_or_below}
 use Rattle.zone_map.specs.Wildcards.{exists, asked_star_exists, found}
 use Rattle.zone_map.specs.AnyTypes.{searched_type}
-use Rattle.zone_inner.specs.Flattening.{last_set, beside}
-use Rattle.zone_inner.specs.FoundSets.{exists_or_star}
-use Rattle.zone_inner.specs.Replies.{negative_answer, is_present, Reply, answered, negative, answer_sets, answer_section, IsAnswer, IsReplyFor, SaysAnswer}
+use Rattle.zone_lookup.specs.Flattening.{last_set, beside}
+use Rattle.zone_lookup.specs.FoundSets.{exists_or_star}
+use Rattle.zone_lookup.specs.Replies.{negative_answer, is_present, Reply, answered, negative, answer_sets, answer_section, IsAnswer, IsReplyFor, SaysAnswer}
 use Rattle.zone_in_memory.specs.Lookup.{error_of, Says, SaysOrMemory, IsAnswered}
 use Rattle.zone_map.proofs.AnyTypes.{found_owned, searched_owned}
 use Rattle.zone_map.proofs.ExistingNames.{owned_where_existing}

@@ -26,10 +26,10 @@ use Rattle.zone_denial.proofs.Hashed.Nsec3AskedStar.{absent_star_is_denied}
 use Rattle.zone_denial.proofs.Hashed.Nsec3Encloses.{finds_or_encloses}
 use Rattle.zone_denial.proofs.Hashed.Nsec3Star.{proves_star}
 use Rattle.zone_denial.proofs.Hashed.Nsec3Lists.{lists_all_owned, denials_agree}
-use Rattle.zone_inner.specs.Replies.{name_exists, nx_domain, IsReplyFor}
-use Rattle.zone_acceptance.specs.Nsec3Acceptance.{IsNsec3Accepted, IsAskedStarAccepted}
-use Rattle.zone_acceptance.specs.Nsec3Judged.{read_nsec3_sets}
-use Rattle.zone_acceptance.proofs.Nsec3Accepted.{nsec3_denial_accepted, nsec3_wildcard_answer_accepted}
+use Rattle.zone_lookup.specs.Replies.{name_exists, nx_domain, IsReplyFor}
+use Rattle.denial_laws.specs.Nsec3Acceptance.{IsNsec3Accepted, IsAskedStarAccepted}
+use Rattle.denial_laws.specs.Nsec3Judged.{read_nsec3_sets}
+use Rattle.denial_laws.proofs.Nsec3Accepted.{nsec3_denial_accepted, nsec3_wildcard_answer_accepted}
 use Rattle.zone_in_memory.specs.Lookup.{SaysOrMemory, IsNameError}
 use Rattle.zone_in_memory.specs.AnsweredSets.{AnswersSetsOrMemory}
 use Rattle.zone_in_memory.specs.Handlers.{Zone}

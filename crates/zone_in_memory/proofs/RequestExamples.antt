@@ -10,7 +10,7 @@ use Rattle.zone_handler.specs.declared.control_flow.LookupControlFlow.TheVariant
 use Rattle.zone_handler.specs.declared.lookup_error.LookupError.{LookupError}
 use Rattle.zone_handler.specs.declared.lookup_error.LookupError.TheVariants.{BadQueryCount, NameExists}
 use Rattle.zone_in_memory.specs.Requests.{IsSearch}
-use Rattle.zone_inner.proofs.Examples.{at_apex}
+use Rattle.zone_lookup.proofs.Examples.{at_apex}
 
 abbrev www : Name
 www = at_apex (codes "www")

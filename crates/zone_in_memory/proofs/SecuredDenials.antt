@@ -16,8 +16,8 @@ use Rattle.zone_map.specs.Zones.{Sets, set_at, owns}
 use Rattle.zone_denial.specs.NsecSets.{nsec_set_at}
 use Rattle.zone_denial.specs.Nsec3Sets.{nsec3_set_at, announced_set, nsec3_fault}
 use Rattle.zone_denial.specs.Nsec3Zones.{hash_with}
-use Rattle.zone_inner.specs.Securing.{with_denials, with_nsec3_sets, denial_fault}
-use Rattle.zone_inner.specs.StartOfAuthority.{minimum, serial}
+use Rattle.zone_lookup.specs.Securing.{with_denials, with_nsec3_sets, denial_fault}
+use Rattle.zone_lookup.specs.StartOfAuthority.{minimum, serial}
 
 -- the set at the origin that tells the parameters of NSEC3
 abbrev pub is_announced : Name → Name → ℕ → Bool

@@ -30,9 +30,9 @@ use Rattle.zone_denial.proofs.Hashed.Nsec3Secured.{secured_is_nsec3_circle}
 use Rattle.zone_signing.specs.Secured.{signed, secured_set, SetsBy, IsSecured}
 use Rattle.zone_signing.specs.Signatures.{last_moment}
 use Rattle.zone_signing.proofs.SecuredSets.{IsSecured-keeps}
-use Rattle.zone_inner.specs.Inner.{Inner}
-use Rattle.zone_inner.specs.Securing.{denied_by, nsec3_kind, with_denials, denial_fault}
-use Rattle.zone_inner.specs.StartOfAuthority.{soa, soa_of, first_soa, minimum, serial}
+use Rattle.zone_lookup.specs.Inner.{Inner}
+use Rattle.zone_lookup.specs.Securing.{denied_by, nsec3_kind, with_denials, denial_fault}
+use Rattle.zone_lookup.specs.StartOfAuthority.{soa, soa_of, first_soa, minimum, serial}
 use Rattle.zone_in_memory.specs.Handlers.{Zone}
 use Rattle.zone_in_memory.specs.Signing.{IsSecuring}
 use Rattle.zone_in_memory.proofs.SecuredDenials.{keeps_others, keeps_beside, nsec_keeps, nsec3_keeps, nsec3_made, nsec3_announced}

@@ -14,7 +14,7 @@ use Rattle.zone_handler.specs.declared.lookup_error.LookupError.TheVariants as e
 use Rattle.zone_handler.specs.Sets.{axfr_records}
 use Rattle.zone_map.specs.Zones.{Sets}
 use Rattle.zone_in_memory.specs.Transfers.{refusal}
-use Rattle.zone_inner.proofs.Examples.{apex, at_apex, server, soa_set, record_with, set_with}
+use Rattle.zone_lookup.proofs.Examples.{apex, at_apex, server, soa_set, record_with, set_with}
 
 -- ---- who is refused
 

@@ -34,11 +34,11 @@ use Rattle.zone_map.specs.Direct.{is_address, is_delegated, is_delegated_for, ne
 use Rattle.zone_map.specs.Wildcards.{found, wildcard}
 use Rattle.zone_map.specs.Zones.{Sets, set_at, owns, IsStoredAt, IsZone}
 use Rattle.zone_map.proofs.Delegations.{found_above}
-use Rattle.zone_inner.specs.Flattening.{last_set, stands_for_addresses, alone}
-use Rattle.zone_inner.specs.Replies.{one_set, chained, negative, negative_answer, is_followed, answer_section, IsAnswer, KeepsAnswers}
+use Rattle.zone_lookup.specs.Flattening.{last_set, stands_for_addresses, alone}
+use Rattle.zone_lookup.specs.Replies.{one_set, chained, negative, negative_answer, is_followed, answer_section, IsAnswer, KeepsAnswers}
 use Rattle.zone_in_memory.specs.Transfers.{plain, HasAnswers, IsSoaPart, IsTransfer}
 use Rattle.zone_in_memory.specs.TransferLaws.{HasSoa}
-use Rattle.zone_inner.proofs.Replies.{stays_alone}
+use Rattle.zone_lookup.proofs.Replies.{stays_alone}
 
 refuted : (b : Bool) → (b ≡ true → ⊥) → b ≡ false
 refuted true h = absurd (h refl)

@@ -12,7 +12,7 @@ use Rattle.zone_handler.specs.declared.lookup_options.LookupOptions.{LookupOptio
 use Rattle.zone_handler.specs.declared.lookup_records.LookupRecords.{LookupRecords}
 use Rattle.zone_handler.specs.declared.lookup_records.LookupRecords.TheVariants as section
 use Rattle.zone_handler.specs.AuthLookup.{zone_answers}
-use Rattle.zone_inner.specs.Replies.{Reply, negative, answered, KeepsAnswers}
+use Rattle.zone_lookup.specs.Replies.{Reply, negative, answered, KeepsAnswers}
 use Rattle.zone_in_memory.specs.Lookup.{SaysOrMemory}
 use Rattle.zone_in_memory.specs.Transfers.{refusal, HasAnswers}
 

@@ -22,21 +22,21 @@ use Rattle.zone_denial.specs.NsecLaws.{IsNsecZone}
 use Rattle.zone_denial.proofs.Names.LongestAncestors.{above_below}
 use Rattle.zone_denial.proofs.Hashed.Nsec3Encloses.{finds_or_encloses}
 use Rattle.zone_denial.proofs.Chain.NsecBelow.{above_at}
-use Rattle.zone_inner.specs.Replies.{NegativeAnswer, name_exists, nx_domain, negative_answer, negative, IsAnswer, IsReplyFor}
-use Rattle.zone_validation.specs.Judgement.{nsec3_proof}
-use Rattle.zone_acceptance.specs.Judged.{read, denial_records, IsJudged}
-use Rattle.zone_acceptance.specs.Nsec3Calls.{told}
-use Rattle.zone_acceptance.specs.Nsec3Judged.{read_nsec3_sets, IsNsec3Judged}
-use Rattle.zone_acceptance.specs.Nsec3Soundness.{IsOptOutSound, Nsec3NothingProved}
-use Rattle.zone_acceptance.specs.Soundness.{IsWithoutData, IsTopmostCut, NothingProved}
-use Rattle.zone_acceptance.proofs.Nsec3Calls.{denial_stands, nsec3_parameters_found}
-use Rattle.zone_acceptance.proofs.Nsec3LeftOut.{nsec3_opt_out_sound}
-use Rattle.zone_acceptance.proofs.Nsec3Shown.{nsec3_denial_of_zone}
-use Rattle.zone_acceptance.proofs.Nsec3Silence.{nsec3_own_nothing_below_cut}
-use Rattle.zone_acceptance.proofs.Nsec3Soundness.{nsec3_name_error_sound, nsec3_no_data_sound, nsec3_wildcard_no_data_sound}
-use Rattle.zone_acceptance.proofs.Readings.{denial_of_zone}
-use Rattle.zone_acceptance.proofs.Silence.{nothing_below_cut, nothing_outside}
-use Rattle.zone_acceptance.proofs.Soundness.{name_error_sound, no_data_sound, empty_sound, empty_without_data, wildcard_no_data_sound}
+use Rattle.zone_lookup.specs.Replies.{NegativeAnswer, name_exists, nx_domain, negative_answer, negative, IsAnswer, IsReplyFor}
+use Rattle.denial_validation.specs.Judgement.{nsec3_proof}
+use Rattle.denial_laws.specs.Judged.{read, denial_records, IsJudged}
+use Rattle.denial_laws.specs.Nsec3Calls.{told}
+use Rattle.denial_laws.specs.Nsec3Judged.{read_nsec3_sets, IsNsec3Judged}
+use Rattle.denial_laws.specs.Nsec3Soundness.{IsOptOutSound, Nsec3NothingProved}
+use Rattle.denial_laws.specs.Soundness.{IsWithoutData, IsTopmostCut, NothingProved}
+use Rattle.denial_laws.proofs.Nsec3Calls.{denial_stands, nsec3_parameters_found}
+use Rattle.denial_laws.proofs.Nsec3LeftOut.{nsec3_opt_out_sound}
+use Rattle.denial_laws.proofs.Nsec3Shown.{nsec3_denial_of_zone}
+use Rattle.denial_laws.proofs.Nsec3Silence.{nsec3_own_nothing_below_cut}
+use Rattle.denial_laws.proofs.Nsec3Soundness.{nsec3_name_error_sound, nsec3_no_data_sound, nsec3_wildcard_no_data_sound}
+use Rattle.denial_laws.proofs.Readings.{denial_of_zone}
+use Rattle.denial_laws.proofs.Silence.{nothing_below_cut, nothing_outside}
+use Rattle.denial_laws.proofs.Soundness.{name_error_sound, no_data_sound, empty_sound, empty_without_data, wildcard_no_data_sound}
 use Rattle.zone_in_memory.specs.Handlers.{Zone}
 use Rattle.zone_in_memory.specs.Lookup.{Says, SaysOrMemory}
 use Rattle.zone_in_memory.specs.NsecAnswers.{IsNsecAnswer}

@@ -10,7 +10,7 @@ use Rattle.zone_handler.specs.declared.key_error.KeyError.{KeyError}
 use Rattle.zone_handler.specs.declared.secure_error.SecureError.{SecureError}
 use Rattle.zone_denial.specs.NsecLaws.{IsNsecZone}
 use Rattle.zone_denial.specs.Nsec3Zones.{IsNsec3Zone}
-use Rattle.zone_inner.specs.declared.zone_error.ZoneError.{ZoneError}
+use Rattle.zone_lookup.specs.declared.zone_error.ZoneError.{ZoneError}
 use Rattle.zone_in_memory.specs.Handlers.{Zone}
 use Rattle.zone_in_memory.specs.Insertions.{IsUpsert}
 use Rattle.zone_in_memory.specs.Signing.{IsKeyAdded, IsSecuring}

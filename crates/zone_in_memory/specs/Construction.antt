@@ -7,9 +7,9 @@ use Rattle.zone_proto.specs.declared.rr_key.RrKey.{RrKey}
 use Rattle.zone_proto.specs.Names.{Name, lower, name_eq}
 use Rattle.zone_proto.specs.Sets.{RRset}
 use Rattle.zone_proto.specs.Types.{IN}
-use Rattle.zone_inner.specs.declared.zone_error.ZoneError.{ZoneError}
-use Rattle.zone_inner.specs.declared.zone_error.ZoneError.TheVariants.{MissingSoa, KeyMismatch, Refused}
-use Rattle.zone_inner.specs.StartOfAuthority.{soa}
+use Rattle.zone_lookup.specs.declared.zone_error.ZoneError.{ZoneError}
+use Rattle.zone_lookup.specs.declared.zone_error.ZoneError.TheVariants.{MissingSoa, KeyMismatch, Refused}
+use Rattle.zone_lookup.specs.StartOfAuthority.{soa}
 use Rattle.zone_map.specs.Upserts.{all_upserted}
 use Rattle.zone_map.specs.Zones.{Sets}
 

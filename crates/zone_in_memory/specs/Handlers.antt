@@ -7,7 +7,7 @@ use Rattle.zone_proto.specs.Types.{IN, SOA}
 use Rattle.zone_handler.specs.declared.axfr_policy.AxfrPolicy.{AxfrPolicy}
 use Rattle.zone_handler.specs.declared.zone_type.ZoneType.{ZoneType}
 use Rattle.zone_map.specs.Zones.{Sets, IsZone}
-use Rattle.zone_inner.specs.Inner.{Inner}
+use Rattle.zone_lookup.specs.Inner.{Inner}
 
 -- a zone: the name at its top, its class, what the server is to it, who may transfer it, how it denies, its sets and signers, and the hash of its denials
 pub record Zone (S H : Type 0) : Type 0 where

@@ -2,8 +2,8 @@
 use Rattle.std.specs.Prelude.{◌≡◌, ℕ, Bool, false, IfOk, OnOk, OnErr, IsOkUnless, is_some, Result, unwrap_or}
 use Rattle.zone_proto.specs.declared.record.Record.{Record}
 use Rattle.zone_map.specs.Upserts.{upserted, CnamesStandAlone}
-use Rattle.zone_inner.specs.declared.zone_error.ZoneError.{ZoneError}
-use Rattle.zone_inner.specs.declared.zone_error.ZoneError.TheVariants as error
+use Rattle.zone_lookup.specs.declared.zone_error.ZoneError.{ZoneError}
+use Rattle.zone_lookup.specs.declared.zone_error.ZoneError.TheVariants as error
 use Rattle.zone_in_memory.specs.Handlers.{Zone}
 
 -- of the zone before, a record and a serial, the answer, and the zone after: the answer tells whether the record was taken; all but the zone's sets stays, and where the record isn't taken, or no memory is found, they stay too; and CNAMEs that stood alone still do

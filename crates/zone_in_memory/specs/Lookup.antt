@@ -14,7 +14,7 @@ use Rattle.zone_handler.specs.declared.lookup_error.LookupError.TheVariants as e
 use Rattle.zone_handler.specs.declared.lookup_options.LookupOptions.{LookupOptions}
 use Rattle.zone_handler.specs.Transfers.{IsNoLookup}
 use Rattle.zone_signing.specs.Signatures.{answer_signatures}
-use Rattle.zone_inner.specs.Replies.{NegativeAnswer, name_exists, nx_domain, refused, Reply, negative, answered, IsReply, HasSections}
+use Rattle.zone_lookup.specs.Replies.{NegativeAnswer, name_exists, nx_domain, refused, Reply, negative, answered, IsReply, HasSections}
 use Rattle.zone_in_memory.specs.Handlers.{Zone}
 
 -- the negative answers as errors

@@ -20,8 +20,8 @@ use Rattle.zone_map.specs.Zones.{Sets, owns}
 use Rattle.zone_denial.specs.Nsec3Denial.{closest_encloser, next_closer}
 use Rattle.zone_denial.specs.Nsec3Laws.{types3_of, IsSetOf, CoversName, FindsOrEncloses, ProvesStar, IsNsec3Listed}
 use Rattle.zone_denial.specs.Nsec3Zones.{IsNsec3Zone, IsCircleName, IsHashed, TellsApart}
-use Rattle.zone_acceptance.specs.Nsec3Acceptance.{IsNsec3Accepted, IsAskedStarAccepted}
-use Rattle.zone_acceptance.specs.Nsec3Judged.{read_nsec3_sets, IsNsec3Judged}
+use Rattle.denial_laws.specs.Nsec3Acceptance.{IsNsec3Accepted, IsAskedStarAccepted}
+use Rattle.denial_laws.specs.Nsec3Judged.{read_nsec3_sets, IsNsec3Judged}
 use Rattle.zone_in_memory.specs.AnsweredSets.{AnswersSetsOrMemory}
 use Rattle.zone_in_memory.specs.Handlers.{Zone}
 

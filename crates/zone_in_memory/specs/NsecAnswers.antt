@@ -20,8 +20,8 @@ use Rattle.zone_denial.specs.Authority.{is_below_cut}
 use Rattle.zone_denial.specs.NsecCircle.{types_of}
 use Rattle.zone_denial.specs.NsecDenial.{nsec_encloser, nsec_denial}
 use Rattle.zone_denial.specs.NsecLaws.{LastCovers, FindsOrCovers, HasOwnOrCover, IsListed}
-use Rattle.zone_acceptance.specs.Acceptance.{IsAccepted}
-use Rattle.zone_acceptance.specs.Judged.{read}
+use Rattle.denial_laws.specs.Acceptance.{IsAccepted}
+use Rattle.denial_laws.specs.Judged.{read}
 use Rattle.zone_in_memory.specs.AnsweredSets.{AnswersSetsOrMemory}
 use Rattle.zone_in_memory.specs.Handlers.{Zone}
 

@@ -20,8 +20,8 @@ use Rattle.zone_denial.specs.NsecLaws.{IsNsecZone}
 use Rattle.zone_denial.specs.Nsec3Zones.{hash_with, IsCircleName, IsNsec3Zone, TellsApart}
 use Rattle.zone_signing.specs.Secured.{IsSecured, KeepsRecords}
 use Rattle.zone_signing.specs.Signatures.{last_moment}
-use Rattle.zone_inner.specs.Securing.{denied_by, nsec3_kind, denial_fault, to_be_signed}
-use Rattle.zone_inner.specs.StartOfAuthority.{soa, serial, minimum}
+use Rattle.zone_lookup.specs.Securing.{denied_by, nsec3_kind, denial_fault, to_be_signed}
+use Rattle.zone_lookup.specs.StartOfAuthority.{soa, serial, minimum}
 use Rattle.zone_in_memory.specs.Handlers.{Zone}
 
 module _ {S H : Type 0} where

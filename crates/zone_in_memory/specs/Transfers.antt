@@ -21,7 +21,7 @@ use Rattle.zone_handler.specs.declared.zone_transfer.ZoneTransfer.{ZoneTransfer}
 use Rattle.zone_handler.specs.Sets.{axfr_records}
 use Rattle.zone_map.specs.Zones.{Sets}
 use Rattle.zone_in_memory.specs.Handlers.{Zone}
-use Rattle.zone_inner.specs.Replies.{Reply, answered, IsReply, KeepsAnswers}
+use Rattle.zone_lookup.specs.Replies.{Reply, answered, IsReply, KeepsAnswers}
 use Rattle.zone_signing.specs.Signatures.{answer_signatures}
 
 -- anybody may have the zone; no signature of a request is tested, so a policy that asks for one lets nobody have it

@@ -16,17 +16,17 @@ use Rattle.zone_map.specs.Zones.{Sets}
 use Rattle.zone_denial.specs.NsecDenial.{nsec_encloser}
 use Rattle.zone_denial.specs.Nsec3Names.{is_unsigned_delegation}
 use Rattle.zone_denial.specs.Nsec3Zones.{IsNsec3Zone, IsHashed, TellsApart}
-use Rattle.zone_inner.specs.Replies.{NegativeAnswer, name_exists, nx_domain}
-use Rattle.zone_validation.specs.Judgement.{nsec3_proof}
-use Rattle.zone_validation.specs.NsecProofs as nsec
-use Rattle.zone_validation.specs.NsecRecords.{NsecRecord}
-use Rattle.zone_validation.specs.Nsec3Proofs as nsec3
-use Rattle.zone_validation.specs.Nsec3Records.{Nsec3Record}
-use Rattle.zone_acceptance.specs.Judged.{read, AreOfZone}
-use Rattle.zone_acceptance.specs.Nsec3Calls.{told}
-use Rattle.zone_acceptance.specs.Nsec3Judged.{read_nsec3_sets, AreNsec3OfZone}
-use Rattle.zone_acceptance.specs.Nsec3Soundness.{IsStarUnflattened, IsOptOutSound, Nsec3NothingProved}
-use Rattle.zone_acceptance.specs.Soundness.{IsUnflattened, IsTopmostCut, NothingProved}
+use Rattle.zone_lookup.specs.Replies.{NegativeAnswer, name_exists, nx_domain}
+use Rattle.denial_validation.specs.Judgement.{nsec3_proof}
+use Rattle.denial_validation.specs.NsecProofs as nsec
+use Rattle.denial_validation.specs.NsecRecords.{NsecRecord}
+use Rattle.denial_validation.specs.Nsec3Proofs as nsec3
+use Rattle.denial_validation.specs.Nsec3Records.{Nsec3Record}
+use Rattle.denial_laws.specs.Judged.{read, AreOfZone}
+use Rattle.denial_laws.specs.Nsec3Calls.{told}
+use Rattle.denial_laws.specs.Nsec3Judged.{read_nsec3_sets, AreNsec3OfZone}
+use Rattle.denial_laws.specs.Nsec3Soundness.{IsStarUnflattened, IsOptOutSound, Nsec3NothingProved}
+use Rattle.denial_laws.specs.Soundness.{IsUnflattened, IsTopmostCut, NothingProved}
 use Rattle.zone_in_memory.specs.AnsweredSets.{AnswersSetsOrMemory}
 use Rattle.zone_in_memory.specs.Handlers.{Zone}
 use Rattle.zone_in_memory.specs.Lookup.{error_of}

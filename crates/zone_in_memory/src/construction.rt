@@ -7,13 +7,13 @@ ghost use Rattle.zone_proto.specs.Names.{lower};
 ghost use Rattle.zone_proto.specs.Types.{IN};
 ghost use Rattle.zone_proto.specs.Types as types;
 ghost use Rattle.zone_in_memory.specs.Construction.{is_own_key, inserted_sets, made};
-ghost use Rattle.zone_inner.specs.StartOfAuthority.{soa};
+ghost use Rattle.zone_lookup.specs.StartOfAuthority.{soa};
 ghost use Rattle.zone_map.specs.Upserts.{all_upserted};
 ghost use Rattle.zone_map.specs.Zones.{IsZone};
 
 use std::collections::BTreeMap;
-use zone_inner::ZoneError;
-use zone_inner::start_of_authority::first_soa;
+use zone_lookup::ZoneError;
+use zone_lookup::start_of_authority::first_soa;
 use zone_map::RecordMap;
 use zone_proto::{DNSClass, LowerName, Name, ProtoError, RecordSet, RrKey, SOA};
 

@@ -2,8 +2,8 @@
 ghost use Rattle.std.specs.Prelude.{◌≡◌, ◌⊎◌, Option, false, [], Ok, Err, IfErr, IfOk, IsOkUnless, option_copied};
 ghost use Rattle.zone_proto.specs.Names.{Name, lower};
 ghost use Rattle.zone_proto.specs.Types.{IN, SOA, AXFR, NSEC3};
-ghost use Rattle.zone_inner.specs.StartOfAuthority.{soa, serial, minimum};
-ghost use Rattle.zone_inner.specs.Replies.{negative_answer, IsReplyFor};
+ghost use Rattle.zone_lookup.specs.StartOfAuthority.{soa, serial, minimum};
+ghost use Rattle.zone_lookup.specs.Replies.{negative_answer, IsReplyFor};
 ghost use Rattle.zone_in_memory.specs.Lookup.{error_of, SaysOrMemory};
 ghost use Rattle.zone_map.specs.AnyTypes.{searched_type};
 ghost use Rattle.zone_in_memory.specs.Construction.{made};
@@ -24,8 +24,8 @@ use zone_handler::{
     AuthLookup, AxfrPolicy, LookupControlFlow, LookupError, LookupOptions, NetError,
     Nsec3QueryInfo, Request, RequestInfo, TSigResponseContext, ZoneHandler, ZoneTransfer, ZoneType,
 };
-use zone_inner::start_of_authority::first_soa;
-use zone_inner::{InnerInMemory, Outcome, Searches, ZoneError};
+use zone_lookup::start_of_authority::first_soa;
+use zone_lookup::{InnerInMemory, Outcome, Searches, ZoneError};
 use zone_map::Reads;
 use zone_proto::{
     DNSClass, LowerName, Name, Nsec3Hash, NxProofKind, RecordSet, RecordType, ResponseCode, RrKey,

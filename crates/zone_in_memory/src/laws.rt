@@ -16,7 +16,7 @@ ghost use Rattle.zone_map.specs.Zones.{Sets, set_at, owns, names_of, owners, typ
 ghost use Rattle.zone_in_memory.specs.CircleLaws.{UntakenKeepsCircle, RefusedKeyKeepsCircle, RefusedSecuringKeepsCircle};
 ghost use Rattle.zone_in_memory.specs.TransferLaws.{BeginsAndEndsWithSoa, HasEachRecord, HasNoneTwice};
 
-pub use zone_acceptance::laws::{
+pub use denial_laws::laws::{
     absent_data_are_accepted, absent_data_are_sound, denials_are_accepted, denials_are_summed_up,
     name_errors_are_accepted, name_errors_are_sound, nothing_is_proved_elsewhere,
     nsec3_absences_are_sound, nsec3_absent_data_are_sound, nsec3_denials_are_accepted,
@@ -26,7 +26,7 @@ pub use zone_acceptance::laws::{
     unsigned_delegations_are_accepted, unsigned_delegations_are_sound,
     wildcard_answers_are_accepted, wildcard_answers_are_sound,
 };
-pub use zone_inner::laws::{
+pub use zone_lookup::laws::{
     additionals_are_one_list, negative_is_not_found, run_is_longest_front, runs_end,
 };
 use zone_proto::{Nsec3Hash, Signer};

@@ -7,7 +7,7 @@ use std::marker::Model;
 /// A count of what was read of the keys of a zone, or of the owners of its sets of denial.
 pub type Reads = Counter;
 
-/// A count of searches: one for each call of `InnerInMemory::inner_lookup` of the crate `zone_inner`.
+/// A count of searches: one for each call of `InnerInMemory::inner_lookup` of the crate `zone_lookup`.
 pub type Searches = Counter;
 
 /// A count, which stops at `u64::MAX`.

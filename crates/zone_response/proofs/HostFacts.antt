@@ -10,7 +10,7 @@ use Rattle.zone_proto.specs.Sets.{RRset}
 use Rattle.zone_proto.specs.Types.{NS}
 use Rattle.zone_proto.proofs.Names.NameTree.{name_eq-Decides}
 use Rattle.zone_map.specs.Zones.{Sets}
-use Rattle.zone_inner.specs.Runs.{with_new}
+use Rattle.zone_lookup.specs.Runs.{with_new}
 use Rattle.zone_response.specs.declared.response.Part.{Part}
 use Rattle.zone_response.specs.declared.response.Part.TheVariants as part
 use Rattle.zone_response.specs.Hosts.{with_host, host_sets, beside}

@@ -7,8 +7,8 @@ use Rattle.std.proofs.lemmas.Option.{slice_get-map}
 use Rattle.zone_proto.specs.declared.record.Record.{Record}
 use Rattle.zone_proto.specs.Names.{same_name}
 use Rattle.zone_proto.specs.Sets.{RRset}
-use Rattle.zone_inner.specs.Flattening.{last_set}
-use Rattle.zone_inner.specs.Runs.{with_new}
+use Rattle.zone_lookup.specs.Flattening.{last_set}
+use Rattle.zone_lookup.specs.Runs.{with_new}
 use Rattle.zone_response.specs.declared.response.Sent.{Sent}
 use Rattle.zone_response.specs.Denials.{same_owner}
 use Rattle.zone_response.specs.declared.response.Part.{Part}

@@ -10,11 +10,11 @@ use Rattle.zone_proto.proofs.Members.{In, In-Contains}
 use Rattle.zone_map.specs.Fronts.{longest_front, IsLongestFront}
 use Rattle.zone_map.specs.Zones.{Sets, IsZone}
 use Rattle.zone_map.proofs.Fronts.{longest_front_law}
-use Rattle.zone_inner.specs.AdditionalLaws.{are_new}
-use Rattle.zone_inner.specs.Additionals.{next_name, run_types, seen_at_start, leads_to, listed_with, AreSearchedNames, AreListed, AreAdditionals, alias_sets}
-use Rattle.zone_inner.specs.Runs.{along}
-use Rattle.zone_inner.proofs.AdditionalLaws.{run_is_short}
-use Rattle.zone_inner.proofs.RunFronts.{run_is_longest_front}
+use Rattle.zone_lookup.specs.AdditionalLaws.{are_new}
+use Rattle.zone_lookup.specs.Additionals.{next_name, run_types, seen_at_start, leads_to, listed_with, AreSearchedNames, AreListed, AreAdditionals, alias_sets}
+use Rattle.zone_lookup.specs.Runs.{along}
+use Rattle.zone_lookup.proofs.AdditionalLaws.{run_is_short}
+use Rattle.zone_lookup.proofs.RunFronts.{run_is_longest_front}
 use Rattle.zone_response.specs.StandIns.{run_names, listed_along, target_sets}
 
 -- ---- one front is the longest

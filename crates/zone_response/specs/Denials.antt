@@ -8,7 +8,7 @@ use Rattle.zone_proto.specs.Names.{Name, lower, same_name}
 use Rattle.zone_proto.specs.Sets.{RRset}
 use Rattle.zone_denial.specs.Nsec3Denial.{result_and_then, nsec3_denial}
 use Rattle.zone_denial.specs.NsecDenial.{closest_nsec}
-use Rattle.zone_inner.specs.Runs.{with_new}
+use Rattle.zone_lookup.specs.Runs.{with_new}
 use Rattle.zone_response.specs.declared.response.Part.TheVariants as part
 use Rattle.zone_response.specs.HashedDenials.{lack_proof}
 use Rattle.zone_response.specs.Queries.{Zone}

@@ -8,7 +8,7 @@ use Rattle.zone_proto.specs.Names.{Name, lower, name_eq, is_at_or_above}
 use Rattle.zone_proto.specs.Sets.{RRset}
 use Rattle.zone_proto.specs.Types.{A, AAAA, NS}
 use Rattle.zone_map.specs.Zones.{Sets, set_at}
-use Rattle.zone_inner.specs.Runs.{with_new}
+use Rattle.zone_lookup.specs.Runs.{with_new}
 use Rattle.zone_response.specs.declared.response.Part.TheVariants as part
 use Rattle.zone_response.specs.Sections.{as_it_is, part_for}
 use Rattle.zone_response.specs.Turns.{Turn, cut, renaming, turn}

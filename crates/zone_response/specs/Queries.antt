@@ -7,7 +7,7 @@ use Rattle.zone_proto.specs.Names.{Name}
 use Rattle.zone_proto.specs.Sets.{RRset}
 use Rattle.zone_proto.specs.Signing.{SignedPart}
 use Rattle.zone_map.specs.Zones.{Sets, set_at, IsZone}
-use Rattle.zone_inner.specs.Inner.{Inner}
+use Rattle.zone_lookup.specs.Inner.{Inner}
 use Rattle.zone_response.specs.declared.question.Question.{Question}
 use Rattle.zone_response.specs.declared.question.ServedZone.{ServedZone}
 use Rattle.zone_response.specs.declared.steps.Asked.{Asked}

@@ -10,8 +10,8 @@ use Rattle.zone_proto.specs.Sets.{RRset}
 use Rattle.zone_proto.specs.Types.{IN, SOA, DS}
 use Rattle.zone_map.specs.Zones.{Sets, set_at}
 use Rattle.zone_denial.specs.Nsec3Denial.{result_and_then}
-use Rattle.zone_inner.specs.Flattening.{last_set}
-use Rattle.zone_inner.specs.StartOfAuthority.{first_soa}
+use Rattle.zone_lookup.specs.Flattening.{last_set}
+use Rattle.zone_lookup.specs.StartOfAuthority.{first_soa}
 use Rattle.zone_response.specs.declared.response.Part.TheVariants as part
 use Rattle.zone_response.specs.Denials.{proofs, sent_proof}
 use Rattle.zone_response.specs.Hosts.{beside, sibling_glue, glue}

@@ -9,7 +9,7 @@ use Rattle.zone_proto.specs.declared.record.Record.{Record}
 use Rattle.zone_proto.specs.declared.response_code.ResponseCode.{ResponseCode}
 use Rattle.zone_proto.specs.Names.{Name, same_name}
 use Rattle.zone_proto.specs.Sets.{RRset}
-use Rattle.zone_inner.specs.FoundSets.{found_set}
+use Rattle.zone_lookup.specs.FoundSets.{found_set}
 use Rattle.zone_response.specs.declared.response.Part.{Part}
 use Rattle.zone_response.specs.declared.response.Part.TheVariants as part
 use Rattle.zone_response.specs.declared.response.Response.{Response}

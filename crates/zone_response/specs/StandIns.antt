@@ -5,10 +5,10 @@ use Rattle.zone_proto.specs.Names.{Name, is_at_or_above}
 use Rattle.zone_proto.specs.Sets.{RRset}
 use Rattle.zone_map.specs.Fronts.{longest_front}
 use Rattle.zone_map.specs.Zones.{Sets}
-use Rattle.zone_inner.specs.AdditionalLaws.{are_new}
-use Rattle.zone_inner.specs.Additionals.{next_name, run_target, run_types, seen_at_start, leads_to, listed_with, alias_sets}
-use Rattle.zone_inner.specs.Flattening.{last_set, flattened}
-use Rattle.zone_inner.specs.Runs.{along}
+use Rattle.zone_lookup.specs.AdditionalLaws.{are_new}
+use Rattle.zone_lookup.specs.Additionals.{next_name, run_target, run_types, seen_at_start, leads_to, listed_with, alias_sets}
+use Rattle.zone_lookup.specs.Flattening.{last_set, flattened}
+use Rattle.zone_lookup.specs.Runs.{along}
 use Rattle.zone_response.specs.declared.stand_ins.StandInAnswer.{StandInAnswer as KeptAnswer}
 use Rattle.zone_response.specs.declared.stand_ins.StandInAnswer.TheVariants as kept
 use Rattle.zone_response.specs.Queries.{Inquiry}

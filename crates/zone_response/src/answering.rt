@@ -15,7 +15,7 @@ use crate::standing::read_apex;
 use crate::steps::Asked;
 use std::alloc::Global;
 use zone_handler::{LookupError, LookupOptions};
-use zone_inner::InnerInMemory;
+use zone_lookup::InnerInMemory;
 use zone_proto::{
     DNSClass, LowerName, Nsec3Hash, RecordSet, RecordType, ResponseCode, RrKey, Signer,
 };

@@ -3,7 +3,7 @@ ghost use Rattle.std.specs.Prelude.{◌≡◌, ◌⊎◌, ◌++◌, fold, map, O
 ghost use Rattle.std.specs.List.{list_any};
 ghost use Rattle.zone_proto.specs.Names.{same_name};
 ghost use Rattle.zone_denial.specs.NsecDenial.{closest_nsec};
-ghost use Rattle.zone_inner.specs.Runs.{with_new};
+ghost use Rattle.zone_lookup.specs.Runs.{with_new};
 ghost use Rattle.zone_response.specs.Denials.{star_proof, denial, end_proof, same_owner, together, with_star_proof, proofs, sent_proof};
 ghost use Rattle.zone_response.specs.HashedDenials.{AsksByHash};
 ghost use Rattle.zone_response.specs.Queries.{zone_of};

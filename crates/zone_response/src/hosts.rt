@@ -2,7 +2,7 @@
 ghost use Rattle.std.specs.Prelude.{◌≡◌, ◌++◌, [], Bool, Some, true, map, flat_map, IfOk, IfSome, OnOk, IsOkUnless, option_copied, option_map, option_to_list};
 ghost use Rattle.std.specs.List.{cons_option};
 ghost use Rattle.zone_proto.specs.Names.{lower, name_eq, is_at_or_above};
-ghost use Rattle.zone_inner.specs.Runs.{with_new};
+ghost use Rattle.zone_lookup.specs.Runs.{with_new};
 ghost use Rattle.zone_response.specs.Hosts.{host_of, with_host, hosts, addresses, host_sets, turned_host, beside, glue, glue_of, sibling_glue, sibling_sets};
 ghost use Rattle.zone_response.specs.Sections.{as_it_is, sent_sets};
 ghost use Rattle.zone_response.specs.Standing.{IsFromSome};
@@ -17,7 +17,7 @@ use crate::standing::{Standing, read_standing, standing_in};
 use crate::steps::{Asked, part_for};
 use crate::turns::{Turning, own_cut, turn_above};
 use std::collections::btree_map::Range;
-use zone_inner::InnerInMemory;
+use zone_lookup::InnerInMemory;
 use zone_proto::{
     LowerName, Name, ProtoError, RData, Record, RecordSet, RecordType, RrKey, Signer,
 };

@@ -4,7 +4,7 @@ ghost use Rattle.std.specs.List.{list_any};
 ghost use Rattle.zone_response.specs.Sections.{sent, as_it_is, is_alike, unless_among, sent_set, sent_sets};
 
 use crate::response::{Part, Sent};
-use zone_inner::Found;
+use zone_lookup::Found;
 use zone_proto::{ProtoError, RecordSet};
 
 /// Puts an item last.

@@ -10,7 +10,7 @@ use crate::query_types::asks_any;
 use crate::response::is_signed;
 use crate::standing::Standing;
 use zone_handler::LookupError;
-use zone_inner::InnerInMemory;
+use zone_lookup::InnerInMemory;
 use zone_map::direct::is_address;
 use zone_proto::{RecordSet, RecordType, RrKey, Signer};
 

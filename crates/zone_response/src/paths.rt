@@ -13,7 +13,7 @@ use crate::standing::Standing;
 use crate::steps::{Asked, End, Next, SoFar, step};
 use crate::told::unless_told;
 use zone_handler::LookupError;
-use zone_inner::InnerInMemory;
+use zone_lookup::InnerInMemory;
 use zone_proto::{LowerName, Signer};
 
 // How many names a chain has at most.

@@ -1,6 +1,6 @@
 //! What is asked, and of which zone.
 
-use zone_inner::InnerInMemory;
+use zone_lookup::InnerInMemory;
 use zone_map::RecordMap;
 use zone_proto::{DNSClass, LowerName, Nsec3Hash, NxProofKind, RecordType, Signer};
 

@@ -1,9 +1,9 @@
 //! A response by its sections, whose sets are lent out of the zone.
 ghost use Rattle.std.specs.Prelude.{◌≡◌};
-ghost use Rattle.zone_inner.specs.FoundSets.{found_set};
+ghost use Rattle.zone_lookup.specs.FoundSets.{found_set};
 ghost use Rattle.zone_response.specs.Sections.{covers, is_signed};
 
-use zone_inner::Found;
+use zone_lookup::Found;
 use zone_proto::{LowerName, RData, Record, RecordSet, RecordType, ResponseCode};
 
 /// What goes out of a set.

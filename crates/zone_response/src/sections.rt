@@ -13,8 +13,8 @@ use crate::question::ServedZone;
 use crate::response::{Part, Sent};
 use crate::steps::{Asked, End, part_for};
 use zone_handler::LookupError;
-use zone_inner::InnerInMemory;
-use zone_inner::start_of_authority::first_soa;
+use zone_lookup::InnerInMemory;
+use zone_lookup::start_of_authority::first_soa;
 use zone_proto::{
     LowerName, Nsec3Hash, ProtoError, RecordSet, RecordType, ResponseCode, RrKey, Signer,
 };

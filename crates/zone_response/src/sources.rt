@@ -2,7 +2,7 @@
 ghost use Rattle.std.specs.Prelude.{◌≡◌, IfOk, IsOkUnless};
 ghost use Rattle.zone_response.specs.Sources.{star_of};
 
-use zone_inner::InnerInMemory;
+use zone_lookup::InnerInMemory;
 use zone_proto::{LowerName, ProtoError, RrKey, Signer};
 
 /// The star under the closest encloser of a name, which has `*` in the place of the first label of the next closer name.

@@ -1,6 +1,6 @@
 //! The addresses for which an ANAME set stands in.
 ghost use Rattle.std.specs.Prelude.{◌≡◌, map, IfOk, IsOkUnless};
-ghost use Rattle.zone_inner.specs.FoundSets.{found_set};
+ghost use Rattle.zone_lookup.specs.FoundSets.{found_set};
 ghost use Rattle.zone_response.specs.Queries.{inquiry_of};
 ghost use Rattle.zone_response.specs.StandIns.{target_sets, at_last_target, by_addresses, by_last_set, stand_in_answer, answer_of};
 ghost use Rattle.zone_response.specs.Steps.{stand_in_step, stood_in_step, addresses_step, Takes};
@@ -11,7 +11,7 @@ use crate::response::is_signed;
 use crate::steps::{Asked, End, Next, SoFar, add_made, at_missing, found_for, keeps, part_for};
 use crate::turns::turn;
 use zone_handler::{LookupError, LookupOptions};
-use zone_inner::{Found, InnerInMemory, flattened, next_name, run_target};
+use zone_lookup::{Found, InnerInMemory, flattened, next_name, run_target};
 use zone_map::Searches;
 use zone_proto::{LowerName, ProtoError, RecordSet, RecordType, Signer};
 

@@ -14,7 +14,7 @@ ghost use Rattle.zone_response.specs.Standing.{sets_from, StandsAt};
 use crate::query_types::{DNAME, is_denial_type};
 use std::collections::BTreeMap;
 use std::collections::btree_map::Range;
-use zone_inner::InnerInMemory;
+use zone_lookup::InnerInMemory;
 use zone_proto::{LowerName, ProtoError, RecordSet, RecordType, RrKey, Signer};
 
 /// The sets of three types that stand at a name: NS, and two that are asked for; and the first key from the name's least key on,

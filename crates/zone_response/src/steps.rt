@@ -3,7 +3,7 @@ ghost use Rattle.std.specs.Prelude.{◌≡◌, ◌++◌, ◌∷◌, [], true, If
 ghost use Rattle.zone_map.specs.Chains.{cname_target};
 ghost use Rattle.zone_proto.specs.Names.{is_at_or_above};
 ghost use Rattle.zone_proto.specs.Types.{CNAME, SOA};
-ghost use Rattle.zone_inner.specs.FoundSets.{found_set};
+ghost use Rattle.zone_lookup.specs.FoundSets.{found_set};
 ghost use Rattle.zone_response.specs.Nodes.{node_of};
 ghost use Rattle.zone_response.specs.Sections.{as_it_is, sent_sets, part_for};
 ghost use Rattle.zone_response.specs.Queries.{inquiry_of};
@@ -22,7 +22,7 @@ use crate::stand_ins::stand_in_step;
 use crate::standing::{Standing, exists, read_standing};
 use crate::turns::{Turning, own_cut, turn_from_apex};
 use zone_handler::LookupError;
-use zone_inner::{Found, InnerInMemory, cname_target};
+use zone_lookup::{Found, InnerInMemory, cname_target};
 use zone_map::wildcard::renamed;
 use zone_proto::{LowerName, Name, ProtoError, RecordSet, RecordType, RrKey, Signer};
 

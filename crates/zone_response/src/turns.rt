@@ -11,7 +11,7 @@ ghost use Rattle.zone_response.specs.Turns.{cut_at, is_passed, turn, turn_above,
 use crate::names::same_name;
 use crate::query_types::DNAME;
 use crate::standing::{Standing, read_apex, read_standing};
-use zone_inner::InnerInMemory;
+use zone_lookup::InnerInMemory;
 use zone_proto::{LowerName, ProtoError, RecordSet, RecordType, RrKey, Signer};
 
 /// What turns a search.

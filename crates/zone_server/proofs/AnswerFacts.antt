@@ -2,12 +2,12 @@
 use Rattle.std.proofs.Common.{◌≡◌, ℕ, ◌<◌, ◌≤◌, inl, inr, List, [], length, refl, sym, ap, subst, ◌∙◌, arith}
 use Rattle.std.specs.Prelude.{◌≢◌, Option, Some, None, Result, Ok, Err, OnOk}
 use Rattle.std.specs.declared.alloc.AllocError.{AllocError}
-use Rattle.zone_message.specs.declared.query.Query.{Query as ReadQuery}
-use Rattle.zone_message.specs.declared.query.Extension.{Extension}
-use Rattle.zone_message.specs.declared.error.ReadError.{ReadError}
-use Rattle.zone_message.specs.declared.error.ReadError.TheVariants.{NoHeader, NoQuery, NotImplemented, Malformed, BadVersion, Memory}
-use Rattle.zone_message.specs.Messages.{Parts, message_of}
-use Rattle.zone_message.specs.Queries.{query_of, ReadsQuery}
+use Rattle.message_reading.specs.declared.query.Query.{Query as ReadQuery}
+use Rattle.message_reading.specs.declared.query.Extension.{Extension}
+use Rattle.message_reading.specs.declared.error.ReadError.{ReadError}
+use Rattle.message_reading.specs.declared.error.ReadError.TheVariants.{NoHeader, NoQuery, NotImplemented, Malformed, BadVersion, Memory}
+use Rattle.message_reading.specs.Messages.{Parts, message_of}
+use Rattle.message_reading.specs.Queries.{query_of, ReadsQuery}
 use Rattle.zone_response.specs.Queries.{Zone}
 use Rattle.zone_response.specs.Responses.{IsResponse}
 use Rattle.zone_response.specs.Sections.{Sections}

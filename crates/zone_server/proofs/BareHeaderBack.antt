@@ -2,9 +2,9 @@
 use Rattle.std.proofs.Common.{◌≡◌, ℕ, length, sym, subst, ◌+◌, ◌*◌, ◌/◌, ◌%◌, ◌<◌, Bool, true, false, eqb, List, [], Some, ap, arith}
 use Rattle.std.specs.Prelude.{if◌then◌else◌, Result, Ok, Err, OnOk}
 use Rattle.std.specs.declared.alloc.AllocError.{AllocError}
-use Rattle.zone_message.specs.declared.header.Header.{Header}
-use Rattle.zone_message.specs.Headers.{has_bit}
-use Rattle.zone_message.specs.Messages.{several, sections_of, message_of}
+use Rattle.message_reading.specs.declared.header.Header.{Header}
+use Rattle.message_reading.specs.Headers.{has_bit}
+use Rattle.message_reading.specs.Messages.{several, sections_of, message_of}
 use Rattle.zone_server.specs.BareHeaders.{bare_text, IsBareHeader}
 
 bit_is : (weight n b : ℕ) → (n / weight) % 2 ≡ b → has_bit weight n ≡ eqb b 1

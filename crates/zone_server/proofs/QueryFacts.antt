@@ -1,14 +1,14 @@
 -- The opcode of a header has four bits
 use Rattle.std.proofs.Common.{ℕ, ◌<◌, Bool, true, false, eqb, cond, List, subst, arith}
 use Rattle.std.specs.Prelude.{Option, Some, None, Result, Ok, Err, nat_lt}
-use Rattle.zone_message.specs.declared.header.Header.{Header}
-use Rattle.zone_message.specs.declared.query.Query.{Query}
-use Rattle.zone_message.specs.declared.query.Extension.{Extension}
-use Rattle.zone_message.specs.declared.error.ReadError.{ReadError}
-use Rattle.zone_message.specs.declared.error.ReadError.TheVariants.{NoHeader, NoQuery, NotImplemented, Malformed, BadVersion, Memory}
-use Rattle.zone_message.specs.Octets.{◌>>=◌, octet_of, short_of}
-use Rattle.zone_message.specs.Headers.{header_of}
-use Rattle.zone_message.specs.Queries.{query_of, if_query, if_formed, if_version, body_of, ReadsQuery}
+use Rattle.message_reading.specs.declared.header.Header.{Header}
+use Rattle.message_reading.specs.declared.query.Query.{Query}
+use Rattle.message_reading.specs.declared.query.Extension.{Extension}
+use Rattle.message_reading.specs.declared.error.ReadError.{ReadError}
+use Rattle.message_reading.specs.declared.error.ReadError.TheVariants.{NoHeader, NoQuery, NotImplemented, Malformed, BadVersion, Memory}
+use Rattle.message_reading.specs.Octets.{◌>>=◌, octet_of, short_of}
+use Rattle.message_reading.specs.Headers.{header_of}
+use Rattle.message_reading.specs.Queries.{query_of, if_query, if_formed, if_version, body_of, ReadsQuery}
 use Rattle.zone_server.specs.BareHeaders.{HasOpcode}
 
 -- what was found has this property, if something was

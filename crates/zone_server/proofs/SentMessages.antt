@@ -1,18 +1,18 @@
--- A message that zone_wire writes is the response of sections, or says why there is none
+-- A message that message_writing writes is the response of sections, or says why there is none
 use Rattle.std.proofs.Common.{◌≡◌, ℕ, ◌<◌, List, [], ◌∷◌, ◌++◌, map, refl, sym, subst, ◌∙◌}
 use Rattle.std.specs.Prelude.{◌≢◌, IfErr, Result, Ok, Err}
 use Rattle.std.specs.List.{flat_map}
 use Rattle.std.proofs.lemmas.List.Concat.{flat_map-append}
 use Rattle.zone_proto.specs.Sets.{RRset}
 use Rattle.zone_proto.specs.declared.record.Record.{Record}
-use Rattle.zone_message.specs.declared.query.Query.{Query as ReadQuery}
+use Rattle.message_reading.specs.declared.query.Query.{Query as ReadQuery}
 use Rattle.zone_response.specs.Sections.{Sections}
-use Rattle.zone_wire.specs.declared.error.WriteError.{WriteError}
-use Rattle.zone_wire.specs.declared.error.WriteError.TheVariants.{Unwritable, NoRoom, BadCode, Memory}
-use Rattle.zone_wire.specs.declared.response.Group.{Group}
-use Rattle.zone_wire.specs.declared.response.Response.{Response}
-use Rattle.zone_wire.specs.Outcomes.{HasUnwritable, Writes, records_in as records_written}
-use Rattle.zone_wire.specs.Responses.{records_of}
+use Rattle.message_writing.specs.declared.error.WriteError.{WriteError}
+use Rattle.message_writing.specs.declared.error.WriteError.TheVariants.{Unwritable, NoRoom, BadCode, Memory}
+use Rattle.message_writing.specs.declared.response.Group.{Group}
+use Rattle.message_writing.specs.declared.response.Response.{Response}
+use Rattle.message_writing.specs.Outcomes.{HasUnwritable, Writes, records_in as records_written}
+use Rattle.message_writing.specs.Responses.{records_of}
 use Rattle.zone_server.specs.Answers.{records_in, records_sent, AreSets, Means}
 use Rattle.zone_server.specs.Sending.{Sends}
 

@@ -3,10 +3,10 @@ use Rattle.std.proofs.Common.{◌≡◌, inl, inr, ℕ, List, [], ◌∷◌, ◌
 use Rattle.std.specs.Prelude.{Option}
 use Rattle.std.proofs.lemmas.List.Concat.{flat_map-append}
 use Rattle.zone_proto.specs.declared.record.Record.{Record}
-use Rattle.zone_message.specs.declared.query.Query.{Query as ReadQuery}
-use Rattle.zone_wire.specs.declared.response.Group.{Group}
-use Rattle.zone_wire.specs.Outcomes.{HasUnwritable}
-use Rattle.zone_wire.specs.Responses.{all_records, records_of}
+use Rattle.message_reading.specs.declared.query.Query.{Query as ReadQuery}
+use Rattle.message_writing.specs.declared.response.Group.{Group}
+use Rattle.message_writing.specs.Outcomes.{HasUnwritable}
+use Rattle.message_writing.specs.Responses.{all_records, records_of}
 use Rattle.zone_server.specs.Frames.{framed}
 use Rattle.zone_server.specs.Serving.{Moves}
 use Rattle.zone_server.specs.Transfers.{joined, one_by_one, AreMessages, ArePiecesOf, AreTooLong, HasTooLong, HasUnsendable, IsCutInto, IsTransferMessage}

@@ -3,14 +3,14 @@ use Rattle.std.proofs.Common.{◌≡◌, ◌⊎◌, inl, inr, ℕ, zero, suc, �
 use Rattle.std.specs.Prelude.{◌≢◌, ◌==◌, IfErr, OnOk, Option, Some, Result, Ok, Err}
 use Rattle.std.proofs.lemmas.List.{map-append, take-append-drop}
 use Rattle.zone_proto.specs.declared.record.Record.{Record}
-use Rattle.zone_message.specs.declared.query.Query.{Query as ReadQuery}
-use Rattle.zone_wire.specs.declared.error.WriteError.{WriteError}
-use Rattle.zone_wire.specs.declared.error.WriteError.TheVariants.{Unwritable, NoRoom, BadCode, Memory}
-use Rattle.zone_wire.specs.declared.response.Group.{Group}
-use Rattle.zone_wire.specs.declared.response.Response.{Response}
-use Rattle.zone_wire.specs.Fronts.{FirstHasNoRoom, WritesFront}
-use Rattle.zone_wire.specs.Outcomes.{HasUnwritable, records_in}
-use Rattle.zone_wire.specs.Responses.{all_records, parts_for, records_of}
+use Rattle.message_reading.specs.declared.query.Query.{Query as ReadQuery}
+use Rattle.message_writing.specs.declared.error.WriteError.{WriteError}
+use Rattle.message_writing.specs.declared.error.WriteError.TheVariants.{Unwritable, NoRoom, BadCode, Memory}
+use Rattle.message_writing.specs.declared.response.Group.{Group}
+use Rattle.message_writing.specs.declared.response.Response.{Response}
+use Rattle.message_writing.specs.Fronts.{FirstHasNoRoom, WritesFront}
+use Rattle.message_writing.specs.Outcomes.{HasUnwritable, records_in}
+use Rattle.message_writing.specs.Responses.{all_records, parts_for, records_of}
 use Rattle.zone_server.specs.declared.transfer_writer.Halt.{Halt}
 use Rattle.zone_server.specs.declared.waiting.Stop.{Stop}
 use Rattle.zone_server.specs.declared.transfer_writer.Halt.TheVariants as halt

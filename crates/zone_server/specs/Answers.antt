@@ -1,5 +1,5 @@
 -- What the octets of a query are answered with. What is said is said by `IsResponse` of zone_response, what a query is by `query_of` of
--- zone_message, and what is written by `IsWritten` of zone_wire; here these three meet.
+-- message_reading, and what is written by `IsWritten` of message_writing; here these three meet.
 use Rattle.std.specs.Prelude.{◌≡◌, ◌≢◌, ◌⊎◌, ◌<◌, ℕ, false, List, [], ◌++◌, map, Option, Some, None, Result, Ok, Err}
 use Rattle.std.specs.List.{flat_map}
 use Rattle.std.specs.Option.{option_map_or}
@@ -8,17 +8,17 @@ use Rattle.zone_proto.specs.declared.response_code.ResponseCode.{ResponseCode}
 use Rattle.zone_proto.specs.declared.response_code.ResponseCode.TheVariants as code
 use Rattle.zone_proto.specs.Names.{lower}
 use Rattle.zone_proto.specs.Sets.{RRset}
-use Rattle.zone_message.specs.declared.query.Query.{Query as ReadQuery}
-use Rattle.zone_message.specs.declared.error.ReadError.{ReadError}
-use Rattle.zone_message.specs.declared.error.ReadError.TheVariants as errors
-use Rattle.zone_message.specs.Queries.{query_of}
+use Rattle.message_reading.specs.declared.query.Query.{Query as ReadQuery}
+use Rattle.message_reading.specs.declared.error.ReadError.{ReadError}
+use Rattle.message_reading.specs.declared.error.ReadError.TheVariants as errors
+use Rattle.message_reading.specs.Queries.{query_of}
 use Rattle.zone_response.specs.Queries.{Zone, Query}
 use Rattle.zone_response.specs.Responses.{bare, IsResponse}
 use Rattle.zone_response.specs.Sections.{Sections}
-use Rattle.zone_wire.specs.declared.response.Group.{Group}
-use Rattle.zone_wire.specs.declared.response.Response.{Response}
-use Rattle.zone_wire.specs.Outcomes.{HasUnwritable}
-use Rattle.zone_wire.specs.Responses.{IsWritten, records_of}
+use Rattle.message_writing.specs.declared.response.Group.{Group}
+use Rattle.message_writing.specs.declared.response.Response.{Response}
+use Rattle.message_writing.specs.Outcomes.{HasUnwritable}
+use Rattle.message_writing.specs.Responses.{IsWritten, records_of}
 use Rattle.zone_server.specs.declared.answering.Answered.{Answered}
 use Rattle.zone_server.specs.declared.answering.Answered.TheVariants as answered
 use Rattle.zone_server.specs.declared.transport.Transport.{Transport}

@@ -1,10 +1,10 @@
 -- A response of a header alone, where there is no question that could be repeated
 use Rattle.std.specs.Prelude.{◌≡◌, ℕ, ◌+◌, ◌*◌, ◌/◌, ◌%◌, ◌<◌, true, false, if◌then◌else◌, List, [], ◌∷◌, Some, Result, Err}
-use Rattle.zone_message.specs.declared.header.Header.{Header}
-use Rattle.zone_message.specs.declared.query.Query.{Query}
-use Rattle.zone_message.specs.declared.error.ReadError.{ReadError}
-use Rattle.zone_message.specs.declared.error.ReadError.TheVariants.{NotImplemented, Malformed}
-use Rattle.zone_message.specs.Messages.{message_of}
+use Rattle.message_reading.specs.declared.header.Header.{Header}
+use Rattle.message_reading.specs.declared.query.Query.{Query}
+use Rattle.message_reading.specs.declared.error.ReadError.{ReadError}
+use Rattle.message_reading.specs.declared.error.ReadError.TheVariants.{NotImplemented, Malformed}
+use Rattle.message_reading.specs.Messages.{message_of}
 
 -- identifier, opcode and RD are the query's (RFC 1035 section 4.1.1), and AD and CD are clear (RFC 4035 section 3.1.6)
 abbrev pub bare_header : Header → ℕ → Header

@@ -1,7 +1,7 @@
 -- How many octets a response may have
 use Rattle.std.specs.Prelude.{ℕ, min, Option}
-use Rattle.zone_message.specs.declared.query.Extension.{Extension}
-use Rattle.zone_message.specs.Queries.{limit_of}
+use Rattle.message_reading.specs.declared.query.Extension.{Extension}
+use Rattle.message_reading.specs.Queries.{limit_of}
 use Rattle.zone_server.specs.declared.transport.Transport.{Transport}
 use Rattle.zone_server.specs.declared.transport.Transport.TheVariants as transports
 

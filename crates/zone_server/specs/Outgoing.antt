@@ -2,7 +2,7 @@
 use Rattle.std.specs.Prelude.{◌≡◌, List, ◌++◌, map}
 use Rattle.zone_proto.specs.declared.record.Record.{Record}
 use Rattle.zone_response.specs.Sections.{Sections}
-use Rattle.zone_wire.specs.Responses.{records_of, with_ttl}
+use Rattle.message_writing.specs.Responses.{records_of, with_ttl}
 use Rattle.zone_server.specs.declared.groups.Outgoing.{Outgoing}
 use Rattle.zone_server.specs.declared.groups.Signatures.{Signatures}
 use Rattle.zone_server.specs.declared.groups.Signatures.TheVariants as signatures

@@ -1,10 +1,10 @@
 -- What a call says that sends the response to a query
 use Rattle.std.specs.Prelude.{ℕ, ◌<◌, List, Result, Ok, Err}
-use Rattle.zone_message.specs.declared.query.Query.{Query as ReadQuery}
+use Rattle.message_reading.specs.declared.query.Query.{Query as ReadQuery}
 use Rattle.zone_response.specs.Sections.{Sections}
-use Rattle.zone_wire.specs.declared.error.WriteError.{WriteError}
-use Rattle.zone_wire.specs.declared.error.WriteError.TheVariants as errors
-use Rattle.zone_wire.specs.Outcomes.{HasUnwritable}
+use Rattle.message_writing.specs.declared.error.WriteError.{WriteError}
+use Rattle.message_writing.specs.declared.error.WriteError.TheVariants as errors
+use Rattle.message_writing.specs.Outcomes.{HasUnwritable}
 use Rattle.zone_server.specs.Answers.{code_number, records_in, IsSent}
 
 -- why it was not sent, where there is room for header, question and OPT record

@@ -2,9 +2,9 @@
 use Rattle.std.specs.Prelude.{◌≡◌, ℕ, List, [], ◌∷◌, ◌++◌, map, Option, None, Result, Ok, Err}
 use Rattle.std.specs.Bool.{MatchBool}
 use Rattle.std.specs.Io.KnownBytes.{Appends, Consumes, IsAtEnd}
-use Rattle.zone_message.specs.declared.error.ReadError.{ReadError}
-use Rattle.zone_message.specs.declared.query.Query.{Query as ReadQuery}
-use Rattle.zone_message.specs.Queries.{query_of}
+use Rattle.message_reading.specs.declared.error.ReadError.{ReadError}
+use Rattle.message_reading.specs.declared.query.Query.{Query as ReadQuery}
+use Rattle.message_reading.specs.Queries.{query_of}
 use Rattle.zone_handler.specs.declared.axfr_policy.AxfrPolicy.{AxfrPolicy}
 use Rattle.zone_proto.specs.Names.{Name}
 use Rattle.zone_proto.specs.declared.rdata.signing.RRSIG.{RRSIG}

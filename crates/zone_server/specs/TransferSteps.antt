@@ -1,15 +1,15 @@
 -- How far a transfer has come
 use Rattle.std.specs.Prelude.{◌≡◌, ℕ, ◌≤◌, List, [], ◌∷◌, ◌++◌, length, take, drop, Option, Result, Ok, Err}
 use Rattle.zone_proto.specs.declared.record.Record.{Record}
-use Rattle.zone_message.specs.declared.query.Query.{Query as ReadQuery}
+use Rattle.message_reading.specs.declared.query.Query.{Query as ReadQuery}
 use Rattle.zone_handler.specs.declared.axfr_policy.AxfrPolicy.{AxfrPolicy}
 use Rattle.zone_handler.specs.declared.axfr_policy.AxfrPolicy.TheVariants.{Deny}
-use Rattle.zone_wire.specs.declared.error.WriteError.{WriteError}
-use Rattle.zone_wire.specs.declared.error.WriteError.TheVariants as errors
-use Rattle.zone_wire.specs.declared.response.Group.{Group}
-use Rattle.zone_wire.specs.Fronts.{FirstHasNoRoom}
-use Rattle.zone_wire.specs.Outcomes.{HasUnwritable}
-use Rattle.zone_wire.specs.Responses.{all_records}
+use Rattle.message_writing.specs.declared.error.WriteError.{WriteError}
+use Rattle.message_writing.specs.declared.error.WriteError.TheVariants as errors
+use Rattle.message_writing.specs.declared.response.Group.{Group}
+use Rattle.message_writing.specs.Fronts.{FirstHasNoRoom}
+use Rattle.message_writing.specs.Outcomes.{HasUnwritable}
+use Rattle.message_writing.specs.Responses.{all_records}
 use Rattle.zone_server.specs.declared.transfer_writer.Halt.{Halt}
 use Rattle.zone_server.specs.declared.transfer_writer.Halt.TheVariants as halt
 use Rattle.zone_server.specs.declared.transfer_reply.TransferReply.{TransferReply}

@@ -9,10 +9,10 @@ use Rattle.zone_proto.specs.declared.response_code.ResponseCode.TheVariants as c
 use Rattle.zone_proto.specs.Names.{Name, lower, name_eq}
 use Rattle.zone_proto.specs.Sets.{RRset, first_serial, soa_serial}
 use Rattle.zone_proto.specs.Types.{AXFR, IN, SOA}
-use Rattle.zone_message.specs.declared.header.Header.{Header}
-use Rattle.zone_message.specs.declared.query.Query.{Query as ReadQuery}
-use Rattle.zone_message.specs.Messages.{Parts, first_authority_of, message_of}
-use Rattle.zone_message.specs.Octets.{◌>>=◌}
+use Rattle.message_reading.specs.declared.header.Header.{Header}
+use Rattle.message_reading.specs.declared.query.Query.{Query as ReadQuery}
+use Rattle.message_reading.specs.Messages.{Parts, first_authority_of, message_of}
+use Rattle.message_reading.specs.Octets.{◌>>=◌}
 use Rattle.zone_handler.specs.declared.axfr_policy.AxfrPolicy.{AxfrPolicy}
 use Rattle.zone_handler.specs.declared.axfr_policy.AxfrPolicy.TheVariants.{AllowAll, Deny}
 use Rattle.zone_map.specs.Zones.{Sets, set_at}
@@ -20,9 +20,9 @@ use Rattle.zone_response.specs.declared.response.Part.TheVariants as part
 use Rattle.zone_response.specs.Queries.{Zone}
 use Rattle.zone_response.specs.Responses.{bare}
 use Rattle.zone_response.specs.Sections.{Sections, as_it_is}
-use Rattle.zone_wire.specs.Fronts.{HasNoRoomFor}
-use Rattle.zone_wire.specs.Outcomes.{HasUnwritable}
-use Rattle.zone_wire.specs.Responses.{opt_for, with_ttl}
+use Rattle.message_writing.specs.Fronts.{HasNoRoomFor}
+use Rattle.message_writing.specs.Outcomes.{HasUnwritable}
+use Rattle.message_writing.specs.Responses.{opt_for, with_ttl}
 use Rattle.zone_server.specs.declared.transport.Transport.{Transport}
 use Rattle.zone_server.specs.declared.transport.Transport.TheVariants as transports
 use Rattle.zone_server.specs.Answers.{GoesOut, IsSent}

@@ -10,9 +10,9 @@ use crate::bare_header::write_bare_header;
 use crate::sending::{send, send_code};
 use crate::transport::{Transport, limit_for};
 use crate::zones::zone_for;
+use message_reading::{Header, Query, ReadError, read_query};
 use std::alloc::{AllocError, Global};
 use zone_handler::LookupOptions;
-use zone_message::{Header, Query, ReadError, read_query};
 use zone_proto::{LowerName, Nsec3Hash, ResponseCode, Signer};
 use zone_response::{Question, ServedZone, respond};
 

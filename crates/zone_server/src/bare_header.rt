@@ -2,8 +2,8 @@
 ghost use Rattle.std.specs.Prelude.{◌≡◌, ◌<◌, ◌+◌, ◌*◌, OnOk, length, if◌then◌else◌};
 ghost use Rattle.zone_server.specs.BareHeaders.{bare_text, IsBareHeader};
 
+use message_reading::Header;
 use std::alloc::AllocError;
-use zone_message::Header;
 
 /// Writes a response of a header alone, in place of the octets of `out`: what could not be read has no question that could be
 /// repeated.

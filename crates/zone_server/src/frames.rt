@@ -1,6 +1,6 @@
 //! Messages behind their lengths (RFC 1035 section 4.2.2).
 ghost use Rattle.std.specs.Prelude.{◌≡◌, ◌<◌, ◌++◌, OnOk, length, option_map};
-ghost use Rattle.zone_message.specs.Octets.{octets_of, short_of};
+ghost use Rattle.message_reading.specs.Octets.{octets_of, short_of};
 ghost use Rattle.zone_server.specs.Frames.{frame_of, framed, framed_of, length_text, message_then, transport_by};
 
 use crate::transport::Transport;

@@ -2,16 +2,16 @@
 ghost use Rattle.std.specs.Prelude.{◌≡◌, map, IfOk};
 ghost use Rattle.std.specs.List.{list_all};
 ghost use Rattle.zone_proto.specs.declared.record.Record.{Record as RecordData};
-ghost use Rattle.zone_inner.specs.FoundSets.{found_set};
+ghost use Rattle.zone_lookup.specs.FoundSets.{found_set};
 ghost use Rattle.zone_response.specs.Sections.{covers, own_signatures, sent_set};
-ghost use Rattle.zone_wire.specs.Responses.{records_of, with_ttl};
+ghost use Rattle.message_writing.specs.Responses.{records_of, with_ttl};
 ghost use Rattle.zone_server.specs.Answers.{records_sent};
 ghost use Rattle.zone_server.specs.Outgoing.{records_outgoing, signatures_outgoing};
 
+use message_writing::Group;
 use std::alloc::{AllocError, Global};
 use zone_proto::{ProtoError, Record};
 use zone_response::{Part, Sent};
-use zone_wire::Group;
 
 /// What goes out of a set.
 #[derive(Drop)]

@@ -1,7 +1,7 @@
 //! A name server without its sockets: from the octets of a query to those of the response (RFC 1035 section 4), and frames of
 //! messages answered over any reader and writer.
 //!
-//! What a message says is defined in `zone_message`, what a zone answers in `zone_response`, and what is written in `zone_wire`;
+//! What a message says is defined in `message_reading`, what a zone answers in `zone_response`, and what is written in `message_writing`;
 //! here these meet.
 #![tactic(auto)]
 

@@ -4,10 +4,10 @@ ghost use Rattle.zone_response.specs.Sections.{sections};
 ghost use Rattle.zone_server.specs.Outgoing.{AreGroupsOf, AreOutgoing};
 
 use crate::groups::{Outgoing, groups, outgoing_sets};
+use message_writing::Group;
 use std::alloc::{AllocError, Global};
 use zone_proto::ProtoError;
 use zone_response::Response;
-use zone_wire::Group;
 
 /// What goes out of the sets of a response, by its sections.
 #[derive(Drop)]

@@ -10,11 +10,11 @@ ghost use Rattle.zone_server.specs.Transfers.{soa_sections};
 use crate::sections::{GroupedSections, grouped_sections, outgoing_sections};
 use crate::transfer_writer::soa_alone;
 use crate::transport::DATAGRAM_SIZE;
+use message_reading::Query;
+use message_writing::{Response as Message, WriteError, write_response};
 use std::alloc::{AllocError, Global};
-use zone_message::Query;
 use zone_proto::{RecordSet, ResponseCode};
 use zone_response::Response;
-use zone_wire::{Response as Message, WriteError, write_response};
 
 /// Writes the response to a query within a limit, in place of the octets of `out`; where no message has its code, or the data of one
 /// of its records, one of `ServFail`.

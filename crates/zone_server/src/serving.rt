@@ -2,7 +2,7 @@
 ghost use Rattle.std.specs.Prelude.{◌≡◌, ◌<◌, [], None, Ok, length, IfOk, OnOk};
 ghost use Rattle.std.specs.Io.KnownBytes.{ReadConsumes};
 ghost use Rattle.std.specs.Io.{ReadsAtMost};
-ghost use Rattle.zone_message.specs.Queries.{query_of, ReadsQuery};
+ghost use Rattle.message_reading.specs.Queries.{query_of, ReadsQuery};
 ghost use Rattle.zone_server.specs.Frames.{frame_of, framed_of};
 ghost use Rattle.zone_server.specs.Serving.{served_of, Answers, AnswersQuery, IsOneAnswer, Puts, Serves, TakesFrames};
 
@@ -12,9 +12,9 @@ use crate::server::Server;
 use crate::transfer_reply::asks_for_transfer;
 use crate::transfers::answer_transfer;
 use crate::waiting::{Stop, put_answer, write_out};
+use message_reading::{Query, ReadError, read_query};
 use std::alloc::Global;
 use std::io::{ErrorKind, Read, Write};
-use zone_message::{Query, ReadError, read_query};
 use zone_proto::{Nsec3Hash, Signer};
 
 /// How many octets are read at once.

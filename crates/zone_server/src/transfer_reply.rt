@@ -9,10 +9,10 @@ ghost use Rattle.zone_server.specs.Transfers.{asks_for_transfer, client_serial, 
 ghost use Rattle.zone_server.specs.TransferSteps.{first_policy, reply_kept, HasSmallCode};
 
 use crate::transport::Transport;
+use message_reading::{Query, read_first_authority};
 use std::alloc::{AllocError, Global};
 use std::collections::BTreeMap;
 use zone_handler::AxfrPolicy;
-use zone_message::{Query, read_first_authority};
 use zone_proto::{
     DNSClass, LowerName, Nsec3Hash, ProtoError, RData, Record, RecordSet, RecordType, ResponseCode,
     RrKey, Signer,

@@ -1,7 +1,7 @@
 //! A zone in messages one behind the other (RFC 5936 section 2.2).
 ghost use Rattle.std.specs.Prelude.{◌≡◌, ◌⊎◌, ◌≤◌, ◌+◌, ◌++◌, ◌∷◌, [], IfErr, IfOk, OnOk, drop, length, map, take};
-ghost use Rattle.zone_wire.specs.Fronts.{FirstHasNoRoom};
-ghost use Rattle.zone_wire.specs.Responses.{all_records, records_of, with_ttl};
+ghost use Rattle.message_writing.specs.Fronts.{FirstHasNoRoom};
+ghost use Rattle.message_writing.specs.Responses.{all_records, records_of, with_ttl};
 ghost use Rattle.zone_server.specs.Serving.{Puts};
 ghost use Rattle.zone_server.specs.Transfers.{between, groups_sent, joined, one_by_one, records_together, soa_alone, AreBrokenOff, AreSentWhole};
 ghost use Rattle.zone_server.specs.TransferSteps.{Halts, HasSent, HasSentFirst, HasSentSets, WritesMessage};
@@ -9,12 +9,12 @@ ghost use Rattle.zone_server.specs.TransferSteps.{Halts, HasSent, HasSentFirst, 
 use crate::sending::send_code;
 use crate::transport::DATAGRAM_SIZE;
 use crate::waiting::{Stop, put_answer};
+use message_reading::Query;
+use message_writing::{Group, Response as Message, WriteError, write_front};
 use std::alloc::{AllocError, Global};
 use std::collections::BTreeMap;
 use std::io::Write;
-use zone_message::Query;
 use zone_proto::{Record, RecordSet, RecordType, ResponseCode, RrKey};
-use zone_wire::{Group, Response as Message, WriteError, write_front};
 
 /// How many sets wait at most to be put into a message. A message of 65,535 octets mostly has fewer.
 const MOST_WAITING: usize = 4_096;

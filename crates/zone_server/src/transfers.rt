@@ -12,9 +12,9 @@ use crate::transfer_reply::{TransferReply, reply_to};
 use crate::transfer_writer::send_zone;
 use crate::transport::limit_for;
 use crate::waiting::{Stop, put_answer};
+use message_reading::Query;
 use std::alloc::Global;
 use std::io::Write;
-use zone_message::Query;
 use zone_proto::{Nsec3Hash, Signer};
 
 /// Answers a query for a transfer, which a frame's message is read as: by a code or the SOA alone, or by the messages of the zone.

@@ -2,7 +2,7 @@
 ghost use Rattle.std.specs.Prelude.{◌≡◌};
 ghost use Rattle.zone_server.specs.Limits.{limit_for};
 
-use zone_message::Query;
+use message_reading::Query;
 
 /// How many octets the server sends in one datagram, and says that it takes: the 1,280 that every link of IPv6 takes whole (RFC
 /// 8200 section 5), without the 48 of the headers of IPv6 and UDP.

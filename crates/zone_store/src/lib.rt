@@ -20,9 +20,9 @@
 
 /// The program `zonectl`, and what it signs and hashes with.
 pub mod program {
-    pub use zone_program::{DemoSigner, Sha1Hash, run};
+    pub use zonectl_session::{DemoSigner, Sha1Hash, run};
 }
 
 pub use zone_in_memory::{InMemoryZoneHandler, PutRefused, laws};
-pub use zone_inner::{Found, InnerInMemory, Searches, ZoneError};
+pub use zone_lookup::{Found, InnerInMemory, Searches, ZoneError};
 pub use zone_map::{Counter, DenialOwners, Reads};

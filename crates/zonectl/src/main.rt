@@ -19,5 +19,5 @@ fn main(rt: HostRuntime) -> ExitCode {
         return ExitCode::from(2);
     };
     let (mut input, mut output, mut fault) = (rt.reader(), io::writer(&rt), rt.stderr());
-    ExitCode::from(zone_program::run(alloc, &args, &mut input, &mut output, &mut fault))
+    ExitCode::from(zonectl_session::run(alloc, &args, &mut input, &mut output, &mut fault))
 }

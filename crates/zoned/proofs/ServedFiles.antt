@@ -2,11 +2,11 @@
 use Rattle.std.proofs.Common.{◌≡◌, ℕ, List, [], map, Option, unwrap_or}
 use Rattle.zone_proto.specs.Names.{Name, lower}
 use Rattle.zone_file.specs.declared.placed.PlacedRecord.{PlacedRecord}
-use Rattle.zone_loading.specs.declared.loading.Loaded.{Loaded}
-use Rattle.zone_catalog.specs.declared.zone.Zone.{Zone}
-use Rattle.zone_catalog.specs.Texts.{given_of, IsLoaded, IsText}
-use Rattle.zone_catalog.specs.Zones.{zone_of_records}
-use Rattle.zone_catalog.proofs.TextFacts.{served_so}
+use Rattle.zone_builder.specs.declared.loading.Loaded.{Loaded}
+use Rattle.zone_database.specs.declared.zone.Zone.{Zone}
+use Rattle.zone_database.specs.Texts.{given_of, IsLoaded, IsText}
+use Rattle.zone_database.specs.Zones.{zone_of_records}
+use Rattle.zone_database.proofs.TextFacts.{served_so}
 use Rattle.zoned.specs.Zones.{origin_of, IsZoneOfFile}
 
 -- what was loaded of these records is, once it is served, the zone of the file that has them

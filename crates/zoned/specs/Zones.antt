@@ -7,9 +7,9 @@ use Rattle.zone_proto.specs.Names.{Name, lower}
 use Rattle.zone_proto.specs.Types.{SOA}
 use Rattle.zone_handler.specs.declared.axfr_policy.AxfrPolicy.{AxfrPolicy}
 use Rattle.zone_file.specs.declared.placed.PlacedRecord.{PlacedRecord}
-use Rattle.zone_catalog.specs.declared.zone.Zone.{Zone}
-use Rattle.zone_catalog.specs.Texts.{given_of, IsText, IsZoneOf}
-use Rattle.zone_catalog.specs.Zones.{served_zone}
+use Rattle.zone_database.specs.declared.zone.Zone.{Zone}
+use Rattle.zone_database.specs.Texts.{given_of, IsText, IsZoneOf}
+use Rattle.zone_database.specs.Zones.{served_zone}
 use Rattle.zone_server.specs.Serving.{Served}
 use Rattle.zoned.specs.declared.wanted.WantedZone.{WantedZone}
 

@@ -20,7 +20,7 @@ use std::process::ExitCode;
 use std::{env, io};
 use telling::tell;
 use wanted::{Wanted, wanted_by};
-use zone_catalog::Zone;
+use zone_database::Zone;
 use zones::{load_zones, policies};
 
 const USAGE: &[u8] =

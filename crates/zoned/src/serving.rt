@@ -6,7 +6,7 @@ ghost use Rattle.zoned.specs.Zones.{server_of};
 use crate::telling::tell;
 use std::alloc::Global;
 use std::io::{Read, Write};
-use zone_catalog::{Zone, served};
+use zone_database::{Zone, served};
 use zone_handler::AxfrPolicy;
 use zone_server::{Mode, Server, Stop, serve_frames};
 

@@ -3,8 +3,8 @@ ghost use Rattle.std.specs.Prelude.{◌≡◌, List, ℕ, [], Some, map, IfOk, I
 ghost use Rattle.std.specs.List.{find};
 ghost use Rattle.zone_proto.specs.Names.{lower};
 ghost use Rattle.zone_map.specs.Zones.{IsZone};
-ghost use Rattle.zone_catalog.specs.Texts.{given_of, IsLoaded, IsText};
-ghost use Rattle.zone_catalog.specs.Zones.{zone_of_records};
+ghost use Rattle.zone_database.specs.Texts.{given_of, IsLoaded, IsText};
+ghost use Rattle.zone_database.specs.Zones.{zone_of_records};
 ghost use Rattle.zoned.specs.Zones.{is_soa, origin_of, policy_of, IsZoneOfFile};
 
 use crate::telling::{tell, tell_at};
@@ -13,10 +13,10 @@ use std::alloc::{AllocError, Global};
 use std::collections::BTreeMap;
 use std::fs;
 use std::io::{Read, Write};
-use zone_catalog::{Zone, load_records, zone_of};
+use zone_builder::{LoadFault, Loaded};
+use zone_database::{Zone, load_records, zone_of};
 use zone_file::{FaultText, InputError, PlacedRecord, read_zone};
 use zone_handler::AxfrPolicy;
-use zone_loading::{LoadFault, Loaded};
 use zone_proto::{LowerName, Name, ProtoError, RecordType, RrKey};
 
 /// Loads the zones that are wanted. None where one can't be loaded, or two have one origin; why is told.

@@ -8,7 +8,7 @@ ghost use Rattle.zone_map.specs.Zones.{set_at, put, without};
 
 use crate::in_memory_zone_handler::InMemoryZoneHandler;
 use crate::put_refused::PutRefused;
-use zone_inner::ZoneError;
+use zone_lookup::ZoneError;
 use zone_proto::{LowerName, Nsec3Hash, Record, RecordSet, RrKey, Signer};
 
 impl<S: Signer, H: Nsec3Hash> InMemoryZoneHandler<S, H> {

@@ -8,11 +8,11 @@ ghost use Rattle.zone_denial.specs.Nsec3Zones.{IsNsec3Zone, IsCircleName, IsHash
 ghost use Rattle.zone_denial.specs.StarLaws.{OwnsNone, StarIsDenied, Nsec3StarIsDenied};
 ghost use Rattle.zone_handler.specs.Hashing.{digest_for};
 ghost use Rattle.zone_handler.specs.Transfers.{IsNoLookup};
-ghost use Rattle.zone_inner.specs.Replies.{negative_answer};
+ghost use Rattle.zone_lookup.specs.Replies.{negative_answer};
 ghost use Rattle.zone_in_memory.specs.Lookup.{IsLookup, IsAnswered, IsNameError};
-ghost use Rattle.zone_acceptance.specs.Judged.{IsJudged};
-ghost use Rattle.zone_acceptance.specs.Nsec3Judged.{IsNsec3Judged};
-ghost use Rattle.zone_acceptance.specs.Soundness.{IsTopmostCut};
+ghost use Rattle.denial_laws.specs.Judged.{IsJudged};
+ghost use Rattle.denial_laws.specs.Nsec3Judged.{IsNsec3Judged};
+ghost use Rattle.denial_laws.specs.Soundness.{IsTopmostCut};
 ghost use Rattle.zone_in_memory.specs.NsecAnswers.{IsNsecAnswer, HasNsecProof, HasStarProof, HasAcceptedRecords, AgreesWithCircle};
 ghost use Rattle.zone_in_memory.specs.Nsec3Steps.{IsNsec3Answer};
 ghost use Rattle.zone_in_memory.specs.Nsec3Answers.{AgreesWithNsec3Circle, HasNsec3Proof, HasNsec3StarProof, HasAcceptedNsec3Records, HasAskedStarProof, HasNextCloser};
@@ -200,7 +200,7 @@ impl<S: Signer, H: Nsec3Hash> ZoneHandler for InMemoryZoneHandler<S, H> {
     /// have the set of the star under the closest encloser, or one that covers the star. Of names outside the zone nothing is
     /// said.
     ///
-    /// A validator makes of their records what [`InMemoryZoneHandler::lookup`] answers, as `zone_validation`, which knows no
+    /// A validator makes of their records what [`InMemoryZoneHandler::lookup`] answers, as `denial_validation`, which knows no
     /// zone, says: they prove a name error exactly where `NXDomain` is answered, if `name` doesn't begin with `*`, and absent
     /// data, the star that answers or a delegation without DS (RFC 4035 section 5.4). So it is of a name of the zone that no
     /// zone cut and no DNAME stands above, where no name owns NSEC3; but not of RRSIG, ANY and the DS of an apex. What

@@ -1,8 +1,8 @@
 use Rattle.std.proofs.Common.{◌≡◌, subst}
 use Rattle.std.specs.Prelude.{None, Ok, Result}
 use Rattle.zone_proto.specs.declared.rdata.denial.NSEC3PARAM.{NSEC3PARAM as Nsec3Parameters}
-use Rattle.zone_loading.specs.declared.circle.OpenCircle.{OpenCircle}
-use Rattle.zone_loading.specs.Nsec3Circles.{nsec3_difference}
+use Rattle.zone_builder.specs.declared.circle.OpenCircle.{OpenCircle}
+use Rattle.zone_builder.specs.Nsec3Circles.{nsec3_difference}
 use Rattle.zone_sha1.specs.Digests.{name_digest}
 use Rattle.zone_check.proofs.denial.tell_nsec3.Goals as goal
 

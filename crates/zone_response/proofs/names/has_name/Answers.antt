@@ -1,5 +1,5 @@
 use Rattle.std.proofs.Common.{◌∙◌}
-use Rattle.zone_inner.proofs.Chasing.{asked}
+use Rattle.zone_lookup.proofs.Chasing.{asked}
 use Rattle.zone_response.proofs.names.has_name.Goals as goal
 
 pub returns : goal.returns

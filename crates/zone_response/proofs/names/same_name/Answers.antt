@@ -1,5 +1,5 @@
 use Rattle.std.proofs.Common.{◌∙◌}
-use Rattle.zone_inner.proofs.Chasing.{same_test}
+use Rattle.zone_lookup.proofs.Chasing.{same_test}
 use Rattle.zone_response.proofs.names.same_name.Goals as goal
 
 pub returns : goal.returns

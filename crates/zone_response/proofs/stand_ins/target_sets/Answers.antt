@@ -1,7 +1,7 @@
 use Rattle.std.proofs.Common.{map, sym, ap, ◌∙◌, subst}
 use Rattle.std.specs.Prelude.{Some}
-use Rattle.zone_inner.specs.Additionals.{AreAdditionals}
-use Rattle.zone_inner.specs.FoundSets.{found_set, listed_sets}
+use Rattle.zone_lookup.specs.Additionals.{AreAdditionals}
+use Rattle.zone_lookup.specs.FoundSets.{found_set, listed_sets}
 use Rattle.zone_response.proofs.StandInFacts.{targets_listed}
 use Rattle.zone_response.proofs.stand_ins.target_sets.Goals as goal
 

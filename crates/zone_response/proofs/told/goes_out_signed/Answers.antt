@@ -1,5 +1,5 @@
 use Rattle.std.proofs.Common.{ap, ◌∙◌}
-use Rattle.zone_inner.specs.FoundSets.{found_set}
+use Rattle.zone_lookup.specs.FoundSets.{found_set}
 use Rattle.zone_response.specs.Sections.{is_signed}
 use Rattle.zone_response.proofs.SetLists.{signed_out}
 use Rattle.zone_response.proofs.told.goes_out_signed.Goals as goal

@@ -1,7 +1,7 @@
 use Rattle.std.proofs.Common.{◌≡◌, true, take}
 use Rattle.std.specs.List.{list_all}
 use Rattle.zone_proto.specs.declared.record.Record.{Record}
-use Rattle.zone_inner.specs.FoundSets.{found_set}
+use Rattle.zone_lookup.specs.FoundSets.{found_set}
 use Rattle.zone_response.specs.Sections.{covers}
 use Rattle.zone_server.proofs.groups.are_own.Given as goal
 

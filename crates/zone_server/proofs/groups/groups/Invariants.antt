@@ -1,5 +1,5 @@
 use Rattle.std.proofs.Common.{◌≡◌, map, take}
-use Rattle.zone_wire.specs.Responses.{records_of}
+use Rattle.message_writing.specs.Responses.{records_of}
 use Rattle.zone_server.specs.Outgoing.{records_outgoing}
 use Rattle.zone_server.proofs.groups.groups.Given as goal
 

@@ -1,7 +1,7 @@
 use Rattle.std.proofs.Common.{◌≡◌, take}
 use Rattle.std.specs.Prelude.{filter}
 use Rattle.zone_proto.specs.declared.record.Record.{Record}
-use Rattle.zone_inner.specs.FoundSets.{found_set}
+use Rattle.zone_lookup.specs.FoundSets.{found_set}
 use Rattle.zone_response.specs.Sections.{covers}
 use Rattle.zone_server.proofs.groups.own_signatures.Given as goal
 

@@ -1,6 +1,6 @@
 use Rattle.std.proofs.Common.{map, refl, ap, ◌∙◌, arith}
 use Rattle.zone_response.specs.Sections.{sections}
-use Rattle.zone_wire.specs.Responses.{records_of}
+use Rattle.message_writing.specs.Responses.{records_of}
 use Rattle.zone_server.proofs.SentMessages.{sends}
 use Rattle.zone_server.proofs.sending.send_groups.Goals as goal
 

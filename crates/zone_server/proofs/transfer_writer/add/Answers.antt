@@ -1,7 +1,7 @@
 use Rattle.std.proofs.Common.{◌≡◌, [], ◌∷◌, ◌++◌, List, drop, map, take, ap, subst, ◌∙◌}
 use Rattle.std.proofs.lemmas.List.{map-append}
-use Rattle.zone_wire.specs.declared.response.Group.{Group}
-use Rattle.zone_wire.specs.Responses.{records_of}
+use Rattle.message_writing.specs.declared.response.Group.{Group}
+use Rattle.message_writing.specs.Responses.{records_of}
 use Rattle.zone_server.specs.TransferSteps.{HasSentSets}
 use Rattle.zone_server.proofs.TransferRuns.{no_sets_yet, sets_more}
 use Rattle.zone_server.proofs.transfer_writer.add.Goals as goal

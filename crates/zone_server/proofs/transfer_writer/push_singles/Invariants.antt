@@ -1,5 +1,5 @@
 use Rattle.std.proofs.Common.{◌≡◌, ◌++◌, map, take}
-use Rattle.zone_wire.specs.Responses.{records_of, with_ttl}
+use Rattle.message_writing.specs.Responses.{records_of, with_ttl}
 use Rattle.zone_server.specs.Transfers.{one_by_one}
 use Rattle.zone_server.proofs.transfer_writer.push_singles.Given as goal
 

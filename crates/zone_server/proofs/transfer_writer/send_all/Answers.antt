@@ -1,5 +1,5 @@
 use Rattle.std.proofs.Common.{◌<◌, map, refl, arith, rules}
-use Rattle.zone_wire.specs.Responses.{records_of}
+use Rattle.message_writing.specs.Responses.{records_of}
 use Rattle.zone_server.proofs.TransferRuns.{no_sets_yet, sets_halt, sets_more, some_left, some_sent}
 use Rattle.zone_server.proofs.transfer_writer.send_all.Goals as goal
 

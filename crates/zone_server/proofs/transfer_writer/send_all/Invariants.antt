@@ -1,5 +1,5 @@
 use Rattle.std.proofs.Common.{length, map}
-use Rattle.zone_wire.specs.Responses.{records_of}
+use Rattle.message_writing.specs.Responses.{records_of}
 use Rattle.zone_server.specs.TransferSteps.{HasSentFirst}
 use Rattle.zone_server.proofs.transfer_writer.send_all.Given as goal
 

@@ -1,6 +1,6 @@
 use Rattle.std.proofs.Common.{◌≡◌, ◌∷◌, drop, map, take, sym, ap, ◌∙◌, arith, rules}
 use Rattle.std.proofs.lemmas.List.{drop_more}
-use Rattle.zone_wire.specs.Responses.{all_records, records_of}
+use Rattle.message_writing.specs.Responses.{all_records, records_of}
 use Rattle.zone_server.specs.Transfers.{joined}
 use Rattle.zone_server.proofs.TransferFacts.{joined_groups, sets_sent_whole}
 use Rattle.zone_server.proofs.TransferRuns.{first_alone, first_halts, halts_of}

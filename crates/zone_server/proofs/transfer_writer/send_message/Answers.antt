@@ -1,7 +1,7 @@
 use Rattle.std.proofs.Common.{inl, List, ℕ, ◌++◌, map, take, sym, subst}
 use Rattle.std.specs.Prelude.{Err}
-use Rattle.zone_wire.specs.declared.error.WriteError.{WriteError}
-use Rattle.zone_wire.specs.Responses.{all_records, records_of}
+use Rattle.message_writing.specs.declared.error.WriteError.{WriteError}
+use Rattle.message_writing.specs.Responses.{all_records, records_of}
 use Rattle.zone_server.specs.Frames.{framed}
 use Rattle.zone_server.specs.Serving.{Moves}
 use Rattle.zone_server.specs.Transfers.{IsTransferMessage}

@@ -1,5 +1,5 @@
 use Rattle.std.proofs.Common.{◌≡◌, map, refl, sym, arith, rules}
-use Rattle.zone_wire.specs.Responses.{all_records, records_of}
+use Rattle.message_writing.specs.Responses.{all_records, records_of}
 use Rattle.zone_server.specs.Transfers.{joined, one_by_one}
 use Rattle.zone_server.proofs.TransferFacts.{joined_groups, joined_one_by_one}
 use Rattle.zone_server.proofs.TransferRuns.{halts_of, pieces_halt, pieces_more, single_halts, some_left}

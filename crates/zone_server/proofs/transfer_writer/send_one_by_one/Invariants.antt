@@ -1,5 +1,5 @@
 use Rattle.std.proofs.Common.{length, map}
-use Rattle.zone_wire.specs.Responses.{records_of}
+use Rattle.message_writing.specs.Responses.{records_of}
 use Rattle.zone_server.specs.Transfers.{one_by_one}
 use Rattle.zone_server.specs.TransferSteps.{HasSentPieces}
 use Rattle.zone_server.proofs.transfer_writer.send_one_by_one.Given as goal

@@ -1,5 +1,5 @@
 use Rattle.std.proofs.Common.{[], ◌∷◌, ◌++◌, map}
-use Rattle.zone_wire.specs.Responses.{records_of}
+use Rattle.message_writing.specs.Responses.{records_of}
 use Rattle.zone_server.specs.Transfers.{between, groups_sent, records_together, soa_alone}
 use Rattle.zone_server.specs.TransferSteps.{HasSentFirst}
 use Rattle.zone_server.proofs.transfer_writer.send_sets.Given as goal

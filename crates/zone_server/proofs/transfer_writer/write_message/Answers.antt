@@ -1,5 +1,5 @@
 use Rattle.std.proofs.Common.{ap, refl, append-nil, arith}
-use Rattle.zone_wire.specs.Responses.{all_records}
+use Rattle.message_writing.specs.Responses.{all_records}
 use Rattle.zone_server.proofs.TransferRuns.{writes}
 use Rattle.zone_server.proofs.transfer_writer.write_message.Goals as goal
 

@@ -1,6 +1,6 @@
 use Rattle.std.proofs.Common.{sym, subst}
 use Rattle.std.specs.Prelude.{OnOk}
-use Rattle.zone_catalog.specs.Zones.{IsServed}
+use Rattle.zone_database.specs.Zones.{IsServed}
 use Rattle.zone_server.specs.Serving.{Serves}
 use Rattle.zoned.proofs.serving.serve_zones.Goals as goal
 

@@ -1,8 +1,8 @@
 use Rattle.std.proofs.Common.{◌≡◌, ap, sym, ◌∙◌, cond, subst}
 use Rattle.std.specs.Prelude.{Ok, Err, option_map}
 use Rattle.zone_handler.specs.declared.control_flow.LookupControlFlow.TheVariants.{Continue}
-use Rattle.zone_inner.specs.FoundSets.{exists_or_star, found_set, outcome_found, SaysExists}
-use Rattle.zone_inner.specs.Replies.{name_exists, absent, IsAnswer, IsReplyFor, SaysAnswer}
+use Rattle.zone_lookup.specs.FoundSets.{exists_or_star, found_set, outcome_found, SaysExists}
+use Rattle.zone_lookup.specs.Replies.{name_exists, absent, IsAnswer, IsReplyFor, SaysAnswer}
 use Rattle.zone_in_memory.specs.Lookup.{error_of, SaysOrMemory}
 use Rattle.zone_signing.specs.Signatures.{answer_signatures}
 use Rattle.zone_map.specs.Wildcards.{found}

@@ -1,5 +1,5 @@
 use Rattle.std.proofs.Common.{◌≡◌, true≢false, cond, sym, ap, ◌∙◌}
-use Rattle.zone_inner.specs.Replies.{name_exists, absent, is_present}
+use Rattle.zone_lookup.specs.Replies.{name_exists, absent, is_present}
 use Rattle.zone_map.specs.Zones.{Sets, owns_at_or_below}
 use Rattle.zone_in_memory.specs.Lookup.{error_of}
 use Rattle.zone_in_memory.proofs.Denials.{absent_inside, absent_outside}

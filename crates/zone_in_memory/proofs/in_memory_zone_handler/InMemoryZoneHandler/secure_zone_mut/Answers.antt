@@ -4,7 +4,7 @@ use Rattle.std.specs.Prelude.{Option, Some, None, IfErr, OnOk}
 use Rattle.zone_proto.specs.declared.nx_proof_kind.NxProofKind.{NxProofKind}
 use Rattle.zone_handler.specs.declared.secure_error.SecureError.TheVariants as error
 use Rattle.zone_signing.specs.Secured.{IsSecured}
-use Rattle.zone_inner.specs.Securing.{denied_by, with_denials, denial_fault}
+use Rattle.zone_lookup.specs.Securing.{denied_by, with_denials, denial_fault}
 use Rattle.zone_in_memory.specs.Signing.{IsSecuring}
 use Rattle.zone_in_memory.proofs.SecuredZones.{IsSecuring-made}
 use Rattle.zone_in_memory.proofs.in_memory_zone_handler.InMemoryZoneHandler.secure_zone_mut.Goals as goal

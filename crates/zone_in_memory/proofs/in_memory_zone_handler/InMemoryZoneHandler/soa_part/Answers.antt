@@ -3,7 +3,7 @@ use Rattle.std.specs.Prelude.{Ok, Err}
 use Rattle.zone_proto.specs.Names.{Name}
 use Rattle.zone_proto.specs.Types.{SOA}
 use Rattle.zone_handler.specs.declared.control_flow.LookupControlFlow.TheVariants.{Continue}
-use Rattle.zone_inner.specs.Replies.{Reply, IsReplyFor}
+use Rattle.zone_lookup.specs.Replies.{Reply, IsReplyFor}
 use Rattle.zone_in_memory.specs.Lookup.{SaysOrMemory}
 use Rattle.zone_signing.specs.Signatures.{answer_signatures}
 use Rattle.zone_in_memory.specs.Transfers.{HasAnswers}

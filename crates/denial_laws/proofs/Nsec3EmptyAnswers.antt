@@ -1,0 +1,255 @@
+-- What proves by NSEC3 an answer without data, an answer of a star and an unsigned delegation
+use Rattle.std.proofs.Common.{◌≡◌, ◌≢◌, ℕ, Bool, true, false, cond, not, ◌&&◌, ◌||◌, List, [], ◌∷◌, ◌++◌, drop, refl, sym, ap, ◌∙◌, true≢false, ◌⊎◌, inl, inr, arith, eqb-true}
+use Rattle.std.specs.Prelude.{Option, Some, None, Ok, option_map, option_and_then, ◌==◌}
+use Rattle.std.specs.Cmp.{both_ways}
+use Rattle.std.specs.List.{list_any}
+use Rattle.std.specs.Option.{option_map_or}
+use Rattle.zone_proto.specs.declared.rdata.denial.NSEC3PARAM.{NSEC3PARAM as Nsec3Parameters}
+use Rattle.zone_proto.specs.HashedOwners.{owner_or_refusal}
+use Rattle.zone_proto.specs.Names.{Name, name_eq, is_root, is_above, is_at_or_above, IsAtOrAbove, IsAbove, star_under, is_wildcard}
+use Rattle.zone_proto.specs.Sets.{RRset}
+use Rattle.zone_proto.specs.Types.{NS, CNAME, SOA, DS, RRSIG, ANY}
+use Rattle.zone_proto.proofs.Members.{In, any_from_In, or_left, or_right}
+use Rattle.zone_proto.proofs.Names.NameTree.{above_test, is_at_or_above_sound, is_at_or_above_complete}
+use Rattle.zone_proto.proofs.Names.Tree.{above_cases}
+use Rattle.zone_map.specs.AnyTypes.{searched_type}
+use Rattle.zone_map.specs.Direct.{direct}
+use Rattle.zone_map.specs.SearchLaws.{StarIsOfClosestEncloser}
+use Rattle.zone_map.specs.Wildcards.{found, renamed, wildcard, asked_star}
+use Rattle.zone_map.specs.Zones.{Sets, owns, owns_at_or_below}
+use Rattle.zone_map.proofs.Wildcards.{star_is_of_closest_encloser}
+use Rattle.zone_denial.specs.Nsec3Circle.{IsNsec3Type}
+use Rattle.zone_denial.specs.Nsec3Denial.{nsec3_denial}
+use Rattle.zone_denial.specs.Nsec3Names.{nsec3_names}
+use Rattle.zone_denial.specs.Nsec3Zones.{IsNsec3Zone, IsHashed, TellsApart}
+use Rattle.zone_denial.proofs.Names.ExistingAncestors.{exists_from, unowned_absent}
+use Rattle.zone_denial.proofs.Hashed.Nsec3Covers.{IsCover}
+use Rattle.zone_denial.proofs.Hashed.Nsec3Enclosers.{is_named, named_in, IsEnclosed}
+use Rattle.zone_lookup.specs.Replies.{name_exists, nx_domain, negative_answer}
+use Rattle.denial_validation.specs.Encloser.{next_closer}
+use Rattle.denial_validation.specs.Nsec3Proofs.{lists, lists_none, is_wrong_side, denies_type, is_of_unsigned, matches, covers, is_covered, is_denied, proves_name_error, proves_no_data, proves_opted_out, proves_wildcard_no_data, proves_empty_answer, proves_wildcard_answer, shows_unsigned_delegation, proves_unsigned_delegation}
+use Rattle.denial_validation.specs.Nsec3Records.{Nsec3Record}
+use Rattle.denial_laws.specs.Nsec3Acceptance.{Nsec3StarredErrorAccepted}
+use Rattle.denial_laws.specs.Nsec3Judged.{read_nsec3_sets, IsNsec3Judged, IsNsec3JudgedType}
+use Rattle.denial_laws.specs.Judged.{is_parents_ds}
+use Rattle.denial_laws.proofs.EmptyAnswers.{searched_itself, exists_means}
+use Rattle.denial_laws.proofs.NameErrors.{error_means}
+use Rattle.denial_laws.proofs.Nsec3Judging.{listed_type, owned_listed, listed_owned, unlisted, exists_is, there_is, encloser_above, encloser_in, star_in, star_uncut, asked_only, star_there, star_gone, encloser_proved}
+use Rattle.denial_laws.proofs.Nsec3Matches.{covers_is, matches_itself}
+use Rattle.denial_laws.proofs.Nsec3NameErrors.{enclosed, over, of_names, enclosing, error_proved}
+use Rattle.denial_laws.proofs.Nsec3Readings.{record_of}
+use Rattle.denial_laws.proofs.Nsec3Shown.{own_shown, closer_shown}
+use Rattle.denial_laws.proofs.OwnTypes.{neither, differs, own_type, own_alias, own_delegation}
+
+-- ---- where nothing is found at a name of the circle, its record denies the type
+
+module _ {origin : Name} {m : Sets} {hash : Name → Option (List ℕ)} {parameters : Nsec3Parameters} {x : Name} (zone : IsNsec3Zone origin m hash parameters) (apart : TellsApart (IsHashed origin m parameters.opt_out x) hash)
+    (y : Name) (inside : IsAtOrAbove origin y) (t : ℕ) (nothing : direct m y t ≡ None) (signed : t ≢ RRSIG) (any : t ≢ ANY) (child : t ≡ DS → is_parents_ds origin m y ≡ false)
+  where
+    abbrev r : Nsec3Record
+    r = record_of zone apart y
+
+    type_not : lists r t ≡ false
+    type_not = by (lists r t) refl
+      where
+        of : IsNsec3Type origin m y t → ⊥
+        of (inl (k, ne)) = true≢false (sym k ∙ own_type m y t nothing)
+        of (inr (inl (q, why))) = signed q
+        of (inr (inr (q, same))) = true≢false (sym zone.circle.announced ∙ (λ i. owns m (sym same i) (sym q i)) ∙ own_type m y t nothing)
+
+        by : (b : Bool) → lists r t ≡ b → b ≡ false
+        by true e = absurd (of (listed_type zone apart y t e))
+        by false e = refl
+
+    alias_not : lists r CNAME ≡ false
+    alias_not = unlisted zone apart y CNAME (λ e. omega (arith, e)) (λ e. omega (arith, e)) (own_alias m y t nothing)
+
+    not_root : y ≡ [] → ⊥
+    not_root e = root inside
+      where
+        root : IsAtOrAbove origin y → ⊥
+        root ([], q) = zone.below_root (sym q ∙ e)
+        root (l ∷ f, q) = let p : [] ≡ l ∷ (f ++ origin) = sym e ∙ q in cc
+
+    soa_is : lists r SOA ≡ owns m y SOA
+    soa_is =
+        both_ways (lists r SOA) (owns m y SOA) (listed_owned zone apart y SOA (λ e. omega (arith, e)) (λ e. omega (arith, e)))
+        (λ k. owned_listed zone apart y SOA k (λ e. omega (arith, e)))
+
+    wrong_not : is_wrong_side origin r y t ≡ false
+    wrong_not = by (t == DS) refl
+      where
+        delegation : (t == DS) ≡ false → (b : Bool) → lists r NS ≡ b → b && not (lists r SOA) ≡ false
+        delegation d false e = refl
+        delegation d true e =
+            ap not (owned_listed zone apart y SOA (own_delegation m y t nothing not_root d (listed_owned zone apart y NS (λ e. omega (arith, e)) (λ e. omega (arith, e)) e)) (λ e. omega (arith, e)))
+
+        by : (b : Bool) → (t == DS) ≡ b → cond b ((lists r SOA || name_eq y origin) && not (is_root y)) (lists r NS && not (lists r SOA)) ≡ false
+        by true d = ap (λ b. (b || name_eq y origin) && not (is_root y)) soa_is ∙ child (eqb-true t DS d)
+        by false d = delegation d (lists r NS) refl
+
+    type_denied : denies_type origin (record_of zone apart y) y t ≡ true
+    type_denied =
+        λ i. not (wrong_not i) && or_right (lists_none r) (not (t == ANY) && not (lists r t) && not (lists r CNAME)) (λ i. not (differs t ANY any i) && not (type_not i) && not (alias_not i)) i
+
+-- ---- an answer of a star
+
+module _ {origin : Name} {m : Sets} {hash : Name → Option (List ℕ)} {parameters : Nsec3Parameters} {x : Name} (j : IsNsec3Judged origin m hash parameters x) (e : Name) (asked : asked_star m x ≡ Some (star_under e)) where
+  -- a name for which a star is asked isn't on the circle
+  asked_off : is_named origin m parameters.opt_out x ≡ false
+  asked_off = sym (exists_is j x (is_at_or_above_sound origin x j.inside) j.uncut) ∙ law.absent m x (star_under e) asked
+    where
+      law : StarIsOfClosestEncloser
+      law = star_is_of_closest_encloser
+
+  abbrev n : (a : Name) × (c : Name) × IsEnclosed origin m parameters.opt_out x a c
+  n = enclosed j asked_off
+
+  -- what covers its next closer name proves the star
+  star_proved : (rs : List Nsec3Record) → (k : Name) × IsCover j.zone j.apart n.1 k × In (record_of j.zone j.apart k) rs → proves_wildcard_answer origin hash rs x e ≡ true
+  star_proved rs k =
+      ap (λ a. is_at_or_above origin a && is_above a x && option_map_or (is_covered origin hash rs) (next_closer x a) false) same
+      ∙ (λ i. is_at_or_above_complete origin n.0 (encloser_in j n.0 n.2.is_encloser (over j asked_off)) i && (above_test n.0 x).1 (encloser_above j n.0 n.2.is_encloser) i && (ap (λ o. option_map_or (is_covered origin hash rs) o false) n.2.is_closer ∙ covered) i)
+    where
+      same : e ≡ n.0
+      same = ap (drop 1) (asked_only j n.0 n.2.is_encloser (over j asked_off) (star_under e) asked).0
+
+      covered : is_covered origin hash rs n.1 ≡ true
+      covered =
+          any_from_In (λ r. covers origin hash r n.1) (record_of j.zone j.apart k.0) rs k.2
+          (covers_is j.zone j.apart k.0 n.1 k.1.on (inr (n.0, n.2.is_encloser, inl (n.2.closer_at, n.2.closer_below))) ∙ k.1.covered)
+
+-- so do the fewer records of a denial to which a wildcard answered
+pub asked_star_proved : {origin : Name} {m : Sets} {hash : Name → Option (List ℕ)} {parameters : Nsec3Parameters} {x : Name} → IsNsec3Judged origin m hash parameters x
+    → (answer : List RRset) → nsec3_denial m (λ n. owner_or_refusal origin (hash n)) true x ≡ Ok answer → (e : Name) → asked_star m x ≡ Some (star_under e) → proves_wildcard_answer origin hash (read_nsec3_sets answer) x e ≡ true
+asked_star_proved j answer given e asked = star_proved j e asked (read_nsec3_sets answer) (closer_shown j.zone j.apart (n j e asked).0 (n j e asked).1 (n j e asked).2 answer given)
+
+-- ---- the parts
+
+module _ {origin : Name} {m : Sets} {hash : Name → Option (List ℕ)} {parameters : Nsec3Parameters} {x : Name} (j : IsNsec3Judged origin m hash parameters x) (answer : List RRset)
+    (given : nsec3_denial m (λ n. owner_or_refusal origin (hash n)) false x ≡ Ok answer) where
+  abbrev names : List Name
+  names = nsec3_names origin m parameters.opt_out
+
+  abbrev on_circle : Name → Bool
+  on_circle = is_named origin m parameters.opt_out
+
+  abbrev rs : List Nsec3Record
+  rs = read_nsec3_sets answer
+
+  -- a judged name that isn't there is off the circle
+  off_from : owns_at_or_below m x ≡ false → on_circle x ≡ false
+  off_from none = sym (there_is j) ∙ none
+
+  in_names : on_circle x ≡ true → In x names
+  in_names e = named_in origin m parameters.opt_out x e
+
+  pub error_accepted : is_wildcard x ≡ false → negative_answer origin m x ≡ nx_domain → proves_name_error origin hash rs x ≡ true
+  error_accepted plain e =
+      let r = error_means origin m x e in
+      let off = off_from r.0 in
+      let n = enclosed j off in
+      error_proved j off answer given (star_gone j n.0 n.2.is_encloser (over j off) plain r.0 r.1)
+
+  pub no_data : (signed : Bool) (t : ℕ) → IsNsec3JudgedType origin m parameters.opt_out x t → found m signed x (searched_type m x t) ≡ None → on_circle x ≡ true → proves_no_data origin hash rs x t ≡ true
+  no_data signed t deniable nothing on =
+      λ i. j.inside i && any_from_In (λ r. matches origin hash r x && denies_type origin r x t) (record_of j.zone j.apart x) rs (own_shown j.zone j.apart (in_names on) answer given)
+      (λ i. matches_itself j.zone j.apart x (in_names on) i
+      && type_denied j.zone j.apart x (is_at_or_above_sound origin x j.inside) t
+      (ap (direct m x) (sym (searched_itself m x t deniable.one_type)) ∙ (neither (direct m x (searched_type m x t)) (wildcard m signed x (searched_type m x t)) nothing).0) deniable.no_signature
+      deniable.one_type deniable.no_apex i) i
+
+  pub wildcard_no_data : (signed : Bool) (t : ℕ) → IsNsec3JudgedType origin m parameters.opt_out x t → found m signed x (searched_type m x t) ≡ None → negative_answer origin m x ≡ name_exists → owns_at_or_below m x ≡ false
+      → proves_wildcard_no_data origin hash rs x t ≡ true
+  wildcard_no_data signed t deniable nothing e none =
+      encloser_proved j n.0 n.1 n.2 rs (of_names j off answer given) up off (enclosing j off answer given) (λ a. is_denied origin hash rs (star_under a) t)
+      (any_from_In (λ r. matches origin hash r star && denies_type origin r star t) (record_of j.zone j.apart star) rs ((enclosing j off answer given).star_on on)
+      (λ i. matches_itself j.zone j.apart star on i
+      && type_denied j.zone j.apart star (star_in j n.0 n.2.is_encloser up) t at_star deniable.no_signature deniable.one_type (λ d. deniable.no_star_apex d n.0 n.2.is_encloser) i))
+    where
+      off : on_circle x ≡ false
+      off = off_from none
+
+      n : (a : Name) × (c : Name) × IsEnclosed origin m parameters.opt_out x a c
+      n = enclosed j off
+
+      up : IsAbove origin x
+      up = over j off
+
+      star : Name
+      star = star_under n.0
+
+      there : (asked_star m x ≡ Some star) × (on_circle star ≡ true)
+      there = star_there j n.0 n.2.is_encloser up (exists_means origin m x none e)
+
+      on : In star names
+      on = named_in origin m parameters.opt_out star there.1
+
+      lost : (o : Option RRset) → option_map (renamed signed star x) o ≡ None → o ≡ None
+      lost None e = refl
+      lost (Some s) e = absurd cc
+
+      at_star : direct m star t ≡ None
+      at_star =
+          lost (direct m star t)
+          (sym (ap (option_and_then (λ s. option_map (renamed signed s x) (direct m s t))) there.0)
+          ∙ (neither (direct m x t) (wildcard m signed x t) (ap (found m signed x) (sym (searched_itself m x t deniable.one_type)) ∙ nothing)).1)
+
+  -- any of them
+  pub empty_accepted : (signed : Bool) (t : ℕ) → IsNsec3JudgedType origin m parameters.opt_out x t → found m signed x (searched_type m x t) ≡ None → negative_answer origin m x ≡ name_exists
+      → proves_empty_answer origin hash rs x t ≡ true
+  empty_accepted signed t deniable nothing e = by (on_circle x) refl
+    where
+      first : Bool
+      first = proves_no_data origin hash rs x t
+
+      second : Bool
+      second = proves_opted_out origin hash rs x
+
+      by : (b : Bool) → on_circle x ≡ b → first || second || proves_wildcard_no_data origin hash rs x t ≡ true
+      by true on = or_left (first || second) (proves_wildcard_no_data origin hash rs x t) (or_left first second (no_data signed t deniable nothing on))
+      by false off = or_right (first || second) (proves_wildcard_no_data origin hash rs x t) (wildcard_no_data signed t deniable nothing e (there_is j ∙ off))
+
+  pub wildcard_accepted : (e : Name) → asked_star m x ≡ Some (star_under e) → proves_wildcard_answer origin hash rs x e ≡ true
+  wildcard_accepted e asked =
+      let off = asked_off j e asked in
+      let s = enclosing j off answer given in
+      star_proved j e asked rs (s.cover, s.is_cover, s.has_cover)
+
+  pub delegation_accepted : owns m x NS ≡ true → owns m x DS ≡ false → owns m x SOA ≡ false → proves_unsigned_delegation origin hash rs x ≡ true
+  delegation_accepted ns ds soa = or_left (shows_unsigned_delegation origin hash rs x) (proves_opted_out origin hash rs x) (λ i. below (above_cases origin x (is_at_or_above_sound origin x j.inside)) i && own i)
+    where
+      on : on_circle x ≡ true
+      on = sym (exists_is j x (is_at_or_above_sound origin x j.inside) j.uncut) ∙ exists_from m x x NS ns refl ([], refl)
+
+      below : (origin ≡ x) ⊎ IsAbove origin x → is_above origin x ≡ true
+      below (inl e) = absurd (true≢false (sym (j.unreferred x ([], e) ns) ∙ soa))
+      below (inr u) = (above_test origin x).1 u
+
+      own : list_any (λ r. matches origin hash r x && is_of_unsigned r) rs ≡ true
+      own =
+          any_from_In (λ r. matches origin hash r x && is_of_unsigned r) (record_of j.zone j.apart x) rs (own_shown j.zone j.apart (in_names on) answer given)
+          (λ i. matches_itself j.zone j.apart x (in_names on) i
+          && (owned_listed j.zone j.apart x NS ns (λ e. omega (arith, e)) i && not (unlisted j.zone j.apart x DS (λ e. omega (arith, e)) (λ e. omega (arith, e)) ds i)
+          && not (unlisted j.zone j.apart x SOA (λ e. omega (arith, e)) (λ e. omega (arith, e)) soa i)))
+
+-- ---- a starred name
+
+pub nsec3_starred_error_accepted : Nsec3StarredErrorAccepted
+nsec3_starred_error_accepted origin m hash parameters x e j is none denied answer given =
+    error_proved j off answer given (sym (exists_is j (star_under n.0) (star_in j n.0 n.2.is_encloser up) (star_uncut j n.0 n.2.is_encloser up)) ∙ unowned_absent m (star_under n.0) gone)
+  where
+    off : is_named origin m parameters.opt_out x ≡ false
+    off = sym (there_is j) ∙ (error_means origin m x denied).0
+
+    n : (a : Name) × (c : Name) × IsEnclosed origin m parameters.opt_out x a c
+    n = enclosed j off
+
+    up : IsAbove origin x
+    up = over j off
+
+    gone : owns_at_or_below m (star_under n.0) ≡ false
+    gone = ap (λ a. owns_at_or_below m (star_under a)) (same_value n.0 e (sym n.2.is_encloser ∙ is)) ∙ none
+      where
+        same_value : (a b : Name) → Some a ≡ Some b → a ≡ b
+        same_value a b q = cc

@@ -1,0 +1,8 @@
+use Rattle.std.proofs.Common.{take}
+use Rattle.std.specs.Fmt.{HasWritten, IsPlainFormatter}
+use Rattle.line_text.specs.Denial.{types_text}
+use Rattle.line_text.proofs.data.denial.TypesTextDisplay.fmt.Given as goal
+
+abbrev pub invariant-loop-record_type : goal.invariant-loop-record_type
+invariant-loop-record_type g l =
+    IsPlainFormatter l.initial.f → HasWritten g.W.Write.write_str_gives l.initial.f (types_text (take l.record_type-index l.record_type-items)) l.f

@@ -1,0 +1,8 @@
+use Rattle.std.proofs.Common.{◌≡◌, ◌-◌}
+use Rattle.message_reading.specs.Messages.{several, question_of}
+use Rattle.message_reading.proofs.Sections.{with_front}
+use Rattle.message_reading.proofs.message_reader.questions_of.Given as goal
+
+abbrev pub invariant-loop : goal.invariant-loop
+invariant-loop l =
+    with_front l.questions.items (several (question_of l.message) (l.count - l.counter) l.rest) ≡ several (question_of l.message) l.count l.octets

@@ -1,0 +1,63 @@
+use Rattle.std.proofs.Common.{true, false, ◌+◌, take, ap, subst, ◌∙◌, arith, rules}
+use Rattle.message_writing.specs.Outcomes.{IsPutWithin}
+use Rattle.message_writing.specs.Responses.{all_records, records_of}
+use Rattle.message_writing.proofs.InOrder.{all_grow}
+use Rattle.message_writing.proofs.Failures.{group_fails}
+use Rattle.message_writing.proofs.Sections.{count_more, section_cut, section_more, section_whole}
+use Rattle.message_writing.proofs.body_writer.write_section.Goals as goal
+
+pub loop-group-preserved : goal.loop-group-preserved
+loop-group-preserved c =
+    let gs = c.args.groups.now in
+    let i = c.loop-group.group-index in
+    let g = c.group-item.result in
+    let put = subst (λ n. IsPutWithin n c.loop-group.out.items c.write_group.new.out.items (records_of g) true) c.loop-group.invariant.room
+    (subst (λ b. IsPutWithin c.loop-group.writing.room c.loop-group.out.items c.write_group.new.out.items (records_of g) b) c.if-not-branch.false
+    c.in_ok-write_group.ensures.ok) in
+    record {
+      written = section_more gs i c.args.writing.now.room g c.args.out.now.items c.loop-group.out.items c.write_group.new.out.items c.loop-group-test.true
+          c.group-item.is c.loop-group.invariant.written put;
+      counted = ap (λ n. c.loop-group.count + n) c.count_of.ensures
+          ∙ count_more gs i c.loop-group.count g c.loop-group-test.true c.group-item.is c.loop-group.invariant.counted;
+      within = put.1;
+      room = c.in_ok-write_group.ensures.room ∙ c.loop-group.invariant.room;
+    }
+
+pub returns-then-not-branch-clause-ok : goal.returns-then-not-branch-clause-ok
+returns-then-not-branch-clause-ok c =
+    let g = c.group-item.result in
+    section_cut c.args.groups.now c.loop-group.group-index c.args.writing.now.room c.loop-group.count g c.args.out.now.items c.loop-group.out.items
+    c.write_group.new.out.items c.loop-group-test.true c.group-item.is c.loop-group.invariant.written c.loop-group.invariant.counted
+    (subst (λ n. IsPutWithin n c.loop-group.out.items c.write_group.new.out.items (records_of g) false) c.loop-group.invariant.room
+    (subst (λ b. IsPutWithin c.loop-group.writing.room c.loop-group.out.items c.write_group.new.out.items (records_of g) b) c.if-not-branch.true
+    c.in_ok-write_group.ensures.ok))
+
+pub returns-clause-ok : goal.returns-clause-ok
+returns-clause-ok c =
+    section_whole c.args.groups.now c.loop-group.group-index c.args.writing.now.room c.loop-group.count c.args.out.now.items c.loop-group.out.items
+    (omega (arith, c.loop-group-test.false)) c.loop-group.invariant.written c.loop-group.invariant.counted
+
+pub returns-in_err-write_group-clause-err : goal.returns-in_err-write_group-clause-err
+returns-in_err-write_group-clause-err c =
+    let told = group_fails c.args.groups.now c.loop-group.group-index c.group-item.result c.in_err-write_group.field-0.0 c.loop-group-test.true c.group-item.is
+    c.in_err-write_group.ensures.err in
+    search (rules, told)
+
+pub overflow_add-count : goal.overflow_add-count
+overflow_add-count c =
+    let gs = c.args.groups.now in
+    let i = c.loop-group.group-index in
+    let g = c.group-item.result in
+    let old = c.args.out.now.items in
+    let new = c.write_group.new.out.items in
+    let put = subst (λ b. IsPutWithin c.loop-group.writing.room c.loop-group.out.items new (records_of g) b) c.if-not-branch.false
+    c.in_ok-write_group.ensures.ok in
+    let more = section_more gs i c.loop-group.writing.room g old c.loop-group.out.items new c.loop-group-test.true c.group-item.is
+    c.loop-group.invariant.written put in
+    omega (
+      arith,
+      all_grow old new (all_records (take (i + 1) gs)) more,
+      count_more gs i c.loop-group.count g c.loop-group-test.true c.group-item.is c.loop-group.invariant.counted,
+      c.count_of.ensures,
+      c.write_group.new.out.small,
+    )

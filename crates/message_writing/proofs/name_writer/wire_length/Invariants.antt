@@ -1,0 +1,9 @@
+use Rattle.std.proofs.Common.{◌≡◌, ◌+◌, ◌≤◌}
+use Rattle.zone_proto.specs.Names.{wire_length}
+use Rattle.message_writing.proofs.name_writer.wire_length.Given as goal
+
+abbrev pub invariant-loop-label : goal.invariant-loop-label
+invariant-loop-label l = record {
+  counted : l.octets + wire_length l.label-iterator ≡ wire_length l.fn.name + 1;
+  short : wire_length l.fn.name ≤ 255;
+}

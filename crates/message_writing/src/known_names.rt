@@ -1,0 +1,104 @@
+//! Names that a message has already, to which a pointer may lead (RFC 1035 section 4.1.4).
+ghost use Rattle.std.specs.Prelude.{◌≡◌, ◌≤◌, ◌<◌, ◌∷◌, ◌++◌, IsTrue, IfSome, length, option_map};
+ghost use Rattle.message_writing.specs.KnownNames.{IsKnown, StandsAt};
+ghost use Rattle.message_reading.specs.MessageNames.{lead};
+
+use zone_proto::Labels;
+
+/// The first of these offsets at which these labels stand, followed by nothing else; this label is the first of them. The offsets
+/// are hints: each is looked at.
+pub(crate) fn find(out: &[u8], hints: &[u16], first: &[u8], labels: &Labels<'_>) -> Option<u16>
+    ensures { IfSome result (λ p. IsKnown out.now p labels.now) }
+{
+    for hint in hints {
+        let offset = *hint;
+        if offset >= 12
+            && offset < 16384
+            && may_stand(out, usize::from(offset), first)
+            && stands_at(out, usize::from(offset), labels.clone())
+        {
+            return Some(offset);
+        }
+    }
+    None
+}
+
+/// Whether a label may stand at an offset: its length does, and its last octet, which tell most labels apart.
+fn may_stand(out: &[u8], offset: usize, label: &[u8]) -> bool {
+    let end = offset.saturating_add(label.len());
+    match (out.get(offset), out.get(end), label.last()) {
+        (Some(count), Some(octet), Some(last)) => {
+            usize::from(*count) == label.len() && *octet == *last
+        }
+        _ => false,
+    }
+}
+
+/// Whether the name at this offset has exactly these labels, their case included; the pointers on the way are followed.
+fn stands_at(out: &[u8], offset: usize, labels: Labels<'_>) -> bool
+    ensures { IsTrue result → StandsAt out.now offset labels.entry }
+{
+    if offset > out.len() {
+        return false;
+    }
+    let mut left = labels;
+    let mut before = offset;
+    let mut octets = &out[offset..];
+    for _ in 0..127usize {
+        let Some((first, rest)) = octets.split_first() else {
+            return false;
+        };
+        if *first == 0 {
+            return match left.next() {
+                None => true,
+                Some(_) => false,
+            };
+        }
+        if *first < 64 {
+            let Some(label) = left.next() else {
+                return false;
+            };
+            let Some(after) = after_label(octets, label) else {
+                return false;
+            };
+            octets = after;
+        } else {
+            if *first < 192 {
+                return false;
+            }
+            let Some((target, _)) = lead(before, *first, rest) else {
+                return false;
+            };
+            before = target;
+            octets = &out[target..];
+        }
+    }
+    false
+}
+
+/// What stands after this label and its length, where octets begin with them.
+fn after_label<'o>(octets: &'o [u8], label: &[u8]) -> Option<&'o [u8]>
+    ensures { IfSome result (λ after. octets.now
+        ≡ length label.now ∷ (label.now ++ after.now)) }
+{
+    let (count, rest) = octets.split_first()?;
+    if usize::from(*count) != label.len() || rest.len() < label.len() {
+        return None;
+    }
+    let (front, after) = rest.split_at(label.len());
+    if *front == *label { Some(after) } else { None }
+}
+
+/// Where the pointer leads whose first octet this is, before an offset, and what stands after it.
+fn lead(before: usize, high: u8, rest: &[u8]) -> Option<(usize, &[u8])>
+    requires { 192 ≤ high }
+    ensures { option_map (λ x. (x.0, x.1.now)) result ≡ lead before high rest.now }
+{
+    let (low, after) = rest.split_first()?;
+    let target = usize::from(high - 192) * 256 + usize::from(*low);
+    if target >= 12 && target < before {
+        Some((target, after))
+    } else {
+        None
+    }
+}

@@ -1,0 +1,26 @@
+//! Responses written as DNS messages (RFC 1035 section 4.1), with compression, within a limit of octets.
+//!
+//! What octets say is defined by reading, in message_reading. What is written is said by reading alone: it reads back as what it was
+//! written of, whatever follows it. A call that takes memory answers a `Result`, and where a growth is refused it answers `Memory`.
+#![tactic(auto)]
+
+mod body_writer;
+mod data_writer;
+mod denial_writer;
+mod error;
+mod front_writer;
+mod group_writer;
+mod hints;
+mod known_names;
+mod name_writer;
+mod numbers;
+mod record_writer;
+mod response;
+mod response_writer;
+mod type_map;
+mod writable;
+
+pub use error::WriteError;
+pub use front_writer::write_front;
+pub use response::{Group, Response};
+pub use response_writer::write_response;

@@ -1,5 +1,0 @@
-use Rattle.zone_acceptance.proofs.Soundness.{name_error_sound}
-use Rattle.zone_acceptance.proofs.laws.name_errors_are_sound.Goals as goal
-
-pub returns : goal.returns
-returns c = name_error_sound

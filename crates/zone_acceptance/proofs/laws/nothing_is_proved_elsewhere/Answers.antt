@@ -1,8 +1,0 @@
-use Rattle.zone_acceptance.proofs.Silence.{nothing_below_cut, nothing_outside}
-use Rattle.zone_acceptance.proofs.laws.nothing_is_proved_elsewhere.Goals as goal
-
-pub returns-clause-below_cut : goal.returns-clause-below_cut
-returns-clause-below_cut c = nothing_below_cut
-
-pub returns-clause-outside : goal.returns-clause-outside
-returns-clause-outside c = nothing_outside

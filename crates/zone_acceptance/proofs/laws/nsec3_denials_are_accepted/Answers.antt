@@ -1,5 +1,0 @@
-use Rattle.zone_acceptance.proofs.Nsec3Accepted.{nsec3_denial_accepted}
-use Rattle.zone_acceptance.proofs.laws.nsec3_denials_are_accepted.Goals as goal
-
-pub returns : goal.returns
-returns c = nsec3_denial_accepted

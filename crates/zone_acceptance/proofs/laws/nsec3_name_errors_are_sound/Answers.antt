@@ -1,5 +1,0 @@
-use Rattle.zone_acceptance.proofs.Nsec3Soundness.{nsec3_name_error_sound}
-use Rattle.zone_acceptance.proofs.laws.nsec3_name_errors_are_sound.Goals as goal
-
-pub returns : goal.returns
-returns c = nsec3_name_error_sound

@@ -1,0 +1,53 @@
+use Rattle.std.proofs.Common.{rules, ◌≡◌, [], sym, ap, ◌∙◌, subst}
+use Rattle.std.specs.Prelude.{Option, Result, Ok, Err, IfOk, option_and_then}
+use Rattle.std.specs.List.{AllByRecursion}
+use Rattle.std.specs.Map.{lookup}
+use Rattle.std.specs.Vec.Iter.{into_iter_items, into_iter_deque}
+use Rattle.std.proofs.lemmas.List.{nil_from_length}
+use Rattle.std.proofs.lemmas.List.Elements.{All-nil}
+use Rattle.zone_proto.specs.declared.error.ProtoError.{ProtoError}
+use Rattle.zone_proto.specs.declared.rr_key.RrKey.{RrKey}
+use Rattle.zone_proto.specs.Keys.{key_eq}
+use Rattle.zone_proto.specs.Sets.{RRset}
+use Rattle.zone_map.specs.Zones.{Sets, set_at, IsStoredAt, AreStored}
+use Rattle.zone_builder.specs.Groups.{IsGroupOf}
+use Rattle.zone_builder.specs.Sets.{set_in}
+use Rattle.zone_builder.proofs.Making.{set_more, sorted_left, sets_with}
+use Rattle.zone_builder.proofs.sets.sets_of.Goals as goal
+
+-- a map of sets has what is told of these
+told : (sets : Sets) (is : RrKey → Option RRset) (r : Result Sets ProtoError) → ((k : RrKey) → set_at sets k.name k.record_type.0 ≡ is k) → IfOk r (λ map. map ≡ sets)
+    → IfOk r (λ map. (k : RrKey) → set_at map k.name k.record_type.0 ≡ is k)
+told sets is (Ok map) found h = λ k. ap (λ (m : Sets). set_at m k.name k.record_type.0) h ∙ found k
+told sets is (Err e) found h = tt
+
+pub put_set-requires : goal.put_set-requires
+put_set-requires c = (subst (AllByRecursion (λ e. IsGroupOf e.0 e.1)) c.in-Some.ensures.steps.0 c.loop-key.invariant.groups).0
+
+pub loop-key-preserved : goal.loop-key-preserved
+loop-key-preserved c = record {
+  groups = (subst (AllByRecursion (λ e. IsGroupOf e.0 e.1)) c.in-Some.ensures.steps.0 c.loop-key.invariant.groups).1;
+  ordered = sorted_left c.in-Some.key c.in-Some.group (into_iter_items c.next.new.self) (into_iter_items c.loop-key.key-iterator) c.in-Some.ensures.steps.0 c.loop-key.invariant.ordered;
+  stored = c.in_ok-put_set.ensures.stored c.loop-key.invariant.stored;
+  sets = λ k. set_more c.args.serial c.loop-key.sets.items c.put_set.new.sets.items c.in-Some.key c.in-Some.group (into_iter_items c.next.new.self) (into_iter_items c.loop-key.key-iterator) c.in_ok-put_set.ensures.ok c.in-Some.ensures.steps.0 c.loop-key.invariant.ordered k ∙ c.loop-key.invariant.sets k;
+}
+
+pub from_entries-requires : goal.from_entries-requires
+from_entries-requires c = c.loop-key.invariant.stored
+
+pub returns-clause-ok : goal.returns-clause-ok
+returns-clause-ok c =
+    let left = c.loop-key.key-iterator in
+    let none : into_iter_items left ≡ [] = nil_from_length (into_iter_items left) (sym (into_iter_deque left).ok.0 ∙ c.in-None.ensures.steps.0) in
+    told _ (λ k. option_and_then (set_in c.args.serial) (lookup (key_eq k) c.args.groups.items)) c.from_sets.result
+    (λ k. c.in_ok-sets-2.ensures.ok k.name k.record_type.0
+    ∙ ap (λ es. sets_with c.args.serial es c.loop-key.sets.items k) (sym none) ∙ c.loop-key.invariant.sets k)
+    c.from_sets.ensures.ok
+
+pub loop-key-init : goal.loop-key-init
+loop-key-init c = record {
+  groups = search rules;
+  ordered = search rules;
+  stored = subst AreStored (sym c.in_ok-sets.ensures.items) (All-nil (λ e. IsStoredAt e.0.name e.0.record_type.0 e.1));
+  sets = λ k. search rules;
+}

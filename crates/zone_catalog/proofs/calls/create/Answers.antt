@@ -1,6 +1,0 @@
-use Rattle.std.proofs.Common.{◌∙◌, ap}
-use Rattle.zone_catalog.specs.Catalogs.{zones_in}
-use Rattle.zone_catalog.proofs.calls.create.Goals as goal
-
-pub returns-in-Ok : goal.returns-in-Ok
-returns-in-Ok c = (c.in-Ok.catalog.value, ap zones_in c.in-Ok.ensures.ok ∙ c.new.ensures, c.put.ensures)

@@ -1,5 +1,0 @@
-use Rattle.zone_catalog.proofs.OwnDenials.{zones_have_own_denials}
-use Rattle.zone_catalog.proofs.laws.zones_have_own_denials.Goals as goal
-
-pub returns : goal.returns
-returns c = zones_have_own_denials

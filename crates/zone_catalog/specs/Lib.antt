@@ -1,8 +1,0 @@
-pub mod Calls
-pub mod Catalogs
-pub mod ChainsBeside
-pub mod Denials
-pub mod Holding
-pub mod Outcomes
-pub mod Texts
-pub mod Zones

@@ -1,5 +1,0 @@
-use Rattle.zone_commands.proofs.TranscriptFacts.{no_command_changes_nothing}
-use Rattle.zone_commands.proofs.laws.no_command_changes_nothing.Goals as goal
-
-pub returns : goal.returns
-returns g c = no_command_changes_nothing _ g.S.Session.carries

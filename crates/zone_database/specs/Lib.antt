@@ -1,0 +1,8 @@
+pub mod Calls
+pub mod Databases
+pub mod ChainsBeside
+pub mod Denials
+pub mod Holding
+pub mod Outcomes
+pub mod Texts
+pub mod Zones

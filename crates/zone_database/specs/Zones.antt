@@ -1,0 +1,36 @@
+-- A zone that is served
+use Rattle.std.specs.Prelude.{◌≡◌, ℕ, List, [], map, Option, None, unwrap_or}
+use Rattle.zone_proto.specs.declared.rdata.signing.RRSIG.{RRSIG}
+use Rattle.zone_proto.specs.Names.{Name}
+use Rattle.zone_proto.specs.Signing.{SignedPart}
+use Rattle.zone_map.specs.Zones.{Sets, IsZone}
+use Rattle.zone_response.specs.declared.question.ServedZone.{ServedZone}
+use Rattle.zone_response.specs.Queries.{zone_of, HasOwnDenials}
+use Rattle.zone_response.specs.Queries as queries
+use Rattle.zone_sha1.specs.declared.sha1_hash.Sha1Hash.{Sha1Hash}
+use Rattle.zone_database.specs.declared.static_signer.StaticSigner.{StaticSigner}
+use Rattle.zone_database.specs.declared.zone.Zone.{Zone}
+use Rattle.zone_database.specs.ChainsBeside.{chain_beside}
+use Rattle.zone_database.specs.Denials.{denial_kind}
+use Rattle.zone_sha1.specs.Digests.{name_digest}
+use Rattle.zone_signing.specs.Signatures.{answer_signatures}
+
+-- no signer of these zones signs
+abbrev pub never_signed : StaticSigner → SignedPart → ℕ → ℕ → Option RRSIG
+never_signed signer part inception class = None
+
+-- a zone as a query finds it: its denials are looked up among the sets of one chain, where there are others besides
+abbrev pub served_zone : Zone → queries.Zone
+served_zone z = record { origin = z.origin; sets = z.inner.records; denials = unwrap_or z.denials z.inner.records; nx_proof_kind = z.nx_proof_kind; digest_of = name_digest; sign = λ signed. answer_signatures never_signed 0 signed z.inner.signers }
+
+-- zones as they are asked
+abbrev pub IsServed : List Zone → List (ServedZone StaticSigner Sha1Hash) → Type 0
+IsServed zs served = map (zone_of never_signed (λ h. name_digest)) served ≡ map served_zone zs
+
+-- the zone of an origin with these sets, which nobody signs here
+abbrev pub zone_of_records : Name → Sets → Zone
+zone_of_records origin sets = record { origin = origin; inner = record { records = sets; signers = [] }; nx_proof_kind = denial_kind sets origin; denials = chain_beside (denial_kind sets origin) sets }
+
+-- its denials are looked up among sets of its own
+abbrev pub ZonesHaveOwnDenials : Type 0
+ZonesHaveOwnDenials = (origin : Name) (m : Sets) → IsZone m → HasOwnDenials (served_zone (zone_of_records origin m))

@@ -1,0 +1,132 @@
+//! The sets in which a zone's denials are looked up, where it has NSEC or NSEC3 sets of several chains.
+ghost use Rattle.std.specs.Prelude.{◌≡◌, IfOk, IsOkUnless, OnOk, option_copied};
+ghost use Rattle.zone_map.specs.Upserts.{is_denial_type};
+ghost use Rattle.zone_map.specs.Zones.{put, IsStoredAt};
+ghost use Rattle.zone_denial.specs.Chains.{chain_sets, has_parameters, is_of_chain, stays};
+ghost use Rattle.zone_denial.specs.Nsec3Circle.{first_nsec3};
+ghost use Rattle.zone_database.specs.ChainsBeside.{chain_beside, has_others};
+
+use std::alloc::Global;
+use zone_map::RecordMap;
+use zone_proto::{NSEC3, NxProofKind, ProtoError, RData, RecordSet, RecordType, RrKey};
+
+/// A zone's sets without the NSEC and NSEC3 sets that don't belong to the chain by which it denies: those of another chain, or of
+/// the remains of one, with which a proof mustn't be mixed (RFC 5155 section 7.3). None where it has none of these. Refused by
+/// `Memory` alone.
+pub(crate) fn chain_beside(
+    alloc: Global,
+    kind: Option<&NxProofKind>,
+    records: &RecordMap,
+) -> Result<Option<RecordMap>, ProtoError>
+    ensures chain { IfOk result
+        (λ chain. chain ≡ chain_beside (option_copied kind.entry) records.now) }
+    ensures err { IsOkUnless result ProtoError.Memory }
+{
+    if has_others(kind, records) {
+        Ok(Some(chain_sets(alloc, kind, records)?))
+    } else {
+        Ok(None)
+    }
+}
+
+/// Whether a set of denial doesn't belong to the chain.
+fn has_others(kind: Option<&NxProofKind>, records: &RecordMap) -> bool
+    ensures { result ≡ has_others (option_copied kind.entry) records.now }
+{
+    for (key, set) in records.iter() {
+        if !stays(kind, key.record_type, set) {
+            return true;
+        }
+    }
+    false
+}
+
+/// Copies of the sets that stay.
+fn chain_sets(
+    alloc: Global,
+    kind: Option<&NxProofKind>,
+    records: &RecordMap,
+) -> Result<RecordMap, ProtoError>
+    ensures chain { IfOk result
+        (λ chain. chain ≡ chain_sets (option_copied kind.entry) records.now) }
+    ensures err { IsOkUnless result ProtoError.Memory }
+{
+    let mut chain = RecordMap::new(alloc);
+    for (key, set) in records.iter() {
+        if stays(kind, key.record_type, set) {
+            put_copy(&mut chain, key, set)?;
+        }
+    }
+    Ok(chain)
+}
+
+/// Stores a copy of a set under its key.
+fn put_copy(sets: &mut RecordMap, key: &RrKey, set: &RecordSet) -> Result<(), ProtoError>
+    requires { IsStoredAt key.now.name key.now.record_type.0 set.now }
+    ensures ok { OnOk result
+        (sets.new ≡ put sets.old key.now.name key.now.record_type.0 set.now) }
+    ensures err { IsOkUnless result ProtoError.Memory }
+{
+    match sets.put(key.clone()?, set.clone()?) {
+        Ok(_) => Ok(()),
+        Err(_) => Err(ProtoError::Memory),
+    }
+}
+
+/// Whether a set of a type stays where those of the chain alone deny: it is no set of denial, or it belongs to the chain.
+fn stays(kind: Option<&NxProofKind>, record_type: RecordType, set: &RecordSet) -> bool
+    ensures { result ≡ stays (option_copied kind.entry) record_type.0 set.now }
+{
+    !is_denial_type(record_type) || is_of_chain(kind, record_type, set)
+}
+
+/// Whether sets of a type deny.
+fn is_denial_type(record_type: RecordType) -> bool
+    ensures { result ≡ is_denial_type record_type.0 }
+{
+    record_type == RecordType::NSEC || record_type == RecordType::NSEC3
+}
+
+/// Whether a set of denial belongs to the chain of a zone that denies so.
+fn is_of_chain(kind: Option<&NxProofKind>, record_type: RecordType, set: &RecordSet) -> bool
+    ensures { result ≡ is_of_chain (option_copied kind.entry) record_type.0 set.now }
+{
+    match kind {
+        None => false,
+        Some(NxProofKind::Nsec) => record_type == RecordType::NSEC,
+        Some(
+            NxProofKind::Nsec3 {
+                algorithm,
+                salt,
+                iterations,
+                ..
+            },
+        ) => {
+            record_type == RecordType::NSEC3
+                && has_parameters(*algorithm, salt.as_slice(), *iterations, set)
+        }
+    }
+}
+
+/// Whether an NSEC3 set has an algorithm, a salt and iterations.
+fn has_parameters(algorithm: u8, salt: &[u8], iterations: u16, set: &RecordSet) -> bool
+    ensures { result ≡ has_parameters algorithm salt.now iterations set.now }
+{
+    match first_nsec3(set) {
+        Some(data) => {
+            data.algorithm == algorithm
+                && (data.salt.as_slice() == salt && data.iterations == iterations)
+        }
+        None => false,
+    }
+}
+
+/// The NSEC3 data of a set's first record.
+fn first_nsec3(set: &RecordSet) -> Option<&NSEC3>
+    ensures { option_copied result ≡ first_nsec3 set.now.records }
+{
+    match &set.as_slice().first()?.rdata {
+        RData::NSEC3(data) => Some(data),
+        _ => None,
+    }
+}

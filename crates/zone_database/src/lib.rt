@@ -1,0 +1,25 @@
+//! The zones that a server has: read from the text of zone files, put beside one another, and asked by the octets of queries;
+//! and a handle, by which a program that isn't written in Rattle keeps them.
+#![tactic(auto)]
+
+pub mod calls;
+mod chain;
+mod database;
+mod handle;
+pub mod laws;
+mod loads;
+mod outcome;
+mod raw_box;
+mod reading;
+mod room;
+mod serials;
+mod static_signer;
+mod telling;
+mod zone;
+
+pub use database::ZoneDatabase;
+pub use handle::Handle;
+pub use outcome::Outcome;
+pub use reading::{ReadZone, TextFault, load_records, read_zone};
+pub use static_signer::StaticSigner;
+pub use zone::{Zone, served, zone_of};

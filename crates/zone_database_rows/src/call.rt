@@ -1,0 +1,106 @@
+//! The calls that rows write.
+
+use crate::left::Left;
+use line_text::read_hex;
+use std::alloc::{AllocError, Global};
+use zone_database::{Handle, Outcome, calls};
+
+/// A call, with what it is handed beside a handle.
+#[derive(Drop)]
+pub enum Call<'r> {
+    New,
+    Free,
+    Copy,
+    Move,
+    Load(&'r str, String),
+    Add(&'r str, String),
+    Drop(&'r str),
+    Serial(&'r str),
+    Answer(Vec<u8>, usize, u32),
+}
+
+/// Reads a call; none where it isn't one.
+pub fn read_call(alloc: Global, words: &str) -> Result<Option<Call<'_>>, AllocError> {
+    let (verb, rest) = words.split_once(' ').unwrap_or((words, ""));
+    let (first, behind) = rest.split_once(' ').unwrap_or((rest, ""));
+    match verb {
+        "new" => Ok(Some(Call::New)),
+        "free" => Ok(Some(Call::Free)),
+        "copy" => Ok(Some(Call::Copy)),
+        "move" => Ok(Some(Call::Move)),
+        "load" => Ok(Some(Call::Load(first, behind.replace(alloc, "|", "\n")?))),
+        "add" => Ok(Some(Call::Add(first, behind.replace(alloc, "|", "\n")?))),
+        "drop" => Ok(Some(Call::Drop(rest))),
+        "serial" => Ok(Some(Call::Serial(rest))),
+        "answer" => read_answer(alloc, first, behind),
+        _ => Ok(None),
+    }
+}
+
+/// Reads the call that answers a message: its limit and its octets stand behind the transport.
+fn read_answer<'r>(
+    alloc: Global,
+    transport: &str,
+    words: &str,
+) -> Result<Option<Call<'r>>, AllocError> {
+    let (limit, hex) = words.split_once(' ').unwrap_or((words, ""));
+    let digits = hex.replace(alloc, " ", "")?;
+    let (Some(octets), Ok(limit), Ok(transport)) = (
+        read_hex(alloc, digits.as_bytes())?,
+        limit.parse::<usize>(),
+        transport.parse::<u32>(),
+    ) else {
+        return Ok(None);
+    };
+    Ok(Some(Call::Answer(octets, limit, transport)))
+}
+
+/// Makes a call of a handle beside another one.
+pub fn make(
+    alloc: Global,
+    call: &Call<'_>,
+    zones: &mut Handle,
+    other: &mut Handle,
+    left: &mut Left,
+) -> Outcome {
+    let (room, written) = (left.room.as_mut_slice(), &mut left.written);
+    match call {
+        Call::New => calls::create(alloc, zones),
+        Call::Free => {
+            calls::free(alloc, zones);
+            Outcome::Done
+        }
+        Call::Copy => calls::copy(alloc, zones, other),
+        Call::Move => move_over(alloc, zones, other),
+        Call::Load(origin, text) => {
+            let (origin, text) = (origin.as_bytes(), text.as_bytes());
+            calls::load(alloc, zones, origin, text, room, written)
+        }
+        Call::Add(origin, text) => {
+            let (origin, text) = (origin.as_bytes(), text.as_bytes());
+            calls::add(alloc, zones, origin, text, room, written)
+        }
+        Call::Drop(origin) => calls::remove(alloc, zones, origin.as_bytes()),
+        Call::Serial(origin) => { calls::serial(alloc, zones, origin.as_bytes(), &mut left.serial) }
+        Call::Answer(message, limit, transport) => calls::answer(
+            alloc,
+            zones,
+            message.as_slice(),
+            *limit,
+            *transport,
+            room,
+            written,
+        ),
+    }
+}
+
+/// Puts what is taken out of a handle into another one.
+fn move_over(alloc: Global, zones: &mut Handle, other: &mut Handle) -> Outcome {
+    match zones.take(alloc) {
+        Some(database) => {
+            other.put(database);
+            Outcome::Done
+        }
+        None => Outcome::Closed,
+    }
+}

@@ -1,5 +1,0 @@
-use Rattle.zone_inner.proofs.AdditionalLaws.{one_list}
-use Rattle.zone_inner.proofs.laws.additionals_are_one_list.Goals as goal
-
-pub returns : goal.returns
-returns c = one_list

@@ -1,5 +1,0 @@
-use Rattle.zone_inner.proofs.RunFronts.{run_is_longest_front}
-use Rattle.zone_inner.proofs.laws.run_is_longest_front.Goals as goal
-
-pub returns : goal.returns
-returns c = run_is_longest_front

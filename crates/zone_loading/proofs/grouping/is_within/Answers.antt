@@ -1,5 +1,0 @@
-use Rattle.zone_denial.proofs.Names.AboveTests.{at_or_above_by}
-use Rattle.zone_loading.proofs.grouping.is_within.Goals as goal
-
-pub returns : goal.returns
-returns c = at_or_above_by c.args.origin.now c.args.name.now c.zone_of.result c.zone_of.ensures

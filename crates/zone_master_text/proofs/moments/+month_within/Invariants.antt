@@ -1,4 +1,0 @@
-use Rattle.zone_master_text.proofs.moments.+month_within.Given as goal
-
-abbrev pub decreases-month_within : goal.decreases-month_within
-decreases-month_within l = l.months

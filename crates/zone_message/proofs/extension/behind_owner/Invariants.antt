@@ -1,6 +1,0 @@
-use Rattle.std.proofs.Common.{◌≡◌, ◌-◌}
-use Rattle.zone_message.specs.Queries.{behind_owner}
-use Rattle.zone_message.proofs.extension.behind_owner.Given as goal
-
-abbrev pub invariant-loop : goal.invariant-loop
-invariant-loop l = behind_owner (128 - l.counter) l.rest ≡ behind_owner 128 l.octets

@@ -1,8 +1,0 @@
-use Rattle.std.proofs.Common.{◌≡◌, ◌-◌}
-use Rattle.zone_message.specs.Messages.{several, question_of}
-use Rattle.zone_message.proofs.Sections.{with_front}
-use Rattle.zone_message.proofs.message_reader.questions_of.Given as goal
-
-abbrev pub invariant-loop : goal.invariant-loop
-invariant-loop l =
-    with_front l.questions.items (several (question_of l.message) (l.count - l.counter) l.rest) ≡ several (question_of l.message) l.count l.octets

@@ -1,6 +1,0 @@
-use Rattle.std.proofs.Common.{◌≡◌, ◌-◌}
-use Rattle.zone_message.specs.Queries.{are_options}
-use Rattle.zone_message.proofs.options.are_options.Given as goal
-
-abbrev pub invariant-loop : goal.invariant-loop
-invariant-loop l = are_options (16384 - l.counter) l.rest ≡ are_options 16384 l.octets

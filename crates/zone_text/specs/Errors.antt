@@ -1,8 +1,0 @@
--- Why words aren't read
-use Rattle.std.specs.Prelude.{◌≡◌, Result, IfErr}
-use Rattle.zone_text.specs.declared.error.TextError.{TextError}
-use Rattle.zone_text.specs.declared.error.TextError.TheVariants.{BadText}
-
--- a fact where words are refused as bad text, and not for want of memory
-abbrev pub OnBadText : {X : Type 0} → Result X TextError → Type 0 → Type 0
-OnBadText result fact = IfErr result (λ e. e ≡ BadText → fact)

@@ -1,7 +1,0 @@
-use Rattle.std.proofs.Common.{ap, ◌∙◌}
-use Rattle.std.specs.Ordering.{is_eq}
-use Rattle.zone_validation.proofs.NameTests.{same_by_order}
-use Rattle.zone_validation.proofs.asked_name.AskedName.equals.Goals as goal
-
-pub returns : goal.returns
-returns c = c.is_eq.ensures ∙ ap is_eq c.compare.ensures ∙ same_by_order c.args.self.now c.args.other.now

@@ -1,6 +1,0 @@
-use Rattle.std.proofs.Common.{◌-◌}
-use Rattle.zone_wire.proofs.KnownLabels.{IsBeside}
-use Rattle.zone_wire.proofs.known_names.stands_at.Given as goal
-
-abbrev pub invariant-loop : goal.invariant-loop
-invariant-loop l = IsBeside l.out l.offset l.fn.labels (127 - l.counter) l.before l.octets l.left

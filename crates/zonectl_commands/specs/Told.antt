@@ -1,0 +1,9 @@
+-- What an answer of `Lines` tells of a line
+use Rattle.std.specs.Prelude.{ℕ, List, Option, Some, None}
+use Rattle.zonectl_commands.specs.declared.lines.Line.{Line as LineKind}
+use Rattle.zonectl_commands.specs.declared.lines.Line.TheVariants as line
+
+-- the line that an answer tells of: the octets in hand, or a bad line
+abbrev pub told : LineKind → List ℕ → Option (List ℕ)
+told line.Whole octets = Some octets
+told line.Bad octets = None
