@@ -13,12 +13,12 @@ use Rattle.zone_lookup.specs.Flattening.{last_set}
 use Rattle.zone_map.specs.Zones.{Sets, set_at, IsZone}
 use Rattle.zone_response.specs.declared.response.Part.{Part}
 use Rattle.zone_response.specs.declared.response.Part.TheVariants as part
-use Rattle.zone_response.specs.Hosts.{host_of, with_host, hosts, addresses, turned_host, host_sets, beside, sibling_sets, sibling_glue, glue_of, glue}
+use Rattle.zone_response.specs.Additional.{host_of, with_host, hosts, addresses, turned_host, host_sets, beside, sibling_sets, sibling_glue, glue_of, glue}
 use Rattle.zone_response.specs.Queries.{Inquiry}
 use Rattle.zone_response.specs.Responses.{additional_sets, glue_at}
 use Rattle.zone_response.specs.Sections.{as_it_is, part_for, is_alike}
 use Rattle.zone_response.specs.Steps.{End, complete, referred, missing, outside, unfollowed, too_long, failed}
-use Rattle.zone_response.specs.Turns.{Turn, cut, renaming, turn}
+use Rattle.zone_response.specs.Descent.{Turn, cut, renaming, turn}
 use Rattle.response_laws.specs.Repeats.{repeats}
 use Rattle.response_laws.proofs.Leads.{sent_owner, sent_type}
 use Rattle.response_laws.proofs.Once.{Once, once_both, unlike, same_owners, once_after, Apart, apart_new, apart_differ}

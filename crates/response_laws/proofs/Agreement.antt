@@ -31,8 +31,8 @@ use Rattle.zone_response.specs.Paths.{Path, path}
 use Rattle.zone_response.specs.Queries.{Zone, Query, Inquiry, inquiry}
 use Rattle.zone_response.specs.Responses.{bare, negative_ttl, ds_at, end_sets, proof_sets, fails, refusal, IsResponse, IsSearched, IsResponseAlong, IsProvenResponse, IsResponseBy}
 use Rattle.zone_response.specs.Sections.{Sections, as_it_is, part_for}
-use Rattle.zone_response.specs.Sources.{is_there}
-use Rattle.zone_response.specs.StandIns.{target_sets, addresses}
+use Rattle.zone_response.specs.Wildcards.{is_there}
+use Rattle.zone_response.specs.Aname.{target_sets, addresses}
 use Rattle.zone_response.proofs.StandInFacts.{targets_listed, without_targets}
 use Rattle.response_laws.specs.Agreement.{IsOrdinaryZone, NoStandIn, StandInsLead, IsOrdinaryQuery, IsProvable, unfound_name, searched_names, sets_of, answer_sets_of, code_of, IsNoDenialOwner, Agrees, ResponsesAgree}
 use Rattle.response_laws.proofs.AgreementNames.{star_asked}

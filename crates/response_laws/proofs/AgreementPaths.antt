@@ -20,10 +20,10 @@ use Rattle.zone_response.specs.Paths.{is_told_by, unless_told, next_behind, Path
 use Rattle.zone_response.specs.Queries.{Inquiry}
 use Rattle.zone_response.specs.Responses.{code_at, fails}
 use Rattle.zone_response.specs.Sections.{as_it_is, part_for, is_signed}
-use Rattle.zone_response.specs.Sources.{is_there}
-use Rattle.zone_response.specs.StandIns.{addresses, stand_in_answer}
+use Rattle.zone_response.specs.Wildcards.{is_there}
+use Rattle.zone_response.specs.Aname.{addresses, stand_in_answer}
 use Rattle.zone_response.specs.Steps.{End, complete, missing, outside, unfollowed, failed, Next, on, ends, Step, at_end, made_names, after_alias, stood_in_step, turned_step, step}
-use Rattle.zone_response.specs.Turns.{DNAME, turn}
+use Rattle.zone_response.specs.Descent.{DNAME, turn}
 use Rattle.response_laws.specs.Agreement.{IsOrdinaryZone, IsOrdinaryType, IsOrdinary, NoStandIn, led_on_to, unfound_name, chain_names, searched_names}
 use Rattle.response_laws.proofs.AgreementNames.{found_outside}
 use Rattle.response_laws.proofs.Leads.{sent_type}

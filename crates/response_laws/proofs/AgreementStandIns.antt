@@ -23,7 +23,7 @@ use Rattle.zone_response.specs.Paths.{path}
 use Rattle.zone_response.specs.Queries.{Zone, Query, Inquiry, inquiry}
 use Rattle.zone_response.specs.Responses.{IsResponse}
 use Rattle.zone_response.specs.Sections.{Sections}
-use Rattle.zone_response.specs.StandIns.{addresses, stand_in_answer}
+use Rattle.zone_response.specs.Aname.{addresses, stand_in_answer}
 use Rattle.response_laws.specs.Agreement.{IsOrdinaryZone, IsOrdinary, StandInsLead, IsOrdinaryQuery, Agrees}
 use Rattle.response_laws.proofs.Agreement.{responses_agree}
 use Rattle.response_laws.proofs.AgreementMet.{soa_stored, other_type, is_ordinary_type}

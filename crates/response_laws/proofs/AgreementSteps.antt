@@ -25,9 +25,9 @@ use Rattle.zone_response.specs.declared.response.Part.TheVariants as part
 use Rattle.zone_response.specs.Nodes.{AtNode, own, alias, stand_in, nothing, asked_set, stand_in_set, first_of, at_node}
 use Rattle.zone_response.specs.Queries.{Inquiry}
 use Rattle.zone_response.specs.Sections.{as_it_is, part_for, is_signed}
-use Rattle.zone_response.specs.Sources
-use Rattle.zone_response.specs.Sources.{star_of, is_there}
-use Rattle.zone_response.specs.StandIns.{stand_in_answer}
+use Rattle.zone_response.specs.Wildcards
+use Rattle.zone_response.specs.Wildcards.{star_of, is_there}
+use Rattle.zone_response.specs.Aname.{stand_in_answer}
 use Rattle.zone_response.specs.Steps.{complete, missing, outside, ends, Step, at_end, made_by, made_names, after_alias, keeps, stood_in_step, node_step, step_at, star_step, name_step, turned_step, step}
 use Rattle.response_laws.specs.Agreement.{IsOrdinaryZone, IsOrdinaryType, IsOrdinary}
 use Rattle.response_laws.proofs.AgreementNames.{no_referral, exact_own, exact_alias, exact_stand_in, exact_nothing, exact_absent, direct_is, found_there, found_by_star}
@@ -120,7 +120,7 @@ module _ (q : Inquiry) (zone : IsOrdinaryZone q.origin q.sets) (plain : IsOrdina
 
     -- the name itself, or the star that is asked for it
     abbrev IsAsked : Name → Type 0
-    IsAsked a = (a ≡ x) ⊎ (Sources.asked_star m x ≡ Some a)
+    IsAsked a = (a ≡ x) ⊎ (Wildcards.asked_star m x ≡ Some a)
 
     is_nsec : is_denial_type t ≡ true → t ≡ NSEC
     is_nsec e = eqb-true t NSEC (first_of_either (t == NSEC) (t == NSEC3) (differs t NSEC3 plain.no_hashed) e)
@@ -265,7 +265,7 @@ module _ (q : Inquiry) (zone : IsOrdinaryZone q.origin q.sets) (plain : IsOrdina
               w : Name
               w = star_under a
 
-              is_asked : Sources.asked_star m x ≡ Some (star_under a)
+              is_asked : Wildcards.asked_star m x ≡ Some (star_under a)
               is_asked = λ i. cond (e i) None (option_map star_under (f i))
 
               cases : (b : Bool) → exists m w ≡ b → found m q.signed x t ≡ option_map (renamed q.signed w x) (exact m w t) → StepAsFound q before x

@@ -13,12 +13,12 @@ use Rattle.zone_response.specs.declared.response.Part.TheVariants as part
 use Rattle.zone_response.specs.Nodes.{AtNode, chosen_type}
 use Rattle.zone_response.specs.Paths.{next_behind, Path, ended, behind, searched, path_from, path}
 use Rattle.zone_response.specs.Queries.{Inquiry}
-use Rattle.zone_response.specs.Renamings.{dname_target, in_place_of, unless_long, made_alias}
+use Rattle.zone_response.specs.Dname.{dname_target, in_place_of, unless_long, made_alias}
 use Rattle.zone_response.specs.Sections.{is_signed, as_it_is, part_for, unless_among}
-use Rattle.zone_response.specs.Sources.{star_of}
-use Rattle.zone_response.specs.StandIns.{StandInAnswer, addresses, no_addresses, untold, stand_in_answer}
+use Rattle.zone_response.specs.Wildcards.{star_of}
+use Rattle.zone_response.specs.Aname.{StandInAnswer, addresses, no_addresses, untold, stand_in_answer}
 use Rattle.zone_response.specs.Steps.{complete, referred, missing, outside, unfollowed, failed, Next, on, ends, Step, at_end, made_by, made_names, keeps, own_part, stood_in_step, node_step, new_name_step, step_at, step}
-use Rattle.zone_response.specs.Turns.{DNAME}
+use Rattle.zone_response.specs.Descent.{DNAME}
 use Rattle.response_laws.specs.Contents.{IsAnswerPart, IsMadeAlias, Origin, own, of_star, of_dname, of_aname}
 use Rattle.response_laws.proofs.Dnames.{sent_dname_target, short_is, sent_dname, AreDnames, IsAboveBy, turned_by, stands_among, in_unless}
 use Rattle.response_laws.proofs.LastNames.{dnames_on}

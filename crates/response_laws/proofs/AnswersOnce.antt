@@ -16,11 +16,11 @@ use Rattle.zone_response.specs.declared.response.Part.TheVariants as part
 use Rattle.zone_response.specs.Nodes.{AtNode, chosen_type, stand_in_set}
 use Rattle.zone_response.specs.Paths.{is_told_by, next_behind, Path, ended, behind, searched, path_from, path}
 use Rattle.zone_response.specs.Queries.{Inquiry}
-use Rattle.zone_response.specs.Renamings.{made_alias}
+use Rattle.zone_response.specs.Dname.{made_alias}
 use Rattle.zone_response.specs.Sections.{is_signed, as_it_is, part_for, is_alike, unless_among}
-use Rattle.zone_response.specs.StandIns.{StandInAnswer, addresses, no_addresses, untold, stand_in_answer}
+use Rattle.zone_response.specs.Aname.{StandInAnswer, addresses, no_addresses, untold, stand_in_answer}
 use Rattle.zone_response.specs.Steps.{Next, on, ends, complete, missing, outside, referred, unfollowed, failed, Step, at_end, made_by, made_names, keeps, own_part, node_step, stood_in_step, new_name_step, step_at, step}
-use Rattle.zone_response.specs.Turns.{DNAME}
+use Rattle.zone_response.specs.Descent.{DNAME}
 use Rattle.response_laws.specs.Repeats.{have_both, repeats}
 use Rattle.response_laws.specs.Sayings.{asks_alias}
 use Rattle.response_laws.proofs.Dnames.{sent_dname, AreDnames, IsAboveBy, turned_by, in_unless}

@@ -16,9 +16,9 @@ use Rattle.zone_map.specs.Zones.{set_at, IsZone}
 use Rattle.zone_response.specs.declared.response.Part.TheVariants as part
 use Rattle.zone_response.specs.Paths.{is_told_by}
 use Rattle.zone_response.specs.Queries.{Inquiry}
-use Rattle.zone_response.specs.Renamings.{only_target, dname_target, unless_long, made_alias}
+use Rattle.zone_response.specs.Dname.{only_target, dname_target, unless_long, made_alias}
 use Rattle.zone_response.specs.Sections.{with_ttl, as_it_is, part_for, is_signed, is_alike, unless_among}
-use Rattle.zone_response.specs.Turns.{DNAME, renaming, turn}
+use Rattle.zone_response.specs.Descent.{DNAME, renaming, turn}
 use Rattle.response_laws.specs.Sayings.{asks_alias, is_of, renames, leads_to, last_name}
 use Rattle.response_laws.proofs.Leads.{same_in_lower, sent_owner, sent_type}
 use Rattle.response_laws.proofs.Passages.{passed_over}

@@ -11,9 +11,9 @@ use Rattle.zone_response.specs.Nodes.{AtNode}
 use Rattle.zone_response.specs.Paths.{is_told_by, unless_told, next_behind, Path, ended, behind, searched, path_from, path}
 use Rattle.zone_response.specs.Queries.{Inquiry}
 use Rattle.zone_response.specs.Sections.{is_signed, as_it_is, part_for}
-use Rattle.zone_response.specs.StandIns.{StandInAnswer, addresses, no_addresses, untold, stand_in_answer}
+use Rattle.zone_response.specs.Aname.{StandInAnswer, addresses, no_addresses, untold, stand_in_answer}
 use Rattle.zone_response.specs.Steps.{End, complete, referred, missing, outside, unfollowed, too_long, failed, Next, on, ends, Step, at_end, made_by, made_names, after_alias, keeps, stood_in_step, node_step, new_name_step, step_at, step}
-use Rattle.zone_response.specs.Turns.{renaming}
+use Rattle.zone_response.specs.Descent.{renaming}
 use Rattle.response_laws.specs.Failures.{IsFoundAname, Fault, without_target, leads_away, unsigned}
 use Rattle.response_laws.specs.Sayings.{asks_alias}
 use Rattle.response_laws.proofs.StandIns.{aname_stands}

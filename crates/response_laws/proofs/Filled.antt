@@ -13,7 +13,7 @@ use Rattle.zone_proto.proofs.Names.NameTree.{name_eq-Decides}
 use Rattle.zone_map.specs.Zones.{Sets, set_at, IsZone}
 use Rattle.zone_lookup.specs.StartOfAuthority.{soa_of, first_soa}
 use Rattle.zone_response.specs.declared.response.Part.TheVariants as part
-use Rattle.zone_response.specs.Hosts.{host_of, with_host, hosts, addresses, glue_of}
+use Rattle.zone_response.specs.Additional.{host_of, with_host, hosts, addresses, glue_of}
 use Rattle.zone_response.specs.Queries.{Zone, Query, HasOwnDenials, inquiry}
 use Rattle.zone_response.specs.Responses.{code_at, negative_ttl, child_ds, ds_at, end_sets, fails, glue_at}
 use Rattle.zone_response.specs.Sections.{Sections, sent, as_it_is, part_for}

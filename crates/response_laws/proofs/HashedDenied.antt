@@ -26,7 +26,7 @@ use Rattle.zone_response.specs.HashedDenials.{lack_proof}
 use Rattle.zone_response.specs.Queries.{Zone, Query, inquiry}
 use Rattle.zone_response.specs.Responses.{ds_at}
 use Rattle.zone_response.specs.Sections.{Sections}
-use Rattle.zone_response.specs.Sources.{star_of}
+use Rattle.zone_response.specs.Wildcards.{star_of}
 use Rattle.zone_response.specs.Steps.{missing}
 use Rattle.response_laws.specs.HashedSayings.{zone_hash, DeniesByNsec3, HashesApart, IsReached, shown_nsec3, HasErrorProof, IsHashedError}
 use Rattle.response_laws.specs.Sayings.{name_error, saying}

@@ -27,7 +27,7 @@ use Rattle.denial_laws.proofs.Nsec3Soundness.{nsec3_unsigned_delegation_sound}
 use Rattle.zone_response.specs.HashedDenials.{lack_proof}
 use Rattle.zone_response.specs.Queries.{Zone, Query, inquiry}
 use Rattle.zone_response.specs.Sections.{Sections}
-use Rattle.zone_response.specs.Sources.{star_of}
+use Rattle.zone_response.specs.Wildcards.{star_of}
 use Rattle.zone_response.specs.Steps.{missing}
 use Rattle.response_laws.specs.HashedSayings.{zone_hash, DeniesByNsec3, HashesApart, IsReached, shown_nsec3, IsHashedShowable, HasNoHashedStandIn, HasNoHashedSet, IsInsecure, IsHashedEmpty}
 use Rattle.response_laws.specs.ProvedSayings.{IsEmptyProof}

@@ -22,10 +22,10 @@ use Rattle.denial_validation.specs.Nsec3Proofs.{proves_name_error, proves_empty_
 use Rattle.zone_response.specs.declared.response.Part.TheVariants as part
 use Rattle.zone_response.specs.Paths.{path}
 use Rattle.zone_response.specs.Queries.{Zone}
-use Rattle.zone_response.specs.Renamings.{made_alias}
+use Rattle.zone_response.specs.Dname.{made_alias}
 use Rattle.zone_response.specs.Responses.{IsResponse}
 use Rattle.zone_response.specs.Sections.{Sections, sent, as_it_is}
-use Rattle.zone_response.specs.Turns.{DNAME}
+use Rattle.zone_response.specs.Descent.{DNAME}
 use Rattle.response_laws.specs.HashedSayings.{shown_nsec3}
 use Rattle.response_laws.specs.Sayings.{data_of, name_error, no_data, referral, saying}
 use Rattle.response_laws.proofs.SayingExamples.{asked, sections}

@@ -32,7 +32,7 @@ use Rattle.denial_laws.proofs.Nsec3Soundness.{nsec3_records_sound}
 use Rattle.zone_response.specs.Queries.{Zone, Query, inquiry}
 use Rattle.zone_response.specs.Responses.{negative_ttl, ds_at, end_sets}
 use Rattle.zone_response.specs.Sections.{Sections}
-use Rattle.zone_response.specs.Sources.{star_of}
+use Rattle.zone_response.specs.Wildcards.{star_of}
 use Rattle.zone_response.specs.Steps.{End}
 use Rattle.response_laws.specs.Contents.{Origin}
 use Rattle.response_laws.specs.HashedSayings.{zone_hash, DeniesByNsec3, HashesApart, IsReached, shown_nsec3, may_leave_out, IsHashedFoundByStar, IsLacking, shown_records}

@@ -10,12 +10,12 @@ use Rattle.zone_map.specs.Zones.{set_at}
 use Rattle.zone_lookup.specs.Flattening.{last_set}
 use Rattle.zone_response.specs.declared.response.Part.{Part}
 use Rattle.zone_response.specs.declared.response.Part.TheVariants as part
-use Rattle.zone_response.specs.Hosts.{hosts, addresses, turned_host, host_sets, beside, sibling_sets}
+use Rattle.zone_response.specs.Additional.{hosts, addresses, turned_host, host_sets, beside, sibling_sets}
 use Rattle.zone_response.specs.Queries.{Inquiry}
 use Rattle.zone_response.specs.Responses.{additional_sets}
 use Rattle.zone_response.specs.Sections.{as_it_is, part_for}
 use Rattle.zone_response.specs.Steps.{End, complete, referred, missing, outside, unfollowed, too_long, failed}
-use Rattle.zone_response.specs.Turns.{Turn, cut, renaming, turn}
+use Rattle.zone_response.specs.Descent.{Turn, cut, renaming, turn}
 use Rattle.response_laws.specs.Contents.{IsHelpful}
 
 module _ (q : Inquiry) (s : RRset) where

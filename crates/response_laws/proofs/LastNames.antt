@@ -15,12 +15,12 @@ use Rattle.zone_map.specs.Zones.{Sets, set_at, IsZone}
 use Rattle.zone_response.specs.Nodes.{AtNode, own, alias, stand_in, nothing, chosen_type, asked_set, at_node}
 use Rattle.zone_response.specs.Paths.{is_told_by, unless_told, next_behind, Path, ended, behind, searched, path_from, path}
 use Rattle.zone_response.specs.Queries.{Inquiry}
-use Rattle.zone_response.specs.Renamings.{dname_target, in_place_of, unless_long, made_alias}
+use Rattle.zone_response.specs.Dname.{dname_target, in_place_of, unless_long, made_alias}
 use Rattle.zone_response.specs.Sections.{is_signed, as_it_is, part_for, unless_among}
-use Rattle.zone_response.specs.Sources.{star_of}
-use Rattle.zone_response.specs.StandIns.{StandInAnswer, addresses, no_addresses, untold, stand_in_answer}
+use Rattle.zone_response.specs.Wildcards.{star_of}
+use Rattle.zone_response.specs.Aname.{StandInAnswer, addresses, no_addresses, untold, stand_in_answer}
 use Rattle.zone_response.specs.Steps.{End, complete, referred, missing, outside, unfollowed, too_long, failed, Next, on, ends, Step, at_end, made_by, made_names, after_alias, keeps, own_part, stood_in_step, node_step, new_name_step, step_at, step}
-use Rattle.zone_response.specs.Turns.{DNAME, cut, turn}
+use Rattle.zone_response.specs.Descent.{DNAME, cut, turn}
 use Rattle.response_laws.specs.Sayings.{asks_alias, last_name, is_answer}
 use Rattle.response_laws.proofs.Dnames.{sent_dname, short_is, AreDnames, both_dnames, IsAboveBy, turned_by, told_unturned, stands_among, in_unless, passed, alias_leads as dname_leads, alias_stays}
 use Rattle.response_laws.proofs.Leads.{sent_type, made_type, has_target, lowered_target, follows, asked_stands, found_owner, found_stays, alias_leads, own_leads, own_answers}

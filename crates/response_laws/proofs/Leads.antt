@@ -32,7 +32,7 @@ use Rattle.zone_response.specs.declared.response.Part.TheVariants as part
 use Rattle.zone_response.specs.Nodes.{chosen_type, if_signed, asked_set}
 use Rattle.zone_response.specs.Sections.{with_ttl, sent, as_it_is, part_for, is_signed}
 use Rattle.zone_response.specs.Steps.{made_by, own_part}
-use Rattle.zone_response.specs.Turns.{DNAME}
+use Rattle.zone_response.specs.Descent.{DNAME}
 use Rattle.response_laws.specs.Sayings.{asks_alias, leads_to, is_of, renames, is_answer}
 
 -- ---- the target of an alias, as it goes out

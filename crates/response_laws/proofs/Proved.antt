@@ -22,7 +22,7 @@ use Rattle.zone_response.specs.declared.response.Part.TheVariants as part
 use Rattle.zone_response.specs.Queries.{Zone, Query, inquiry}
 use Rattle.zone_response.specs.Responses.{child_ds, ds_at}
 use Rattle.zone_response.specs.Sections.{Sections}
-use Rattle.zone_response.specs.Sources.{star_of}
+use Rattle.zone_response.specs.Wildcards.{star_of}
 use Rattle.zone_response.specs.Steps.{End, referred, missing}
 use Rattle.response_laws.specs.Contents.{Origin}
 use Rattle.response_laws.specs.ProvedSayings.{DeniesByNsec, shown, IsFoundByStar, IsAliasData, HasAuthority, HasNoStandIn, IsShowable, IsProvedError, IsProvedEmpty, IsProvedUnsigned, IsProvedReferral}

@@ -13,7 +13,7 @@ use Rattle.zone_response.specs.Nodes.{AtNode}
 use Rattle.zone_response.specs.Paths.{next_behind, Path, ended, behind, searched, path_from, path}
 use Rattle.zone_response.specs.Queries.{Zone, Inquiry}
 use Rattle.zone_response.specs.Sections.{is_signed, as_it_is, part_for}
-use Rattle.zone_response.specs.StandIns.{StandInAnswer, addresses, no_addresses, untold, stand_in_answer}
+use Rattle.zone_response.specs.Aname.{StandInAnswer, addresses, no_addresses, untold, stand_in_answer}
 use Rattle.zone_response.specs.Steps.{End, complete, referred, missing, outside, unfollowed, too_long, failed, Next, on, ends, Step, at_end, made_by, made_names, keeps, own_part, stood_in_step, node_step, new_name_step, step_at, step}
 use Rattle.response_laws.proofs.Leads.{sent_owner}
 use Rattle.response_laws.proofs.StandIns.{addresses_of_last}

@@ -18,7 +18,7 @@ use Rattle.zone_response.specs.Queries.{Zone, Query, Inquiry, inquiry}
 use Rattle.zone_response.specs.Responses.{code_at, negative_ttl, child_ds, ds_at, end_sets, fails}
 use Rattle.zone_response.specs.Sections.{Sections, as_it_is, part_for}
 use Rattle.zone_response.specs.Steps.{End, complete, referred, missing, outside, unfollowed, too_long, failed}
-use Rattle.zone_response.specs.Turns.{cut}
+use Rattle.zone_response.specs.Descent.{cut}
 use Rattle.response_laws.specs.Sayings.{data_of, name_error, no_data, referral, is_of, last_name, referral_to, unanswered, without_error, with_name_error, by_code, saying, LeadsAway, SaysEnd}
 use Rattle.response_laws.proofs.Leads.{sent_type}
 use Rattle.response_laws.proofs.LastNames.{IsMissing, IsAliasAsked, IsReferred, IsUntold, EndOf, PathEnd, stops, arrives, path_end}

@@ -11,10 +11,10 @@ use Rattle.denial_validation.specs.NsecProofs.{DNAME}
 use Rattle.zone_response.specs.declared.response.Part.TheVariants as part
 use Rattle.zone_response.specs.Queries.{Zone, Query, inquiry}
 use Rattle.zone_response.specs.Responses.{negative_ttl, child_ds, ds_at, end_sets}
-use Rattle.zone_response.specs.Renamings.{in_place_of, made_alias}
+use Rattle.zone_response.specs.Dname.{in_place_of, made_alias}
 use Rattle.zone_response.specs.Sections.{Sections, as_it_is, part_for}
 use Rattle.zone_response.specs.Steps.{End, referred, missing}
-use Rattle.zone_response.specs.Turns.{cut}
+use Rattle.zone_response.specs.Descent.{cut}
 use Rattle.response_laws.specs.HashedSayings.{IsReached}
 use Rattle.response_laws.specs.ProvedSayings.{IsAliasData, HasAuthority}
 use Rattle.response_laws.specs.Sayings.{Saying, data_of, name_error, no_data, referral, last_name, saying}

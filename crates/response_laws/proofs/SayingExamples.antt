@@ -19,10 +19,10 @@ use Rattle.denial_validation.specs.NsecProofs.{proves_name_error, proves_empty_a
 use Rattle.zone_response.specs.declared.response.Part.TheVariants as part
 use Rattle.zone_response.specs.Paths.{path}
 use Rattle.zone_response.specs.Queries.{Zone, Query}
-use Rattle.zone_response.specs.Renamings.{made_alias}
+use Rattle.zone_response.specs.Dname.{made_alias}
 use Rattle.zone_response.specs.Responses.{IsResponse}
 use Rattle.zone_response.specs.Sections.{Sections, sent, as_it_is}
-use Rattle.zone_response.specs.Turns.{DNAME}
+use Rattle.zone_response.specs.Descent.{DNAME}
 use Rattle.response_laws.specs.ProvedSayings.{shown, is_signed_by}
 use Rattle.response_laws.specs.Repeats.{repeats}
 use Rattle.response_laws.specs.Sayings.{data_of, name_error, no_data, referral, saying}

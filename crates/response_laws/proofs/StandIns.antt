@@ -14,8 +14,8 @@ use Rattle.zone_lookup.specs.Flattening.{last_set, flattened_ttl, flattened}
 use Rattle.zone_response.specs.Nodes.{stand_in_set}
 use Rattle.zone_response.specs.Queries.{Inquiry}
 use Rattle.zone_response.specs.Sections.{as_it_is, part_for}
-use Rattle.zone_response.specs.StandIns.{target_sets, addresses, no_addresses, untold, at_last_target, by_addresses, stand_in_answer}
-use Rattle.zone_response.specs.Turns.{Turn, turn}
+use Rattle.zone_response.specs.Aname.{target_sets, addresses, no_addresses, untold, at_last_target, by_addresses, stand_in_answer}
+use Rattle.zone_response.specs.Descent.{Turn, turn}
 use Rattle.response_laws.specs.Sayings.{leads_to, renames, is_answer}
 use Rattle.response_laws.proofs.Leads.{target_under, sent_target, sent_owner, sent_type, stays_by_owner, leads_nowhere}
 

@@ -9,9 +9,9 @@ use Rattle.zone_response.specs.Paths.{unless_told, Path, behind, searched, path_
 use Rattle.zone_response.specs.Queries.{Inquiry}
 use Rattle.zone_response.specs.Responses.{is_authority}
 use Rattle.zone_response.specs.Sections.{is_signed, as_it_is, part_for}
-use Rattle.zone_response.specs.StandIns.{StandInAnswer, addresses, no_addresses, untold, stand_in_answer}
+use Rattle.zone_response.specs.Aname.{StandInAnswer, addresses, no_addresses, untold, stand_in_answer}
 use Rattle.zone_response.specs.Steps.{End, complete, referred, missing, outside, unfollowed, too_long, failed, ends, Step, at_end, made_by, made_names, keeps, stood_in_step, node_step, new_name_step, step_at, step}
-use Rattle.zone_response.specs.Turns.{turn}
+use Rattle.zone_response.specs.Descent.{turn}
 use Rattle.response_laws.specs.Contents.{is_cut}
 use Rattle.response_laws.proofs.Stepped.{NodeOf, has_set, has_alias, has_stand_in, has_nothing, node_of, StepOf, leaves, refers, fails, new_name, at_name, no_star, at_star, star_gone, step_of}
 

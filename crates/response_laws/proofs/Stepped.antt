@@ -8,10 +8,10 @@ use Rattle.zone_map.specs.Wildcards.{exists}
 use Rattle.zone_map.specs.Zones.{Sets, set_at}
 use Rattle.zone_response.specs.Nodes.{own, alias, stand_in, nothing, asked_set, stand_in_set, first_of, at_node}
 use Rattle.zone_response.specs.Queries.{Inquiry}
-use Rattle.zone_response.specs.Renamings.{dname_target, in_place_of, unless_long}
-use Rattle.zone_response.specs.Sources.{star_of}
+use Rattle.zone_response.specs.Dname.{dname_target, in_place_of, unless_long}
+use Rattle.zone_response.specs.Wildcards.{star_of}
 use Rattle.zone_response.specs.Steps.{outside, referred, missing, failed, at_end, target_step, new_name_step, step_at, star_step, turned_step, step}
-use Rattle.zone_response.specs.Turns.{Turn, cut, renaming, turn}
+use Rattle.zone_response.specs.Descent.{Turn, cut, renaming, turn}
 
 -- what a name has for a type
 pub data NodeOf (m : Sets) (a : Name) (t : ℕ) : Type 0 where

@@ -19,7 +19,7 @@ use Rattle.denial_laws.proofs.Stars.{exists_is}
 use Rattle.zone_response.specs.Queries.{Zone, Query, inquiry}
 use Rattle.zone_response.specs.Responses.{negative_ttl, ds_at, end_sets}
 use Rattle.zone_response.specs.Sections.{Sections}
-use Rattle.zone_response.specs.Sources.{star_of}
+use Rattle.zone_response.specs.Wildcards.{star_of}
 use Rattle.response_laws.specs.HashedSayings.{IsReached}
 use Rattle.response_laws.specs.ProvedSayings.{DeniesByNsec, shown}
 use Rattle.response_laws.proofs.LastNames.{IsReferred}

@@ -17,7 +17,7 @@ use Rattle.zone_denial.proofs.Names.LongestAncestors.{above_above}
 use Rattle.denial_validation.specs.NsecProofs.{DNAME}
 use Rattle.denial_laws.proofs.OwnTypes.{neither}
 use Rattle.zone_response.specs.Queries.{Zone}
-use Rattle.zone_response.specs.Turns.{Turn, cut, renaming, cut_at, dname_at, turn_at, turn_down_to, turn}
+use Rattle.zone_response.specs.Descent.{Turn, cut, renaming, cut_at, dname_at, turn_at, turn_down_to, turn}
 use Rattle.response_laws.specs.HashedSayings.{IsReached}
 
 -- ---- the way down to a name

@@ -16,10 +16,10 @@ use Rattle.zone_denial.proofs.Examples.NsecExamples.{origin, record_with, entry,
 use Rattle.zone_response.specs.declared.response.Part.TheVariants as part
 use Rattle.zone_response.specs.Paths.{path}
 use Rattle.zone_response.specs.Queries.{Zone, Query, inquiry}
-use Rattle.zone_response.specs.Renamings.{made_alias}
+use Rattle.zone_response.specs.Dname.{made_alias}
 use Rattle.zone_response.specs.Responses.{bare, IsResponse}
 use Rattle.zone_response.specs.Sections.{Sections, sent, as_it_is}
-use Rattle.zone_response.specs.Turns.{DNAME}
+use Rattle.zone_response.specs.Descent.{DNAME}
 use Rattle.response_laws.specs.Contents.{IsGlueOf, HasContents, ResponseHasContents}
 use Rattle.response_laws.specs.Failures.{Fault, without_target, leads_away, unsigned, IsAnswerable, AnswerableIsAnswered}
 use Rattle.response_laws.specs.Sayings.{SaysHowItEnds, ResponseSaysHowItEnds}

@@ -22,9 +22,9 @@ use Rattle.zone_response.specs.Queries.{Zone, Query, Inquiry, inquiry}
 use Rattle.zone_response.specs.QueryTypes.{is_no_data}
 use Rattle.zone_response.specs.Responses.{ds_at, proof_sets}
 use Rattle.zone_response.specs.Sections.{Sections, as_it_is, part_for, is_signed}
-use Rattle.zone_response.specs.Sources.{asked_star}
-use Rattle.zone_response.specs.StandIns.{addresses, stand_in_answer}
-use Rattle.zone_response.specs.Turns.{turn}
+use Rattle.zone_response.specs.Wildcards.{asked_star}
+use Rattle.zone_response.specs.Aname.{addresses, stand_in_answer}
+use Rattle.zone_response.specs.Descent.{turn}
 use Rattle.response_laws.specs.Servers.{Server}
 
 -- ---- what both find alike

@@ -14,15 +14,15 @@ use Rattle.zone_map.specs.Wildcards.{exists, renamed}
 use Rattle.zone_map.specs.Zones.{Sets, set_at, owns, IsZone}
 use Rattle.zone_response.specs.declared.response.Part.{Part}
 use Rattle.zone_response.specs.declared.response.Part.TheVariants as part
-use Rattle.zone_response.specs.Hosts.{host_of}
+use Rattle.zone_response.specs.Additional.{host_of}
 use Rattle.zone_response.specs.Queries.{Zone, Query, HasOwnDenials, Inquiry, inquiry}
-use Rattle.zone_response.specs.Renamings.{dname_target, in_place_of, made_alias}
+use Rattle.zone_response.specs.Dname.{dname_target, in_place_of, made_alias}
 use Rattle.zone_response.specs.Responses.{negative_ttl}
 use Rattle.zone_response.specs.Sections.{Sections, sent, as_it_is, part_for, is_signed}
-use Rattle.zone_response.specs.Sources.{star_of}
-use Rattle.zone_response.specs.StandIns.{addresses, stand_in_answer}
+use Rattle.zone_response.specs.Wildcards.{star_of}
+use Rattle.zone_response.specs.Aname.{addresses, stand_in_answer}
 use Rattle.zone_response.specs.Steps.{keeps}
-use Rattle.zone_response.specs.Turns.{DNAME, Turn, cut, turn}
+use Rattle.zone_response.specs.Descent.{DNAME, Turn, cut, turn}
 use Rattle.response_laws.specs.Sayings.{Saying, name_error, no_data, referral, saying}
 use Rattle.response_laws.specs.Servers.{Server}
 

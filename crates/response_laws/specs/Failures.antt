@@ -13,12 +13,12 @@ use Rattle.zone_response.specs.Denials.{hashed_owner_of}
 use Rattle.zone_response.specs.Paths.{Path, path}
 use Rattle.zone_response.specs.Queries.{Zone, Query, HasOwnDenials, Inquiry, inquiry}
 use Rattle.zone_response.specs.QueryTypes.{is_no_data}
-use Rattle.zone_response.specs.Renamings.{dname_target}
+use Rattle.zone_response.specs.Dname.{dname_target}
 use Rattle.zone_response.specs.Responses.{bare, ds_at, proof_sets, refusal}
 use Rattle.zone_response.specs.Sections.{Sections, is_signed}
-use Rattle.zone_response.specs.StandIns.{addresses, untold, stand_in_answer}
+use Rattle.zone_response.specs.Aname.{addresses, untold, stand_in_answer}
 use Rattle.zone_response.specs.Steps.{failed, made_by, keeps}
-use Rattle.zone_response.specs.Turns.{DNAME}
+use Rattle.zone_response.specs.Descent.{DNAME}
 use Rattle.response_laws.specs.Agreement.{HasHashedOwners}
 use Rattle.response_laws.specs.Servers.{Server}
 

@@ -26,7 +26,7 @@ use Rattle.denial_laws.specs.Nsec3Soundness.{IsNsec3Sound, IsLeftOut, IsOptOutSo
 use Rattle.denial_laws.specs.Soundness.{IsNoName, IsWithoutData, IsUnflattened, IsUnsignedDelegation}
 use Rattle.zone_response.specs.Queries.{Zone, Query}
 use Rattle.zone_response.specs.Sections.{Sections}
-use Rattle.zone_response.specs.Sources.{star_of}
+use Rattle.zone_response.specs.Wildcards.{star_of}
 use Rattle.response_laws.specs.ProvedSayings.{IsUnreferred, IsEmptyProof, ProvesBy}
 use Rattle.response_laws.specs.Servers.{Server}
 

@@ -2,7 +2,7 @@
 use Rattle.std.specs.Prelude.{◌≡◌, ℕ, List, ◌++◌, Some, None, ◌↔◌}
 use Rattle.zone_proto.specs.Faults.{fault_of}
 use Rattle.zone_proto.specs.Names.{Name, wire_form}
-use Rattle.zone_response.specs.Renamings.{name_in, in_place_of}
+use Rattle.zone_response.specs.Dname.{name_in, in_place_of}
 
 -- the name that is read in octets is the one of which they are the wire form
 abbrev pub TargetsAreRead : Type 0

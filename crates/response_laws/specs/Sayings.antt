@@ -14,7 +14,7 @@ use Rattle.zone_response.specs.Queries.{Zone, Query, HasOwnDenials, inquiry}
 use Rattle.zone_response.specs.Responses.{bare, yx_domain}
 use Rattle.zone_response.specs.Sections.{Sections}
 use Rattle.zone_response.specs.Steps.{End, complete, referred, missing, outside, unfollowed, too_long, failed}
-use Rattle.zone_response.specs.Turns.{DNAME}
+use Rattle.zone_response.specs.Descent.{DNAME}
 use Rattle.response_laws.specs.Failures.{WhyAlone}
 use Rattle.response_laws.specs.Servers.{Server}
 

@@ -13,7 +13,7 @@ use Rattle.zone_map.specs.Zones.{Sets}
 use Rattle.zone_lookup.specs.Runs.{with_new}
 use Rattle.zone_response.specs.declared.response.Part.{Part}
 use Rattle.zone_response.specs.declared.response.Part.TheVariants as part
-use Rattle.zone_response.specs.Hosts.{with_host, host_sets, beside}
+use Rattle.zone_response.specs.Additional.{with_host, host_sets, beside}
 use Rattle.zone_response.specs.Sections.{with_ttl, sent}
 
 -- ---- a name that is listed once

@@ -12,7 +12,7 @@ use Rattle.zone_proto.specs.Sets.{RRset}
 use Rattle.zone_proto.proofs.Ordering.Orders.{upto_cases, upto_before}
 use Rattle.zone_map.specs.Zones.{Sets}
 use Rattle.zone_map.proofs.Putting.{sorted_filter}
-use Rattle.zone_response.specs.Standing.{sets_from, IsFromSome}
+use Rattle.zone_response.specs.NodeSets.{sets_from, IsFromSome}
 use Rattle.zone_response.proofs.PassedNames.{key_order}
 
 -- a key that isn't at or after another stands before it

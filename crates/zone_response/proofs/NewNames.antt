@@ -16,7 +16,7 @@ use Rattle.zone_proto.specs.Vectors.{octets_of}
 use Rattle.zone_proto.specs.WireForms.{HaveOctets, IsWireFault, no_labels, no_name}
 use Rattle.zone_proto.proofs.Names.Countings.{is_counted_name}
 use Rattle.zone_proto.proofs.Names.WireLabels.{wire_is_counting}
-use Rattle.zone_response.specs.Renamings.{labels_in, name_in, in_place_of, unless_long}
+use Rattle.zone_response.specs.Dname.{labels_in, name_in, in_place_of, unless_long}
 
 -- ---- faults
 

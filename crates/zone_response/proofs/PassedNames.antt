@@ -17,7 +17,7 @@ use Rattle.zone_map.specs.Zones.{Sets, set_at}
 use Rattle.zone_map.proofs.AtName.{first_set, first_over, whole_type}
 use Rattle.zone_map.proofs.FirstKeys.{front_key, whole_first}
 use Rattle.zone_map.proofs.Neighbours.{from_key}
-use Rattle.zone_response.specs.Turns.{is_passed}
+use Rattle.zone_response.specs.Descent.{is_passed}
 
 pub key_order : IsOrder key_cmp
 key_order = record { total = key_cmp_total; exact = exact_keys }

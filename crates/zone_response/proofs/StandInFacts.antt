@@ -15,7 +15,7 @@ use Rattle.zone_lookup.specs.Additionals.{next_name, run_types, seen_at_start, l
 use Rattle.zone_lookup.specs.Runs.{along}
 use Rattle.zone_lookup.proofs.AdditionalLaws.{run_is_short}
 use Rattle.zone_lookup.proofs.RunFronts.{run_is_longest_front}
-use Rattle.zone_response.specs.StandIns.{run_names, listed_along, target_sets}
+use Rattle.zone_response.specs.Aname.{run_names, listed_along, target_sets}
 
 -- ---- one front is the longest
 

@@ -6,7 +6,7 @@ use Rattle.zone_map.specs.Walks.{IsChild}
 use Rattle.zone_map.specs.Wildcards.{exists, closest_encloser}
 use Rattle.zone_map.specs.Zones.{Sets}
 use Rattle.zone_map.proofs.NearestNames.{nearest_here, nearest_above, none_nearest}
-use Rattle.zone_response.specs.Sources.{star_of}
+use Rattle.zone_response.specs.Wildcards.{star_of}
 
 pub child_of_parent : (n a : Name) → (n ≡ [] → ⊥) → a ≡ drop 1 n → IsChild n a
 child_of_parent [] a below e = absurd (below refl)

@@ -10,9 +10,9 @@ use Rattle.zone_response.specs.declared.steps.SoFar.{SoFar}
 use Rattle.zone_response.specs.Nodes.{AtNode, at_node}
 use Rattle.zone_response.specs.Queries.{Inquiry}
 use Rattle.zone_response.specs.Sections.{sent_sets}
-use Rattle.zone_response.specs.Sources.{star_of}
+use Rattle.zone_response.specs.Wildcards.{star_of}
 use Rattle.zone_response.specs.Steps.{End, missing, outside, ends, Step, at_end, node_step, step_at, star_step, name_step, turned_step, step, next_of, Takes}
-use Rattle.zone_response.specs.Turns.{Turn, turn}
+use Rattle.zone_response.specs.Descent.{Turn, turn}
 
 -- ---- what is taken of a step
 

@@ -7,7 +7,7 @@ use Rattle.zone_proto.specs.Sets.{RRset}
 use Rattle.zone_proto.specs.Types.{NS, DS}
 use Rattle.zone_proto.proofs.Names.NameTree.{name_eq-Decides, is_at_or_above_sound, is_at_or_above_complete}
 use Rattle.zone_map.specs.Zones.{Sets, set_at}
-use Rattle.zone_response.specs.Turns.{DNAME, Turn, cut, renaming, cut_at, dname_at, turn_at, turn_by, turn_down_to, turn_above, turn}
+use Rattle.zone_response.specs.Descent.{DNAME, Turn, cut, renaming, cut_at, dname_at, turn_at, turn_by, turn_down_to, turn_above, turn}
 
 -- ---- names of the zone
 

@@ -9,9 +9,9 @@ use Rattle.zone_proto.specs.Types.{NS}
 use Rattle.zone_proto.proofs.Names.NameTree.{name_eq-Decides}
 use Rattle.zone_map.specs.Walks.{first_key_from}
 use Rattle.zone_map.specs.Zones.{Sets, set_at}
-use Rattle.zone_response.specs.declared.turns.Turning.{Turning}
-use Rattle.zone_response.specs.declared.turns.Way.{Way}
-use Rattle.zone_response.specs.Turns.{DNAME, is_passed, turn_by, turn_down_to, turn_of, IsWayTo}
+use Rattle.zone_response.specs.declared.descent.Turning.{Turning}
+use Rattle.zone_response.specs.declared.descent.Way.{Way}
+use Rattle.zone_response.specs.Descent.{DNAME, is_passed, turn_by, turn_down_to, turn_of, IsWayTo}
 use Rattle.zone_response.proofs.PassedNames.{first_from_below, nothing_at}
 use Rattle.zone_response.proofs.TurnWalk.{at_origin, stays, goes_on}
 

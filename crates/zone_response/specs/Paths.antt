@@ -8,7 +8,7 @@ use Rattle.zone_response.specs.declared.paths.Path.{Path as KeptPath}
 use Rattle.zone_response.specs.Queries.{Inquiry}
 use Rattle.zone_response.specs.Sections.{is_signed, sent_sets}
 use Rattle.zone_response.specs.Steps.{End, complete, unfollowed, Next, on, ends, step, end_of}
-use Rattle.zone_response.specs.Turns.{DNAME}
+use Rattle.zone_response.specs.Descent.{DNAME}
 
 -- the sets of the answer section, the names for which a star answered, and how the search ends
 pub record Path : Type 0 where

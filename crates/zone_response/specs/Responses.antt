@@ -14,7 +14,7 @@ use Rattle.zone_lookup.specs.Flattening.{last_set}
 use Rattle.zone_lookup.specs.StartOfAuthority.{first_soa}
 use Rattle.zone_response.specs.declared.response.Part.TheVariants as part
 use Rattle.zone_response.specs.Denials.{proofs, sent_proof}
-use Rattle.zone_response.specs.Hosts.{beside, sibling_glue, glue}
+use Rattle.zone_response.specs.Additional.{beside, sibling_glue, glue}
 use Rattle.zone_response.specs.Paths.{Path, path}
 use Rattle.zone_response.specs.Queries.{Zone, Query, Inquiry, inquiry}
 use Rattle.zone_response.specs.QueryTypes.{is_no_data}

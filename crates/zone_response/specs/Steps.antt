@@ -14,11 +14,11 @@ use Rattle.zone_response.specs.declared.steps.Next.TheVariants as kept_next
 use Rattle.zone_response.specs.declared.steps.SoFar.{SoFar}
 use Rattle.zone_response.specs.Queries.{Inquiry}
 use Rattle.zone_response.specs.Nodes.{AtNode, own, alias, stand_in, nothing, at_node}
-use Rattle.zone_response.specs.Renamings.{dname_target, in_place_of, unless_long, made_alias}
+use Rattle.zone_response.specs.Dname.{dname_target, in_place_of, unless_long, made_alias}
 use Rattle.zone_response.specs.Sections.{is_signed, as_it_is, part_for, unless_among, sent_sets}
-use Rattle.zone_response.specs.Sources.{star_of}
-use Rattle.zone_response.specs.StandIns.{StandInAnswer, addresses, no_addresses, untold, stand_in_answer}
-use Rattle.zone_response.specs.Turns.{Turn, cut, renaming, turn}
+use Rattle.zone_response.specs.Wildcards.{star_of}
+use Rattle.zone_response.specs.Aname.{StandInAnswer, addresses, no_addresses, untold, stand_in_answer}
+use Rattle.zone_response.specs.Descent.{Turn, cut, renaming, turn}
 
 -- how a search ends
 pub data End : Type 0 where

@@ -6,12 +6,12 @@ ghost use Rattle.zone_response.specs.Responses.{bare, refusal, IsResponse, IsSea
 ghost use Rattle.zone_response.specs.Sections.{sections, sent_sets};
 
 use crate::names::is_at_or_above;
+use crate::node_sets::read_apex;
 use crate::paths::{Path, walk};
 use crate::query_types::is_no_data;
 use crate::question::{Question, ServedZone};
 use crate::response::{Response, Sent};
 use crate::sections::{authorities, code_at, fails, is_authority, left_at, send_additionals};
-use crate::standing::read_apex;
 use crate::steps::Asked;
 use std::alloc::Global;
 use zone_handler::{LookupError, LookupOptions};

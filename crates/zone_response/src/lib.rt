@@ -8,26 +8,26 @@
 //! Contracts see a response as its code and its sections, each a list of record sets as they go out.
 #![tactic(auto)]
 
+mod additional;
+mod aname;
 mod answering;
+mod cursor;
 mod denials;
+mod descent;
+mod dname;
+mod dname_repeats;
 mod hashed_denials;
-mod hosts;
 mod lists;
 mod names;
-mod near;
+mod node_sets;
 mod nodes;
 mod paths;
 mod query_types;
 mod question;
-mod renamings;
 mod response;
 mod sections;
-mod sources;
-mod stand_ins;
-mod standing;
 mod steps;
-mod told;
-mod turns;
+mod wildcards;
 
 pub use answering::respond;
 pub use question::{Question, ServedZone};

@@ -4,11 +4,11 @@ ghost use Rattle.zone_map.specs.AnyTypes.{any_type};
 ghost use Rattle.zone_map.specs.Zones.{set_at};
 ghost use Rattle.zone_proto.specs.Types.{CNAME};
 ghost use Rattle.zone_response.specs.Nodes.{at_node, asked_set, stand_in_set, if_signed, node_of};
-ghost use Rattle.zone_response.specs.Standing.{StandsAt};
+ghost use Rattle.zone_response.specs.NodeSets.{StandsAt};
 
+use crate::node_sets::NodeSets;
 use crate::query_types::asks_any;
 use crate::response::is_signed;
-use crate::standing::Standing;
 use zone_handler::LookupError;
 use zone_lookup::InnerInMemory;
 use zone_map::direct::is_address;
@@ -33,7 +33,7 @@ pub(crate) fn at_node<'z, S: Signer>(
     inner: &'z InnerInMemory<S>,
     key: &mut RrKey,
     record_type: RecordType,
-    here: Standing<'z>,
+    here: NodeSets<'z>,
 ) -> Result<Node<'z>, LookupError>
     requires { StandsAt inner.now.records key.old.name record_type.0 CNAME here }
     ensures node { IfOk result

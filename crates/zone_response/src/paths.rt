@@ -3,15 +3,15 @@ ghost use Rattle.std.specs.Prelude.{◌≡◌, IfOk, IsOkUnless};
 ghost use Rattle.zone_response.specs.Paths.{path, path_of};
 ghost use Rattle.zone_proto.specs.Types.{SOA};
 ghost use Rattle.zone_response.specs.Queries.{inquiry_of};
-ghost use Rattle.zone_response.specs.Standing.{StandsAt};
-ghost use Rattle.zone_response.specs.Turns.{DNAME};
+ghost use Rattle.zone_response.specs.NodeSets.{StandsAt};
+ghost use Rattle.zone_response.specs.Descent.{DNAME};
 
+use crate::dname_repeats::unless_told;
 use crate::lists::push;
 use crate::names::has_name;
+use crate::node_sets::NodeSets;
 use crate::response::Sent;
-use crate::standing::Standing;
 use crate::steps::{Asked, End, Next, SoFar, step};
-use crate::told::unless_told;
 use zone_handler::LookupError;
 use zone_lookup::InnerInMemory;
 use zone_proto::{LowerName, Signer};
@@ -34,7 +34,7 @@ pub(crate) struct Path<'z> {
 pub(crate) fn walk<'z, S: Signer>(
     inner: &'z InnerInMemory<S>,
     asked: Asked<'_>,
-    apex: Standing<'z>,
+    apex: NodeSets<'z>,
     name: &LowerName,
 ) -> Result<Path<'z>, LookupError>
     requires { StandsAt inner.now.records asked.origin.now SOA DNAME apex }

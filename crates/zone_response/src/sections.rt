@@ -1,13 +1,13 @@
 //! The parts of a response by how its search ends.
 ghost use Rattle.std.specs.Prelude.{◌≡◌, ◌⊎◌, ◌++◌, None, cond, map, Ok, IfOk, IfErr, IsErr, OnOk, IsOkUnless, option_copied};
 ghost use Rattle.zone_response.specs.Responses.{code_at, is_authority, negative_ttl, ds_at, referral_sets, end_sets, proof_sets, authority_sets, authority_sets_with, beside_last, additional_sets, glue_at, left_at, fails};
-ghost use Rattle.zone_response.specs.Hosts.{beside};
+ghost use Rattle.zone_response.specs.Additional.{beside};
 ghost use Rattle.zone_response.specs.Queries.{inquiry_of, zone_of};
 ghost use Rattle.zone_response.specs.Sections.{sent_set, sent_sets};
 ghost use Rattle.zone_response.specs.Steps.{end_of};
 
+use crate::additional::{send_beside, send_servers};
 use crate::denials::{proofs, send_proofs};
-use crate::hosts::{send_beside, send_servers};
 use crate::lists::{lend, lend_for};
 use crate::question::ServedZone;
 use crate::response::{Part, Sent};

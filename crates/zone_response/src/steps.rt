@@ -7,20 +7,20 @@ ghost use Rattle.zone_lookup.specs.FoundSets.{found_set};
 ghost use Rattle.zone_response.specs.Nodes.{node_of};
 ghost use Rattle.zone_response.specs.Sections.{as_it_is, sent_sets, part_for};
 ghost use Rattle.zone_response.specs.Queries.{inquiry_of};
-ghost use Rattle.zone_response.specs.Renamings.{dname_target};
-ghost use Rattle.zone_response.specs.Standing.{StandsAt};
+ghost use Rattle.zone_response.specs.Dname.{dname_target};
+ghost use Rattle.zone_response.specs.NodeSets.{StandsAt};
 ghost use Rattle.zone_response.specs.Steps.{step, turned_step, target_step, new_name_step, after_renaming, name_step, star_step, node_step, keeps, made_by, made_names, own_part, after_alias, missing as missing_at, ends, next_of, Takes};
-ghost use Rattle.zone_response.specs.Turns.{DNAME, turn_at};
+ghost use Rattle.zone_response.specs.Descent.{DNAME, turn_at};
 
+use crate::aname::stand_in_step;
+use crate::descent::{Turning, own_cut, turn_from_apex};
+use crate::dname::{dname_target, in_place_of, made_alias};
 use crate::lists::{push, send, send_made, send_unless_among};
 use crate::names::is_at_or_above;
+use crate::node_sets::{NodeSets, exists, read_node_sets};
 use crate::nodes::{Node, at_node};
-use crate::renamings::{dname_target, in_place_of, made_alias};
 use crate::response::{Part, Sent};
-use crate::sources::star_of;
-use crate::stand_ins::stand_in_step;
-use crate::standing::{Standing, exists, read_standing};
-use crate::turns::{Turning, own_cut, turn_from_apex};
+use crate::wildcards::star_of;
 use zone_handler::LookupError;
 use zone_lookup::{Found, InnerInMemory, cname_target};
 use zone_map::wildcard::renamed;
@@ -93,7 +93,7 @@ pub(crate) struct SoFar<'z> {
 pub(crate) fn step<'z, S: Signer>(
     inner: &'z InnerInMemory<S>,
     asked: Asked<'_>,
-    apex: Standing<'z>,
+    apex: NodeSets<'z>,
     name: &LowerName,
     so_far: &mut SoFar<'z>,
 ) -> Result<Next<'z>, LookupError>
@@ -131,7 +131,7 @@ fn own_step<'z, S: Signer>(
     ensures err { IsOkUnless result LookupError.Memory }
 {
     let key = RrKey::first_of(name)?;
-    let here = read_standing(inner, &key, asked.record_type, RecordType::CNAME);
+    let here = read_node_sets(inner, &key, asked.record_type, RecordType::CNAME);
     if let Some(cut) = own_cut(here.ns, asked.origin, name, asked.record_type) {
         return Ok(Next::Ends(End::Referred(cut)));
     }
@@ -200,7 +200,7 @@ fn name_step<'z, S: Signer>(
     asked: Asked<'_>,
     name: &LowerName,
     key: RrKey,
-    here: Standing<'z>,
+    here: NodeSets<'z>,
     so_far: &mut SoFar<'z>,
 ) -> Result<Next<'z>, LookupError>
     requires name { key.name ≡ name.now }
@@ -237,7 +237,7 @@ fn star_step<'z, S: Signer>(
         return Ok(at_missing(name, None, false)?);
     };
     let mut key = RrKey::first_of(&star)?;
-    let here = read_standing(inner, &key, asked.record_type, RecordType::CNAME);
+    let here = read_node_sets(inner, &key, asked.record_type, RecordType::CNAME);
     if !exists(inner, &key, here) {
         return Ok(at_missing(name, Some(star), false)?);
     }

@@ -6,8 +6,8 @@ use Rattle.zone_map.specs.Zones.{set_at}
 use Rattle.zone_response.specs.Paths.{path_of}
 use Rattle.zone_response.specs.Queries.{zone_of, inquiry_of}
 use Rattle.zone_response.specs.Sections.{sections}
-use Rattle.zone_response.specs.Standing.{StandsAt}
-use Rattle.zone_response.specs.Turns.{DNAME}
+use Rattle.zone_response.specs.NodeSets.{StandsAt}
+use Rattle.zone_response.specs.Descent.{DNAME}
 use Rattle.zone_response.proofs.ResponseCases.{without_soa, with_soa}
 use Rattle.zone_response.proofs.answering.searched.Goals as goal
 

@@ -4,7 +4,7 @@ use Rattle.std.specs.Option.{option_map_or}
 use Rattle.std.proofs.lemmas.List.{append-nil}
 use Rattle.std.proofs.lemmas.Result.{IfOk-equal}
 use Rattle.zone_proto.specs.Sets.{RRset}
-use Rattle.zone_response.specs.Hosts.{beside}
+use Rattle.zone_response.specs.Additional.{beside}
 use Rattle.zone_response.specs.Sections.{sent_set, sent_sets}
 use Rattle.zone_response.proofs.SetLists.{last_sent}
 use Rattle.zone_response.proofs.sections.send_beside_last.Goals as goal

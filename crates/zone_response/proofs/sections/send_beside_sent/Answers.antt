@@ -2,7 +2,7 @@ use Rattle.std.proofs.Common.{◌++◌, List, ap}
 use Rattle.std.proofs.lemmas.Result.{IfOk-equal}
 use Rattle.zone_proto.specs.Sets.{RRset}
 use Rattle.zone_lookup.specs.FoundSets.{found_set}
-use Rattle.zone_response.specs.Hosts.{beside}
+use Rattle.zone_response.specs.Additional.{beside}
 use Rattle.zone_response.specs.Sections.{sent_sets}
 use Rattle.zone_response.proofs.HostFacts.{beside_sent}
 use Rattle.zone_response.proofs.sections.send_beside_sent.Goals as goal

@@ -2,10 +2,10 @@ use Rattle.std.proofs.Common.{◌≡◌, true, refl, sym, ap, ◌∙◌}
 use Rattle.std.specs.Prelude.{Some, option_map}
 use Rattle.zone_proto.specs.Names.{is_at_or_above}
 use Rattle.zone_response.specs.Queries.{inquiry_of}
-use Rattle.zone_response.specs.Renamings.{dname_target}
+use Rattle.zone_response.specs.Dname.{dname_target}
 use Rattle.zone_response.specs.Sections.{sent_sets}
 use Rattle.zone_response.specs.Steps.{outside, referred, ends, step, target_step, turned_step}
-use Rattle.zone_response.specs.Turns.{cut, renaming, turn_at, turn_of}
+use Rattle.zone_response.specs.Descent.{cut, renaming, turn_at, turn_of}
 use Rattle.zone_response.proofs.StepCases.{at_its_end, same_step, outside_step, inside_step}
 use Rattle.zone_response.proofs.TurnWalk.{of_above, of_itself}
 use Rattle.zone_response.proofs.steps.step.Goals as goal

@@ -1,0 +1,16 @@
+use Rattle.std.proofs.Common.{ap, ◌∙◌}
+use Rattle.zone_proto.specs.Types.{NS}
+use Rattle.zone_map.specs.Walks.{first_key_from}
+use Rattle.zone_map.specs.Zones.{set_at}
+use Rattle.zone_response.proofs.node_sets.read_node_sets.Goals as goal
+
+pub returns : goal.returns
+returns g c =
+    let n = c.args.least.now.name in
+    record {
+      ns = c.node_sets_in.ensures.ns ∙ ap (λ m. set_at m n NS) c.as_map-sets.ensures.entries;
+      one = c.node_sets_in.ensures.one ∙ ap (λ m. set_at m n c.args.one.0) c.as_map-sets.ensures.entries;
+      other = c.node_sets_in.ensures.other ∙ ap (λ m. set_at m n c.args.other.0) c.as_map-sets.ensures.entries;
+      first = c.node_sets_in.ensures.first ∙ ap (λ m. first_key_from m n) c.as_map-sets.ensures.entries;
+      zone = c.as_map-sets.ensures.zone;
+    }

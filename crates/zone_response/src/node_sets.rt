@@ -1,0 +1,162 @@
+//! What stands at one name, read in one walk of the zone: the sets of a name stand together in it, the least type first.
+ghost use Rattle.std.specs.Prelude.{◌≡◌, ◌≤◌, ◌==◌, IfOk, IsOkUnless, option_copied};
+ghost use Rattle.std.specs.List.Sorted.{IsStrictlySortedBy};
+ghost use Rattle.std.specs.Map.{keys_of};
+ghost use Rattle.std.specs.Option.{option_or};
+ghost use Rattle.zone_proto.specs.Keys.{key_cmp};
+ghost use Rattle.zone_proto.specs.Types.{NS, SOA};
+ghost use Rattle.zone_map.specs.Direct.{set_if};
+ghost use Rattle.zone_map.specs.Walks.{first_key_from};
+ghost use Rattle.zone_map.specs.Wildcards.{exists};
+ghost use Rattle.zone_map.specs.Zones.{set_at, IsZone};
+ghost use Rattle.zone_response.specs.NodeSets.{sets_from, StandsAt};
+
+use crate::query_types::{DNAME, is_denial_type};
+use std::collections::BTreeMap;
+use std::collections::btree_map::Range;
+use zone_lookup::InnerInMemory;
+use zone_proto::{LowerName, ProtoError, RecordSet, RecordType, RrKey, Signer};
+
+/// The sets of three types that stand at a name: NS, and two that are asked for; and the first key from the name's least key on,
+/// of the name or of another.
+#[derive(Clone, Copy, Drop)]
+pub(crate) struct NodeSets<'z> {
+    pub(crate) ns: Option<&'z RecordSet>,
+    pub(crate) one: Option<&'z RecordSet>,
+    pub(crate) other: Option<&'z RecordSet>,
+    pub(crate) first: Option<&'z RrKey>,
+}
+
+/// What stands at the name of its least key, that of type 0, of the type NS and of two others.
+pub(crate) fn read_node_sets<'z, S: Signer>(
+    inner: &'z InnerInMemory<S>,
+    least: &RrKey,
+    one: RecordType,
+    other: RecordType,
+) -> NodeSets<'z>
+    requires { least.now.record_type.0 ≡ 0 }
+    ensures { StandsAt inner.now.records least.now.name one.0 other.0 result }
+{
+    let sets = inner.as_map();
+    node_sets_in(sets, sets.range(least..), least, one, other)
+}
+
+/// What stands at the zone's origin, of the types SOA and DNAME.
+pub(crate) fn read_apex<'z, S: Signer>(
+    inner: &'z InnerInMemory<S>,
+    origin: &LowerName,
+) -> Result<NodeSets<'z>, ProtoError>
+    ensures ok { IfOk result (StandsAt inner.now.records origin.now SOA DNAME.0) }
+    ensures err { IsOkUnless result ProtoError.Memory }
+{
+    let key = RrKey::first_of(origin)?;
+    Ok(read_node_sets(inner, &key, RecordType::SOA, DNAME))
+}
+
+/// The same in a map of sets by their keys, by its sets from that key on.
+pub(crate) fn node_sets_in<'z>(
+    sets: &'z BTreeMap<RrKey, RecordSet>,
+    from: Range<'z, RrKey, RecordSet>,
+    least: &RrKey,
+    one: RecordType,
+    other: RecordType,
+) -> NodeSets<'z>
+    requires least { least.now.record_type.0 ≡ 0 }
+    requires ordered { IsStrictlySortedBy key_cmp (keys_of sets.now.entries) }
+    requires from { from ≡ sets_from sets.now.entries least.now }
+    ensures ns { option_copied result.ns ≡ set_at sets.now.entries least.now.name NS }
+    ensures one { option_copied result.one ≡ set_at sets.now.entries least.now.name one.0 }
+    ensures other { option_copied result.other ≡ set_at sets.now.entries least.now.name other.0 }
+    ensures first { option_copied result.first
+        ≡ first_key_from sets.now.entries least.now.name }
+{
+    let last = last_of(one, other);
+    let mut here = NodeSets {
+        ns: None,
+        one: None,
+        other: None,
+        first: None,
+    };
+    for (key, set) in from {
+        here.first = here.first.or(Some(key));
+        if key.name != least.name {
+            break;
+        }
+        here = here.with(key.record_type, set, one, other);
+        // Further types are greater.
+        if key.record_type >= last {
+            break;
+        }
+    }
+    here
+}
+
+impl<'z> NodeSets<'z> {
+    /// The same with the set of a further type.
+    fn with(
+        self,
+        set_type: RecordType,
+        set: &'z RecordSet,
+        one: RecordType,
+        other: RecordType,
+    ) -> NodeSets<'z>
+        ensures ns { option_copied result.ns
+            ≡ option_or (option_copied self.entry.ns) (set_if (NS == set_type.0) set.now) }
+        ensures one { option_copied result.one
+            ≡ option_or (option_copied self.entry.one) (set_if (one.0 == set_type.0) set.now) }
+        ensures other { option_copied result.other
+            ≡ option_or (option_copied self.entry.other) (set_if (other.0 == set_type.0) set.now) }
+        ensures first { option_copied result.first ≡ option_copied self.entry.first }
+    {
+        NodeSets {
+            ns: or_if(self.ns, RecordType::NS, set_type, set),
+            one: or_if(self.one, one, set_type, set),
+            other: or_if(self.other, other, set_type, set),
+            first: self.first,
+        }
+    }
+}
+
+/// What was found before, and else a set, if it is of a type.
+fn or_if<'z>(
+    found: Option<&'z RecordSet>,
+    record_type: RecordType,
+    set_type: RecordType,
+    set: &'z RecordSet,
+) -> Option<&'z RecordSet>
+    ensures { option_copied result
+        ≡ option_or (option_copied found.entry) (set_if (record_type.0 == set_type.0) set.now) }
+{
+    if found.is_none() && record_type == set_type {
+        return Some(set);
+    }
+    found
+}
+
+/// The greatest of three types, of which one is NS.
+fn last_of(one: RecordType, other: RecordType) -> RecordType
+    ensures ns { NS ≤ result.0 }
+    ensures one { one.0 ≤ result.0 }
+    ensures other { other.0 ≤ result.0 }
+{
+    RecordType::NS.max(one).max(other)
+}
+
+/// Whether the name of its least key exists, where `here` stands there: whether it, or a name below it, owns a set of a type other
+/// than those of denial (RFC 4592 section 2.2.2). The first key from there on tells, since the names below a name stand together
+/// after it; only where that key is of a type of denial the zone is searched for a further one.
+pub(crate) fn exists<S: Signer>(inner: &InnerInMemory<S>, least: &RrKey, here: NodeSets<'_>) -> bool
+    requires key { least.now.record_type.0 ≡ 0 }
+    requires first { option_copied here.first
+        ≡ first_key_from inner.now.records least.now.name }
+    requires zone { IsZone inner.now.records }
+    ensures { result ≡ exists inner.now.records least.now.name }
+{
+    let Some(first) = here.first else {
+        return false;
+    };
+    if !least.name.zone_of(&first.name) {
+        return false;
+    }
+    !is_denial_type(first.record_type) || inner.exists(least)
+}
