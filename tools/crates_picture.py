@@ -1,27 +1,61 @@
-"""The picture of the crates and what stands on what, drawn from crates.txt: a crate stands above those that it uses. A line that
-others imply is left out, as that of a crate to one which a crate between the two uses."""
+"""The picture of the crates by their layers, and what stands on what, drawn from crates.txt without the crates of tests: a crate
+stands above those that it uses. A line that others imply is left out, as that of a crate to one which a crate between the two uses."""
 
 import os
 
+import derived
 import sources
 import svg
 
-ROW, GAP, HEIGHT = 74, 14, 30
+ROW, HEIGHT, MARGIN = 54, 28, 16
+
+# Where each crate stands: its middle, and its row from below.
+PLACES = {
+    "zone_proto": (520, 0),
+    "zone_sha1": (380, 0),
+    "line_text": (75, 2),
+    "message_reading": (190, 2),
+    "zone_scanner": (312, 2),
+    "zone_tokens": (75, 3),
+    "zone_file": (170, 4),
+    "message_writing": (300, 4),
+    "zone_file_writer": (85, 5),
+    "zone_handler": (450, 2),
+    "zone_map": (580, 2),
+    "zone_denial": (480, 3),
+    "zone_signing": (610, 3),
+    "zone_builder": (455, 4),
+    "zone_lookup": (585, 4),
+    "zone_in_memory": (600, 6),
+    "denial_validation": (810, 2),
+    "denial_laws": (810, 5),
+    "response_laws": (810, 8),
+    "server_laws": (810, 9),
+    "zone_response": (470, 7),
+    "zone_server": (410, 8),
+    "zone_database": (280, 9),
+    "ningkraet": (280, 10),
+    "zone_check": (85, 12),
+    "zoned": (230, 12),
+    "zonectl_commands": (810, 12),
+    "zonectl_session": (620, 13),
+    "zonectl": (560, 14),
+    "zone_store": (680, 14),
+}
+
+# The bends of lines that would pass through a crate.
+BENDS = {
+    ("zone_database", "zone_sha1"): [(380, 6), (380, 1)],
+    ("zonectl_session", "zone_sha1"): [(692, 11), (692, 0.75), (420, 0.75)],
+    ("zonectl_commands", "line_text"): [(706, 11), (706, 1.3), (95, 1.3)],
+    ("zonectl_commands", "zone_handler"): [(706, 11), (706, 1.3), (470, 1.3)],
+    ("zone_database", "zone_builder"): [(330, 7)],
+}
 
 
 def used(listed):
     """What each crate uses of the repository's own."""
     return {name: [it for it in below if it in listed] for name, below in listed.items()}
-
-
-def levels(uses):
-    """How high each crate stands: 0 on nothing, else one above the highest that it uses."""
-    level = {}
-    while len(level) < len(uses):
-        for name, below in uses.items():
-            if all(it in level for it in below):
-                level[name] = max((level[it] + 1 for it in below), default=0)
-    return level
 
 
 def below_all(uses, name):
@@ -37,61 +71,8 @@ def plain_uses(uses):
     return {name: [it for it in below if not any(it in below_all(uses, other) for other in below)] for name, below in uses.items()}
 
 
-def rows_with_bends(uses, level):
-    """The rows, the lowest first, and the lines from each place to the ones below it. Where a line passes a row, it has a bend
-    there, a place named after both its ends."""
-    rows = [[] for _ in range(max(level.values()) + 1)]
-    lines = {}
-    for name in uses:
-        rows[level[name]].append(name)
-    for name, below in uses.items():
-        for it in below:
-            over = name
-            for height in range(level[name] - 1, level[it], -1):
-                bend = (name, it, height)
-                rows[height].append(bend)
-                lines.setdefault(over, []).append(bend)
-                over = bend
-            lines.setdefault(over, []).append(it)
-    return rows, lines
-
-
-def width_of(place):
-    return 10 if isinstance(place, tuple) else 18 + 8.2 * len(place)
-
-
-def spread(row, wanted):
-    """Where the places of a row stand, in its order: as near as may be to where they are wanted, with gaps between them."""
-    x = {}
-    left = None
-    for place in row:
-        half = width_of(place) / 2
-        x[place] = wanted[place] if left is None else max(wanted[place], left + GAP + half)
-        left = x[place] + half
-    shift = sum(wanted[it] - x[it] for it in row) / len(row)
-    return {place: at + shift for place, at in x.items()}
-
-
-def mean(values, otherwise):
-    values = list(values)
-    return sum(values) / len(values) if values else otherwise
-
-
-def places(rows, lines):
-    """Where each place stands: near those that it is joined to, found by passes up and down the rows."""
-    joined = {}
-    for over, below in lines.items():
-        for it in below:
-            joined.setdefault(over, []).append(it)
-            joined.setdefault(it, []).append(over)
-    x = {place: 100.0 * at for row in rows for at, place in enumerate(row)}
-    for turn in range(40):
-        for row in rows if turn % 2 else reversed(rows):
-            wanted = {it: mean((x[other] for other in joined.get(it, [])), x[it]) for it in row}
-            row.sort(key=lambda it: (wanted[it], str(it)))
-            x.update(spread(row, wanted))
-    least = min(x[it] - width_of(it) / 2 for it in x)
-    return {place: at - least + GAP for place, at in x.items()}
+def width_of(name):
+    return 16 + 7.6 * len(name)
 
 
 def is_program(name):
@@ -99,21 +80,29 @@ def is_program(name):
 
 
 def draw():
-    uses = plain_uses(used(sources.crates()))
-    level = levels(uses)
-    rows, lines = rows_with_bends(uses, level)
-    x = places(rows, lines)
-    width = round(max(x[it] + width_of(it) / 2 for it in x) + GAP)
-    height = ROW * len(rows) + 30
-    picture = svg.Picture(width, height, "The crates of the repository: each stands above those that it uses")
-    y = {place: height - 60 - ROW * at for at, row in enumerate(rows) for place in row}
-    for over, below in lines.items():
+    uses = used({name: below for name, below in sources.crates().items() if derived.layer_of(name) != derived.TESTS})
+    height = ROW * 15 + 60
+    picture = svg.Picture(920, height, "The crates by layers: each stands above those that it uses")
+
+    def y(row):
+        return height - 62 - ROW * row
+
+    for layer, crates in derived.by_layers().items():
+        if layer != derived.TESTS:
+            left = min(PLACES[it][0] - width_of(it) / 2 for it in crates) - 10
+            right = max(PLACES[it][0] + width_of(it) / 2 for it in crates) + 10
+            top, bottom = y(max(PLACES[it][1] for it in crates)), y(min(PLACES[it][1] for it in crates))
+            picture.box(left, top - 36, right - left, bottom - top + 58, "#f7f7f7", svg.LIGHT)
+            picture.text(left + 8, top - 21, layer, 12, svg.GREY, "start", True)
+    for name, below in plain_uses(uses).items():
         for it in below:
-            picture.path([(x[over], y[over]), (x[it], y[it])])
+            bends = BENDS.get((name, it), [])
+            picture.path([(x, y(row)) for x, row in [PLACES[name], *bends, PLACES[it]]], "#a8a8a8")
     for name in uses:
-        box = width_of(name)
+        x, row = PLACES[name]
         fill = "#fdf1dc" if is_program(name) else "#e8f0fa"
-        picture.box(x[name] - box / 2, y[name] - HEIGHT / 2, box, HEIGHT, fill)
-        picture.text(x[name], y[name] + 4.5, name)
-    picture.text(GAP, height - 12, "blue: libraries; yellow: programs. A crate stands above those that it uses.", 12, svg.GREY, "start")
+        picture.box(x - width_of(name) / 2, y(row) - HEIGHT / 2, width_of(name), HEIGHT, fill)
+        picture.text(x, y(row) + 4.5, name, 12.5)
+    words = "blue: libraries; yellow: programs. A crate stands above those that it uses; what others imply isn't drawn."
+    picture.text(MARGIN, height - 10, words, 12, svg.GREY, "start")
     return picture.svg()

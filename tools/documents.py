@@ -2,13 +2,13 @@
 """Checks that the documents are true, as far as their text can be laid beside the sources. Prints what isn't, each with its file
 and line, and ends with status 1 where something is.
 
-- The README's first path is the example's, and its answers are those of examples/answers; it has at most 220 lines.
+- The README's first path is the example's, and its answers are those of examples/answers; it has at most 160 lines, and docs/ 4,500.
 - Blocks of Rattle are lines of a source: those of the README and of DENIALS of crates/library_example.
 - The README's list of crates is what crates.txt has below library_example, and its toolchain is what `rt version` prints.
 - Each contract, clause, word of the definitions, lemma, crate and file that a table names is there, and each name that is marked
   as code stands somewhere in the sources.
-- ARCHITECTURE has each crate, with what it stands on, and each file of its sources; DEFINITIONS each file of definitions, and
-  PROOFS each file of lemmas.
+- DEFINITIONS has each file of definitions, and each crate has a layer (tools/derived.py writes what the documents have from the
+  sources alone).
 - RFCS names definitions of the crates that it says, its rows are in order, and each section that is cited elsewhere has a row, or
   its RFC is one of those without.
 - Links lead to files and headings that are there. Prose has at most 120 characters a line."""
@@ -21,13 +21,14 @@ import sys
 
 sys.dont_write_bytecode = True
 
+import derived
 import markdown
 import rfcs
 import sources
 
-README, ARCHITECTURE, DEFINITIONS, PROOFS = "README.md", "docs/ARCHITECTURE.md", "docs/DEFINITIONS.md", "docs/PROOFS.md"
+README, ARCHITECTURE, DEFINITIONS = "README.md", "docs/ARCHITECTURE.md", "docs/DEFINITIONS.md"
 DIFFERENCES, RFCS = "docs/DIFFERENCES.md", "docs/RFCS.md"
-LONGEST_README, LONGEST_PROSE = 220, 120
+LONGEST_README, LONGEST_DOCS, LONGEST_PROSE = 160, 4500, 120
 EXAMPLE = "crates/library_example/src"
 
 # Names that are marked as code and stand in no source: of hickory-server and of the toolchain's library.
@@ -97,6 +98,8 @@ def check_lengths(path):
     found = markdown.lines(path)
     if path == README and len(found) > LONGEST_README:
         yield len(found), f"{len(found)} lines, and not {LONGEST_README} at most"
+    if path == README and (together := sum(len(markdown.lines(it)) for it in documents() if it.startswith("docs/"))) > LONGEST_DOCS:
+        yield 1, f"docs/ has {together} lines, and not {LONGEST_DOCS} at most"
     for line in found:
         if line.kind in ("prose", "heading") and len(line.text) > LONGEST_PROSE:
             yield line.number, f"{len(line.text)} characters, and not {LONGEST_PROSE} at most"
@@ -252,28 +255,13 @@ def check_tables(path):
 # ---- what documents have to name
 
 
-def named_below(path, crate, ends=("",)):
-    """The words that are marked as code below the heading of a crate."""
-    heads = {f"`{crate}{end}`" for end in ends}
-    return {span for line in markdown.lines(path) if heads & set(line.below) for span in markdown.spans(line.text)}
-
-
-def check_architecture(path):
-    """The table of crates is crates.txt, and each source of a crate that has a table is named there."""
-    if path != ARCHITECTURE:
-        return
-    table = next(it for it in markdown.tables(path) if "Stands on" in it.head)
-    stated = {markdown.spans(row[0])[0]: markdown.spans(row[-1]) for _, row in table.rows}
-    for crate, below in crates().items():
-        if crate not in stated:
-            yield 1, f"{crate} isn't in the table of crates"
-        elif sorted(stated[crate]) != sorted(below):
-            yield 1, f"{crate} stands on {', '.join(below)}"
-        named = named_below(path, crate)
-        for source in sources.files_below(f"crates/{crate}/src", ".rt"):
-            name = source.removeprefix(f"crates/{crate}/src/")
-            if named and name not in named and name.split("/")[0] + "/" not in named and name not in ("lib.rt", "main.rt"):
-                yield 1, f"{name} isn't in the table of {crate}"
+def check_layers(path):
+    """Each crate but those of tests has a layer."""
+    if path == ARCHITECTURE:
+        listed = [it for layer in derived.LAYERS.values() for it in layer]
+        for crate in crates():
+            if (crate in listed) == bool(derived.IS_TEST.search(crate)):
+                yield 1, f"the layers of tools/derived.py don't tell of {crate}"
 
 
 def check_definitions(path):
@@ -289,25 +277,6 @@ def check_definitions(path):
     yield from ((1, f"{it} isn't named") for it in sorted(there - named))
 
 
-def lemma_files(crate):
-    """The files of lemmas of a crate: those of proofs/ and of its folders of subjects, which begin with a capital."""
-    top = f"{sources.TOP}/crates/{crate}/proofs"
-    folders = [top] + [f"{top}/{it}" for it in os.listdir(top) if it[0].isupper() and os.path.isdir(f"{top}/{it}")]
-    files = {name for it in folders for name in os.listdir(it) if name.endswith(".antt")}
-    return sorted(files - {"Lib.antt"} - {f"{os.path.basename(it)}.antt" for it in folders[1:]})
-
-
-def check_proofs(path):
-    """Each file of lemmas is in the table of its crate."""
-    if path != PROOFS:
-        return
-    for crate in crates():
-        named = named_below(path, crate, ("/proofs",))
-        for name in lemma_files(crate) if named else []:
-            if sources.stem(name) not in named:
-                yield 1, f"{name} isn't in the table of {crate}/proofs"
-
-
 # ---- the table of RFCs
 
 
@@ -317,8 +286,8 @@ def check_rfcs(path):
         return
     before = ()
     for row in rfcs.rows(path):
-        order = (row.rfc, row.sections[0] if row.sections else ())
-        if order < before:
+        order = (row.line, row.rfc, row.sections[0] if row.sections else ())
+        if before and order[0] == before[0] + 1 and order[1:] < before[1:]:
             yield row.line, "this section belongs before the one above"
         before = order
         if not re.match(r"(yes|in part|no)\b", row.kept):
@@ -389,9 +358,8 @@ CHECKS = [
     check_links,
     check_readme,
     check_tables,
-    check_architecture,
+    check_layers,
     check_definitions,
-    check_proofs,
     check_rfcs,
     check_citations,
     check_names,

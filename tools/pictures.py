@@ -1,5 +1,5 @@
 #!/usr/bin/env python3
-"""Draws the pictures of the documents into docs/pictures, from crates.txt and the examples; `tools/pictures.py --check` draws none,
+"""Draws the pictures of the documents into docs/pictures, from crates.txt, the sources and the examples; `tools/pictures.py --check` draws none,
 and tells which of them aren't as they would be drawn."""
 
 import os
@@ -9,10 +9,12 @@ sys.dont_write_bytecode = True
 
 import circle_pictures
 import crates_picture
+import query_picture
 import sources
 
 PICTURES = {
     "crates.svg": crates_picture.draw,
+    "query.svg": query_picture.draw,
     "nsec-circle.svg": circle_pictures.draw_nsec,
     "nsec3-circle.svg": circle_pictures.draw_nsec3,
 }

@@ -50,18 +50,19 @@ def sections_in(text):
     return [section_of(it) for it in re.findall(rf"\b(?:{NUMBER}|{APPENDIX})\b", re.sub(r"step \w+", "", text))]
 
 
-def rfc_of(table):
-    """The RFC of the heading that a table stands below."""
-    found = re.match(r"RFC (\d+):", table.below[-1]) if table.below else None
+def rfc_of(text):
+    """The RFC that a heading or a cell begins with, or none."""
+    found = re.match(r"RFC (\d+)\b", text)
     return int(found[1]) if found else None
 
 
 def rows(path):
-    """The rows of RFCs, in order."""
+    """The rows of RFCs, in order: those of the RFC of the heading above, or of the one that their first cell begins with."""
     for table in markdown.tables(path):
-        if rfc := rfc_of(table):
-            for line, (section, _, kept, *named) in table.rows:
-                yield Row(line, rfc, sections_in(section), kept, " ".join(named))
+        for line, (section, *cells) in table.rows if table.head[0] == "Section" else ():
+            rfc = rfc_of(section) or rfc_of(table.below[-1])
+            kept, *named = cells[1:]
+            yield Row(line, rfc, sections_in(re.sub(r"^RFC \d+,?", "", section)), kept, " ".join(named))
 
 
 def told_in(path):
