@@ -37,7 +37,7 @@ pub fn judge_a_denial(rt: &impl Print, alloc: Global) -> anyhow::Result<()> {
         .map_result()
     {
         Some(Ok(denial)) => judge(rt, alloc, zone.origin(), &absent, &denial),
-        // Want of memory.
+        // Out of memory.
         Some(Err(error)) => Err(error.into()),
         None => Ok(()),
     }

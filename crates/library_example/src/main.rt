@@ -76,7 +76,7 @@ fn ask(
         Some(Err(LookupError::NameExists)) => println!(rt; "NoError, and no data")?,
         // NXDomain or Refused.
         Some(Err(LookupError::ResponseCode(code))) => println!(rt; "{code}")?,
-        // Want of memory.
+        // Out of memory.
         Some(Err(error)) => return Err(error.into()),
         None => println!(rt; "this handler has nothing to say")?,
     }
