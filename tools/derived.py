@@ -84,8 +84,7 @@ def module_rows(crate):
 
 
 def print_modules(crate):
-    for row in module_rows(crate):
-        print(row)
+    print("\n".join(module_rows(crate)))
 
 
 def law_rows(crate, path):
