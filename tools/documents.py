@@ -5,6 +5,7 @@ and line, and ends with status 1 where something is.
 - The README's first path is the example's, and its answers are those of examples/answers; it has at most 160 lines, and docs/ 4,500.
 - Blocks of Rattle are lines of a source: those of the README and of DENIALS of crates/library_example.
 - The README's list of crates is what crates.txt has below library_example, and its toolchain is what `rt version` prints.
+- README and PROMISES name each crate of the toolchain that is trusted.
 - Each contract, clause, word of the definitions, lemma, crate and file that a table names is there, and each name that is marked
   as code stands somewhere in the sources.
 - DEFINITIONS has each file of definitions, and each crate has a layer (tools/derived.py writes what the documents have from the
@@ -27,9 +28,12 @@ import rfcs
 import sources
 
 README, ARCHITECTURE, DEFINITIONS = "README.md", "docs/ARCHITECTURE.md", "docs/DEFINITIONS.md"
-DIFFERENCES, RFCS = "docs/DIFFERENCES.md", "docs/RFCS.md"
+DIFFERENCES, PROMISES, RFCS = "docs/DIFFERENCES.md", "docs/PROMISES.md", "docs/RFCS.md"
 LONGEST_README, LONGEST_DOCS, LONGEST_PROSE = 160, 4500, 120
 EXAMPLE = "crates/library_example/src"
+
+# The crates of crates.txt that are parts of the standard library.
+OF_STD = {"core", "std_alloc"}
 
 # Names that are marked as code and stand in no source: of hickory-server and of the toolchain's library.
 ELSEWHERE = {"in_memory", "RecursiveError"}
@@ -131,6 +135,14 @@ def check_readme(path):
     version = subprocess.run(["rt", "version"], capture_output=True, text=True).stdout.strip()
     if f"`rt version` prints as `{version}`" not in text:
         yield 1, f"rt version prints {version}"
+
+
+def check_trusted(path):
+    """What is trusted names each crate of the toolchain that a crate which isn't one of tests stands on."""
+    if path in (README, PROMISES):
+        text = sources.read(path)
+        used = {it for crate, below in crates().items() if not derived.IS_TEST.search(crate) for it in below if it not in crates()}
+        yield from ((1, f"what is trusted doesn't name {it}") for it in sorted(used - OF_STD) if f"`{it}`" not in text)
 
 
 # ---- what tables name
@@ -357,6 +369,7 @@ CHECKS = [
     check_lengths,
     check_links,
     check_readme,
+    check_trusted,
     check_tables,
     check_layers,
     check_definitions,
