@@ -81,6 +81,8 @@ def is_program(name):
 
 def draw():
     uses = used({name: below for name, below in sources.crates().items() if derived.layer_of(name) != derived.TESTS})
+    if missing := [it for it in uses if it not in PLACES]:
+        raise SystemExit(f"crates_picture: no place is stated for {', '.join(missing)}")
     height = ROW * 15 + 60
     picture = svg.Picture(920, height, "The crates by layers: each stands above those that it uses")
 
