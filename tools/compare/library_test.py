@@ -1,8 +1,8 @@
 #!/usr/bin/env python3
-"""tools/library_test.py [FOLDER]: tries the library for C from C: each refusal, each allocation failing in turn, threads that answer from
+"""tools/compare/library_test.py [FOLDER]: tries the library for C from C: each refusal, each allocation failing in turn, threads that answer from
 the same zones while these are renewed, and the server over it with clients that are slow, rude or many, and with a million datagrams that no
-client would send; once more under the sanitizers of the compiler, and under valgrind. FOLDER is what `tools/build ningkraet` made;
-where none is named it is what `tools/program path ningkraet` gives. No part of the gate: it needs cc, opens sockets on loopback, and leaves
+client would send; once more under the sanitizers of the compiler, and under valgrind. FOLDER is what `./build ningkraet` made;
+where none is named it is what `tools/build/program path ningkraet` gives. No part of the gate: it needs cc, opens sockets on loopback, and leaves
 out, and says so, what a machine without valgrind can't do. It ends what it starts."""
 import contextlib
 import os
@@ -17,10 +17,11 @@ import time
 from typing import NamedTuple
 
 sys.dont_write_bytecode = True
+sys.path.append(os.path.dirname(os.path.dirname(os.path.realpath(__file__))))
 
 from library_datagrams import flood
+from sources import TOP
 
-TOP = os.path.dirname(os.path.dirname(os.path.realpath(__file__)))
 PORT = 5390
 # What a memory checker reports ends with this status.
 VALGRIND = ["valgrind", "-q", "--error-exitcode=9", "--leak-check=full"]
@@ -166,11 +167,11 @@ def compiled(way, folder, source, room, *more):
 def try_calls(way, folder, room):
     """Refusals, and allocations that fail; a sanitizer has an allocator of its own, whose allocations don't."""
     more = ["-DNOT_WRAPPED"] if way.flags else ["-Wl,--wrap=malloc,--wrap=realloc"]
-    subprocess.run([*way.before, compiled(way, folder, "tools/library_test.c", room, *more), str(way.datagrams)], check=True)
+    subprocess.run([*way.before, compiled(way, folder, "tools/compare/library_test.c", room, *more), str(way.datagrams)], check=True)
 
 
 def try_threads(way, folder, room):
-    subprocess.run([*way.before, compiled(way, folder, "tools/library_threads.c", room, "-pthread"), str(way.renewals)], check=True)
+    subprocess.run([*way.before, compiled(way, folder, "tools/compare/library_threads.c", room, "-pthread"), str(way.renewals)], check=True)
 
 
 @contextlib.contextmanager
@@ -221,7 +222,7 @@ def words_of(folder):
 
 
 def main(words):
-    folder = words[0] if words else subprocess.run([f"{TOP}/tools/program", "path", "ningkraet"], stdout=subprocess.PIPE, text=True).stdout.strip()
+    folder = words[0] if words else subprocess.run([f"{TOP}/tools/build/program", "path", "ningkraet"], stdout=subprocess.PIPE, text=True).stdout.strip()
     if not shutil.which("cc") or not folder:
         sys.exit("library_test: cc, or the library, isn't there")
     with tempfile.TemporaryDirectory(prefix="library-") as room:

@@ -1,29 +1,17 @@
 """Questions for zoned and other servers, as messages, and what is read of the answers. Names are text as in random_zones.py."""
-import importlib.machinery
-import importlib.util
 import random
 import struct
 import subprocess
 import sys
 
+import frames
 from random_zones import above, dnames, is_below, names_below, under
 from sources import TOP
 
 
-def frames_tool():
-    """The tool that makes messages of words, and words of messages."""
-    loader = importlib.machinery.SourceFileLoader("frames", f"{TOP}/tools/frames")
-    tool = importlib.util.module_from_spec(importlib.util.spec_from_loader("frames", loader))
-    loader.exec_module(tool)
-    return tool
-
-
-frames = frames_tool()
-
-
 def zoned_path():
-    """The path of zoned; where there is none, tools/program has said why, and all ends."""
-    path = subprocess.run([f"{TOP}/tools/program", "path", "zoned"], stdout=subprocess.PIPE, text=True)
+    """The path of zoned; where there is none, tools/build/program has said why, and all ends."""
+    path = subprocess.run([f"{TOP}/tools/build/program", "path", "zoned"], stdout=subprocess.PIPE, text=True)
     if path.returncode:
         sys.exit(path.returncode)
     return path.stdout.strip()

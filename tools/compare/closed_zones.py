@@ -4,7 +4,7 @@ signed and not, glue and text at cuts and below, wildcards, empty names between,
 that are no letters and of either case, one or several chains, and root zones. A zone has to be found closed, without a warning, exactly
 where dnssec-verify passes it. Each is then spoiled in one place, which both have to see. It is no part of the gate.
 
-  tools/closed_zones.py [SEED [COUNT [FOLDER]]]
+  tools/compare/closed_zones.py [SEED [COUNT [FOLDER]]]
 
 Makes 300 zones, or so many. Prints what each signer's zones of each kind came to, and each that the two differ on, with what is told of
 it; with a folder, its file is kept there. The status is 1 where they differ. The tools are Debian's packages bind9-utils, ldnsutils and
@@ -26,6 +26,7 @@ import sys
 import tempfile
 
 sys.dont_write_bytecode = True
+sys.path.append(os.path.dirname(os.path.dirname(os.path.realpath(__file__))))
 
 import random_zones
 import signed_zones
@@ -50,7 +51,7 @@ ABSENT = "HINFO"
 
 
 def program(name):
-    made = subprocess.run([f"{TOP}/tools/program", "path", name], stdout=subprocess.PIPE, text=True)
+    made = subprocess.run([f"{TOP}/tools/build/program", "path", name], stdout=subprocess.PIPE, text=True)
     if made.returncode:
         sys.exit(made.returncode)
     return made.stdout.strip()

@@ -20,6 +20,7 @@ import subprocess
 import sys
 
 sys.dont_write_bytecode = True
+sys.path.append(os.path.dirname(os.path.dirname(os.path.realpath(__file__))))
 
 import markdown
 import rfcs
@@ -61,7 +62,7 @@ def all_names():
 def all_words():
     """The words of all that isn't a document."""
     paths = [it for it in sources.files_below(".", "") if not it.endswith((".md", ".svg"))]
-    paths = [it for it in paths if os.path.getsize(f"{sources.TOP}/{it}") < 10**6 and it != "tools/documents.py"]
+    paths = [it for it in paths if os.path.getsize(f"{sources.TOP}/{it}") < 10**6 and it != "tools/gate/documents.py"]
     return {word for path in paths for word in re.findall(r"[\w'-]*\w'?", f"{path} {sources.read(path)}".replace("/", " "))}
 
 

@@ -15,10 +15,10 @@ import re
 import sys
 
 sys.dont_write_bytecode = True
+sys.path.append(os.path.dirname(os.path.dirname(os.path.realpath(__file__))))
 
 import sources
-
-TOP = os.path.dirname(os.path.dirname(os.path.realpath(__file__)))
+from sources import TOP, read
 
 # The crates whose items all are the library's, and those of which zone_store hands items on.
 OWN = ["zone_proto", "line_text", "denial_validation", "zone_handler"]
@@ -42,11 +42,6 @@ PROGRAM = "zonectl"
 # Where the lists are, beside the rows that they name; each, and how a row of it refuses memory to its call.
 FOLDER = "crates/library_rows"
 LISTS = [("calls-with-memory.txt", r"after [1-9]\d* refusals: "), ("calls-without-memory.txt", "without memory: ")]
-
-
-def read(path):
-    with open(f"{TOP}/{path}", encoding="utf-8") as it:
-        return it.read()
 
 
 def texts(pattern):

@@ -4,7 +4,7 @@ copies are compared with what the same server reads of the zone files as a prima
 signatures, with NSEC and with NSEC3; one of many names, which takes several messages; and one with a set that no message has room for.
 Where a server isn't there, it is left out, and a line says so. It is no part of the gate.
 
-  tools/secondaries.py [SEED [ROUNDS]]
+  tools/compare/secondaries.py [SEED [ROUNDS]]
 
 The servers are Debian's packages nsd and knot; zones are signed by those of signed_zones.py. The status is 1 where a copy differs
 from its zone, or doesn't come.
@@ -20,6 +20,7 @@ import tempfile
 import time
 
 sys.dont_write_bytecode = True
+sys.path.append(os.path.dirname(os.path.dirname(os.path.realpath(__file__))))
 
 import other_servers
 import signed_zones

@@ -2,12 +2,14 @@
 """Whether include/ningkraet.h declares what the static library has: the same names, in its order, with as many parameters of the same
 kinds, the same codes by the same numbers, and the same number of the interface. Where cc is there, the header is also compiled as C
 and as C++. Says what differs, and ends with the status 1 then."""
+import os
 import re
 import shutil
 import subprocess
 import sys
 
 sys.dont_write_bytecode = True
+sys.path.append(os.path.dirname(os.path.dirname(os.path.realpath(__file__))))
 
 import sources
 

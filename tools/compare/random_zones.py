@@ -1,6 +1,6 @@
 """Random zones, and random zones with DNAME, of which other_servers.py, secondaries.py, validating_resolver.py and closed_zones.py ask.
 
-A name is text as tools/frames writes it: octets that are no letter, digit, `-`, `_` or `*` stand as `\\DDD`, a dot within a label too, so that
+A name is text as tools/frames.py writes it: octets that are no letter, digit, `-`, `_` or `*` stand as `\\DDD`, a dot within a label too, so that
 its labels are what stands between dots."""
 import random
 

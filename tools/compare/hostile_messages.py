@@ -4,7 +4,7 @@ are turned, for transfers too, and fronts of good queries, each with a limit of 
 identifier of its message, with its opcode and RD, without AD and CD, within its limit, and to what has a header and is no response alone.
 It is no part of the gate.
 
-  tools/hostile_messages.py [COUNT [SEED]]
+  tools/compare/hostile_messages.py [COUNT [SEED]]
 
 Prints how long it took, in a process that also makes and checks the messages, and how much memory the program had at its most, for a
 tenth of them and for all: the two figures of memory should be alike. The tenth goes out one by one, and the processor time of the one that
@@ -13,6 +13,7 @@ each beside that of a plain one of its kind. The status is 1 where an answer isn
 eight times the plain one's; but for those of which the table says that this is known. Signed zones are made by dnssec-signzone, of Debian's
 package bind9-utils; without it the unsigned one alone is asked.
 """
+import os
 import random
 import struct
 import subprocess
@@ -21,6 +22,7 @@ import tempfile
 import time
 
 sys.dont_write_bytecode = True
+sys.path.append(os.path.dirname(os.path.dirname(os.path.realpath(__file__))))
 
 import dear_queries
 from dear_queries import worked

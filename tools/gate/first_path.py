@@ -8,14 +8,13 @@ import os
 import re
 import sys
 
-TOP = os.path.dirname(os.path.dirname(os.path.realpath(__file__)))
+sys.dont_write_bytecode = True
+sys.path.append(os.path.dirname(os.path.dirname(os.path.realpath(__file__))))
+
+import sources
+
 PROOF = "crates/zonectl_session/proofs/FirstPath.antt"
 EXAMPLES = {"input": "examples/first-path.txt", "output": "examples/answers/first-path.txt"}
-
-
-def read(path):
-    with open(f"{TOP}/{path}", encoding="utf-8") as it:
-        return it.read()
 
 
 def computed(proof, name):
@@ -26,8 +25,8 @@ def computed(proof, name):
 
 
 def main():
-    proof = read(PROOF)
-    wrong = [name for name, example in EXAMPLES.items() if computed(proof, name) != read(example)]
+    proof = sources.read(PROOF)
+    wrong = [name for name, example in EXAMPLES.items() if computed(proof, name) != sources.read(example)]
     for name in wrong:
         print(f"first_path: {name} of {PROOF} isn't {EXAMPLES[name]}")
     return 1 if wrong else 0

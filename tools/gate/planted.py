@@ -6,13 +6,14 @@
   new: another line          what is put in its place
 
 More pairs of old and new, and more files, may follow. As a program, this checks that each can be applied: each old text stands
-once in its file. It prints what is wrong, and ends with status 1 where something is. tools/plant tries them.
+once in its file. It prints what is wrong, and ends with status 1 where something is. tools/gate/plant tries them.
 """
 import os
 import re
 import sys
 
 sys.dont_write_bytecode = True
+sys.path.append(os.path.dirname(os.path.dirname(os.path.realpath(__file__))))
 
 import sources
 

@@ -5,7 +5,7 @@ by UDP what is too large for it has to come by TCP. Behind front.py each also ta
 the files. Then delv, a client that validates, asks for the same with the key of each zone: what it says has to be `fully validated`, or
 `unsigned answer` where the zone gives no proof. Where a tool isn't there, it is left out, and a line says so. It is no part of the gate.
 
-  tools/real_clients.py
+  tools/compare/real_clients.py
 
 The zones are made here and signed by dnssec-signzone: with NSEC, with NSEC3, and with NSEC3 and opt-out; each has a signed child and an
 unsigned one that are served too, and one of each that isn't. The tools are Debian's packages bind9-dnsutils, ldnsutils, knot-dnsutils,
@@ -23,6 +23,7 @@ import sys
 import tempfile
 
 sys.dont_write_bytecode = True
+sys.path.append(os.path.dirname(os.path.dirname(os.path.realpath(__file__))))
 
 import library_test
 import other_servers
@@ -291,7 +292,7 @@ def fronts(folder, files):
     zones = [f"{origin}={path}" for origin, path in files.items()]
     port = free_port()
     yield "front.py", port, [f"{TOP}/serve", *zones, "--port", str(port), "--transfers"]
-    made_by = subprocess.run([f"{TOP}/tools/program", "path", "ningkraet"], stdout=subprocess.PIPE, text=True) if shutil.which("cc") else None
+    made_by = subprocess.run([f"{TOP}/tools/build/program", "path", "ningkraet"], stdout=subprocess.PIPE, text=True) if shutil.which("cc") else None
     if not made_by or made_by.returncode:
         print("real_clients: cc, or the library, isn't there, so nothing is asked of front.c")
         return

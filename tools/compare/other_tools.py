@@ -3,7 +3,7 @@
 ones and one with the shape of the root zone, as they are and signed with NSEC and with NSEC3. Where a tool isn't there, what needs
 it is left out, and a line says so. It is no part of the gate.
 
-  tools/other_tools.py [SEED]
+  tools/compare/other_tools.py [SEED]
 
 What zone_check prints of a file has to be what named-compilezone prints of it, line by line once both are sorted, but for the spelling
 that NAMES and the lists behind it tell of; and read by named-compilezone it has to give the same as the file itself. Files with a
@@ -20,6 +20,7 @@ import sys
 import tempfile
 
 sys.dont_write_bytecode = True
+sys.path.append(os.path.dirname(os.path.dirname(os.path.realpath(__file__))))
 
 from sources import TOP
 
@@ -367,7 +368,7 @@ def write(path, text):
 
 def main(words):
     seed = int(words[0]) if words else 1
-    program = done(f"{TOP}/tools/program", "path", "zone_check").strip()
+    program = done(f"{TOP}/tools/build/program", "path", "zone_check").strip()
     if not need("named-compilezone"):
         return 0
     wrong, signers = 0, [it for it in SIGNERS if need(*it[1])]

@@ -2,7 +2,7 @@
 """Compares what zoned answers with what NSD, Knot DNS and BIND answer, section by section, on random zones and queries that are made
 here. Where a tool isn't there, what needs it is left out, and a line says so. It is no part of the gate.
 
-  tools/other_servers.py [SEED [ROUNDS]]
+  tools/compare/other_servers.py [SEED [ROUNDS]]
 
 The zones are those of random_zones.py: glue and text at cuts, MINIMUM above the TTL of the SOA, names with octets that are no letters,
 and of either case. They have no signatures, or are signed by dnssec-signzone, ldns-signzone or kzonesign, with NSEC, with NSEC3, or with
@@ -21,6 +21,7 @@ otherwise than by what a server may choose, as server_choices.py lists it, or wh
 """
 import collections
 import dataclasses
+import os
 import random
 import socket
 import struct
@@ -30,6 +31,7 @@ import tempfile
 import time
 
 sys.dont_write_bytecode = True
+sys.path.append(os.path.dirname(os.path.dirname(os.path.realpath(__file__))))
 
 import signed_zones
 from questions import chains, frames, queries, received, sections, zone_of, zoned_path

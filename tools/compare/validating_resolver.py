@@ -3,7 +3,7 @@
 answers in its turn with the same code and the same records; one of a zone with opt-out may stay without AD (RFC 5155 section 9.2), but has to
 be no bogus one. Where a tool isn't there, what needs it is left out, and a line says so. It is no part of the gate.
 
-  tools/validating_resolver.py [SEED [ROUNDS]]
+  tools/compare/validating_resolver.py [SEED [ROUNDS]]
 
 The zones are random ones (random_zones.py) that dnssec-signzone, ldns-signzone and kzonesign sign, with NSEC, and with NSEC3, with opt-out
 and without; some with NSEC3 have a second chain, the rest of an old one, or NSEC records beside it (signed_zones.py). A round has twelve
@@ -29,6 +29,7 @@ otherwise. These questions are left out:
 """
 import dataclasses
 import hashlib
+import os
 import random
 import struct
 import subprocess
@@ -36,6 +37,7 @@ import sys
 import tempfile
 
 sys.dont_write_bytecode = True
+sys.path.append(os.path.dirname(os.path.dirname(os.path.realpath(__file__))))
 
 import other_servers
 import server_choices

@@ -1,11 +1,12 @@
 #!/usr/bin/env python3
-"""Draws the pictures of the documents into docs/pictures, from crates.txt and the examples; `tools/pictures.py --check` draws none,
+"""Draws the pictures of the documents into docs/pictures, from crates.txt and the examples; `tools/gate/pictures.py --check` draws none,
 and tells which of them aren't as they would be drawn."""
 
 import os
 import sys
 
 sys.dont_write_bytecode = True
+sys.path.append(os.path.dirname(os.path.dirname(os.path.realpath(__file__))))
 
 import circle_pictures
 import crates_picture
@@ -28,7 +29,7 @@ def main():
     stale = {name: draw() for name, draw in PICTURES.items() if not stands(f"{folder}/{name}", draw())}
     if sys.argv[1:] == ["--check"]:
         for name in stale:
-            print(f"pictures: docs/pictures/{name} isn't as tools/pictures.py draws it")
+            print(f"pictures: docs/pictures/{name} isn't as tools/gate/pictures.py draws it")
         return 1 if stale else 0
     os.makedirs(folder, exist_ok=True)
     for name, text in stale.items():

@@ -4,8 +4,12 @@ that stand for them in types and traits. A longer clause is laid on several line
 
 Tells of each such line, and ends with status 1 where there is one.
 """
+import os
 import re
 import sys
+
+sys.dont_write_bytecode = True
+sys.path.append(os.path.dirname(os.path.dirname(os.path.realpath(__file__))))
 
 from sources import crates, files_below, read
 
