@@ -44,6 +44,11 @@ def installed(name, archive, kit, room):
     return folder
 
 
+def flags(folder):
+    """What a C compiler is handed for a program that uses the library of such a folder, behind the program's own files."""
+    return [f"-I{folder}/include", f"-L{folder}/lib", "-lningkraet", "-lningkraet_heap"]
+
+
 # ---- a library that is compiled without proofs
 
 # What a parameter of an export is handed by the program that calls each export once, so that none is left out. A handle has the name of

@@ -28,10 +28,11 @@ import tempfile
 sys.dont_write_bytecode = True
 sys.path.append(os.path.dirname(os.path.dirname(os.path.realpath(__file__))))
 
+import peers
 import random_zones
 import signed_zones
-from signed_zones import BESIDE, KINDS, SIGNERS, found
-from sources import TOP
+from peers import found
+from signed_zones import BESIDE, KINDS, SIGNERS
 
 # How many examples of one fault are told.
 TOLD = 10
@@ -48,13 +49,6 @@ MADE = [
 
 # A type that no zone here has.
 ABSENT = "HINFO"
-
-
-def program(name):
-    made = subprocess.run([f"{TOP}/tools/build/program", "path", name], stdout=subprocess.PIPE, text=True)
-    if made.returncode:
-        sys.exit(made.returncode)
-    return made.stdout.strip()
 
 
 def verifies(origin, path, lines, way):
@@ -186,7 +180,7 @@ def main(seed="1", count="300", folder=None):
         print("closed_zones: there is no signer, or no dnssec-verify, so nothing is looked at")
         return 0
     ways = [(signer, kind, beside) for kind in KINDS for signer in signers for beside in ("", *(BESIDE if kind != "nsec" else ("",)))]
-    checker, sums = program("zone_check"), Sums(folder)
+    checker, sums = peers.program("zone_check"), Sums(folder)
     if folder:
         os.makedirs(folder, exist_ok=True)
     for number in range(int(count)):
@@ -197,6 +191,4 @@ def main(seed="1", count="300", folder=None):
 
 
 if __name__ == "__main__":
-    if len(sys.argv) > 4:
-        sys.exit(__doc__)
-    sys.exit(main(*sys.argv[1:]))
+    peers.called(main, __doc__, 3)

@@ -10,8 +10,9 @@ import os
 import struct
 import subprocess
 
+import frames
 import signed_zones
-from questions import frames, received
+from peers import received
 
 # No response should take more than so many times what a plain one of its kind takes.
 BOUND = 8

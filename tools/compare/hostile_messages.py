@@ -25,8 +25,10 @@ sys.dont_write_bytecode = True
 sys.path.append(os.path.dirname(os.path.dirname(os.path.realpath(__file__))))
 
 import dear_queries
+import frames
+import peers
 from dear_queries import worked
-from questions import frames, zoned_path
+from questions import is_answered, turned
 from sources import TOP
 
 ZONE = f"example.com.={TOP}/examples/zones/example.zone"
@@ -48,21 +50,6 @@ def good():
     if random.random() < 0.6:
         words += [f"edns={random.choice([0, 512, 1232, 4096, 65535])}", *(["do"] if random.random() < 0.5 else [])]
     return frames.query(words)
-
-
-def turned(octets, chance=random):
-    """Octets of which some are others, or gone, or more, by chance."""
-    octets = bytearray(octets)
-    for _ in range(chance.randint(1, 6)):
-        at = chance.randrange(len(octets) + 1)
-        how = chance.random()
-        if how < 0.6 and at < len(octets):
-            octets[at] = chance.choice([0, 1, 63, 64, 192, 255, chance.randrange(256)])
-        elif how < 0.8:
-            del octets[at : at + chance.randint(1, 12)]
-        else:
-            octets[at:at] = chance.randbytes(chance.randint(1, 12))
-    return bytes(octets)
 
 
 def messages():
@@ -88,11 +75,6 @@ def fault(message, limit, response):
     if not own_flags & 0x8000 or (flags ^ own_flags) & 0x7900 or own_flags & 0x0030:
         return f"flags {own_flags:04x} to {flags:04x}"
     return None
-
-
-def is_answered(message):
-    """Whether a message gets an answer: it has a header, and is no response (RFC 1035 section 4.1.1)."""
-    return len(message) >= 12 and not message[2] & 0x80
 
 
 def tried(program, count, together):
@@ -123,7 +105,7 @@ def tried(program, count, together):
 
 
 def main(count="1000000", seed="1"):
-    path = zoned_path()
+    path = peers.program("zoned")
     random.seed(int(seed))
     for some, together in ((int(count) // 10, 1), (int(count), TOGETHER)):
         began = time.monotonic()
@@ -138,6 +120,4 @@ def main(count="1000000", seed="1"):
 
 
 if __name__ == "__main__":
-    if len(sys.argv) > 3:
-        sys.exit(__doc__)
-    sys.exit(main(*sys.argv[1:]))
+    peers.called(main, __doc__)

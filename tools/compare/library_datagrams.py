@@ -4,7 +4,8 @@ import random
 import socket
 import struct
 
-from hostile_messages import frames, is_answered, turned
+import frames
+from questions import is_answered, turned
 
 # How many are open at once, and seconds that an answer is waited for.
 OPEN, PATIENCE = 64, 60

@@ -19,6 +19,8 @@ from typing import NamedTuple
 sys.dont_write_bytecode = True
 sys.path.append(os.path.dirname(os.path.dirname(os.path.realpath(__file__))))
 
+import library
+import peers
 from library_datagrams import flood
 from sources import TOP
 
@@ -45,10 +47,6 @@ WAYS = [
 # A query for the SOA of example.com, and one without an answer: it is itself a response.
 QUERY = bytes.fromhex("1234 0100 0001 0000 0000 0000 07") + b"example\3com" + bytes.fromhex("00 0006 0001")
 RESPONSE = QUERY[:2] + b"\x81" + QUERY[3:]
-
-
-def framed(message):
-    return struct.pack("!H", len(message)) + message
 
 
 def received(stream):
@@ -86,28 +84,28 @@ def datagrams_are_answered():
 def queries_of_one_write_are_answered():
     for family in (socket.AF_INET, socket.AF_INET6):
         with connected(family) as it:
-            it.sendall(framed(QUERY) + framed(RESPONSE) + framed(QUERY)[:9])
+            it.sendall(peers.framed(QUERY) + peers.framed(RESPONSE) + peers.framed(QUERY)[:9])
             assert is_answer(received(it))
-            it.sendall(framed(QUERY)[9:] + framed(QUERY) * 500)
+            it.sendall(peers.framed(QUERY)[9:] + peers.framed(QUERY) * 500)
             assert all(is_answer(received(it)) for _ in range(501))
 
 
 def half_closed_connections_are_answered():
     with connected() as it:
-        it.sendall(framed(QUERY) * 3)
+        it.sendall(peers.framed(QUERY) * 3)
         it.shutdown(socket.SHUT_WR)
         assert all(is_answer(received(it)) for _ in range(3)) and received(it) == b""
 
 
 def others_dont_wait_for_one_octet_a_second():
     with connected() as slow:
-        for octet in framed(QUERY)[:3]:
+        for octet in peers.framed(QUERY)[:3]:
             slow.sendall(bytes([octet]))
             began = time.monotonic()
             datagrams_are_answered()
             queries_of_one_write_are_answered()
             time.sleep(max(0, 1 - (time.monotonic() - began)))
-        slow.sendall(framed(QUERY)[3:])
+        slow.sendall(peers.framed(QUERY)[3:])
         assert is_answer(received(slow))
 
 
@@ -116,7 +114,7 @@ def a_client_that_does_not_read_is_bounded(front):
         it.setblocking(False)
         try:
             for _ in range(4000):
-                it.send(framed(QUERY) * 1000)
+                it.send(peers.framed(QUERY) * 1000)
         except BlockingIOError:
             pass
         time.sleep(1)
@@ -127,12 +125,12 @@ def a_client_that_does_not_read_is_bounded(front):
 def a_thousand_connections_are_served():
     streams = [connected() for _ in range(1000)]
     for it in streams:
-        it.sendall(framed(QUERY))
+        it.sendall(peers.framed(QUERY))
     assert all(is_answer(received(it)) for it in streams)
     # More than there may be: the first, which have asked nothing for longest, give way.
     more = [connected() for _ in range(100)]
     for it in more:
-        it.sendall(framed(QUERY))
+        it.sendall(peers.framed(QUERY))
     assert all(is_answer(received(it)) for it in more)
     for it in streams + more:
         it.close()
@@ -147,7 +145,7 @@ def a_changed_file_is_served(front, file):
         front.send_signal(signal.SIGHUP)
         time.sleep(0.5)
         with connected() as it:
-            it.sendall(framed(QUERY))
+            it.sendall(peers.framed(QUERY))
             found = received(it)
         assert struct.unpack("!I", found[-20:-16])[0] == serial, found
 
@@ -160,7 +158,7 @@ def tried(what, test, *words):
 def compiled(way, folder, source, room, *more):
     """Compiles a program over the library, and gives its path."""
     path = f"{room}/{os.path.basename(source)[:-2]}"
-    subprocess.run(["cc", "-O2", "-g", *way.flags, "-o", path, f"{TOP}/{source}", *words_of(folder), *more], check=True)
+    subprocess.run(["cc", "-O2", "-g", *way.flags, "-o", path, f"{TOP}/{source}", *library.flags(folder), *more], check=True)
     return path
 
 
@@ -217,14 +215,10 @@ def try_front(folder, room):
         tried("a_changed_file_is_served", a_changed_file_is_served, front, file)
 
 
-def words_of(folder):
-    return [f"-I{folder}/include", f"-L{folder}/lib", "-lningkraet", "-lningkraet_heap"]
-
-
 def main(words):
-    folder = words[0] if words else subprocess.run([f"{TOP}/tools/build/program", "path", "ningkraet"], stdout=subprocess.PIPE, text=True).stdout.strip()
-    if not shutil.which("cc") or not folder:
-        sys.exit("library_test: cc, or the library, isn't there")
+    if not shutil.which("cc"):
+        sys.exit("library_test: cc isn't there")
+    folder = words[0] if words else peers.program("ningkraet")
     with tempfile.TemporaryDirectory(prefix="library-") as room:
         for way in WAYS:
             if way.before and not shutil.which(way.before[0]):

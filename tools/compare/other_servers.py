@@ -20,7 +20,6 @@ The tools are Debian's packages nsd, knot, bind9, bind9-utils, ldnsutils and kno
 otherwise than by what a server may choose, as server_choices.py lists it, or where zoned denies by several chains at once.
 """
 import collections
-import dataclasses
 import os
 import random
 import socket
@@ -28,67 +27,19 @@ import struct
 import subprocess
 import sys
 import tempfile
-import time
 
 sys.dont_write_bytecode = True
 sys.path.append(os.path.dirname(os.path.dirname(os.path.realpath(__file__))))
 
+import frames
+import peers
 import signed_zones
-from questions import chains, frames, queries, received, sections, zone_of, zoned_path
-from random_zones import MADE, dnames, is_below, random_zone, under
+from peers import SERVERS, found
+from questions import chains, queries, sections, zone_of
+from random_zones import MADE, dnames, is_below
+from served_zones import files, made, parent_and_children
 from server_choices import YXDOMAIN, compared_sections, is_left_out
-from signed_zones import cased, found
-
-NSD = """server:
- username: ""
- zonesdir: "{folder}"
- database: ""
- pidfile: ""
- zonelistfile: "{folder}/list"
- xfrdfile: "{folder}/xfrd"
- xfrdir: "{folder}"
- port: {port}
- ip-address: 127.0.0.1
- rrl-ratelimit: 0
-remote-control:
- control-enable: no
-"""
-
-KNOT = """server:
- listen: 127.0.0.1@{port}
- rundir: "{folder}"
- pidfile: "{folder}/pid"
-database:
- storage: "{folder}"
-log:
- - target: "{folder}/log"
-   any: error
-zone:
-"""
-
-BIND = """options {{
- directory "{folder}";
- listen-on port {port} {{ 127.0.0.1; }};
- listen-on-v6 {{ none; }};
- recursion no;
- pid-file none;
- session-keyfile "{folder}/key";
- notify no;
- check-names primary ignore;
- minimal-responses no;
-}};
-controls {{ }};
-"""
-
-# How each server is started, and what its configuration says of itself and of each zone.
-SERVERS = {
-    "nsd": (["-d", "-c"], NSD, 'zone:\n name: "{origin}"\n zonefile: "{path}"\n'),
-    "knotd": (["-c"], KNOT, ' - domain: "{origin}"\n   file: "{path}"\n   zonefile-load: whole\n   semantic-checks: off\n'),
-    "named": (["-g", "-c"], BIND, 'zone "{origin}" {{ type primary; file "{path}"; check-integrity no; }};\n'),
-}
-
-# Seconds in which a server has to listen.
-LISTENS = 10
+from signed_zones import cased
 
 # By how many of all questions one is asked by UDP too, and the words and limits of these.
 BY_UDP = 12
@@ -98,52 +49,7 @@ DATAGRAMS = [([], 512), (["edns=512", "do"], 512), (["edns=1232", "do"], 1232)]
 PARENTS = 2
 
 
-def started(main, usage):
-    """Calls main with the words of the command, a seed and a number of rounds or fewer, and ends with its status."""
-    sys.exit(usage if len(sys.argv) > 3 else main(*sys.argv[1:]))
-
-
 # ---- zones
-
-
-@dataclasses.dataclass(frozen=True)
-class Zone:
-    """The records of a zone without its signatures, how it is signed, if it is, and its file."""
-
-    records: list
-    way: signed_zones.Way | None
-    path: str
-
-    @property
-    def opts_out(self):
-        return bool(self.way and self.way.opts_out)
-
-
-def made(folder, origin, records, way):
-    """A zone, and its file in a folder. One with an octet 0 in a name isn't signed by kzonesign, which now and then writes its chain in
-    another order than that of RFC 4034 section 6.1."""
-    if way and way.signer == "kzonesign" and any("\\000" in owner for owner, _, _ in records):
-        way = dataclasses.replace(way, signer="dnssec-signzone")
-    path = signed_zones.written(folder, origin, records, random.random() < 0.3)
-    return Zone(records, way, signed_zones.signed(folder, origin, path, way)[0] if way else path)
-
-
-def child_of(folder, origin, label, way, has_digest):
-    """A child of a zone by its origin, and the records of its cut in the parent."""
-    child = under(label, origin)
-    zone = made(folder, child, random_zone(child, bool(way)), way)
-    cut = [(child, "NS", f"ns.{child}"), (f"ns.{child}", "A", "192.0.2.1")]
-    digest = [(child, "DS", signed_zones.delegation_signer(folder, child))] if has_digest and way else []
-    return {child: zone}, cut + digest
-
-
-def parent_and_children(folder, origin, way, children):
-    """A zone with children that are served beside it."""
-    zones, records = {}, random_zone(origin, bool(way))
-    for label, child_way, has_digest in children:
-        child, cut = child_of(folder, origin, label, child_way, has_digest)
-        zones, records = zones | child, records + cut
-    return {origin: made(folder, origin, records, way), **zones}
 
 
 def zones_together(folder, signers):
@@ -168,21 +74,20 @@ class Asked:
 
     def __init__(self, server, zoned, stream, port):
         self.server, self.zoned, self.stream, self.port = server, zoned, stream, port
-        self.read, self.count, self.differing = stream.makefile("rb").read, 0, collections.defaultdict(list)
+        self.count, self.differing = 0, collections.defaultdict(list)
 
     def of_zoned(self, message, limit):
         self.zoned.stdin.write(struct.pack("!HH", limit, len(message)) + message)
         self.zoned.stdin.flush()
-        return received(self.zoned.stdout.read)
+        return peers.received(self.zoned.stdout.read)
 
     def by_tcp(self, message):
         """The response of zoned, and that of the server."""
-        self.stream.sendall(struct.pack("!H", len(message)) + message)
-        return self.of_zoned(message, 65535), received(self.read)
+        return self.of_zoned(message, 65535), peers.asked(self.stream, message)
 
     def by_udp(self, message, limit):
         with socket.socket(socket.AF_INET, socket.SOCK_DGRAM) as it:
-            it.settimeout(LISTENS)
+            it.settimeout(peers.LISTENS)
             it.connect(("127.0.0.1", self.port))
             it.send(message)
             return self.of_zoned(message, limit), it.recv(65535)
@@ -233,34 +138,6 @@ def compare(asked, zones):
                 asked.compare_datagrams(name, kind)
 
 
-def connected(port):
-    """A connection to a server that begins to listen."""
-    for _ in range(10 * LISTENS):
-        try:
-            return socket.create_connection(("127.0.0.1", port))
-        except ConnectionRefusedError:
-            time.sleep(0.1)
-    sys.exit(f"other_servers: nothing listens on port {port}")
-
-
-def await_zones(stream, origins):
-    """Waits until a server that listens has its zones: BIND listens before it has read them."""
-    read, ends = stream.makefile("rb").read, time.monotonic() + LISTENS
-    for origin in origins:
-        message = frames.query([origin, "SOA"])
-        while time.monotonic() < ends:
-            stream.sendall(struct.pack("!H", len(message)) + message)
-            if received(read)[3] & 15 == 0:
-                break
-            time.sleep(0.1)
-
-
-def free_port():
-    with socket.socket() as it:
-        it.bind(("127.0.0.1", 0))
-        return it.getsockname()[1]
-
-
 def is_taken(server, origin, zone):
     """Whether a server loads a zone, and takes it for what it is: BIND looks closer at what stands in it, but for records below a DNAME."""
     words = [found("named-checkzone"), "-k", "ignore", "-i", "none", origin, zone.path]
@@ -273,25 +150,19 @@ def is_taken(server, origin, zone):
 
 def compared(server, folder, zones, zoned):
     """How many questions a server was asked, and those that it answers otherwise than zoned does from the same files."""
-    port = free_port()
-    flags, configuration, text = SERVERS[server]
-    own = tempfile.mkdtemp(prefix=server, dir=folder)
-    with open(f"{own}/conf", "w", encoding="ascii") as it:
-        it.write(configuration.format(folder=own, port=port))
-        it.writelines(text.format(origin=origin, path=zone.path) for origin, zone in zones.items())
-    theirs = subprocess.Popen([found(server), *flags, f"{own}/conf"], stdout=subprocess.DEVNULL, stderr=subprocess.DEVNULL)
-    words = [f"{origin}={zone.path}" for origin, zone in zones.items()]
+    port, own = peers.free_port(), f"{tempfile.mkdtemp(prefix=server, dir=folder)}/own"
+    theirs = peers.begun(peers.configured(server, own, port, peers.zones_text(server, files(zones))))
+    words = [f"{origin}={path}" for origin, path in files(zones).items()]
     ours = subprocess.Popen([zoned, "--limits", *words], stdin=subprocess.PIPE, stdout=subprocess.PIPE, stderr=subprocess.DEVNULL)
     try:
-        with connected(port) as stream:
-            await_zones(stream, zones)
+        with peers.connected(port) as stream:
+            peers.await_zones(stream, zones)
             asked = Asked(server, ours, stream, port)
             compare(asked, zones)
             return asked.count, asked.differing
     finally:
         ours.stdin.close()
-        theirs.terminate()
-        theirs.wait()
+        peers.end(theirs)
         ours.wait()
 
 
@@ -308,7 +179,7 @@ def main(seed="1", rounds="1"):
     signers = signed_zones.signers()
     for signer in signed_zones.SIGNERS.keys() - set(signers):
         print(f"other_servers: {signer}, or what it needs, isn't there, so it signs no zone")
-    path, differs = zoned_path(), False
+    path, differs = peers.program("zoned"), False
     random.seed(int(seed))
     for _ in range(int(rounds)):
         with tempfile.TemporaryDirectory() as folder:
@@ -323,4 +194,4 @@ def main(seed="1", rounds="1"):
 
 
 if __name__ == "__main__":
-    started(main, __doc__)
+    peers.called(main, __doc__)

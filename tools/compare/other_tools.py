@@ -22,7 +22,7 @@ import tempfile
 sys.dont_write_bytecode = True
 sys.path.append(os.path.dirname(os.path.dirname(os.path.realpath(__file__))))
 
-from sources import TOP
+import peers
 
 ORIGIN = "example.com."
 
@@ -368,7 +368,7 @@ def write(path, text):
 
 def main(words):
     seed = int(words[0]) if words else 1
-    program = done(f"{TOP}/tools/build/program", "path", "zone_check").strip()
+    program = peers.program("zone_check")
     if not need("named-compilezone"):
         return 0
     wrong, signers = 0, [it for it in SIGNERS if need(*it[1])]

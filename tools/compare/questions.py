@@ -1,20 +1,8 @@
 """Questions for zoned and other servers, as messages, and what is read of the answers. Names are text as in random_zones.py."""
 import random
-import struct
-import subprocess
-import sys
 
 import frames
 from random_zones import above, dnames, is_below, names_below, under
-from sources import TOP
-
-
-def zoned_path():
-    """The path of zoned; where there is none, tools/build/program has said why, and all ends."""
-    path = subprocess.run([f"{TOP}/tools/build/program", "path", "zoned"], stdout=subprocess.PIPE, text=True)
-    if path.returncode:
-        sys.exit(path.returncode)
-    return path.stdout.strip()
 
 
 def fits(name):
@@ -44,12 +32,6 @@ def zone_of(name, kind, zones):
     return max(strictly if kind == "DS" and strictly else at, key=len)
 
 
-def received(read):
-    """The message that stands behind its length."""
-    (length,) = struct.unpack("!H", read(2))
-    return read(length)
-
-
 def sections(message):
     """Code and flags, and the records of each section, sorted."""
     parts, section = {"ANSWER": [], "AUTHORITY": [], "ADDITIONAL": []}, None
@@ -72,3 +54,26 @@ def chains(parts):
             data = bytes.fromhex(words[6])
             kinds.add((data[0], data[2:5 + data[4]].hex()))
     return kinds
+
+
+# ---- messages that no client should send
+
+
+def turned(octets, chance=random):
+    """Octets of which some are others, or gone, or more, by chance."""
+    octets = bytearray(octets)
+    for _ in range(chance.randint(1, 6)):
+        at = chance.randrange(len(octets) + 1)
+        how = chance.random()
+        if how < 0.6 and at < len(octets):
+            octets[at] = chance.choice([0, 1, 63, 64, 192, 255, chance.randrange(256)])
+        elif how < 0.8:
+            del octets[at : at + chance.randint(1, 12)]
+        else:
+            octets[at:at] = chance.randbytes(chance.randint(1, 12))
+    return bytes(octets)
+
+
+def is_answered(message):
+    """Whether a message gets an answer: it has a header, and is no response (RFC 1035 section 4.1.1)."""
+    return len(message) >= 12 and not message[2] & 0x80

@@ -25,10 +25,10 @@ import tempfile
 sys.dont_write_bytecode = True
 sys.path.append(os.path.dirname(os.path.dirname(os.path.realpath(__file__))))
 
-import library_test
-import other_servers
+import library
+import peers
 import signed_zones
-from other_servers import connected, found, free_port
+from peers import connected, found, free_port
 from signed_zones import Way, delegation_signer
 from sources import TOP
 
@@ -296,7 +296,7 @@ def fronts(folder, files):
     if not made_by or made_by.returncode:
         print("real_clients: cc, or the library, isn't there, so nothing is asked of front.c")
         return
-    words = [f"{TOP}/examples/serving/front.c", *library_test.words_of(made_by.stdout.strip())]
+    words = [f"{TOP}/examples/serving/front.c", *library.flags(made_by.stdout.strip())]
     subprocess.run(["cc", "-O2", "-o", f"{folder}/front", *words], check=True)
     port = free_port()
     yield "front.c", port, [f"{folder}/front", str(port), *zones]
@@ -305,12 +305,11 @@ def fronts(folder, files):
 @contextlib.contextmanager
 def running(words):
     """A front that runs as long as this."""
-    front = subprocess.Popen(words, stderr=subprocess.DEVNULL)
+    front = peers.begun(words)
     try:
         yield
     finally:
-        front.terminate()
-        front.wait()
+        peers.end(front)
 
 
 # ---- all of it
@@ -398,7 +397,7 @@ def main():
         print("real_clients: delv isn't there, so it validates nothing")
     if "dnspython" in clients and not found_module("cryptography"):
         print("real_clients: dnspython has no cryptography, so it looks at no signature")
-    other_servers.zoned_path()
+    peers.program("zoned")
     random.seed(1)
     differs = False
     with tempfile.TemporaryDirectory() as folder:

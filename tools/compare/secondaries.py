@@ -14,7 +14,6 @@ import os
 import random
 import socket
 import struct
-import subprocess
 import sys
 import tempfile
 import time
@@ -22,11 +21,12 @@ import time
 sys.dont_write_bytecode = True
 sys.path.append(os.path.dirname(os.path.dirname(os.path.realpath(__file__))))
 
-import other_servers
+import frames
+import peers
+import served_zones
 import signed_zones
-from other_servers import connected, found, frames, free_port
+from peers import connected, found, free_port
 from random_zones import random_zone
-from sources import TOP
 
 # What a server's configuration says of each zone: as a primary, which reads its file, and as a secondary of zoned.
 NSD = 'zone:\n name: "{origin}"\n zonefile: "{path}"\n provide-xfr: 127.0.0.1 NOKEY\n'
@@ -96,7 +96,7 @@ def transferred(port, origin):
     that is about to take the zone."""
     lines, query = [], frames.query([origin, "AXFR"])
     with connected(port) as stream:
-        stream.sendall(struct.pack("!H", len(query)) + query)
+        stream.sendall(peers.framed(query))
         for message in messages(stream.makefile("rb").read):
             text = list(frames.message_lines(message))
             lines += text[text.index(";; ANSWER SECTION:") + 1 :] if ";; ANSWER SECTION:" in text else []
@@ -118,13 +118,9 @@ def come(port, origin, wanted):
     return lines
 
 
-def started_server(server, folder, port, text):
+def begun(server, folder, port, zones):
     """Starts a server with this configuration of its zones."""
-    os.makedirs(folder)
-    flags, configuration, _ = other_servers.SERVERS[server]
-    with open(f"{folder}/conf", "w", encoding="ascii") as it:
-        it.write(configuration.format(folder=folder, port=port).removesuffix("zone:\n") + text)
-    return subprocess.Popen([found(server), *flags, f"{folder}/conf"], stdout=subprocess.DEVNULL, stderr=subprocess.DEVNULL)
+    return peers.begun(peers.configured(server, folder, port, zones))
 
 
 def zone_texts(server, forms, words, zones):
@@ -136,19 +132,16 @@ def zone_texts(server, forms, words, zones):
 def read_by(server, folder, files):
     """What a server reads of zone files, as a primary."""
     port = free_port()
-    process = started_server(server, folder, port, zone_texts(server, PRIMARY, {"served": 1}, files))
+    process = begun(server, folder, port, zone_texts(server, PRIMARY, {"served": 1}, files))
     try:
         return {origin: transferred(port, origin) for origin in files}
     finally:
-        process.terminate()
-        process.wait()
+        peers.end(process)
 
 
 def served_by_zoned(zoned, port, files):
     """Starts zoned behind its front."""
-    words = [f"{origin}={path}" for origin, path in files.items()]
-    command = [sys.executable, f"{TOP}/examples/serving/front.py", str(port), zoned, "--limits", "--transfers", *words]
-    return subprocess.Popen(command, stderr=subprocess.DEVNULL)
+    return peers.begun(peers.front(zoned, port, files, "--transfers"))
 
 
 def notify(port, origin):
@@ -164,11 +157,10 @@ def differing(server, zoned, folder, versions):
     ours, theirs = served_by_zoned(zoned, served, versions[0]), None
     try:
         connected(served).close()
-        theirs = started_server(server, f"{folder}/{server}", port, zone_texts(server, SECONDARY, words, versions[0]))
+        theirs = begun(server, f"{folder}/{server}", port, zone_texts(server, SECONDARY, words, versions[0]))
         for version, files in enumerate(versions, 1):
             if version > 1:
-                ours.terminate()
-                ours.wait()
+                peers.end(ours)
                 ours = served_by_zoned(zoned, served, files)
                 connected(served).close()
                 for origin in files:
@@ -177,9 +169,7 @@ def differing(server, zoned, folder, versions):
             copies = {origin: come(port, origin, version) for origin in files}
             differ += [f"{origin} {version}" for origin in files if not read[origin] or copies[origin] != read[origin]]
     finally:
-        for process in filter(None, (theirs, ours)):
-            process.terminate()
-            process.wait()
+        peers.end(*filter(None, (theirs, ours)))
     return differ
 
 
@@ -187,7 +177,7 @@ def main(seed="1", rounds="1"):
     servers = [server for server in PRIMARY if found(server)]
     for server in PRIMARY.keys() - set(servers):
         print(f"secondaries: {server} isn't there, so it takes nothing")
-    path, differs = other_servers.zoned_path(), False
+    path, differs = peers.program("zoned"), False
     random.seed(int(seed))
     for _ in range(int(rounds)):
         zones, ways = made_zones()
@@ -195,7 +185,7 @@ def main(seed="1", rounds="1"):
             versions = []
             for number, change in enumerate([lambda records: records, later], 1):
                 os.makedirs(f"{folder}/{number}")
-                write = lambda origin: other_servers.made(f"{folder}/{number}", origin, change(zones[origin]), ways.get(origin)).path
+                write = lambda origin: served_zones.made(f"{folder}/{number}", origin, change(zones[origin]), ways.get(origin)).path
                 versions.append({origin: write(origin) for origin in zones})
             for server in servers:
                 given = [{it: files[it] for it in files if it not in NOT_GIVEN.get(server, ())} for files in versions]
@@ -206,4 +196,4 @@ def main(seed="1", rounds="1"):
 
 
 if __name__ == "__main__":
-    other_servers.started(main, __doc__)
+    peers.called(main, __doc__)

@@ -35,7 +35,8 @@
 - RFC 1034 section 3.6.2 has chains of aliases followed, and doesn't say how far; zoned stops behind 8 names. So chains of 8 aliases and
   more, as by a DNAME that leads below itself, aren't compared.
 """
-from questions import chains, frames, zone_of
+import frames
+from questions import chains, zone_of
 from random_zones import is_below
 
 # How many names zoned searches for one question.

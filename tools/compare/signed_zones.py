@@ -12,6 +12,8 @@ import random
 import shutil
 import subprocess
 
+from peers import found
+
 # What each signer needs.
 SIGNERS = {
     "dnssec-signzone": ("dnssec-keygen", "dnssec-signzone"),
@@ -66,11 +68,6 @@ class Way:
 
     def __str__(self):
         return " ".join([self.signer, self.kind, *([f"with {self.beside}"] if self.beside else [])])
-
-
-def found(tool):
-    """Where a tool is, in the folders of the system's own tools too."""
-    return shutil.which(tool, path=f"{os.environ.get('PATH', '')}:/usr/sbin:/sbin")
 
 
 def signers():

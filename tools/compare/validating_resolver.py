@@ -28,7 +28,6 @@ otherwise. These questions are left out:
 - those that a wildcard answers under a name that itself begins with `*`, which Unbound takes for the wildcard's own; delv doesn't.
 """
 import dataclasses
-import hashlib
 import os
 import random
 import struct
@@ -39,13 +38,16 @@ import tempfile
 sys.dont_write_bytecode = True
 sys.path.append(os.path.dirname(os.path.dirname(os.path.realpath(__file__))))
 
-import other_servers
+import frames
+import nsec3
+import peers
+import served_zones
 import server_choices
 import signed_zones
-from other_servers import connected, found, frames, free_port, queries, received, sections, zone_of
+from peers import asked, connected, found, free_port
+from questions import queries, sections, zone_of
 from random_zones import above, is_below, random_zone, zone_with_dnames
 from signed_zones import BESIDE, KINDS, OTHER_ITERATIONS, OTHER_SALT
-from sources import TOP
 
 RESOLVER = """server:
  username: ""
@@ -74,12 +76,6 @@ ANSWERS = 5
 
 # How many questions for a zone with something beside its chain delv is asked.
 DELVED = 40
-
-
-def asked(stream, message):
-    """The message that a server answers."""
-    stream.sendall(struct.pack("!H", len(message)) + message)
-    return received(stream.makefile("rb").read)
 
 
 def asked_anew(port, message):
@@ -115,14 +111,6 @@ def is_made_as_a_star(records, parts):
     return any(owner.startswith("*.") and owner not in owners for _, owner in types_and_owners(parts["ANSWER"]))
 
 
-def digest(name, salt, iterations):
-    """The digest of a name by these parameters (RFC 5155 section 5). Digests are in the order of the owners that they are of."""
-    octets = frames.octets_of(name.lower())
-    for _ in range(iterations + 1):
-        octets = hashlib.sha1(octets + bytes.fromhex(salt)).digest()
-    return octets
-
-
 def from_origin(origin, name):
     """The names from the origin down to a name."""
     names = [name]
@@ -150,13 +138,14 @@ def is_covered_by_star(origin, name, kind, zone):
     star = f"*.{above(closer)}" if above(closer) != "." else "*."
     has_it = any(owner == star and its_kind in (kind, "CNAME") for owner, its_kind, _ in zone.records)
     second = [(OTHER_SALT, OTHER_ITERATIONS)] if zone.way.beside == "second" else []
-    return has_it and any(is_of_star(matched, closer, star, *it) for it in [(zone.way.salt, zone.way.iterations), *second])
+    parameters = [(zone.way.salt, zone.way.iterations), *second]
+    return has_it and any(is_of_star(matched, closer, star, bytes.fromhex(salt), iterations) for salt, iterations in parameters)
 
 
 def is_of_star(matched, closer, star, *parameters):
     """Whether the set that covers a name is that of a wildcard."""
-    digests = {digest(it, *parameters): it for it in matched}
-    before = [it for it in digests if it < digest(closer, *parameters)] or digests
+    digests = {nsec3.digest(it, *parameters): it for it in matched}
+    before = [it for it in digests if it < nsec3.digest(closer, *parameters)] or digests
     return digests[max(before)] == star
 
 
@@ -238,13 +227,13 @@ def zones_together(folder, signers):
     for number in range(ZONES):
         beside = ("", *BESIDE)[number % 4]
         way = plain(signed_zones.random_way(signers[number % len(signers)], KINDS[number % 3] if not beside else KINDS[1 + number % 2], beside))
-        zones[f"z{number}.test."] = other_servers.made(folder, f"z{number}.test.", random_zone(f"z{number}.test.", True), way)
+        zones[f"z{number}.test."] = served_zones.made(folder, f"z{number}.test.", random_zone(f"z{number}.test.", True), way)
     for number in range(WITH_DNAMES):
-        zones[f"d{number}.test."] = other_servers.made(folder, f"d{number}.test.", zone_with_dnames(f"d{number}.test.", True), turn())
+        zones[f"d{number}.test."] = served_zones.made(folder, f"d{number}.test.", zone_with_dnames(f"d{number}.test.", True), turn())
     for number in range(PARENTS):
         children = [("signed", turn(), True), ("island", turn(), False), ("unsigned", None, False)]
-        zones |= other_servers.parent_and_children(folder, f"p{number}.test.", turn(), children)
-    return [zones, other_servers.parent_and_children(folder, ".", turn(), [("signed", turn(), True)])]
+        zones |= served_zones.parent_and_children(folder, f"p{number}.test.", turn(), children)
+    return [zones, served_zones.parent_and_children(folder, ".", turn(), [("signed", turn(), True)])]
 
 
 def anchors_of(zones):
@@ -273,11 +262,8 @@ def for_delv(folder, origin):
 def look_at_all(sums, folder, zones, zoned):
     """Asks for all zones that are served together."""
     served, port = free_port(), free_port()
-    words = [f"{origin}={zone.path}" for origin, zone in zones.items()]
-    command = [sys.executable, f"{TOP}/examples/serving/front.py", str(served), zoned, "--limits", *words]
-    front = subprocess.Popen(command, stderr=subprocess.DEVNULL)
-    command = [found("unbound"), "-d", "-c", configured(folder, zones, port, served)]
-    resolver = subprocess.Popen(command, stderr=subprocess.DEVNULL)
+    front = peers.begun(peers.front(zoned, served, served_zones.files(zones)))
+    resolver = peers.begun([found("unbound"), "-d", "-c", configured(folder, zones, port, served)])
     anchored = {it for it in zones if it in anchors_of(zones) or it.startswith("signed.")}
     try:
         for origin, zone in zones.items():
@@ -288,9 +274,7 @@ def look_at_all(sums, folder, zones, zoned):
                 with connected(served) as ours:
                     delve(sums, zones, origin, for_delv(folder, origin), served, ours)
     finally:
-        for process in (resolver, front):
-            process.terminate()
-            process.wait()
+        peers.end(resolver, front)
 
 
 def tell(sums):
@@ -310,7 +294,7 @@ def main(seed="1", rounds="1"):
         return 0
     for tool in [it for it in (*signed_zones.SIGNERS, "delv") if it not in signers and not (it == "delv" and found(it))]:
         print(f"validating_resolver: {tool}, or what it needs, isn't there, so it is left out")
-    path, differs = other_servers.zoned_path(), False
+    path, differs = peers.program("zoned"), False
     random.seed(int(seed))
     for _ in range(int(rounds)):
         sums = Sums()
@@ -323,4 +307,4 @@ def main(seed="1", rounds="1"):
 
 
 if __name__ == "__main__":
-    other_servers.started(main, __doc__)
+    peers.called(main, __doc__)

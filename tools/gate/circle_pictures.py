@@ -2,15 +2,14 @@
 denied, and the sets that deny it. The names are found anew in the lines of examples/, by the rules of the standards, and have to
 be those that the program has there (examples/answers)."""
 
-import hashlib
 import math
 import re
 
+import nsec3
 import sources
 import svg
 
 ORIGIN = ("example",)
-DIGITS = "0123456789abcdefghijklmnopqrstuv"
 WIDTH, MIDDLE, RADIUS, FOOT = 740, (370, 245), 190, 500
 
 
@@ -51,15 +50,6 @@ def with_ancestors(names):
     return {name[at:] for name in names for at in range(len(name)) if is_above(ORIGIN, name[at:])} | {ORIGIN}
 
 
-def digest(name, salt, iterations):
-    """The digest of RFC 5155 section 5 in base32hex."""
-    octets = b"".join(bytes([len(it)]) + it.encode() for it in name) + b"\0"
-    for _ in range(iterations + 1):
-        octets = hashlib.sha1(octets + salt).digest()
-    number = int.from_bytes(octets, "big")
-    return "".join(DIGITS[number >> 5 * at & 31] for at in reversed(range(32)))
-
-
 def need(holds, what):
     if not holds:
         raise SystemExit(f"circle_pictures: {what} isn't what examples/answers has")
@@ -87,7 +77,7 @@ def nsec3_names():
 
 
 def digest_5155(name):
-    return digest(name, bytes.fromhex("aabbccdd"), 12)
+    return nsec3.label(nsec3.digest(text_of(name), bytes.fromhex("aabbccdd"), 12))
 
 
 def point(turn, radius=RADIUS):
