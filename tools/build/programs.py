@@ -22,11 +22,13 @@ class NoPlace(Exception):
 
 
 def checksum(name, kind):
-    """A checksum of what a program is made of: the lines of crates.txt and the files of its crates; and of a library its header."""
+    """A checksum of what a program is made of: the lines of crates.txt and the files of its crates; and of a library its header, and
+    what makes its folder."""
     listed = sources.crates()
     found = hashlib.sha256()
     if name in sources.static_libraries():
-        found.update(sources.read(library.HEADER).encode())
+        for path in (library.HEADER, "tools/library.py"):
+            found.update(sources.read(path).encode())
     for crate in sources.standing_below(name, listed):
         found.update(f"{crate}: {' '.join(listed[crate])}\n".encode())
         for path in (it for part in PARTS[kind] for it in sources.files_below(f"crates/{crate}/{part}", "")):
