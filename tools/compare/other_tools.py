@@ -23,6 +23,7 @@ sys.dont_write_bytecode = True
 sys.path.append(os.path.dirname(os.path.dirname(os.path.realpath(__file__))))
 
 import peers
+import signed_zones
 
 ORIGIN = "example.com."
 
@@ -253,86 +254,45 @@ def root_shaped(count):
 
 # ---- signed ones
 
-def signed_by_bind(path, folder, *flags):
-    key = done("dnssec-keygen", "-q", "-a", "ECDSAP256SHA256", "-f", "KSK", ORIGIN, folder=folder).strip()
-    other = done("dnssec-keygen", "-q", "-a", "ECDSAP256SHA256", ORIGIN, folder=folder).strip()
-    out = f"{path}.bind{len(flags)}"
-    done("dnssec-signzone", "-q", "-S", "-P", "-o", ORIGIN, *flags, "-f", out, path, key, other, folder=folder)
-    return out
+def ways():
+    """Each signer that is there with each kind of denials, and with a salt where NSEC3 has no opt-out."""
+    those = signed_zones.signers()
+    for signer in signed_zones.SIGNERS.keys() - set(those):
+        print(f"left out, for want of {signer}, or of what it needs")
+    return [signed_zones.Way(signer, kind, "aabbccdd" if kind == "nsec3" else "") for signer in those for kind in signed_zones.KINDS]
 
 
-def signed_by_ldns(path, folder, *flags):
-    key = done("ldns-keygen", "-a", "ECDSAP256SHA256", "-k", ORIGIN, folder=folder).strip()
-    out = f"{path}.ldns{len(flags)}"
-    done("ldns-signzone", *flags, "-f", out, path, key, folder=folder)
-    return out
-
-
-KNOT = """\
-server:
-    rundir: "{folder}"
-database:
-    storage: "{folder}"
-policy:
-  - id: here
-    single-type-signing: on
-    nsec3: {nsec3}
-    nsec3-opt-out: {opt_out}
-zone:
-  - domain: {origin}
-    storage: "{folder}"
-    file: "{file}"
-    dnssec-signing: on
-    dnssec-policy: here
-    zonefile-load: whole
-"""
-
-
-def signed_by_knot(path, folder, nsec3, opt_out="off"):
-    room = tempfile.mkdtemp(dir=folder)
-    write(f"{room}/conf", KNOT.format(folder=room, nsec3=nsec3, opt_out=opt_out, origin=ORIGIN, file=os.path.basename(path)))
-    shutil.copyfile(path, f"{room}/{os.path.basename(path)}")
-    os.mkdir(f"{room}/out")
-    done("kzonesign", "-c", f"{room}/conf", "-o", f"{room}/out", ORIGIN)
-    return f"{room}/out/{os.path.basename(path)}"
-
-
-SIGNERS = [
-    ("dnssec-signzone with NSEC", ["dnssec-keygen", "dnssec-signzone"], signed_by_bind, []),
-    ("dnssec-signzone with NSEC3", ["dnssec-keygen", "dnssec-signzone"], signed_by_bind, ["-3", "aabbccdd"]),
-    ("dnssec-signzone with opt-out", ["dnssec-keygen", "dnssec-signzone"], signed_by_bind, ["-3", "-", "-A"]),
-    ("ldns-signzone with NSEC", ["ldns-keygen", "ldns-signzone"], signed_by_ldns, []),
-    ("ldns-signzone with NSEC3", ["ldns-keygen", "ldns-signzone"], signed_by_ldns, ["-n", "-s", "aabb"]),
-    ("ldns-signzone with opt-out", ["ldns-keygen", "ldns-signzone"], signed_by_ldns, ["-n", "-p"]),
-    ("kzonesign with NSEC", ["kzonesign"], signed_by_knot, ["off"]),
-    ("kzonesign with NSEC3", ["kzonesign"], signed_by_knot, ["on"]),
-    ("kzonesign with opt-out", ["kzonesign"], signed_by_knot, ["on", "on"]),
-]
 # What a tool can't read, though the others can.
 UNREAD = {("the written zone", "ldns-signzone"): "text with the octet 0"}
 
 # Signers whose circle isn't the one of the zone's names, and why.
-OTHER_CIRCLE = {"ldns-signzone with opt-out": "its unsigned delegations have NSEC3 records"}
+OTHER_CIRCLE = {("ldns-signzone", "opt-out"): "its unsigned delegations have NSEC3 records"}
 
 
-def compare_signed(program, path, folder, what, name, sign, flags):
+def signed_file(folder, path, way):
+    try:
+        return signed_zones.signed(folder, ORIGIN, path, way)[0]
+    except subprocess.CalledProcessError as error:
+        raise Failed(f"{path}, {way}: {(error.stderr or '').strip()[-500:]}") from error
+
+
+def compare_signed(program, path, folder, what, way):
     """Compares a zone as one of the tools signs it, and looks whether its circle is found closed."""
-    tool, _, denial = name.split(" ")
-    if reason := UNREAD.get((what, tool)):
-        print(f"{what}: {tool} doesn't read {reason}")
+    if reason := UNREAD.get((what, way.signer)):
+        print(f"{what}: {way.signer} doesn't read {reason}")
         return
-    signed = sign(path, folder, *flags)
-    compare(program, signed, f"{what}, signed by {name}")
+    signed = signed_file(folder, path, way)
+    compare(program, signed, f"{what}, signed by {way}")
     status, out, err = run(program, signed, ORIGIN)
-    if reason := OTHER_CIRCLE.get(name):
+    if reason := OTHER_CIRCLE.get((way.signer, way.kind)):
         if status != 1 or " is of a name that has none" not in err:
-            raise Failed(f"{what}, signed by {name}: status {status}, though {reason}: {out}{err}")
-        print(f"{what}, signed by {name}: {reason}")
+            raise Failed(f"{what}, signed by {way}: status {status}, though {reason}: {out}{err}")
+        print(f"{what}, signed by {way}: {reason}")
         return
-    if status or not out.endswith(f", a closed circle of {'NSEC' if denial == 'NSEC' else 'NSEC3'}\n"):
-        raise Failed(f"{what}, signed by {name}: {out}{err}")
+    if status or not out.endswith(f", a closed circle of {'NSEC' if way.kind == 'nsec' else 'NSEC3'}\n"):
+        raise Failed(f"{what}, signed by {way}: {out}{err}")
     lists = [it for it in err.splitlines() if "the list of types of" in it]
-    print(f"{what}, signed by {name}: a closed circle, with {len(lists)} lists of types that are another")
+    print(f"{what}, signed by {way}: a closed circle, with {len(lists)} lists of types that are another")
 
 
 # ---- files with a fault
@@ -371,7 +331,7 @@ def main(words):
     program = peers.program("zone_check")
     if not need("named-compilezone"):
         return 0
-    wrong, signers = 0, [it for it in SIGNERS if need(*it[1])]
+    wrong, signing = 0, ways()
     with tempfile.TemporaryDirectory(prefix="zones-") as folder:
         os.chmod(folder, 0o755)
         rolls = random.Random(seed)
@@ -382,7 +342,7 @@ def main(words):
             path = write(f"{folder}/zone{i}", text)
             tasks.append((compare, program, path, what))
             if not what.startswith("random"):
-                tasks += [(compare_signed, program, path, folder, what, name, sign, flags) for name, _, sign, flags in signers]
+                tasks += [(compare_signed, program, path, folder, what, way) for way in signing]
         for call, *given in tasks:
             try:
                 call(*given)

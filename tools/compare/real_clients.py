@@ -274,11 +274,8 @@ def made(folder):
         records = [tuple(at(origin, part) for part in record) for record in RECORDS]
         records.append((f"signed.{origin}", "DS", delegation_signer(folder, f"signed.{origin}")))
         files[origin] = signed_file(folder, origin, records, signing)
-        tag, algorithm, kind, octets = delegation_signer(folder, origin).split(None, 3)
-        anchors.append(f'"{origin}" static-ds {tag} {algorithm} {kind} "{octets}";')
-    with open(f"{folder}/anchors", "w", encoding="ascii") as it:
-        it.write("trust-anchors {\n" + "\n".join(anchors) + "\n};\n")
-    return files, f"{folder}/anchors"
+        anchors.append(signed_zones.static_anchor(folder, origin))
+    return files, signed_zones.keep_anchors(f"{folder}/anchors", anchors)
 
 
 def signed_file(folder, origin, records, way):

@@ -1,6 +1,6 @@
 """Zone files as signers write them: dnssec-signzone of BIND, ldns-signzone and Knot's kzonesign, with NSEC, with NSEC3 and with opt-out;
 and with what stands beside a chain while another takes its place: a second one, what an old one left, or NSEC records beside NSEC3.
-Other tools ask of them, and look at them: closed_zones.py, other_servers.py, secondaries.py and validating_resolver.py.
+Other tools ask of them, and look at them.
 
 The signers are those of Debian's packages bind9-utils, ldnsutils and knot-dnssecutils; keys are made by dnssec-keygen of bind9-utils and
 handed to kzonesign by keymgr of knot-dnssecutils.
@@ -129,6 +129,19 @@ def anchor(folder, origin):
 def delegation_signer(folder, origin):
     """The data of the DS record of a zone (RFC 4034 section 5)."""
     return ran(folder, "dnssec-dsfromkey", "-2", anchor(folder, origin)).split(" DS ")[1].strip()
+
+
+def static_anchor(folder, origin):
+    """The line of a zone's key in the file of trust anchors that delv reads."""
+    tag, algorithm, kind, octets = delegation_signer(folder, origin).split(None, 3)
+    return f'"{origin}" static-ds {tag} {algorithm} {kind} "{octets}";'
+
+
+def keep_anchors(path, lines):
+    """Writes the file of trust anchors that delv reads, and gives its path."""
+    with open(path, "w", encoding="ascii") as it:
+        it.write("trust-anchors {\n" + "".join(f" {line}\n" for line in lines) + "};\n")
+    return path
 
 
 def by_bind(folder, origin, path, way):

@@ -253,10 +253,7 @@ def configured(folder, zones, port, served):
 
 def for_delv(folder, origin):
     """The file of a zone's key, as delv reads it."""
-    tag, algorithm, kind, octets = signed_zones.delegation_signer(folder, origin).split(None, 3)
-    with open(f"{folder}/{origin}anchor", "w", encoding="ascii") as it:
-        it.write(f'trust-anchors {{ "{origin}" static-ds {tag} {algorithm} {kind} "{octets}"; }};\n')
-    return f"{folder}/{origin}anchor"
+    return signed_zones.keep_anchors(f"{folder}/{origin}anchor", [signed_zones.static_anchor(folder, origin)])
 
 
 def look_at_all(sums, folder, zones, zoned):
