@@ -16,7 +16,9 @@ TYPES = {"A": 1, "NS": 2, "CNAME": 5, "SOA": 6, "MX": 15, "TXT": 16, "AAAA": 28,
 WORDS = {number: word for word, number in TYPES.items()}
 CLASSES = {1: "IN", 3: "CH"}
 OPCODES = {0: "QUERY", 2: "STATUS", 4: "NOTIFY", 5: "UPDATE"}
-CODES = {0: "NOERROR", 1: "FORMERR", 2: "SERVFAIL", 3: "NXDOMAIN", 4: "NOTIMP", 5: "REFUSED", 9: "NOTAUTH", 16: "BADVERS"}
+# The code of a name that a DNAME makes too long (RFC 6672 section 2.2).
+YXDOMAIN = 6
+CODES = {0: "NOERROR", 1: "FORMERR", 2: "SERVFAIL", 3: "NXDOMAIN", 4: "NOTIMP", 5: "REFUSED", YXDOMAIN: "YXDOMAIN", 9: "NOTAUTH", 16: "BADVERS"}
 FLAGS = [(1 << 15, "qr"), (1 << 10, "aa"), (1 << 9, "tc"), (1 << 8, "rd"), (1 << 7, "ra"), (1 << 6, "z"), (1 << 5, "ad"), (1 << 4, "cd")]
 
 
@@ -31,6 +33,11 @@ def label_text(octets):
     return "".join(chr(it) if it < 128 and chr(it).isalnum() or it in b"-_*" else f"\\{it:03}" for it in octets)
 
 
+def start_of_authority(serial):
+    """The octets of an SOA record of that serial whose owner is that of the question; both its names are the root."""
+    return struct.pack("!HHHIHBBIIIII", 0xC00C, TYPES["SOA"], 1, 0, 22, 0, 0, serial, 0, 0, 0, 0)
+
+
 def query(words):
     """The octets of a query by its words."""
     if words[0] == "hex":
@@ -42,8 +49,7 @@ def query(words):
     octets = struct.pack("!HHHHHH", numbers["id"], flags, 1, 0, "serial" in numbers, "edns" in numbers) + octets_of(name)
     octets += struct.pack("!HH", TYPES[query_type], numbers["class"])
     if "serial" in numbers:
-        # (the owner is that of the question, and both names are the root)
-        octets += struct.pack("!HHHIHBBIIIII", 0xC00C, TYPES["SOA"], 1, 0, 22, 0, 0, numbers["serial"], 0, 0, 0, 0)
+        octets += start_of_authority(numbers["serial"])
     if "edns" in numbers:
         octets += struct.pack("!BHHBBHH", 0, 41, numbers["edns"], 0, numbers["version"], ("do" in others) << 15, 0)
     return octets

@@ -111,8 +111,7 @@ def incremental(count):
     """A query for an incremental transfer of the zone with so many records in its authority section, of which the first is the SOA, and the
     others have no data."""
     head = struct.pack("!HHHHHH", 1, 0, 1, 0, count, 0) + frames.octets_of(ORIGIN) + struct.pack("!HH", frames.TYPES["IXFR"], 1)
-    start = struct.pack("!HHHIHBBIIIII", 0xC00C, frames.TYPES["SOA"], 1, 0, 22, 0, 0, 1, 0, 0, 0, 0)
-    return head + start + struct.pack("!HHHIH", 0xC00C, 10, 1, 0, 0) * (count - 1)
+    return head + frames.start_of_authority(1) + struct.pack("!HHHIH", 0xC00C, 10, 1, 0, 0) * (count - 1)
 
 
 def parts():

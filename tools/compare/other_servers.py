@@ -38,7 +38,7 @@ from peers import SERVERS, found
 from questions import chains, queries, sections, zone_of
 from random_zones import MADE, dnames, is_below
 from served_zones import files, made, parent_and_children
-from server_choices import YXDOMAIN, compared_sections, is_left_out
+from server_choices import compared_sections, is_left_out
 from signed_zones import cased
 
 # By how many of all questions one is asked by UDP too, and the words and limits of these.
@@ -122,7 +122,7 @@ class Asked:
         whole = self.by_tcp(message)
         fit = [len(it) <= limit for it in whole]
         may_be_cut = fit[0] != fit[1] or not fit[0] and any(sections(it)[1]["ADDITIONAL"] for it in whole)
-        if may_be_cut or sections(whole[0])[0][1] == YXDOMAIN:
+        if may_be_cut or sections(whole[0])[0][1] == frames.YXDOMAIN:
             return
         self.count += 1
         cut = [bool(it[2] & 2) for it in self.by_udp(message, limit)]

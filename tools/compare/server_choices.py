@@ -42,9 +42,6 @@ from random_zones import is_below
 # How many names zoned searches for one question.
 FOLLOWED = 8
 
-# The code of a name that a DNAME makes too long (RFC 6672 section 2.2).
-YXDOMAIN = 6
-
 
 def without_servers(origin, ours, theirs):
     """The sections of another server without the zone's servers beside a positive answer, and their addresses."""
@@ -123,7 +120,7 @@ def is_left_out(server, name, kind, words, head, ours, zone, zones):
     """Whether a question is one that the head of this file leaves out."""
     if kind == "ANY" and server != "named" or count_of("cname", ours) >= FOLLOWED:
         return True
-    if server == "nsd" and head[1] == YXDOMAIN and count_of("cname", ours):
+    if server == "nsd" and head[1] == frames.YXDOMAIN and count_of("cname", ours):
         return True
     if server == "named" and (name, kind) == (".", "NS") or server == "knotd" and any("\\000" in it for it in (name, *targets(ours))):
         return True
@@ -143,7 +140,7 @@ def compared_sections(server, origin, zone, name, code, ours, theirs):
     if server == "named":
         ours, theirs = without_hosts_beside(ours), without_hosts_beside(theirs)
         ours = without_glue(origin, zone.records, theirs, ours)
-    if server == "knotd" and code == YXDOMAIN:
+    if server == "knotd" and code == frames.YXDOMAIN:
         theirs["AUTHORITY"] = []
     is_other_chain = chains(ours) != chains(theirs) and zone.way and zone.way.beside
     types = ["NSEC", "NSEC3"] if asks_for_star(name, ours) or is_other_chain else ["NSEC3"] if zone.opts_out else []

@@ -153,7 +153,7 @@ def is_left_out(origin, name, kind, code, parts, zones):
     zone = zones[origin]
     if server_choices.leads_into_other_zone(parts, origin, zones) or not is_whole(name, kind, parts) or is_made_as_a_star(zone.records, parts):
         return True
-    if is_twice_below_dname(kind, parts) or code == server_choices.YXDOMAIN and kind == "DNAME":
+    if is_twice_below_dname(kind, parts) or code == frames.YXDOMAIN and kind == "DNAME":
         return True
     has_no_proof = zone.opts_out and server_choices.has_no_proof(name, code, zone.records)
     return has_no_proof or zone.opts_out and not code and not parts["ANSWER"] and is_covered_by_star(origin, name, kind, zone)
