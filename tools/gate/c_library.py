@@ -30,8 +30,8 @@ from sources import TOP
 
 # What the README's program ends with: the address that its query asks for.
 ADDRESS = "192.0.2.80"
-# The line of the documents that compiles a server over the library, and that server.
-LINE, SERVER = re.compile(r"^cc .*\$\(pkg-config --cflags --libs ningkraet\).*$", re.M), "examples/serving/front.c"
+# The lines of the documents that compile a program over the library; and the one that is a server.
+LINE, SERVER = re.compile(r"^cc .*?(\S+\.c) \$\(pkg-config --cflags --libs ningkraet\) -o \w+", re.M), "examples/serving/front.c"
 # Datagrams with octets turned, as many as take a second, and the seconds that an answer may take.
 DATAGRAMS, PATIENCE = 10_000, 10
 # What is asked of the zone of the README's tour.
@@ -58,11 +58,12 @@ def program_text():
     return texts[0]
 
 
-def compiling_line():
-    """The line of the documents that compiles a program over the library."""
-    lines = [line for path in documents() for _, _, text in markdown.blocks(path) for line in LINE.findall(text)]
-    need(lines and f" {SERVER} " in lines[0], f"no line of the documents compiles {SERVER}")
-    return lines[0]
+def compiling_lines():
+    """The lines of the documents that compile programs, by these."""
+    texts = [text for path in documents() for _, _, text in markdown.blocks(path)]
+    lines = {it[1]: it[0] for text in texts for it in LINE.finditer(text)}
+    need(SERVER in lines, f"no line of the documents compiles {SERVER}")
+    return lines
 
 
 def ran(words, **how):
@@ -73,11 +74,14 @@ def ran(words, **how):
 
 
 def compiled(source, folder, room):
-    """Compiles a program by the line of the documents, and gives its path; without pkg-config by the words that this would give."""
-    line = compiling_line().replace(f" {SERVER} ", f" {source} ")
+    """Compiles a program by its line of the documents, and gives its path; the README's own by the line of the server where it has none.
+    Without pkg-config it does so by the words that this would give."""
+    lines = compiling_lines()
+    named = SERVER if source == SERVER else next((it for it in lines if it != SERVER), SERVER)
+    line = re.sub(r"-o \w+$", f"-o {room}/made", lines[named].replace(f" {named} ", f" {source} "))
     if not shutil.which("pkg-config"):
         line = re.sub(r"\$\(pkg-config .*?\)", " ".join(library.flags(folder)), line)
-    ran(line.replace("-o front", f"-o {room}/made"), shell=True, cwd=TOP, env={**os.environ, "PKG_CONFIG_PATH": f"{folder}/lib/pkgconfig"})
+    ran(line, shell=True, cwd=TOP, env={**os.environ, "PKG_CONFIG_PATH": f"{folder}/lib/pkgconfig"})
     return f"{room}/made"
 
 
