@@ -6,7 +6,7 @@ A record that is added is dropped with its set at once, and the figure is the me
 Before it is timed, the program has to give the right answers in a small zone of each kind.
 
 Behind the zones come queries: the dearest ones that are known for zoned, where ZONED names it, each beside a plain one of its kind, in
-microseconds of a processor. tools/dear_queries.py has them.
+microseconds of a processor. tools/compare/dear_queries.py has them.
 """
 
 import os
@@ -14,7 +14,8 @@ import subprocess
 import sys
 import tempfile
 
-sys.path.insert(0, os.path.join(os.path.dirname(os.path.realpath(__file__)), "..", "tools"))
+TOOLS = f"{os.path.dirname(os.path.realpath(__file__))}/../tools"
+sys.path[:0] = [f"{TOOLS}/compare", TOOLS]
 
 import dear_queries
 from hostile_zones import FILLING, PEAK, RECORD, ZONES, aname_zone

@@ -1,10 +1,14 @@
 """The zones of the benchmark, and the commands of each phase with what they are to be answered."""
 
 import bisect
-import hashlib
+import os
 import random
-import re
+import sys
 from typing import NamedTuple
+
+sys.path.append(f"{os.path.dirname(os.path.realpath(__file__))}/../tools")
+
+import nsec3
 
 ORIGIN = "example.com."
 
@@ -161,17 +165,9 @@ def nsec_records(adds):
     return records
 
 
-BASE32 = "0123456789abcdefghijklmnopqrstuv"
-
-
 def hashed(name, iterations=0):
     """The digest of a name by SHA-1, without salt, in base32hex (RFC 5155 section 5). An octet of a label may stand as \\DDD."""
-    labels = [re.sub(rb"\\([0-9]{3})", lambda it: bytes([int(it[1])]), label) for label in name.encode().split(b".")]
-    digest = b"".join(bytes([len(label)]) + label for label in labels)
-    for _ in range(1 + iterations):
-        digest = hashlib.sha1(digest).digest()
-    number = int.from_bytes(digest, "big")
-    return "".join(BASE32[number >> shift & 31] for shift in range(155, -1, -5))
+    return nsec3.label(nsec3.digest(name, iterations=iterations))
 
 
 def nsec3_records(adds, iterations=0):

@@ -19,29 +19,41 @@ libdir=${{prefix}}/lib
 includedir=${{prefix}}/include
 
 Name: {name}
-Description: authoritative DNS zones in memory
+Description: authoritative DNS zones in memory{unproved}
 Version: {interface}
 Cflags: -I${{includedir}}
 Libs: -L${{libdir}} -l{name} -l{name}_heap
 """
 
+# What the header of a library that was compiled without its proofs begins with.
+UNPROVED = """/* NOT PROVED: this library was compiled from its sources without their proofs, so what is said below of proofs doesn't hold
+ * for it. `./build {name}` proves and builds the other one. */
+"""
 
-def installed(name, archive, kit, room):
-    """Makes the folder in room, and gives its path."""
+
+def installed(name, archive, kit, room, is_proved):
+    """Makes the folder in room, which says of an unproved library that it is one, and gives its path."""
     folder = f"{room}/{name}"
     for part in ("lib/pkgconfig", "include"):
         os.makedirs(f"{folder}/{part}")
     shutil.copyfile(archive, f"{folder}/lib/lib{name}.a")
     shutil.copyfile(f"{kit}/{HEAP}", f"{folder}/lib/lib{name}_heap.a")
-    shutil.copyfile(f"{sources.TOP}/{HEADER}", f"{folder}/include/{os.path.basename(HEADER)}")
-    interface = re.search(r"^#define NK_INTERFACE (\d+)$", sources.read(HEADER), re.M).group(1)
+    header = sources.read(HEADER)
+    with open(f"{folder}/include/{os.path.basename(HEADER)}", "w", encoding="utf-8") as it:
+        it.write(("" if is_proved else UNPROVED.format(name=name)) + header)
+    interface = re.search(r"^#define NK_INTERFACE (\d+)$", header, re.M).group(1)
     with open(f"{folder}/lib/pkgconfig/{name}.pc", "w", encoding="utf-8") as it:
-        it.write(PKG_CONFIG.format(name=name, interface=interface))
+        it.write(PKG_CONFIG.format(name=name, interface=interface, unproved="" if is_proved else ", not proved"))
     if shutil.which("cc"):
         # (not in lib/, where the linker would take it in the place of the archive)
         whole = ["-Wl,--whole-archive", f"{folder}/lib/lib{name}.a", f"{folder}/lib/lib{name}_heap.a", "-Wl,--no-whole-archive"]
         subprocess.run(["cc", "-shared", "-o", f"{folder}/lib{name}.so", *whole], check=False)
     return folder
+
+
+def flags(folder):
+    """What a C compiler is handed for a program that uses the library of such a folder, behind the program's own files."""
+    return [f"-I{folder}/include", f"-L{folder}/lib", "-lningkraet", "-lningkraet_heap"]
 
 
 # ---- a library that is compiled without proofs

@@ -1,6 +1,6 @@
 #!/usr/bin/env python3
 """embedded.py LIBRARY PORT ORIGIN=FILE..: answers DNS over UDP and TCP on 127.0.0.1, by the library ningkraet, for trying it out: one TCP
-client after the other. LIBRARY is libningkraet.so of the folder that `tools/build ningkraet` makes."""
+client after the other. LIBRARY is libningkraet.so of the folder that `./build ningkraet` makes."""
 import contextlib
 import pathlib
 import socketserver

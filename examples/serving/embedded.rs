@@ -1,5 +1,5 @@
 //! embedded PORT ORIGIN=FILE..: answers DNS over UDP and TCP on 127.0.0.1, by the library ningkraet, for trying it out: one TCP client after
-//! the other. rustc --edition 2024 embedded.rs -L FOLDER/lib -l static=ningkraet -l static=ningkraet_heap; `tools/build ningkraet` makes FOLDER.
+//! the other. rustc --edition 2024 embedded.rs -L FOLDER/lib -l static=ningkraet -l static=ningkraet_heap; `./build ningkraet` makes FOLDER.
 use std::io::{Read, Write};
 use std::net::{TcpListener, TcpStream, UdpSocket};
 use std::time::{Duration, SystemTime, UNIX_EPOCH};

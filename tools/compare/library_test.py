@@ -1,0 +1,234 @@
+#!/usr/bin/env python3
+"""tools/compare/library_test.py [FOLDER]: tries the library for C from C: each refusal, each allocation failing in turn, threads that answer from
+the same zones while these are renewed, and the server over it with clients that are slow, rude or many, and with a million datagrams that no
+client would send; once more under the sanitizers of the compiler, and under valgrind. FOLDER is what `./build ningkraet` made;
+where none is named it is what `tools/build/program path ningkraet` gives. No part of the gate: it needs cc, opens sockets on loopback, and leaves
+out, and says so, what a machine without valgrind can't do. It ends what it starts."""
+import contextlib
+import os
+import shutil
+import signal
+import socket
+import struct
+import subprocess
+import sys
+import tempfile
+import time
+from typing import NamedTuple
+
+sys.dont_write_bytecode = True
+sys.path.append(os.path.dirname(os.path.dirname(os.path.realpath(__file__))))
+
+import library
+import peers
+from library_datagrams import flood
+from sources import TOP
+
+PORT = 5390
+# What a memory checker reports ends with this status.
+VALGRIND = ["valgrind", "-q", "--error-exitcode=9", "--leak-check=full"]
+
+
+class Way(NamedTuple):
+    """A way to try the library: what is handed to the compiler, before what the program runs, and how much is tried."""
+
+    name: str
+    flags: list[str]
+    before: list[str]
+    datagrams: int
+    renewals: int
+
+
+WAYS = [
+    Way("plain", [], [], 1_000_000, 2000),
+    Way("sanitized", ["-fsanitize=address,undefined", "-fno-sanitize-recover=all"], [], 1_000_000, 300),
+    Way("under valgrind", [], VALGRIND, 1_000_000, 50),
+]
+# A query for the SOA of example.com, and one without an answer: it is itself a response.
+QUERY = bytes.fromhex("1234 0100 0001 0000 0000 0000 07") + b"example\3com" + bytes.fromhex("00 0006 0001")
+RESPONSE = QUERY[:2] + b"\x81" + QUERY[3:]
+
+
+def received(stream):
+    """The next message of a stream; empty at its end."""
+    octets = b""
+    while len(octets) < 2 or len(octets) < 2 + struct.unpack("!H", octets[:2])[0]:
+        more = stream.recv(2 + struct.unpack("!H", octets[:2])[0] - len(octets) if len(octets) >= 2 else 2 - len(octets))
+        if not more:
+            return b""
+        octets += more
+    return octets[2:]
+
+
+def connected(family=socket.AF_INET):
+    stream = socket.socket(family, socket.SOCK_STREAM)
+    stream.settimeout(5)
+    stream.connect(("::1" if family == socket.AF_INET6 else "127.0.0.1", PORT))
+    return stream
+
+
+def is_answer(message):
+    return message[:2] == QUERY[:2] and len(message) > len(QUERY) and message[3] & 15 == 0 and message[7] == 1
+
+
+def datagrams_are_answered():
+    for family, host in ((socket.AF_INET, "127.0.0.1"), (socket.AF_INET6, "::1")):
+        with socket.socket(family, socket.SOCK_DGRAM) as it:
+            it.settimeout(5)
+            for octets in (b"", b"x" * 3000, RESPONSE, QUERY):
+                it.sendto(octets, (host, PORT))
+            found = [it.recv(4096) for _ in range(2)]
+            assert is_answer(found[-1]), found
+
+
+def queries_of_one_write_are_answered():
+    for family in (socket.AF_INET, socket.AF_INET6):
+        with connected(family) as it:
+            it.sendall(peers.framed(QUERY) + peers.framed(RESPONSE) + peers.framed(QUERY)[:9])
+            assert is_answer(received(it))
+            it.sendall(peers.framed(QUERY)[9:] + peers.framed(QUERY) * 500)
+            assert all(is_answer(received(it)) for _ in range(501))
+
+
+def half_closed_connections_are_answered():
+    with connected() as it:
+        it.sendall(peers.framed(QUERY) * 3)
+        it.shutdown(socket.SHUT_WR)
+        assert all(is_answer(received(it)) for _ in range(3)) and received(it) == b""
+
+
+def others_dont_wait_for_one_octet_a_second():
+    with connected() as slow:
+        for octet in peers.framed(QUERY)[:3]:
+            slow.sendall(bytes([octet]))
+            began = time.monotonic()
+            datagrams_are_answered()
+            queries_of_one_write_are_answered()
+            time.sleep(max(0, 1 - (time.monotonic() - began)))
+        slow.sendall(peers.framed(QUERY)[3:])
+        assert is_answer(received(slow))
+
+
+def a_client_that_does_not_read_is_bounded(front):
+    with connected() as it:
+        it.setblocking(False)
+        try:
+            for _ in range(4000):
+                it.send(peers.framed(QUERY) * 1000)
+        except BlockingIOError:
+            pass
+        time.sleep(1)
+        datagrams_are_answered()
+        assert kilobytes(front) < 20_000, kilobytes(front)
+
+
+def a_thousand_connections_are_served():
+    streams = [connected() for _ in range(1000)]
+    for it in streams:
+        it.sendall(peers.framed(QUERY))
+    assert all(is_answer(received(it)) for it in streams)
+    # More than there may be: the first, which have asked nothing for longest, give way.
+    more = [connected() for _ in range(100)]
+    for it in more:
+        it.sendall(peers.framed(QUERY))
+    assert all(is_answer(received(it)) for it in more)
+    for it in streams + more:
+        it.close()
+
+
+def a_changed_file_is_served(front, file):
+    with open(file, encoding="utf-8") as it:
+        text = it.read()
+    for changed, serial in ((text.replace("192.0.2.80", "192.0.2"), 1), (text.replace(" 1 ", " 2 ", 1), 2)):
+        with open(file, "w", encoding="utf-8") as it:
+            it.write(changed)
+        front.send_signal(signal.SIGHUP)
+        time.sleep(0.5)
+        with connected() as it:
+            it.sendall(peers.framed(QUERY))
+            found = received(it)
+        assert struct.unpack("!I", found[-20:-16])[0] == serial, found
+
+
+def tried(what, test, *words):
+    test(*words)
+    print(f"library_test: {what.__name__ if callable(what) else what}: ok", flush=True)
+
+
+def compiled(way, folder, source, room, *more):
+    """Compiles a program over the library, and gives its path."""
+    path = f"{room}/{os.path.basename(source)[:-2]}"
+    subprocess.run(["cc", "-O2", "-g", *way.flags, "-o", path, f"{TOP}/{source}", *library.flags(folder), *more], check=True)
+    return path
+
+
+def try_calls(way, folder, room):
+    """Refusals, and allocations that fail; a sanitizer has an allocator of its own, whose allocations don't."""
+    more = ["-DNOT_WRAPPED"] if way.flags else ["-Wl,--wrap=malloc,--wrap=realloc"]
+    subprocess.run([*way.before, compiled(way, folder, "tools/compare/library_test.c", room, *more), str(way.datagrams)], check=True)
+
+
+def try_threads(way, folder, room):
+    subprocess.run([*way.before, compiled(way, folder, "tools/compare/library_threads.c", room, "-pthread"), str(way.renewals)], check=True)
+
+
+@contextlib.contextmanager
+def front_of(way, folder, room):
+    """The server over the library, and the file of its zone. It has to end well, with nothing reported."""
+    file = f"{room}/example.zone"
+    shutil.copyfile(f"{TOP}/examples/example.zone", file)
+    words = [*way.before, compiled(way, folder, "examples/serving/front.c", room), str(PORT), f"example.com.={file}"]
+    front = subprocess.Popen(words, stderr=subprocess.PIPE)
+    try:
+        assert b"listening" in front.stderr.readline()
+        yield front, file
+        front.terminate()
+        said = front.communicate(timeout=60)[1].decode()
+        assert front.returncode == 0, said
+    finally:
+        front.kill()
+        front.wait()
+
+
+def kilobytes(process):
+    with open(f"/proc/{process.pid}/statm", encoding="ascii") as held:
+        return int(held.read().split()[1]) * os.sysconf("SC_PAGESIZE") // 1024
+
+
+def try_datagrams(way, folder, room):
+    with front_of(way, folder, room) as (front, _):
+        flood(PORT, 10_000, seed=2)
+        before = kilobytes(front)
+        answered = flood(PORT, way.datagrams)
+        # (a memory checker keeps what was given back for a while)
+        assert way.flags or way.before or kilobytes(front) <= before + 100, (before, kilobytes(front))
+    print(f"library_test: of {way.datagrams} datagrams {answered} were to be answered, and were", flush=True)
+
+
+def try_front(folder, room):
+    with front_of(WAYS[0], folder, room) as (front, file):
+        for test in (datagrams_are_answered, queries_of_one_write_are_answered, half_closed_connections_are_answered):
+            tried(test, test)
+        tried("others_dont_wait", others_dont_wait_for_one_octet_a_second)
+        tried("a_slow_reader_is_bounded", a_client_that_does_not_read_is_bounded, front)
+        tried("a_thousand_connections", a_thousand_connections_are_served)
+        tried("a_changed_file_is_served", a_changed_file_is_served, front, file)
+
+
+def main(words):
+    if not shutil.which("cc"):
+        sys.exit("library_test: cc isn't there")
+    folder = words[0] if words else peers.program("ningkraet")
+    with tempfile.TemporaryDirectory(prefix="library-") as room:
+        for way in WAYS:
+            if way.before and not shutil.which(way.before[0]):
+                print("library_test: left out: valgrind isn't there")
+                continue
+            for test in (try_calls, try_threads, try_datagrams):
+                tried(f"{test.__name__}, {way.name}", test, way, folder, room)
+        try_front(folder, room)
+    return 0
+
+
+if __name__ == "__main__":
+    sys.exit(main(sys.argv[1:]))

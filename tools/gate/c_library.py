@@ -1,0 +1,158 @@
+#!/usr/bin/env python3
+"""Tries the library for C, as it is handed to its users.
+
+  tools/gate/c_library.py program FOLDER    the program of the README, compiled by the lines of the documents, answers
+  tools/gate/c_library.py calls FOLDER      each call tells of each refusal, and of each allocation that fails (library_test.c)
+  tools/gate/c_library.py front.c FOLDER    a query is answered by UDP and by TCP, of the zone of the README's tour
+  tools/gate/c_library.py front.py PROGRAM  the same by zoned
+
+FOLDER is one that `./build ningkraet` or `tools/build/program path ningkraet` made; its header has to say which of the two. All but
+the last need cc. Says what goes wrong, and ends with status 1 where something does.
+"""
+import os
+import re
+import shutil
+import socket
+import subprocess
+import sys
+import tempfile
+
+sys.dont_write_bytecode = True
+TOOLS = os.path.dirname(os.path.dirname(os.path.realpath(__file__)))
+sys.path[1:1] = [f"{TOOLS}/compare", TOOLS]
+
+import frames
+import library
+import markdown
+import peers
+import sources
+from sources import TOP
+
+# What the README's program ends with: the address that its query asks for.
+ADDRESS = "192.0.2.80"
+# The lines of the documents that compile a program over the library; and the one that is a server.
+LINE, SERVER = re.compile(r"^cc .*?(\S+\.c) \$\(pkg-config --cflags --libs ningkraet\) -o \w+", re.M), "examples/serving/front.c"
+# Datagrams with octets turned, as many as take a second, and the seconds that an answer may take.
+DATAGRAMS, PATIENCE = 10_000, 10
+# What is asked of the zone of the README's tour.
+ORIGIN, ZONE, QUERY = "example.com.", "examples/example.zone", ["example.com.", "SOA", "id=4660"]
+
+
+class Wrong(Exception):
+    pass
+
+
+def need(holds, what):
+    if not holds:
+        raise Wrong(what)
+
+
+def documents():
+    return sources.files_below(".", ".md")
+
+
+def program_text():
+    """The C program of the README."""
+    texts = [text for _, language, text in markdown.blocks("README.md") if language == "c" and "int main" in text]
+    need(texts, "README.md has no C program")
+    return texts[0]
+
+
+def compiling_lines():
+    """The lines of the documents that compile programs, by these."""
+    texts = [text for path in documents() for _, _, text in markdown.blocks(path)]
+    lines = {it[1]: it[0] for text in texts for it in LINE.finditer(text)}
+    need(SERVER in lines, f"no line of the documents compiles {SERVER}")
+    return lines
+
+
+def ran(words, **how):
+    """What a command writes, which has to end well."""
+    done = subprocess.run(words, stdout=subprocess.PIPE, stderr=subprocess.STDOUT, text=True, errors="replace", **how)
+    need(done.returncode == 0, f"{words[0] if isinstance(words, list) else words}: status {done.returncode}: {done.stdout.strip()}")
+    return done.stdout
+
+
+def compiled(source, folder, room):
+    """Compiles a program by its line of the documents, and gives its path; the README's own by the line of the server where it has none.
+    Without pkg-config it does so by the words that this would give."""
+    lines = compiling_lines()
+    named = SERVER if source == SERVER else next((it for it in lines if it != SERVER), SERVER)
+    line = re.sub(r"-o \w+$", f"-o {room}/made", lines[named].replace(f" {named} ", f" {source} "))
+    if not shutil.which("pkg-config"):
+        line = re.sub(r"\$\(pkg-config .*?\)", " ".join(library.flags(folder)), line)
+    ran(line, shell=True, cwd=TOP, env={**os.environ, "PKG_CONFIG_PATH": f"{folder}/lib/pkgconfig"})
+    return f"{room}/made"
+
+
+def says_what_it_is(folder):
+    """The header of the folder says that the library isn't proved, where it isn't."""
+    with open(f"{folder}/{library.HEADER}", encoding="utf-8") as it:
+        is_told = it.read().startswith(library.UNPROVED.split(":")[0])
+    need(is_told == ("-proved-" not in os.path.basename(folder)), f"the header of {folder} says that it is the other of a proved and an unproved one")
+
+
+def program(folder, room):
+    says_what_it_is(folder)
+    with open(f"{room}/program.c", "w", encoding="utf-8") as it:
+        it.write(program_text())
+    said = ran([compiled(f"{room}/program.c", folder, room)])
+    need(said.endswith(f" {ADDRESS}\n"), f"the README's program says: {said}")
+
+
+def calls(folder, room):
+    words = ["cc", "-O2", f"{TOP}/tools/compare/library_test.c", *library.flags(folder), "-Wl,--wrap=malloc,--wrap=realloc", "-o", f"{room}/calls"]
+    ran(words)
+    said = ran([f"{room}/calls", str(DATAGRAMS)])
+    need(re.search(r"^[1-9]\d* allocations refused", said, re.M), f"no allocation was refused: {said}")
+
+
+def front_c(folder, room):
+    port = peers.free_port()
+    asked_of(port, [compiled(SERVER, folder, room), str(port), f"{ORIGIN}={TOP}/{ZONE}"])
+
+
+def front_py(path, room):
+    port = peers.free_port()
+    asked_of(port, peers.front(path, port, {ORIGIN: f"{TOP}/{ZONE}"}))
+
+
+def asked_of(port, words):
+    """Starts a server, and asks it by either way."""
+    server = peers.begun(words)
+    try:
+        with peers.connected(port) as stream:
+            stream.settimeout(PATIENCE)
+            by_tcp = peers.asked(stream, frames.query(QUERY))
+        with socket.socket(socket.AF_INET, socket.SOCK_DGRAM) as it:
+            it.settimeout(PATIENCE)
+            it.connect(("127.0.0.1", port))
+            it.send(frames.query(QUERY))
+            by_udp = it.recv(65535)
+    finally:
+        peers.end(server)
+    for way, message in (("TCP", by_tcp), ("UDP", by_udp)):
+        lines = list(frames.message_lines(message))
+        is_answer = "status: NOERROR, id: 4660" in lines[0] and " aa;" in lines[1] and lines[-1].startswith(f"{ORIGIN} 3600 IN SOA ")
+        need(is_answer, f"by {way}: {lines}")
+
+
+TRIES = {"program": program, "calls": calls, "front.c": front_c, "front.py": front_py}
+
+
+def main(words):
+    if len(words) != 2 or words[0] not in TRIES:
+        print(__doc__, end="", file=sys.stderr)
+        return 2
+    try:
+        with tempfile.TemporaryDirectory(prefix="library-") as room:
+            need(os.path.exists(words[1]), f"there is no {words[1] or 'library or program'}")
+            TRIES[words[0]](words[1], room)
+    except (Wrong, OSError) as wrong:
+        print(f"c_library: {words[0]}: {wrong}")
+        return 1
+    return 0
+
+
+if __name__ == "__main__":
+    sys.exit(main(sys.argv[1:]))

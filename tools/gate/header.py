@@ -1,0 +1,91 @@
+#!/usr/bin/env python3
+"""Whether include/ningkraet.h declares what the static library has: the same names, in its order, with as many parameters of the same
+kinds, the same codes by the same numbers, and the same number of the interface. Where cc is there, the header is also compiled as C
+and as C++. Says what differs, and ends with the status 1 then."""
+import os
+import re
+import shutil
+import subprocess
+import sys
+
+sys.dont_write_bytecode = True
+sys.path.append(os.path.dirname(os.path.dirname(os.path.realpath(__file__))))
+
+import sources
+
+HEADER, EXPORTS, CODES = "include/ningkraet.h", "crates/ningkraet/src/lib.rt", "crates/zone_database/src/outcome.rt"
+
+# What a parameter is in C. The allocator is none there, since it takes no octets.
+KINDS = {
+    "Global": [],
+    "&mut Handle": ["nk_zones *"],
+    "&[u8]": ["const uint8_t *", "size_t"],
+    "&mut [u8]": ["uint8_t *", "size_t"],
+    "&mut usize": ["size_t *"],
+    "&mut u32": ["uint32_t *"],
+    "usize": ["size_t"],
+    "u32": ["uint32_t"],
+    "u64": ["uint64_t"],
+}
+
+
+def exported():
+    """The exports: what each gives and takes, as C sees it."""
+    found = {}
+    for name, parameters, result in re.findall(r'extern "C" fn (\w+)\(([^)]*)\)(?: -> (\w+))?', sources.read(EXPORTS)):
+        kinds = [it.split(":", 1)[1].strip() for it in parameters.split(",") if it.strip()]
+        found[name] = (KINDS[result][0] if result else "void", [it for kind in kinds for it in KINDS[kind]])
+    return found
+
+
+def declared(text):
+    """The functions of the header: what each gives and takes."""
+    found = {}
+    for result, name, parameters in re.findall(r"^(\w+) (nk_\w+)\(([^)]*)\);", text, re.M):
+        parameters = [] if parameters == "void" else parameters.split(",")
+        found[name] = (result, [re.sub(r"\w+$", "", " ".join(it.split())).strip() for it in parameters])
+    return found
+
+
+def told():
+    """The codes of the library by their names in C."""
+    codes = re.findall(r"Outcome::(\w+) => (\d+),", sources.read(CODES))
+    return {"NK" + re.sub(r"([A-Z])", r"_\1", name).upper(): int(code) for name, code in codes}
+
+
+def differences(text):
+    exports, functions = exported(), declared(text)
+    if list(exports) != list(functions):
+        yield f"the header has {', '.join(functions)}, and the library {', '.join(exports)}"
+    for name in exports:
+        if functions.get(name, exports[name]) != exports[name]:
+            yield f"{name} gives and takes {functions[name]} in the header, and {exports[name]} in the library"
+    codes = re.search(r"enum \{\n    NK_DONE(?:.|\n)*?\n\};", text).group()
+    numbers = {name: int(code) for name, code in re.findall(r"(NK_\w+) = (\d+)", codes)}
+    if numbers != told():
+        yield f"the header has the codes {numbers}, and the library {told()}"
+    interface = re.search(r"^#define NK_INTERFACE (\d+)$", text, re.M).group(1)
+    if not re.search(r"fn nk_interface\(\) -> u32\n    ensures \{ result ≡ " + interface + r" \}", sources.read(EXPORTS)):
+        yield f"NK_INTERFACE is {interface} in the header, and another in the library"
+
+
+def compiled():
+    """What a compiler says of the header, as C and as C++, where there is one."""
+    for language in ("c", "c++") if shutil.which("cc") else ():
+        words = ["cc", "-x", language, "-Wall", "-Wextra", "-Werror", "-pedantic", "-fsyntax-only", "-"]
+        use = f'#include "{sources.TOP}/{HEADER}"\nint main(void) {{ nk_zones zones = NK_ZONES_NONE; nk_zones_free(&zones); return 0; }}\n'
+        ran = subprocess.run(words, input=use, text=True, stderr=subprocess.PIPE)
+        if ran.returncode and "error trying to exec" not in ran.stderr:
+            yield f"as {language}: {ran.stderr.strip()}"
+
+
+def main():
+    text = sources.read(HEADER)
+    faults = [*differences(text), *compiled()]
+    for fault in faults:
+        print(f"header: {fault}", file=sys.stderr)
+    return 1 if faults else 0
+
+
+if __name__ == "__main__":
+    sys.exit(main())

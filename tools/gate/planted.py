@@ -1,0 +1,123 @@
+#!/usr/bin/env python3
+"""Wrong bodies as data: planted/CRATE/NAME.edit says how a body of a crate is turned, which the check has to refuse.
+
+  by: the clause of `f`      what refuses it, in names of the crate; where it isn't said, tools/gate/plant tells
+  file: src/transfer.rt      a file of the crate
+  old: a line of it          what stands there once
+  new: another line          what is put in its place
+
+More pairs of old and new, and more files, may follow. As a program, this checks that each can be applied: each old text stands
+once in its file, the names behind `by` are there, and docs/PROOFS.md has as many of each crate as there are. It prints what is
+wrong, and ends with status 1 where something is. tools/gate/plant tries them.
+"""
+import functools
+import os
+import re
+import sys
+
+sys.dont_write_bytecode = True
+sys.path.append(os.path.dirname(os.path.dirname(os.path.realpath(__file__))))
+
+import markdown
+import sources
+
+PROOFS = "docs/PROOFS.md"
+
+
+def read(path):
+    try:
+        return sources.read(path)
+    except OSError:
+        return ""
+
+
+def crates_with_planted():
+    folder = f"{sources.TOP}/planted"
+    return sorted(it for it in os.listdir(folder) if os.path.isdir(f"{folder}/{it}")) if os.path.isdir(folder) else []
+
+
+def lines(crate, name):
+    """The lines of a wrong body's file."""
+    return read(f"planted/{crate}/{name}.edit").removesuffix("\n").split("\n")
+
+
+@functools.cache
+def names_of(crate):
+    """The names of a crate's sources: functions, types, and clauses."""
+    names = sources.names_of(crate)
+    return {*names.clauses, *names.items, *(clause for clauses in names.clauses.values() for clause in clauses)}
+
+
+def turned(crate, name):
+    """The texts that a wrong body gives to files of its crate, by path, and what is wrong with its file."""
+    path, old, texts, wrong = "", "", {}, []
+    for line in lines(crate, name):
+        word, _, rest = line.partition(":")
+        rest = rest.removeprefix(" ")
+        if word == "by":
+            # (a short word may be the name of a clause that a trait of the toolchain's has)
+            named = [it for it in re.findall(r"`([^`]+)`", rest) if not re.fullmatch("[a-z]+", it)]
+            wrong += [f"{crate} has no {it}, which is to refuse it" for it in named if it not in names_of(crate)]
+        elif word == "file":
+            path = rest.strip()
+            texts.setdefault(path, read(f"crates/{crate}/{path}"))
+        elif word == "old":
+            old = rest
+        elif word == "new" and path and old:
+            count = texts[path].count(old)
+            if count != 1:
+                wrong.append(f"'{old}' stands {count} times in {path}, and not once")
+            if old == rest:
+                wrong.append(f"'{old}' is put in its own place")
+            texts[path], old = texts[path].replace(old, rest), ""
+        elif line.strip():
+            wrong.append(f"the line '{line}' is none of a planted body")
+    return texts, (wrong if texts else ["it names no file"])
+
+
+def planted_in(crate):
+    """The wrong bodies of a crate by name, each with its texts and what is wrong with its file."""
+    names = [it.removesuffix(".edit") for it in sorted(os.listdir(f"{sources.TOP}/planted/{crate}"))]
+    return {it: turned(crate, it) for it in names}
+
+
+def complaints():
+    """What is wrong with the files of planted/."""
+    listed, found = sources.crates(), []
+    for crate in crates_with_planted():
+        if crate not in listed:
+            found.append(f"planted/{crate}: crates.txt has no such crate")
+            continue
+        seen = {}
+        for name, (texts, wrong) in planted_in(crate).items():
+            if not re.fullmatch(r"[a-z0-9_]+", name):
+                wrong = [*wrong, "its name isn't of lower-case letters, digits and _, with .edit behind them"]
+            key = tuple(sorted(texts.items()))
+            if key in seen:
+                wrong = [*wrong, f"it is the same as {seen[key]}"]
+            seen.setdefault(key, name)
+            found += [f"planted/{crate}/{name}.edit: {it}" for it in wrong]
+    return found
+
+
+def counts():
+    """How many wrong bodies each crate has."""
+    return {crate: len(os.listdir(f"{sources.TOP}/planted/{crate}")) for crate in crates_with_planted()}
+
+
+def miscounted():
+    """What the table of PROOFS says otherwise of their numbers."""
+    tables = [it for it in markdown.tables(PROOFS) if it.head[:2] == ["Crate", "Wrong bodies"]]
+    stated = {row[0].strip("`"): int(row[1]) for it in tables for _, row in it.rows}
+    return [f"{PROOFS}: {crate} has {its}" for crate, its in counts().items() if stated.get(crate) != its]
+
+
+def main():
+    found = complaints() + miscounted()
+    for it in found:
+        print(f"planted: {it}")
+    return 1 if found else 0
+
+
+if __name__ == "__main__":
+    sys.exit(main())
