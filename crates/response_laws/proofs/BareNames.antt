@@ -3,18 +3,20 @@ use Rattle.std.proofs.Common.{◌≡◌, ◌≢◌, ℕ, Bool, true, false, cond
 use Rattle.std.specs.Prelude.{Option, Some, None, is_some, option_and_then, ◌==◌}
 use Rattle.zone_proto.specs.Names.{Name, name_eq}
 use Rattle.zone_proto.specs.Sets.{RRset}
-use Rattle.zone_proto.specs.Types.{NS, SOA, DS, RRSIG, NSEC3, ANY}
+use Rattle.zone_proto.specs.Types.{NS, CNAME, SOA, DS, RRSIG, NSEC3, ANY}
 use Rattle.zone_proto.proofs.Names.NameTree.{name_eq-Decides}
 use Rattle.zone_map.specs.AnyTypes.{any_type}
-use Rattle.zone_map.specs.Zones.{Sets, set_at, owns}
+use Rattle.zone_map.specs.Zones.{Sets, set_at, owns, IsZone}
+use Rattle.zone_denial.specs.Chains.{chain_sets}
 use Rattle.zone_denial.specs.StarLaws.{OwnsNone}
 use Rattle.denial_laws.specs.Judged.{Unreferred}
 use Rattle.denial_laws.proofs.OwnTypes.{differs}
-use Rattle.zone_response.specs.Queries.{Inquiry}
+use Rattle.zone_response.specs.Queries.{Zone, Query, Inquiry, inquiry}
 use Rattle.zone_response.specs.Sections.{is_signed}
 use Rattle.zone_response.specs.Nodes.{asked_set}
 use Rattle.response_laws.proofs.LastNames.{IsBare}
 use Rattle.response_laws.proofs.Leads.{any_answered}
+use Rattle.response_laws.proofs.LentSets.{owns_kept, unowned_kept}
 use Rattle.response_laws.proofs.Stepped.{IsUnturned}
 use Rattle.response_laws.proofs.Turned.{unturned, silent_at}
 
@@ -35,13 +37,28 @@ module _ (m : Sets) (a : Name) (t : ℕ) (bare : IsBare m a t) where
       lost None e = refl
       lost (Some s) e = absurd cc
 
--- nor NSEC3 either, in a zone without it
-pub type_unowned : (m : Sets) (a : Name) (t : ℕ) → IsBare m a t → OwnsNone m NSEC3 → t ≢ RRSIG → t ≢ ANY → owns m a t ≡ false
-type_unowned m a t bare one_kind unsigned one = by (t == NSEC3) refl
-  where
-    by : (b : Bool) → (t == NSEC3) ≡ b → owns m a t ≡ false
-    by true e = ap (owns m a) (eqb-true t NSEC3 e) ∙ one_kind a
-    by false e = bare_unowned m a t bare unsigned one e
+-- among the sets that a zone lends for its denials it owns nothing more, NSEC3 aside
+module _ (z : Zone) (same : z.denials ≡ chain_sets z.nx_proof_kind z.sets) (zone : IsZone z.sets) (a : Name) (t : ℕ) (bare : IsBare z.sets a t) where
+  pub lent_not_any : (u : ℕ) → owns z.denials a u ≡ true → t ≢ ANY
+  lent_not_any u k e = by (owns z.sets a u) refl
+    where
+      by : (b : Bool) → owns z.sets a u ≡ b → ⊥
+      by true o = not_any z.sets a t bare u o e
+      by false o = true≢false (sym k ∙ unowned_kept z same zone a u o)
+
+  pub lent_unowned : t ≢ RRSIG → t ≢ ANY → (t == NSEC3) ≡ false → owns z.denials a t ≡ false
+  lent_unowned unsigned one other = unowned_kept z same zone a t (bare_unowned z.sets a t bare unsigned one other)
+
+  pub lent_alias : owns z.denials a CNAME ≡ false
+  lent_alias = owns_kept z same a CNAME refl ∙ ap is_some bare.alias
+
+  -- nor NSEC3 either, where no name owns that
+  pub type_unowned : OwnsNone z.denials NSEC3 → t ≢ RRSIG → t ≢ ANY → owns z.denials a t ≡ false
+  type_unowned one_kind unsigned one = by (t == NSEC3) refl
+    where
+      by : (b : Bool) → (t == NSEC3) ≡ b → owns z.denials a t ≡ false
+      by true e = ap (owns z.denials a) (eqb-true t NSEC3 e) ∙ one_kind a
+      by false e = lent_unowned unsigned one e
 
 -- at a name that nothing turns, NS stands beside SOA alone, but where DS is asked
 pub beside_soa : (q : Inquiry) (x : Name) → IsUnturned q x → Unreferred q.origin q.sets → (q.record_type == DS) ≡ false → owns q.sets x NS ≡ true → owns q.sets x SOA ≡ true
@@ -60,3 +77,8 @@ beside_soa q x u unreferred other ns = by (name_eq x q.origin) refl
         unasked
         (sym (λ i. cond (e i || right_false (name_eq x x) i) None (set_at q.sets x NS))
         ∙ (silent_at q.origin q.sets x q.record_type x u.inside (unturned q.origin q.sets x q.record_type u.unturned x ([], refl))).0)
+
+-- so it does among the sets that the zone lends
+pub lent_beside_soa : (z : Zone) → z.denials ≡ chain_sets z.nx_proof_kind z.sets → (q : Query) (x : Name) → IsUnturned (inquiry z q) x → Unreferred z.origin z.sets
+    → (q.record_type == DS) ≡ false → owns z.denials x NS ≡ true → owns z.denials x SOA ≡ true
+lent_beside_soa z same q x u unreferred other ns = owns_kept z same x SOA refl ∙ beside_soa (inquiry z q) x u unreferred other (sym (owns_kept z same x NS refl) ∙ ns)

@@ -14,13 +14,14 @@ use Rattle.zone_proto.specs.Sets.{RRset}
 use Rattle.zone_proto.specs.Types.{NSEC3}
 use Rattle.zone_proto.proofs.Members.{In, In-Contains, Contains-In, In-from_append}
 use Rattle.zone_map.specs.Zones.{Sets, set_at, IsZone}
-use Rattle.zone_denial.specs.Nsec3Zones.{IsNsec3Zone, IsHashed, TellsApart, hash_with}
+use Rattle.zone_denial.specs.Chains.{IsNsec3Chain}
+use Rattle.zone_denial.specs.Nsec3Zones.{IsHashedOn, TellsApart, hash_with}
 use Rattle.denial_validation.specs.Judgement.{nsec3_proof}
 use Rattle.denial_validation.specs.Nsec3Parameters.{zone_data, has_parameters, records_with, nsec3_datas, digest_by, is_known, is_other}
 use Rattle.denial_validation.specs.Nsec3Records.{nsec3_data, nsec3_record, read_nsec3}
 use Rattle.denial_laws.specs.Nsec3Calls.{StandInNsec3Sets, told}
 use Rattle.denial_laws.specs.Nsec3Judged.{read_nsec3_sets}
-use Rattle.denial_laws.proofs.Nsec3Calls.{nsec3_parameters_found}
+use Rattle.denial_laws.proofs.Chains.Nsec3Calls.{nsec3_parameters_found}
 use Rattle.zone_response.specs.declared.response.Part.{Part}
 use Rattle.zone_response.specs.declared.response.Part.TheVariants as part
 use Rattle.zone_response.specs.Sections.{with_ttl}
@@ -114,12 +115,12 @@ module _ (m : Sets) (zone : IsZone m) where
 
   -- ---- what a validator tells by them
 
-  pub told_is : (origin : Name) (digest_of : ℕ → List ℕ → Name → ℕ → Option (List ℕ)) (parameters : Nsec3Parameters) → IsNsec3Zone origin m (hash_with digest_of parameters) parameters
-      → (sets : List RRset) → ((s : RRset) → In s sets → IsSentSet m (authority_part s) s) → (x : Name) (t : ℕ) → TellsApart (IsHashed origin m parameters.opt_out x) (hash_with digest_of parameters)
+  pub told_is : (origin : Name) (digest_of : ℕ → List ℕ → Name → ℕ → Option (List ℕ)) (parameters : Nsec3Parameters) (names : List Name) → IsNsec3Chain origin m (hash_with digest_of parameters) parameters names
+      → (sets : List RRset) → ((s : RRset) → In s sets → IsSentSet m (authority_part s) s) → (x : Name) (t : ℕ) → TellsApart (IsHashedOn names x) (hash_with digest_of parameters)
       → told digest_of origin (flat_map (λ (s : RRset). s.records) sets) x t ≡ nsec3_proof origin (hash_with digest_of parameters) (read_nsec3_sets sets) x t
-  told_is origin digest_of parameters hashed sets h x t apart =
+  told_is origin digest_of parameters names hashed sets h x t apart =
       sym (told_untimed digest_of origin sent x t) ∙ ap (λ rs. told digest_of origin rs x t) (sym k.same) ∙ told_untimed digest_of origin k.records x t
-      ∙ nsec3_parameters_found origin m digest_of parameters k.records x t hashed apart k.stand
+      ∙ nsec3_parameters_found origin m digest_of parameters names k.records x t hashed apart k.stand
       ∙ ap (λ ns. nsec3_proof origin (hash_with digest_of parameters) ns x t) (sym (read_untimed read_nsec3 (λ v. refl) k.records) ∙ ap (filter_map read_nsec3) k.same ∙ read_untimed read_nsec3 (λ v. refl) sent)
     where
       sent : List Record

@@ -6,21 +6,19 @@ use Rattle.zone_proto.specs.declared.rdata.denial.NSEC3PARAM.{NSEC3PARAM as Nsec
 use Rattle.zone_proto.specs.HashedOwners.{owner_or_refusal}
 use Rattle.zone_proto.specs.Names.{Name, star_under}
 use Rattle.zone_proto.specs.Sets.{RRset}
-use Rattle.zone_proto.specs.Types.{NSEC3PARAM}
 use Rattle.zone_proto.proofs.Members.{In, or_left, or_right}
 use Rattle.zone_map.specs.Wildcards.{exists}
-use Rattle.zone_map.specs.Zones.{Sets, owns, IsZone}
+use Rattle.zone_map.specs.Zones.{Sets, IsZone}
 use Rattle.zone_denial.specs.Nsec3Denial.{nsec3_denial}
-use Rattle.zone_denial.specs.Nsec3Names.{nsec3_names}
-use Rattle.zone_denial.proofs.Hashed.Nsec3Covers.{IsCover}
-use Rattle.zone_denial.proofs.Hashed.Nsec3Enclosers.{is_named, IsEnclosed}
+use Rattle.zone_denial.proofs.Chains.Nsec3Covers.{IsCover}
+use Rattle.zone_denial.proofs.Chains.Nsec3Names.{is_named, IsEnclosed}
 use Rattle.zone_denial.proofs.Names.LongestAncestors.{longest_above}
 use Rattle.denial_validation.specs.Nsec3Proofs.{is_handed_on, proves_name_error, proves_opted_out, proves_wildcard_no_data}
 use Rattle.denial_validation.specs.Nsec3Records.{Nsec3Record}
 use Rattle.denial_laws.specs.Nsec3Judged.{read_nsec3_sets, AreNsec3OfZone}
-use Rattle.denial_laws.proofs.Nsec3LeftOut.{nsec3_absence_sound}
-use Rattle.denial_laws.proofs.Nsec3Readings.{record_of}
-use Rattle.denial_laws.proofs.Nsec3Shown.{IsShown, enclosing_shown}
+use Rattle.denial_laws.proofs.Chains.Nsec3LeftOut.{nsec3_absence_sound}
+use Rattle.denial_laws.proofs.Chains.Nsec3Readings.{record_of}
+use Rattle.denial_laws.proofs.Chains.Nsec3Shown.{IsShown, enclosing_shown}
 use Rattle.zone_response.specs.Denials.{proofs}
 use Rattle.zone_response.specs.HashedDenials.{lack_proof}
 use Rattle.zone_response.specs.Queries.{Zone, Query, inquiry}
@@ -30,13 +28,14 @@ use Rattle.zone_response.specs.Wildcards.{star_of}
 use Rattle.zone_response.specs.Steps.{missing}
 use Rattle.response_laws.specs.HashedSayings.{zone_hash, DeniesByNsec3, HashesApart, IsReached, shown_nsec3, HasErrorProof, IsHashedError}
 use Rattle.response_laws.specs.Sayings.{name_error, saying}
-use Rattle.response_laws.proofs.HashedNames.{origin_there, encloser_agrees}
+use Rattle.response_laws.proofs.HashedNames.{plain_under, origin_there, encloser_agrees}
 use Rattle.response_laws.proofs.HashedParts.{of_missing}
-use Rattle.response_laws.proofs.HashedProved.{same_name, records_proved, sound_proved, shown_of, hashed_name, judged_name, asked_star, off}
+use Rattle.response_laws.proofs.HashedProved.{same_name, no_nsec, records_proved, sound_proved, shown_of, hashed_name, judged_name, asked_star, off}
 use Rattle.response_laws.proofs.HashedShown.{IsEncloserShown}
 use Rattle.response_laws.proofs.HashedSummed.{sum_of_error}
 use Rattle.response_laws.proofs.HashedTold.{IsHashedName, away, below, enclosed, not_handed, opted_out_is, error_proved}
 use Rattle.response_laws.proofs.LastNames.{IsMissing, bare, bare_star, starless, gone}
+use Rattle.response_laws.proofs.LentSets.{exists_kept, encloser_kept}
 use Rattle.response_laws.proofs.Parts.{path_of, IsMadeOf}
 use Rattle.response_laws.proofs.SaidNames.{reached_unturned, IsMissingName, missing_said}
 use Rattle.response_laws.proofs.Stepped.{IsUnturned}
@@ -45,8 +44,9 @@ module _ (z : Zone) (parameters : Nsec3Parameters) (q : Query) (r : Sections) (d
   abbrev o : Name
   o = z.origin
 
+  -- the sets that deny
   abbrev m : Sets
-  m = z.sets
+  m = z.denials
 
   abbrev t : ℕ
   t = q.record_type
@@ -58,30 +58,27 @@ module _ (z : Zone) (parameters : Nsec3Parameters) (q : Query) (r : Sections) (d
   hashed n = owner_or_refusal o (hash n)
 
   abbrev names : List Name
-  names = nsec3_names o m parameters.opt_out
+  names = d.names
 
-  abbrev on_circle : Name → Bool
-  on_circle = is_named o m parameters.opt_out
+  abbrev on_chain : Name → Bool
+  on_chain = is_named d.names
 
   abbrev zone : IsZone z.sets
-  zone = d.circle.zone
-
-  abbrev announced : owns z.sets z.origin NSEC3PARAM ≡ true
-  announced = d.circle.circle.announced
+  zone = d.zone
 
   abbrev rs : List Nsec3Record
   rs = shown_nsec3 r
 
   -- the sets that prove what is said of a name without what is asked for
-  pub lack : (x : Name) (star : Option Name) (there : Bool) → (path_of z q).end ≡ missing x star there → (own : List RRset) × (lack_proof z.sets (λ n. owner_or_refusal z.origin (zone_hash z parameters n)) x star ≡ Ok own) × ((s : RRset) → In s own → In s h.proofs)
+  pub lack : (x : Name) (star : Option Name) (there : Bool) → (path_of z q).end ≡ missing x star there → (own : List RRset) × (lack_proof z.denials (λ n. owner_or_refusal z.origin (zone_hash z parameters n)) x star ≡ Ok own) × ((s : RRset) → In s own → In s h.proofs)
   lack x star there end =
-      of_missing z zone d.denials parameters d.kind (path_of z q).made x star there h.proofs (subst (λ e. proofs z (ds_at m e) (path_of z q).made e ≡ Ok h.proofs) end (h.given signed))
+      of_missing z d.chain.zone parameters d.flag d.kind (path_of z q).made x star there h.proofs (subst (λ e. proofs z (ds_at z.sets e) (path_of z q).made e ≡ Ok h.proofs) end (h.given signed))
 
-  module _ (x : Name) (u : IsUnturned (inquiry z q) x) (apart : HashesApart z parameters x) where
-    abbrev k : IsReached o m x
+  module _ (x : Name) (u : IsUnturned (inquiry z q) x) (apart : HashesApart z parameters d.names x) where
+    abbrev k : IsReached o z.sets x
     k = reached_unturned z q d.top.no_dname x u
 
-    abbrev j : IsHashedName o m hash parameters x
+    abbrev j : IsHashedName o m hash parameters names x
     j = hashed_name z parameters q r d signed h x k apart
 
     abbrev of_zone : AreNsec3OfZone m rs
@@ -105,10 +102,10 @@ module _ (z : Zone) (parameters : Nsec3Parameters) (q : Query) (r : Sections) (d
 
     -- its closest encloser proof is there, and what is told of the star under the encloser, which without opt-out is the star w that is asked for it
     pub record IsAbsentShown (w : Name) : Type 0 where
-      pub off_circle : on_circle x ≡ false
+      pub off_chain : on_chain x ≡ false
       pub encloser : Name
       pub closer : Name
-      pub is : IsEnclosed o m parameters.opt_out x encloser closer
+      pub is : IsEnclosed names x encloser closer
       pub shown : IsEncloserShown j.zone j.apart encloser closer rs
       pub star_on : In (star_under encloser) names → In (record_of j.zone j.apart (star_under encloser)) rs
       pub star_off : (In (star_under encloser) names → ⊥) → (c : Name) × IsCover j.zone j.apart (star_under encloser) c × In (record_of j.zone j.apart c) rs
@@ -116,7 +113,7 @@ module _ (z : Zone) (parameters : Nsec3Parameters) (q : Query) (r : Sections) (d
 
     pub absent_shown : (w : Name) (there : Bool) → (path_of z q).end ≡ missing x (Some w) there → exists z.sets x ≡ false → star_of z.sets x ≡ Some w → IsAbsentShown w
     absent_shown w there end absent source = record {
-      off_circle = away_x;
+      off_chain = away_x;
       encloser = n.0;
       closer = n.1;
       is = n.2;
@@ -125,13 +122,15 @@ module _ (z : Zone) (parameters : Nsec3Parameters) (q : Query) (r : Sections) (d
       star_off = λ out. let c = told.star_off out in (c.0, c.1, shown_there own.0 own.2 (record_of j.zone j.apart c.0) c.2);
       agrees = λ all_in.
           let s = asked_star z parameters q r d signed h x w source in
-          ap star_under (encloser_agrees o m parameters.opt_out announced d.one_kind x (below j away_x) n.0 n.2.is_encloser s.encloser s.found all_in k.uncut) ∙ s.is;
+          ap star_under
+          (encloser_agrees o m hash parameters names d.chain (no_nsec z parameters q r d signed h) x (below j away_x) n.0 n.2.is_encloser s.encloser (encloser_kept z d.denials x ∙ s.found) all_in j.reached.uncut
+          (plain_under m x j.reached.no_dname)) ∙ s.is;
     }
       where
-        away_x : on_circle x ≡ false
+        away_x : on_chain x ≡ false
         away_x = off z parameters q r d signed h x absent
 
-        n : (a : Name) × (c : Name) × IsEnclosed o m parameters.opt_out x a c
+        n : (a : Name) × (c : Name) × IsEnclosed names x a c
         n = enclosed j away_x
 
         own : (own : List RRset) × (nsec3_denial m hashed false x ≡ Ok own) × ((s : RRset) → In s own → In s h.proofs)
@@ -144,22 +143,22 @@ module _ (z : Zone) (parameters : Nsec3Parameters) (q : Query) (r : Sections) (d
 
     module _ (w : Name) (s : IsAbsentShown w) where
       pub out_is : proves_opted_out z.origin (zone_hash z parameters) (shown_nsec3 r) x ≡ parameters.opt_out
-      out_is = opted_out_is j rs of_zone s.off_circle s.encloser s.closer s.is s.shown
+      out_is = opted_out_is j rs of_zone s.off_chain s.encloser s.closer s.is s.shown
 
-      star_error : exists m (star_under s.encloser) ≡ false → proves_name_error o hash rs x ≡ true
+      star_error : exists z.sets (star_under s.encloser) ≡ false → proves_name_error o hash rs x ≡ true
       star_error none =
           let c = s.star_off (away j (star_under s.encloser) (off z parameters q r d signed h (star_under s.encloser) none)) in
-          error_proved j rs of_zone s.off_circle s.encloser s.closer s.is s.shown c.0 c.1 c.2
+          error_proved j rs of_zone s.off_chain s.encloser s.closer s.is s.shown c.0 c.1 c.2
 
-      error_shown : exists m w ≡ false → HasErrorProof z parameters x → proves_name_error o hash rs x ≡ true
+      error_shown : exists z.sets w ≡ false → HasErrorProof z parameters names x → proves_name_error o hash rs x ≡ true
       error_shown none has = by parameters.opt_out refl
         where
           by : (b : Bool) → parameters.opt_out ≡ b → proves_name_error o hash rs x ≡ true
           by true f = star_error (has f s.encloser s.is.is_encloser)
-          by false f = star_error (ap (exists m) (s.agrees f) ∙ none)
+          by false f = star_error (ap (exists z.sets) (s.agrees f) ∙ none)
 
       -- what is there is left out
-      out_by : (b : Bool) → parameters.opt_out ≡ b → exists m w ≡ false → proves_name_error o hash rs x || proves_opted_out o hash rs x || proves_wildcard_no_data o hash rs x t ≡ true
+      out_by : (b : Bool) → parameters.opt_out ≡ b → exists z.sets w ≡ false → proves_name_error o hash rs x || proves_opted_out o hash rs x || proves_wildcard_no_data o hash rs x t ≡ true
       out_by b f none =
           or_left (proves_name_error o hash rs x || proves_opted_out o hash rs x) (proves_wildcard_no_data o hash rs x t) (by b f)
         where
@@ -167,37 +166,38 @@ module _ (z : Zone) (parameters : Nsec3Parameters) (q : Query) (r : Sections) (d
           by true f = or_right (proves_name_error o hash rs x) (proves_opted_out o hash rs x) (out_is ∙ f)
           by false f = or_left (proves_name_error o hash rs x) (proves_opted_out o hash rs x) (error_shown none (λ e. absurd (true≢false (sym e ∙ f))))
 
-      error_told : (there : Bool) → (path_of z q).end ≡ missing x (Some w) there → star_of m x ≡ Some w → exists m w ≡ false → IsHashedError z parameters r x
+      error_told : (there : Bool) → (path_of z q).end ≡ missing x (Some w) there → star_of z.sets x ≡ Some w → exists z.sets w ≡ false → IsHashedError z parameters names r x
       error_told there end source none = record {
         proved = error_shown none;
         told = λ has u. sum_of_error o hash rs x u unhanded parameters.opt_out out_is (error_shown none has);
         one_star = λ all_in e is. source ∙ ap Some (sym (s.agrees all_in) ∙ ap star_under (same_name s.encloser e (sym s.is.is_encloser ∙ is)));
-        left_out = nsec3_absence_sound o m hash parameters rs x t d.circle apart of_zone (out_by parameters.opt_out refl none);
+        left_out = nsec3_absence_sound o m hash parameters names rs x t d.chain apart of_zone (out_by parameters.opt_out refl none);
         none = λ all_in unhashed.
             (sound_proved z parameters q r d signed h x (judged_name z parameters q r d signed h x k apart all_in unhashed)).error (error_shown none (λ f. absurd (true≢false (sym f ∙ all_in))));
       }
 
   -- ---- what is said
 
-  pub error_said : (x : Name) → saying q r ≡ Some (name_error x) → HashesApart z parameters x → IsHashedError z parameters r x
+  pub error_said : (x : Name) → saying q r ≡ Some (name_error x) → HashesApart z parameters d.names x → IsHashedError z parameters d.names r x
   error_said x e apart = by (missing_said z q r zone signed h false x e)
     where
       -- a name below the origin has a star
-      has_star : (x : Name) → IsUnturned (inquiry z q) x → HashesApart z parameters x → exists m x ≡ false → star_of m x ≡ None → ⊥
+      has_star : (x : Name) → IsUnturned (inquiry z q) x → HashesApart z parameters names x → exists z.sets x ≡ false → star_of z.sets x ≡ None → ⊥
       has_star x u apart absent f =
           let j = hashed_name z parameters q r d signed h x (reached_unturned z q d.top.no_dname x u) apart in
-          let e = longest_above (exists m) x o (below j (off z parameters q r d signed h x absent)) (origin_there o m parameters.opt_out announced d.one_kind) in
+          let there = sym (exists_kept z d.denials o) ∙ origin_there o m hash parameters names d.chain (no_nsec z parameters q r d signed h) in
+          let e = longest_above (exists z.sets) x o (below j (off z parameters q r d signed h x absent)) there in
           let p : None ≡ Some (star_under e.0) = sym f ∙ ap (option_map star_under) e.1.found in
           cc
 
-      at_star : (w : Name) → (path_of z q).end ≡ missing x (Some w) false → exists m x ≡ false → star_of m x ≡ Some w → exists m w ≡ false → IsUnturned (inquiry z q) x → IsHashedError z parameters r x
+      at_star : (w : Name) → (path_of z q).end ≡ missing x (Some w) false → exists z.sets x ≡ false → star_of z.sets x ≡ Some w → exists z.sets w ≡ false → IsUnturned (inquiry z q) x → IsHashedError z parameters names r x
       at_star w end absent source none u = error_told x u apart w (absent_shown x u apart w false end absent source) false end source none
 
-      of : (star : Option Name) → (path_of z q).end ≡ missing x star false → IsUnturned (inquiry z q) x → IsMissing (inquiry z q) x star false → IsHashedError z parameters r x
+      of : (star : Option Name) → (path_of z q).end ≡ missing x star false → IsUnturned (inquiry z q) x → IsMissing (inquiry z q) x star false → IsHashedError z parameters names r x
       of star end u (bare e f g b) = absurd (true≢false (sym e))
       of star end u (bare_star w e f absent g there b) = absurd (true≢false (sym e))
       of star end u (starless e absent f) = absurd (has_star x u apart absent f)
       of star end u (gone w e f absent g none) = at_star w (end ∙ ap (λ s. missing x s false) f) absent g none u
 
-      by : IsMissingName z q r zone signed h x false → IsHashedError z parameters r x
+      by : IsMissingName z q r zone signed h x false → IsHashedError z parameters names r x
       by s = of s.star s.end s.unturned s.how

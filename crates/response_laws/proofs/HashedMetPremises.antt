@@ -39,6 +39,7 @@ use Rattle.zone_response.specs.Responses.{IsResponse}
 use Rattle.zone_response.specs.Sections.{Sections, sent}
 use Rattle.response_laws.specs.HashedSayings.{DeniesByNsec3, proof_in, HasErrorProof, IsHashedError}
 use Rattle.response_laws.proofs.Responses.{response_proves_by_hashes}
+use Rattle.response_laws.proofs.SecuredZones.{denies_by_circle}
 use Rattle.response_laws.proofs.SayingExamples.{asked, sections}
 
 abbrev table : List (Name × List ℕ)
@@ -261,14 +262,13 @@ unowned opt_out n t c p s k =
     others opt_out n t c (λ i. p i && name_eq n origin)
     ∙ (λ i. is_some (cond (type_apart n origin t SOA s i) (Some start.1) (cond (type_apart n origin t DNSKEY k i) (Some public_key.1) None)))
 
-denies : (opt_out : Bool) → DeniesByNsec3 (zone opt_out) (parameters opt_out)
-denies opt_out = record {
-  kind = refl;
-  denials = refl;
-  circle = alone_is_nsec3_zone opt_out;
-  one_kind = λ n. unowned opt_out n NSEC refl refl refl refl;
-  top = record { unreferred = λ a u k. absurd (true≢false (sym k ∙ unowned opt_out a NS refl refl refl refl)); no_dname = λ a u. unowned opt_out a DNAME refl refl refl refl };
-}
+abbrev denies : (opt_out : Bool) → DeniesByNsec3 (zone opt_out) (parameters opt_out)
+denies opt_out =
+    denies_by_circle (zone opt_out) (parameters opt_out) opt_out refl refl (alone_is_nsec3_zone opt_out) (λ n. unowned opt_out n NSEC refl refl refl refl)
+    (record { unreferred = λ a u k. absurd (true≢false (sym k ∙ unowned opt_out a NS refl refl refl refl)); no_dname = λ a u. unowned opt_out a DNAME refl refl refl refl })
+
+abbrev names : Bool → List Name
+names opt_out = nsec3_names origin (alone opt_out) opt_out
 
 -- ---- and a name that isn't there is proved so
 
@@ -280,11 +280,11 @@ unfolding path
 of_missing true = record { code = refl; authoritative = refl; answers = refl; authorities = refl; additionals = refl; glue = refl; left_at = refl }
 of_missing false = record { code = refl; authoritative = refl; answers = refl; authorities = refl; additionals = refl; glue = refl; left_at = refl }
 
-missing_proved : (opt_out : Bool) → IsHashedError (zone opt_out) (parameters opt_out) (response opt_out) b
+missing_proved : (opt_out : Bool) → IsHashedError (zone opt_out) (parameters opt_out) (names opt_out) (response opt_out) b
 missing_proved opt_out = (response_proves_by_hashes (zone opt_out) (parameters opt_out) (asked b A) (response opt_out) (denies opt_out) refl (of_missing opt_out)).says.error b refl (table_tells_apart opt_out)
 
 -- the standard has a proof of it, with opt-out too
-has_proof : (opt_out : Bool) → HasErrorProof (zone opt_out) (parameters opt_out) b
+has_proof : (opt_out : Bool) → HasErrorProof (zone opt_out) (parameters opt_out) (names opt_out) b
 has_proof true e a is = ap (λ n. exists (alone true) (star_under n)) (same_name a origin (sym is ∙ encloser_is true))
 has_proof false e a is = absurd (true≢false (sym e))
 

@@ -1,4 +1,4 @@
--- The NSEC3 sets of a response: they are the zone's, and those of each denial are among them
+-- The NSEC3 sets of a response: they are those of the zone's chain, and those of each denial are among them
 use Rattle.std.proofs.Common.{◌≡◌, List, [], ◌∷◌, refl, sym, ap, ◌∙◌, subst, inl, inr}
 use Rattle.std.specs.Prelude.{Bool, true, Option, Some, None, Result, Ok, Err, fold}
 use Rattle.zone_proto.specs.declared.error.ProtoError.{ProtoError}
@@ -32,9 +32,9 @@ both_of (Ok a) (Ok b) all e = record { first = a; second = b; first_is = refl; s
 both_of (Ok a) (Err k) all e = absurd cc
 both_of (Err k) more all e = absurd cc
 
-module _ (z : Zone) (zone : IsZone z.sets) (same : z.denials ≡ z.sets) (parameters : Nsec3Parameters) (hashes : z.nx_proof_kind ≡ Some (kind.Nsec3 parameters.algorithm parameters.salt parameters.iterations parameters.opt_out)) where
+module _ (z : Zone) (zone : IsZone z.denials) (parameters : Nsec3Parameters) (flag : Bool) (hashes : z.nx_proof_kind ≡ Some (kind.Nsec3 parameters.algorithm parameters.salt parameters.iterations flag)) where
   abbrev m : Sets
-  m = z.sets
+  m = z.denials
 
   abbrev hashed : Name → Result Name ProtoError
   hashed n = owner_or_refusal z.origin (zone_hash z parameters n)
@@ -42,10 +42,10 @@ module _ (z : Zone) (zone : IsZone z.sets) (same : z.denials ≡ z.sets) (parame
   -- ---- of one name
 
   star_proof_is : (x : Name) → star_proof z x ≡ nsec3_denial m hashed true x
-  star_proof_is x = ap (λ k. star_proof_by z k x) hashes ∙ ap (λ m. nsec3_denial m hashed true x) same
+  star_proof_is x = ap (λ k. star_proof_by z k x) hashes
 
   denial_is : (x : Name) (star : Option Name) → denial z x star ≡ lack_proof m hashed x star
-  denial_is x star = ap (λ k. denial_by z k x star) hashes ∙ ap (λ m. lack_proof m hashed x star) same
+  denial_is x star = ap (λ k. denial_by z k x star) hashes
 
   own_set : (o : Name) (s : RRset) → set_at m o NSEC3 ≡ Some s → set_at m (lower s.owner) NSEC3 ≡ Some s
   own_set o s e = ap (λ n. set_at m n NSEC3) (zone.stored o NSEC3 s e).owner ∙ e

@@ -1,64 +1,58 @@
 -- What a response has of NSEC3 records, and that they prove that a star may answer
-use Rattle.std.proofs.Common.{◌≡◌, ℕ, Bool, true, false, cond, not, ◌&&◌, ◌||◌, List, [], ◌∷◌, refl, sym, ap, ◌∙◌, subst, true≢false, ◌⊎◌, inl, inr}
+use Rattle.std.proofs.Common.{◌≡◌, ℕ, Bool, true, false, cond, ◌||◌, List, refl, sym, ap, ◌∙◌, subst, ◌⊎◌, inl, inr}
 use Rattle.std.specs.Prelude.{Option, Some, None, Result, Ok, option_map, ◌==◌}
-use Rattle.std.specs.List.{Contains, list_all}
+use Rattle.std.specs.List.{Contains}
 use Rattle.zone_proto.specs.declared.error.ProtoError.{ProtoError}
 use Rattle.zone_proto.specs.declared.rdata.denial.NSEC3PARAM.{NSEC3PARAM as Nsec3Parameters}
 use Rattle.zone_proto.specs.HashedOwners.{owner_or_refusal}
 use Rattle.zone_proto.specs.Names.{Name, lower, IsAbove, star_under, is_at_or_above}
 use Rattle.zone_proto.specs.Sets.{RRset}
-use Rattle.zone_proto.specs.Types.{NS, RRSIG, NSEC3, NSEC3PARAM}
+use Rattle.zone_proto.specs.Types.{CNAME, RRSIG, NSEC, NSEC3}
 use Rattle.zone_proto.proofs.Members.{In, In-Contains, Contains-In}
 use Rattle.zone_proto.proofs.Names.NameTree.{is_at_or_above_sound}
 use Rattle.zone_map.specs.Wildcards.{exists, renamed, closest_encloser as found_encloser}
-use Rattle.zone_map.specs.Zones.{Sets, set_at, owns, types_at, IsZone}
-use Rattle.zone_map.proofs.Owned.{type_owned}
+use Rattle.zone_map.specs.Zones.{Sets, set_at, owns, IsZone}
 use Rattle.zone_denial.specs.Authority.{is_below_cut}
-use Rattle.zone_denial.specs.Nsec3Denial.{closest_encloser, nsec3_denial}
-use Rattle.zone_denial.specs.Nsec3Names.{is_unsigned_delegation, nsec3_names}
-use Rattle.zone_denial.proofs.Hashed.Nsec3AskedStar.{exists_on_circle}
-use Rattle.zone_denial.proofs.Hashed.Nsec3Covers.{IsCover}
-use Rattle.zone_denial.proofs.Hashed.Nsec3Enclosers.{is_named, IsEnclosed}
+use Rattle.zone_denial.specs.Chains.{chain_sets, is_below_dname}
+use Rattle.zone_denial.specs.Nsec3Denial.{encloser_on, nsec3_denial}
+use Rattle.zone_denial.specs.StarLaws.{OwnsNone}
+use Rattle.zone_denial.proofs.Chains.ChainSets.{one_kind}
+use Rattle.zone_denial.proofs.Chains.Nsec3Covers.{IsCover}
+use Rattle.zone_denial.proofs.Chains.Nsec3Names.{is_named, IsEnclosed}
 use Rattle.denial_validation.specs.Judgement.{nsec3_proof}
 use Rattle.denial_validation.specs.Nsec3Proofs.{proves_no_data, proves_wildcard_answer}
 use Rattle.denial_validation.specs.Nsec3Records.{Nsec3Record, read_nsec3}
 use Rattle.denial_laws.specs.Nsec3Calls.{told}
-use Rattle.denial_laws.specs.Nsec3Judged.{read_nsec3_sets, AreNsec3OfZone, IsNsec3Judged}
-use Rattle.denial_laws.specs.Nsec3Soundness.{IsNsec3Sound, IsOptOutSound}
-use Rattle.denial_laws.proofs.Nsec3LeftOut.{nsec3_opt_out_sound}
-use Rattle.denial_laws.proofs.Nsec3Readings.{from_read, record_of}
-use Rattle.denial_laws.proofs.Nsec3Shown.{closer_shown}
-use Rattle.denial_laws.proofs.Nsec3Soundness.{nsec3_records_sound}
+use Rattle.denial_laws.specs.Nsec3Chains.{IsNsec3JudgedInChain, IsOptOutSoundOn}
+use Rattle.denial_laws.specs.Nsec3Judged.{read_nsec3_sets, AreNsec3OfZone}
+use Rattle.denial_laws.specs.Nsec3Soundness.{IsNsec3SoundOn}
+use Rattle.denial_laws.proofs.Chains.Nsec3LeftOut.{nsec3_opt_out_sound}
+use Rattle.denial_laws.proofs.Chains.Nsec3Readings.{record_of}
+use Rattle.denial_laws.proofs.Chains.Nsec3Shown.{closer_shown}
+use Rattle.denial_laws.proofs.Chains.Nsec3Soundness.{nsec3_records_sound}
+use Rattle.denial_laws.proofs.Nsec3Readings.{from_read}
 use Rattle.zone_response.specs.Queries.{Zone, Query, inquiry}
 use Rattle.zone_response.specs.Responses.{negative_ttl, ds_at, end_sets}
 use Rattle.zone_response.specs.Sections.{Sections}
 use Rattle.zone_response.specs.Wildcards.{star_of}
 use Rattle.zone_response.specs.Steps.{End}
 use Rattle.response_laws.specs.Contents.{Origin}
-use Rattle.response_laws.specs.HashedSayings.{zone_hash, DeniesByNsec3, HashesApart, IsReached, shown_nsec3, may_leave_out, IsHashedFoundByStar, IsLacking, shown_records}
+use Rattle.response_laws.specs.HashedSayings.{zone_hash, DeniesByNsec3, HashesApart, IsReached, shown_nsec3, IsHashedFoundByStar, IsLacking, shown_records}
 use Rattle.response_laws.specs.ProvedSayings.{IsAliasData}
 use Rattle.response_laws.specs.Sayings.{Saying, data_of, name_error, no_data, referral, saying, name_of}
 use Rattle.response_laws.proofs.Answers.{IsMadeFound, ByStarOf, path_answers}
 use Rattle.response_laws.proofs.HashedCalls.{told_is}
 use Rattle.response_laws.proofs.HashedLacks.{lacking, lacking_named}
-use Rattle.response_laws.proofs.HashedNames.{absent_off, encloser_agrees, encloser_of_star}
+use Rattle.response_laws.proofs.HashedNames.{plain_under, there_named, absent_off, same_encloser, encloser_agrees}
 use Rattle.response_laws.proofs.HashedParts.{AreHashedProofs, hashed_proofs}
 use Rattle.response_laws.proofs.HashedTold.{IsHashedName, below, enclosed, answer_proved}
+use Rattle.response_laws.proofs.LentSets.{owns_kept, exists_kept, encloser_kept, reached_kept, unreferred_kept}
 use Rattle.response_laws.proofs.Origins.{origin_by}
 use Rattle.response_laws.proofs.Parts.{path_of, IsMadeOf}
 use Rattle.response_laws.proofs.ReadSets.{nsec3_reader, read_of_zone, read_proof}
 use Rattle.response_laws.proofs.Said.{Said, says_nothing, says_data, says_referral, says_missing, said}
 use Rattle.response_laws.proofs.SaidNames.{same_saying, reached_unturned, reached_cut, authorities_are, authority_of, alias_said}
 use Rattle.response_laws.proofs.SentSets.{IsSentSet, authority_part}
-
--- one for which a test fails
-some_fails : {A : Type 0} (p : A → Bool) (xs : List A) → list_all p xs ≡ false → (x : A) × In x xs × (p x ≡ false)
-some_fails p [] e = absurd (true≢false e)
-some_fails p (x ∷ xs) e = by (p x) refl (some_fails p xs) e
-  where
-    by : (b : Bool) → p x ≡ b → (list_all p xs ≡ false → (y : _) × In y xs × (p y ≡ false)) → b && list_all p xs ≡ false → (y : _) × In y (x ∷ xs) × (p y ≡ false)
-    by false f rest q = (x, inl refl, f)
-    by true f rest q = let y = rest q in (y.0, inr y.1, y.2)
 
 pub same_name : (a b : Name) → Some a ≡ Some b → a ≡ b
 same_name a b e = cc
@@ -67,8 +61,9 @@ module _ (z : Zone) (parameters : Nsec3Parameters) (q : Query) (r : Sections) (d
   abbrev o : Name
   o = z.origin
 
+  -- the sets that deny
   abbrev m : Sets
-  m = z.sets
+  m = z.denials
 
   abbrev t : ℕ
   t = q.record_type
@@ -80,16 +75,13 @@ module _ (z : Zone) (parameters : Nsec3Parameters) (q : Query) (r : Sections) (d
   hashed n = owner_or_refusal o (hash n)
 
   abbrev names : List Name
-  names = nsec3_names o m parameters.opt_out
+  names = d.names
 
-  abbrev on_circle : Name → Bool
-  on_circle = is_named o m parameters.opt_out
+  abbrev on_chain : Name → Bool
+  on_chain = is_named d.names
 
   abbrev zone : IsZone z.sets
-  zone = d.circle.zone
-
-  abbrev announced : owns z.sets z.origin NSEC3PARAM ≡ true
-  announced = d.circle.circle.announced
+  zone = d.zone
 
   abbrev ends : End
   ends = (path_of z q).end
@@ -97,66 +89,72 @@ module _ (z : Zone) (parameters : Nsec3Parameters) (q : Query) (r : Sections) (d
   abbrev rs : List Nsec3Record
   rs = shown_nsec3 r
 
-  pub all : AreHashedProofs z d.circle.zone d.denials parameters d.kind (ds_at z.sets (path_of z q).end) (path_of z q).made (path_of z q).end h.proofs
-  all = hashed_proofs z zone d.denials parameters d.kind (ds_at m ends) (path_of z q).made ends h.proofs (h.given signed)
+  -- what denies has no sets of NSEC
+  pub no_nsec : OwnsNone z.denials NSEC
+  no_nsec = subst (λ m. OwnsNone m NSEC) (sym (d.denials ∙ ap (λ k. chain_sets k z.sets) d.kind)) ((one_kind z.sets d.zone).nsec3 parameters.algorithm parameters.salt parameters.iterations d.flag)
+
+  pub all : AreHashedProofs z d.chain.zone parameters d.flag d.kind (ds_at z.sets (path_of z q).end) (path_of z q).made (path_of z q).end h.proofs
+  all = hashed_proofs z d.chain.zone parameters d.flag d.kind (ds_at z.sets ends) (path_of z q).made ends h.proofs (h.given signed)
 
   -- ---- the sets
 
-  authority_is : (s : RRset) → In s r.authorities → IsSentSet z.sets (authority_part s) s
-  authority_is = authority_of z q r zone signed h NSEC3 refl all.owners
+  authority_is : (s : RRset) → In s r.authorities → IsSentSet z.denials (authority_part s) s
+  authority_is = authority_of z q r zone signed h d.denials NSEC3 refl all.owners
 
-  pub authorities_proved : (s : RRset) → Contains r.authorities s → IsSentSet z.sets (authority_part s) s
+  pub authorities_proved : (s : RRset) → Contains r.authorities s → IsSentSet z.denials (authority_part s) s
   authorities_proved s c = authority_is s (Contains-In s r.authorities c)
 
-  pub records_proved : AreNsec3OfZone z.sets (shown_nsec3 r)
-  records_proved = read_of_zone read_nsec3 NSEC3 nsec3_reader m zone r.authorities authority_is
+  pub records_proved : AreNsec3OfZone z.denials (shown_nsec3 r)
+  records_proved = read_of_zone read_nsec3 NSEC3 nsec3_reader m d.chain.zone r.authorities authority_is
 
-  pub sound_proved : (x : Name) → IsNsec3Judged z.origin z.sets (zone_hash z parameters) parameters x → IsNsec3Sound z.origin z.sets (zone_hash z parameters) parameters.opt_out x (shown_nsec3 r)
-  sound_proved x j = nsec3_records_sound o m hash parameters rs x j records_proved
+  pub sound_proved : (x : Name) → IsNsec3JudgedInChain z.origin z.denials (zone_hash z parameters) parameters d.names x → IsNsec3SoundOn z.origin z.denials (zone_hash z parameters) d.names x (shown_nsec3 r)
+  sound_proved x j = nsec3_records_sound o m hash parameters names rs x j records_proved
 
-  pub opt_out_sound_proved : (x : Name) → HashesApart z parameters x → IsOptOutSound z.origin z.sets (zone_hash z parameters) parameters.opt_out x (shown_nsec3 r)
-  opt_out_sound_proved x apart = nsec3_opt_out_sound o m hash parameters rs x d.circle apart records_proved
+  pub opt_out_sound_proved : (x : Name) → HashesApart z parameters d.names x → IsOptOutSoundOn z.origin z.denials (zone_hash z parameters) parameters.opt_out d.names x (shown_nsec3 r)
+  opt_out_sound_proved x apart = nsec3_opt_out_sound o m hash parameters names rs x d.chain apart records_proved
 
-  pub parameters_found_proved : (x : Name) (t : ℕ) → HashesApart z parameters x → told z.digest_of z.origin (shown_records r) x t ≡ nsec3_proof z.origin (zone_hash z parameters) (shown_nsec3 r) x t
-  parameters_found_proved x u apart = told_is m zone o z.digest_of parameters d.circle r.authorities authority_is x u apart
+  pub parameters_found_proved : (x : Name) (t : ℕ) → HashesApart z parameters d.names x → told z.digest_of z.origin (shown_records r) x t ≡ nsec3_proof z.origin (zone_hash z parameters) (shown_nsec3 r) x t
+  parameters_found_proved x u apart = told_is m d.chain.zone o z.digest_of parameters names d.chain r.authorities authority_is x u apart
 
-  pub data_sound_proved : (x : Name) (t : ℕ) → HashesApart z parameters x → proves_no_data z.origin (zone_hash z parameters) (shown_nsec3 r) x t ≡ true → IsLacking z parameters x t
+  pub data_sound_proved : (x : Name) (t : ℕ) → HashesApart z parameters d.names x → proves_no_data z.origin (zone_hash z parameters) (shown_nsec3 r) x t ≡ true → IsLacking z d.names x t
   data_sound_proved x u apart p =
-      let k = lacking o m hash parameters rs records_proved d.circle x apart u p in
-      record { on_circle = In-Contains x names (lacking_named o m hash parameters rs records_proved d.circle x apart u p); none = k.0; no_alias = k.1 }
+      let k = lacking o m hash parameters names rs records_proved d.chain x apart u p in
+      record { named = In-Contains x names (lacking_named o m hash parameters names rs records_proved d.chain x apart u p); none = k.0; no_alias = sym (owns_kept z d.denials x CNAME refl) ∙ k.1 }
 
   -- what a denial shows is shown
   pub shown_of : (own : List RRset) → ((s : RRset) → In s own → In s h.proofs) → (n : Nsec3Record) → In n (read_nsec3_sets own) → In n (shown_nsec3 r)
   shown_of own among n i =
       let s = from_read own n i in
       subst (λ (sets : List RRset). In n (read_nsec3_sets sets)) (sym (authorities_are z q r zone signed h))
-      (read_proof read_nsec3 NSEC3 nsec3_reader (negative_ttl h.soa) h.proofs s.0 n (among s.0 s.1) s.2 (end_sets (ds_at m ends) true h.soa ends))
+      (read_proof read_nsec3 NSEC3 nsec3_reader (negative_ttl h.soa) h.proofs s.0 n (among s.0 s.1) s.2 (end_sets (ds_at z.sets ends) true h.soa ends))
 
-  pub hashed_name : (x : Name) → IsReached z.origin z.sets x → HashesApart z parameters x → IsHashedName z.origin z.sets (zone_hash z parameters) parameters x
-  hashed_name x k apart = record { zone = d.circle; one_kind = d.one_kind; unreferred = d.top.unreferred; reached = k; apart = apart }
+  pub hashed_name : (x : Name) → IsReached z.origin z.sets x → HashesApart z parameters d.names x → IsHashedName z.origin z.denials (zone_hash z parameters) parameters d.names x
+  hashed_name x k apart = record { zone = d.chain; one_kind = no_nsec; unreferred = unreferred_kept z d.denials d.top; reached = reached_kept z d.denials x k; apart = apart }
 
-  pub judged_name : (x : Name) → IsReached z.origin z.sets x → HashesApart z parameters x → parameters.opt_out ≡ false → owns z.sets x NSEC3 ≡ false → IsNsec3Judged z.origin z.sets (zone_hash z parameters) parameters x
-  judged_name x k apart all_in none = record {
-    zone = d.circle;
-    all_in = all_in;
-    one_kind = d.one_kind;
-    apart = apart;
-    inside = k.inside;
-    uncut = k.uncut;
-    no_dname = k.no_dname;
-    unreferred = d.top.unreferred;
-    no_hashed_owner = none;
-  }
+  pub judged_name : (x : Name) → IsReached z.origin z.sets x → HashesApart z parameters d.names x → parameters.opt_out ≡ false → owns z.denials x NSEC3 ≡ false → IsNsec3JudgedInChain z.origin z.denials (zone_hash z parameters) parameters d.names x
+  judged_name x k apart all_in none =
+      let there = reached_kept z d.denials x k in
+      record {
+        zone = d.chain;
+        all_in = all_in;
+        one_kind = no_nsec;
+        apart = apart;
+        inside = there.inside;
+        uncut = there.uncut;
+        no_dname = there.no_dname;
+        unreferred = unreferred_kept z d.denials d.top;
+        no_hashed_owner = none;
+      }
 
   -- ---- of whom something is said
 
   pub reached_proved : (w : Saying) → saying q r ≡ Some w → IsReached z.origin z.sets (name_of w) ⊎ IsAliasData z q r w
   reached_proved w e = by (said z zone q r h)
     where
-      of : (v : Saying) → saying q r ≡ Some v → IsReached o m (name_of v) → IsReached z.origin z.sets (name_of w) ⊎ IsAliasData z q r w
-      of v f k = inl (subst (λ u. IsReached o m (name_of u)) (same_saying v w (saying q r) f e) k)
+      of : (v : Saying) → saying q r ≡ Some v → IsReached o z.sets (name_of v) → IsReached z.origin z.sets (name_of w) ⊎ IsAliasData z q r w
+      of v f k = inl (subst (λ u. IsReached o z.sets (name_of u)) (same_saying v w (saying q r) f e) k)
 
-      either : (there : Bool) (y : Name) → IsReached o m y → IsReached o m (name_of (cond there (no_data y) (name_error y)))
+      either : (there : Bool) (y : Name) → IsReached o z.sets y → IsReached o z.sets (name_of (cond there (no_data y) (name_error y)))
       either true y k = k
       either false y k = k
 
@@ -175,49 +173,44 @@ module _ (z : Zone) (parameters : Nsec3Parameters) (q : Query) (r : Sections) (d
     pub is : star_under encloser ≡ w
 
   pub asked_star : (x w : Name) → star_of z.sets x ≡ Some w → IsAsked x w
-  asked_star x w e = by (found_encloser m x) refl e
+  asked_star x w e = by (found_encloser z.sets x) refl e
     where
-      by : (p : Option Name) → found_encloser m x ≡ p → option_map star_under p ≡ Some w → IsAsked x w
+      by : (p : Option Name) → found_encloser z.sets x ≡ p → option_map star_under p ≡ Some w → IsAsked x w
       by None f g = absurd cc
       by (Some a) f g = record { encloser = a; found = f; is = same_name (star_under a) w g }
 
-  -- without opt-out a name that exists is on the circle
-  pub there_on : (x : Name) → is_at_or_above z.origin x ≡ true → is_below_cut z.origin z.sets x ≡ false → parameters.opt_out ≡ false → exists z.sets x ≡ true → is_named z.origin z.sets parameters.opt_out x ≡ true
-  there_on x inside uncut all_in e = sym (exists_on_circle o m parameters.opt_out announced all_in d.one_kind x (is_at_or_above_sound o x inside) uncut) ∙ e
+  -- without opt-out a name that exists is one of the chain's
+  pub there_on : (x : Name) → is_at_or_above z.origin x ≡ true → is_below_cut z.origin z.denials x ≡ false → is_below_dname z.denials x ≡ false → parameters.opt_out ≡ false → exists z.sets x ≡ true → is_named d.names x ≡ true
+  there_on x inside uncut plain all_in e = there_named o m hash parameters names d.chain no_nsec all_in x (is_at_or_above_sound o x inside) uncut plain (exists_kept z d.denials x ∙ e)
 
-  pub off : (x : Name) → exists z.sets x ≡ false → is_named z.origin z.sets parameters.opt_out x ≡ false
-  off x absent = absent_off o m parameters.opt_out announced d.one_kind x absent
+  pub off : (x : Name) → exists z.sets x ≡ false → is_named d.names x ≡ false
+  off x absent = absent_off o m hash parameters names d.chain no_nsec x (exists_kept z d.denials x ∙ absent)
 
   -- ---- an answer of a star
 
-  kept_encloser : (x : Name) → IsReached o m x → IsAbove o x → (a e : Name) → closest_encloser o m parameters.opt_out x ≡ Some a → found_encloser m x ≡ Some e → may_leave_out parameters.opt_out m (star_under e) ≡ false → a ≡ e
-  kept_encloser x k over a e is there = by parameters.opt_out refl
+  kept_encloser : (x : Name) → IsReached o z.sets x → IsAbove o x → (a e : Name) → encloser_on names x ≡ Some a → found_encloser z.sets x ≡ Some e → (parameters.opt_out ≡ true → Contains names e) → a ≡ e
+  kept_encloser x k over a e is there kept = by parameters.opt_out refl
     where
-      other : (b c : Bool) → b || c ≡ false → (b ≡ false) × (c ≡ false)
-      other false false g = (refl, refl)
-      other false true g = absurd (true≢false g)
-      other true c g = absurd (true≢false g)
+      lent : found_encloser m x ≡ Some e
+      lent = encloser_kept z d.denials x ∙ there
 
-      by : (b : Bool) → parameters.opt_out ≡ b → b && is_unsigned_delegation m (star_under e) ≡ false → a ≡ e
-      by false f kept = encloser_agrees o m parameters.opt_out announced d.one_kind x over a is e there f k.uncut
-      by true f kept =
-          let u = some_fails (λ t. (t == NS) || (t == NSEC3)) (types_at m (star_under e)) kept in
-          encloser_of_star o m parameters.opt_out announced d.one_kind x over a is e there k.uncut u.0 (type_owned m (star_under e) u.0 u.1)
-          (ap not (other (u.0 == NS) (u.0 == NSEC3) u.2).1) (ap (λ b. b && is_unsigned_delegation m (star_under e)) f ∙ kept)
+      by : (b : Bool) → parameters.opt_out ≡ b → a ≡ e
+      by false f = let u = reached_kept z d.denials x k in encloser_agrees o m hash parameters names d.chain no_nsec x over a is e lent f u.uncut (plain_under m x u.no_dname)
+      by true f = same_encloser o m hash parameters names d.chain no_nsec x over a is e lent (kept f)
 
-  star_proved : (y e : Name) → In y (path_of z q).made → IsReached o m y → exists m y ≡ false → found_encloser m y ≡ Some e → HashesApart z parameters y → may_leave_out parameters.opt_out m (star_under e) ≡ false
+  star_proved : (y e : Name) → In y (path_of z q).made → IsReached o z.sets y → exists z.sets y ≡ false → found_encloser z.sets y ≡ Some e → HashesApart z parameters names y → (parameters.opt_out ≡ true → Contains names e)
       → proves_wildcard_answer o hash rs y e ≡ true
   star_proved y e i k absent there apart kept =
       subst (λ a. proves_wildcard_answer o hash rs y a ≡ true) (kept_encloser y k (below j away_y) n.0 e n.2.is_encloser there kept)
       (answer_proved j rs records_proved away_y n.0 n.1 n.2 c.0 c.1 (shown_of s.0 s.2 (record_of j.zone j.apart c.0) c.2))
     where
-      j : IsHashedName o m hash parameters y
+      j : IsHashedName o m hash parameters names y
       j = hashed_name y k apart
 
-      away_y : on_circle y ≡ false
+      away_y : on_chain y ≡ false
       away_y = off y absent
 
-      n : (a : Name) × (c : Name) × IsEnclosed o m parameters.opt_out y a c
+      n : (a : Name) × (c : Name) × IsEnclosed names y a c
       n = enclosed j away_y
 
       s : (own : List RRset) × (nsec3_denial m hashed true y ≡ Ok own) × ((s : RRset) → In s own → In s h.proofs)
@@ -227,19 +220,19 @@ module _ (z : Zone) (parameters : Nsec3Parameters) (q : Query) (r : Sections) (d
       c = closer_shown j.zone j.apart n.0 n.1 n.2 s.0 s.1
 
   -- of a star's set under a name for which the star answered
-  by_star_proved : (y : Name) → In y (path_of z q).made → (u : ℕ) (found : RRset) → IsMadeFound (inquiry z q) y u found → IsHashedFoundByStar z parameters (shown_nsec3 r) y u found
+  by_star_proved : (y : Name) → In y (path_of z q).made → (u : ℕ) (found : RRset) → IsMadeFound (inquiry z q) y u found → IsHashedFoundByStar z parameters d.names (shown_nsec3 r) y u found
   by_star_proved y i u found k =
       let w = asked_star y k.star k.made.star in
       record {
         encloser = w.encloser;
         stored = k.stored;
-        stands = ap (λ n. set_at m n u) w.is ∙ k.stands;
+        stands = ap (λ n. set_at z.sets n u) w.is ∙ k.stands;
         made = k.is ∙ (λ i. renamed (signed i || (t == RRSIG)) (sym w.is i) y k.stored);
         proved = star_proved y w.encloser i (reached_unturned z q d.top.no_dname y k.made.unturned) k.made.absent w.found;
       }
 
-  pub answers_proved : (s : RRset) → Contains r.answers s → Origin (inquiry z q) r.answers (IsHashedFoundByStar z parameters (shown_nsec3 r)) s
+  pub answers_proved : (s : RRset) → Contains r.answers s → Origin (inquiry z q) r.answers (IsHashedFoundByStar z parameters d.names (shown_nsec3 r)) s
   answers_proved s c =
-      origin_by (inquiry z q) r.answers s (ByStarOf (inquiry z q) (path_of z q).made) (IsHashedFoundByStar z parameters (shown_nsec3 r)) (λ y u found k. by_star_proved y k.0 u found k.1)
+      origin_by (inquiry z q) r.answers s (ByStarOf (inquiry z q) (path_of z q).made) (IsHashedFoundByStar z parameters d.names (shown_nsec3 r)) (λ y u found k. by_star_proved y k.0 u found k.1)
       (subst (λ all. Origin (inquiry z q) all (ByStarOf (inquiry z q) (path_of z q).made) s) (sym h.answers)
       (path_answers (inquiry z q) zone q.name s (subst (In s) h.answers (Contains-In s r.answers c))))

@@ -11,13 +11,12 @@ use Rattle.zone_proto.proofs.Members.{In, or_left, or_right}
 use Rattle.zone_proto.proofs.Names.NameTree.{is_at_or_above_sound}
 use Rattle.zone_proto.proofs.Names.Tree.{above_cases}
 use Rattle.zone_map.specs.Zones.{Sets, owns, IsZone}
-use Rattle.zone_denial.specs.Nsec3Names.{nsec3_names}
-use Rattle.zone_denial.proofs.Hashed.Nsec3Enclosers.{is_named, named_in, IsEnclosed}
+use Rattle.zone_denial.proofs.Chains.Nsec3Names.{is_named, named_in, IsEnclosed}
 use Rattle.zone_denial.proofs.Names.ExistingAncestors.{exists_from}
 use Rattle.denial_validation.specs.Nsec3Proofs.{is_covered, proves_opted_out, shows_unsigned_delegation}
 use Rattle.denial_validation.specs.Nsec3Records.{Nsec3Record}
 use Rattle.denial_laws.specs.Nsec3Judged.{read_nsec3_sets, AreNsec3OfZone}
-use Rattle.denial_laws.proofs.Nsec3Readings.{record_of}
+use Rattle.denial_laws.proofs.Chains.Nsec3Readings.{record_of}
 use Rattle.zone_response.specs.declared.response.Part.TheVariants as part
 use Rattle.zone_response.specs.Denials.{proofs}
 use Rattle.zone_response.specs.HashedDenials.{lack_proof}
@@ -28,11 +27,13 @@ use Rattle.zone_response.specs.Steps.{referred}
 use Rattle.response_laws.specs.HashedSayings.{zone_hash, DeniesByNsec3, HashesApart, shown_nsec3, IsHashedUnsigned}
 use Rattle.response_laws.specs.ProvedSayings.{HasAuthority, IsProvedReferral}
 use Rattle.response_laws.specs.Sayings.{referral, saying}
+use Rattle.response_laws.proofs.HashedNames.{plain_under}
 use Rattle.response_laws.proofs.HashedParts.{of_child}
 use Rattle.response_laws.proofs.HashedProved.{records_proved, shown_of, hashed_name, there_on}
 use Rattle.response_laws.proofs.HashedShown.{IsEncloserShown, own_matched, encloser_matched}
 use Rattle.response_laws.proofs.HashedSummed.{sum_of_delegation, sum_of_digest}
 use Rattle.response_laws.proofs.HashedTold.{IsHashedName, away, enclosed, not_handed, no_encloser, own_delegates, opted_out_is}
+use Rattle.response_laws.proofs.LentSets.{owns_kept}
 use Rattle.response_laws.proofs.Parts.{path_of, IsMadeOf}
 use Rattle.response_laws.proofs.SaidNames.{IsCut, reached_cut, IsReferralTo, referral_of}
 
@@ -40,8 +41,9 @@ module _ (z : Zone) (parameters : Nsec3Parameters) (q : Query) (r : Sections) (d
   abbrev o : Name
   o = z.origin
 
+  -- the sets that deny
   abbrev m : Sets
-  m = z.sets
+  m = z.denials
 
   abbrev hash : Name → Option (List ℕ)
   hash = zone_hash z parameters
@@ -50,17 +52,17 @@ module _ (z : Zone) (parameters : Nsec3Parameters) (q : Query) (r : Sections) (d
   hashed n = owner_or_refusal o (hash n)
 
   abbrev zone : IsZone z.sets
-  zone = d.circle.zone
+  zone = d.zone
 
   abbrev rs : List Nsec3Record
   rs = shown_nsec3 r
 
   -- a child without DS, which no SOA shows to be an apex
-  module _ (c : RRset) (end : (path_of z q).end ≡ referred c) (unsigned : child_ds m c ≡ None) (k : IsCut z q d.top.no_dname c) (no_apex : owns m (lower c.owner) SOA ≡ false) (apart : HashesApart z parameters (lower c.owner)) where
+  module _ (c : RRset) (end : (path_of z q).end ≡ referred c) (unsigned : child_ds z.sets c ≡ None) (k : IsCut z q d.top.no_dname c) (no_apex : owns z.sets (lower c.owner) SOA ≡ false) (apart : HashesApart z parameters d.names (lower c.owner)) where
     abbrev child : Name
     child = lower c.owner
 
-    abbrev j : IsHashedName o m hash parameters child
+    abbrev j : IsHashedName o m hash parameters d.names child
     j = hashed_name z parameters q r d signed h child k.reached apart
 
     abbrev of_zone : AreNsec3OfZone m rs
@@ -68,10 +70,10 @@ module _ (z : Zone) (parameters : Nsec3Parameters) (q : Query) (r : Sections) (d
 
     own : (own : List RRset) × (lack_proof m hashed child None ≡ Ok own) × ((s : RRset) → In s own → In s h.proofs)
     own =
-        of_child z zone d.denials parameters d.kind (path_of z q).made c h.proofs
-        (subst (λ ds. proofs z ds (path_of z q).made (referred c) ≡ Ok h.proofs) unsigned (subst (λ e. proofs z (ds_at m e) (path_of z q).made e ≡ Ok h.proofs) end (h.given signed)))
+        of_child z d.chain.zone parameters d.flag d.kind (path_of z q).made c h.proofs
+        (subst (λ ds. proofs z ds (path_of z q).made (referred c) ≡ Ok h.proofs) unsigned (subst (λ e. proofs z (ds_at z.sets e) (path_of z q).made e ≡ Ok h.proofs) end (h.given signed)))
 
-    ns : owns m child NS ≡ true
+    ns : owns z.sets child NS ≡ true
     ns = ap is_some k.stands
 
     -- it stands below the origin, as NS at the origin stands beside SOA
@@ -82,7 +84,7 @@ module _ (z : Zone) (parameters : Nsec3Parameters) (q : Query) (r : Sections) (d
         by (inl e) = absurd (true≢false (sym (d.top.unreferred child ([], e) ns) ∙ no_apex))
         by (inr u) = u
 
-    proved_by : (b : Bool) → is_named o m parameters.opt_out child ≡ b → IsHashedUnsigned z parameters r child
+    proved_by : (b : Bool) → is_named d.names child ≡ b → IsHashedUnsigned z parameters r child
     proved_by true on = record {
       proved = or_left (shows_unsigned_delegation o hash rs child) (proves_opted_out o hash rs child) shows;
       told = sum_of_delegation o hash rs child DS (not_handed j rs of_zone) (no_encloser j rs of_zone i shown (λ r. r.opt_out) (λ e. true))
@@ -90,14 +92,14 @@ module _ (z : Zone) (parameters : Nsec3Parameters) (q : Query) (r : Sections) (d
       none = record { below = under; delegated = ns; unsigned = ap is_some unsigned; no_apex = no_apex };
     }
       where
-        i : In child (nsec3_names o m parameters.opt_out)
-        i = named_in o m parameters.opt_out child on
+        i : In child d.names
+        i = named_in d.names child on
 
         shown : In (record_of j.zone j.apart child) rs
         shown = shown_of z parameters q r d signed h own.0 own.2 (record_of j.zone j.apart child) (own_matched j.zone j.apart i own.0 own.1)
 
         shows : shows_unsigned_delegation o hash rs child ≡ true
-        shows = own_delegates j rs of_zone i shown under ns (ap is_some unsigned) no_apex
+        shows = own_delegates j rs of_zone i shown under (owns_kept z d.denials child NS refl ∙ ns) (owns_kept z d.denials child DS refl ∙ ap is_some unsigned) (owns_kept z d.denials child SOA refl ∙ no_apex)
     proved_by false off = record {
       proved = or_right (shows_unsigned_delegation o hash rs child) (proves_opted_out o hash rs child) out;
       told = sum_of_digest o hash rs child (not_handed j rs of_zone) out;
@@ -109,9 +111,9 @@ module _ (z : Zone) (parameters : Nsec3Parameters) (q : Query) (r : Sections) (d
           where
             by : (b : Bool) → parameters.opt_out ≡ b → b ≡ true
             by true f = refl
-            by false f = absurd (true≢false (sym (there_on z parameters q r d signed h child k.reached.inside k.reached.uncut f (exists_from m child child NS ns refl ([], refl))) ∙ off))
+            by false f = absurd (true≢false (sym (there_on z parameters q r d signed h child k.reached.inside j.reached.uncut (plain_under m child j.reached.no_dname) f (exists_from z.sets child child NS ns refl ([], refl))) ∙ off))
 
-        n : (a : Name) × (c : Name) × IsEnclosed o m parameters.opt_out child a c
+        n : (a : Name) × (c : Name) × IsEnclosed d.names child a c
         n = enclosed j off
 
         encloser_there : IsEncloserShown j.zone j.apart n.0 n.1 (read_nsec3_sets own.0)
@@ -128,11 +130,11 @@ module _ (z : Zone) (parameters : Nsec3Parameters) (q : Query) (r : Sections) (d
             })
             ∙ opts
 
-  pub referral_said : (c : Name) → saying q r ≡ Some (referral c) → IsProvedReferral z r (λ n. HashesApart z parameters n → IsHashedUnsigned z parameters r n) c
+  pub referral_said : (c : Name) → saying q r ≡ Some (referral c) → IsProvedReferral z r (λ n. HashesApart z parameters d.names n → IsHashedUnsigned z parameters r n) c
   referral_said c e = subst (IsProvedReferral z r Unsigned) k.child (record { servers = k.servers cut.stands; keys = λ no_apex. keys no_apex k.keys })
     where
       Unsigned : Name → Type 0
-      Unsigned n = HashesApart z parameters n → IsHashedUnsigned z parameters r n
+      Unsigned n = HashesApart z parameters d.names n → IsHashedUnsigned z parameters r n
 
       k : IsReferralTo z q r zone signed h c
       k = referral_of z q r zone signed h c e
@@ -140,7 +142,7 @@ module _ (z : Zone) (parameters : Nsec3Parameters) (q : Query) (r : Sections) (d
       cut : IsCut z q d.top.no_dname k.set
       cut = reached_cut z q d.top.no_dname zone k.last k.set k.refers
 
-      keys : owns m (lower k.set.owner) SOA ≡ false → HasAuthority z r part.Signed (lower k.set.owner) DS ⊎ (child_ds m k.set ≡ None)
+      keys : owns z.sets (lower k.set.owner) SOA ≡ false → HasAuthority z r part.Signed (lower k.set.owner) DS ⊎ (child_ds z.sets k.set ≡ None)
           → HasAuthority z r part.Signed (lower k.set.owner) DS ⊎ Unsigned (lower k.set.owner)
       keys no_apex (inl ds) = inl ds
-      keys no_apex (inr f) = inr (λ apart. proved_by k.set k.end f cut no_apex apart (is_named o m parameters.opt_out (lower k.set.owner)) refl)
+      keys no_apex (inr f) = inr (λ apart. proved_by k.set k.end f cut no_apex apart (is_named d.names (lower k.set.owner)) refl)

@@ -11,16 +11,17 @@ use Rattle.zone_proto.specs.Types.{NSEC3}
 use Rattle.zone_proto.proofs.Members.{In, In-Contains, In-append_left, In-append_right, In-filter_map, In-from_filter_map, In-flat_map}
 use Rattle.zone_map.specs.Zones.{Sets, set_at, owns}
 use Rattle.zone_denial.specs.Nsec3Denial.{result_and_then, find_tested, has_match, encloser_of, nsec3_denial}
-use Rattle.zone_denial.specs.Nsec3Names.{nsec3_names}
-use Rattle.zone_denial.specs.Nsec3Zones.{IsNsec3Zone, IsHashed, TellsApart}
-use Rattle.zone_denial.proofs.Hashed.Nsec3Covers.{IsCover}
-use Rattle.zone_denial.proofs.Hashed.Nsec3Enclosers.{named_in, IsEnclosed}
-use Rattle.zone_denial.proofs.Hashed.Nsec3Encloses.{encloser_is}
-use Rattle.zone_denial.proofs.Hashed.Nsec3Owners.{owner, named_hashed, set_of_named, is_owner, owns_as_named}
+use Rattle.zone_denial.specs.Chains.{IsNsec3Chain}
+use Rattle.zone_denial.specs.Nsec3Zones.{IsHashedOn, TellsApart}
+use Rattle.zone_denial.proofs.Chains.Nsec3Covers.{IsCover}
+use Rattle.zone_denial.proofs.Chains.Nsec3Names.{named_in, IsEnclosed}
+use Rattle.zone_denial.proofs.Chains.Nsec3Encloses.{encloser_is}
+use Rattle.zone_denial.proofs.Chains.Nsec3Owners.{owner, named_hashed, set_of_named, is_owner, owns_as_named}
 use Rattle.denial_validation.specs.Nsec3Records.{Nsec3Record, read_nsec3}
 use Rattle.denial_laws.specs.Nsec3Judged.{read_nsec3_sets}
-use Rattle.denial_laws.proofs.Nsec3Readings.{from_read, record_of, shown}
-use Rattle.denial_laws.proofs.Nsec3Shown.{closer_shown}
+use Rattle.denial_laws.proofs.Chains.Nsec3Readings.{record_of, shown}
+use Rattle.denial_laws.proofs.Chains.Nsec3Shown.{closer_shown}
+use Rattle.denial_laws.proofs.Nsec3Readings.{from_read}
 use Rattle.zone_response.specs.HashedDenials.{or_else, matching, nearest_matching, encloser_proof, own_or_enclosed, no_data_proof}
 
 -- what is read in sets is read where they are among others
@@ -69,10 +70,7 @@ module _ (m : Sets) (hashed : Name → Result Name ProtoError) (a h : Name) (s :
 
 -- ---- what a denial shows
 
-module _ {origin : Name} {m : Sets} {hash : Name → Option (List ℕ)} {parameters : Nsec3Parameters} {x : Name} (zone : IsNsec3Zone origin m hash parameters) (apart : TellsApart (IsHashed origin m parameters.opt_out x) hash) where
-  abbrev names : List Name
-  names = nsec3_names origin m parameters.opt_out
-
+module _ {origin : Name} {m : Sets} {hash : Name → Option (List ℕ)} {parameters : Nsec3Parameters} {names : List Name} {x : Name} (zone : IsNsec3Chain origin m hash parameters names) (apart : TellsApart (IsHashedOn names x) hash) where
   abbrev hashed : Name → Result Name ProtoError
   hashed n = owner_or_refusal origin (hash n)
 
@@ -83,7 +81,7 @@ module _ {origin : Name} {m : Sets} {hash : Name → Option (List ℕ)} {paramet
     pub is_cover : IsCover zone apart c cover
     pub has_cover : In (record_of zone apart cover) rs
 
-  matching_is : (n : Name) → IsHashed origin m parameters.opt_out x n → matching m hashed n ≡ Ok (set_at m (owner zone apart n) NSEC3)
+  matching_is : (n : Name) → IsHashedOn names x n → matching m hashed n ≡ Ok (set_at m (owner zone apart n) NSEC3)
   matching_is n h = ap (result_and_then (λ h. Ok (set_at m h NSEC3))) (is_owner zone apart n h)
 
   same_sets : (a b : List RRset) → ◌≡◌ {A = Result (List RRset) ProtoError} (Ok a) (Ok b) → a ≡ b
@@ -92,8 +90,8 @@ module _ {origin : Name} {m : Sets} {hash : Name → Option (List ℕ)} {paramet
   same_set : (s r : RRset) → Some s ≡ Some r → s ≡ r
   same_set s r e = cc
 
-  -- on the circle its own set
-  pub own_matched : In x (nsec3_names origin m parameters.opt_out) → (answer : List RRset) → no_data_proof m (λ n. owner_or_refusal origin (hash n)) x ≡ Ok answer → In (record_of zone apart x) (read_nsec3_sets answer)
+  -- of one in the chain its own set
+  pub own_matched : In x names → (answer : List RRset) → no_data_proof m (λ n. owner_or_refusal origin (hash n)) x ≡ Ok answer → In (record_of zone apart x) (read_nsec3_sets answer)
   own_matched i answer e =
       let s = set_of_named zone apart x i in
       let same : s.0 ∷ [] ≡ answer =
@@ -101,12 +99,12 @@ module _ {origin : Name} {m : Sets} {hash : Name → Option (List ℕ)} {paramet
       (sym (ap (result_and_then (own_or_enclosed m hashed x)) (matching_is x (named_hashed zone apart x i)) ∙ ap (λ o. own_or_enclosed m hashed x o) s.1) ∙ e) in
       shown zone apart answer x i (λ r q. subst (λ (sets : List RRset). Contains sets r) same (In-Contains r (s.0 ∷ []) (inl (same_set s.0 r (sym s.1 ∙ q)))))
 
-  -- off it the closest encloser proof
-  pub encloser_matched : (In x (nsec3_names origin m parameters.opt_out) → ⊥) → (a c : Name) → IsEnclosed origin m parameters.opt_out x a c → (answer : List RRset)
+  -- of another the closest encloser proof
+  pub encloser_matched : (In x names → ⊥) → (a c : Name) → IsEnclosed names x a c → (answer : List RRset)
       → no_data_proof m (λ n. owner_or_refusal origin (hash n)) x ≡ Ok answer → IsEncloserShown a c (read_nsec3_sets answer)
   encloser_matched off a c e answer given = with_cover (nsec3_denial m hashed true x) refl (sym (ap (result_and_then (own_or_enclosed m hashed x)) (matching_is x itself) ∙ ap (own_or_enclosed m hashed x) unmatched) ∙ given)
     where
-      itself : IsHashed origin m parameters.opt_out x x
+      itself : IsHashedOn names x x
       itself = inr (a, e.is_encloser, inl (([], refl), e.above))
 
       unmatched : set_at m (owner zone apart x) NSEC3 ≡ None
@@ -114,7 +112,7 @@ module _ {origin : Name} {m : Sets} {hash : Name → Option (List ℕ)} {paramet
         where
           none : (o : Option RRset) → set_at m (owner zone apart x) NSEC3 ≡ o → o ≡ None
           none None q = refl
-          none (Some s) q = absurd (off (named_in origin m parameters.opt_out x (sym (owns_as_named zone apart x itself) ∙ ap is_some q)))
+          none (Some s) q = absurd (off (named_in names x (sym (owns_as_named zone apart x itself) ∙ ap is_some q)))
 
       match : (s : RRset) × (set_at m (owner zone apart a) NSEC3 ≡ Some s)
       match = let s = set_of_named zone apart a e.on in (s.0, s.1)

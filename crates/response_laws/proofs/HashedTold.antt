@@ -11,13 +11,14 @@ use Rattle.zone_proto.proofs.Names.NameTree.{above_test, at_or_above_from_suffix
 use Rattle.zone_proto.proofs.Names.Tree.{above_cases}
 use Rattle.zone_map.specs.Zones.{Sets, owns, owners}
 use Rattle.zone_map.proofs.Owned.{owner_in}
-use Rattle.zone_denial.specs.Nsec3Names.{nsec3_names}
-use Rattle.zone_denial.specs.Nsec3Zones.{IsNsec3Zone, IsHashed, TellsApart}
+use Rattle.zone_denial.specs.Chains.{is_told_at_delegation, is_delegation, IsNsec3Chain}
+use Rattle.zone_denial.specs.Nsec3Zones.{IsHashedOn, TellsApart}
 use Rattle.zone_denial.specs.StarLaws.{OwnsNone}
 use Rattle.zone_denial.proofs.Chain.NsecBelow.{above_at}
-use Rattle.zone_denial.proofs.Hashed.Nsec3Covers.{IsCover}
-use Rattle.zone_denial.proofs.Hashed.Nsec3Enclosers.{is_named, named_in, in_named, origin_in, IsEnclosed, enclosed_off}
-use Rattle.zone_denial.proofs.Hashed.Nsec3Encloses.{star_hashed}
+use Rattle.zone_denial.proofs.Chains.NsecLists.{delegation_below, delegation_owns, not_delegation}
+use Rattle.zone_denial.proofs.Chains.Nsec3Covers.{IsCover}
+use Rattle.zone_denial.proofs.Chains.Nsec3Names.{is_named, named_in, in_named, origin_in, IsEnclosed, enclosed_off}
+use Rattle.zone_denial.proofs.Chains.Nsec3Encloses.{star_hashed}
 use Rattle.zone_denial.proofs.Names.LongestAncestors.{IsLongestAbove, longest_is, longest_above, others_above, above_shorter}
 use Rattle.denial_validation.specs.Encloser.{next_closer}
 use Rattle.denial_validation.specs.NsecProofs.{DNAME}
@@ -25,61 +26,65 @@ use Rattle.denial_validation.specs.Nsec3Proofs.{matches, covers, lists, is_of_en
 use Rattle.denial_validation.specs.Nsec3Records.{Nsec3Record}
 use Rattle.denial_laws.specs.Judged.{Unreferred}
 use Rattle.denial_laws.specs.Nsec3Judged.{AreNsec3OfZone}
-use Rattle.denial_laws.proofs.Nsec3Judging.{owned_listed, listed_owned, unlisted}
-use Rattle.denial_laws.proofs.Nsec3Matches.{covers_is, unmatched, matches_itself, matched_by}
-use Rattle.denial_laws.proofs.Nsec3Proved.{sides, ancestor_named, self_hashed, uncovered, matching}
-use Rattle.denial_laws.proofs.Nsec3Readings.{record_of, of_name}
-use Rattle.denial_laws.proofs.Nsec3Soundness.{not_opted_out}
+use Rattle.denial_laws.proofs.Chains.Nsec3Judging.{unlisted, told_listed, told_owned, told_unlisted}
+use Rattle.denial_laws.proofs.Chains.Nsec3Matches.{covers_is, unmatched, matches_itself, matched_by}
+use Rattle.denial_laws.proofs.Chains.Nsec3Proved.{ancestor_named, self_hashed, uncovered, matching}
+use Rattle.denial_laws.proofs.Chains.Nsec3Readings.{record_of, of_name}
+use Rattle.denial_laws.proofs.Chains.Nsec3Soundness.{not_opted_out}
+use Rattle.denial_laws.proofs.Nsec3Proved.{sides}
 use Rattle.denial_laws.proofs.Tests.{refuted, right_false}
 use Rattle.response_laws.specs.HashedSayings.{IsReached}
 use Rattle.response_laws.proofs.HashedShown.{IsEncloserShown}
 
 -- a name of a zone that NSEC3 denies, which nothing refers elsewhere, and whose hash tells the names of a denial apart
-pub record IsHashedName (origin : Name) (m : Sets) (hash : Name → Option (List ℕ)) (parameters : Nsec3Parameters) (x : Name) : Type 0 where
-  pub zone : IsNsec3Zone origin m hash parameters
+pub record IsHashedName (origin : Name) (m : Sets) (hash : Name → Option (List ℕ)) (parameters : Nsec3Parameters) (names : List Name) (x : Name) : Type 0 where
+  pub zone : IsNsec3Chain origin m hash parameters names
   pub one_kind : OwnsNone m NSEC
   pub unreferred : Unreferred origin m
   pub reached : IsReached origin m x
-  pub apart : TellsApart (IsHashed origin m parameters.opt_out x) hash
+  pub apart : TellsApart (IsHashedOn names x) hash
 
-module _ {origin : Name} {m : Sets} {hash : Name → Option (List ℕ)} {parameters : Nsec3Parameters} {x : Name} (j : IsHashedName origin m hash parameters x) where
-  abbrev names : List Name
-  names = nsec3_names origin m parameters.opt_out
-
-  abbrev on_circle : Name → Bool
-  on_circle = is_named origin m parameters.opt_out
+module _ {origin : Name} {m : Sets} {hash : Name → Option (List ℕ)} {parameters : Nsec3Parameters} {names : List Name} {x : Name} (j : IsHashedName origin m hash parameters names x) where
+  abbrev on_chain : Name → Bool
+  on_chain = is_named names
 
   pub inside : IsAtOrAbove origin x
   inside = is_at_or_above_sound origin x j.reached.inside
 
-  pub away : (n : Name) → is_named origin m parameters.opt_out n ≡ false → In n (nsec3_names origin m parameters.opt_out) → ⊥
-  away n off i = true≢false (sym (in_named origin m parameters.opt_out n i) ∙ off)
+  pub away : (n : Name) → is_named names n ≡ false → In n names → ⊥
+  away n off i = true≢false (sym (in_named names n i) ∙ off)
 
-  pub below : is_named origin m parameters.opt_out x ≡ false → IsAbove origin x
+  pub below : is_named names x ≡ false → IsAbove origin x
   below off = by (above_cases origin x inside)
     where
       by : (origin ≡ x) ⊎ IsAbove origin x → IsAbove origin x
-      by (inl e) = absurd (away x off (subst (λ n. In n names) e (origin_in origin m parameters.opt_out)))
+      by (inl e) = absurd (away x off (subst (λ n. In n names) e (origin_in names origin j.zone.begins)))
       by (inr u) = u
 
-  pub enclosed : is_named origin m parameters.opt_out x ≡ false → (a : Name) × (c : Name) × IsEnclosed origin m parameters.opt_out x a c
-  enclosed off = enclosed_off origin m parameters.opt_out x j.reached.inside (away x off)
+  pub enclosed : is_named names x ≡ false → (a : Name) × (c : Name) × IsEnclosed names x a c
+  enclosed off = enclosed_off names origin j.zone.begins x j.reached.inside (away x off)
 
   -- the record of an ancestor is of no name that hands on what is below it
-  of_encloser : (a : Name) → IsAtOrAbove origin a → IsAbove a x → is_of_encloser (record_of j.zone j.apart a) ≡ true
-  of_encloser a u v = λ i. not (unlisted j.zone j.apart a DNAME (λ e. omega (arith, e)) (λ e. omega (arith, e)) (j.reached.no_dname a v) i) && delegates (lists r NS) refl i
+  of_encloser : (a : Name) → In a names → IsAtOrAbove origin a → IsAbove a x → is_of_encloser (record_of j.zone j.apart a) ≡ true
+  of_encloser a on u v =
+      λ i. not (unlisted j.zone j.apart a on DNAME (λ e. omega (arith, e)) (ap (λ b. not b || is_told_at_delegation DNAME) (not_delegation origin m a undelegated)) (j.reached.no_dname a v) i) && delegates (lists r NS) refl i
     where
       r : Nsec3Record
       r = record_of j.zone j.apart a
 
+      no_cut : owns m a NS ≡ true → is_above origin a ≡ true → ⊥
+      no_cut k w = true≢false (sym (any_from_In (λ c. is_above origin c && is_above c x) a (owners m NS) (owner_in m a NS k) (λ i. w i && (above_test a x).1 v i)) ∙ j.reached.uncut)
+
+      undelegated : is_delegation origin m a ≡ true → ⊥
+      undelegated d = no_cut (delegation_owns origin m a d).0 (delegation_below origin m a d)
+
       apex : owns m a NS ≡ true → (origin ≡ a) ⊎ IsAbove origin a → owns m a SOA ≡ true
       apex k (inl e) = j.unreferred a ([], e) k
-      apex k (inr w) = absurd (true≢false (sym (any_from_In (λ c. is_above origin c && is_above c x) a (owners m NS) (owner_in m a NS k) (λ i. (above_test origin a).1 w i && (above_test a x).1 v i)) ∙ j.reached.uncut))
+      apex k (inr w) = absurd (no_cut k ((above_test origin a).1 w))
 
       delegates : (b : Bool) → lists r NS ≡ b → not b || lists r SOA ≡ true
       delegates false e = refl
-      delegates true e =
-          owned_listed j.zone j.apart a SOA (apex (listed_owned j.zone j.apart a NS (λ e. omega (arith, e)) (λ e. omega (arith, e)) e) (above_cases origin a u)) (λ e. omega (arith, e))
+      delegates true e = told_listed j.zone j.apart a on SOA refl (apex (told_owned j.zone j.apart a on NS refl e) (above_cases origin a u))
 
   -- ---- of records of the zone
 
@@ -88,21 +93,21 @@ module _ {origin : Name} {m : Sets} {hash : Name → Option (List ℕ)} {paramet
     of_names = of_name j.zone j.apart rs of_zone
 
     -- an ancestor of x in the zone is hashed
-    ancestor_hashed : (a : Name) → IsAtOrAbove origin a → IsAbove a x → IsHashed origin m parameters.opt_out x a
-    ancestor_hashed a u v = by (on_circle x) refl
+    ancestor_hashed : (a : Name) → IsAtOrAbove origin a → IsAbove a x → IsHashedOn names x a
+    ancestor_hashed a u v = by (on_chain x) refl
       where
-        upper : (y : Name) → In y names → IsAtOrAbove a y → (origin ≡ a) ⊎ IsAbove origin a → IsHashed origin m parameters.opt_out x a
-        upper y i w (inl e) = inl (In-Contains a names (subst (λ n. In n names) e (origin_in origin m parameters.opt_out)))
-        upper y i w (inr o) = inl (In-Contains a names (ancestor_named origin m parameters.opt_out a y i w o))
+        upper : (y : Name) → In y names → IsAtOrAbove a y → (origin ≡ a) ⊎ IsAbove origin a → IsHashedOn names x a
+        upper y i w (inl e) = inl (In-Contains a names (subst (λ n. In n names) e (origin_in names origin j.zone.begins)))
+        upper y i w (inr o) = inl (In-Contains a names (ancestor_named j.zone a y i w o))
 
-        by : (b : Bool) → on_circle x ≡ b → IsHashed origin m parameters.opt_out x a
-        by true on = upper x (named_in origin m parameters.opt_out x on) (above_at a x v) (above_cases origin a u)
+        by : (b : Bool) → on_chain x ≡ b → IsHashedOn names x a
+        by true on = upper x (named_in names x on) (above_at a x v) (above_cases origin a u)
         by false off = of (sides x a n.0 (above_at a x v) n.2.above)
           where
-            n : (a : Name) × (c : Name) × IsEnclosed origin m parameters.opt_out x a c
+            n : (a : Name) × (c : Name) × IsEnclosed names x a c
             n = enclosed off
 
-            of : IsAbove a n.0 ⊎ ((a ≡ n.0) ⊎ IsAbove n.0 a) → IsHashed origin m parameters.opt_out x a
+            of : IsAbove a n.0 ⊎ ((a ≡ n.0) ⊎ IsAbove n.0 a) → IsHashedOn names x a
             of (inl w) = upper n.0 n.2.on (above_at a n.0 w) (above_cases origin a u)
             of (inr (inl e)) = inl (In-Contains a names (subst (λ y. In y names) (sym e) n.2.on))
             of (inr (inr w)) = inr (n.0, n.2.is_encloser, inl (above_at a x v, above_at n.0 a w))
@@ -118,8 +123,8 @@ module _ {origin : Name} {m : Sets} {hash : Name → Option (List ℕ)} {paramet
         of : (a : Name) × In a (proper_ancestors x) × (is_at_or_above origin a && is_handing_on origin hash rs a ≡ true) → ⊥
         of (a, i, p) =
             true≢false
-            (sym (of_encloser a u v)
-            ∙ ap is_of_encloser (sym (matching j.zone j.apart rs of_names a (ancestor_hashed a u v) r.0 r.1 (and_left (matches origin hash r.0 a) (not (is_of_encloser r.0)) r.2)).1)
+            (sym (of_encloser a own.0 u v)
+            ∙ ap is_of_encloser (sym own.1)
             ∙ not_true (is_of_encloser r.0) (and_right (matches origin hash r.0 a) (not (is_of_encloser r.0)) r.2))
           where
             u : IsAtOrAbove origin a
@@ -131,13 +136,16 @@ module _ {origin : Name} {m : Sets} {hash : Name → Option (List ℕ)} {paramet
             r : (r : Nsec3Record) × In r rs × (matches origin hash r a && not (is_of_encloser r) ≡ true)
             r = In-from_any (λ r. matches origin hash r a && not (is_of_encloser r)) rs (and_right (is_at_or_above origin a) (is_handing_on origin hash rs a) p)
 
-    -- a name of the circle isn't covered
-    pub not_covered : (n : Name) → In n (nsec3_names origin m parameters.opt_out) → is_covered origin hash rs n ≡ false
+            own : In a names × (r.0 ≡ record_of j.zone j.apart a)
+            own = matching j.zone j.apart rs of_names a (ancestor_hashed a u v) r.0 r.1 (and_left (matches origin hash r.0 a) (not (is_of_encloser r.0)) r.2)
+
+    -- a name of the chain isn't covered
+    pub not_covered : (n : Name) → In n names → is_covered origin hash rs n ≡ false
     not_covered n i = refuted (is_covered origin hash rs n) (λ e. uncovered j.zone j.apart rs of_names n e i)
 
-    -- ---- of a name on the circle, where its own record is among them
+    -- ---- of a name in the chain, where its own record is among them
 
-    module _ (on : In x (nsec3_names origin m parameters.opt_out)) (own : In (record_of j.zone j.apart x) rs) where
+    module _ (on : In x names) (own : In (record_of j.zone j.apart x) rs) where
       itself_matched : is_matched origin hash rs x ≡ true
       itself_matched = matched_by j.zone j.apart rs x on own
 
@@ -160,14 +168,14 @@ module _ {origin : Name} {m : Sets} {hash : Name → Option (List ℕ)} {paramet
           λ i. (above_test origin x).1 over i
           && any_from_In (λ r. matches origin hash r x && is_of_unsigned r) (record_of j.zone j.apart x) rs own
           (λ i. matches_itself j.zone j.apart x on i
-          && (owned_listed j.zone j.apart x NS ns (λ e. omega (arith, e)) i && not (unlisted j.zone j.apart x DS (λ e. omega (arith, e)) (λ e. omega (arith, e)) ds i)
-          && not (unlisted j.zone j.apart x SOA (λ e. omega (arith, e)) (λ e. omega (arith, e)) soa i))) i
+          && (told_listed j.zone j.apart x on NS refl ns i && not (told_unlisted j.zone j.apart x on DS refl ds i)
+          && not (told_unlisted j.zone j.apart x on SOA refl soa i))) i
 
-    -- ---- of a name off the circle
+    -- ---- of a name off the chain
 
-    module _ (off : is_named origin m parameters.opt_out x ≡ false) where
-      itself_hashed : IsHashed origin m parameters.opt_out x x
-      itself_hashed = self_hashed origin m parameters.opt_out x inside
+    module _ (off : is_named names x ≡ false) where
+      itself_hashed : IsHashedOn names x x
+      itself_hashed = self_hashed names origin j.zone.begins x inside
 
       itself_unmatched : is_matched origin hash rs x ≡ false
       itself_unmatched = unmatched j.zone j.apart rs of_names x itself_hashed (away x off)
@@ -186,17 +194,17 @@ module _ {origin : Name} {m : Sets} {hash : Name → Option (List ℕ)} {paramet
       no_own_delegation = right_false (is_above origin x) (list_any (λ r. matches origin hash r x && is_of_unsigned r) rs) (none_own is_of_unsigned)
 
     -- where its closest encloser proof is among them
-    module _ (off : is_named origin m parameters.opt_out x ≡ false) (a c : Name) (e : IsEnclosed origin m parameters.opt_out x a c) (has : IsEncloserShown j.zone j.apart a c rs) where
+    module _ (off : is_named names x ≡ false) (a c : Name) (e : IsEnclosed names x a c) (has : IsEncloserShown j.zone j.apart a c rs) where
       over : IsAbove origin x
       over = below off
 
-      longest : IsLongestAbove on_circle x a
-      longest = longest_is on_circle x a e.is_encloser
+      longest : IsLongestAbove on_chain x a
+      longest = longest_is on_chain x a e.is_encloser
 
       encloser_inside : IsAtOrAbove origin a
-      encloser_inside = others_above on_circle x a origin longest over (in_named origin m parameters.opt_out origin (origin_in origin m parameters.opt_out))
+      encloser_inside = others_above on_chain x a origin longest over (in_named names origin (origin_in names origin j.zone.begins))
 
-      hashed_between : (n : Name) → IsAtOrAbove n x → IsAtOrAbove a n → IsHashed origin m parameters.opt_out x n
+      hashed_between : (n : Name) → IsAtOrAbove n x → IsAtOrAbove a n → IsHashedOn names x n
       hashed_between n u v = inr (a, e.is_encloser, inl (u, v))
 
       abbrev shows : Name → Bool
@@ -238,7 +246,7 @@ module _ {origin : Name} {m : Sets} {hash : Name → Option (List ℕ)} {paramet
             matched : is_encloser origin hash rs a ≡ true
             matched =
                 any_from_In (λ r. matches origin hash r a && is_of_encloser r) (record_of j.zone j.apart a) rs has.encloser
-                (λ i. matches_itself j.zone j.apart a e.on i && of_encloser a encloser_inside longest.above i)
+                (λ i. matches_itself j.zone j.apart a e.on i && of_encloser a e.on encloser_inside longest.above i)
 
             one_covers : covered c ≡ true
             one_covers =
@@ -266,10 +274,10 @@ module _ {origin : Name} {m : Sets} {hash : Name → Option (List ℕ)} {paramet
           (any_from_In (λ r. covers origin hash r (star_under a)) (record_of j.zone j.apart k) rs i
           (covers_is j.zone j.apart k (star_under a) is.on (star_hashed j.zone j.apart a c e) ∙ is.covered))
 
-      pub no_error : In (star_under a) (nsec3_names origin m parameters.opt_out) → proves_name_error origin hash rs x ≡ false
+      pub no_error : In (star_under a) names → proves_name_error origin hash rs x ≡ false
       no_error i = encloser_refuted (λ r. true) (λ b. is_covered origin hash rs (star_under b)) (not_covered (star_under a) i)
 
-      pub star_denied : (t : ℕ) → In (star_under a) (nsec3_names origin m parameters.opt_out) → In (record_of j.zone j.apart (star_under a)) rs → denies_type origin (record_of j.zone j.apart (star_under a)) (star_under a) t ≡ true
+      pub star_denied : (t : ℕ) → In (star_under a) names → In (record_of j.zone j.apart (star_under a)) rs → denies_type origin (record_of j.zone j.apart (star_under a)) (star_under a) t ≡ true
           → proves_wildcard_no_data origin hash rs x t ≡ true
       star_denied t on i p =
           encloser_proved (λ r. true) (λ b. is_denied origin hash rs (star_under b) t) refl
@@ -277,16 +285,16 @@ module _ {origin : Name} {m : Sets} {hash : Name → Option (List ℕ)} {paramet
           (λ i. matches_itself j.zone j.apart (star_under a) on i && p i))
 
     -- where what covers its next closer name is among them
-    pub answer_proved : is_named origin m parameters.opt_out x ≡ false → (a c : Name) → IsEnclosed origin m parameters.opt_out x a c → (k : Name) → IsCover j.zone j.apart c k → In (record_of j.zone j.apart k) rs
+    pub answer_proved : is_named names x ≡ false → (a c : Name) → IsEnclosed names x a c → (k : Name) → IsCover j.zone j.apart c k → In (record_of j.zone j.apart k) rs
         → proves_wildcard_answer origin hash rs x a ≡ true
     answer_proved off a c e k is i =
         λ n. is_at_or_above_complete origin a encloser_in n && (above_test a x).1 longest.above n && (ap (λ o. option_map_or (is_covered origin hash rs) o false) e.is_closer ∙ covered) n
       where
-        longest : IsLongestAbove on_circle x a
-        longest = longest_is on_circle x a e.is_encloser
+        longest : IsLongestAbove on_chain x a
+        longest = longest_is on_chain x a e.is_encloser
 
         encloser_in : IsAtOrAbove origin a
-        encloser_in = others_above on_circle x a origin longest (below off) (in_named origin m parameters.opt_out origin (origin_in origin m parameters.opt_out))
+        encloser_in = others_above on_chain x a origin longest (below off) (in_named names origin (origin_in names origin j.zone.begins))
 
         covered : is_covered origin hash rs c ≡ true
         covered =

@@ -20,6 +20,7 @@ pub mod DenialTypes
 pub mod Parts
 pub mod ReadSets
 pub mod Said
+pub mod LentSets
 pub mod BareNames
 pub mod SaidNames
 pub mod ToldNames
@@ -43,6 +44,7 @@ pub mod Helpful
 pub mod Reasons
 pub mod Filled
 pub mod Responses
+pub mod SecuredZones
 pub mod Once
 pub mod AnswersOnce
 pub mod AuthoritiesOnce
@@ -59,6 +61,9 @@ mod AgreementStandIns
 mod AgreementExamples
 mod SayingExamples
 mod MetPremises
+mod ChainTests
+mod SignedZones
+mod HashedSignedZones
 mod HashedExamples
 mod HashedMetPremises
 mod WrongServers

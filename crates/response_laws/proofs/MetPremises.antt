@@ -25,6 +25,7 @@ use Rattle.zone_response.specs.Responses.{IsResponse}
 use Rattle.zone_response.specs.Sections.{Sections}
 use Rattle.response_laws.specs.ProvedSayings.{DeniesByNsec, IsProvedError}
 use Rattle.response_laws.proofs.Responses.{response_proves_what_it_says}
+use Rattle.response_laws.proofs.SecuredZones.{nsec_zones_deny}
 use Rattle.response_laws.proofs.SayingExamples.{zone, asked, negative, b}
 
 pub soa_stored : IsStoredAt origin SOA start.1
@@ -106,13 +107,9 @@ pub unowned : (n : Name) (t : ℕ) → (t == NSEC) ≡ false → (t == SOA) ≡ 
 unowned n t c s k = others n t c ∙ (λ i. is_some (cond (type_apart n origin t SOA s i) (Some start.1) (cond (type_apart n origin t DNSKEY k i) (Some public_key.1) None)))
 
 pub denies : DeniesByNsec (zone bare)
-denies = record {
-  kind = refl;
-  denials = refl;
-  circle = linked_is_nsec_zone;
-  one_kind = λ n. unowned n NSEC3 refl refl refl;
-  top = record { unreferred = λ a u k. absurd (true≢false (sym k ∙ unowned a NS refl refl refl)); no_dname = λ a u. unowned a DNAME refl refl refl };
-}
+denies =
+    nsec_zones_deny (zone bare) refl refl linked_is_nsec_zone (λ n. unowned n NSEC3 refl refl refl)
+    (record { unreferred = λ a u k. absurd (true≢false (sym k ∙ unowned a NS refl refl refl)); no_dname = λ a u. unowned a DNAME refl refl refl })
 
 -- ---- and a name that isn't there is proved so
 

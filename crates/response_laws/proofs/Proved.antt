@@ -11,13 +11,15 @@ use Rattle.zone_map.specs.Wildcards.{exists, renamed, closest_encloser, asked_st
 use Rattle.zone_map.specs.Zones.{Sets, set_at, owns, owns_at_or_below, IsZone}
 use Rattle.zone_map.proofs.ExistingNames.{owned_where_existing}
 use Rattle.zone_denial.specs.NsecDenial.{nsec_encloser}
+use Rattle.zone_denial.proofs.Chains.NsecAskedStar.{exists_is}
 use Rattle.zone_lookup.specs.Replies.{name_exists, nx_domain}
 use Rattle.denial_validation.specs.NsecProofs.{proves_name_error, proves_no_data, proves_empty_non_terminal, proves_wildcard_no_data, proves_empty_answer, proves_unsigned_delegation}
-use Rattle.denial_laws.specs.Judged.{AreOfZone, IsJudged}
+use Rattle.denial_laws.specs.Chains.{IsJudgedInChain}
+use Rattle.denial_laws.specs.Judged.{AreOfZone}
 use Rattle.denial_laws.specs.Soundness.{IsWithoutData, IsUnsignedDelegation, IsSound}
-use Rattle.denial_laws.proofs.ShownEnclosers.{judged_star}
-use Rattle.denial_laws.proofs.Soundness.{there_from, present, empty_without_data, records_sound}
-use Rattle.denial_laws.proofs.Stars.{exists_is}
+use Rattle.denial_laws.proofs.Chains.ShownEnclosers.{judged_star}
+use Rattle.denial_laws.proofs.Chains.Soundness.{empty_without_data, records_sound}
+use Rattle.denial_laws.proofs.Soundness.{there_from, present}
 use Rattle.zone_response.specs.declared.response.Part.TheVariants as part
 use Rattle.zone_response.specs.Queries.{Zone, Query, inquiry}
 use Rattle.zone_response.specs.Responses.{child_ds, ds_at}
@@ -28,9 +30,10 @@ use Rattle.response_laws.specs.Contents.{Origin}
 use Rattle.response_laws.specs.ProvedSayings.{DeniesByNsec, shown, IsFoundByStar, IsAliasData, HasAuthority, HasNoStandIn, IsShowable, IsProvedError, IsProvedEmpty, IsProvedUnsigned, IsProvedReferral}
 use Rattle.response_laws.specs.Sayings.{Saying, data_of, name_error, no_data, referral, saying, name_of}
 use Rattle.response_laws.proofs.Answers.{IsMadeFound, ByStarOf, path_answers}
-use Rattle.response_laws.proofs.BareNames.{not_any, type_unowned, beside_soa}
+use Rattle.response_laws.proofs.BareNames.{lent_not_any, type_unowned, lent_alias, lent_beside_soa}
 use Rattle.response_laws.proofs.AgreementNames.{star_asked}
 use Rattle.response_laws.proofs.LastNames.{IsBare, IsMissing, bare, bare_star, starless, gone}
+use Rattle.response_laws.proofs.LentSets.{owns_kept, exists_kept, star_kept, delegation_kept}
 use Rattle.response_laws.proofs.Origins.{origin_by}
 use Rattle.response_laws.proofs.Parts.{path_of, told_at, IsMadeOf}
 use Rattle.response_laws.proofs.Said.{Said, says_nothing, says_data, says_referral, says_missing, said}
@@ -39,7 +42,7 @@ use Rattle.response_laws.proofs.SentSets.{IsSentSet, authority_part}
 use Rattle.response_laws.proofs.Stepped.{IsUnturned}
 use Rattle.response_laws.proofs.Summed.{sum_of_error, sum_of_delegation, sum_of_empty}
 use Rattle.response_laws.proofs.Told.{IsTold, over, error_proved, answer_proved, bare as told_bare, bare_by, star_bare_by, delegation_proved}
-use Rattle.response_laws.proofs.ToldNames.{judged_unturned, judged_cut, unowned, star_is, tells, authority_is, shown_of_zone}
+use Rattle.response_laws.proofs.ToldNames.{no_nsec3, judged_unturned, judged_cut, unowned, star_is, tells, authority_is, shown_of_zone}
 
 same_name : (a b : Name) → Some a ≡ Some b → a ≡ b
 same_name a b e = cc
@@ -48,27 +51,28 @@ module _ (z : Zone) (q : Query) (r : Sections) (d : DeniesByNsec z) (signed : q.
   abbrev o : Name
   o = z.origin
 
+  -- the sets that deny
   abbrev m : Sets
-  m = z.sets
+  m = z.denials
 
   abbrev t : ℕ
   t = q.record_type
 
   abbrev zone : IsZone z.sets
-  zone = d.circle.zone
+  zone = d.zone
 
   abbrev ends : End
   ends = (path_of z q).end
 
   -- ---- the sets
 
-  pub authorities_proved : (s : RRset) → Contains r.authorities s → IsSentSet z.sets (authority_part s) s
+  pub authorities_proved : (s : RRset) → Contains r.authorities s → IsSentSet z.denials (authority_part s) s
   authorities_proved s c = authority_is z q r d signed h s (Contains-In s r.authorities c)
 
-  pub records_proved : AreOfZone z.sets (shown r)
+  pub records_proved : AreOfZone z.denials (shown r)
   records_proved = shown_of_zone z q r d signed h
 
-  pub sound_proved : (x : Name) → IsJudged z.origin z.sets x → IsSound z.origin z.sets x (shown r)
+  pub sound_proved : (x : Name) → IsJudgedInChain z.origin z.denials x → IsSound z.origin z.denials x (shown r)
   sound_proved x j = records_sound o m (shown r) x j records_proved
 
   -- of a star's set under a name for which the star answered
@@ -76,16 +80,16 @@ module _ (z : Zone) (q : Query) (r : Sections) (d : DeniesByNsec z) (signed : q.
   star_proved y i u found k = record {
     encloser = nsec_encloser o m y;
     stored = k.stored;
-    stands = ap (λ n. set_at m n u) (sym star) ∙ k.stands;
+    stands = ap (λ n. set_at z.sets n u) (sym star) ∙ k.stands;
     made = k.is ∙ (λ i. renamed (signed i || (t == RRSIG)) (star i) y k.stored);
     proved =
-        answer_proved o m y j (shown r) (tells z q r d signed h y j (In-append_left y (path_of z q).made (told_at (ds_at m ends) ends) i)) (unowned z d y k.made.absent) (nsec_encloser o m y) e.0;
+        answer_proved o m y j (shown r) (tells z q r d signed h y j (In-append_left y (path_of z q).made (told_at (ds_at z.sets ends) ends) i)) (unowned z d y k.made.absent) (nsec_encloser o m y) e.0;
   }
     where
-      j : IsJudged o m y
+      j : IsJudgedInChain o m y
       j = judged_unturned z q d y k.made.unturned
 
-      e : (closest_encloser m y ≡ Some (nsec_encloser o m y)) × (star_of m y ≡ Some (star_under (nsec_encloser o m y)))
+      e : (closest_encloser m y ≡ Some (nsec_encloser o m y)) × (star_of z.sets y ≡ Some (star_under (nsec_encloser o m y)))
       e = star_is z d y j k.made.absent
 
       star : k.star ≡ star_under (nsec_encloser o m y)
@@ -93,23 +97,23 @@ module _ (z : Zone) (q : Query) (r : Sections) (d : DeniesByNsec z) (signed : q.
 
   pub answers_proved : (s : RRset) → Contains r.answers s → Origin (inquiry z q) r.answers (IsFoundByStar z.origin z.sets (shown r)) s
   answers_proved s c =
-      origin_by (inquiry z q) r.answers s (ByStarOf (inquiry z q) (path_of z q).made) (IsFoundByStar o m (shown r)) (λ y u found k. star_proved y k.0 u found k.1)
+      origin_by (inquiry z q) r.answers s (ByStarOf (inquiry z q) (path_of z q).made) (IsFoundByStar o z.sets (shown r)) (λ y u found k. star_proved y k.0 u found k.1)
       (subst (λ all. Origin (inquiry z q) all (ByStarOf (inquiry z q) (path_of z q).made) s) (sym h.answers)
       (path_answers (inquiry z q) zone q.name s (subst (In s) h.answers (Contains-In s r.answers c))))
 
   -- ---- of whom something is said
 
-  pub judged_proved : (w : Saying) → saying q r ≡ Some w → IsJudged z.origin z.sets (name_of w) ⊎ IsAliasData z q r w
-  judged_proved w e = by (said z d.circle.zone q r h)
+  pub judged_proved : (w : Saying) → saying q r ≡ Some w → IsJudgedInChain z.origin z.denials (name_of w) ⊎ IsAliasData z q r w
+  judged_proved w e = by (said z d.zone q r h)
     where
-      of : (v : Saying) → saying q r ≡ Some v → IsJudged o m (name_of v) → IsJudged z.origin z.sets (name_of w) ⊎ IsAliasData z q r w
-      of v f j = inl (subst (λ u. IsJudged o m (name_of u)) (same_saying v w (saying q r) f e) j)
+      of : (v : Saying) → saying q r ≡ Some v → IsJudgedInChain o m (name_of v) → IsJudgedInChain z.origin z.denials (name_of w) ⊎ IsAliasData z q r w
+      of v f j = inl (subst (λ u. IsJudgedInChain o m (name_of u)) (same_saying v w (saying q r) f e) j)
 
-      either : (there : Bool) (y : Name) → IsJudged o m y → IsJudged o m (name_of (cond there (no_data y) (name_error y)))
+      either : (there : Bool) (y : Name) → IsJudgedInChain o m y → IsJudgedInChain o m (name_of (cond there (no_data y) (name_error y)))
       either true y j = j
       either false y j = j
 
-      by : Said z q r → IsJudged z.origin z.sets (name_of w) ⊎ IsAliasData z q r w
+      by : Said z q r → IsJudgedInChain z.origin z.denials (name_of w) ⊎ IsAliasData z q r w
       by (says_nothing f) = let p : None ≡ Some w = sym f ∙ e in absurd cc
       by (says_data y sets f g (inl u)) = of (data_of y) f (judged_unturned z q d y u)
       by (says_data y sets f g (inr a)) = inr (alias_said z q r zone signed h y sets w (same_saying w (data_of y) (saying q r) e f) g a)
@@ -119,22 +123,22 @@ module _ (z : Zone) (q : Query) (r : Sections) (d : DeniesByNsec z) (signed : q.
   -- ---- a name without data
 
   module _ (x : Name) (star : Option Name) (there : Bool) (end : (path_of z q).end ≡ missing x star there) (u : IsUnturned (inquiry z q) x) where
-    abbrev j : IsJudged o m x
+    abbrev j : IsJudgedInChain o m x
     j = judged_unturned z q d x u
 
     -- it is told of, and so is the star that is asked for it
     told_itself : IsTold o m j.zone (shown r) x
-    told_itself = tells z q r d signed h x j (In-append_right x (path_of z q).made (told_at (ds_at m ends) ends) (subst (λ e. In x (told_at (ds_at m e) e)) (sym end) (inl refl)))
+    told_itself = tells z q r d signed h x j (In-append_right x (path_of z q).made (told_at (ds_at z.sets ends) ends) (subst (λ e. In x (told_at (ds_at z.sets e) e)) (sym end) (inl refl)))
 
-    told_star : (w : Name) → star ≡ Some w → (k : IsJudged o m w) → IsTold o m k.zone (shown r) w
+    told_star : (w : Name) → star ≡ Some w → (k : IsJudgedInChain o m w) → IsTold o m k.zone (shown r) w
     told_star w e k =
         tells z q r d signed h w k
-        (In-append_right w (path_of z q).made (told_at (ds_at m ends) ends)
-        (subst (λ e. In w (told_at (ds_at m e) e)) (sym (end ∙ ap (λ s. missing x s there) e)) (inr (inl refl))))
+        (In-append_right w (path_of z q).made (told_at (ds_at z.sets ends) ends)
+        (subst (λ e. In w (told_at (ds_at z.sets e) e)) (sym (end ∙ ap (λ s. missing x s there) e)) (inr (inl refl))))
 
-    -- the star is that of the circle's encloser
-    star_of_circle : (w : Name) → exists m x ≡ false → star_of m x ≡ Some w → w ≡ star_under (nsec_encloser o m x)
-    star_of_circle w absent e = same_name w (star_under (nsec_encloser o m x)) (sym e ∙ (star_is z d x j absent).1)
+    -- the star is that of the chain's encloser
+    star_of_chain : (w : Name) → exists z.sets x ≡ false → star_of z.sets x ≡ Some w → w ≡ star_under (nsec_encloser o m x)
+    star_of_chain w absent e = same_name w (star_under (nsec_encloser o m x)) (sym e ∙ (star_is z d x j absent).1)
 
     pub error_shown : there ≡ false → IsMissing (inquiry z q) x star there → proves_name_error z.origin (shown r) x ≡ true
     error_shown gone' (bare e f g b) = absurd (true≢false (sym e ∙ gone'))
@@ -143,35 +147,42 @@ module _ (z : Zone) (q : Query) (r : Sections) (d : DeniesByNsec z) (signed : q.
     error_shown gone' (gone w e f absent g k) =
         let none = unowned z d x absent in
         let up = over o m x j (shown r) told_itself none in
-        let same = star_of_circle w absent g in
+        let same = star_of_chain w absent g in
         let k' = judged_star o m x j up in
         error_proved o m x j (shown r) told_itself none k'.zone (told_star (star_under (nsec_encloser o m x)) (f ∙ ap Some same) k')
-        (unowned z d (star_under (nsec_encloser o m x)) (ap (exists m) (sym same) ∙ k))
+        (unowned z d (star_under (nsec_encloser o m x)) (ap (exists z.sets) (sym same) ∙ k))
+
+    there_below : (y : Name) → exists z.sets y ≡ true → owns_at_or_below m y ≡ true
+    there_below y k = sym (exists_is o m d.chain (no_nsec3 z d) y) ∙ exists_kept z d.denials y ∙ k
+
+    beside : (t == DS) ≡ false → owns m x NS ≡ true → owns m x SOA ≡ true
+    beside = lent_beside_soa z d.denials q x u d.top.unreferred
 
     -- it is there without data, as its own record or the one before it shows, or the star's
     data BareBy : Type 0 where
       by_own : proves_no_data o (shown r) x t ≡ true → BareBy
       by_empty : proves_empty_non_terminal o (shown r) x ≡ true → BareBy
-      by_star : exists m x ≡ false → proves_wildcard_no_data o (shown r) x t ≡ true → BareBy
+      by_star : exists z.sets x ≡ false → proves_wildcard_no_data o (shown r) x t ≡ true → BareBy
 
     bare_shown : there ≡ true → IsShowable o m x t → IsMissing (inquiry z q) x star there → BareBy
     bare_shown so s (bare e f there' b) =
         by
-        (bare_by o m x j (shown r) told_itself (sym (exists_is o m d.circle d.one_kind x) ∙ there') t s.no_signature (not_any m x t b NSEC) (type_unowned m x t b d.one_kind s.no_signature) (ap is_some b.alias)
-        (beside_soa (inquiry z q) x u d.top.unreferred) s.no_apex)
+        (bare_by o m x j (shown r) told_itself (there_below x there') t s.no_signature (lent_not_any z d.denials zone x t b NSEC) (type_unowned z d.denials zone x t b (no_nsec3 z d) s.no_signature) (lent_alias z d.denials zone x t b)
+        beside s.no_apex)
       where
         by : (proves_no_data o (shown r) x t ≡ true) ⊎ (proves_empty_non_terminal o (shown r) x ≡ true) → BareBy
         by (inl p) = by_own p
         by (inr p) = by_empty p
     bare_shown so s (bare_star w e f absent g there' b) =
         let none = unowned z d x absent in
-        let same = star_of_circle w absent g in
+        let same = star_of_chain w absent g in
         let k = judged_star o m x j (over o m x j (shown r) told_itself none) in
-        let c : IsBare m star' t = subst (λ n. IsBare m n t) same b in
+        let c : IsBare z.sets star' t = subst (λ n. IsBare z.sets n t) same b in
+        let gone' = exists_kept z d.denials x ∙ absent in
         by_star absent
         (star_bare_by o m x j (shown r) told_itself none t
-        (told_bare o m star' k (shown r) (told_star star' (f ∙ ap Some same) k) (sym (exists_is o m d.circle d.one_kind star') ∙ ap (exists m) (sym same) ∙ there') t s.no_signature (not_any m star' t c NSEC)
-        (type_unowned m star' t c d.one_kind s.no_signature) (ap is_some c.alias) (λ other ns. absurd (true≢false (sym ns ∙ s.no_star_cut absent))) (s.no_star_apex absent)))
+        (told_bare o m star' k (shown r) (told_star star' (f ∙ ap Some same) k) (there_below star' (ap (exists z.sets) (sym same) ∙ there')) t s.no_signature (lent_not_any z d.denials zone star' t c NSEC)
+        (type_unowned z d.denials zone star' t c (no_nsec3 z d) s.no_signature) (lent_alias z d.denials zone star' t c) (λ other ns. absurd (true≢false (sym ns ∙ s.no_star_cut gone'))) (s.no_star_apex gone')))
       where
         star' : Name
         star' = star_under (nsec_encloser o m x)
@@ -183,18 +194,18 @@ module _ (z : Zone) (q : Query) (r : Sections) (d : DeniesByNsec z) (signed : q.
     empty_from (by_empty p) = or_left (proves_no_data o (shown r) x t || proves_empty_non_terminal o (shown r) x) (proves_wildcard_no_data o (shown r) x t) (or_right (proves_no_data o (shown r) x t) (proves_empty_non_terminal o (shown r) x) p)
     empty_from (by_star absent p) = or_right (proves_no_data o (shown r) x t || proves_empty_non_terminal o (shown r) x) (proves_wildcard_no_data o (shown r) x t) p
 
-    none_from : IsFalse (is_wildcard x) → HasNoStandIn o m x t → BareBy → IsWithoutData z.origin z.sets x t
+    none_from : IsFalse (is_wildcard x) → HasNoStandIn o m x t → BareBy → IsWithoutData z.origin z.denials x t
     none_from plain flat (by_own p) = (sound_proved x j).data' t flat.own p
     none_from plain flat (by_empty p) = empty_without_data o m x j ((sound_proved x j).empty p) t
-    none_from plain flat (by_star absent p) = ((sound_proved x j).wildcard_data t plain (flat.star absent) p).none
+    none_from plain flat (by_star absent p) = ((sound_proved x j).wildcard_data t plain (flat.star (exists_kept z d.denials x ∙ absent)) p).none
 
     -- it is no name error
     no_error : there ≡ true → IsFalse (is_wildcard x) → IsMissing (inquiry z q) x star there → proves_name_error o (shown r) x ≡ false
     no_error so plain k = by (proves_name_error o (shown r) x) refl
       where
         is_present : IsMissing (inquiry z q) x star there → owns_at_or_below m x || asked_star_exists m x ≡ true
-        is_present (bare e f there' b) = or_left (owns_at_or_below m x) (asked_star_exists m x) (owned_where_existing x m there')
-        is_present (bare_star w e f absent g there' b) = or_right (owns_at_or_below m x) (asked_star_exists m x) (ap (λ o. option_map_or (exists m) o false) (star_asked m x absent plain ∙ g) ∙ there')
+        is_present (bare e f there' b) = or_left (owns_at_or_below m x) (asked_star_exists m x) (owned_where_existing x m (exists_kept z d.denials x ∙ there'))
+        is_present (bare_star w e f absent g there' b) = or_right (owns_at_or_below m x) (asked_star_exists m x) (ap (λ o. option_map_or (exists m) o false) (star_asked m x (exists_kept z d.denials x ∙ absent) plain ∙ star_kept z d.denials x ∙ g) ∙ exists_kept z d.denials w ∙ there')
         is_present (starless e absent f) = absurd (true≢false (sym so ∙ e))
         is_present (gone w e f absent g i) = absurd (true≢false (sym so ∙ e))
 
@@ -211,7 +222,7 @@ module _ (z : Zone) (q : Query) (r : Sections) (d : DeniesByNsec z) (signed : q.
 
         by : (b : Bool) → (t == DS) ≡ b → t ≡ DS
         by true e = eqb-true t DS e
-        by false e = absurd (true≢false (sym (beside_soa (inquiry z q) x u d.top.unreferred e cut.delegated) ∙ cut.no_apex))
+        by false e = absurd (true≢false (sym (beside e cut.delegated) ∙ cut.no_apex))
 
     pub empty_shown : there ≡ true → IsMissing (inquiry z q) x star there → IsProvedEmpty z r x t
     empty_shown so k = record {
@@ -236,11 +247,11 @@ module _ (z : Zone) (q : Query) (r : Sections) (d : DeniesByNsec z) (signed : q.
   empty_said x e = let k = missing_said z q r zone signed h true x e in empty_shown x k.star true k.end k.unturned refl k.how
 
   -- a zone cut is no name error
-  unsigned_child : (c : Name) → IsJudged o m c → owns m c NS ≡ true → proves_unsigned_delegation z.origin (shown r) c ≡ true → IsProvedUnsigned z r c
+  unsigned_child : (c : Name) → IsJudgedInChain o m c → owns m c NS ≡ true → proves_unsigned_delegation z.origin (shown r) c ≡ true → IsProvedUnsigned z r c
   unsigned_child c k ns p = record {
     proved = p;
     told = λ u. sum_of_delegation o (shown r) c u (by (proves_name_error o (shown r) c) refl) p;
-    none = (sound_proved c k).delegation p;
+    none = delegation_kept z d.denials c ((sound_proved c k).delegation p);
   }
     where
       by : (b : Bool) → proves_name_error o (shown r) c ≡ b → b ≡ false
@@ -258,17 +269,20 @@ module _ (z : Zone) (q : Query) (r : Sections) (d : DeniesByNsec z) (signed : q.
       own : Name
       own = lower k.set.owner
 
-      cut : (set_at m (lower k.set.owner) NS ≡ Some k.set) × IsJudged o m (lower k.set.owner)
+      cut : (set_at z.sets (lower k.set.owner) NS ≡ Some k.set) × IsJudgedInChain o m (lower k.set.owner)
       cut = judged_cut z q d k.last k.set k.refers
 
-      proved : child_ds m k.set ≡ None → owns m own SOA ≡ false → proves_unsigned_delegation o (shown r) own ≡ true
+      ns : owns m own NS ≡ true
+      ns = owns_kept z d.denials own NS refl ∙ ap is_some cut.0
+
+      proved : child_ds z.sets k.set ≡ None → owns z.sets own SOA ≡ false → proves_unsigned_delegation o (shown r) own ≡ true
       proved f no_apex =
           delegation_proved o m own cut.1 (shown r)
           (tells z q r d signed h own cut.1
-          (In-append_right own (path_of z q).made (told_at (ds_at m ends) ends)
-          (subst (λ e. In own (told_at (ds_at m e) e)) (sym k.end) (subst (λ d. In own (told_at d (referred k.set))) (sym f) (inl refl)))))
-          (ap is_some cut.0) (ap is_some f) no_apex
+          (In-append_right own (path_of z q).made (told_at (ds_at z.sets ends) ends)
+          (subst (λ e. In own (told_at (ds_at z.sets e) e)) (sym k.end) (subst (λ d. In own (told_at d (referred k.set))) (sym f) (inl refl)))))
+          ns (owns_kept z d.denials own DS refl ∙ ap is_some f) (owns_kept z d.denials own SOA refl ∙ no_apex)
 
-      keys : owns m own SOA ≡ false → HasAuthority z r part.Signed own DS ⊎ (child_ds m k.set ≡ None) → HasAuthority z r part.Signed own DS ⊎ IsProvedUnsigned z r own
+      keys : owns z.sets own SOA ≡ false → HasAuthority z r part.Signed own DS ⊎ (child_ds z.sets k.set ≡ None) → HasAuthority z r part.Signed own DS ⊎ IsProvedUnsigned z r own
       keys no_apex (inl ds) = inl ds
-      keys no_apex (inr f) = inr (unsigned_child own cut.1 (ap is_some cut.0) (proved f no_apex))
+      keys no_apex (inr f) = inr (unsigned_child own cut.1 ns (proved f no_apex))

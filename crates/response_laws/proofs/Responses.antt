@@ -7,11 +7,10 @@ use Rattle.zone_proto.specs.declared.response_code.ResponseCode.TheVariants as c
 use Rattle.zone_proto.specs.Names.{Name, is_at_or_above}
 use Rattle.zone_proto.proofs.Members.{Contains-In, and_right}
 use Rattle.denial_validation.specs.Nsec3Proofs.{proves_no_data}
-use Rattle.zone_map.specs.Zones.{IsZone}
-use Rattle.denial_laws.proofs.Nsec3Calls.{nsec3_parameters_found}
-use Rattle.denial_laws.proofs.Nsec3LeftOut.{nsec3_opt_out_sound}
-use Rattle.denial_laws.proofs.Nsec3Soundness.{nsec3_records_sound}
-use Rattle.denial_laws.proofs.Soundness.{records_sound}
+use Rattle.denial_laws.proofs.Chains.Nsec3Calls.{nsec3_parameters_found}
+use Rattle.denial_laws.proofs.Chains.Nsec3LeftOut.{nsec3_opt_out_sound}
+use Rattle.denial_laws.proofs.Chains.Nsec3Soundness.{nsec3_records_sound}
+use Rattle.denial_laws.proofs.Chains.Soundness.{records_sound}
 use Rattle.zone_response.specs.Queries.{Zone, Query}
 use Rattle.zone_response.specs.Responses.{bare, IsResponse}
 use Rattle.zone_response.specs.Sections.{Sections}
@@ -88,18 +87,18 @@ code_alone z q d c silent = record {
     delegation = λ x e. let p = sym silent ∙ e in absurd cc;
   };
   records = λ r i. absurd (Contains-In r [] i);
-  sound = λ x j. records_sound z.origin z.sets [] x j (λ r i. absurd (Contains-In r [] i));
+  sound = λ x j. records_sound z.origin z.denials [] x j (λ r i. absurd (Contains-In r [] i));
 }
 
 pub response_proves_what_it_says : ResponseProvesWhatItSays IsResponse
-response_proves_what_it_says z q r d signed is = by (how_answered z q r (subst IsZone (sym d.denials) d.circle.zone) is)
+response_proves_what_it_says z q r d signed is = by (how_answered z q r d.chain.zone is)
   where
     by : HowAnswered z q r → ProvesWhatItSays z q r
     by (by_code_alone c why e) = subst (ProvesWhatItSays z q) (sym e) (code_alone z q d c (bare_is_silent z q c why))
     by (by_parts h) = record {
       says = record {
         answers = answers_proved z q r d signed h;
-        signatures = λ t other all s i. signed_in_authority z d.circle.zone t other all s (authorities_proved z q r d signed h s i);
+        signatures = λ t other all s i. signed_in_authority z d.chain.zone t other all s (authorities_proved z q r d signed h s i);
         told = judged_proved z q r d signed h;
         error = error_said z q r d signed h;
         empty = empty_said z q r d signed h;
@@ -111,7 +110,7 @@ response_proves_what_it_says z q r d signed is = by (how_answered z q r (subst I
 
 -- ---- where NSEC3 denies
 
-hashed_code_alone : (z : Zone) (parameters : Nsec3Parameters) (q : Query) → DeniesByNsec3 z parameters → (c : ResponseCode) → saying q (bare c) ≡ None → ProvesByHashes z parameters q (bare c)
+hashed_code_alone : (z : Zone) (parameters : Nsec3Parameters) (q : Query) → (d : DeniesByNsec3 z parameters) → (c : ResponseCode) → saying q (bare c) ≡ None → ProvesByHashes z parameters d.names q (bare c)
 hashed_code_alone z parameters q d c silent = record {
   says = record {
     answers = λ s i. absurd (Contains-In s [] i);
@@ -122,10 +121,10 @@ hashed_code_alone z parameters q d c silent = record {
     delegation = λ x e. let p = sym silent ∙ e in absurd cc;
   };
   records = λ r i. absurd (Contains-In r [] i);
-  sound = λ x j. nsec3_records_sound z.origin z.sets (zone_hash z parameters) parameters [] x j (λ r i. absurd (Contains-In r [] i));
-  parameters_found = λ x t apart. nsec3_parameters_found z.origin z.sets z.digest_of parameters [] x t d.circle apart (λ v c. absurd (Contains-In v [] c));
+  sound = λ x j. nsec3_records_sound z.origin z.denials (zone_hash z parameters) parameters d.names [] x j (λ r i. absurd (Contains-In r [] i));
+  parameters_found = λ x t apart. nsec3_parameters_found z.origin z.denials z.digest_of parameters d.names [] x t d.chain apart (λ v c. absurd (Contains-In v [] c));
   data_sound = λ x t apart p. absurd (no_data x t p);
-  opt_out_sound = λ x apart. nsec3_opt_out_sound z.origin z.sets (zone_hash z parameters) parameters [] x d.circle apart (λ r i. absurd (Contains-In r [] i));
+  opt_out_sound = λ x apart. nsec3_opt_out_sound z.origin z.denials (zone_hash z parameters) parameters d.names [] x d.chain apart (λ r i. absurd (Contains-In r [] i));
 }
   where
     -- no record denies nothing
@@ -133,14 +132,14 @@ hashed_code_alone z parameters q d c silent = record {
     no_data x t p = true≢false (sym (and_right (is_at_or_above z.origin x) false p))
 
 pub response_proves_by_hashes : ResponseProvesByHashes IsResponse
-response_proves_by_hashes z parameters q r d signed is = by (how_answered z q r (subst IsZone (sym d.denials) d.circle.zone) is)
+response_proves_by_hashes z parameters q r d signed is = by (how_answered z q r d.chain.zone is)
   where
-    by : HowAnswered z q r → ProvesByHashes z parameters q r
-    by (by_code_alone c why e) = subst (ProvesByHashes z parameters q) (sym e) (hashed_code_alone z parameters q d c (bare_is_silent z q c why))
+    by : HowAnswered z q r → ProvesByHashes z parameters d.names q r
+    by (by_code_alone c why e) = subst (ProvesByHashes z parameters d.names q) (sym e) (hashed_code_alone z parameters q d c (bare_is_silent z q c why))
     by (by_parts h) = record {
       says = record {
         answers = hashed.answers_proved z parameters q r d signed h;
-        signatures = λ t other all s i. signed_in_authority z d.circle.zone t other all s (hashed.authorities_proved z parameters q r d signed h s i);
+        signatures = λ t other all s i. signed_in_authority z d.chain.zone t other all s (hashed.authorities_proved z parameters q r d signed h s i);
         told = hashed.reached_proved z parameters q r d signed h;
         error = denied.error_said z parameters q r d signed h;
         empty = empty.empty_said z parameters q r d signed h;

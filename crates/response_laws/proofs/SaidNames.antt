@@ -3,9 +3,10 @@ use Rattle.std.proofs.Common.{◌≡◌, ℕ, Bool, true, false, cond, List, [],
 use Rattle.std.specs.Prelude.{Option, Some, None, option_to_list, ◌==◌}
 use Rattle.zone_proto.specs.Names.{Name, lower, IsAbove}
 use Rattle.zone_proto.specs.Sets.{RRset}
-use Rattle.zone_proto.specs.Types.{NS, DS}
+use Rattle.zone_proto.specs.Types.{NS, SOA, DS}
 use Rattle.zone_proto.proofs.Members.{In, In-Contains, In-from_append, In-append_left}
 use Rattle.zone_map.specs.Zones.{set_at, owns, IsZone}
+use Rattle.zone_denial.specs.Chains.{chain_sets}
 use Rattle.zone_denial.proofs.Chain.NsecBelow.{above_at}
 use Rattle.denial_validation.specs.NsecProofs.{DNAME}
 use Rattle.zone_response.specs.declared.response.Part.TheVariants as part
@@ -13,7 +14,7 @@ use Rattle.zone_response.specs.Queries.{Zone, Query, inquiry}
 use Rattle.zone_response.specs.Responses.{negative_ttl, child_ds, ds_at, end_sets}
 use Rattle.zone_response.specs.Dname.{in_place_of, made_alias}
 use Rattle.zone_response.specs.Sections.{Sections, as_it_is, part_for}
-use Rattle.zone_response.specs.Steps.{End, referred, missing}
+use Rattle.zone_response.specs.Steps.{End, complete, referred, missing, outside, unfollowed, too_long, failed}
 use Rattle.zone_response.specs.Descent.{cut}
 use Rattle.response_laws.specs.HashedSayings.{IsReached}
 use Rattle.response_laws.specs.ProvedSayings.{IsAliasData, HasAuthority}
@@ -21,6 +22,7 @@ use Rattle.response_laws.specs.Sayings.{Saying, data_of, name_error, no_data, re
 use Rattle.response_laws.proofs.Authorities.{proof_is, front_is}
 use Rattle.response_laws.proofs.Dnames.{sent_dname_target}
 use Rattle.response_laws.proofs.LastNames.{IsMissing, IsAliasAsked, IsReferred}
+use Rattle.response_laws.proofs.LentSets.{set_kept, lends}
 use Rattle.response_laws.proofs.OwnerSets.{AreOwners}
 use Rattle.response_laws.proofs.Parts.{path_of, as_proof, IsMadeOf}
 use Rattle.response_laws.proofs.Said.{Said, says_nothing, says_data, says_referral, says_missing, said, referred_stands}
@@ -72,13 +74,29 @@ module _ (z : Zone) (q : Query) (r : Sections) (zone : IsZone z.sets) (signed : 
   among : (e : End) → ends ≡ e → (s : RRset) → In s (end_sets (ds_at z.sets e) true h.soa e) → In s r.authorities
   among e g s i = subst (In s) (sym (authorities_are ∙ ap (λ e. end_sets (ds_at z.sets e) true h.soa e ++ proofs) g)) (In-append_left s (end_sets (ds_at z.sets e) true h.soa e) proofs i)
 
-  -- each set is the zone's, where the sets of denial are
-  pub authority_of : (t : ℕ) → (t == NS) ≡ false → AreOwners t z.sets h.proofs → (s : RRset) → In s r.authorities → IsSentSet z.sets (authority_part s) s
-  authority_of t other owners s i = by (In-from_append s (end_sets (ds_at z.sets ends) true h.soa ends) proofs (subst (In s) authorities_are i))
-    where
-      by : In s (end_sets (ds_at z.sets ends) true h.soa ends) ⊎ In s proofs → IsSentSet z.sets (authority_part s) s
-      by (inl k) = front_is z.sets zone z.origin h.soa ends h.stands (referred_stands z zone q r h) s k
-      by (inr k) = proof_is z.sets zone t other (negative_ttl h.soa) h.proofs owners s k
+  -- each set is one of those that the zone lends, where the sets of denial are
+  module _ (same : z.denials ≡ chain_sets z.nx_proof_kind z.sets) where
+    front_same : (e : End) → end_sets (ds_at z.sets e) true h.soa e ≡ end_sets (ds_at z.denials e) true h.soa e
+    front_same (referred c) = ap (λ ds. end_sets ds true h.soa (referred c)) (sym (set_kept z same (lower c.owner) DS refl))
+    front_same (missing x star there) = refl
+    front_same complete = refl
+    front_same (outside x) = refl
+    front_same unfollowed = refl
+    front_same too_long = refl
+    front_same failed = refl
+
+    stands_there : (c : RRset) → ends ≡ referred c → (n : Name) × (set_at z.denials n NS ≡ Some c)
+    stands_there c e = let n = referred_stands z zone q r h c e in (n.0, set_kept z same n.0 NS refl ∙ n.1)
+
+    pub authority_of : (t : ℕ) → (t == NS) ≡ false → AreOwners t z.denials h.proofs → (s : RRset) → In s r.authorities → IsSentSet z.denials (authority_part s) s
+    authority_of t other owners s i = by (In-from_append s (end_sets (ds_at z.sets ends) true h.soa ends) proofs (subst (In s) authorities_are i))
+      where
+        lent : IsZone z.denials
+        lent = (lends z same zone).zone
+
+        by : In s (end_sets (ds_at z.sets ends) true h.soa ends) ⊎ In s proofs → IsSentSet z.denials (authority_part s) s
+        by (inl k) = front_is z.denials lent z.origin h.soa ends (set_kept z same z.origin SOA refl ∙ h.stands) stands_there s (subst (In s) (front_same ends) k)
+        by (inr k) = proof_is z.denials lent t other (negative_ttl h.soa) h.proofs owners s k
 
   -- ---- a negative response
 

@@ -30,9 +30,9 @@ module _ (origin : Name) (s : RRset) where
       (In-map (with_ttl ttl) r.0 (own_signatures s) (In-filter (λ (r : Record). covers s.record_type r.rdata) r.0 s.signatures r.1 (covers_type r.0.rdata r.2))) r.2
 
 -- a set of the authority section that isn't NS is signed where the zone's sets of its type are
-pub signed_in_authority : (z : Zone) → IsZone z.sets → (t : ℕ) → t ≢ NS → AreSigned z t → (s : RRset) → IsSentSet z.sets (authority_part s) s → s.record_type ≡ t → is_signed_by z.origin s ≡ true
+pub signed_in_authority : (z : Zone) → IsZone z.denials → (t : ℕ) → t ≢ NS → AreSigned z t → (s : RRset) → IsSentSet z.denials (authority_part s) s → s.record_type ≡ t → is_signed_by z.origin s ≡ true
 signed_in_authority z zone t other all s set is =
-    ap (is_signed_by z.origin) sent_signed ∙ signed_as_sent z.origin set.stored set.ttl (all set.name set.stored (ap (set_at z.sets set.name) type' ∙ set.stands))
+    ap (is_signed_by z.origin) sent_signed ∙ signed_as_sent z.origin set.stored set.ttl (all set.name set.stored (ap (set_at z.denials set.name) type' ∙ set.stands))
   where
     signed_part : authority_part s ≡ part.Signed
     signed_part = ap (λ u. cond (u == NS) part.Records part.Signed) is ∙ ap (λ b. cond b part.Records part.Signed) (differs t NS other)

@@ -3,19 +3,23 @@ use Rattle.std.proofs.Common.{◌≡◌, true, false, List, refl, sym, ap, ◌�
 use Rattle.std.specs.Prelude.{Some, option_map}
 use Rattle.zone_proto.specs.Names.{Name, lower, IsAbove, star_under}
 use Rattle.zone_proto.specs.Sets.{RRset}
-use Rattle.zone_proto.specs.Types.{NS, NSEC}
+use Rattle.zone_proto.specs.Types.{NS, NSEC, NSEC3}
 use Rattle.zone_proto.proofs.Members.{In}
 use Rattle.zone_proto.proofs.Names.NameTree.{above_test}
 use Rattle.zone_map.specs.Wildcards.{exists, closest_encloser}
 use Rattle.zone_map.specs.Zones.{set_at, owns_at_or_below}
-use Rattle.zone_denial.specs.NsecDenial.{closest_nsec, nsec_encloser}
-use Rattle.zone_denial.proofs.Chain.NsecAskedStar.{enclosers_agree}
+use Rattle.zone_denial.specs.Chains.{chain_sets}
+use Rattle.zone_denial.specs.NsecDenial.{nsec_encloser}
+use Rattle.zone_denial.specs.StarLaws.{OwnsNone}
 use Rattle.zone_denial.proofs.Chain.NsecLists.{off_circle}
+use Rattle.zone_denial.proofs.Chains.ChainSets.{one_kind}
+use Rattle.zone_denial.proofs.Chains.NsecAskedStar.{exists_is, enclosers_agree}
 use Rattle.denial_validation.specs.NsecRecords.{read_nsec}
-use Rattle.denial_laws.specs.Judged.{read, AreOfZone, IsJudged}
-use Rattle.denial_laws.proofs.Readings.{record_at, read_set}
-use Rattle.denial_laws.proofs.Speaking.{below_origin}
-use Rattle.denial_laws.proofs.Stars.{exists_is}
+use Rattle.denial_laws.specs.Chains.{IsJudgedInChain}
+use Rattle.denial_laws.specs.Judged.{read, AreOfZone}
+use Rattle.denial_laws.proofs.Chains.Readings.{record_at, read_set}
+use Rattle.denial_laws.proofs.Chains.Speaking.{below_origin}
+use Rattle.denial_laws.proofs.Chains.Stars.{undnamed}
 use Rattle.zone_response.specs.Queries.{Zone, Query, inquiry}
 use Rattle.zone_response.specs.Responses.{negative_ttl, ds_at, end_sets}
 use Rattle.zone_response.specs.Sections.{Sections}
@@ -23,7 +27,7 @@ use Rattle.zone_response.specs.Wildcards.{star_of}
 use Rattle.response_laws.specs.HashedSayings.{IsReached}
 use Rattle.response_laws.specs.ProvedSayings.{DeniesByNsec, shown}
 use Rattle.response_laws.proofs.LastNames.{IsReferred}
-use Rattle.response_laws.proofs.NsecSets.{AreOwnersNsec}
+use Rattle.response_laws.proofs.LentSets.{exists_kept, encloser_kept, reached_kept, unreferred_kept}
 use Rattle.response_laws.proofs.Parts.{path_of, told_names, IsMadeOf}
 use Rattle.response_laws.proofs.ReadSets.{nsec_reader, read_of_zone, read_proof}
 use Rattle.response_laws.proofs.SaidNames.{reached_unturned, reached_cut, authorities_are, authority_of}
@@ -33,30 +37,36 @@ use Rattle.response_laws.proofs.Told.{IsTold, has_closest}
 
 -- ---- names that are judged
 
-judged : (z : Zone) → DeniesByNsec z → (y : Name) → IsReached z.origin z.sets y → IsJudged z.origin z.sets y
-judged z d y r = record { zone = d.circle; one_kind = d.one_kind; unreferred = d.top.unreferred; inside = r.inside; uncut = r.uncut; no_dname = r.no_dname }
+-- what denies has no sets of NSEC3
+pub no_nsec3 : (z : Zone) → DeniesByNsec z → OwnsNone z.denials NSEC3
+no_nsec3 z d = subst (λ m. OwnsNone m NSEC3) (sym (d.denials ∙ ap (λ k. chain_sets k z.sets) d.kind)) (one_kind z.sets d.zone).nsec
+
+judged : (z : Zone) → DeniesByNsec z → (y : Name) → IsReached z.origin z.sets y → IsJudgedInChain z.origin z.denials y
+judged z d y r =
+    let k = reached_kept z d.denials y r in
+    record { zone = d.chain; one_kind = no_nsec3 z d; unreferred = unreferred_kept z d.denials d.top; inside = k.inside; uncut = k.uncut; no_dname = k.no_dname }
 
 -- the search ends at a name that nothing turns
-pub judged_unturned : (z : Zone) (q : Query) → DeniesByNsec z → (y : Name) → IsUnturned (inquiry z q) y → IsJudged z.origin z.sets y
+pub judged_unturned : (z : Zone) (q : Query) → DeniesByNsec z → (y : Name) → IsUnturned (inquiry z q) y → IsJudgedInChain z.origin z.denials y
 judged_unturned z q d y u = judged z d y (reached_unturned z q d.top.no_dname y u)
 
 -- or at a cut
-pub judged_cut : (z : Zone) (q : Query) → DeniesByNsec z → (y : Name) (c : RRset) → IsReferred (inquiry z q) y c → (set_at z.sets (lower c.owner) NS ≡ Some c) × IsJudged z.origin z.sets (lower c.owner)
-judged_cut z q d y c h = let k = reached_cut z q d.top.no_dname d.circle.zone y c h in (k.stands, judged z d (lower c.owner) k.reached)
+pub judged_cut : (z : Zone) (q : Query) → DeniesByNsec z → (y : Name) (c : RRset) → IsReferred (inquiry z q) y c → (set_at z.sets (lower c.owner) NS ≡ Some c) × IsJudgedInChain z.origin z.denials (lower c.owner)
+judged_cut z q d y c h = let k = reached_cut z q d.top.no_dname d.zone y c h in (k.stands, judged z d (lower c.owner) k.reached)
 
 -- ---- a name that isn't there
 
 -- it owns nothing, nor does a name below it
-pub unowned : (z : Zone) (d : DeniesByNsec z) (y : Name) → exists z.sets y ≡ false → owns_at_or_below z.sets y ≡ false
-unowned z d y absent = sym (exists_is z.origin z.sets d.circle d.one_kind y) ∙ absent
+pub unowned : (z : Zone) (d : DeniesByNsec z) (y : Name) → exists z.sets y ≡ false → owns_at_or_below z.denials y ≡ false
+unowned z d y absent = sym (exists_is z.origin z.denials d.chain (no_nsec3 z d) y) ∙ exists_kept z d.denials y ∙ absent
 
--- its star is the one under the encloser that the circle has
-pub star_is : (z : Zone) (d : DeniesByNsec z) (y : Name) → IsJudged z.origin z.sets y → exists z.sets y ≡ false
-    → (closest_encloser z.sets y ≡ Some (nsec_encloser z.origin z.sets y)) × (star_of z.sets y ≡ Some (star_under (nsec_encloser z.origin z.sets y)))
+-- its star is the one under the encloser that the chain has
+pub star_is : (z : Zone) (d : DeniesByNsec z) (y : Name) → IsJudgedInChain z.origin z.denials y → exists z.sets y ≡ false
+    → (closest_encloser z.denials y ≡ Some (nsec_encloser z.origin z.denials y)) × (star_of z.sets y ≡ Some (star_under (nsec_encloser z.origin z.denials y)))
 star_is z d y j absent =
-    let over : IsAbove z.origin y = below_origin z.origin z.sets y j (off_circle z.sets y (unowned z d y absent)) in
-    let e = enclosers_agree z.origin z.sets d.circle d.one_kind y ((above_test z.origin y).1 over) j.uncut in
-    (e, ap (option_map star_under) e)
+    let over : IsAbove z.origin y = below_origin z.origin z.denials y j (off_circle z.denials y (unowned z d y absent)) in
+    let e = enclosers_agree z.origin z.denials d.chain (no_nsec3 z d) y ((above_test z.origin y).1 over) j.uncut (undnamed z.origin z.denials y j) in
+    (e, ap (option_map star_under) (sym (encloser_kept z d.denials y) ∙ e))
 
 -- ---- what is shown
 
@@ -64,21 +74,21 @@ module _ (z : Zone) (q : Query) (r : Sections) (d : DeniesByNsec z) (signed : q.
   abbrev front : List RRset
   front = end_sets (ds_at z.sets (path_of z q).end) true h.soa (path_of z q).end
 
-  pub tells : (y : Name) (j : IsJudged z.origin z.sets y) → In y (told_names z q (path_of z q).end) → IsTold z.origin z.sets j.zone (shown r) y
+  pub tells : (y : Name) (j : IsJudgedInChain z.origin z.denials y) → In y (told_names z q (path_of z q).end) → IsTold z.origin z.denials j.zone (shown r) y
   tells y j i =
-      let c = has_closest z.origin z.sets y j in
+      let c = has_closest z.origin z.denials y j in
       record {
         owner = c.owner;
         among =
-            subst (λ (sets : List RRset). In (record_at z.origin z.sets j.zone c.owner) (read sets)) (sym (authorities_are z q r d.circle.zone signed h))
-            (read_proof read_nsec NSEC nsec_reader (negative_ttl h.soa) h.proofs c.set (record_at z.origin z.sets j.zone c.owner) (h.tells d.kind signed y c.set i (ap (λ m. closest_nsec m y) d.denials ∙ c.closest))
-            (subst (In (record_at z.origin z.sets j.zone c.owner)) (sym (read_set z.origin z.sets j.zone c.owner c.set c.stands)) (inl refl)) front);
+            subst (λ (sets : List RRset). In (record_at z.origin z.denials j.zone c.owner) (read sets)) (sym (authorities_are z q r d.zone signed h))
+            (read_proof read_nsec NSEC nsec_reader (negative_ttl h.soa) h.proofs c.set (record_at z.origin z.denials j.zone c.owner) (h.tells d.kind signed y c.set i c.closest)
+            (subst (In (record_at z.origin z.denials j.zone c.owner)) (sym (read_set z.origin z.denials j.zone c.owner c.set c.stands)) (inl refl)) front);
         where' = c.where';
       }
 
-  -- each set is the zone's
-  pub authority_is : (s : RRset) → In s r.authorities → IsSentSet z.sets (authority_part s) s
-  authority_is = authority_of z q r d.circle.zone signed h NSEC refl (subst (λ m. AreOwnersNsec m h.proofs) d.denials (h.owners d.kind))
+  -- each set is one of those that the zone lends
+  pub authority_is : (s : RRset) → In s r.authorities → IsSentSet z.denials (authority_part s) s
+  authority_is = authority_of z q r d.zone signed h d.denials NSEC refl (h.owners d.kind)
 
-  pub shown_of_zone : AreOfZone z.sets (shown r)
-  shown_of_zone = read_of_zone read_nsec NSEC nsec_reader z.sets d.circle.zone r.authorities authority_is
+  pub shown_of_zone : AreOfZone z.denials (shown r)
+  shown_of_zone = read_of_zone read_nsec NSEC nsec_reader z.denials d.chain.zone r.authorities authority_is

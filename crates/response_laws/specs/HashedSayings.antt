@@ -1,18 +1,18 @@
 -- What a response of a zone that denies by NSEC3 proves to a validator, with opt-out and without
 use Rattle.std.specs.Prelude.{◌≡◌, ◌≢◌, ℕ, Bool, ◌⊎◌, ◌&&◌, cond, List, flat_map, Option, Some, ◌==◌, IsTrue, IsFalse, true}
+use Rattle.std.specs.List.{Contains}
 use Rattle.zone_proto.specs.declared.nx_proof_kind.NxProofKind.TheVariants as kind
 use Rattle.zone_proto.specs.declared.rdata.denial.NSEC3PARAM.{NSEC3PARAM as Nsec3Parameters}
 use Rattle.zone_proto.specs.declared.record.Record.{Record}
 use Rattle.zone_proto.specs.Names.{Name, is_at_or_above, IsAbove, star_under, is_wildcard}
 use Rattle.zone_proto.specs.Sets.{RRset}
-use Rattle.zone_proto.specs.Types.{NS, CNAME, DS, RRSIG, NSEC, NSEC3}
+use Rattle.zone_proto.specs.Types.{NS, CNAME, DS, RRSIG, NSEC3}
 use Rattle.zone_map.specs.Wildcards.{exists, renamed}
-use Rattle.zone_map.specs.Zones.{Sets, set_at, owns}
+use Rattle.zone_map.specs.Zones.{Sets, IsZone, set_at, owns}
 use Rattle.zone_denial.specs.Authority.{is_below_cut}
-use Rattle.zone_denial.specs.Nsec3Denial.{closest_encloser}
-use Rattle.zone_denial.specs.Nsec3Names.{is_unsigned_delegation}
-use Rattle.zone_denial.specs.Nsec3Zones.{hash_with, IsNsec3Zone, IsCircleName, IsHashed, TellsApart}
-use Rattle.zone_denial.specs.StarLaws.{OwnsNone}
+use Rattle.zone_denial.specs.Chains.{chain_sets, IsNsec3Chain}
+use Rattle.zone_denial.specs.Nsec3Denial.{encloser_on}
+use Rattle.zone_denial.specs.Nsec3Zones.{hash_with, IsHashedOn, TellsApart}
 use Rattle.denial_validation.specs.declared.proof.Proof.{Proof}
 use Rattle.denial_validation.specs.declared.proof.Proof.TheVariants.{NameError, UnsignedDelegation, WildcardNoData}
 use Rattle.denial_validation.specs.Judgement.{nsec3_proof}
@@ -21,8 +21,9 @@ use Rattle.denial_validation.specs.Nsec3Proofs.{proves_name_error, proves_no_dat
 use Rattle.denial_validation.specs.Nsec3Records.{Nsec3Record}
 use Rattle.denial_laws.specs.Judged.{is_parents_ds}
 use Rattle.denial_laws.specs.Nsec3Calls.{told}
-use Rattle.denial_laws.specs.Nsec3Judged.{read_nsec3_sets, AreNsec3OfZone, IsNsec3Judged}
-use Rattle.denial_laws.specs.Nsec3Soundness.{IsNsec3Sound, IsLeftOut, IsOptOutSound}
+use Rattle.denial_laws.specs.Nsec3Chains.{IsNsec3JudgedInChain, IsLeftOutOn, IsOptOutSoundOn}
+use Rattle.denial_laws.specs.Nsec3Judged.{read_nsec3_sets, AreNsec3OfZone}
+use Rattle.denial_laws.specs.Nsec3Soundness.{IsNsec3SoundOn}
 use Rattle.denial_laws.specs.Soundness.{IsNoName, IsWithoutData, IsUnflattened, IsUnsignedDelegation}
 use Rattle.zone_response.specs.Queries.{Zone, Query}
 use Rattle.zone_response.specs.Sections.{Sections}
@@ -36,17 +37,22 @@ use Rattle.response_laws.specs.Servers.{Server}
 abbrev pub zone_hash : Zone → Nsec3Parameters → Name → Option (List ℕ)
 zone_hash z parameters = hash_with z.digest_of parameters
 
--- a zone that denies by NSEC3 alone, with these parameters, as it is once it is secured
+-- a zone that denies by NSEC3 with these parameters: without the sets of NSEC and of other chains of NSEC3 that it may have besides, its NSEC3 sets are a chain, as BIND, ldns, Knot and this library write it
 pub record DeniesByNsec3 (z : Zone) (parameters : Nsec3Parameters) : Type 0 where
-  pub kind : z.nx_proof_kind ≡ Some (kind.Nsec3 parameters.algorithm parameters.salt parameters.iterations parameters.opt_out)
-  pub denials : z.denials ≡ z.sets
-  pub circle : IsNsec3Zone z.origin z.sets (zone_hash z parameters) parameters
-  pub one_kind : OwnsNone z.sets NSEC
+  -- the flag Opt-Out is that of the NSEC3 records; the one that NSEC3PARAM has says nothing (RFC 5155 section 4.1.2)
+  pub flag : Bool
+  pub kind : z.nx_proof_kind ≡ Some (kind.Nsec3 parameters.algorithm parameters.salt parameters.iterations flag)
+  pub zone : IsZone z.sets
+  -- what denies are the zone's sets without those of denial that don't belong to its chain; what stands there otherwise is the same
+  pub denials : z.denials ≡ chain_sets z.nx_proof_kind z.sets
+  -- the names that have NSEC3 sets
+  pub names : List Name
+  pub chain : IsNsec3Chain z.origin z.denials (zone_hash z parameters) parameters names
   pub top : IsUnreferred z
 
--- the hash tells apart the names that a denial of x hashes, and those of the circle
-abbrev pub HashesApart : Zone → Nsec3Parameters → Name → Type 0
-HashesApart z parameters x = TellsApart (IsHashed z.origin z.sets parameters.opt_out x) (zone_hash z parameters)
+-- the hash tells apart the names that a denial of x hashes, and those that have NSEC3 sets
+abbrev pub HashesApart : Zone → Nsec3Parameters → List Name → Name → Type 0
+HashesApart z parameters names x = TellsApart (IsHashedOn names x) (zone_hash z parameters)
 
 -- a name of the zone above which neither a zone cut nor a DNAME stands
 pub record IsReached (origin : Name) (m : Sets) (x : Name) : Type 0 where
@@ -72,36 +78,32 @@ proof_in z parameters r x t = nsec3_proof z.origin (zone_hash z parameters) (sho
 abbrev pub shown_records : Sections → List Record
 shown_records r = flat_map (λ s. s.records) r.authorities
 
--- opt-out leaves n out if it owns nothing but NS (RFC 5155 section 6)
-abbrev pub may_leave_out : Bool → Sets → Name → Bool
-may_leave_out opt_out m n = opt_out && is_unsigned_delegation m n
-
--- a set as it is found for a name by a star: the star's under that name, for which the star may answer, as the records rs prove unless opt-out leaves the star out (RFC 5155 section 7.2.6)
-pub record IsHashedFoundByStar (z : Zone) (parameters : Nsec3Parameters) (rs : List Nsec3Record) (name : Name) (record_type : ℕ) (found : RRset) : Type 0 where
+-- a set as it is found for a name by a star: the star's under that name, for which the star may answer, as the records rs prove (RFC 5155 section 7.2.6): with opt-out only if the name over the star has an NSEC3 set, as it has unless the star and what is below that name are left out
+pub record IsHashedFoundByStar (z : Zone) (parameters : Nsec3Parameters) (names : List Name) (rs : List Nsec3Record) (name : Name) (record_type : ℕ) (found : RRset) : Type 0 where
   pub encloser : Name
   pub stored : RRset
   pub stands : set_at z.sets (star_under encloser) record_type ≡ Some stored
   pub made : found ≡ renamed true (star_under encloser) name stored
-  pub proved : HashesApart z parameters name → IsFalse (may_leave_out parameters.opt_out z.sets (star_under encloser)) → IsTrue (proves_wildcard_answer z.origin (zone_hash z parameters) rs name encloser)
+  pub proved : HashesApart z parameters names name → (IsTrue parameters.opt_out → Contains names encloser) → IsTrue (proves_wildcard_answer z.origin (zone_hash z parameters) rs name encloser)
 
 -- ---- a name error
 
 -- the standard has a proof of a name error of x: always without opt-out, and with it only where no star exists under the closest encloser that has an NSEC3 set, since that star is to be denied (RFC 5155 section 7.2.2). Above an empty name that opt-out leaves out one may stand
-abbrev pub HasErrorProof : Zone → Nsec3Parameters → Name → Type 0
-HasErrorProof z parameters x = IsTrue parameters.opt_out → (e : Name) → closest_encloser z.origin z.sets parameters.opt_out x ≡ Some e → IsFalse (exists z.sets (star_under e))
+abbrev pub HasErrorProof : Zone → Nsec3Parameters → List Name → Name → Type 0
+HasErrorProof z parameters names x = IsTrue parameters.opt_out → (e : Name) → encloser_on names x ≡ Some e → IsFalse (exists z.sets (star_under e))
 
 -- what the records of a name error sum up to. With opt-out it is insecure (RFC 5155 section 9.2), and of DS no more than that the name may be an unsigned delegation (section 8.6)
 abbrev pub error_proof : Bool → ℕ → Proof
 error_proof opt_out t = cond (t == DS && opt_out) UnsignedDelegation (NameError opt_out)
 
 -- there is no such name, and that is proved (RFC 5155 section 7.2.2). With opt-out no more is proved of it than that what is there is left out
-pub record IsHashedError (z : Zone) (parameters : Nsec3Parameters) (r : Sections) (x : Name) : Type 0 where
-  pub proved : HasErrorProof z parameters x → IsTrue (proves_name_error z.origin (zone_hash z parameters) (shown_nsec3 r) x)
-  pub told : HasErrorProof z parameters x → (t : ℕ) → proof_in z parameters r x t ≡ Some (error_proof parameters.opt_out t)
+pub record IsHashedError (z : Zone) (parameters : Nsec3Parameters) (names : List Name) (r : Sections) (x : Name) : Type 0 where
+  pub proved : HasErrorProof z parameters names x → IsTrue (proves_name_error z.origin (zone_hash z parameters) (shown_nsec3 r) x)
+  pub told : HasErrorProof z parameters names x → (t : ℕ) → proof_in z parameters r x t ≡ Some (error_proof parameters.opt_out t)
   -- the star that is denied, under the closest encloser that has an NSEC3 set, is the one that is asked for x; with opt-out another may be asked
-  pub one_star : IsFalse parameters.opt_out → (e : Name) → closest_encloser z.origin z.sets parameters.opt_out x ≡ Some e → star_of z.sets x ≡ Some (star_under e)
-  pub left_out : IsLeftOut z.origin z.sets parameters.opt_out x
-  pub none : IsFalse parameters.opt_out → IsFalse (owns z.sets x NSEC3) → IsNoName z.origin z.sets x
+  pub one_star : IsFalse parameters.opt_out → (e : Name) → encloser_on names x ≡ Some e → star_of z.sets x ≡ Some (star_under e)
+  pub left_out : IsLeftOutOn z.origin z.denials parameters.opt_out names x
+  pub none : IsFalse parameters.opt_out → IsFalse (owns z.denials x NSEC3) → IsNoName z.origin z.denials x
 
 -- ---- no data
 
@@ -118,8 +120,8 @@ pub record HasNoHashedStandIn (m : Sets) (x : Name) (t : ℕ) : Type 0 where
   pub star : IsFalse (exists m x) → (w : Name) → star_of m x ≡ Some w → IsUnflattened m w t
 
 -- opt-out leaves x out: it has no NSEC3 set
-abbrev pub HasNoHashedSet : Zone → Nsec3Parameters → Name → Type 0
-HasNoHashedSet z parameters x = IsTrue parameters.opt_out × (IsCircleName z.origin z.sets parameters.opt_out x → ⊥)
+abbrev pub HasNoHashedSet : Nsec3Parameters → List Name → Name → Type 0
+HasNoHashedSet parameters names x = IsTrue parameters.opt_out × (Contains names x → ⊥)
 
 -- what may not be taken as secure (RFC 5155 section 9.2)
 abbrev pub IsInsecure : Option Proof → Type 0
@@ -129,18 +131,18 @@ IsInsecure (Some UnsignedDelegation) = Unit {0}
 IsInsecure _ = ⊥
 
 -- what no data by its own record says of a name, with opt-out too: it has an NSEC3 set, and owns neither a set of the type nor an alias
-pub record IsLacking (z : Zone) (parameters : Nsec3Parameters) (x : Name) (t : ℕ) : Type 0 where
-  pub on_circle : IsCircleName z.origin z.sets parameters.opt_out x
-  pub none : t ≢ NSEC3 → IsFalse (owns z.sets x t)
+pub record IsLacking (z : Zone) (names : List Name) (x : Name) (t : ℕ) : Type 0 where
+  pub named : Contains names x
+  pub none : t ≢ NSEC3 → IsFalse (owns z.denials x t)
   pub no_alias : IsFalse (owns z.sets x CNAME)
 
 -- a name has no data of a type, and that is proved (RFC 5155 sections 7.2.3 to 7.2.5). Where opt-out leaves the name out, what is proved of it is insecure, and of DS that it may be an unsigned delegation
-pub record IsHashedEmpty (z : Zone) (parameters : Nsec3Parameters) (r : Sections) (x : Name) (t : ℕ) : Type 0 where
+pub record IsHashedEmpty (z : Zone) (parameters : Nsec3Parameters) (names : List Name) (r : Sections) (x : Name) (t : ℕ) : Type 0 where
   pub proved : IsHashedShowable z.origin z.sets x t → IsTrue (proves_empty_answer z.origin (zone_hash z parameters) (shown_nsec3 r) x t)
-  pub told : IsHashedShowable z.origin z.sets x t → IsEmptyProof t (proof_in z parameters r x t) ⊎ HasNoHashedSet z parameters x
-  pub unsigned : HasNoHashedSet z parameters x → t ≡ DS → proof_in z parameters r x t ≡ Some UnsignedDelegation
-  pub insecure : HasNoHashedSet z parameters x → IsInsecure (proof_in z parameters r x t) × IsLeftOut z.origin z.sets parameters.opt_out x
-  pub none : IsHashedShowable z.origin z.sets x t → IsFalse parameters.opt_out → IsFalse (is_wildcard x) → IsFalse (owns z.sets x NSEC3) → HasNoHashedStandIn z.sets x t → IsWithoutData z.origin z.sets x t
+  pub told : IsHashedShowable z.origin z.sets x t → IsEmptyProof t (proof_in z parameters r x t) ⊎ HasNoHashedSet parameters names x
+  pub unsigned : HasNoHashedSet parameters names x → t ≡ DS → proof_in z parameters r x t ≡ Some UnsignedDelegation
+  pub insecure : HasNoHashedSet parameters names x → IsInsecure (proof_in z parameters r x t) × IsLeftOutOn z.origin z.denials parameters.opt_out names x
+  pub none : IsHashedShowable z.origin z.sets x t → IsFalse parameters.opt_out → IsFalse (is_wildcard x) → IsFalse (owns z.denials x NSEC3) → HasNoHashedStandIn z.sets x t → IsWithoutData z.origin z.denials x t
 
 -- ---- a referral
 
@@ -153,20 +155,20 @@ pub record IsHashedUnsigned (z : Zone) (parameters : Nsec3Parameters) (r : Secti
 -- ---- all of it
 
 -- what is said of a name is proved where the hash tells the names apart that a denial of it hashes
-pub record ProvesByHashes (z : Zone) (parameters : Nsec3Parameters) (q : Query) (r : Sections) : Type 0 where
-  pub says : ProvesBy z q r (IsHashedFoundByStar z parameters (shown_nsec3 r)) (IsReached z.origin z.sets)
-      (λ x. HashesApart z parameters x → IsHashedError z parameters r x)
-      (λ x. HashesApart z parameters x → IsHashedEmpty z parameters r x q.record_type)
-      (λ c. HashesApart z parameters c → IsHashedUnsigned z parameters r c)
-  -- each NSEC3 record shown is the zone's, and they prove nothing of any name but what is so; with opt-out as far as that goes
-  pub records : AreNsec3OfZone z.sets (shown_nsec3 r)
-  pub sound : (x : Name) → IsNsec3Judged z.origin z.sets (zone_hash z parameters) parameters x → IsNsec3Sound z.origin z.sets (zone_hash z parameters) parameters.opt_out x (shown_nsec3 r)
-  pub opt_out_sound : (x : Name) → HashesApart z parameters x → IsOptOutSound z.origin z.sets (zone_hash z parameters) parameters.opt_out x (shown_nsec3 r)
-  pub data_sound : (x : Name) (t : ℕ) → HashesApart z parameters x → IsTrue (proves_no_data z.origin (zone_hash z parameters) (shown_nsec3 r) x t) → IsLacking z parameters x t
+pub record ProvesByHashes (z : Zone) (parameters : Nsec3Parameters) (names : List Name) (q : Query) (r : Sections) : Type 0 where
+  pub says : ProvesBy z q r (IsHashedFoundByStar z parameters names (shown_nsec3 r)) (IsReached z.origin z.sets)
+      (λ x. HashesApart z parameters names x → IsHashedError z parameters names r x)
+      (λ x. HashesApart z parameters names x → IsHashedEmpty z parameters names r x q.record_type)
+      (λ c. HashesApart z parameters names c → IsHashedUnsigned z parameters r c)
+  -- each NSEC3 record shown is of the zone's chain, and they prove nothing of any name but what is so; with opt-out as far as that goes
+  pub records : AreNsec3OfZone z.denials (shown_nsec3 r)
+  pub sound : (x : Name) → IsNsec3JudgedInChain z.origin z.denials (zone_hash z parameters) parameters names x → IsNsec3SoundOn z.origin z.denials (zone_hash z parameters) names x (shown_nsec3 r)
+  pub opt_out_sound : (x : Name) → HashesApart z parameters names x → IsOptOutSoundOn z.origin z.denials (zone_hash z parameters) parameters.opt_out names x (shown_nsec3 r)
+  pub data_sound : (x : Name) (t : ℕ) → HashesApart z parameters names x → IsTrue (proves_no_data z.origin (zone_hash z parameters) (shown_nsec3 r) x t) → IsLacking z names x t
   -- a validator finds the zone's parameters in what stands there: what it tells by these records is what they prove by the zone's hash
-  pub parameters_found : (x : Name) (t : ℕ) → HashesApart z parameters x → told_by z (shown_records r) x t ≡ proof_in z parameters r x t
+  pub parameters_found : (x : Name) (t : ℕ) → HashesApart z parameters names x → told_by z (shown_records r) x t ≡ proof_in z parameters r x t
 
 -- ---- each response to a query with DNSSEC
 
 abbrev pub ResponseProvesByHashes : Server → Type 0
-ResponseProvesByHashes server = (z : Zone) (parameters : Nsec3Parameters) (q : Query) (r : Sections) → DeniesByNsec3 z parameters → IsTrue q.signed → server z q r → ProvesByHashes z parameters q r
+ResponseProvesByHashes server = (z : Zone) (parameters : Nsec3Parameters) (q : Query) (r : Sections) → (d : DeniesByNsec3 z parameters) → IsTrue q.signed → server z q r → ProvesByHashes z parameters d.names q r

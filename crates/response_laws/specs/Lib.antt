@@ -7,3 +7,4 @@ pub mod Contents
 pub mod ProvedSayings
 pub mod HashedSayings
 pub mod Repeats
+pub mod SecuredZones

@@ -7,18 +7,18 @@ use Rattle.zone_proto.specs.declared.rdata.RData.TheVariants as V
 use Rattle.zone_proto.specs.declared.record.Record.{Record}
 use Rattle.zone_proto.specs.Names.{Name, lower, name_eq, IsAbove, star_under, is_wildcard, base_name}
 use Rattle.zone_proto.specs.Sets.{RRset}
-use Rattle.zone_proto.specs.Types.{NS, SOA, DS, RRSIG, NSEC3}
+use Rattle.zone_proto.specs.Types.{NS, SOA, DS, RRSIG}
 use Rattle.zone_map.specs.Wildcards.{exists, renamed}
-use Rattle.zone_map.specs.Zones.{Sets, set_at, owns}
+use Rattle.zone_map.specs.Zones.{Sets, IsZone, set_at, owns}
+use Rattle.zone_denial.specs.Chains.{chain_sets, IsNsecChain}
 use Rattle.zone_denial.specs.NsecDenial.{nsec_encloser}
-use Rattle.zone_denial.specs.NsecLaws.{IsNsecZone}
-use Rattle.zone_denial.specs.StarLaws.{OwnsNone}
 use Rattle.denial_validation.specs.declared.proof.Proof.{Proof}
 use Rattle.denial_validation.specs.declared.proof.Proof.TheVariants.{NameError, UnsignedDelegation, EmptyNonTerminal, NoData, WildcardNoData}
 use Rattle.denial_validation.specs.Judgement.{nsec_proof}
 use Rattle.denial_validation.specs.NsecProofs.{DNAME, proves_name_error, proves_empty_answer, proves_wildcard_answer, proves_unsigned_delegation}
 use Rattle.denial_validation.specs.NsecRecords.{NsecRecord}
-use Rattle.denial_laws.specs.Judged.{read, AreOfZone, Unreferred, IsJudged, is_parents_ds}
+use Rattle.denial_laws.specs.Chains.{IsJudgedInChain}
+use Rattle.denial_laws.specs.Judged.{read, AreOfZone, Unreferred, is_parents_ds}
 use Rattle.denial_laws.specs.Soundness.{IsNoName, IsWithoutData, IsUnflattened, IsUnsignedDelegation, IsSound}
 use Rattle.zone_response.specs.declared.response.Part.{Part}
 use Rattle.zone_response.specs.declared.response.Part.TheVariants as part
@@ -35,12 +35,13 @@ pub record IsUnreferred (z : Zone) : Type 0 where
   pub unreferred : Unreferred z.origin z.sets
   pub no_dname : (a : Name) → IsAbove a z.origin → IsFalse (owns z.sets a DNAME)
 
--- a zone that denies by NSEC alone, as it is once it is secured
+-- a zone that denies by NSEC: without the sets of NSEC3 that it may have besides, its NSEC sets are a chain, as BIND, ldns, Knot and this library write it
 pub record DeniesByNsec (z : Zone) : Type 0 where
   pub kind : z.nx_proof_kind ≡ Some kind.Nsec
-  pub denials : z.denials ≡ z.sets
-  pub circle : IsNsecZone z.origin z.sets
-  pub one_kind : OwnsNone z.sets NSEC3
+  pub zone : IsZone z.sets
+  -- what denies are the zone's sets without those of denial that don't belong to its chain; what stands there otherwise is the same
+  pub denials : z.denials ≡ chain_sets z.nx_proof_kind z.sets
+  pub chain : IsNsecChain z.origin z.denials
   pub top : IsUnreferred z
 
 -- ---- signatures
@@ -57,9 +58,9 @@ signs origin s _ = false
 abbrev pub is_signed_by : Name → RRset → Bool
 is_signed_by origin s = list_any (λ (r : Record). signs origin s r.rdata) s.signatures
 
--- each set of type t is signed so
+-- each set of type t is signed so, other chains aside
 abbrev pub AreSigned : Zone → ℕ → Type 0
-AreSigned z t = (n : Name) (s : RRset) → set_at z.sets n t ≡ Some s → IsTrue (is_signed_by z.origin s)
+AreSigned z t = (n : Name) (s : RRset) → set_at z.denials n t ≡ Some s → IsTrue (is_signed_by z.origin s)
 
 -- ---- by either kind
 
@@ -117,7 +118,7 @@ pub record IsFoundByStar (origin : Name) (m : Sets) (rs : List NsecRecord) (name
   pub made : found ≡ renamed true (star_under encloser) name stored
   pub proved : IsTrue (proves_wildcard_answer origin rs name encloser)
 
--- a type whose absence at x can be shown: not RRSIG, which every name on the circle owns; and not DS where the parent denies it. Where x doesn't exist, the same of the star under its closest encloser, which is no delegation either, since no standard says what that makes of x (RFC 4592 section 4.2)
+-- a type whose absence at x can be shown: not RRSIG, which the list of every signed name has; and not DS where the parent denies it. Where x doesn't exist, the same of the star under its closest encloser, which is no delegation either, since no standard says what that makes of x (RFC 4592 section 4.2)
 pub record IsShowable (origin : Name) (m : Sets) (x : Name) (t : ℕ) : Type 0 where
   pub no_signature : t ≢ RRSIG
   pub no_apex : t ≡ DS → IsFalse (is_parents_ds origin m x)
@@ -133,13 +134,13 @@ pub record HasNoStandIn (origin : Name) (m : Sets) (x : Name) (t : ℕ) : Type 0
 pub record IsProvedError (z : Zone) (r : Sections) (x : Name) : Type 0 where
   pub proved : IsTrue (proves_name_error z.origin (shown r) x)
   pub told : (t : ℕ) → nsec_proof z.origin (shown r) x t ≡ Some (NameError false)
-  pub none : IsNoName z.origin z.sets x
+  pub none : IsNoName z.origin z.denials x
 
 -- a name has no data of a type, and that is proved (RFC 4035 sections 3.1.3.1 and 3.1.3.4). A lookup asks no star for a name that begins with `*`
 pub record IsProvedEmpty (z : Zone) (r : Sections) (x : Name) (t : ℕ) : Type 0 where
-  pub proved : IsShowable z.origin z.sets x t → IsTrue (proves_empty_answer z.origin (shown r) x t)
-  pub told : IsShowable z.origin z.sets x t → IsFalse (is_wildcard x) → IsEmptyProof t (nsec_proof z.origin (shown r) x t)
-  pub none : IsShowable z.origin z.sets x t → IsFalse (is_wildcard x) → HasNoStandIn z.origin z.sets x t → IsWithoutData z.origin z.sets x t
+  pub proved : IsShowable z.origin z.denials x t → IsTrue (proves_empty_answer z.origin (shown r) x t)
+  pub told : IsShowable z.origin z.denials x t → IsFalse (is_wildcard x) → IsEmptyProof t (nsec_proof z.origin (shown r) x t)
+  pub none : IsShowable z.origin z.denials x t → IsFalse (is_wildcard x) → HasNoStandIn z.origin z.denials x t → IsWithoutData z.origin z.denials x t
 
 -- a zone cut has no DS, and that is proved (RFC 4035 section 3.1.4)
 pub record IsProvedUnsigned (z : Zone) (r : Sections) (c : Name) : Type 0 where
@@ -150,10 +151,10 @@ pub record IsProvedUnsigned (z : Zone) (r : Sections) (c : Name) : Type 0 where
 -- ---- all of it
 
 pub record ProvesWhatItSays (z : Zone) (q : Query) (r : Sections) : Type 0 where
-  pub says : ProvesBy z q r (IsFoundByStar z.origin z.sets (shown r)) (IsJudged z.origin z.sets) (IsProvedError z r) (λ x. IsProvedEmpty z r x q.record_type) (IsProvedUnsigned z r)
-  -- each NSEC record shown is the zone's, and they prove nothing of any name but what is so
-  pub records : AreOfZone z.sets (shown r)
-  pub sound : (x : Name) → IsJudged z.origin z.sets x → IsSound z.origin z.sets x (shown r)
+  pub says : ProvesBy z q r (IsFoundByStar z.origin z.sets (shown r)) (IsJudgedInChain z.origin z.denials) (IsProvedError z r) (λ x. IsProvedEmpty z r x q.record_type) (IsProvedUnsigned z r)
+  -- each NSEC record shown is of the zone's chain, and they prove nothing of any name but what is so
+  pub records : AreOfZone z.denials (shown r)
+  pub sound : (x : Name) → IsJudgedInChain z.origin z.denials x → IsSound z.origin z.denials x (shown r)
 
 -- ---- each response to a query with DNSSEC
 

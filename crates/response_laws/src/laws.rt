@@ -14,6 +14,7 @@ ghost use Rattle.response_laws.specs.NewNames.{OwnersAreReplaced, TargetsAreRead
 ghost use Rattle.response_laws.specs.ProvedSayings.{ResponseProvesWhatItSays};
 ghost use Rattle.response_laws.specs.Repeats.{SetsStandOnce};
 ghost use Rattle.response_laws.specs.Sayings.{ResponseSaysHowItEnds};
+ghost use Rattle.response_laws.specs.SecuredZones.{Nsec3ZonesDeny, NsecZonesDeny};
 
 /// Each response of each zone says how its search ends: where with the set that is asked for, that these are the data; at a zone cut,
 /// a referral to it; at a name without the set, a name error or no data (RFC 2308 section 2). Of a name outside the zone, of one that
@@ -82,14 +83,20 @@ pub fn targets_are_read()
     ensures owners { OwnersAreReplaced }
 {}
 
-/// Each response to a query with DNSSEC proves what it says, from a zone that denies by NSEC: its NSEC sets are a circle that the origin
-/// is on, as they are once it is secured, it has no NSEC3 sets, and nothing at its origin or above it refers elsewhere
-/// (`DeniesByNsec`). The NSEC records in its authority section prove a name error of the name of which it says so (RFC 4035 section
+/// Each response to a query with DNSSEC proves what it says, from a zone that denies by NSEC (`DeniesByNsec`): without the sets of NSEC3
+/// that it may have besides, its NSEC sets are a chain, as BIND, ldns, Knot and this library write it, and nothing at its origin or
+/// above it refers elsewhere. In such a chain a list is exactly what stands at a name; but at a zone cut it tells of NS, CNAME, SOA and
+/// DS alone, so that glue may be listed or not, and RRSIG is listed at least where something is signed (RFC 4035 section 2.3). Names
+/// below a DNAME may be in it or not.
+///
+/// The NSEC records in the authority section of the response prove a name error of the name of which it says so (RFC 4035 section
 /// 3.1.3.2), no data of a type (sections 3.1.3.1 and 3.1.3.4), a delegation without DS where a referral has no DS set (section
-/// 3.1.4), and that a star may answer where one did (section 3.1.3.3). They prove nothing of any judged name but what is so, since
-/// each set of the response is the zone's, but for the CNAME that a DNAME set of it makes, and the addresses for which an ANAME set of
-/// the zone stands in: these have a signature that was made for the response (`ProvesWhatItSays`). Below a DNAME it speaks of the new
-/// name; where CNAME or ANY is asked for there, that CNAME is the answer, and no NSEC record tells of its owner.
+/// 3.1.4), and that a star may answer where one did (section 3.1.3.3). They prove nothing of any judged name but what is so among the
+/// zone's sets without those of NSEC3, since each of them is of the chain; among these a search finds what it finds in the zone, sets of
+/// denial aside (`chain_sets_find_the_same` of `zone_denial`). Each set of the answer section is the zone's, or a star's that may
+/// answer, but for the CNAME that a DNAME set of it makes, and the addresses for which an ANAME set of the zone stands in: these have a
+/// signature that was made for the response (`ProvesWhatItSays`). Below a DNAME it speaks of the new name; where CNAME or ANY is asked
+/// for there, that CNAME is the answer, and no NSEC record tells of its owner.
 ///
 /// No data are proved of every type but RRSIG, and DS of an apex; and of a name that doesn't exist where the star that is asked for it
 /// owns no NS (RFC 4592 section 4.2), all told by `IsShowable`. So it is of a name whose ANAME leads to no addresses, for which a lookup
@@ -99,24 +106,38 @@ pub fn responses_prove_what_they_say()
     ensures { ResponseProvesWhatItSays IsResponse }
 {}
 
-/// Each response to a query with DNSSEC proves what it says, from a zone that denies by NSEC3, with opt-out or without: its NSEC3 sets
-/// are a circle, as they are once it is secured, its origin isn't the root, it has no NSEC sets, and nothing at its origin or above it
-/// refers elsewhere (`DeniesByNsec3`). All NSEC3 records in its authority section together prove a name error of the name of which it
-/// says so (RFC 5155 section 7.2.2), no data of a type (sections 7.2.3 to 7.2.5), a delegation without DS where a referral has no DS
-/// set (section 7.2.7), and that a star may answer where one did (section 7.2.6); and they prove nothing of any name but what is so,
-/// since each set of the response is the zone's, but for the CNAME that a DNAME set of it makes, and the addresses for which an ANAME
-/// set of the zone stands in, which have a signature that was made for the response (`ProvesByHashes`). Each is so of names for which
-/// the hash tells the names apart that a denial of them hashes (`HashesApart`). Below a DNAME it speaks of the new name; where CNAME or
-/// ANY is asked for there, that CNAME is the answer, and no NSEC3 record tells of its owner.
+/// Each response to a query with DNSSEC proves what it says, from a zone that denies by NSEC3, with opt-out or without
+/// (`DeniesByNsec3`): without the sets of NSEC and of other chains of NSEC3 that it may have besides, its NSEC3 sets are a chain, as
+/// BIND, ldns, Knot and this library write it, its origin isn't the root, and nothing at its origin or above it refers elsewhere. In
+/// such a chain the lists are as by NSEC. It goes through the names that the zone is authoritative for and those between them and the
+/// origin; names below a DNAME may be left out, and with opt-out delegations without DS, whatever glue stands there (RFC 5155 sections
+/// 6 and 7.1). Whether it has opt-out is told by its own records, and not by NSEC3PARAM (section 4.1.2).
+///
+/// All NSEC3 records in the authority section of the response together prove a name error of the name of which it says so (RFC 5155
+/// section 7.2.2), no data of a type (sections 7.2.3 to 7.2.5), a delegation without DS where a referral has no DS set (section 7.2.7),
+/// and that a star may answer where one did (section 7.2.6); and they prove nothing of any name but what is so among the zone's sets
+/// without those of other chains, since each of them is of the chain. Each set of the answer section is the zone's, or a star's that may
+/// answer, but for the CNAME that a DNAME set of it makes, and the addresses for which an ANAME set of the zone stands in, which have a
+/// signature that was made for the response (`ProvesByHashes`). Each is so of names for which the hash tells apart those that a denial
+/// of them hashes, and those of the chain (`HashesApart`). Below a DNAME it speaks of the new name; where CNAME or ANY is asked for
+/// there, that CNAME is the answer, and no NSEC3 record tells of its owner.
 ///
 /// With opt-out what is proved of a name that has no NSEC3 set says less, and is insecure (section 9.2): what is there is an unsigned
-/// delegation that is left out, or stands below a zone cut (`IsLeftOut`). One name error has no proof then: that of a name below an
-/// empty name that is left out, where a star stands above it (`HasErrorProof`); nor has the answer of a star that owns nothing but NS
-/// and is left out.
+/// delegation that is left out, or stands below a zone cut or a DNAME (`IsLeftOutOn`). One name error has no proof then: that of a name
+/// below an empty name that is left out, where a star stands above it (`HasErrorProof`); nor has the answer of a star, if the name over
+/// that star has no NSEC3 set.
 ///
 /// That there are no data is proved as by NSEC: of every type but RRSIG, and DS of an apex; and of a name that doesn't exist where the
-/// star that is asked for it owns no NS (`IsHashedShowable`); where no ANAME stands in (`HasNoHashedStandIn`), a lookup finds nothing
-/// then. A validator finds the parameters in the records (`told_by`).
+/// star that is asked for it owns no NS (`IsHashedShowable`); where no ANAME stands in (`HasNoHashedStandIn`), a lookup among these sets
+/// finds nothing then. A validator finds the parameters in the records (`told_by`).
 pub fn hashed_responses_prove_what_they_say()
     ensures { ResponseProvesByHashes IsResponse }
+{}
+
+/// A zone that is secured by this library (`secured_is_circle` and `secured_is_nsec3_circle` of `zone_denial`), and that lends its own
+/// sets for its denials, is one of which these two laws speak, if it has no sets of the other kind and nothing at its origin or above it
+/// refers elsewhere.
+pub fn secured_zones_deny()
+    ensures nsec { NsecZonesDeny }
+    ensures nsec3 { Nsec3ZonesDeny }
 {}

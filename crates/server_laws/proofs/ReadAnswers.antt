@@ -22,7 +22,7 @@ use Rattle.zone_server.specs.ServedZones.{IsAnswering}
 use Rattle.response_laws.specs.Contents.{HasContents}
 use Rattle.response_laws.specs.HashedSayings.{told_by, ProvesByHashes}
 use Rattle.response_laws.specs.ProvedSayings.{ProvesWhatItSays}
-use Rattle.response_laws.proofs.OwnDenials.{lends_own}
+use Rattle.response_laws.proofs.LentSets.{lends}
 use Rattle.response_laws.proofs.Responses.{response_has_contents, response_proves_what_it_says, response_proves_by_hashes}
 use Rattle.server_laws.specs.ProvedAnswers.{HasSections, ProvesInMessage, ProvesByHashesInMessage, IsFailure, AnswerProvesWhatItSays, AnswerProvesByHashes}
 use Rattle.server_laws.proofs.OneZone.{one_answers}
@@ -118,7 +118,7 @@ answer_proves zs t message octets q z m asked is answering denies signed reads u
     said' = said_by zs t message octets q z m asked is answering reads uncut
 
     c : HasContents z (asked_of q) said'.sections
-    c = response_has_contents z (asked_of q) said'.sections denies.circle.zone (lends_own z denies.circle.zone denies.denials) said'.says
+    c = response_has_contents z (asked_of q) said'.sections denies.zone (lends z denies.denials denies.zone) said'.says
 
     p : ProvesWhatItSays z (asked_of q) said'.sections
     p = response_proves_what_it_says z (asked_of q) said'.sections denies signed said'.says
@@ -134,12 +134,12 @@ answer_proves_by_hashes zs t message octets q z parameters m asked is answering 
     said' = said_by zs t message octets q z m asked is answering reads uncut
 
     c : HasContents z (asked_of q) said'.sections
-    c = response_has_contents z (asked_of q) said'.sections denies.circle.zone (lends_own z denies.circle.zone denies.denials) said'.says
+    c = response_has_contents z (asked_of q) said'.sections denies.zone (lends z denies.denials denies.zone) said'.says
 
-    p : ProvesByHashes z parameters (asked_of q) said'.sections
+    p : ProvesByHashes z parameters denies.names (asked_of q) said'.sections
     p = response_proves_by_hashes z parameters (asked_of q) said'.sections denies signed said'.says
 
-    by : HasSections said'.sections m ⊎ IsFailure z q m → ProvesByHashesInMessage z parameters q m ⊎ IsFailure z q m
+    by : HasSections said'.sections m ⊎ IsFailure z q m → ProvesByHashesInMessage z parameters denies.names q m ⊎ IsFailure z q m
     by (inl has) =
         inl
         (record {

@@ -45,14 +45,14 @@ pub record ProvesInMessage (z : Zone) (q : ReadQuery) (m : Parts) : Type 0 where
   pub shown : nsec_records m.authorities ≡ shown said
 
 -- so it is by NSEC3 records
-pub record ProvesByHashesInMessage (z : Zone) (parameters : Nsec3Parameters) (q : ReadQuery) (m : Parts) : Type 0 where
+pub record ProvesByHashesInMessage (z : Zone) (parameters : Nsec3Parameters) (names : List Name) (q : ReadQuery) (m : Parts) : Type 0 where
   pub said : Sections
   pub contents : HasContents z (asked_of q) said
-  pub proved : ProvesByHashes z parameters (asked_of q) said
+  pub proved : ProvesByHashes z parameters names (asked_of q) said
   pub sections : HasSections said m
   pub shown : nsec3_records m.authorities ≡ shown_nsec3 said
   -- and it finds the zone's parameters in them
-  pub parameters_found : (x : Name) (t : ℕ) → HashesApart z parameters x → told_by z m.authorities x t ≡ proof_in z parameters said x t
+  pub parameters_found : (x : Name) (t : ℕ) → HashesApart z parameters names x → told_by z m.authorities x t ≡ proof_in z parameters said x t
 
 -- no message has what the zone says, so the server has failed, and says nothing else (RFC 1035 section 4.1.1)
 pub record IsFailure (z : Zone) (q : ReadQuery) (m : Parts) : Type 0 where
@@ -74,5 +74,5 @@ AnswerProvesWhatItSays = (zs : List Zone) (t : Transport) (message octets : List
 abbrev pub AnswerProvesByHashes : Type 0
 AnswerProvesByHashes = (zs : List Zone) (t : Transport) (message octets : List ℕ) (q : ReadQuery) (z : Zone) (parameters : Nsec3Parameters) (m : Parts)
     → query_of message ≡ Ok q → IsAnswer zs t message octets → IsAnswering zs (asked_of q).name (asked_of q).record_type (Some z)
-    → DeniesByNsec3 z parameters → IsTrue (asked_of q).signed → message_of octets ≡ Some m → m.header.truncated ≡ false
-    → ProvesByHashesInMessage z parameters q m ⊎ IsFailure z q m
+    → (d : DeniesByNsec3 z parameters) → IsTrue (asked_of q).signed → message_of octets ≡ Some m → m.header.truncated ≡ false
+    → ProvesByHashesInMessage z parameters d.names q m ⊎ IsFailure z q m
