@@ -4,6 +4,7 @@ use Rattle.zone_proto.specs.declared.rdata.signing.RRSIG.{RRSIG}
 use Rattle.zone_proto.specs.Names.{Name}
 use Rattle.zone_proto.specs.Signing.{SignedPart}
 use Rattle.zone_map.specs.Zones.{Sets, IsZone}
+use Rattle.zone_denial.specs.Chains.{chain_sets}
 use Rattle.zone_response.specs.declared.question.ServedZone.{ServedZone}
 use Rattle.zone_response.specs.Queries.{zone_of, HasOwnDenials}
 use Rattle.zone_response.specs.Queries as queries
@@ -34,3 +35,7 @@ zone_of_records origin sets = record { origin = origin; inner = record { records
 -- its denials are looked up among sets of its own
 abbrev pub ZonesHaveOwnDenials : Type 0
 ZonesHaveOwnDenials = (origin : Name) (m : Sets) → IsZone m → HasOwnDenials (served_zone (zone_of_records origin m))
+
+-- they are those of its chain, by which it denies
+abbrev pub ZonesLendTheirChain : Type 0
+ZonesLendTheirChain = (origin : Name) (m : Sets) → let z : queries.Zone = served_zone (zone_of_records origin m) in z.denials ≡ chain_sets z.nx_proof_kind z.sets
