@@ -7,7 +7,7 @@ use Rattle.zone_proto.proofs.Members.{In, In-filter, In-from_filter, and_left, a
 use Rattle.zone_proto.proofs.Ordering.Orders.{IsOrder, irrefl, before_from_upto, less_test, greatest_is, greatest_none}
 use Rattle.zone_denial.specs.Covering.{next_around, covers}
 use Rattle.zone_denial.proofs.InOrder.{flipped}
-use Rattle.denial_laws.proofs.Gaps.{either}
+use Rattle.denial_laws.proofs.Tests.{either}
 
 module _ {K : Type 0} {R : K → K → Ordering} (o : IsOrder R) (xs : List K) where
   -- what the next of a value is: the least of those after it, or where there is none the least of all

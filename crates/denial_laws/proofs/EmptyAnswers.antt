@@ -1,81 +1,16 @@
--- What proves an answer without data that is no error
-use Rattle.std.proofs.Common.{◌≡◌, ◌≢◌, ℕ, Bool, true, false, cond, not, ◌&&◌, ◌||◌, [], ◌∷◌, refl, sym, ap, ◌∙◌, subst, true≢false, ◌⊎◌, inl, inr, arith}
-use Rattle.std.specs.Prelude.{Option, Some, None, option_map, option_and_then}
-use Rattle.std.specs.List.{Contains, list_any}
-use Rattle.zone_proto.specs.Names.{Name, is_above, is_at_or_above, IsAbove, star_under}
-use Rattle.zone_proto.specs.Sets.{RRset}
-use Rattle.zone_proto.specs.Types.{NS, SOA, DS, NSEC, ANY}
-use Rattle.zone_proto.proofs.Members.{In, In-Contains, any_from_In, or_left, or_right}
-use Rattle.zone_proto.proofs.Names.NameTree.{above_test, is_at_or_above_sound}
-use Rattle.zone_proto.proofs.Names.Tree.{name_eq_itself, above_cases}
+-- What an answer without data says of a zone
+use Rattle.std.proofs.Common.{◌≡◌, ◌≢◌, ℕ, Bool, true, false, cond, ◌||◌, refl, ap, true≢false}
+use Rattle.zone_proto.specs.Names.{Name, is_at_or_above}
+use Rattle.zone_proto.specs.Types.{ANY}
 use Rattle.zone_map.specs.AnyTypes.{any_type, searched_type}
-use Rattle.zone_map.specs.Direct.{direct}
-use Rattle.zone_map.specs.Wildcards.{found, renamed, wildcard, asked_star, asked_star_exists}
-use Rattle.zone_map.specs.Zones.{Sets, owns, owns_at_or_below}
-use Rattle.zone_map.proofs.Owned.{set_of}
-use Rattle.zone_denial.specs.NsecDenial.{nsec_encloser, nsec_denial}
-use Rattle.zone_denial.specs.NsecLaws.{IsNsecZone}
-use Rattle.zone_denial.proofs.Chain.DenialLists.{own_denial}
-use Rattle.zone_denial.proofs.Chain.NsecBelow.{next_below_empty}
-use Rattle.zone_denial.proofs.Chain.NsecLists.{off_circle}
-use Rattle.zone_denial.proofs.Chain.NsecStar.{proves_star}
+use Rattle.zone_map.specs.Wildcards.{asked_star_exists}
+use Rattle.zone_map.specs.Zones.{Sets, owns_at_or_below}
 use Rattle.zone_lookup.specs.Replies.{name_exists, nx_domain, refused, absent, negative_answer}
-use Rattle.denial_validation.specs.NsecProofs.{denies_type, shows_empty, shows_unsigned_delegation}
-use Rattle.denial_validation.specs.NsecRecords.{NsecRecord}
-use Rattle.denial_laws.specs.Acceptance.{NoDataAccepted, EmptyAccepted, WildcardNoDataAccepted, UnsignedDelegationAccepted}
-use Rattle.denial_laws.specs.Judged.{denial_records}
-use Rattle.denial_laws.proofs.NameErrors.{over, denied_with, star_spanned}
-use Rattle.denial_laws.proofs.OwnTypes.{neither, differs, type_denied}
-use Rattle.denial_laws.proofs.Readings.{record_at, shown, owned_listed, unlisted}
-use Rattle.denial_laws.proofs.ShownEnclosers.{judged_star}
-use Rattle.denial_laws.proofs.Speaking.{IsSpanned, spanned, cover_from_last, below_origin, owner_on_circle, empty_off, empty}
-use Rattle.denial_laws.proofs.Stars.{star_there}
-
--- ---- by the name's own record
-
-module _ (origin : Name) (m : Sets) (h : IsNsecZone origin m) (x : Name) (on : owns m x NSEC ≡ true) where
-  pub own_shown : In (record_at origin m h x) (denial_records origin m x)
-  own_shown =
-      let s = set_of m x NSEC on in
-      shown origin m h x x s.0 (subst (λ sets. Contains sets s.0) (own_denial m h.zone origin x s.0 s.1) (In-Contains s.0 (s.0 ∷ []) (inl refl))) s.1
+use Rattle.denial_laws.proofs.OwnTypes.{differs}
 
 -- a type that isn't ANY is searched itself
 pub searched_itself : (m : Sets) (x : Name) (t : ℕ) → t ≢ ANY → searched_type m x t ≡ t
 searched_itself m x t any = ap (λ b. cond b (any_type m x) t) (differs t ANY any)
-
-pub no_data_accepted : NoDataAccepted
-no_data_accepted origin m signed x t j deniable on nothing =
-    any_from_In (λ r. denies_type origin r x t) (record_at origin m j.zone x) (denial_records origin m x) (own_shown origin m j.zone x on)
-    (type_denied origin m j.zone j.unreferred x j.inside t (ap (direct m x) (sym (searched_itself m x t deniable.one_type)) ∙ (neither (direct m x (searched_type m x t)) (wildcard m signed x (searched_type m x t)) nothing).0) on
-    deniable.no_signature deniable.one_type (λ d. (deniable.no_apex d).0))
-
-pub unsigned_delegation_accepted : UnsignedDelegationAccepted
-unsigned_delegation_accepted origin m x j ns ds soa =
-    any_from_In (λ r. shows_unsigned_delegation origin r x) r (denial_records origin m x) (own_shown origin m j.zone x on)
-    (λ i. below (above_cases origin x (is_at_or_above_sound origin x j.inside)) i && name_eq_itself x i && owned_listed origin m j.zone x NS ns i && not (unlisted origin m j.zone x DS (λ e. omega (arith, e)) (λ e. omega (arith, e)) ds i) && not (unlisted origin m j.zone x SOA (λ e. omega (arith, e)) (λ e. omega (arith, e)) soa i))
-  where
-    r : NsecRecord
-    r = record_at origin m j.zone x
-
-    on : owns m x NSEC ≡ true
-    on = owner_on_circle origin m x j NS ns
-
-    below : (origin ≡ x) ⊎ IsAbove origin x → is_above origin x ≡ true
-    below (inl e) = absurd (true≢false (sym (j.unreferred x ([], e) ns) ∙ soa))
-    below (inr u) = (above_test origin x).1 u
-
--- ---- by the record before an empty non-terminal
-
-pub empty_accepted : EmptyAccepted
-empty_accepted origin m x j off some =
-    any_from_In (λ r. shows_empty origin r x) (record_at origin m j.zone s.owner) (denial_records origin m x) s.among (empty origin m x j s.owner s.between some)
-  where
-    s : IsSpanned origin m j.zone x x
-    s =
-        let r = next_below_empty origin m j.zone x j.inside (empty_off origin m x j off) some j.uncut in
-        (spanned origin m j.zone x x (below_origin origin m x j off) (cover_from_last (nsec_denial origin m x) x r.0 r.1).0).0
-
--- ---- by that of the star
 
 -- where neither a name nor one below it owns a set, and yet the name is there, a star that is asked exists
 pub exists_means : (origin : Name) (m : Sets) (x : Name) → owns_at_or_below m x ≡ false → negative_answer origin m x ≡ name_exists → asked_star_exists m x ≡ true
@@ -89,44 +24,3 @@ exists_means origin m x none e = by (owns_at_or_below m x) (asked_star_exists m 
     by true b u q = absurd (true≢false u)
     by false true u q = refl
     by false false u q = inside (is_at_or_above origin x) q
-
-pub wildcard_no_data_accepted : WildcardNoDataAccepted
-wildcard_no_data_accepted origin m signed x t j deniable none nothing e =
-    denied_with origin m x j none (λ w. list_any (λ r. denies_type origin r w t || shows_empty origin r w) (denial_records origin m x)) (by (owns m star NSEC) refl)
-  where
-    h : IsNsecZone origin m
-    h = j.zone
-
-    star : Name
-    star = star_under (nsec_encloser origin m x)
-
-    up : IsAbove origin x
-    up = over origin m x j none
-
-    there : (asked_star m x ≡ Some star) × (owns_at_or_below m star ≡ true)
-    there = star_there origin m x j up (exists_means origin m x none e)
-
-    lost : (o : Option RRset) → option_map (renamed signed star x) o ≡ None → o ≡ None
-    lost None e = refl
-    lost (Some s) e = absurd cc
-
-    at_star : direct m star t ≡ None
-    at_star =
-        lost (direct m star t)
-        (sym (ap (option_and_then (λ s. option_map (renamed signed s x) (direct m s t))) there.0)
-        ∙ (neither (direct m x t) (wildcard m signed x t) (ap (found m signed x) (sym (searched_itself m x t deniable.one_type)) ∙ nothing)).1)
-
-    passes : (r : NsecRecord) → In r (denial_records origin m x) → denies_type origin r star t || shows_empty origin r star ≡ true
-        → list_any (λ r. denies_type origin r star t || shows_empty origin r star) (denial_records origin m x) ≡ true
-    passes r i p = any_from_In (λ r. denies_type origin r star t || shows_empty origin r star) r (denial_records origin m x) i p
-
-    by : (b : Bool) → owns m star NSEC ≡ b → list_any (λ r. denies_type origin r star t || shows_empty origin r star) (denial_records origin m x) ≡ true
-    by true on =
-        let s = set_of m star NSEC on in
-        passes (record_at origin m h star) (shown origin m h x star s.0 ((proves_star origin m h x j.inside (off_circle m x none)).on s.0 s.1) s.1)
-        (or_left (denies_type origin (record_at origin m h star) star t) (shows_empty origin (record_at origin m h star) star) (type_denied origin m h j.unreferred star (judged_star origin m x j up).inside t at_star on deniable.no_signature deniable.one_type (λ d. (deniable.no_apex d).1)))
-    by false off =
-        let s = star_spanned origin m x j none off in
-        passes (record_at origin m h s.owner) s.among
-        (or_right (denies_type origin (record_at origin m h s.owner) star t) (shows_empty origin (record_at origin m h s.owner) star)
-        (empty origin m star (judged_star origin m x j up) s.owner s.between there.1))

@@ -1,26 +1,18 @@
 -- What a closest encloser proof says, by whichever NSEC3 records of a zone, with opt-out or without
-use Rattle.std.proofs.Common.{◌≡◌, ◌<◌, ℕ, suc, Bool, true, false, not, ◌&&◌, List, [], length, refl, sym, ap, ◌∙◌, subst, true≢false, ◌⊎◌, inl, inr, arith, eqb-true}
+use Rattle.std.proofs.Common.{◌≡◌, ◌<◌, ℕ, suc, Bool, true, false, not, ◌&&◌, List, length, refl, sym, ap, ◌∙◌, true≢false, ◌⊎◌, inl, inr, arith, eqb-true}
 use Rattle.std.specs.Prelude.{Option, Some, None, find, ◌==◌}
 use Rattle.std.specs.List.{list_any}
 use Rattle.std.specs.Option.{option_map_or}
-use Rattle.zone_proto.specs.declared.rdata.denial.NSEC3PARAM.{NSEC3PARAM as Nsec3Parameters}
 use Rattle.zone_proto.specs.Names.{Name, is_above, is_at_or_above, IsAtOrAbove, IsAbove, proper_ancestors}
-use Rattle.zone_proto.proofs.Members.{In, In-Contains, Contains-In, In-from_any, any_from_In, and_left, and_right, not_true}
-use Rattle.zone_proto.proofs.Names.NameTree.{above_test, is_at_or_above_sound, name_eq-Decides}
+use Rattle.zone_proto.proofs.Members.{In, In-from_any, and_left, and_right, not_true}
+use Rattle.zone_proto.proofs.Names.NameTree.{above_test}
 use Rattle.zone_proto.proofs.Names.Tree.{above_cases}
-use Rattle.zone_map.specs.Zones.{Sets}
 use Rattle.zone_map.proofs.Delegations.{found_above}
-use Rattle.zone_denial.specs.Nsec3Names.{nsec3_names, IsNsec3Name}
-use Rattle.zone_denial.specs.Nsec3Zones.{IsNsec3Zone, IsHashed, TellsApart}
-use Rattle.zone_denial.proofs.Names.LongestAncestors.{above_below, above_shorter, IsLongestAbove, longest_is, longest_above}
-use Rattle.zone_denial.proofs.Hashed.Nsec3Enclosers.{is_named, in_named, origin_in}
-use Rattle.zone_denial.proofs.Hashed.Nsec3NameLaws.{names_are_exact}
-use Rattle.zone_denial.proofs.Chain.NsecBelow.{above_at, above_through, comparable}
+use Rattle.zone_denial.proofs.Names.LongestAncestors.{above_shorter, IsLongestAbove, longest_is}
+use Rattle.zone_denial.proofs.Chain.NsecBelow.{above_through, comparable}
 use Rattle.denial_validation.specs.Encloser.{next_closer}
-use Rattle.denial_validation.specs.Nsec3Proofs.{matches, covers, is_matched, is_covered, is_encloser, shown_encloser, encloser_and}
+use Rattle.denial_validation.specs.Nsec3Proofs.{covers, is_matched, is_encloser, shown_encloser, encloser_and}
 use Rattle.denial_validation.specs.Nsec3Records.{Nsec3Record}
-use Rattle.denial_laws.proofs.Nsec3Matches.{matches_is, off_where_covered}
-use Rattle.denial_laws.proofs.Nsec3Readings.{record_of}
 
 -- ---- names one longer than another
 
@@ -118,58 +110,3 @@ module _ (origin : Name) (hash : Name → Option (List ℕ)) (rs : List Nsec3Rec
                 covering = In-from_any (λ r. covers origin hash r c && cover r) rs k;
                 passes = and_right (is_encloser origin hash rs b && option_map_or covered_one (next_closer x b) false) (rest b) q;
               }
-
--- ---- names of the circle
-
--- a name below the origin that is at or above one of the circle is on it
-pub ancestor_named : (origin : Name) (m : Sets) (opt_out : Bool) (y b : Name) → In b (nsec3_names origin m opt_out) → IsAtOrAbove y b → IsAbove origin y → In y (nsec3_names origin m opt_out)
-ancestor_named origin m opt_out y b i u w =
-    Contains-In y (nsec3_names origin m opt_out) ((names_are_exact origin m opt_out y).1 (by ((names_are_exact origin m opt_out b).0 (In-Contains b (nsec3_names origin m opt_out) i))))
-  where
-    by : IsNsec3Name origin m opt_out b → IsNsec3Name origin m opt_out y
-    by (inl e) = let v : IsAbove origin origin = subst (IsAbove origin) e (above_below origin y b w u) in absurd (omega (arith, above_shorter origin origin v))
-    by (inr (above, (k, l, at))) = inr (w, (k, l, above_through y b k u at))
-
--- a name of the zone is hashed for its own denial
-pub self_hashed : (origin : Name) (m : Sets) (opt_out : Bool) (x : Name) → IsAtOrAbove origin x → IsHashed origin m opt_out x x
-self_hashed origin m opt_out x u = by (above_cases origin x u)
-  where
-    by : (origin ≡ x) ⊎ IsAbove origin x → IsHashed origin m opt_out x x
-    by (inl e) = inl (In-Contains x (nsec3_names origin m opt_out) (subst (λ n. In n (nsec3_names origin m opt_out)) e (origin_in origin m opt_out)))
-    by (inr w) =
-        let a = longest_above (is_named origin m opt_out) x origin w (in_named origin m opt_out origin (origin_in origin m opt_out)) in
-        inr (a.0, a.1.found, inl (([], refl), above_at a.0 x a.1.above))
-
-module _ {origin : Name} {m : Sets} {hash : Name → Option (List ℕ)} {parameters : Nsec3Parameters} {x : Name} (zone : IsNsec3Zone origin m hash parameters) (apart : TellsApart (IsHashed origin m parameters.opt_out x) hash)
-    (rs : List Nsec3Record) (of_names : (r : Nsec3Record) → In r rs → (n : Name) × In n (nsec3_names origin m parameters.opt_out) × (r ≡ record_of zone apart n)) where
-  abbrev names : List Name
-  names = nsec3_names origin m parameters.opt_out
-
-  -- what is covered isn't on the circle
-  pub uncovered : (c : Name) → is_covered origin hash rs c ≡ true → In c names → ⊥
-  uncovered c e i = off_where_covered zone apart rs of_names c (inl (In-Contains c names i)) e i
-
-  -- nor is a name at or below it
-  pub none_below_covered : (y c : Name) → IsAtOrAbove c y → IsAbove origin c → is_covered origin hash rs c ≡ true → In y names → ⊥
-  none_below_covered y c at below e i = uncovered c e (ancestor_named origin m parameters.opt_out c y i at below)
-
-  -- a record that matches a hashed name is that of this name, which is on the circle
-  pub matching : (y : Name) → IsHashed origin m parameters.opt_out x y → (r : Nsec3Record) → In r rs → matches origin hash r y ≡ true → In y names × (r ≡ record_of zone apart y)
-  matching y h r i e =
-      let n = of_names r i in
-      let same : n.0 ≡ y = (name_eq-Decides n.0 y).0 (sym (matches_is zone apart n.0 y n.1 h) ∙ ap (λ r. matches origin hash r y) (sym n.2) ∙ e) in
-      (subst (λ w. In w names) same n.1, n.2 ∙ ap (record_of zone apart) same)
-
-  module _ (cover : Nsec3Record → Bool) (rest : Name → Bool) (p : IsProved origin hash rs cover x rest) where
-    pub closer_covered : is_covered origin hash rs p.closer ≡ true
-    closer_covered = any_from_In (λ r. covers origin hash r p.closer) p.covering.0 rs p.covering.1 (and_left (covers origin hash p.covering.0 p.closer) (cover p.covering.0) p.covering.2)
-
-    pub encloser_inside : IsAtOrAbove origin p.encloser
-    encloser_inside = is_at_or_above_sound origin p.encloser (and_left (is_at_or_above origin p.encloser) (is_matched origin hash rs p.encloser) p.shown.passes)
-
-    pub closer_below : IsAbove origin p.closer
-    closer_below = closer_inside origin x p.encloser p.closer encloser_inside (above_at p.encloser x p.shown.above) p.at p.longer
-
-    -- the name isn't on the circle
-    pub proved_off : In x names → ⊥
-    proved_off = none_below_covered x p.closer p.at closer_below closer_covered

@@ -1,46 +1,24 @@
--- Where NSEC3 records prove nothing: below a zone cut, by those of the zone, but what a star below the cut may have answered; and outside the zone, by any at all
-use Rattle.std.proofs.Common.{◌≡◌, ◌≤◌, ℕ, Bool, true, false, cond, not, ◌&&◌, ◌||◌, List, [], ◌∷◌, ◌++◌, length, refl, sym, ap, ◌∙◌, subst, true≢false, ◌⊎◌, inl, inr, arith}
-use Rattle.std.specs.Prelude.{Option, Some, None, filter, reverse, option_map, ◌==◌, if◌then◌else◌}
-use Rattle.std.specs.List.{list_any, Contains}
+-- Where neither the name nor an encloser of it is shown, NSEC3 records prove at most an answer of a star; and outside the zone nothing
+use Rattle.std.proofs.Common.{◌≡◌, ℕ, Bool, true, false, cond, not, ◌&&◌, List, [], ◌∷◌, refl, sym, ◌∙◌, subst, true≢false, ◌⊎◌, inl, inr}
+use Rattle.std.specs.Prelude.{Option, Some, None, reverse, ◌==◌, if◌then◌else◌}
+use Rattle.std.specs.List.{list_any}
 use Rattle.std.specs.Option.{option_map_or}
 use Rattle.std.proofs.lemmas.Grind.{reverse_onto}
-use Rattle.std.proofs.lemmas.List.{length-append}
-use Rattle.zone_proto.specs.declared.rdata.denial.NSEC3PARAM.{NSEC3PARAM as Nsec3Parameters}
-use Rattle.zone_proto.specs.HashedOwners.{owner_or_refusal}
-use Rattle.zone_proto.specs.Names.{Name, base_name, name_eq, is_above, is_at_or_above, suffixes, IsAtOrAbove, IsAbove, proper_ancestors, star_under}
-use Rattle.zone_proto.specs.Types.{NS, SOA, DS, NSEC3}
-use Rattle.zone_proto.proofs.Members.{In, In-Contains, Contains-In, In-filter, In-from_filter, In-from_any, In-from_append, any_from_In, and_left, and_right, not_true}
-use Rattle.zone_proto.proofs.Names.NameTree.{above_test, at_or_above_from_suffix, suffix_from_at_or_above, is_at_or_above_complete}
-use Rattle.zone_proto.proofs.Names.Tree.{above_cases}
-use Rattle.zone_map.specs.Zones.{Sets, owners, names_of}
-use Rattle.zone_map.proofs.Owned.{owner_in}
-use Rattle.zone_denial.specs.Authority.{is_below_cut, is_authoritative, authoritative_names, owns_besides}
-use Rattle.zone_denial.specs.Nsec3Denial.{closest_encloser}
-use Rattle.zone_denial.specs.Nsec3Names.{is_unsigned_delegation, counted_names, nsec3_names, IsNsec3Name}
-use Rattle.zone_denial.specs.Nsec3Zones.{IsNsec3Zone, IsHashed, TellsApart}
-use Rattle.zone_denial.proofs.Names.AuthoritativeNames.{authoritative_from, authoritative_listed, besides_from}
-use Rattle.zone_denial.proofs.Names.LongestAncestors.{above_below, above_shorter, IsLongestAbove, longest_above, others_above}
-use Rattle.zone_denial.proofs.Hashed.Nsec3Enclosers.{is_named, named_in, in_named, origin_in, IsEnclosed, enclosed_off}
-use Rattle.zone_denial.proofs.Hashed.Nsec3NameLaws.{names_are_exact}
-use Rattle.zone_denial.proofs.Chain.NsecBelow.{above_at, comparable}
+use Rattle.zone_proto.specs.Names.{Name, is_above, star_under}
+use Rattle.zone_proto.specs.Types.{DS}
+use Rattle.zone_proto.proofs.Members.{In, In-from_append}
+use Rattle.zone_proto.proofs.Names.NameTree.{above_test, is_at_or_above_complete}
+use Rattle.zone_denial.proofs.Chain.NsecBelow.{above_at}
 use Rattle.denial_validation.specs.declared.proof.Proof.{Proof}
-use Rattle.denial_validation.specs.declared.proof.Proof.TheVariants.{NameError, UnsignedDelegation, NoData, WildcardNoData, WildcardAnswer}
+use Rattle.denial_validation.specs.declared.proof.Proof.TheVariants.{NameError, UnsignedDelegation, NoData, WildcardNoData}
 use Rattle.denial_validation.specs.Encloser.{next_closer}
 use Rattle.denial_validation.specs.Judgement.{nsec3_proof}
-use Rattle.denial_validation.specs.NsecProofs.{DNAME}
-use Rattle.denial_validation.specs.Nsec3Proofs.{lists, is_of_encloser, is_of_unsigned, denies_type, matches, covers, is_matched, is_covered, is_opted_out, is_denied, is_handing_on, is_handed_on, is_encloser, shown_encloser, encloser_and, proves_no_data, proves_opted_out, shows_unsigned_delegation, covered_closer, wildcard_answer}
+use Rattle.denial_validation.specs.Nsec3Proofs.{is_of_unsigned, matches, covers, is_matched, is_covered, is_denied, is_handed_on, is_encloser, shown_encloser, encloser_and, proves_no_data, proves_opted_out, shows_unsigned_delegation, wildcard_answer}
 use Rattle.denial_validation.specs.Nsec3Records.{Nsec3Record}
 use Rattle.denial_validation.proofs.WildcardAnswers.{answers_end}
-use Rattle.denial_laws.specs.Nsec3Judged.{read_nsec3_sets, AreNsec3OfZone}
-use Rattle.denial_laws.specs.Nsec3Soundness.{IsAnswerBelow, Nsec3NothingBelowCut, Nsec3OwnNothingBelowCut, Nsec3AnswersBelowCut, Nsec3NothingOutside}
-use Rattle.denial_laws.specs.Soundness.{IsTopmostCut}
-use Rattle.denial_laws.proofs.Nsec3Judging.{owned_listed, unlisted}
-use Rattle.denial_laws.proofs.Nsec3Matches.{matched_by}
-use Rattle.denial_laws.proofs.Nsec3Proved.{sides, IsProved, parts, ancestor_named, uncovered, matching, closer_covered, encloser_inside, closer_below}
-use Rattle.denial_laws.proofs.Nsec3Readings.{record_of, of_name}
-use Rattle.denial_laws.proofs.Nsec3Shown.{nsec3_denial_of_zone, enclosing_shown}
+use Rattle.denial_laws.specs.Nsec3Soundness.{Nsec3NothingOutside}
 use Rattle.denial_laws.proofs.OwnTypes.{neither}
-use Rattle.denial_laws.proofs.Tests.{refuted, right_false, find_some}
+use Rattle.denial_laws.proofs.Tests.{refuted, right_false}
 
 pub In-from_reverse : {X : Type 0} (y : X) (xs : List X) → In y (reverse xs) → In y xs
 In-from_reverse y [] i = i
@@ -72,224 +50,6 @@ module _ (origin : Name) (hash : Name → Option (List ℕ)) (rs : List Nsec3Rec
         else (if unproved (λ r. true) (λ e. is_denied origin hash rs (star_under e) t) i then Some (WildcardNoData (proves_opted_out origin hash rs x))
         else (if out i then Some UnsignedDelegation
         else wildcard_answer origin hash rs x))))))
-
--- ---- below a zone cut
-
-module _ {origin : Name} {m : Sets} {hash : Name → Option (List ℕ)} {parameters : Nsec3Parameters} {x : Name} (zone : IsNsec3Zone origin m hash parameters) (apart : TellsApart (IsHashed origin m parameters.opt_out x) hash)
-    (rs : List Nsec3Record) (of_zone : AreNsec3OfZone m rs) (c : Name) (cut : IsTopmostCut origin m x c) (counts : parameters.opt_out && is_unsigned_delegation m c ≡ false)
-  where
-    abbrev names : List Name
-    names = nsec3_names origin m parameters.opt_out
-
-    of_names : (r : Nsec3Record) → In r rs → (n : Name) × In n names × (r ≡ record_of zone apart n)
-    of_names = of_name zone apart rs of_zone
-
-    -- the cut is on the circle
-    counted : Contains (counted_names origin m parameters.opt_out) c
-    counted =
-        In-Contains c (counted_names origin m parameters.opt_out)
-        (In-filter (λ n. not (parameters.opt_out && (not (name_eq n origin) && is_unsigned_delegation m n))) c (authoritative_names origin m NSEC3)
-        (authoritative_listed origin m NSEC3 c
-        (authoritative_from origin m NSEC3 c (is_at_or_above_complete origin c (above_at origin c cut.below)) (besides_from m NSEC3 c NS refl cut.delegated) cut.topmost))
-        (left_in parameters.opt_out (not (name_eq c origin)) (is_unsigned_delegation m c) counts))
-      where
-        left_in : (a n b : Bool) → a && b ≡ false → not (a && (n && b)) ≡ true
-        left_in true n b e = ap not (right_false n b e)
-        left_in false n b e = refl
-
-    on : In c names
-    on = Contains-In c names ((names_are_exact origin m parameters.opt_out c).1 (inr (cut.below, (c, counted, ([], refl)))))
-
-    -- and nothing below it
-    none_below : (n : Name) → IsAbove c n → In n names → ⊥
-    none_below n w i = by ((names_are_exact origin m parameters.opt_out n).0 (In-Contains n names i))
-      where
-        by : IsNsec3Name origin m parameters.opt_out n → ⊥
-        by (inl e) = omega (arith, above_shorter c n w, above_shorter origin c cut.below, ap length e)
-        by (inr (above, (k, l, at))) =
-            true≢false
-            (sym (any_from_In (λ a. is_above origin a && is_above a k) c (owners m NS) (owner_in m c NS cut.delegated) (λ i. (above_test origin c).1 cut.below i && (above_test c k).1 (above_below c n k w at) i)) ∙ uncut)
-          where
-            whole : is_at_or_above origin k && (owns_besides m NSEC3 k && not (is_below_cut origin m k)) ≡ true
-            whole =
-                (In-from_filter (is_authoritative origin m NSEC3) k (names_of m)
-                (In-from_filter (λ n. not (parameters.opt_out && (not (name_eq n origin) && is_unsigned_delegation m n))) k (authoritative_names origin m NSEC3) (Contains-In k (counted_names origin m parameters.opt_out) l)).0).1
-
-            uncut : is_below_cut origin m k ≡ false
-            uncut = not_true (is_below_cut origin m k) (and_right (owns_besides m NSEC3 k) (not (is_below_cut origin m k)) (and_right (is_at_or_above origin k) (owns_besides m NSEC3 k && not (is_below_cut origin m k)) whole))
-
-    -- so it is the closest encloser that the circle has
-    closest : closest_encloser origin m parameters.opt_out x ≡ Some c
-    closest = a.1.found ∙ ap Some (by (above_cases c a.0 (others_above test x a.0 c a.1 cut.above (in_named origin m parameters.opt_out c on))))
-      where
-        test : Name → Bool
-        test = is_named origin m parameters.opt_out
-
-        a : (a : Name) × IsLongestAbove test x a
-        a = longest_above test x c cut.above (in_named origin m parameters.opt_out c on)
-
-        by : (c ≡ a.0) ⊎ IsAbove c a.0 → a.0 ≡ c
-        by (inl e) = sym e
-        by (inr w) = absurd (none_below a.0 w (named_in origin m parameters.opt_out a.0 a.1.passes))
-
-    inside : IsAbove origin x
-    inside = above_below origin c x cut.below (above_at c x cut.above)
-
-    -- an ancestor of x that isn't above the origin is hashed
-    hashed : (b : Name) → IsAtOrAbove origin b → IsAtOrAbove b x → IsHashed origin m parameters.opt_out x b
-    hashed b u v = by (comparable v.0 k.0 b c (sym v.1 ∙ k.1))
-      where
-        k : IsAtOrAbove c x
-        k = above_at c x cut.above
-
-        upper : (origin ≡ b) ⊎ IsAbove origin b → IsAtOrAbove b c → IsHashed origin m parameters.opt_out x b
-        upper (inl e) w = inl (In-Contains b names (subst (λ n. In n names) e (origin_in origin m parameters.opt_out)))
-        upper (inr o) w = inl (In-Contains b names (ancestor_named origin m parameters.opt_out b c on w o))
-
-        by : IsAtOrAbove b c ⊎ IsAtOrAbove c b → IsHashed origin m parameters.opt_out x b
-        by (inl w) = upper (above_cases origin b u) w
-        by (inr w) = inr (c, closest, inl (v, w))
-
-    match_on : (b : Name) → IsAtOrAbove origin b → IsAtOrAbove b x → (r : Nsec3Record) → In r rs → matches origin hash r b ≡ true → In b names × (r ≡ record_of zone apart b)
-    match_on b u v = matching zone apart rs of_names b (hashed b u v)
-
-    -- the record of the cut hands on what is below it
-    hands_on : is_of_encloser (record_of zone apart c) ≡ false
-    hands_on =
-        right_false (not (lists (record_of zone apart c) DNAME)) (not (lists (record_of zone apart c) NS) || lists (record_of zone apart c) SOA)
-        (λ i. not (owned_listed zone apart c NS cut.delegated (λ g. omega (arith, g)) i) || unlisted zone apart c SOA (λ g. omega (arith, g)) (λ g. omega (arith, g)) cut.no_apex i)
-
-    no_proof : (cover : Nsec3Record → Bool) (rest : Name → Bool) → IsProved origin hash rs cover x rest → ⊥
-    no_proof cover rest p = by (sides x p.encloser c v k)
-      where
-        v : IsAtOrAbove p.encloser x
-        v = above_at p.encloser x p.shown.above
-
-        k : IsAtOrAbove c x
-        k = above_at c x cut.above
-
-        r : (r : Nsec3Record) × In r rs × (matches origin hash r p.encloser && is_of_encloser r ≡ true)
-        r = In-from_any (λ r. matches origin hash r p.encloser && is_of_encloser r) rs p.encloses
-
-        own : In p.encloser names × (r.0 ≡ record_of zone apart p.encloser)
-        own = match_on p.encloser (encloser_inside zone apart rs of_names cover rest p) v r.0 r.1 (and_left (matches origin hash r.0 p.encloser) (is_of_encloser r.0) r.2)
-
-        closer_on : IsAbove p.encloser c → IsAtOrAbove c p.closer ⊎ IsAtOrAbove p.closer c → In p.closer names
-        closer_on w (inr u) = ancestor_named origin m parameters.opt_out p.closer c on u (closer_below zone apart rs of_names cover rest p)
-        closer_on w (inl u) = of (above_cases c p.closer u)
-          where
-            of : (c ≡ p.closer) ⊎ IsAbove c p.closer → In p.closer names
-            of (inl e) = subst (λ n. In n names) e on
-            of (inr d) = absurd (omega (arith, above_shorter p.encloser c w, above_shorter c p.closer d, p.longer))
-
-        by : IsAbove p.encloser c ⊎ ((p.encloser ≡ c) ⊎ IsAbove c p.encloser) → ⊥
-        by (inl w) = uncovered zone apart rs of_names p.closer (closer_covered zone apart rs of_names cover rest p) (closer_on w (comparable k.0 p.at.0 c p.closer (sym k.1 ∙ p.at.1)))
-        by (inr (inl e)) = true≢false (sym (and_right (matches origin hash r.0 p.encloser) (is_of_encloser r.0) r.2) ∙ ap is_of_encloser (own.1 ∙ ap (record_of zone apart) e) ∙ hands_on)
-        by (inr (inr w)) = none_below p.encloser w own.0
-
-    unproved : (cover : Nsec3Record → Bool) (rest : Name → Bool) → encloser_and origin hash rs cover x rest ≡ false
-    unproved cover rest = refuted (encloser_and origin hash rs cover x rest) (λ e. no_proof cover rest (parts origin hash rs cover x rest e))
-
-    -- no record is that of x
-    none_of : (test : Nsec3Record → Bool) → list_any (λ r. matches origin hash r x && test r) rs ≡ false
-    none_of test =
-        refuted (list_any (λ r. matches origin hash r x && test r) rs)
-        (λ e. let r = In-from_any (λ r. matches origin hash r x && test r) rs e in
-        none_below x cut.above (match_on x (above_at origin x inside) ([], refl) r.0 r.1 (and_left (matches origin hash r.0 x) (test r.0) r.2)).0)
-
-    below_only : (t : ℕ) → nsec3_proof origin hash rs x t ≡ cond (is_handed_on origin hash rs x) None (wildcard_answer origin hash rs x)
-    below_only =
-        only_answers origin hash rs x unproved (λ t. right_false (is_at_or_above origin x) (is_denied origin hash rs x t) (none_of (λ r. denies_type origin r x t)))
-        (right_false (is_above origin x) (list_any (λ r. matches origin hash r x && is_of_unsigned r) rs) (none_of is_of_unsigned))
-
-    -- where the record of the cut is shown, x is handed on
-    handed : is_matched origin hash rs c ≡ true → is_handed_on origin hash rs x ≡ true
-    handed e = any_from_In (λ a. is_at_or_above origin a && is_handing_on origin hash rs a) c (proper_ancestors x) among (λ i. is_at_or_above_complete origin c (above_at origin c cut.below) i && handing i)
-      where
-        among : In c (proper_ancestors x)
-        among = by cut.above
-          where
-            by : IsAbove c x → In c (proper_ancestors x)
-            by (l, f, q) = subst (λ (k : Name). In c (proper_ancestors k)) (sym q) (Contains-In c (suffixes (f ++ c)) (suffix_from_at_or_above (f ++ c) c (f, refl)))
-
-        r : (r : Nsec3Record) × In r rs × (matches origin hash r c ≡ true)
-        r = In-from_any (λ r. matches origin hash r c) rs e
-
-        handing : is_handing_on origin hash rs c ≡ true
-        handing =
-            any_from_In (λ r. matches origin hash r c && not (is_of_encloser r)) r.0 rs r.1
-            (λ i. r.2 i && not ((ap is_of_encloser (match_on c (above_at origin c cut.below) (above_at c x cut.above) r.0 r.1 r.2).1 ∙ hands_on) i))
-
-    -- what a star may have answered is below the cut
-    answer_below : (p : Proof) → wildcard_answer origin hash rs x ≡ Some p → IsAnswerBelow c p
-    answer_below p e = by (covered_closer origin hash rs x) refl e
-      where
-        answer : Name → Proof
-        answer n = WildcardAnswer (length (base_name n)) (is_opted_out origin hash rs n)
-
-        by : (o : Option Name) → covered_closer origin hash rs x ≡ o → option_map answer o ≡ Some p → IsAnswerBelow c p
-        by None q g = absurd cc
-        by (Some n) q g = (length (base_name n), is_opted_out origin hash rs n, sym (same_proof (answer n) p g), more (lower (sides x c n k u)))
-          where
-            f : In n (reverse (filter (is_above origin) (suffixes x))) × (is_covered origin hash rs n ≡ true)
-            f = find_some (is_covered origin hash rs) (reverse (filter (is_above origin) (suffixes x))) n q
-
-            s : In n (suffixes x) × (is_above origin n ≡ true)
-            s = In-from_filter (is_above origin) n (suffixes x) (In-from_reverse n (filter (is_above origin) (suffixes x)) f.0)
-
-            u : IsAtOrAbove n x
-            u = at_or_above_from_suffix x n (In-Contains n (suffixes x) s.0)
-
-            k : IsAtOrAbove c x
-            k = above_at c x cut.above
-
-            away : IsAtOrAbove n c → ⊥
-            away w = uncovered zone apart rs of_names n f.1 (ancestor_named origin m parameters.opt_out n c on w ((above_test origin n).0 s.1))
-
-            lower : IsAbove c n ⊎ ((c ≡ n) ⊎ IsAbove n c) → IsAbove c n
-            lower (inl w) = w
-            lower (inr (inl g)) = absurd (away ([], g))
-            lower (inr (inr w)) = absurd (away (above_at n c w))
-
-            more : IsAbove c n → length c ≤ length (base_name n)
-            more (l, f, g) = let size : length (base_name n) ≡ length (f ++ c) = ap (λ (n : Name). length (base_name n)) g in omega (arith, size, length-append f c)
-
-pub nsec3_nothing_below_cut : Nsec3NothingBelowCut
-nsec3_nothing_below_cut origin m hash parameters rs x c zone apart of_zone cut counts shown t =
-    below_only zone apart rs of_zone c cut counts t ∙ ap (λ b. cond b None (wildcard_answer origin hash rs x)) (handed zone apart rs of_zone c cut counts shown)
-
--- its own denial has the record of the cut, which is its closest encloser
-pub nsec3_own_nothing_below_cut : Nsec3OwnNothingBelowCut
-nsec3_own_nothing_below_cut origin m hash parameters x c zone apart cut counts answer given =
-    nsec3_nothing_below_cut origin m hash parameters rs x c zone apart of_zone cut counts (matched_by zone apart rs c (on zone apart rs of_zone c cut counts) shown)
-  where
-    rs : List Nsec3Record
-    rs = read_nsec3_sets answer
-
-    of_zone : AreNsec3OfZone m rs
-    of_zone = nsec3_denial_of_zone m (λ n. owner_or_refusal origin (hash n)) false x answer given
-
-    off : In x (nsec3_names origin m parameters.opt_out) → ⊥
-    off = none_below zone apart rs of_zone c cut counts x cut.above
-
-    n : (a : Name) × (k : Name) × IsEnclosed origin m parameters.opt_out x a k
-    n = enclosed_off origin m parameters.opt_out x (is_at_or_above_complete origin x (above_at origin x (inside zone apart rs of_zone c cut counts))) off
-
-    same : n.0 ≡ c
-    same = same_value n.0 c (sym n.2.is_encloser ∙ closest zone apart rs of_zone c cut counts)
-      where
-        same_value : (a b : Name) → Some a ≡ Some b → a ≡ b
-        same_value a b e = cc
-
-    shown : In (record_of zone apart c) (read_nsec3_sets answer)
-    shown = subst (λ a. In (record_of zone apart a) rs) same (enclosing_shown zone apart off n.0 n.1 n.2 answer given).encloser
-
-pub nsec3_answers_below_cut : Nsec3AnswersBelowCut
-nsec3_answers_below_cut origin m hash parameters rs x c zone apart of_zone cut counts t p e = by (is_handed_on origin hash rs x) (sym (below_only zone apart rs of_zone c cut counts t) ∙ e)
-  where
-    by : (b : Bool) → cond b None (wildcard_answer origin hash rs x) ≡ Some p → IsAnswerBelow c p
-    by true q = absurd cc
-    by false q = answer_below zone apart rs of_zone c cut counts p q
 
 -- ---- outside
 

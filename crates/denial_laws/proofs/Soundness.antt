@@ -1,91 +1,23 @@
--- What NSEC records of a zone prove of a judged name is so
-use Rattle.std.proofs.Common.{◌≡◌, ℕ, Bool, true, false, cond, not, ◌&&◌, ◌||◌, List, [], ◌∷◌, drop, refl, sym, ap, ◌∙◌, subst, true≢false, ◌⊎◌, inl, inr, arith}
-use Rattle.std.specs.Prelude.{Option, Some, None, option_map, option_and_then, ◌==◌}
-use Rattle.std.specs.Option.{option_map_or, option_or}
-use Rattle.zone_proto.specs.Names.{Name, name_eq, is_root, is_above, is_at_or_above, IsAbove, star_under, is_wildcard}
-use Rattle.zone_proto.specs.Types.{NS, CNAME, SOA, DS, RRSIG, NSEC, ANY, ANAME}
-use Rattle.zone_proto.proofs.Members.{In, In-from_any, any_from_In, and_left, and_right, not_true, or_left, or_right}
-use Rattle.zone_proto.proofs.Names.NameTree.{name_eq-Decides, above_test, is_at_or_above_complete}
+-- What is found in a zone, and what isn't, whatever records prove of it
+use Rattle.std.proofs.Common.{◌≡◌, ℕ, Bool, true, false, cond, ◌||◌, List, [], ◌∷◌, refl, sym, ap, ◌∙◌, subst, true≢false, inl}
+use Rattle.std.specs.Prelude.{None, option_map, ◌==◌}
+use Rattle.std.specs.Option.{option_or}
+use Rattle.zone_proto.specs.Names.{Name, is_root, is_at_or_above, IsAbove, star_under, is_wildcard}
+use Rattle.zone_proto.specs.Types.{ANY}
+use Rattle.zone_proto.proofs.Members.{In, any_from_In, or_right}
+use Rattle.zone_proto.proofs.Names.NameTree.{is_at_or_above_complete}
 use Rattle.zone_map.specs.AnyTypes.{any_type, searched_type}
 use Rattle.zone_map.specs.Direct.{direct}
-use Rattle.zone_map.specs.Wildcards.{exists, found, renamed, wildcard, asked_star, asked_star_exists, closest_encloser}
+use Rattle.zone_map.specs.Wildcards.{exists, found, wildcard, asked_star, asked_star_exists, closest_encloser}
 use Rattle.zone_map.specs.Zones.{Sets, owns, types_at, names_of, owns_at_or_below}
 use Rattle.zone_map.proofs.Owned.{name_in, type_in, type_owned}
-use Rattle.zone_denial.specs.NsecCircle.{nsec_next}
-use Rattle.zone_denial.specs.NsecDenial.{nsec_encloser}
-use Rattle.zone_denial.specs.NsecLaws.{IsNsecZone}
-use Rattle.zone_denial.proofs.Chain.NsecAskedStar.{enclosers_agree, proved_star_is_asked}
 use Rattle.zone_denial.proofs.Chain.NsecBelow.{above_at}
-use Rattle.zone_denial.proofs.Chain.NsecCircle.{next_owned}
-use Rattle.zone_denial.proofs.Names.ExistingAncestors.{unowned_absent}
-use Rattle.zone_lookup.specs.Replies.{name_exists, nx_domain, absent, negative_answer}
-use Rattle.denial_validation.specs.NsecProofs.{lists, shows_type, is_of_zone, is_ancestor_delegation, is_of_apex, is_wrong_side, may_tell_of, covers, denies_name, denies_type, shows_empty, shown_encloser, star_passes, denied_and_star, is_bare, shows_unsigned_delegation, proves_no_data}
-use Rattle.denial_validation.specs.NsecRecords.{NsecRecord}
-use Rattle.denial_laws.specs.Judged.{AreOfZone, IsJudged}
-use Rattle.denial_laws.specs.Soundness.{NameErrorSound, IsWithoutData, IsUnflattened, NoDataSound, IsEmptyNonTerminal, EmptySound, WildcardNoDataSound, WildcardAnswerSound, IsUnsignedDelegation, UnsignedDelegationSound, IsSound}
-use Rattle.denial_laws.proofs.Gaps.{IsBetween, off_circle}
-use Rattle.denial_laws.proofs.NameErrors.{over, error_means, error_denied, covers_between, between_denied, nothing_there}
-use Rattle.denial_laws.proofs.NothingFound.{direct_none}
-use Rattle.denial_laws.proofs.Readings.{record_at, of_owner, listed_owned, owned_listed}
-use Rattle.denial_laws.proofs.ShownEnclosers.{judged_star, shown_is}
-use Rattle.denial_laws.proofs.Speaking.{empty_off}
-use Rattle.denial_laws.proofs.Stars.{exists_is, asked_only}
+use Rattle.zone_lookup.specs.Replies.{name_exists, absent, negative_answer}
+use Rattle.denial_laws.specs.Soundness.{IsEmptyNonTerminal}
 
 pub neither : (a b : Bool) → a || b ≡ false → (a ≡ false) × (b ≡ false)
 neither true b e = absurd (true≢false e)
 neither false b e = (refl, e)
-
--- ---- what a record that denies a type says of its owner
-
-module _ (origin : Name) (m : Sets) (h : IsNsecZone origin m) (y : Name) (t : ℕ) (d : denies_type origin (record_at origin m h y) y t ≡ true) where
-  abbrev r : NsecRecord
-  r = record_at origin m h y
-
-  right_side : is_wrong_side origin r t ≡ false
-  right_side = not_true (is_wrong_side origin r t) (and_right (is_of_zone origin r && name_eq y y && not (shows_type r t) && not (lists r CNAME)) (not (is_wrong_side origin r t)) d)
-
-  first_four : is_of_zone origin r && name_eq y y && not (shows_type r t) && not (lists r CNAME) ≡ true
-  first_four = and_left (is_of_zone origin r && name_eq y y && not (shows_type r t) && not (lists r CNAME)) (not (is_wrong_side origin r t)) d
-
-  unaliased : lists r CNAME ≡ false
-  unaliased = not_true (lists r CNAME) (and_right (is_of_zone origin r && name_eq y y && not (shows_type r t)) (not (lists r CNAME)) first_four)
-
-  unshown : shows_type r t ≡ false
-  unshown =
-      not_true (shows_type r t)
-      (and_right (is_of_zone origin r && name_eq y y) (not (shows_type r t)) (and_left (is_of_zone origin r && name_eq y y && not (shows_type r t)) (not (lists r CNAME)) first_four))
-
-  pub is_one_type : (t == ANY) ≡ false
-  is_one_type = (neither (t == NSEC || t == RRSIG) (t == ANY) (neither (t == NSEC || t == RRSIG || t == ANY) (lists r t) unshown).0).1
-
-  not_owned : (u : ℕ) → lists r u ≡ false → owns m y u ≡ false
-  not_owned u e = by (owns m y u) refl
-    where
-      by : (b : Bool) → owns m y u ≡ b → b ≡ false
-      by true k = absurd (true≢false (sym (owned_listed origin m h y u k) ∙ e))
-      by false k = refl
-
-  pub type_absent : owns m y t ≡ false
-  type_absent = not_owned t (neither (t == NSEC || t == RRSIG || t == ANY) (lists r t) unshown).1
-
-  pub alias_absent : owns m y CNAME ≡ false
-  alias_absent = not_owned CNAME unaliased
-
-  -- NS stands there beside SOA, but where DS is asked
-  pub ns_beside_soa : (t == DS) ≡ false → owns m y NS ≡ true → owns m y SOA ≡ true
-  ns_beside_soa e k = by (lists r SOA) refl
-    where
-      delegation : is_ancestor_delegation r ≡ false
-      delegation = sym (ap (λ b. cond b (is_of_apex origin r && not (is_root y)) (is_ancestor_delegation r)) e) ∙ right_side
-
-      soa : (owns m y SOA ≡ true) ⊎ (SOA ≡ RRSIG) ⊎ (SOA ≡ NSEC) → owns m y SOA ≡ true
-      soa (inl q) = q
-      soa (inr (inl q)) = absurd (omega (arith, q))
-      soa (inr (inr q)) = absurd (omega (arith, q))
-
-      by : (b : Bool) → lists r SOA ≡ b → owns m y SOA ≡ true
-      by true q = soa (listed_owned origin m h y SOA q)
-      by false q = absurd (true≢false (sym (λ i. owned_listed origin m h y NS k i && not (q i)) ∙ delegation))
 
 -- ---- a name that is there
 
@@ -105,63 +37,7 @@ unasked m x e = ap (λ b. cond b None (option_map star_under (closest_encloser m
 pub nothing_by : (m : Sets) (signed : Bool) (x : Name) (t : ℕ) → (t == ANY) ≡ false → direct m x t ≡ None → wildcard m signed x t ≡ None → found m signed x (searched_type m x t) ≡ None
 nothing_by m signed x t one d w = ap (found m signed x) (searched_by m x t one) ∙ (λ i. option_or (d i) (w i))
 
-module _ (origin : Name) (m : Sets) (x : Name) (j : IsJudged origin m x) where
-  abbrev h : IsNsecZone origin m
-  h = j.zone
-
-  -- where a name is there, no star is asked for it
-  wildcard_none : (signed : Bool) (t : ℕ) → owns_at_or_below m x ≡ true → wildcard m signed x t ≡ None
-  wildcard_none signed t e = ap (option_and_then (λ s. option_map (renamed signed s x) (direct m s t))) (unasked m x (exists_is origin m h j.one_kind x ∙ e))
-
-  -- the owner of a record that denies a type is the name
-  pub own_denied : (rs : List NsecRecord) (t : ℕ) → AreOfZone m rs → proves_no_data origin rs x t ≡ true → (owns m x NSEC ≡ true) × (denies_type origin (record_at origin m h x) x t ≡ true)
-  own_denied rs t zone p =
-      let r = In-from_any (λ r. denies_type origin r x t) rs p in
-      let o = of_owner origin m h rs zone r.0 r.1 in
-      let d : denies_type origin (record_at origin m h o.0) x t ≡ true = ap (λ v. denies_type origin v x t) (sym o.2) ∙ r.2 in
-      let same : o.0 ≡ x = (name_eq-Decides o.0 x).0 (named (record_at origin m h o.0) d) in
-      (ap (λ n. owns m n NSEC) (sym same) ∙ o.1, (λ i. denies_type origin (record_at origin m h (sym same i)) x t) ∙ d)
-    where
-      named : (r : NsecRecord) → denies_type origin r x t ≡ true → name_eq r.owner x ≡ true
-      named r d =
-          and_right (is_of_zone origin r) (name_eq r.owner x)
-          (and_left (is_of_zone origin r && name_eq r.owner x) (not (shows_type r t))
-          (and_left (is_of_zone origin r && name_eq r.owner x && not (shows_type r t)) (not (lists r CNAME))
-          (and_left (is_of_zone origin r && name_eq r.owner x && not (shows_type r t) && not (lists r CNAME)) (not (is_wrong_side origin r t)) d)))
-
-  denied_direct : (t : ℕ) → denies_type origin (record_at origin m h x) x t ≡ true → IsUnflattened m x t → direct m x t ≡ None
-  denied_direct t d flat =
-      direct_none origin m x j.unreferred j.inside j.uncut t (ns_beside_soa origin m h x t d) (type_absent origin m h x t d) (alias_absent origin m h x t d) flat
-
-pub no_data_sound : NoDataSound
-no_data_sound origin m rs x t j zone flat p =
-    let d = own_denied origin m x j rs t zone p in
-    let some = there_from m x NSEC d.0 in
-    record {
-      nothing = λ signed. nothing_by m signed x t (is_one_type origin m j.zone x t d.1) (denied_direct origin m x j t d.1 flat) (wildcard_none origin m x j signed t some);
-      there = present origin m x (or_left (owns_at_or_below m x) (asked_star_exists m x) some);
-    }
-
 -- ---- empty names
-
-module _ (origin : Name) (m : Sets) (y : Name) (j : IsJudged origin m y) (o : Name) (k : owns m o NSEC ≡ true) (s : shows_empty origin (record_at origin m j.zone o) y ≡ true) where
-  abbrev v : NsecRecord
-  v = record_at origin m j.zone o
-
-  between : IsBetween origin m y o
-  between = covers_between origin m j.zone y o k (and_right (may_tell_of v y) (covers origin v y) (and_left (may_tell_of v y && covers origin v y) (is_above y (nsec_next origin m o)) s))
-
-  pub is_empty : IsEmptyNonTerminal m y
-  is_empty = record {
-    empty = empty_off origin m y j (off_circle origin m j.zone y o between);
-    below = (nsec_next origin m o, NSEC, (above_test y (nsec_next origin m o)).0 (and_right (may_tell_of v y && covers origin v y) (is_above y (nsec_next origin m o)) s), next_owned origin m j.zone o);
-  }
-
-pub empty_sound : EmptySound
-empty_sound origin m rs x j zone p =
-    let r = In-from_any (λ r. shows_empty origin r x) rs p in
-    let o = of_owner origin m j.zone rs zone r.0 r.1 in
-    is_empty origin m x j o.0 o.1 (ap (λ v. shows_empty origin v x) (sym o.2) ∙ r.2)
 
 -- what owns nothing has nothing found at it
 pub unowned : (m : Sets) (y : Name) (u : ℕ) → types_at m y ≡ [] → owns m y u ≡ false
@@ -171,22 +47,12 @@ unowned m y u e = by (owns m y u) refl
     by true k = absurd (subst (In u) e (type_in m y u k))
     by false k = refl
 
-empty_direct : (origin : Name) (m : Sets) (y : Name) → IsJudged origin m y → (t : ℕ) → types_at m y ≡ [] → direct m y t ≡ None
-empty_direct origin m y j t e =
-    direct_none origin m y j.unreferred j.inside j.uncut t (λ d k. absurd (true≢false (sym k ∙ unowned m y NS e))) (unowned m y t e) (unowned m y CNAME e) (λ a. unowned m y ANAME e)
-
 -- an empty non-terminal is there, and nothing is found for it
 pub empty_there : (m : Sets) (y : Name) → IsEmptyNonTerminal m y → owns_at_or_below m y ≡ true
 empty_there m y e = by e.below
   where
     by : (n : Name) × (v : ℕ) × IsAbove y n × (owns m n v ≡ true) → owns_at_or_below m y ≡ true
     by (n, v, w, o) = any_from_In (is_at_or_above y) n (names_of m) (name_in m n v o) (is_at_or_above_complete y n (above_at y n w))
-
-pub empty_without_data : (origin : Name) (m : Sets) (x : Name) → IsJudged origin m x → IsEmptyNonTerminal m x → (t : ℕ) → IsWithoutData origin m x t
-empty_without_data origin m x j e t = record {
-  nothing = λ signed i. option_or (empty_direct origin m x j (searched_type m x t) e.empty i) (wildcard_none origin m x j signed (searched_type m x t) (empty_there m x e) i);
-  there = present origin m x (or_left (owns_at_or_below m x) (asked_star_exists m x) (empty_there m x e));
-}
 
 -- where neither a name nor one below it owns a set, it owns none
 pub unowned_types : (m : Sets) (y : Name) → owns_at_or_below m y ≡ false → types_at m y ≡ []
@@ -195,169 +61,3 @@ unowned_types m y q = by (types_at m y) refl
     by : (ts : List ℕ) → types_at m y ≡ ts → ts ≡ []
     by [] e = refl
     by (v ∷ ts) e = absurd (true≢false (sym (there_from m y v (type_owned m y v (subst (In v) (sym e) (inl refl)))) ∙ q))
-
--- ---- a name error
-
-pub name_error_sound : NameErrorSound
-name_error_sound origin m rs x j zone p = record { denied = denied; nothing = λ signed t i. option_or (empty_direct origin m x j t (unowned_types m x gone.0) i) (starless signed t i) }
-  where
-    denied : negative_answer origin m x ≡ nx_domain
-    denied = error_denied origin m rs x j zone p
-
-    gone : (owns_at_or_below m x ≡ false) × (asked_star_exists m x ≡ false)
-    gone = error_means origin m x denied
-
-    above : IsAbove origin x
-    above = over origin m x j gone.0
-
-    star : Name
-    star = star_under (nsec_encloser origin m x)
-
-    -- the star that is asked, if one is, owns nothing
-    starless : (signed : Bool) (t : ℕ) → wildcard m signed x t ≡ None
-    starless signed t = by (asked_star m x) refl
-      where
-        by : (o : Option Name) → asked_star m x ≡ o → option_and_then (λ s. option_map (renamed signed s x) (direct m s t)) o ≡ None
-        by None e = refl
-        by (Some w) e = ap (option_map (renamed signed w x)) (ap (λ s. direct m s t) same ∙ empty_direct origin m star (judged_star origin m x j above) t (unowned_types m star none))
-          where
-            same : w ≡ star
-            same = (asked_only origin m x j above w e).0
-
-            none : owns_at_or_below m star ≡ false
-            none = sym (exists_is origin m j.zone j.one_kind star) ∙ ap (exists m) (sym same) ∙ ap (λ o. option_map_or (exists m) o false) (sym e) ∙ gone.1
-
--- ---- by a wildcard
-
-module _ (origin : Name) (m : Sets) (rs : List NsecRecord) (x : Name) (j : IsJudged origin m x) (zone : AreOfZone m rs) (test : Name → Bool) (p : denied_and_star origin rs x test ≡ true) where
-  -- the record that denies the name, and its owner
-  denying : (r : NsecRecord) × In r rs × (denies_name origin r x && star_passes test r x ≡ true)
-  denying = In-from_any (λ r. denies_name origin r x && star_passes test r x) rs p
-
-  owner : (o : Name) × (owns m o NSEC ≡ true) × (denying.0 ≡ record_at origin m j.zone o)
-  owner = of_owner origin m j.zone rs zone denying.0 denying.1
-
-  denies : denies_name origin (record_at origin m j.zone owner.0) x ≡ true
-  denies = ap (λ v. denies_name origin v x) (sym owner.2) ∙ and_left (denies_name origin denying.0 x) (star_passes test denying.0 x) denying.2
-
-  -- nothing is there, and the star under its closest encloser passes
-  pub nothing_at : owns_at_or_below m x ≡ false
-  nothing_at = nothing_there origin m x j owner.0 owner.1 denies
-
-  pub up : IsAbove origin x
-  up = over origin m x j nothing_at
-
-  pub passed : test (star_under (nsec_encloser origin m x)) ≡ true
-  passed =
-      sym
-      (ap (λ v. option_map_or (λ e. test (star_under e)) v false)
-      (ap (λ v. shown_encloser v x) owner.2 ∙ shown_is origin m x j up owner.0 (between_denied origin m x j owner.0 owner.1 denies)))
-      ∙ and_right (denies_name origin denying.0 x) (star_passes test denying.0 x) denying.2
-
-pub wildcard_answer_sound : WildcardAnswerSound
-wildcard_answer_sound origin m rs x e j zone p =
-    let u = up origin m rs x j zone (name_eq (star_under e)) p in
-    let same : star_under e ≡ star_under (nsec_encloser origin m x) = (name_eq-Decides (star_under e) (star_under (nsec_encloser origin m x))).0 (passed origin m rs x j zone (name_eq (star_under e)) p) in
-    record {
-      absent = nothing_at origin m rs x j zone (name_eq (star_under e)) p;
-      encloser = enclosers_agree origin m j.zone j.one_kind x ((above_test origin x).1 u) j.uncut ∙ ap Some (ap (drop 1) (sym same));
-    }
-
-pub wildcard_no_data_sound : WildcardNoDataSound
-wildcard_no_data_sound origin m rs x t j zone plain flat p =
-    record {
-      none = record {
-        nothing = λ signed i.
-            option_or (empty_direct origin m x j (searched_type m x t) (unowned_types m x none) i)
-            ((ap (option_and_then (λ s. option_map (renamed signed s x) (direct m s (searched_type m x t)))) asked ∙ ap (option_map (renamed signed star x)) bare.0) i);
-        there = present origin m x (or_right (owns_at_or_below m x) (asked_star_exists m x) star_exists);
-      };
-      absent = none;
-      star = star_exists;
-    }
-  where
-    none : owns_at_or_below m x ≡ false
-    none = nothing_at origin m rs x j zone (is_bare origin rs t) p
-
-    u : IsAbove origin x
-    u = up origin m rs x j zone (is_bare origin rs t) p
-
-    star : Name
-    star = star_under (nsec_encloser origin m x)
-
-    k : IsJudged origin m star
-    k = judged_star origin m x j u
-
-    asked : asked_star m x ≡ Some star
-    asked = proved_star_is_asked origin m j.zone j.one_kind x ((above_test origin x).1 u) j.uncut plain (unowned_absent m x none)
-
-    -- the star's record denies the type, or another shows that the star is empty
-    bare : (direct m star (searched_type m x t) ≡ None) × (owns_at_or_below m star ≡ true)
-    bare = by (In-from_any (λ r. denies_type origin r star t || shows_empty origin r star) rs (passed origin m rs x j zone (is_bare origin rs t) p))
-      where
-        by : (r : NsecRecord) × In r rs × (denies_type origin r star t || shows_empty origin r star ≡ true) → (direct m star (searched_type m x t) ≡ None) × (owns_at_or_below m star ≡ true)
-        by (r, i, e) = of (denies_type origin r star t) refl
-          where
-            of : (b : Bool) → denies_type origin r star t ≡ b → (direct m star (searched_type m x t) ≡ None) × (owns_at_or_below m star ≡ true)
-            of true q =
-                let own = own_denied origin m star k rs t zone (any_from_In (λ r. denies_type origin r star t) r rs i q) in
-                (ap (direct m star) (searched_by m x t (is_one_type origin m j.zone star t own.1)) ∙ denied_direct origin m star k t own.1 flat, there_from m star NSEC own.0)
-            of false q =
-                let o = of_owner origin m j.zone rs zone r i in
-                let shown : shows_empty origin r star ≡ true = ap (λ a. a || shows_empty origin r star) (sym q) ∙ e in
-                let empty = is_empty origin m star k o.0 o.1 (ap (λ v. shows_empty origin v star) (sym o.2) ∙ shown) in
-                (empty_direct origin m star k (searched_type m x t) empty.empty, empty_there m star empty)
-
-    star_exists : asked_star_exists m x ≡ true
-    star_exists = ap (λ a. option_map_or (exists m) a false) asked ∙ exists_is origin m j.zone j.one_kind star ∙ bare.1
-
--- ---- an unsigned delegation
-
-pub unsigned_delegation_sound : UnsignedDelegationSound
-unsigned_delegation_sound origin m rs x h zone p = by (In-from_any (λ r. shows_unsigned_delegation origin r x) rs p)
-  where
-    by : (r : NsecRecord) × In r rs × (shows_unsigned_delegation origin r x ≡ true) → IsUnsignedDelegation origin m x
-    by (r, i, e) = of (of_owner origin m h rs zone r i)
-      where
-        of : (o : Name) × (owns m o NSEC ≡ true) × (r ≡ record_at origin m h o) → IsUnsignedDelegation origin m x
-        of (o, k, q) = named (ap (λ v. shows_unsigned_delegation origin v x) (sym q) ∙ e)
-          where
-            v : NsecRecord
-            v = record_at origin m h o
-
-            owned : (owns m o NS ≡ true) ⊎ (NS ≡ RRSIG) ⊎ (NS ≡ NSEC) → owns m o NS ≡ true
-            owned (inl g) = g
-            owned (inr (inl g)) = absurd (omega (arith, g))
-            owned (inr (inr g)) = absurd (omega (arith, g))
-
-            not_owned : (u : ℕ) → lists v u ≡ false → owns m o u ≡ false
-            not_owned u g = if_so (owns m o u) refl
-              where
-                if_so : (b : Bool) → owns m o u ≡ b → b ≡ false
-                if_so true w = absurd (true≢false (sym (owned_listed origin m h o u w) ∙ g))
-                if_so false w = refl
-
-            named : shows_unsigned_delegation origin v x ≡ true → IsUnsignedDelegation origin m x
-            named d =
-                let four = and_left (is_above origin o && name_eq o x && lists v NS && not (lists v DS)) (not (lists v SOA)) d in
-                let three = and_left (is_above origin o && name_eq o x && lists v NS) (not (lists v DS)) four in
-                let two = and_left (is_above origin o && name_eq o x) (lists v NS) three in
-                let same : o ≡ x = (name_eq-Decides o x).0 (and_right (is_above origin o) (name_eq o x) two) in
-                record {
-                  below = (above_test origin x).0 (ap (is_above origin) (sym same) ∙ and_left (is_above origin o) (name_eq o x) two);
-                  delegated = ap (λ n. owns m n NS) (sym same) ∙ owned (listed_owned origin m h o NS (and_right (is_above origin o && name_eq o x) (lists v NS) three));
-                  unsigned = ap (λ n. owns m n DS) (sym same) ∙ not_owned DS (not_true (lists v DS) (and_right (is_above origin o && name_eq o x && lists v NS) (not (lists v DS)) four));
-                  no_apex = ap (λ n. owns m n SOA) (sym same) ∙ not_owned SOA (not_true (lists v SOA) (and_right (is_above origin o && name_eq o x && lists v NS && not (lists v DS)) (not (lists v SOA)) d));
-                }
-
--- ---- all of it
-
-pub records_sound : (origin : Name) (m : Sets) (rs : List NsecRecord) (x : Name) → IsJudged origin m x → AreOfZone m rs → IsSound origin m x rs
-records_sound origin m rs x j zone = record {
-  error = name_error_sound origin m rs x j zone;
-  data' = λ t. no_data_sound origin m rs x t j zone;
-  empty = empty_sound origin m rs x j zone;
-  wildcard_data = λ t. wildcard_no_data_sound origin m rs x t j zone;
-  answer = λ e. wildcard_answer_sound origin m rs x e j zone;
-  delegation = unsigned_delegation_sound origin m rs x j.zone zone;
-}

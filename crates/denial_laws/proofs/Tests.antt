@@ -1,5 +1,5 @@
 -- Tests that fail, and what a search by a test finds
-use Rattle.std.proofs.Common.{◌≡◌, Bool, true, false, cond, ◌&&◌, ◌||◌, List, [], ◌∷◌, refl, sym, ap, ◌∙◌, true≢false, inl, inr}
+use Rattle.std.proofs.Common.{◌≡◌, Bool, true, false, cond, ◌&&◌, ◌||◌, List, [], ◌∷◌, refl, sym, ap, ◌∙◌, true≢false, ◌⊎◌, inl, inr}
 use Rattle.std.specs.Prelude.{Some, find}
 use Rattle.std.specs.List.{list_any}
 use Rattle.zone_proto.proofs.Members.{In}
@@ -28,3 +28,7 @@ any_found {X = X} p (y ∷ ys) e = by (p y) refl e (any_found p ys)
     by : (b : Bool) → p y ≡ b → b || list_any p ys ≡ true → (list_any p ys ≡ true → (x : X) × (find p ys ≡ Some x) × In x ys × (p x ≡ true)) → (x : X) × (find p (y ∷ ys) ≡ Some x) × In x (y ∷ ys) × (p x ≡ true)
     by true h q more = (y, ap (λ b. cond b (Some y) (find p ys)) h, inl refl, h)
     by false h q more = let r = more q in (r.0, ap (λ b. cond b (Some y) (find p ys)) h ∙ r.1, inr r.2, r.3)
+
+pub either : (a b : Bool) → a || b ≡ true → (a ≡ true) ⊎ (b ≡ true)
+either true b h = inl refl
+either false b h = inr h

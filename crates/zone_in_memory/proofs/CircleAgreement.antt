@@ -29,7 +29,7 @@ use Rattle.zone_lookup.specs.Replies.{NegativeAnswer, name_exists, nx_domain, re
 use Rattle.zone_lookup.proofs.NegativeReplies.{reply_is_negative}
 use Rattle.denial_laws.specs.Acceptance.{IsAccepted}
 use Rattle.denial_laws.specs.Judged.{read, IsJudged}
-use Rattle.denial_laws.proofs.Accepted.{denial_accepted}
+use Rattle.denial_laws.proofs.CircleLaws.{denial_accepted}
 use Rattle.zone_in_memory.specs.Lookup.{error_of, SaysOrMemory, IsNameError}
 use Rattle.zone_in_memory.specs.NsecAnswers.{IsDenialSection, IsNsecProof, HasNsecProof, HasStarProof, HasAcceptedRecords, AgreesWithCircle}
 

@@ -29,7 +29,7 @@ use Rattle.zone_denial.proofs.Hashed.Nsec3Lists.{lists_all_owned, denials_agree}
 use Rattle.zone_lookup.specs.Replies.{name_exists, nx_domain, IsReplyFor}
 use Rattle.denial_laws.specs.Nsec3Acceptance.{IsNsec3Accepted, IsAskedStarAccepted}
 use Rattle.denial_laws.specs.Nsec3Judged.{read_nsec3_sets}
-use Rattle.denial_laws.proofs.Nsec3Accepted.{nsec3_denial_accepted, nsec3_wildcard_answer_accepted}
+use Rattle.denial_laws.proofs.Nsec3CircleLaws.{nsec3_denial_accepted, nsec3_wildcard_answer_accepted}
 use Rattle.zone_in_memory.specs.Lookup.{SaysOrMemory, IsNameError}
 use Rattle.zone_in_memory.specs.AnsweredSets.{AnswersSetsOrMemory}
 use Rattle.zone_in_memory.specs.Handlers.{Zone}

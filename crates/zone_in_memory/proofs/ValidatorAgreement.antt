@@ -29,14 +29,12 @@ use Rattle.denial_laws.specs.Nsec3Calls.{told}
 use Rattle.denial_laws.specs.Nsec3Judged.{read_nsec3_sets, IsNsec3Judged}
 use Rattle.denial_laws.specs.Nsec3Soundness.{IsOptOutSound, Nsec3NothingProved}
 use Rattle.denial_laws.specs.Soundness.{IsWithoutData, IsTopmostCut, NothingProved}
-use Rattle.denial_laws.proofs.Nsec3Calls.{denial_stands, nsec3_parameters_found}
-use Rattle.denial_laws.proofs.Nsec3LeftOut.{nsec3_opt_out_sound}
+use Rattle.denial_laws.proofs.CircleLaws.{nothing_below_cut, name_error_sound, no_data_sound, empty_sound, empty_without_data, wildcard_no_data_sound}
+use Rattle.denial_laws.proofs.Nsec3CircleLaws.{nsec3_parameters_found, nsec3_opt_out_sound, nsec3_own_nothing_below_cut, nsec3_name_error_sound, nsec3_no_data_sound, nsec3_wildcard_no_data_sound}
+use Rattle.denial_laws.proofs.Nsec3Calls.{denial_stands}
 use Rattle.denial_laws.proofs.Nsec3Shown.{nsec3_denial_of_zone}
-use Rattle.denial_laws.proofs.Nsec3Silence.{nsec3_own_nothing_below_cut}
-use Rattle.denial_laws.proofs.Nsec3Soundness.{nsec3_name_error_sound, nsec3_no_data_sound, nsec3_wildcard_no_data_sound}
 use Rattle.denial_laws.proofs.Readings.{denial_of_zone}
-use Rattle.denial_laws.proofs.Silence.{nothing_below_cut, nothing_outside}
-use Rattle.denial_laws.proofs.Soundness.{name_error_sound, no_data_sound, empty_sound, empty_without_data, wildcard_no_data_sound}
+use Rattle.denial_laws.proofs.Silence.{nothing_outside}
 use Rattle.zone_in_memory.specs.Handlers.{Zone}
 use Rattle.zone_in_memory.specs.Lookup.{Says, SaysOrMemory}
 use Rattle.zone_in_memory.specs.NsecAnswers.{IsNsecAnswer}

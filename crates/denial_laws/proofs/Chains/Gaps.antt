@@ -13,7 +13,14 @@ use Rattle.zone_denial.specs.Chains.{IsNsecChain, next_owner}
 use Rattle.zone_denial.proofs.Chain.NsecBelow.{above_at}
 use Rattle.zone_denial.proofs.Chain.NsecCircle.{above_upto, NextIs, least_after, wraps}
 use Rattle.zone_denial.proofs.Chains.NsecLinks.{origin_upto, next_is}
-use Rattle.denial_laws.proofs.Gaps.{either, upto_through}
+use Rattle.denial_laws.proofs.Tests.{either}
+
+upto_through : (a b c : Name) → is_upto name_cmp a b ≡ true → is_upto name_cmp b c ≡ true → is_upto name_cmp a c ≡ true
+upto_through a b c h k = by (upto_cases name_order b c k)
+  where
+    by : (b ≡ c) ⊎ (name_cmp b c ≡ Less) → is_upto name_cmp a c ≡ true
+    by (inl e) = ap (is_upto name_cmp a) (sym e) ∙ h
+    by (inr e) = upto_before name_order a c (before_from_upto name_order a b c h e)
 
 -- a name stands after an owner and before its next name, or after the last owner, whose next name is the origin
 pub record IsBetween (origin : Name) (m : Sets) (x o : Name) : Type 0 where

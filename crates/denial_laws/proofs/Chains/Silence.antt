@@ -1,5 +1,5 @@
 -- Below a zone cut that is in a chain of NSEC sets, the records of the chain prove nothing
-use Rattle.std.proofs.Common.{◌≡◌, Bool, true, false, not, ◌&&◌, ◌||◌, refl, sym, ap, ◌∙◌, true≢false, ◌⊎◌, inl, inr, Less}
+use Rattle.std.proofs.Common.{◌≡◌, Bool, true, false, not, List, ◌&&◌, ◌||◌, refl, sym, ap, ◌∙◌, true≢false, ◌⊎◌, inl, inr, Less}
 use Rattle.zone_proto.specs.Names.{Name, name_cmp, name_eq, is_above, is_at_or_above, IsAtOrAbove, IsAbove}
 use Rattle.zone_proto.specs.Order.{is_upto}
 use Rattle.zone_proto.specs.Types.{NS, SOA, NSEC}
@@ -7,39 +7,31 @@ use Rattle.zone_proto.proofs.Members.{none_passes, and_right}
 use Rattle.zone_proto.proofs.Names.NameTree.{name_eq-Decides, above_test, above_is_less, is_at_or_above_complete}
 use Rattle.zone_proto.proofs.Names.Tree.{name_order, above_cases, together}
 use Rattle.zone_proto.proofs.Ordering.Orders.{asym, before_from_upto, upto_before}
-use Rattle.zone_map.specs.Zones.{owns, owners}
+use Rattle.zone_map.specs.Zones.{Sets, owns, owners}
 use Rattle.zone_map.proofs.Owned.{owner_in}
 use Rattle.zone_denial.specs.Authority.{is_below_cut, owns_besides}
-use Rattle.zone_denial.specs.Chains.{is_below_dname, next_owner}
+use Rattle.zone_denial.specs.Chains.{is_below_dname, next_owner, IsNsecChain}
 use Rattle.zone_denial.proofs.Chain.NsecBelow.{above_at}
 use Rattle.zone_denial.proofs.Chains.NsecLists.{lists_all_owned}
 use Rattle.denial_validation.specs.NsecProofs.{DNAME, lists, is_of_zone, may_tell_of, covers}
 use Rattle.denial_validation.specs.NsecRecords.{NsecRecord}
 use Rattle.denial_laws.specs.Chains.{ChainNothingBelowCut}
+use Rattle.denial_laws.specs.Judged.{AreOfZone}
+use Rattle.denial_laws.specs.Soundness.{IsTopmostCut, NothingProved}
 use Rattle.denial_laws.proofs.Chains.Gaps.{IsBetween, gap}
 use Rattle.denial_laws.proofs.Chains.NameErrors.{covers_between}
 use Rattle.denial_laws.proofs.Chains.Readings.{record_at, of_owner, told_listed, told_unlisted}
 use Rattle.denial_laws.proofs.Silence.{left_false, silent}
 
-pub nothing_below_cut : ChainNothingBelowCut
-nothing_below_cut origin m rs x c h zone cut plain =
+-- below the topmost zone cut above a name nothing is proved, if the cut is in the chain
+pub nothing_below_owner : (origin : Name) (m : Sets) (rs : List NsecRecord) (x c : Name) → IsNsecChain origin m → AreOfZone m rs → IsTopmostCut origin m x c → owns m c NSEC ≡ true → NothingProved origin rs x
+nothing_below_owner origin m rs x c h zone cut on =
     silent origin rs x (λ r i. untold r (of_owner origin m h rs zone r i)) (λ r i. unnamed r (of_owner origin m h rs zone r i)) (λ r i. unbelow r (of_owner origin m h rs zone r i))
   where
     Owned : NsecRecord → Type 0
     Owned r = (o : Name) × (owns m o NSEC ≡ true) × (r ≡ record_at origin m h o)
 
-    -- the cut is in the chain, and no owner stands below it
-    on : owns m c NSEC ≡ true
-    on = by (owns m c NSEC) refl
-      where
-        by : (b : Bool) → owns m c NSEC ≡ b → b ≡ true
-        by true e = refl
-        by false e = of ((lists_all_owned origin m h c NS cut.delegated).off e (is_at_or_above_complete origin c (above_at origin c cut.below)))
-          where
-            of : (is_below_cut origin m c ≡ true) ⊎ (is_below_dname m c ≡ true) → false ≡ true
-            of (inl k) = absurd (true≢false (sym k ∙ cut.topmost))
-            of (inr k) = absurd (true≢false (sym k ∙ plain))
-
+    -- no owner stands below the cut
     none_below : (o : Name) → owns m o NSEC ≡ true → IsAbove c o → ⊥
     none_below o k w =
         none_passes (λ a. is_above origin a && is_above a o) c (owners m NS) uncut (owner_in m c NS cut.delegated) (λ i. (above_test origin c).1 cut.below i && (above_test c o).1 w i)
@@ -110,3 +102,15 @@ nothing_below_cut origin m rs x c h zone cut plain =
 
     unbelow : (r : NsecRecord) → Owned r → is_above origin r.owner && name_eq r.owner x ≡ false
     unbelow r (o, k, q) = right_false (is_above origin r.owner) (name_eq r.owner x) (ap (λ v. name_eq v.owner x) q ∙ other o k)
+
+-- as it is where no DNAME stands above it
+pub nothing_below_cut : ChainNothingBelowCut
+nothing_below_cut origin m rs x c h zone cut plain = nothing_below_owner origin m rs x c h zone cut (by (owns m c NSEC) refl)
+  where
+    by : (b : Bool) → owns m c NSEC ≡ b → b ≡ true
+    by true e = refl
+    by false e = of ((lists_all_owned origin m h c NS cut.delegated).off e (is_at_or_above_complete origin c (above_at origin c cut.below)))
+      where
+        of : (is_below_cut origin m c ≡ true) ⊎ (is_below_dname m c ≡ true) → false ≡ true
+        of (inl k) = absurd (true≢false (sym k ∙ cut.topmost))
+        of (inr k) = absurd (true≢false (sym k ∙ plain))

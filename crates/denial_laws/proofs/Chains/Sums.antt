@@ -1,6 +1,6 @@
 -- What a validator sums up of a name's own denial by NSEC is the case that the zone has
 use Rattle.std.proofs.Common.{◌≡◌, ℕ, Bool, true, false, not, ◌&&◌, List, drop, sym, ap, ◌∙◌, subst, true≢false}
-use Rattle.std.specs.Prelude.{Some, None, find, option_and_then, IsTrue, IsFalse}
+use Rattle.std.specs.Prelude.{Some, None, find, option_and_then}
 use Rattle.zone_proto.specs.Names.{Name, name_eq, is_at_or_above, IsAbove, star_under}
 use Rattle.zone_proto.specs.Types.{NS, NSEC}
 use Rattle.zone_proto.proofs.Members.{In, In-from_any, any_from_In, and_left, or_left}

@@ -1,4 +1,4 @@
-use Rattle.denial_laws.proofs.EmptyAnswers.{no_data_accepted, empty_accepted, wildcard_no_data_accepted}
+use Rattle.denial_laws.proofs.CircleLaws.{no_data_accepted, empty_accepted, wildcard_no_data_accepted}
 use Rattle.denial_laws.proofs.laws.absent_data_are_accepted.Goals as goal
 
 pub returns-clause-own : goal.returns-clause-own

@@ -1,4 +1,4 @@
-use Rattle.denial_laws.proofs.Soundness.{no_data_sound, empty_sound, wildcard_no_data_sound}
+use Rattle.denial_laws.proofs.CircleLaws.{no_data_sound, empty_sound, wildcard_no_data_sound}
 use Rattle.denial_laws.proofs.laws.absent_data_are_sound.Goals as goal
 
 pub returns-clause-own : goal.returns-clause-own

@@ -1,4 +1,4 @@
-use Rattle.denial_laws.proofs.Accepted.{denial_accepted}
+use Rattle.denial_laws.proofs.CircleLaws.{denial_accepted}
 use Rattle.denial_laws.proofs.laws.denials_are_accepted.Goals as goal
 
 pub returns : goal.returns

@@ -1,6 +1,5 @@
-use Rattle.denial_laws.proofs.Sums.{denial_summed_up}
-use Rattle.denial_laws.proofs.Nsec3Sums.{nsec3_denial_summed_up, nsec3_wildcard_summed_up}
-use Rattle.denial_laws.proofs.Nsec3Calls.{nsec3_parameters_found}
+use Rattle.denial_laws.proofs.CircleLaws.{denial_summed_up}
+use Rattle.denial_laws.proofs.Nsec3CircleLaws.{nsec3_denial_summed_up, nsec3_wildcard_summed_up, nsec3_parameters_found}
 use Rattle.denial_laws.proofs.laws.denials_are_summed_up.Goals as goal
 
 pub returns-clause-nsec : goal.returns-clause-nsec

@@ -1,4 +1,4 @@
-use Rattle.denial_laws.proofs.NameErrors.{name_error_accepted, starred_error_accepted}
+use Rattle.denial_laws.proofs.CircleLaws.{name_error_accepted, starred_error_accepted}
 use Rattle.denial_laws.proofs.laws.name_errors_are_accepted.Goals as goal
 
 pub returns-clause-plain : goal.returns-clause-plain

@@ -1,4 +1,4 @@
-use Rattle.denial_laws.proofs.Soundness.{name_error_sound}
+use Rattle.denial_laws.proofs.CircleLaws.{name_error_sound}
 use Rattle.denial_laws.proofs.laws.name_errors_are_sound.Goals as goal
 
 pub returns : goal.returns

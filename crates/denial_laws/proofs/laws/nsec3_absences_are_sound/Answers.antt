@@ -1,4 +1,4 @@
-use Rattle.denial_laws.proofs.Nsec3LeftOut.{nsec3_absence_sound, nsec3_opt_out_sound}
+use Rattle.denial_laws.proofs.Nsec3CircleLaws.{nsec3_absence_sound, nsec3_opt_out_sound}
 use Rattle.denial_laws.proofs.laws.nsec3_absences_are_sound.Goals as goal
 
 pub returns-clause-absence : goal.returns-clause-absence

@@ -1,4 +1,4 @@
-use Rattle.denial_laws.proofs.Nsec3Soundness.{nsec3_no_data_sound, nsec3_empty_sound, nsec3_wildcard_no_data_sound}
+use Rattle.denial_laws.proofs.Nsec3CircleLaws.{nsec3_no_data_sound, nsec3_empty_sound, nsec3_wildcard_no_data_sound}
 use Rattle.denial_laws.proofs.laws.nsec3_absent_data_are_sound.Goals as goal
 
 pub returns-clause-own : goal.returns-clause-own

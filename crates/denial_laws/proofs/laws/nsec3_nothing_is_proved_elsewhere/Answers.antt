@@ -1,4 +1,5 @@
-use Rattle.denial_laws.proofs.Nsec3Silence.{nsec3_nothing_below_cut, nsec3_own_nothing_below_cut, nsec3_answers_below_cut, nsec3_nothing_outside}
+use Rattle.denial_laws.proofs.Nsec3CircleLaws.{nsec3_nothing_below_cut, nsec3_own_nothing_below_cut, nsec3_answers_below_cut}
+use Rattle.denial_laws.proofs.Nsec3Silence.{nsec3_nothing_outside}
 use Rattle.denial_laws.proofs.laws.nsec3_nothing_is_proved_elsewhere.Goals as goal
 
 pub returns-clause-below_cut : goal.returns-clause-below_cut

@@ -1,4 +1,4 @@
-use Rattle.denial_laws.proofs.Nsec3Soundness.{nsec3_unsigned_delegation_sound, nsec3_all_in_sound}
+use Rattle.denial_laws.proofs.Nsec3CircleLaws.{nsec3_unsigned_delegation_sound, nsec3_all_in_sound}
 use Rattle.denial_laws.proofs.laws.nsec3_unsigned_delegations_are_sound.Goals as goal
 
 pub returns-clause-own : goal.returns-clause-own

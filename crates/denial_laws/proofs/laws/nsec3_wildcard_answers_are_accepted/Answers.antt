@@ -1,4 +1,4 @@
-use Rattle.denial_laws.proofs.Nsec3Accepted.{nsec3_wildcard_answer_accepted}
+use Rattle.denial_laws.proofs.Nsec3CircleLaws.{nsec3_wildcard_answer_accepted}
 use Rattle.denial_laws.proofs.laws.nsec3_wildcard_answers_are_accepted.Goals as goal
 
 pub returns : goal.returns

@@ -1,4 +1,4 @@
-use Rattle.denial_laws.proofs.Soundness.{wildcard_answer_sound}
+use Rattle.denial_laws.proofs.CircleLaws.{wildcard_answer_sound}
 use Rattle.denial_laws.proofs.laws.wildcard_answers_are_sound.Goals as goal
 
 pub returns : goal.returns
