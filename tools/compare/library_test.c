@@ -77,7 +77,7 @@ static int refusals(void) {
     IS(serial(&zones, "a..b", &number) == NK_BAD_NAME && number == 8);
     IS(load(&zones, 0, ORIGIN, text, &written) == NK_DONE && load(&zones, 1, ORIGIN, text, &written) == NK_ZONE_EXISTS && !written);
     IS(load(&zones, 0, ORIGIN, bad_text, &written) == NK_BAD_TEXT && written > 60 && !memcmp(room, told_of_it, strlen(told_of_it)) && room[written - 1] == '\n');
-    IS(load(&zones, 0, "b.example", "@ 1 SOA a b 1 2 3 4 5\nc.example. 1 A 192.0.2.1\n", &written) == NK_DONE && written);   /* outside of it: a warning */
+    IS(load(&zones, 0, "b.example", "@ 1 SOA a b 1 2 3 4 5\n@ 1 NS a\nc.example. 1 A 192.0.2.1\n", &written) == NK_DONE && written);   /* outside of it: a warning */
     IS(load(&zones, 0, "c.example", "b.example. 1 SOA a b 1 2 3 4 5\n", &written) == NK_BAD_TEXT && written);                  /* of another origin */
     IS(serial(&zones, ORIGIN, &number) == NK_DONE && number == 7 && serial(&zones, "c.example", &number) == NK_NO_ZONE && number == 7);
     memset(room, 85, sizeof room);

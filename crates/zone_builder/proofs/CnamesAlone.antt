@@ -1,6 +1,6 @@
 -- In a zone with which nothing is wrong a CNAME stands alone
 use Rattle.std.proofs.Common.{◌≡◌, ◌==◌, ◌&&◌, ◌||◌, ◌⊎◌, ℕ, Bool, true, false, cond, not, length, List, [], ◌∷◌, refl, sym, ap, ◌∙◌, inl, inr, eqb-true, true≢false, arith}
-use Rattle.std.specs.Prelude.{Some, None, is_some, IsTrue}
+use Rattle.std.specs.Prelude.{Option, Some, None, is_some, IsTrue}
 use Rattle.std.specs.Option.{option_or}
 use Rattle.zone_proto.specs.Names.{Name}
 use Rattle.zone_proto.specs.Types.{CNAME}
@@ -8,7 +8,7 @@ use Rattle.zone_map.specs.Upserts.{is_denial_type, CnamesStandAlone}
 use Rattle.zone_map.specs.Zones.{Sets, set_at, owns}
 use Rattle.zone_builder.specs.declared.fault.LoadFault.{LoadFault}
 use Rattle.zone_builder.specs.declared.given.GivenRecord.{GivenRecord}
-use Rattle.zone_builder.specs.Faults.{place_fault, count_fault, beside_fault, set_fault, stands_beside_cname, owns_cname, IsFaultless}
+use Rattle.zone_builder.specs.Faults.{place_fault, count_fault, iterations_fault, beside_fault, set_fault, stands_beside_cname, owns_cname, IsFaultless}
 use Rattle.zone_builder.specs.Records.{given_at, signing_at}
 use Rattle.zone_builder.specs.Sets.{signed_set_of, loaded_serial, loaded_set}
 use Rattle.zone_builder.proofs.Faulting.{second_none}
@@ -36,7 +36,10 @@ module _ (origin n : Name) (t : ℕ) where
   stands [] h o e f = absurd (true≢false h)
   stands (g ∷ gs) h o e f =
       beside_none (stands_beside_cname t) o _ e
-      (second_none (count_fault t g gs) (beside_fault t o g) (second_none (place_fault origin n t g) (option_or (count_fault t g gs) (beside_fault t o g)) f))
+      (second_none (iterations_fault (g ∷ gs)) (beside_fault t o g) (second_none (count_fault t g gs) later (second_none (place_fault origin n t g) (option_or (count_fault t g gs) later) f)))
+    where
+      later : Option LoadFault
+      later = option_or (iterations_fault (g ∷ gs)) (beside_fault t o g)
 
 pub cnames_alone : (origin : Name) (gs : List GivenRecord) (m : Sets) → ((n : Name) (t : ℕ) → set_at m n t ≡ loaded_set origin gs n t) → IsFaultless origin gs → CnamesStandAlone m
 cnames_alone origin gs m sets right = record { alone = alone }

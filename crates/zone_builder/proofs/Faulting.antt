@@ -17,8 +17,8 @@ use Rattle.zone_builder.specs.declared.fault.LoadFault.{LoadFault}
 use Rattle.zone_builder.specs.declared.fault.LoadFault.TheVariants as fault
 use Rattle.zone_builder.specs.declared.given.GivenRecord.{GivenRecord}
 use Rattle.zone_builder.specs.declared.groups.Group.{Group}
-use Rattle.zone_builder.specs.Faults.{class_fault, soa_fault, set_fault, fault_at, records_fault, IsFirstSetFault, IsFault, IsFaultless}
-use Rattle.zone_builder.specs.GroupFaults.{has_cname, group_fault, first_fault}
+use Rattle.zone_builder.specs.Faults.{apex_fault, class_fault, first_of, has_denials, soa_fault, set_fault, fault_at, records_fault, IsFirstSetFault, IsFault, IsFaultless}
+use Rattle.zone_builder.specs.GroupFaults.{has_cname, group_apex_fault, group_fault, first_fault}
 use Rattle.zone_builder.specs.Groups.{Groups, records_in}
 use Rattle.zone_builder.specs.Records.{is_data_of, given_at, records_of}
 use Rattle.zone_builder.proofs.KeysFound.{absent}
@@ -120,10 +120,23 @@ module _ (origin : Name) (gs : List GivenRecord) (groups : Groups) (own : (k : R
 -- ---- why no zone is made
 
 module _ (origin : Name) (gs : List GivenRecord) where
-  module _ (classes : class_fault gs ≡ None) where
-    pub records_right : (serial : ℕ) → first_serial (records_of (given_at origin gs origin SOA)) ≡ Some serial → records_fault origin gs ≡ None
-    records_right serial h =
-        ap (λ o. option_or o (soa_fault origin gs)) classes ∙ ap (λ (o : Option ℕ). option_map_or (λ serial. None) o (Some (fault.NoSoa origin))) h
+  module _ (classes : class_fault gs ≡ None) (serial : ℕ) (soa : first_serial (records_of (given_at origin gs origin SOA)) ≡ Some serial)
+      (groups : Groups) (own : (k : RrKey) → records_in groups k ≡ filter (is_data_of origin k) gs) (denied : Bool) (told : denied ≡ has_denials origin gs) where
+    -- nothing else can be wrong with the records than with what stands at the origin
+    pub records_wrong : records_fault origin gs ≡ group_apex_fault origin groups denied
+    records_wrong =
+        ap (λ o. option_or o (option_or (soa_fault origin gs) at_origin)) classes
+        ∙ ap (λ (o : Option ℕ). option_or (option_map_or (λ serial. None) o (Some (fault.NoSoa origin))) at_origin) soa
+        ∙ ap (λ b. apex_fault origin b (λ t. first_of (given_at origin gs origin t))) (sym told)
+        ∙ sym (ap (apex_fault origin denied) (λ i t. first_of (own (key origin t) i)))
+      where
+        at_origin : Option LoadFault
+        at_origin = apex_fault origin (has_denials origin gs) (λ t. first_of (given_at origin gs origin t))
+
+  pub wrong_apex : (groups : Groups) (denied : Bool) → records_fault origin gs ≡ group_apex_fault origin groups denied
+      → (e : LoadFault) → (e ≡ fault.Memory) ⊎ (group_apex_fault origin groups denied ≡ Some e) → IsFault origin gs e
+  wrong_apex groups denied told e (inl h) = inl h
+  wrong_apex groups denied told e (inr h) = inr (inl (told ∙ h))
 
   module _ (records : records_fault origin gs ≡ None) (groups : Groups) (own : (k : RrKey) → records_in groups k ≡ filter (is_data_of origin k) gs)
       (sorted : IsStrictlySortedBy key_cmp (keys_of groups)) where

@@ -127,18 +127,3 @@ sorted_left key g left all steps sorted = (subst (λ es. IsStrictlySortedBy key_
 pub signature_type : (d : RData) → is_signature d ≡ true → type_of d ≡ RRSIG
 signature_type (V.RRSIG a) h = refl
 signature_type d h = absurd cc
-
-append_one : (xs : List Record) (x : Record) (ys : List Record) → (xs ++ x ∷ []) ++ ys ≡ xs ++ (x ∷ ys)
-append_one [] x ys = refl
-append_one (z ∷ xs) x ys = ap (◌∷◌ z) (append_one xs x ys)
-
-append_none : (xs : List Record) → xs ≡ xs ++ []
-append_none [] = refl
-append_none (x ∷ xs) = ap (◌∷◌ x) (append_none xs)
-
-pub signed_more : (ttl : ℕ) (s : RRset) (g : GivenRecord) (gs : List GivenRecord)
-    → signed_by ttl gs (record s { signatures = s.signatures ++ with_ttl ttl g.record ∷ [] }) ≡ signed_by ttl (g ∷ gs) s
-signed_more ttl s g gs = ap (λ xs. record s { signatures = xs }) (append_one s.signatures (with_ttl ttl g.record) (map (with_ttl ttl) (records_of gs)))
-
-pub signed_none : (ttl : ℕ) (s : RRset) → s ≡ signed_by ttl [] s
-signed_none ttl s = ap (λ xs. record s { signatures = xs }) (append_none s.signatures)

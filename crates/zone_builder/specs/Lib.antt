@@ -7,3 +7,4 @@ pub mod Circles
 pub mod Nsec3Differences
 pub mod Comparing
 pub mod Nsec3Circles
+pub mod DenialKinds

@@ -1,8 +1,10 @@
 -- The sets of a zone that is made of records
-use Rattle.std.specs.Prelude.{ℕ, List, [], ◌∷◌, ◌++◌, map, fold, min, Option, Some, None, option_map, unwrap_or}
+use Rattle.std.specs.Prelude.{ℕ, Bool, cond, List, [], ◌∷◌, ◌++◌, map, fold, min, Option, Some, None, option_map, unwrap_or}
+use Rattle.std.specs.List.{list_any}
+use Rattle.zone_proto.specs.declared.rdata.RData.{RData}
 use Rattle.zone_proto.specs.declared.record.Record.{Record}
 use Rattle.zone_proto.specs.declared.rr_key.RrKey.{RrKey}
-use Rattle.zone_proto.specs.Data.{type_of}
+use Rattle.zone_proto.specs.Data.{same_data, type_of}
 use Rattle.zone_proto.specs.Names.{Name}
 use Rattle.zone_proto.specs.Sets.{RRset, empty_set, first_serial}
 use Rattle.zone_proto.specs.Types.{SOA}
@@ -11,6 +13,10 @@ use Rattle.zone_denial.specs.Nsec3Sets.{with_taken}
 use Rattle.zone_builder.specs.declared.given.GivenRecord.{GivenRecord}
 use Rattle.zone_builder.specs.declared.groups.Group.{Group}
 use Rattle.zone_builder.specs.Records.{given_at, signing_at, records_of}
+
+-- a record has these data
+abbrev pub has_data : List Record → RData → Bool
+has_data rs d = list_any (λ (r : Record). same_data r.rdata d) rs
 
 -- a record with another TTL
 abbrev pub with_ttl : ℕ → Record → Record
@@ -25,9 +31,13 @@ abbrev pub set_of : ℕ → List GivenRecord → Option RRset
 set_of serial [] = None
 set_of serial (g ∷ gs) = Some (fold (with_taken serial) (empty_set g.record.name (type_of g.record.rdata) serial) (map (with_ttl (least_ttl (g ∷ gs))) (records_of (g ∷ gs))))
 
--- a set with signatures behind those that it has, each with this TTL
+-- records with one more behind them, unless one has its data
+abbrev pub with_new : List Record → Record → List Record
+with_new rs r = cond (has_data rs r.rdata) rs (rs ++ r ∷ [])
+
+-- a set with further signatures in order, each with this TTL: of equal data one stays (RFC 2181 section 5)
 abbrev pub signed_by : ℕ → List GivenRecord → RRset → RRset
-signed_by ttl signatures s = record s { signatures = s.signatures ++ map (with_ttl ttl) (records_of signatures) }
+signed_by ttl signatures s = record s { signatures = fold with_new s.signatures (map (with_ttl ttl) (records_of signatures)) }
 
 -- the set that records and their signatures make, which all have the least TTL of the records (RFC 4034 section 3)
 abbrev pub signed_set_of : ℕ → List GivenRecord → List GivenRecord → Option RRset

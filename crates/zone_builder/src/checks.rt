@@ -2,15 +2,17 @@
 ghost use Rattle.std.specs.Prelude.{◌≡◌, ◌==◌, false, not, length, map, IfOk, IsOkUnless, option_copied};
 ghost use Rattle.std.specs.List.{find};
 ghost use Rattle.zone_proto.specs.Names.{Name as NameLabels, name_eq};
-ghost use Rattle.zone_proto.specs.Sets.{is_single};
-ghost use Rattle.zone_builder.specs.Faults.{TellsFault, beside_fault, class_fault, count_fault, has_other_data, is_other_class, place_fault, stands_beside_cname};
+ghost use Rattle.zone_builder.specs.Faults.{TellsFault, beside_fault, class_fault, count_fault, has_other_data, is_iterated_too_often, is_other_class, iterations_fault, iterations_of, place_fault, stands_beside_cname, stands_once};
 ghost use Rattle.zone_builder.specs.GroupFaults.{first_fault, group_fault, has_cname};
 ghost use Rattle.zone_builder.specs.Groups.{AreOrdered};
 
-use crate::fault::LoadFault;
+use crate::fault::{LoadFault, MOST_ITERATIONS};
 use crate::given::{GivenRecord, RecordAt};
 use crate::groups::{Group, group_under};
-use zone_proto::{DNSClass, LowerName, ProtoError, RecordType, RrKey};
+use zone_proto::{DNSClass, LowerName, ProtoError, RData, RecordType, RrKey};
+
+/// The type of a DNAME (RFC 6672 section 2.1).
+const DNAME: RecordType = RecordType(39);
 
 /// Looks for a record of another class than IN.
 pub(crate) fn check_classes(records: &[GivenRecord]) -> Result<(), LoadFault>
@@ -72,6 +74,7 @@ fn check_group(
     };
     check_place(origin, key, first)?;
     check_count(key, first, others)?;
+    check_iterations(group.records.as_slice())?;
     check_beside(groups, are_cnames, key, first)
 }
 
@@ -93,11 +96,11 @@ fn is_same(name: &LowerName, other: &LowerName) -> bool
     name == other
 }
 
-/// Looks for a record of other data than the first of a set that may have one alone.
+/// Looks for a record of other data than the first, where the set may have one alone.
 fn check_count(key: &RrKey, first: &GivenRecord, others: &[GivenRecord]) -> Result<(), LoadFault>
     ensures { TellsFault result (count_fault key.now.record_type.0 first.now others.now) }
 {
-    if !is_single(key.record_type) {
+    if !stands_once(key.record_type) {
         return Ok(());
     }
     match other_data(first, others) {
@@ -113,6 +116,37 @@ fn other_data<'o>(first: &GivenRecord, others: &'o [GivenRecord]) -> Option<&'o 
     others
         .iter()
         .find(|other| other.record.rdata != first.record.rdata)
+}
+
+/// Looks for a record of more iterations than a zone may have.
+fn check_iterations(records: &[GivenRecord]) -> Result<(), LoadFault>
+    ensures { TellsFault result (iterations_fault records.now) }
+{
+    match iterated_too_often(records) {
+        Some(given) => Err(LoadFault::TooManyIterations(
+            RecordAt::of(given)?,
+            iterations_of(&given.record.rdata),
+        )),
+        None => Ok(()),
+    }
+}
+
+/// The first record of more iterations than a zone may have.
+fn iterated_too_often(records: &[GivenRecord]) -> Option<&GivenRecord>
+    ensures { option_copied result ≡ find is_iterated_too_often records.now }
+{
+    records.iter().find(|given| iterations_of(&given.record.rdata) > MOST_ITERATIONS)
+}
+
+/// How many times more a digest is hashed, by the data of NSEC3 and of NSEC3PARAM.
+fn iterations_of(rdata: &RData) -> u16
+    ensures { result ≡ iterations_of rdata.now }
+{
+    match rdata {
+        RData::NSEC3(denial) => denial.iterations,
+        RData::NSEC3PARAM(parameters) => parameters.iterations,
+        _ => 0,
+    }
 }
 
 /// Looks for a CNAME at the name of a set that may not stand beside one.
@@ -159,12 +193,12 @@ fn stands_beside_cname(record_type: RecordType) -> bool
     )
 }
 
-/// Whether a set of the type has at most one record.
-fn is_single(record_type: RecordType) -> bool
-    ensures { result ≡ is_single record_type.0 }
+/// Whether a name may own one record of the type alone.
+fn stands_once(record_type: RecordType) -> bool
+    ensures { result ≡ stands_once record_type.0 }
 {
     matches!(
         record_type,
-        RecordType::SOA | RecordType::CNAME | RecordType::ANAME
+        RecordType::SOA | RecordType::CNAME | RecordType::ANAME | DNAME
     )
 }

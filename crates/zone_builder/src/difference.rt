@@ -5,6 +5,7 @@ ghost use Rattle.zone_denial.specs.Nsec3Circle.{first_nsec3};
 ghost use Rattle.zone_builder.specs.Comparing.{same_list, same_next, same_nsec3_list, same_nsec_list, said_difference, wanted_difference};
 ghost use Rattle.zone_builder.specs.Nsec3Differences.{data_difference, nsec3_data_difference, same_hashing};
 
+use crate::nsec3_data::first_nsec3;
 use thiserror::Error;
 use zone_proto::{NSEC, NSEC3, RData, RecordSet, RecordType};
 
@@ -146,16 +147,6 @@ fn first_nsec(set: &RecordSet) -> Option<&NSEC>
 {
     match &set.as_slice().first()?.rdata {
         RData::NSEC(data) => Some(data),
-        _ => None,
-    }
-}
-
-/// The NSEC3 data of a set's first record.
-pub(crate) fn first_nsec3(set: &RecordSet) -> Option<&NSEC3>
-    ensures { option_copied result ≡ first_nsec3 set.now.records }
-{
-    match &set.as_slice().first()?.rdata {
-        RData::NSEC3(data) => Some(data),
         _ => None,
     }
 }

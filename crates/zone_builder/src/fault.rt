@@ -8,6 +8,10 @@ use thiserror::Error;
 use zone_proto::{DNSClass, Name, ProtoError};
 use zone_scanner::Place;
 
+/// How many iterations the NSEC3 records of a zone may have. There should be none: each makes every denial dearer, and no name
+/// safer (RFC 9276 section 3.1).
+pub const MOST_ITERATIONS: u16 = 50;
+
 /// Why no zone is made of records.
 #[derive(Debug, Drop, Error)]
 pub enum LoadFault {
@@ -23,8 +27,18 @@ pub enum LoadFault {
     /// An SOA stands below the origin (RFC 1035 section 5.2).
     #[error("{0} stands below the origin, where none may stand")]
     SoaBelow(RecordAt),
+    /// No NS stands at the origin (RFC 1034 section 4.2.1).
+    #[error("no NS stands at the origin, {0}")]
+    NoNs(Name),
+    /// A DNSKEY or NSEC3PARAM at the origin says that the zone is signed, and it has neither NSEC (RFC 4035 section 2.3) nor
+    /// NSEC3 (RFC 5155 section 7.1).
+    #[error("{0} is that of a signed zone, and no NSEC or NSEC3 denies a name")]
+    NoDenials(RecordAt),
+    /// An NSEC3 or NSEC3PARAM has so many iterations, which are more than [`MOST_ITERATIONS`] (RFC 9276 section 3.1).
+    #[error("{0} has {1} iterations, and {most} are the most", most = MOST_ITERATIONS)]
+    TooManyIterations(RecordAt, u16),
     /// A name owns two records of a type of which it may own one alone: SOA (RFC 1035 section 5.2), CNAME (RFC 2181 section
-    /// 10.1) or ANAME.
+    /// 10.1), DNAME (RFC 6672 section 2.4) or ANAME.
     #[error("{0} is the second one of this name, which may own one alone")]
     Second(RecordAt),
     /// A record that is no CNAME stands at the name of one (RFC 1034 section 3.6.2), and isn't of NSEC or NSEC3, which may (RFC
@@ -37,8 +51,10 @@ impl LoadFault {
     /// Where the record stands that is the fault, if that is known.
     pub fn place(&self) -> Option<Place> {
         match self {
-            LoadFault::Memory | LoadFault::NoSoa(_) => None,
+            LoadFault::Memory | LoadFault::NoSoa(_) | LoadFault::NoNs(_) => None,
             LoadFault::OtherClass(at, _)
+            | LoadFault::NoDenials(at)
+            | LoadFault::TooManyIterations(at, _)
             | LoadFault::SoaBelow(at)
             | LoadFault::Second(at)
             | LoadFault::BesideCname(at) => at.place,

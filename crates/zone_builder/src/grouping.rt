@@ -86,7 +86,7 @@ fn take(
 }
 
 /// Whether a name is at or below an origin.
-fn is_within(origin: &LowerName, name: &LowerName) -> bool
+pub(crate) fn is_within(origin: &LowerName, name: &LowerName) -> bool
     ensures { result ≡ is_at_or_above origin.now name.now }
 {
     origin.zone_of(name)

@@ -11,6 +11,7 @@ ghost use Rattle.zone_builder.specs.Groups.{records_in, AreOrdered};
 ghost use Rattle.zone_builder.specs.Records.{records_of};
 ghost use Rattle.zone_builder.specs.Sets.{loaded_set};
 
+use crate::apex::{check_apex, has_denials};
 use crate::checks::{check_classes, check_groups};
 use crate::fault::LoadFault;
 use crate::given::GivenRecord;
@@ -35,15 +36,17 @@ pub struct Loaded {
 
 /// Makes the zone of an origin of records, in the order of a file (RFC 1035 section 5.2).
 ///
-/// Of each owner at or below the origin and type there is a set of its records in order, of equal data one; with the signatures
-/// that cover it, in order. All get the least TTL of its records (RFC 2181 section 5.2, RFC 4034 section 3). The serial of each
-/// set is that of the SOA. Records outside of the zone are left out, and so are signatures of no set.
+/// Of each owner at or below the origin and type there is a set of its records in order, of equal data one (RFC 2181 section 5);
+/// with the signatures that cover it, in order, of equal ones one. All get the least TTL of its records (RFC 2181 section 5.2, RFC
+/// 4034 section 3). The serial of each set is that of the SOA. Records outside of the zone are left out, and so are signatures of
+/// no set.
 ///
 /// # Errors
 ///
 /// Refused, in this order: by `OtherClass` for the first record of another class than IN, wherever it stands; by `NoSoa` where
-/// the origin owns no SOA; by `SoaBelow`, `Second` or `BesideCname` for the first set, by owner in canonical order (RFC 4034
-/// section 6.1) and type, that can't stand in a zone. `Memory` may come in place of any of these.
+/// the origin owns no SOA, and by `NoNs` where it owns no NS; by `NoDenials` for the first DNSKEY there, or else NSEC3PARAM, where
+/// the zone has neither NSEC nor NSEC3; by `SoaBelow`, `Second`, `TooManyIterations` or `BesideCname` for the first set, by owner in
+/// canonical order (RFC 4034 section 6.1) and type, that can't stand in a zone. `Memory` may come in place of any of these.
 pub fn load(alloc: Global, origin: Name, records: Vec<GivenRecord>) -> Result<Loaded, LoadFault>
     ensures sets { IfOk result
         (λ loaded. (n : NameLabels) (t : ℕ)
@@ -57,8 +60,10 @@ pub fn load(alloc: Global, origin: Name, records: Vec<GivenRecord>) -> Result<Lo
     check_classes(records.as_slice())?;
     let mut warnings = Vec::new(alloc);
     let origin = LowerName::from(origin);
+    let is_denied = has_denials(&origin, records.as_slice())?;
     let groups = grouped(alloc, &origin, records, &mut warnings)?;
     let serial = serial_of(&origin, groups.as_slice())?;
+    check_apex(&origin, groups.as_slice(), is_denied)?;
     check_groups(&origin, groups.as_slice())?;
     let records = sets_of(alloc, groups, serial, &mut warnings)?;
     Ok(Loaded {

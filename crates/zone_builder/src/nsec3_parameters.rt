@@ -1,9 +1,9 @@
 //! The parameters by which the names of a zone are hashed for NSEC3, as its records tell them.
 ghost use Rattle.std.specs.Prelude.{◌≡◌, ◌⊎◌, Ok, Err, IfOk, IfErr, option_copied};
-ghost use Rattle.zone_builder.specs.Nsec3Circles.{announced, announced_by, first_parameters, opts_out, uses_opt_out, zone_parameters};
+ghost use Rattle.zone_builder.specs.Nsec3Circles.{announced, announced_by, first_parameters, uses_opt_out, zone_parameters};
 
 use crate::circle::OpenCircle;
-use crate::difference::first_nsec3;
+use crate::nsec3_data::opts_out;
 use zone_map::RecordMap;
 use zone_proto::{LowerName, NSEC3PARAM, RData, RecordSet, RecordType, RrKey};
 
@@ -75,14 +75,4 @@ fn uses_opt_out(records: &RecordMap) -> bool
         }
     }
     false
-}
-
-/// Whether an NSEC3 set has it.
-fn opts_out(set: &RecordSet) -> bool
-    ensures { result ≡ opts_out set.now }
-{
-    match first_nsec3(set) {
-        Some(data) => data.opt_out,
-        None => false,
-    }
 }

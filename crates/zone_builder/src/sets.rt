@@ -10,14 +10,14 @@ ghost use Rattle.zone_map.specs.Zones.{set_at, AreStored, IsZone};
 ghost use Rattle.zone_denial.specs.Nsec3Sets.{with_taken};
 ghost use Rattle.zone_builder.specs.Groups.{AreGroups, AreOrdered, IsGroupOf};
 ghost use Rattle.zone_builder.specs.Records.{is_signature, records_of};
-ghost use Rattle.zone_builder.specs.Sets.{least_ttl, set_in, signed_by, with_set, with_ttl};
+ghost use Rattle.zone_builder.specs.Sets.{has_data, least_ttl, set_in, signed_by, with_new, with_set, with_ttl};
 
 use crate::given::{GivenRecord, RecordAt};
 use crate::groups::Group;
 use crate::warning::LoadWarning;
 use std::alloc::Global;
 use zone_map::{NewSets, RecordMap};
-use zone_proto::{ProtoError, Record, RecordSet, RrKey};
+use zone_proto::{ProtoError, RData, Record, RecordSet, RrKey};
 
 /// The sets of these records, each with the signatures that cover it. Signatures of no set are left out, with a warning.
 /// Refused by `Memory` alone.
@@ -93,7 +93,7 @@ fn set_of(
         serial,
     );
     insert_all(&mut set, key, records, ttl, serial, warnings)?;
-    sign(&mut set, signatures, ttl)?;
+    sign(&mut set, signatures, ttl, warnings)?;
     Ok(Some(set))
 }
 
@@ -184,16 +184,50 @@ fn insert(
     Ok(())
 }
 
-/// Puts signatures behind those of a set, with this TTL.
-fn sign(set: &mut RecordSet, signatures: Vec<GivenRecord>, ttl: u32) -> Result<(), ProtoError>
+/// Puts signatures behind those of a set, with this TTL. Of signatures of equal data one is taken.
+fn sign(
+    set: &mut RecordSet,
+    signatures: Vec<GivenRecord>,
+    ttl: u32,
+    warnings: &mut Vec<LoadWarning>,
+) -> Result<(), ProtoError>
     requires { AllByRecursion (λ g. is_signature g.record.rdata ≡ true) signatures.items }
     ensures ok { OnOk result (set.new ≡ signed_by ttl signatures.items set.old) }
     ensures err { IsOkUnless result ProtoError.Memory }
 {
     for given in signatures {
-        set.insert_rrsig(with_ttl(given.record, ttl))?;
+        sign_once(set, given, ttl, warnings)?;
     }
     Ok(())
+}
+
+/// Puts a signature behind those of a set, with this TTL, unless one has its data.
+fn sign_once(
+    set: &mut RecordSet,
+    given: GivenRecord,
+    ttl: u32,
+    warnings: &mut Vec<LoadWarning>,
+) -> Result<(), ProtoError>
+    requires { is_signature given.record.rdata ≡ true }
+    ensures ok { OnOk result
+        (set.new
+        ≡ record set.old {
+          signatures = with_new set.old.signatures (with_ttl ttl given.record);
+        }) }
+    ensures err { IsOkUnless result ProtoError.Memory }
+{
+    if has_data(set.rrsigs(), &given.record.rdata) {
+        warnings.push(LoadWarning::Repeated(RecordAt::of(&given)?))?;
+        return Ok(());
+    }
+    set.insert_rrsig(with_ttl(given.record, ttl))
+}
+
+/// Whether one of these records has these data.
+fn has_data(records: &[Record], rdata: &RData) -> bool
+    ensures { result ≡ has_data records.now rdata.now }
+{
+    records.iter().any(|stored| stored.rdata == *rdata)
 }
 
 /// A record with another TTL.

@@ -8,8 +8,7 @@ use Rattle.zone_map.specs.Zones.{Sets, set_at, IsZone}
 use Rattle.zone_denial.specs.Chains.{stays, chain_sets}
 use Rattle.zone_denial.proofs.Chains.ChainSets.{sets_are, is_zone}
 use Rattle.zone_database.specs.ChainsBeside.{has_others}
-use Rattle.zone_database.specs.Denials.{denial_kind}
-use Rattle.zone_database.specs.Zones.{ZonesHaveOwnDenials, ZonesLendTheirChain}
+use Rattle.zone_database.specs.Zones.{denial_kind, ZonesHaveOwnDenials, ZonesLendTheirChain}
 
 -- these sets are those of a zone, and stand in m
 record AreOwn (m d : Sets) : Type 0 where
@@ -22,7 +21,7 @@ sets_beside kind m zone false = record { zone = zone; own = λ n t s e. e }
 
 pub zones_have_own_denials : ZonesHaveOwnDenials
 zones_have_own_denials origin m zone =
-    let kind = denial_kind m origin in
+    let kind = denial_kind origin m in
     let found = sets_beside kind m zone (has_others kind m) in
     record { zone = found.zone; own = found.own }
 
@@ -39,7 +38,7 @@ pub zones_lend_their_chain : ZonesLendTheirChain
 zones_lend_their_chain origin m = by (has_others kind m) refl
   where
     kind : Option NxProofKind
-    kind = denial_kind m origin
+    kind = denial_kind origin m
 
     by : (b : Bool) → has_others kind m ≡ b → unwrap_or (cond b (Some (chain_sets kind m)) None) m ≡ chain_sets kind m
     by true e = refl

@@ -1,7 +1,6 @@
 pub mod Calls
 pub mod Databases
 pub mod ChainsBeside
-pub mod Denials
 pub mod Holding
 pub mod Outcomes
 pub mod Texts

@@ -11,7 +11,7 @@ use Rattle.zone_builder.specs.Sets.{loaded_set}
 use Rattle.zone_database.specs.declared.reading.TextFault.{TextFault}
 use Rattle.zone_database.specs.declared.reading.TextFault.TheVariants as fault
 use Rattle.zone_database.specs.declared.zone.Zone.{Zone}
-use Rattle.zone_database.specs.Denials.{denial_kind}
+use Rattle.zone_database.specs.Zones.{denial_kind}
 
 -- a record of a text, as a zone is made of it
 abbrev pub given_of : PlacedRecord → GivenRecord
@@ -33,7 +33,7 @@ pub record IsZoneOf (origin : Name) (gs : List GivenRecord) (z : Zone) : Type 0 
   pub faultless : IsFaultless origin gs
   pub at : z.origin ≡ origin
   pub sets : (n : Name) (t : ℕ) → set_at z.inner.records n t ≡ loaded_set origin gs n t
-  pub denial : z.nx_proof_kind ≡ denial_kind z.inner.records z.origin
+  pub denial : z.nx_proof_kind ≡ denial_kind z.origin z.inner.records
 
 -- the same of a text
 pub record IsZoneOfText (origin : Name) (text : List ℕ) (z : Zone) : Type 0 where

@@ -1,5 +1,6 @@
 -- A zone that is served
 use Rattle.std.specs.Prelude.{◌≡◌, ℕ, List, [], map, Option, None, unwrap_or}
+use Rattle.zone_proto.specs.declared.nx_proof_kind.NxProofKind.{NxProofKind}
 use Rattle.zone_proto.specs.declared.rdata.signing.RRSIG.{RRSIG}
 use Rattle.zone_proto.specs.Names.{Name}
 use Rattle.zone_proto.specs.Signing.{SignedPart}
@@ -8,11 +9,11 @@ use Rattle.zone_denial.specs.Chains.{chain_sets}
 use Rattle.zone_response.specs.declared.question.ServedZone.{ServedZone}
 use Rattle.zone_response.specs.Queries.{zone_of, HasOwnDenials}
 use Rattle.zone_response.specs.Queries as queries
+use Rattle.zone_builder.specs.DenialKinds as kinds
 use Rattle.zone_sha1.specs.declared.sha1_hash.Sha1Hash.{Sha1Hash}
 use Rattle.zone_database.specs.declared.static_signer.StaticSigner.{StaticSigner}
 use Rattle.zone_database.specs.declared.zone.Zone.{Zone}
 use Rattle.zone_database.specs.ChainsBeside.{chain_beside}
-use Rattle.zone_database.specs.Denials.{denial_kind}
 use Rattle.zone_sha1.specs.Digests.{name_digest}
 use Rattle.zone_signing.specs.Signatures.{answer_signatures}
 
@@ -28,9 +29,13 @@ served_zone z = record { origin = z.origin; sets = z.inner.records; denials = un
 abbrev pub IsServed : List Zone → List (ServedZone StaticSigner Sha1Hash) → Type 0
 IsServed zs served = map (zone_of never_signed (λ h. name_digest)) served ≡ map served_zone zs
 
+-- by what the zone of an origin with these sets denies, whose names are hashed by SHA-1 (RFC 5155 section 11)
+abbrev pub denial_kind : Name → Sets → Option NxProofKind
+denial_kind origin m = kinds.denial_kind origin m name_digest
+
 -- the zone of an origin with these sets, which nobody signs here
 abbrev pub zone_of_records : Name → Sets → Zone
-zone_of_records origin sets = record { origin = origin; inner = record { records = sets; signers = [] }; nx_proof_kind = denial_kind sets origin; denials = chain_beside (denial_kind sets origin) sets }
+zone_of_records origin sets = record { origin = origin; inner = record { records = sets; signers = [] }; nx_proof_kind = denial_kind origin sets; denials = chain_beside (denial_kind origin sets) sets }
 
 -- its denials are looked up among sets of its own
 abbrev pub ZonesHaveOwnDenials : Type 0

@@ -2,13 +2,13 @@
 ghost use Rattle.std.specs.Prelude.{◌≡◌, IfOk, IsOkUnless, OnOk, option_copied};
 ghost use Rattle.zone_map.specs.Upserts.{is_denial_type};
 ghost use Rattle.zone_map.specs.Zones.{put, IsStoredAt};
-ghost use Rattle.zone_denial.specs.Chains.{chain_sets, has_parameters, is_of_chain, stays};
-ghost use Rattle.zone_denial.specs.Nsec3Circle.{first_nsec3};
+ghost use Rattle.zone_denial.specs.Chains.{chain_sets, is_of_chain, stays};
 ghost use Rattle.zone_database.specs.ChainsBeside.{chain_beside, has_others};
 
 use std::alloc::Global;
+use zone_builder::has_parameters;
 use zone_map::RecordMap;
-use zone_proto::{NSEC3, NxProofKind, ProtoError, RData, RecordSet, RecordType, RrKey};
+use zone_proto::{NxProofKind, ProtoError, RecordSet, RecordType, RrKey};
 
 /// A zone's sets without the NSEC and NSEC3 sets that don't belong to the chain by which it denies: those of another chain, or of
 /// the remains of one, with which a proof mustn't be mixed (RFC 5155 section 7.3). None where it has none of these. Refused by
@@ -105,28 +105,5 @@ fn is_of_chain(kind: Option<&NxProofKind>, record_type: RecordType, set: &Record
             record_type == RecordType::NSEC3
                 && has_parameters(*algorithm, salt.as_slice(), *iterations, set)
         }
-    }
-}
-
-/// Whether an NSEC3 set has an algorithm, a salt and iterations.
-fn has_parameters(algorithm: u8, salt: &[u8], iterations: u16, set: &RecordSet) -> bool
-    ensures { result ≡ has_parameters algorithm salt.now iterations set.now }
-{
-    match first_nsec3(set) {
-        Some(data) => {
-            data.algorithm == algorithm
-                && (data.salt.as_slice() == salt && data.iterations == iterations)
-        }
-        None => false,
-    }
-}
-
-/// The NSEC3 data of a set's first record.
-fn first_nsec3(set: &RecordSet) -> Option<&NSEC3>
-    ensures { option_copied result ≡ first_nsec3 set.now.records }
-{
-    match &set.as_slice().first()?.rdata {
-        RData::NSEC3(data) => Some(data),
-        _ => None,
     }
 }

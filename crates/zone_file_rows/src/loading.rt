@@ -78,7 +78,15 @@ fn load_answer(alloc: Global, made: Result<Loaded, LoadFault>) -> Result<String,
     match made {
         Ok(loaded) => told_zone(alloc, &loaded),
         Err(LoadFault::Memory) => Err(AllocError),
-        Err(fault) => format!(in alloc; "{fault}"),
+        Err(fault) => told_fault(alloc, &fault),
+    }
+}
+
+/// Why there is no zone, behind the place of the record that is the fault, if one is.
+fn told_fault(alloc: Global, fault: &LoadFault) -> Result<String, AllocError> {
+    match fault.place() {
+        Some(place) => format!(in alloc; "{}:{} {fault}", place.line, place.column),
+        None => format!(in alloc; "{fault}"),
     }
 }
 

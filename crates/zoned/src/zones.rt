@@ -115,8 +115,8 @@ fn told_zone<E: Write>(
     zone_of(alloc, origin, records)
 }
 
-/// Tells what of a file isn't taken as it stands: records that are left out, and all NSEC3PARAM records but the first. Each stands for
-/// a whole circle, of which a server may take any (RFC 5155 section 7.3).
+/// Tells what of a file isn't taken as it stands: records that are left out, and all NSEC3PARAM records but one. Each stands for a
+/// whole chain, of which a server may take any (RFC 5155 section 7.3); it takes the first that is there.
 fn warn<E: Write>(loaded: &Loaded, file: &str, fault: &mut E) -> Result<(), ProtoError> {
     for warning in loaded.warnings.iter() {
         tell_at(fault, file, warning.place(), warning);
@@ -129,7 +129,7 @@ fn warn<E: Write>(loaded: &Loaded, file: &str, fault: &mut E) -> Result<(), Prot
     {
         let _ = write!(
             fault,
-            "{file}: several NSEC3PARAM stand at the origin, and the first is taken\n"
+            "{file}: several NSEC3PARAM stand at the origin, and the first that has a chain is taken\n"
         );
     }
     Ok(())
