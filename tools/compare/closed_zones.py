@@ -77,9 +77,12 @@ def parts_of(line, kind):
 def denials(lines, way):
     """The lines of the records of the chain that denies, and their kind: not those of a second chain or an old one."""
     kind = "NSEC" if way.kind == "nsec" else "NSEC3"
-    other = [str(signed_zones.OTHER_ITERATIONS), signed_zones.OTHER_SALT]
     of_kind = [it for it in lines if signed_zones.type_of(it)[0] == kind]
-    return [it for it in of_kind if parts_of(it.lower(), kind.lower())[1][2:4] != other], kind
+    if kind == "NSEC":
+        return of_kind, kind
+    # (of several chains the one denies that the first NSEC3PARAM announces)
+    own = next(it for it in lines if signed_zones.type_of(it)[0] == "NSEC3PARAM").lower().split()[-2:]
+    return [it for it in of_kind if parts_of(it.lower(), "nsec3")[1][2:4] == own], kind
 
 
 def spoiled_list(kinds):

@@ -12,8 +12,8 @@ use zone_file::{FaultText, InputError, PlacedRecord, ZoneFault, read_zone};
 use zone_file_writer::MasterText;
 use zone_proto::{Name, ProtoError, Record, RecordType};
 
-/// Reads a zone file from `input`, and gives the status of the program: 0 where a zone can be made of it, and its NSEC sets, or
-/// else its NSEC3 sets, if it has any, are a closed circle; 1 where that isn't so, and 2 where it can't be told. With `--print` it
+/// Reads a zone file from `input`, and gives the status of the program: 0 where a zone can be made of it, and the sets by
+/// which it denies, if it has any, are a closed chain; 1 where that isn't so, and 2 where it can't be told. With `--print` it
 /// is 0 where the file is read to its end. What is wrong is told on `fault`, a line each, with file, line and column where it is about a record. What the file
 /// has is told on `output`: its records, if they are to be printed, and else what zone they make.
 pub fn check<R: Read, W: Write, E: Write>(

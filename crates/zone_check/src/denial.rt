@@ -1,30 +1,28 @@
 //! What a zone denies by, and what is told of that.
-ghost use Rattle.std.specs.Prelude.{◌≡◌, ◌≤◌, [], Some, None, Ok};
-ghost use Rattle.zone_proto.specs.declared.rdata.denial.NSEC3PARAM.{NSEC3PARAM as Nsec3Parameters};
-ghost use Rattle.zone_proto.specs.Names.{Name as NameLabels};
+ghost use Rattle.std.specs.Prelude.{◌≡◌, ◌≤◌, [], Ok, Some};
+ghost use Rattle.zone_proto.specs.declared.nx_proof_kind.NxProofKind.TheVariants as kind;
 ghost use Rattle.zone_proto.specs.Types.{NSEC as nsec_type, NSEC3 as nsec3_type};
 ghost use Rattle.zone_map.specs.Zones.{owners};
-ghost use Rattle.zone_builder.specs.Circles.{nsec_difference};
-ghost use Rattle.zone_builder.specs.Nsec3Circles.{nsec3_difference, zone_parameters};
-ghost use Rattle.zone_sha1.specs.Digests.{name_digest};
+ghost use Rattle.zone_denial.specs.Chains.{IsNsecChain, chain_sets};
 
-use crate::telling::{Warning, tell_at};
+use crate::telling::tell_at;
 use std::fmt;
 use std::io::Write;
-use zone_builder::{Loaded, OpenCircle, closed_nsec_circle, closed_nsec3_circle};
-use zone_proto::{Name, RecordType};
+use zone_builder::{Loaded, denial_kind};
+use zone_proto::{NSEC3PARAM, NxProofKind, ProtoError, RData, RecordType, RrKey};
 use zone_sha1::Sha1Hash;
+use zone_verify::{ChainFault, verify_nsec, verify_nsec3};
 
 /// What a zone denies by.
 #[derive(Clone, Copy)]
 pub enum Denial {
     /// Nothing: it has no sets of denial.
     Nothing,
-    /// NSEC sets that are a closed circle (RFC 4034 section 4).
-    NsecCircle,
-    /// NSEC3 sets that are a closed circle, and no NSEC set (RFC 5155).
-    Nsec3Circle,
-    /// NSEC sets, or else NSEC3 sets, that aren't.
+    /// NSEC sets that are a closed chain (RFC 4034 section 4).
+    NsecChain,
+    /// NSEC3 sets that are a closed chain (RFC 5155).
+    Nsec3Chain,
+    /// Sets that aren't.
     Open,
 }
 
@@ -35,7 +33,7 @@ impl Denial {
     {
         match self {
             Denial::Open => 1,
-            Denial::Nothing | Denial::NsecCircle | Denial::Nsec3Circle => 0,
+            Denial::Nothing | Denial::NsecChain | Denial::Nsec3Chain => 0,
         }
     }
 }
@@ -44,9 +42,9 @@ impl fmt::Display for Denial {
     fn fmt<W: fmt::Write>(&self, f: &mut fmt::Formatter<W>) -> fmt::Result {
         f.write_str(match self {
             Denial::Nothing => "no denials",
-            Denial::NsecCircle => "a closed circle of NSEC",
-            Denial::Nsec3Circle => "a closed circle of NSEC3",
-            Denial::Open => "denials that are no closed circle",
+            Denial::NsecChain => "a closed chain of NSEC",
+            Denial::Nsec3Chain => "a closed chain of NSEC3",
+            Denial::Open => "denials that are no closed chain",
         })
     }
 }
@@ -55,85 +53,98 @@ impl fmt::Display for Denial {
 pub fn tell_denial<E: Write>(file: &str, loaded: &Loaded, fault: &mut E) -> Option<Denial>
     ensures nothing { result ≡ Some Denial.Nothing
         → (owners loaded.now.records nsec_type ≡ []) × (owners loaded.now.records nsec3_type ≡ []) }
-    ensures nsec { result ≡ Some Denial.NsecCircle
-        → (n : NameLabels)
-        → nsec_difference loaded.now.origin loaded.now.records n ≡ None }
-    ensures nsec3 { result ≡ Some Denial.Nsec3Circle
-        → (p : Nsec3Parameters) → zone_parameters loaded.now.origin loaded.now.records ≡ Ok p
-        → (n : NameLabels)
-        → nsec3_difference loaded.now.origin loaded.now.records name_digest p n ≡ None }
+    ensures nsec { result ≡ Some Denial.NsecChain
+        → IsNsecChain loaded.now.origin (chain_sets (Some kind.Nsec) loaded.now.records) }
+{
+    match denial_of(loaded) {
+        Ok(denial) => Some(denial),
+        Err(ChainFault::Memory) => None,
+        Err(found) => {
+            tell_at(fault, file, None, &found);
+            Some(Denial::Open)
+        }
+    }
+}
+
+/// By what a zone denies. Refused where its sets of denial are no chain, and by `Memory`.
+fn denial_of(loaded: &Loaded) -> Result<Denial, ChainFault>
+    ensures nothing { result ≡ Ok Denial.Nothing
+        → (owners loaded.now.records nsec_type ≡ []) × (owners loaded.now.records nsec3_type ≡ []) }
+    ensures nsec { result ≡ Ok Denial.NsecChain
+        → IsNsecChain loaded.now.origin (chain_sets (Some kind.Nsec) loaded.now.records) }
+{
+    match denial_kind(&loaded.records, &loaded.origin, &Sha1Hash)? {
+        Some(NxProofKind::Nsec) => nsec_chain(loaded),
+        Some(
+            NxProofKind::Nsec3 {
+                algorithm,
+                salt,
+                iterations,
+                opt_out,
+            },
+        ) => nsec3_chain(
+            loaded,
+            &NSEC3PARAM {
+                algorithm,
+                salt,
+                iterations,
+                opt_out,
+            },
+        ),
+        None => no_chain(loaded),
+    }
+}
+
+/// Denial by NSEC. Refused where the NSEC sets are no chain, and by `Memory`.
+fn nsec_chain(loaded: &Loaded) -> Result<Denial, ChainFault>
+    ensures other { ¬ (result ≡ Ok Denial.Nothing) }
+    ensures nsec { result ≡ Ok Denial.NsecChain
+        → IsNsecChain loaded.now.origin (chain_sets (Some kind.Nsec) loaded.now.records) }
+{
+    verify_nsec(&loaded.records, &loaded.origin)?;
+    Ok(Denial::NsecChain)
+}
+
+/// Denial by NSEC3 with these parameters. Refused where the NSEC3 sets are no chain, and by `Memory`.
+fn nsec3_chain(loaded: &Loaded, parameters: &NSEC3PARAM) -> Result<Denial, ChainFault>
+    ensures other { ¬ (result ≡ Ok Denial.Nothing) }
+    ensures nsec { ¬ (result ≡ Ok Denial.NsecChain) }
+{
+    verify_nsec3(&loaded.records, &loaded.origin, &Sha1Hash, parameters)?;
+    Ok(Denial::Nsec3Chain)
+}
+
+/// No denials, where nothing at the origin says by what a zone denies. Refused where sets of denial stand all the same, and by
+/// `Memory`.
+fn no_chain(loaded: &Loaded) -> Result<Denial, ChainFault>
+    ensures nothing { result ≡ Ok Denial.Nothing
+        → (owners loaded.now.records nsec_type ≡ []) × (owners loaded.now.records nsec3_type ≡ []) }
+    ensures nsec { result ≡ Ok Denial.NsecChain
+        → IsNsecChain loaded.now.origin (chain_sets (Some kind.Nsec) loaded.now.records) }
 {
     if !loaded.records.is_without(RecordType::NSEC) {
-        return tell_nsec(file, loaded, fault);
+        return nsec_chain(loaded);
     }
-    if !loaded.records.is_without(RecordType::NSEC3) {
-        return tell_nsec3(file, loaded, fault);
+    if loaded.records.is_without(RecordType::NSEC3) {
+        return Ok(Denial::Nothing);
     }
-    Some(Denial::Nothing)
-}
-
-/// Tells how the NSEC sets of a zone differ from the circle of its names, and gives whether they are one; none where no memory is
-/// found.
-fn tell_nsec<E: Write>(file: &str, loaded: &Loaded, fault: &mut E) -> Option<Denial>
-    ensures other { ¬ (result ≡ Some Denial.Nothing) }
-    ensures other3 { ¬ (result ≡ Some Denial.Nsec3Circle) }
-    ensures circle { result ≡ Some Denial.NsecCircle
-        → (n : NameLabels)
-        → nsec_difference loaded.now.origin loaded.now.records n ≡ None }
-{
-    match closed_nsec_circle(&loaded.records, &loaded.origin) {
-        Ok(circle) => {
-            warn_of_lists(file, circle.other_lists.as_slice(), fault);
-            Some(Denial::NsecCircle)
-        }
-        Err(OpenCircle::Memory) => None,
-        Err(open) => {
-            tell_at(fault, file, None, &open);
-            Some(Denial::Open)
-        }
+    match announced(loaded)? {
+        Some(parameters) => nsec3_chain(loaded, parameters),
+        None => Err(ChainFault::NoParameters),
     }
 }
 
-/// Tells how the NSEC3 sets of a zone differ from the circle of its names' digests by SHA-1, and gives whether they are one; none
-/// where no memory is found.
-fn tell_nsec3<E: Write>(file: &str, loaded: &Loaded, fault: &mut E) -> Option<Denial>
-    ensures other { ¬ (result ≡ Some Denial.Nothing) }
-    ensures other3 { ¬ (result ≡ Some Denial.NsecCircle) }
-    ensures circle { result ≡ Some Denial.Nsec3Circle
-        → (p : Nsec3Parameters) → zone_parameters loaded.now.origin loaded.now.records ≡ Ok p
-        → (n : NameLabels)
-        → nsec3_difference loaded.now.origin loaded.now.records name_digest p n ≡ None }
-{
-    match closed_nsec3_circle(&loaded.records, &loaded.origin, &Sha1Hash) {
-        Ok(circle) => {
-            warn_of_lists(file, circle.other_lists.as_slice(), fault);
-            Some(Denial::Nsec3Circle)
-        }
-        Err(OpenCircle::Memory) => None,
-        Err(open) => {
-            tell_at(fault, file, None, &open);
-            Some(Denial::Open)
-        }
-    }
-}
-
-/// Warns of each owner whose list of types isn't that of the circle.
-fn warn_of_lists<E: Write>(file: &str, owners: &[Name], fault: &mut E) {
-    for owner in owners {
-        tell_at(fault, file, None, &Warning(&OtherList(owner)));
-    }
-}
-
-/// A list of types that isn't that of the circle.
-#[derive(Drop)]
-struct OtherList<'o>(&'o Name);
-
-impl fmt::Display for OtherList<'_> {
-    fn fmt<W: fmt::Write>(&self, f: &mut fmt::Formatter<W>) -> fmt::Result {
-        write!(
-            f,
-            "the list of types of {} isn't that of its circle",
-            self.0
-        )
+/// The parameters of the first NSEC3PARAM record of the origin. Refused by `Memory` alone.
+fn announced(loaded: &Loaded) -> Result<Option<&NSEC3PARAM>, ProtoError> {
+    let key = RrKey::new(loaded.origin.clone()?, RecordType::NSEC3PARAM);
+    let Some(set) = loaded.records.get(&key) else {
+        return Ok(None);
+    };
+    match set.as_slice().first() {
+        Some(record) => match &record.rdata {
+            RData::NSEC3PARAM(parameters) => Ok(Some(parameters)),
+            _ => Ok(None),
+        },
+        None => Ok(None),
     }
 }

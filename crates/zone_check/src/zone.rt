@@ -14,8 +14,8 @@ use zone_file::PlacedRecord;
 use zone_map::RecordMap;
 use zone_proto::{LowerName, Name, ProtoError, RecordType};
 
-/// Makes the zone of the records, and gives the status of the program: 0 where one is made, and its NSEC sets, or else its NSEC3
-/// sets, if it has any, are a closed circle; 1 where that isn't so, and 2 where it can't be told. Warnings don't change it.
+/// Makes the zone of the records, and gives the status of the program: 0 where one is made, and the sets by which it denies, if it
+/// has any, are a closed chain; 1 where that isn't so, and 2 where it can't be told. Warnings don't change it.
 pub fn check_zone<W: Write, E: Write>(
     alloc: Global,
     wanted: &Wanted<'_>,

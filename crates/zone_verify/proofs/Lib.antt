@@ -1,0 +1,4 @@
+pub mod Passing
+pub mod Kept
+pub mod Links
+pub mod NsecChains

@@ -1,0 +1,5 @@
+pub mod ChainSets
+pub mod Lists
+pub mod NsecNames
+pub mod NsecDenied
+pub mod Order
