@@ -8,3 +8,4 @@ pub mod Responses
 pub mod Outcomes
 pub mod Fronts
 pub mod Checks
+pub mod PlainText

@@ -89,7 +89,7 @@ fn push_soa(out: &mut Vec<u8>, cuts: DataCuts, soa: &SOA) -> Result<(), AllocErr
 }
 
 /// Appends the numbers of an SOA record.
-fn push_timers(out: &mut Vec<u8>, soa: &SOA) -> Result<(), AllocError>
+pub(crate) fn push_timers(out: &mut Vec<u8>, soa: &SOA) -> Result<(), AllocError>
     ensures text { OnOk result (out.new.items ≡ out.old.items ++ timers_text soa.now) }
     ensures timers { OnOk result (AreTimers soa.now) }
 {
@@ -121,7 +121,7 @@ fn push_mx(out: &mut Vec<u8>, cut: Cut, mx: &MX) -> Result<(), AllocError>
 }
 
 /// Appends the data of an SRV record, whose name has no pointers (RFC 2782; RFC 3597 section 4).
-fn push_srv(out: &mut Vec<u8>, srv: &SRV) -> Result<(), AllocError>
+pub(crate) fn push_srv(out: &mut Vec<u8>, srv: &SRV) -> Result<(), AllocError>
     ensures text { OnOk result (out.new.items ≡ out.old.items ++ srv_text srv.now) }
     ensures name { OnOk result (IsName srv.now.target) }
 {
@@ -132,7 +132,7 @@ fn push_srv(out: &mut Vec<u8>, srv: &SRV) -> Result<(), AllocError>
 }
 
 /// Appends the data of a DNSKEY record (RFC 4034 section 2.1).
-fn push_dnskey(out: &mut Vec<u8>, key: &DNSKEY) -> Result<(), AllocError>
+pub(crate) fn push_dnskey(out: &mut Vec<u8>, key: &DNSKEY) -> Result<(), AllocError>
     ensures { OnOk result (out.new.items ≡ out.old.items ++ dnskey_text key.now) }
 {
     push_short(out, key.flags)?;
@@ -142,7 +142,7 @@ fn push_dnskey(out: &mut Vec<u8>, key: &DNSKEY) -> Result<(), AllocError>
 }
 
 /// Appends the data of an RRSIG record (RFC 4034 section 3.1).
-fn push_rrsig(out: &mut Vec<u8>, rrsig: &RRSIG) -> Result<(), AllocError>
+pub(crate) fn push_rrsig(out: &mut Vec<u8>, rrsig: &RRSIG) -> Result<(), AllocError>
     ensures text { OnOk result (out.new.items ≡ out.old.items ++ rrsig_text rrsig.now) }
     ensures name { OnOk result (IsName rrsig.now.signer_name) }
 {

@@ -1,4 +1,5 @@
-//! Responses written as DNS messages (RFC 1035 section 4.1), with compression, within a limit of octets.
+//! Responses written as DNS messages (RFC 1035 section 4.1), with compression, within a limit of octets; and the data of a record
+//! by themselves.
 //!
 //! What octets say is defined by reading, in message_reading. What is written is said by reading alone: it reads back as what it was
 //! written of, whatever follows it. A call that takes memory answers a `Result`, and where a growth is refused it answers `Memory`.
@@ -14,6 +15,7 @@ mod hints;
 mod known_names;
 mod name_writer;
 mod numbers;
+mod plain_data;
 mod record_writer;
 mod response;
 mod response_writer;
@@ -22,5 +24,6 @@ mod writable;
 
 pub use error::WriteError;
 pub use front_writer::write_front;
+pub use plain_data::push_plain_data;
 pub use response::{Group, Response};
 pub use response_writer::write_response;
