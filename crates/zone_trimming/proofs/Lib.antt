@@ -1,0 +1,4 @@
+pub mod TrimmedSets
+pub mod TrimmedFound
+pub mod TrimmedLists
+pub mod TrimmedChain
