@@ -19,7 +19,7 @@ import sources
 LAYERS = {
     "names and data": ["zone_proto", "zone_sha1"],
     "text and wire": ["message_reading", "message_writing", "line_text", "zone_scanner", "zone_tokens", "zone_file", "zone_file_writer"],
-    "the zone": ["zone_handler", "zone_map", "zone_signing", "zone_denial", "zone_builder", "zone_lookup", "zone_in_memory"],
+    "the zone": ["zone_handler", "zone_map", "zone_signing", "zone_denial", "zone_verify", "zone_builder", "zone_lookup", "zone_in_memory"],
     "what it proves": ["denial_validation", "denial_laws", "response_laws", "server_laws"],
     "the server": ["zone_response", "zone_server", "zone_database", "ningkraet"],
     "programs": ["zonectl_commands", "zonectl_session", "zonectl", "zone_check", "zoned", "zone_store"],
