@@ -24,9 +24,15 @@ PLACES = {
     "zone_map": (580, 2),
     "zone_denial": (480, 3),
     "zone_signing": (610, 3),
+    "zone_verify": (480, 5),
     "zone_builder": (455, 4),
     "zone_lookup": (585, 4),
     "zone_in_memory": (600, 6),
+    "zone_keys": (632, 8),
+    "zone_trimming": (640, 7),
+    "zone_planning": (640, 9),
+    "zone_planner": (640, 10),
+    "zone_sign": (440, 12),
     "denial_validation": (810, 2),
     "denial_laws": (810, 5),
     "response_laws": (810, 8),
@@ -46,10 +52,17 @@ PLACES = {
 # The bends of lines that would pass through a crate.
 BENDS = {
     ("zone_database", "zone_sha1"): [(380, 6), (380, 1)],
-    ("zonectl_session", "zone_sha1"): [(692, 11), (692, 0.75), (420, 0.75)],
-    ("zonectl_commands", "line_text"): [(706, 11), (706, 1.3), (95, 1.3)],
-    ("zonectl_commands", "zone_handler"): [(706, 11), (706, 1.3), (470, 1.3)],
+    ("zonectl_session", "zone_sha1"): [(713, 11), (713, 0.75), (420, 0.75)],
+    ("zonectl_commands", "line_text"): [(721, 11), (721, 1.3), (95, 1.3)],
+    ("zonectl_commands", "zone_handler"): [(721, 11), (721, 1.3), (470, 1.3)],
     ("zone_database", "zone_builder"): [(330, 7)],
+    ("zone_check", "zone_verify"): [(190, 9), (345, 6.2)],
+    ("zone_verify", "zone_denial"): [(525, 4)],
+    ("zone_keys", "message_writing"): [(550, 6.6)],
+    ("zone_planning", "zone_signing"): [(702, 8.5), (702, 6.6), (668, 5), (668, 4)],
+    ("zone_trimming", "zone_signing"): [(682, 6.4), (668, 5), (668, 4)],
+    ("zone_trimming", "zone_denial"): [(534, 6.45), (534, 4.8), (525, 4)],
+    ("zonectl_session", "zone_in_memory"): [(555, 11), (555, 7)],
 }
 
 

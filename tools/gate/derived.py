@@ -20,9 +20,10 @@ LAYERS = {
     "names and data": ["zone_proto", "zone_sha1"],
     "text and wire": ["message_reading", "message_writing", "line_text", "zone_scanner", "zone_tokens", "zone_file", "zone_file_writer"],
     "the zone": ["zone_handler", "zone_map", "zone_signing", "zone_denial", "zone_verify", "zone_builder", "zone_lookup", "zone_in_memory"],
+    "signing": ["zone_keys", "zone_trimming", "zone_planning", "zone_planner"],
     "what it proves": ["denial_validation", "denial_laws", "response_laws", "server_laws"],
     "the server": ["zone_response", "zone_server", "zone_database", "ningkraet"],
-    "programs": ["zonectl_commands", "zonectl_session", "zonectl", "zone_check", "zoned", "zone_store"],
+    "programs": ["zonectl_commands", "zonectl_session", "zonectl", "zone_check", "zone_sign", "zoned", "zone_store"],
 }
 TESTS = "tests and examples"
 IS_TEST = re.compile("_rows|^alloc_failures$|^library_example$")
