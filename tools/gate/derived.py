@@ -22,7 +22,7 @@ LAYERS = {
     "the zone": ["zone_handler", "zone_map", "zone_signing", "zone_denial", "zone_verify", "zone_builder", "zone_lookup", "zone_in_memory"],
     "signing": ["zone_keys", "zone_trimming", "zone_planning", "zone_planner"],
     "what it proves": ["denial_validation", "denial_laws", "response_laws", "server_laws"],
-    "the server": ["zone_response", "zone_server", "zone_database", "ningkraet"],
+    "the server": ["zone_origins", "zone_response", "zone_server", "zone_database", "ningkraet"],
     "programs": ["zonectl_commands", "zonectl_session", "zonectl", "zone_check", "zone_sign", "zoned", "zone_store"],
 }
 TESTS = "tests and examples"

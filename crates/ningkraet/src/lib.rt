@@ -45,7 +45,7 @@ pub extern "C" fn nk_zones_free(alloc: Global, zones: &mut Handle)
     calls::free(alloc, zones)
 }
 
-/// Puts the zone that a text makes in the place of the one of its origin, or behind the others, and writes what is told of the text
+/// Puts the zone that a text makes in the place of the one of its origin, or among the others, and writes what is told of the text
 /// into the room.
 #[unsafe(no_mangle)]
 pub extern "C" fn nk_zones_load(
@@ -63,7 +63,7 @@ pub extern "C" fn nk_zones_load(
     calls::load(alloc, zones, origin, text, room, written).code()
 }
 
-/// Puts the zone that a text makes behind the others, unless there is one of its origin, and writes what is told of the text into
+/// Puts the zone that a text makes among the others, unless there is one of its origin, and writes what is told of the text into
 /// the room.
 #[unsafe(no_mangle)]
 pub extern "C" fn nk_zones_add(

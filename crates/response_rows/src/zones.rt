@@ -150,7 +150,7 @@ pub fn ask(alloc: Global, zones: &[Zone], words: &str) -> anyhow::Result<String>
     let mut out = Vec::new(alloc);
     match answer(
         alloc,
-        zones.as_slice(),
+        &zones.as_slice(),
         message.as_slice(),
         transport_of(way)?,
         &mut out,

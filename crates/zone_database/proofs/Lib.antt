@@ -3,6 +3,6 @@ pub mod Handles
 pub mod OwnDenials
 pub mod PutsInOrder
 pub mod RawBoxes
-pub mod Sharing
 pub mod TextFacts
+pub mod UnderOrigins
 pub mod Walking

@@ -1,5 +1,5 @@
 -- What the calls of a program that isn't written in Rattle do to the zones that it keeps, and what they tell
-use Rattle.std.specs.Prelude.{◌≡◌, ◌≢◌, ◌⊎◌, ◌<◌, ◌++◌, ◌==◌, ℕ, List, [], drop, length, map, min, is_some, Bool, true, false, if◌then◌else◌, Option, Some, None, Result, Ok, Err}
+use Rattle.std.specs.Prelude.{◌≡◌, ◌≢◌, ◌⊎◌, ◌<◌, ◌++◌, ◌==◌, ℕ, List, [], drop, length, map, min, Bool, true, false, if◌then◌else◌, Option, Some, None, Result, Ok, Err}
 use Rattle.std.specs.List.{find}
 use Rattle.zone_proto.specs.declared.error.ProtoError.{ProtoError}
 use Rattle.zone_proto.specs.Names.{Name, lower}
@@ -14,7 +14,7 @@ use Rattle.zone_database.specs.declared.outcome.Outcome.TheVariants.{Done, Ignor
 use Rattle.zone_database.specs.declared.reading.TextFault.{TextFault}
 use Rattle.zone_database.specs.declared.reading.TextFault.TheVariants as fault
 use Rattle.zone_database.specs.declared.zone.Zone.{Zone}
-use Rattle.zone_database.specs.Databases.{begins_at, place_of, with_zone, without, zones_in}
+use Rattle.zone_database.specs.Databases.{begins_at, has_zone, with_zone, without, zones_in}
 use Rattle.zone_database.specs.Texts.{IsTextFault, IsZoneOfText}
 use Rattle.zone_database.specs.Zones.{served_zone}
 
@@ -59,13 +59,13 @@ IsGiven octets outcome written before after = ⊥
 
 -- ---- what is done to the zones that are there, and what is told of them
 
--- a zone stands behind the others, without the one of its origin; or no memory was found, and nothing changes
+-- a zone stands among the others, in the place of the one of its origin if there is one; or no memory was found, and nothing changes
 abbrev pub PutsZone : Zone → List Zone → Outcome → List Zone → Type 0
 PutsZone z old Done new = new ≡ with_zone z old
 PutsZone z old NoMemory new = new ≡ old
 PutsZone z old outcome new = ⊥
 
--- the zone that a text makes stands behind the others, without the one of its origin; or nothing changes: the text makes no zone, or no
+-- the zone that a text makes stands among the others, in the place of the one of its origin if there is one; or nothing changes: the text makes no zone, or no
 -- memory was found
 abbrev pub IsPut : Name → List ℕ → List Zone → Outcome → List Zone → Type 0
 IsPut origin text old Done new = (z : Zone) × IsZoneOfText origin text z × (new ≡ with_zone z old)
@@ -79,11 +79,11 @@ IsPutBeside false origin text old outcome new = IsPut origin text old outcome ne
 IsPutBeside true origin text old outcome new = ((outcome ≡ ZoneExists) ⊎ (outcome ≡ NoMemory)) × (new ≡ old)
 
 abbrev pub IsMade : Name → List ℕ → List Zone → Outcome → List Zone → Type 0
-IsMade origin text old outcome new = IsPutBeside (is_some (place_of (lower origin) old)) origin text old outcome new
+IsMade origin text old outcome new = IsPutBeside (has_zone (lower origin) old) origin text old outcome new
 
 -- the zone of an origin is taken out; or there is none
 abbrev pub IsTakenOut : Name → List Zone → Outcome → List Zone → Type 0
-IsTakenOut origin old outcome new = (new ≡ without origin old) × (outcome ≡ (if is_some (place_of origin old) then Done else NoZone))
+IsTakenOut origin old outcome new = (new ≡ without origin old) × (outcome ≡ (if has_zone origin old then Done else NoZone))
 
 -- the serial of the zone of an origin is written; or there is none, or no memory was found, and the number stays
 abbrev pub IsSerialOf : Name → ℕ → ℕ → Option Zone → Outcome → Type 0

@@ -70,7 +70,7 @@ fn put_copy(alloc: Global, database: &ZoneDatabase, other: &mut Handle) -> Outco
     }
 }
 
-/// Puts the zone of an origin that the text of a zone file makes in the place of the one of this origin, or behind the others, and
+/// Puts the zone of an origin that the text of a zone file makes in the place of the one of this origin, or among the others, and
 /// writes what is told of the text into the room.
 pub fn load(
     alloc: Global,
@@ -111,7 +111,7 @@ fn load_held(
     }
 }
 
-/// Puts the zone of an origin that the text of a zone file makes behind the others, unless there is one of this origin, and writes
+/// Puts the zone of an origin that the text of a zone file makes among the others, unless there is one of this origin, and writes
 /// what is told of the text into the room.
 pub fn add(
     alloc: Global,

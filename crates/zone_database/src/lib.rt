@@ -8,6 +8,7 @@ mod database;
 mod handle;
 pub mod laws;
 mod loads;
+mod nearest_zone;
 mod outcome;
 mod raw_box;
 mod reading;

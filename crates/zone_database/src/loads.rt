@@ -13,7 +13,7 @@ use std::str;
 use zone_proto::{LowerName, Name, ProtoError};
 use zone_tokens::read_name_under;
 
-/// Puts the zone of an origin that a text makes in the place of the one of this origin, or behind the others. What is told of the
+/// Puts the zone of an origin that a text makes in the place of the one of this origin, or among the others. What is told of the
 /// text is put behind `told`.
 #[tactic(auto, using(crate::proofs::CallFacts::unread, crate::proofs::CallFacts::read_on))]
 pub(crate) fn load_zone(
@@ -31,7 +31,7 @@ pub(crate) fn load_zone(
     }
 }
 
-/// Puts the zone of an origin that a text makes behind the others, unless there is one of this origin.
+/// Puts the zone of an origin that a text makes among the others, unless there is one of this origin.
 #[tactic(auto, using(crate::proofs::CallFacts::unread, crate::proofs::CallFacts::read_on))]
 pub(crate) fn add_zone(
     alloc: Global,
@@ -86,7 +86,7 @@ fn label_of(origin: &[u8]) -> &str {
     }
 }
 
-/// Puts the zone that a text makes behind the others, unless there is one of its origin.
+/// Puts the zone that a text makes among the others, unless there is one of its origin.
 fn put_new(
     alloc: Global,
     database: &mut ZoneDatabase,
@@ -106,7 +106,7 @@ fn put_new(
     put_text(alloc, database, origin, label, text, told)
 }
 
-/// Puts the zone that a text makes in the place of the one of its origin, or behind the others.
+/// Puts the zone that a text makes in the place of the one of its origin, or among the others.
 fn put_text(
     alloc: Global,
     database: &mut ZoneDatabase,
@@ -124,7 +124,7 @@ fn put_text(
     }
 }
 
-/// Puts a zone that was read in the place of the one of its origin, or behind the others.
+/// Puts a zone that was read in the place of the one of its origin, or among the others.
 fn put_read(
     alloc: Global,
     database: &mut ZoneDatabase,

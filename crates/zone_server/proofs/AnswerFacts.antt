@@ -6,10 +6,11 @@ use Rattle.message_reading.specs.declared.query.Query.{Query as ReadQuery}
 use Rattle.message_reading.specs.declared.query.Extension.{Extension}
 use Rattle.message_reading.specs.declared.error.ReadError.{ReadError}
 use Rattle.message_reading.specs.declared.error.ReadError.TheVariants.{NoHeader, NoQuery, NotImplemented, Malformed, BadVersion, Memory}
+use Rattle.zone_proto.specs.declared.response_code.ResponseCode.TheVariants.{Refused}
 use Rattle.message_reading.specs.Messages.{Parts, message_of}
 use Rattle.message_reading.specs.Queries.{query_of, ReadsQuery}
 use Rattle.zone_response.specs.Queries.{Zone}
-use Rattle.zone_response.specs.Responses.{IsResponse}
+use Rattle.zone_response.specs.Responses.{bare, IsResponse}
 use Rattle.zone_response.specs.Sections.{Sections}
 use Rattle.zone_server.specs.declared.answering.Answered.{Answered}
 use Rattle.zone_server.specs.declared.transport.Transport.{Transport}
@@ -71,6 +72,13 @@ pub said_goes_out : (zs : List Zone) (limit : ℕ) (q : ReadQuery) (z : Zone) (s
     → OnOk r (IsResponseTo zs limit q octets)
 said_goes_out zs limit q z s octets (Ok done) answering says h = record { zone = Some z; said = s; answering = answering; says = says; goes_out = h }
 said_goes_out zs limit q z s octets (Err e) answering says h = tt
+
+-- where no zone answers, the server refuses
+pub refused_goes_out : (zs : List Zone) (limit : ℕ) (q : ReadQuery) (octets : List ℕ) (r : Result (Unit {0}) AllocError)
+    → IsAnswering zs (asked_of q).name (asked_of q).record_type None → OnOk r (IsSent limit q (bare Refused) octets)
+    → OnOk r (IsResponseTo zs limit q octets)
+refused_goes_out zs limit q octets (Ok done) answering h = record { zone = None; said = bare Refused; answering = answering; says = refl; goes_out = inl h }
+refused_goes_out zs limit q octets (Err e) answering h = tt
 
 -- ---- a header alone has twelve octets
 

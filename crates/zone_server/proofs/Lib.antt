@@ -1,3 +1,4 @@
+pub mod AnsweringZones
 pub mod NearestZones
 pub mod BareHeaderBack
 pub mod QueryFacts

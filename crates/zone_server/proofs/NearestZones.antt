@@ -2,15 +2,14 @@
 use Rattle.std.proofs.Common.{◌≡◌, ℕ, ◌+◌, ◌<◌, ◌≤◌, ◌&&◌, map, take, get_or, subst, Bool, true, false, List, [], ◌∷◌, ◌++◌, length, refl, sym, ap, ◌∙◌, append_assoc, arith, true≢false}
 use Rattle.std.specs.Prelude.{Option, Some, None, All}
 use Rattle.std.proofs.lemmas.Bool.{ltb-true, ltb-false}
-use Rattle.std.proofs.lemmas.List.{get_or-map, length-map, map_more}
-use Rattle.std.proofs.lemmas.List.Folds.{list_any_at}
+use Rattle.std.proofs.lemmas.List.{map_more}
 use Rattle.std.proofs.lemmas.List.Elements.{All-append, All-cons, All-nil, All-push, All-same, All-weaker}
-use Rattle.zone_proto.specs.Names.{Name, is_above}
+use Rattle.zone_proto.specs.Names.{Name}
 use Rattle.zone_proto.specs.declared.rdata.signing.RRSIG.{RRSIG}
 use Rattle.zone_proto.specs.Signing.{SignedPart}
 use Rattle.zone_response.specs.Queries.{Zone, zone_of}
 use Rattle.zone_response.specs.declared.question.ServedZone.{ServedZone}
-use Rattle.zone_server.specs.ServedZones.{has_parent, is_longer, IsNearest, IsNearestIfAny}
+use Rattle.zone_server.specs.ServedZones.{is_longer, IsNearest, IsNearestIfAny}
 
 module _ (may : Zone → Bool) where
   abbrev Shorter : Zone → Zone → Type 0
@@ -102,12 +101,3 @@ module _ {S H : Type 0} (signature_of : S → SignedPart → ℕ → ℕ → Opt
       let P : List Zone → Type 0 = λ zs. IsNearestIfAny may zs n in
       let Q : Option Zone → Type 0 = λ m. IsNearestIfAny may (map (zone_of {S = S} {H = H} signature_of digest_of) (take i zones) ++ zone_of signature_of digest_of z ∷ []) m in
       subst P (sym (passed within here)) (subst Q (sym is) (no_nearer may (map (zone_of {S = S} {H = H} signature_of digest_of) (take i zones)) o (zone_of signature_of digest_of z) (sym test ∙ e) h))
-
--- ---- a zone above a name
-
-pub begins_above : {S H : Type 0} (signature_of : S → SignedPart → ℕ → ℕ → Option RRSIG) (digest_of : H → ℕ → List ℕ → Name → ℕ → Option (List ℕ)) (zones : List (ServedZone S H)) (x : Name) (i : ℕ) (z : ServedZone S H) (b : Bool) → i < length zones → z ≡ get_or zones i z
-    → b ≡ is_above z.origin.now x → b ≡ true → true ≡ has_parent (map (zone_of {S = S} {H = H} signature_of digest_of) zones) x
-begins_above {S} {H} signature_of digest_of zones x i z b within here test above =
-    let there : get_or (map (zone_of {S = S} {H = H} signature_of digest_of) zones) i (zone_of signature_of digest_of z) ≡ zone_of signature_of digest_of z = get_or-map (zone_of {S = S} {H = H} signature_of digest_of) zones i z (zone_of signature_of digest_of z) within ∙ ap (zone_of {S = S} {H = H} signature_of digest_of) (sym here) in
-    sym (list_any_at (λ (y : Zone). is_above y.origin x) (map (zone_of {S = S} {H = H} signature_of digest_of) zones) i (zone_of signature_of digest_of z)
-    (omega (arith, within, length-map zones (zone_of {S = S} {H = H} signature_of digest_of))) (ap (λ (y : Zone). is_above y.origin x) there ∙ (sym test ∙ above)))

@@ -43,6 +43,11 @@ IsAnswering zs x t = IsNearestIfAny (may_answer zs x t) zs
 
 -- ---- as the program finds it
 
+-- the zone of the parent, where it answers for a name and a type; none where it doesn't
+abbrev pub IsParentsZone : List Zone → Name → ℕ → Option Zone → Type 0
+IsParentsZone zs x t (Some z) = (is_parents zs x t ≡ true) × IsNearest (may_answer_for true x) zs z
+IsParentsZone zs x t None = is_parents zs x t ≡ false
+
 -- the origin of a zone is longer than that of another, if there is one
 abbrev pub is_longer : Zone → Option Zone → Bool
 is_longer z None = true

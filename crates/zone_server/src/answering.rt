@@ -1,20 +1,19 @@
 //! From the octets of a query to those of its response.
-ghost use Rattle.std.specs.Prelude.{◌≡◌, ◌<◌, ◌≤◌, length, map, IfOk, OnOk};
+ghost use Rattle.std.specs.Prelude.{◌≡◌, ◌<◌, ◌≤◌, length, IfOk, OnOk};
 ghost use Rattle.zone_response.specs.Responses.{bare};
 ghost use Rattle.zone_server.specs.Answers.{asked_of, bad_version, IsAnswer, IsAnswerTo, IsResponseTo, IsSent, Tells};
 ghost use Rattle.zone_server.specs.BareHeaders.{HasOpcode, IsBareHeader};
 ghost use Rattle.zone_server.specs.Limits.{limit_for};
-ghost use Rattle.zone_response.specs.Queries.{zone_of};
 
 use crate::bare_header::write_bare_header;
 use crate::sending::{send, send_code};
 use crate::transport::{Transport, limit_for};
-use crate::zones::zone_for;
+use crate::zones::{ServedZones, zone_for};
 use message_reading::{Header, Query, ReadError, read_query};
 use std::alloc::{AllocError, Global};
 use zone_handler::LookupOptions;
-use zone_proto::{LowerName, Nsec3Hash, ResponseCode, Signer};
-use zone_response::{Question, ServedZone, respond};
+use zone_proto::{LowerName, ResponseCode};
+use zone_response::{Question, respond};
 
 /// FORMERR (RFC 1035 section 4.1.1).
 const MALFORMED: u8 = 1;
@@ -48,15 +47,15 @@ pub enum Answered {
 /// - Where a record has data that no octets are, the code is `ServFail`.
 ///
 /// Refused for want of memory alone.
-pub fn answer<S: Signer, H: Nsec3Hash>(
+pub fn answer<Z: ServedZones>(
     alloc: Global,
-    zones: &[ServedZone<'_, S, H>],
+    zones: &Z,
     message: &[u8],
     transport: Transport,
     out: &mut Vec<u8>,
 ) -> Result<Answered, AllocError>
     ensures answer { OnOk result
-        (IsAnswer (map (zone_of S.signature_of H.digest_of) zones.now) transport message.now
+        (IsAnswer (Z.zones zones.now) transport message.now
         out.new.items) }
     ensures told { IfOk result (λ told. Tells told out.new.items) }
     ensures short { OnOk result (length out.new.items < 65536) }
@@ -66,16 +65,16 @@ pub fn answer<S: Signer, H: Nsec3Hash>(
 }
 
 /// Answers a message by what is read of it.
-pub(crate) fn answer_read<S: Signer, H: Nsec3Hash>(
+pub(crate) fn answer_read<Z: ServedZones>(
     alloc: Global,
-    zones: &[ServedZone<'_, S, H>],
+    zones: &Z,
     read: Result<Query, ReadError>,
     transport: Transport,
     out: &mut Vec<u8>,
 ) -> Result<Answered, AllocError>
     requires { HasOpcode read }
     ensures answer { OnOk result
-        (IsAnswerTo (map (zone_of S.signature_of H.digest_of) zones.now) transport read
+        (IsAnswerTo (Z.zones zones.now) transport read
         out.new.items) }
     ensures told { IfOk result (λ told. Tells told out.new.items) }
     ensures short { OnOk result (length out.new.items < 65536) }
@@ -123,14 +122,14 @@ fn answer_version(
 }
 
 /// Answers a query that was read.
-fn answer_query<S: Signer, H: Nsec3Hash>(
+fn answer_query<Z: ServedZones>(
     alloc: Global,
-    zones: &[ServedZone<'_, S, H>],
+    zones: &Z,
     query: &Query,
     transport: Transport,
     out: &mut Vec<u8>,
 ) -> Result<Answered, AllocError>
-    ensures answer { OnOk result (IsResponseTo (map (zone_of S.signature_of H.digest_of) zones.now)
+    ensures answer { OnOk result (IsResponseTo (Z.zones zones.now)
         (limit_for transport query.now.extension) query.now out.new.items) }
     ensures told { IfOk result (λ told. Tells told out.new.items) }
     ensures short { OnOk result (length out.new.items < 65536) }
@@ -141,16 +140,16 @@ fn answer_query<S: Signer, H: Nsec3Hash>(
 }
 
 /// Writes the response to a query from the zone that answers, in place of the octets of `out`.
-fn send_response<S: Signer, H: Nsec3Hash>(
+fn send_response<Z: ServedZones>(
     alloc: Global,
-    zones: &[ServedZone<'_, S, H>],
+    zones: &Z,
     query: &Query,
     limit: u16,
     out: &mut Vec<u8>,
 ) -> Result<(), AllocError>
     requires { 512 ≤ limit }
     ensures { OnOk result
-        (IsResponseTo (map (zone_of S.signature_of H.digest_of) zones.now) limit query.now
+        (IsResponseTo (Z.zones zones.now) limit query.now
         out.new.items) }
 {
     let Ok(name) = LowerName::new(&query.question.name) else {
@@ -161,30 +160,15 @@ fn send_response<S: Signer, H: Nsec3Hash>(
         query_type: query.question.query_type,
         query_class: query.question.query_class,
     };
-    let Some(zone) = zone_for(zones, question) else {
+    let Some(zone) = zone_for(zones, question)? else {
         return send_code(alloc, out, query, ResponseCode::Refused, limit);
     };
     let options = LookupOptions {
         dnssec_ok: asks_for_dnssec(query),
     };
-    match respond(lent(zone), question, options) {
+    match respond(zone, question, options) {
         Ok(response) => send(alloc, out, query, &response, limit),
         Err(_) => Err(AllocError),
-    }
-}
-
-/// The same zone.
-fn lent<'z, S: Signer, H: Nsec3Hash>(zone: &ServedZone<'z, S, H>) -> ServedZone<'z, S, H>
-    ensures { zone_of S.signature_of H.digest_of result
-        ≡ zone_of S.signature_of H.digest_of zone.now }
-{
-    ServedZone {
-        origin: zone.origin,
-        inner: zone.inner,
-        denials: zone.denials,
-        nx_proof_kind: zone.nx_proof_kind,
-        hash: zone.hash,
-        moment: zone.moment,
     }
 }
 

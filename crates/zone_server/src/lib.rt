@@ -26,3 +26,4 @@ pub use server::Server;
 pub use serving::serve_frames;
 pub use transport::Transport;
 pub use waiting::Stop;
+pub use zones::ServedZones;

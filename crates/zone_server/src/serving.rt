@@ -190,7 +190,7 @@ fn answer_once<S: Signer, H: Nsec3Hash, W: Write>(
         (W.contents output.old) (W.contents output.new)) }
     ensures read { OnOk result (query_of frame.entry.message.now ≡ read) }
 {
-    answer_read(alloc, server.zones, read, frame.transport, out)?;
+    answer_read(alloc, &server.zones, read, frame.transport, out)?;
     put_answer(out.as_slice(), answers, output)
 }
 

@@ -210,11 +210,11 @@ fn first_serial(records: &[Record]) -> Option<u32>
     serial_in(records.first()?)
 }
 
-/// The serial of a record that is an SOA.
-fn serial_in(soa_record: &Record) -> Option<u32>
-    ensures { result ≡ soa_serial soa_record.now.rdata }
+/// The serial of a record, if it is an SOA.
+fn serial_in(item: &Record) -> Option<u32>
+    ensures { result ≡ soa_serial item.now.rdata }
 {
-    match &soa_record.rdata {
+    match &item.rdata {
         RData::SOA(soa) => Some(soa.serial),
         _ => None,
     }

@@ -1,5 +1,3 @@
-use Rattle.std.proofs.Common.{map}
-use Rattle.zone_response.specs.Queries.{zone_of}
 use Rattle.zone_server.proofs.AnswerFacts.{answers_octets}
 use Rattle.zone_server.proofs.QueryFacts.{read_opcode}
 use Rattle.zone_server.proofs.answering.answer.Goals as goal
@@ -9,5 +7,5 @@ answer_read-requires g c = read_opcode c.args.message.now c.read_query-read.resu
 
 pub returns-clause-answer : goal.returns-clause-answer
 returns-clause-answer g c =
-    answers_octets (map (zone_of {S = g.row.S.Denot} {H = g.row.H.Denot} g.S.Signer.signature_of g.H.Nsec3Hash.digest_of) c.args.zones.now) c.args.transport c.args.message.now c.read_query-read.result c.answer_read.result
+    answers_octets (g.Z.ServedZones.zones c.args.zones.now) c.args.transport c.args.message.now c.read_query-read.result c.answer_read.result
     c.answer_read.new.out.items c.read_query-read.ensures c.answer_read.ensures.answer

@@ -1,0 +1,26 @@
+use Rattle.std.proofs.Common.{◌∙◌, ap, sym, subst}
+use Rattle.std.specs.Arc.{arc_value}
+use Rattle.std.specs.Prelude.{map}
+use Rattle.zone_origins.proofs.UnderNames.{put, put_under}
+use Rattle.zone_database.specs.Databases.{with_zone, zones_in}
+use Rattle.zone_database.specs.Origins.{AreUnderOrigins}
+use Rattle.zone_database.specs.declared.zone.Zone.{Zone}
+use Rattle.zone_database.proofs.UnderOrigins.{either_way}
+use Rattle.zone_database.proofs.database.ZoneDatabase.put.Goals as goal
+
+pub invariant_of-self : goal.invariant_of-self
+invariant_of-self c =
+    record {
+      under_origins = either_way c.insert.result _ _ _ c.insert.ensures.entries c.insert.ensures.err
+          (λ is. subst AreUnderOrigins (sym is)
+          (put_under arc_value (λ (z : Zone). z.origin) c.args.self.now.zones.entries c.in-Ok.origin c.in-Ok-new.shared c.args.self.now.under_origins
+          (ap (λ (z : Zone). z.origin) c.in-Ok-new.ensures.ok ∙ sym c.in-Ok.ensures.copy.ok)))
+          (λ same. subst AreUnderOrigins (sym same) c.args.self.now.under_origins);
+    }
+
+pub returns-in-Ok-insert-clause-put : goal.returns-in-Ok-insert-clause-put
+returns-in-Ok-insert-clause-put c =
+    ap (map (λ e. arc_value e.1)) c.in-Ok-insert.ensures.entries
+    ∙ put arc_value (λ (z : Zone). z.origin) c.args.self.now.zones.entries c.in-Ok.origin c.in-Ok-new.shared c.args.self.now.under_origins
+    (ap (λ (z : Zone). z.origin) c.in-Ok-new.ensures.ok ∙ sym c.in-Ok.ensures.copy.ok)
+    ∙ ap (λ (z : Zone). with_zone z (zones_in c.args.self.now)) c.in-Ok-new.ensures.ok

@@ -1,0 +1,32 @@
+//! The zones of a database as a server asks them.
+ghost use Rattle.std.specs.Prelude.{map};
+ghost use Rattle.zone_database.specs.Databases.{zones_in};
+ghost use Rattle.zone_database.specs.Zones.{served_zone};
+
+use crate::database::ZoneDatabase;
+use crate::static_signer::StaticSigner;
+use crate::zone::lent;
+use std::alloc::AllocError;
+use zone_origins::nearest;
+use zone_proto::LowerName;
+use zone_response::ServedZone;
+use zone_server::ServedZones;
+use zone_sha1::Sha1Hash;
+
+impl ServedZones for ZoneDatabase {
+    type Signer = StaticSigner;
+
+    type Hash = Sha1Hash;
+
+    ghost zones = { λ database. map served_zone (zones_in database) };
+
+    fn nearest(
+        &self,
+        name: &LowerName,
+    ) -> Result<Option<ServedZone<'_, StaticSigner, Sha1Hash>>, AllocError> {
+        match nearest(&self.zones, name)? {
+            Some((_, zone)) => Ok(Some(lent(zone))),
+            None => Ok(None),
+        }
+    }
+}
