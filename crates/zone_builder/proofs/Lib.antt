@@ -7,9 +7,3 @@ mod Making
 mod LoadedSets
 mod Faulting
 mod CnamesAlone
-mod SetsCompared
-mod CirclesCompared
-mod CircleLists
-mod Nsec3Data
-mod Nsec3Told
-mod Nsec3Closed

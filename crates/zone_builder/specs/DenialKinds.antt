@@ -1,11 +1,12 @@
 -- By what a zone denies what it doesn't hold, as its sets say
-use Rattle.std.specs.Prelude.{ℕ, Bool, cond, List, [], ◌∷◌, Option, Some, None, option_map, option_and_then, Result, Ok, Err}
-use Rattle.std.specs.Option.{option_or}
+use Rattle.std.specs.Prelude.{ℕ, Bool, false, cond, List, [], ◌∷◌, Option, Some, None, option_map, option_and_then, Result, Ok, Err}
+use Rattle.std.specs.Option.{option_map_or, option_or}
 use Rattle.zone_proto.specs.declared.error.ProtoError.{ProtoError}
 use Rattle.zone_proto.specs.declared.nx_proof_kind.NxProofKind.{NxProofKind}
 use Rattle.zone_proto.specs.declared.nx_proof_kind.NxProofKind.TheVariants.{Nsec, Nsec3}
 use Rattle.zone_proto.specs.declared.rdata.RData.{RData}
 use Rattle.zone_proto.specs.declared.rdata.RData.TheVariants as V
+use Rattle.zone_proto.specs.declared.rdata.denial.NSEC3.{NSEC3 as Nsec3Data}
 use Rattle.zone_proto.specs.declared.rdata.denial.NSEC3PARAM.{NSEC3PARAM as Nsec3Parameters}
 use Rattle.zone_proto.specs.declared.record.Record.{Record}
 use Rattle.zone_proto.specs.HashedOwners.{owner_or_refusal}
@@ -14,8 +15,12 @@ use Rattle.zone_proto.specs.Sets.{RRset}
 use Rattle.zone_proto.specs.Types.{NSEC, NSEC3, NSEC3PARAM}
 use Rattle.zone_map.specs.Zones.{Sets, set_at}
 use Rattle.zone_denial.specs.Chains.{has_parameters}
+use Rattle.zone_denial.specs.Nsec3Circle.{first_nsec3}
 use Rattle.zone_denial.specs.Nsec3Zones.{hash_with}
-use Rattle.zone_builder.specs.Nsec3Circles.{opts_out}
+
+-- an NSEC3 set has the opt-out flag (RFC 5155 section 6)
+abbrev pub opts_out : RRset → Bool
+opts_out s = option_map_or (λ (a : Nsec3Data). a.opt_out) (first_nsec3 s.records) false
 
 -- denial by the chain with these parameters, if an NSEC3 set belongs to it, with the flag Opt-Out of that set: that of NSEC3PARAM says nothing (RFC 5155 section 4.1.2)
 abbrev pub chain_kind : Nsec3Parameters → RRset → Option NxProofKind

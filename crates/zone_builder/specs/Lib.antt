@@ -3,8 +3,4 @@ pub mod Groups
 pub mod Sets
 pub mod Faults
 pub mod GroupFaults
-pub mod Circles
-pub mod Nsec3Differences
-pub mod Comparing
-pub mod Nsec3Circles
 pub mod DenialKinds

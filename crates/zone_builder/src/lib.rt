@@ -6,27 +6,19 @@
 
 mod apex;
 mod checks;
-mod circle;
-mod comparing;
 mod denials;
-mod difference;
 mod fault;
 mod given;
 mod grouping;
 mod groups;
 mod loading;
-mod nsec3_circle;
 mod nsec3_data;
-mod nsec3_parameters;
 mod sets;
 mod warning;
 
-pub use circle::{NsecCircle, OpenCircle, closed_nsec_circle};
 pub use denials::denial_kind;
-pub use difference::Difference;
 pub use fault::{LoadFault, MOST_ITERATIONS};
 pub use given::{GivenRecord, RecordAt};
 pub use loading::{Loaded, load};
-pub use nsec3_circle::{Nsec3Circle, closed_nsec3_circle};
 pub use nsec3_data::{first_nsec3, has_parameters};
 pub use warning::LoadWarning;

@@ -2,7 +2,7 @@
 ghost use Rattle.std.specs.Prelude.{◌≡◌, option_copied};
 ghost use Rattle.zone_denial.specs.Chains.{has_parameters};
 ghost use Rattle.zone_denial.specs.Nsec3Circle.{first_nsec3};
-ghost use Rattle.zone_builder.specs.Nsec3Circles.{opts_out};
+ghost use Rattle.zone_builder.specs.DenialKinds.{opts_out};
 
 use zone_proto::{NSEC3, RData, RecordSet};
 

@@ -1,27 +1,24 @@
-//! What zones are made of the records of zone files, and whether their denials are closed circles.
+//! What zones are made of the records of zone files.
 
 use crate::octets::octets_of;
-use crate::plain_hash::PlainHash;
 use crate::zone::{error_line, read};
 use alloc_failures::Scarcity;
 use std::alloc::{AllocError, Global};
-use zone_builder::{
-    GivenRecord, LoadFault, Loaded, OpenCircle, closed_nsec_circle, closed_nsec3_circle, load,
-};
+use zone_builder::{GivenRecord, LoadFault, Loaded, load};
 use zone_file::PlacedRecord;
-use zone_proto::{DNSClass, Name, ProtoError, RecordType};
+use zone_proto::{DNSClass, Name, ProtoError};
 
 /// How much more memory a call gets each time, in octets, and how often it is made at most.
-const STEP: usize = 48;
+pub const STEP: usize = 48;
 
-const ROOMS: usize = 1_000;
+pub const ROOMS: usize = 1_000;
 
 /// The class of CHAOS (RFC 1035 section 3.2.4).
 const CHAOS: DNSClass = DNSClass(3);
 
 /// The answer to a row, which is a call, an origin and a zone file: `load` tells how many sets the zone has that its records make,
-/// and its warnings, or why there is none; `chaos` the same once the last record is of that class; `alloc_failures` and `circle` tell
-/// whether memory was refused, and then a zone was made, or its circle found closed.
+/// and its warnings, or why there is none; `chaos` the same once the last record is of that class; `scarce` tells whether memory was
+/// refused, and then a zone was made.
 pub fn answer(alloc: Global, row: &str) -> Result<String, AllocError> {
     let (call, rest) = row.split_once(' ').unwrap_or((row, ""));
     let (origin, text) = rest.split_once(' ').unwrap_or((rest, ""));
@@ -48,13 +45,12 @@ fn call_answer(
 ) -> Result<String, AllocError> {
     match call {
         "scarce" => scarce_answer(alloc, origin, records),
-        "circle" => circle_answer(alloc, origin, records),
         _ => load_answer(alloc, loaded(alloc, origin, records)),
     }
 }
 
 /// The zone that copies of records make.
-fn loaded(alloc: Global, origin: &str, records: &[PlacedRecord]) -> Result<Loaded, LoadFault> {
+pub fn loaded(alloc: Global, origin: &str, records: &[PlacedRecord]) -> Result<Loaded, LoadFault> {
     let Ok(origin) = Name::parse(alloc, origin) else {
         return Err(LoadFault::Memory);
     };
@@ -109,7 +105,12 @@ fn scarce_answer(
     scarce.begin(ROOMS)?;
     let given = scarce.until_given(STEP, || is_loaded(alloc, origin, records));
     scarce.end();
-    told_refusals(alloc, given, "loaded")
+    match given {
+        None => format!(in alloc; "refused"),
+        Some((0, _)) => format!(in alloc; "never refused"),
+        Some((_, true)) => format!(in alloc; "refused, then loaded"),
+        Some((_, false)) => format!(in alloc; "refused, then not loaded"),
+    }
 }
 
 /// Whether a zone is made; none where memory was refused.
@@ -118,55 +119,5 @@ fn is_loaded(alloc: Global, origin: &str, records: &[PlacedRecord]) -> Option<bo
         Ok(_) => Some(true),
         Err(LoadFault::Memory) => None,
         Err(_) => Some(false),
-    }
-}
-
-/// Whether memory was refused to the search for a closed circle in the zone of records, and then it was found.
-fn circle_answer(
-    alloc: Global,
-    origin: &str,
-    records: &[PlacedRecord],
-) -> Result<String, AllocError> {
-    match loaded(alloc, origin, records) {
-        Ok(loaded) => circle_refusals(alloc, &loaded),
-        Err(_) => format!(in alloc; "no zone"),
-    }
-}
-
-fn circle_refusals(alloc: Global, loaded: &Loaded) -> Result<String, AllocError> {
-    let mut scarce = Scarcity::new(alloc)?;
-    scarce.begin(ROOMS)?;
-    let given = scarce.until_given(STEP, || is_closed(loaded));
-    scarce.end();
-    told_refusals(alloc, given, "closed")
-}
-
-/// Whether the denials of a zone are a closed circle; none where memory was refused.
-fn is_closed(loaded: &Loaded) -> Option<bool> {
-    if loaded.records.is_without(RecordType::NSEC) {
-        return match closed_nsec3_circle(&loaded.records, &loaded.origin, &PlainHash) {
-            Ok(_) => Some(true),
-            Err(OpenCircle::Memory) => None,
-            Err(_) => Some(false),
-        };
-    }
-    match closed_nsec_circle(&loaded.records, &loaded.origin) {
-        Ok(_) => Some(true),
-        Err(OpenCircle::Memory) => None,
-        Err(_) => Some(false),
-    }
-}
-
-/// What is told of a call to which memory was refused so often, and which then succeeded or not.
-fn told_refusals(
-    alloc: Global,
-    given: Option<(usize, bool)>,
-    done: &str,
-) -> Result<String, AllocError> {
-    match given {
-        None => format!(in alloc; "refused"),
-        Some((0, _)) => format!(in alloc; "never refused"),
-        Some((_, true)) => format!(in alloc; "refused, then {done}"),
-        Some((_, false)) => format!(in alloc; "refused, then not {done}"),
     }
 }

@@ -1,7 +1,7 @@
 //! Rows: texts, and how they are read.
 
 use crate::octets::octets_of;
-use crate::{entries, loading, printed, words, zone};
+use crate::{chains, entries, loading, printed, words, zone};
 use std::alloc::{AllocError, Global};
 
 /// What the rows of a file write.
@@ -19,6 +19,8 @@ pub enum Kind {
     Printed,
     /// A call, an origin and a zone file, and the zone of its records.
     Loading,
+    /// A call, an origin and a zone file, and whether the zone of its records has a chain.
+    Chains,
 }
 
 impl Kind {
@@ -30,6 +32,7 @@ impl Kind {
             "failing" => Kind::Failing,
             "printed" => Kind::Printed,
             "loading" => Kind::Loading,
+            "chains" => Kind::Chains,
             _ => Kind::Entries,
         }
     }
@@ -75,6 +78,7 @@ fn answer(alloc: Global, kind: Kind, row: &str) -> Result<String, AllocError> {
         Kind::Failing => zone::failing_answer(alloc, row),
         Kind::Printed => printed::answer(alloc, row),
         Kind::Loading => loading::answer(alloc, row),
+        Kind::Chains => chains::answer(alloc, row),
     }
 }
 
