@@ -1,10 +1,8 @@
 -- The answers of a response are those of a lookup
-use Rattle.std.proofs.Common.{◌≡◌, Bool, true, false, cond, not, ◌&&◌, ◌||◌, List, [], ◌∷◌, ◌++◌, map, refl, sym, ap, ◌∙◌, subst, true≢false}
-use Rattle.std.specs.Prelude.{Option, Some, None, unwrap_or, option_map, MatchOption, MatchResult, Result, Ok, Err, IsOk, ◌==◌}
-use Rattle.std.specs.Bool.{MatchBool}
+use Rattle.std.proofs.Common.{◌≡◌, Bool, true, false, cond, not, ◌&&◌, ◌||◌, List, [], ◌∷◌, map, refl, sym, ap, ◌∙◌, subst, true≢false}
+use Rattle.std.specs.Prelude.{Option, Some, None, unwrap_or, option_map, MatchOption, ◌==◌}
 use Rattle.std.specs.List.{Contains}
 use Rattle.std.specs.Option.{option_map_or}
-use Rattle.zone_proto.specs.declared.error.ProtoError.{ProtoError}
 use Rattle.zone_proto.specs.declared.record.Record.{Record}
 use Rattle.zone_proto.specs.declared.response_code.ResponseCode.{ResponseCode}
 use Rattle.zone_proto.specs.declared.response_code.ResponseCode.TheVariants as code
@@ -19,17 +17,15 @@ use Rattle.zone_map.specs.Wildcards.{exists, closest_encloser, asked_star_exists
 use Rattle.zone_map.specs.Zones.{Sets, owns_at_or_below}
 use Rattle.zone_map.proofs.ExistingNames.{absent_where_unowned, owned_where_existing}
 use Rattle.zone_map.proofs.Owned.{set_of}
-use Rattle.zone_denial.specs.Nsec3Denial.{result_and_then}
 use Rattle.zone_lookup.specs.Additionals.{next_name, AreAdditionals}
 use Rattle.zone_lookup.specs.Flattening.{stands_for_addresses, alone, beside, flattened, unsigned_flattened, last_set}
 use Rattle.zone_lookup.specs.Replies.{NegativeAnswer, name_exists, nx_domain, refused, absent, is_present, negative_answer, Answers, one_set, chained, Reply, negative, answered, is_followed, answer_sets, AreFrom, answer_section, IsAnswer, IsReplyFor}
 use Rattle.denial_laws.proofs.OwnTypes.{differs}
 use Rattle.denial_laws.proofs.Soundness.{searched_by}
 use Rattle.zone_response.specs.declared.response.Part.TheVariants as part
-use Rattle.zone_response.specs.Denials.{sent_proof}
 use Rattle.zone_response.specs.Paths.{Path, path}
 use Rattle.zone_response.specs.Queries.{Zone, Query, Inquiry, inquiry}
-use Rattle.zone_response.specs.Responses.{bare, negative_ttl, ds_at, end_sets, proof_sets, fails, refusal, IsResponse, IsSearched, IsResponseAlong, IsProvenResponse, IsResponseBy}
+use Rattle.zone_response.specs.Responses.{authority_sets, fails, refusal, refused as unsearched, without_soa, failing, unprovable, answered as searched, outcome_proven, outcome_along, outcome_of, IsResponse, IsResponseTo, IsResponseBy}
 use Rattle.zone_response.specs.Sections.{Sections, as_it_is, part_for}
 use Rattle.zone_response.specs.Wildcards.{is_there}
 use Rattle.zone_response.specs.Aname.{target_sets, addresses}
@@ -81,21 +77,17 @@ module _ (z : Zone) (q : Query) (r : Sections) (zone : IsOrdinaryZone z.origin z
   abbrev soa : RRset
   soa = (set_of z.sets z.origin SOA zone.soa).0
 
-  along : IsResponseAlong z (inquiry z q) (set_of z.sets z.origin SOA zone.soa).0 p r
+  along : IsResponseTo (inquiry z q) (outcome_along z q.signed (set_of z.sets z.origin SOA zone.soa).0 p) r
   along =
-      subst (λ (o : Option RRset). MatchOption o (r ≡ bare code.ServFail) (λ soa. IsResponseAlong z (inquiry z q) soa p r)) (set_of z.sets z.origin SOA zone.soa).1
-      (subst (λ (o : Option ResponseCode). MatchOption o (IsSearched z (inquiry z q) q.name r) (λ c. r ≡ bare c)) unrefused is)
+      subst (λ (o : Option RRset). IsResponseTo (inquiry z q) (option_map_or (λ soa. outcome_along z q.signed soa p) o without_soa) r) (set_of z.sets z.origin SOA zone.soa).1
+      (subst (λ (o : Option ResponseCode). IsResponseTo (inquiry z q) (option_map_or unsearched o (outcome_of z (inquiry z q) q.name)) r) unrefused is)
 
   by_path : fails p.end ≡ false → (sets : List RRset) × IsResponseBy (inquiry z q) p sets r
-  by_path passes =
-      of (proof_sets z (ds_at z.sets p.end) q.signed p.made p.end) provable
-      (subst (λ (b : Bool). MatchBool b (r ≡ bare code.ServFail) (IsProvenResponse z (inquiry z q) soa p r)) passes along)
-    where
-      of : (proofs : Result (List RRset) ProtoError) → IsOk proofs
-          → MatchResult (result_and_then (λ sets. Ok (end_sets (ds_at z.sets p.end) q.signed soa p.end ++ map (sent_proof (negative_ttl soa)) sets)) proofs) (λ sets. IsResponseBy (inquiry z q) p sets r) (λ refusal. r ≡ bare code.ServFail)
-          → (sets : List RRset) × IsResponseBy (inquiry z q) p sets r
-      of (Ok sets) ok h = (end_sets (ds_at z.sets p.end) q.signed soa p.end ++ map (sent_proof (negative_ttl soa)) sets, h)
-      of (Err e) ok h = absurd cc
+  by_path passes = (
+    authority_sets z q.signed soa p.made p.end,
+    subst (λ (b : Bool). IsResponseTo (inquiry z q) (cond b unprovable (searched p (authority_sets z q.signed soa p.made p.end))) r) provable
+        (subst (λ (b : Bool). IsResponseTo (inquiry z q) (cond b failing (outcome_proven z q.signed soa p)) r) passes along),
+  )
 
   -- ---- beside the reply
 

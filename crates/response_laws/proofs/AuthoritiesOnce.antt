@@ -1,8 +1,7 @@
 -- No set of an authority section repeats one that stands before it: sets of denial are of several owners, and no others are of their types
 use Rattle.std.proofs.Common.{◌≡◌, ℕ, Bool, true, false, cond, ◌&&◌, List, [], ◌∷◌, ◌++◌, map, refl, sym, ap, ◌∙◌, subst, inl, inr, true≢false, eqb-true}
-use Rattle.std.specs.Prelude.{Option, Some, None, option_to_list, ◌==◌, fold, Result, Ok, Err}
+use Rattle.std.specs.Prelude.{Option, Some, None, option_to_list, ◌==◌, fold}
 use Rattle.std.proofs.lemmas.List.{map-append}
-use Rattle.zone_proto.specs.declared.error.ProtoError.{ProtoError}
 use Rattle.zone_proto.specs.Names.{Name, lower, same_name}
 use Rattle.zone_proto.specs.Sets.{RRset}
 use Rattle.zone_proto.specs.Types.{NS, SOA, DS}
@@ -11,7 +10,7 @@ use Rattle.zone_lookup.specs.Runs.{with_new}
 use Rattle.zone_map.specs.Upserts.{is_denial_type}
 use Rattle.zone_map.specs.Zones.{IsZone}
 use Rattle.zone_response.specs.declared.response.Part.TheVariants as part
-use Rattle.zone_response.specs.Denials.{same_owner, star_proof, end_proof, together, with_star_proof, proofs}
+use Rattle.zone_response.specs.Denials.{same_owner, star_proof, end_proof, with_star_proof, proofs}
 use Rattle.zone_response.specs.Queries.{Zone, Query}
 use Rattle.zone_response.specs.Responses.{negative_ttl, child_ds, ds_at, end_sets}
 use Rattle.zone_response.specs.Sections.{Sections, sent, as_it_is, part_for, is_alike}
@@ -24,27 +23,16 @@ use Rattle.response_laws.proofs.Said.{none_any, referred_stands}
 
 -- ---- sets of denial
 
-abbrev AreApart : Result (List RRset) ProtoError → Type 0
-AreApart found = (sets : List RRset) → found ≡ Ok sets → Apart same_owner [] sets
-
 all_apart : (more sets : List RRset) → Apart same_owner [] sets → Apart same_owner [] (fold (with_new same_owner) sets more)
 all_apart [] sets h = h
 all_apart (s ∷ more) sets h = all_apart more (with_new same_owner sets s) (apart_new same_owner sets s h)
 
-apart_together : (a b : Result (List RRset) ProtoError) → AreApart a → AreApart (together a b)
-apart_together (Ok sets) (Ok more) h all e = let same : fold (with_new same_owner) sets more ≡ all = cc in subst (Apart same_owner []) same (all_apart more sets (h sets refl))
-apart_together (Ok sets) (Err why) h all e = absurd cc
-apart_together (Err why) b h all e = absurd cc
+stars_apart : (z : Zone) (made : List Name) (sets : List RRset) → Apart same_owner [] sets → Apart same_owner [] (fold (with_star_proof z) sets made)
+stars_apart z [] sets h = h
+stars_apart z (x ∷ made) sets h = stars_apart z made (with_star_proof z sets x) (all_apart (star_proof z x) sets h)
 
-stars_apart : (z : Zone) (made : List Name) (found : Result (List RRset) ProtoError) → AreApart found → AreApart (fold (with_star_proof z) found made)
-stars_apart z [] found h = h
-stars_apart z (x ∷ made) found h = stars_apart z made (with_star_proof z found x) (apart_together found (star_proof z x) h)
-
-none_apart : AreApart (Ok [])
-none_apart sets e = let same : [] ≡ sets = cc in subst (Apart same_owner []) same tt
-
-proofs_apart : (z : Zone) (ds : Option RRset) (made : List Name) (e : End) → AreApart (proofs z ds made e)
-proofs_apart z ds made e = apart_together (fold (with_star_proof z) (Ok []) made) (end_proof z ds e) (stars_apart z made (Ok []) none_apart)
+proofs_apart : (z : Zone) (ds : Option RRset) (made : List Name) (e : End) → Apart same_owner [] (proofs z ds made e)
+proofs_apart z ds made e = all_apart (end_proof z ds e) (fold (with_star_proof z) [] made) (stars_apart z made [] tt)
 
 -- as they go out
 proofs_once : (ttl : ℕ) (before sets : List RRset) → Apart same_owner before sets → Once (map (as_proof ttl) before) (map (as_proof ttl) sets)
@@ -144,7 +132,7 @@ module _ (z : Zone) (zone : IsZone z.sets) (q : Query) (r : Sections) (h : IsMad
   -- ---- the section
 
   proved : (signed : Bool) → q.signed ≡ signed → Apart same_owner [] h.proofs
-  proved true e = proofs_apart z (ds_at z.sets ends) (path_of z q).made ends h.proofs (h.given e)
+  proved true e = subst (Apart same_owner []) (h.given e) (proofs_apart z (ds_at z.sets ends) (path_of z q).made ends)
   proved false e = subst (Apart same_owner []) (sym (h.unproved e)) tt
 
   pub authorities_once : Once [] (end_sets (ds_at z.sets (path_of z q).end) q.signed h.soa (path_of z q).end ++ map (as_proof (negative_ttl h.soa)) h.proofs)

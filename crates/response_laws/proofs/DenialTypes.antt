@@ -1,8 +1,8 @@
 -- What proves something in a response are sets of denial
 use Rattle.std.proofs.Common.{◌≡◌, ℕ, Bool, true, false, cond, List, [], ◌∷◌, ◌++◌, refl, ap, ◌∙◌, subst, inl, inr}
-use Rattle.std.specs.Prelude.{Option, Some, None, Result, Ok, Err, fold, option_and_then, option_to_list}
+use Rattle.std.specs.Prelude.{Option, Some, None, fold, option_and_then, option_to_list}
 use Rattle.std.specs.List.{list_any}
-use Rattle.zone_proto.specs.declared.error.ProtoError.{ProtoError}
+use Rattle.std.specs.Option.{option_map_or}
 use Rattle.zone_proto.specs.declared.nx_proof_kind.NxProofKind.{NxProofKind}
 use Rattle.zone_proto.specs.declared.nx_proof_kind.NxProofKind.TheVariants as kind
 use Rattle.zone_proto.specs.Names.{Name, lower}
@@ -10,13 +10,15 @@ use Rattle.zone_proto.specs.Sets.{RRset}
 use Rattle.zone_proto.specs.Types.{NSEC, NSEC3}
 use Rattle.zone_proto.proofs.Members.{In}
 use Rattle.zone_map.specs.Upserts.{is_denial_type}
+use Rattle.zone_map.specs.Wildcards.{closest_encloser}
 use Rattle.zone_map.specs.Zones.{Sets, set_at, IsZone}
 use Rattle.zone_denial.specs.NsecDenial.{closest_nsec}
 use Rattle.zone_lookup.specs.Runs.{with_new}
-use Rattle.zone_response.specs.Denials.{same_owner, hashed_owner_of, star_proof, star_proof_by, denial, denial_by, end_proof, together, with_star_proof, proofs}
+use Rattle.zone_response.specs.Denials.{same_owner, hashed_owner_of, star_proof, star_proof_by, denial, denial_by, end_proof, with_star_proof, proofs}
+use Rattle.zone_response.specs.HashedDenials.{star_sets, absent_sets, present_sets, hashed_by}
 use Rattle.zone_response.specs.Queries.{Zone}
 use Rattle.zone_response.specs.Steps.{End, referred, missing}
-use Rattle.response_laws.proofs.HashedSets.{Gives, each_of_both, of_denial, of_lack}
+use Rattle.response_laws.proofs.HashedSets.{each_of_both, of_star_sets, of_absent, of_present}
 use Rattle.response_laws.proofs.NsecSets.{closest_sets, closest_owners}
 
 -- a set of denial that is its owner's
@@ -47,27 +49,41 @@ module _ (z : Zone) (zone : IsZone z.denials) where
   of_closest : (x : Name) → AreAll (closest_sets m zone x)
   of_closest x s i = is_denial (lower s.owner) NSEC s refl (closest_owners m zone x s i)
 
-  of_star : (x : Name) → Gives AreAll (star_proof z x)
+  -- by hashed names
+  module _ (hashed : Name → Name) where
+    star_hashed : (x : Name) (o : Option Name) → AreAll (option_map_or (star_sets z.origin z.denials hashed x) o [])
+    star_hashed x (Some e) = of_star_sets (IsDenial m) m nsec3_set z.origin hashed x e
+    star_hashed x None = λ s i. absurd i
+
+    absent_hashed : (x e : Name) → AreAll (absent_sets z.origin z.denials hashed x e)
+    absent_hashed x e = of_absent (IsDenial m) m nsec3_set z.origin hashed x e
+
+    present_hashed : (x : Name) → AreAll (present_sets z.origin z.denials hashed x)
+    present_hashed x = of_present (IsDenial m) m nsec3_set z.origin hashed x
+
+  of_star : (x : Name) → AreAll (star_proof z x)
   of_star x = by z.nx_proof_kind
     where
-      by : (k : Option NxProofKind) → Gives AreAll (star_proof_by z k x)
+      by : (k : Option NxProofKind) → AreAll (star_proof_by z k x)
       by None = of_closest x
       by (Some kind.Nsec) = of_closest x
-      by (Some (kind.Nsec3 algorithm salt iterations opt_out)) = of_denial (IsDenial m) m nsec3_set (hashed_owner_of z algorithm salt iterations) true x
+      by (Some (kind.Nsec3 algorithm salt iterations opt_out)) = star_hashed (hashed_by (hashed_owner_of z algorithm salt iterations)) x (closest_encloser z.sets x)
 
-  denied : (x : Name) (star : Option Name) → Gives AreAll (denial z x star)
-  denied x star = by z.nx_proof_kind
+  denied : (x : Name) (star : Option Name) → AreAll (denial z x star)
+  denied x star = by z.nx_proof_kind star
     where
       at_star : (star : Option Name) → AreAll (option_to_list (option_and_then (closest_nsec m) star))
       at_star (Some w) = of_closest w
       at_star None = λ s i. absurd i
 
-      by : (k : Option NxProofKind) → Gives AreAll (denial_by z k x star)
-      by None = denials_of_both (closest_sets m zone x) (option_to_list (option_and_then (closest_nsec m) star)) (of_closest x) (at_star star)
-      by (Some kind.Nsec) = denials_of_both (closest_sets m zone x) (option_to_list (option_and_then (closest_nsec m) star)) (of_closest x) (at_star star)
-      by (Some (kind.Nsec3 algorithm salt iterations opt_out)) = of_lack (IsDenial m) m nsec3_set (hashed_owner_of z algorithm salt iterations) x star
+      by : (k : Option NxProofKind) (star : Option Name) → AreAll (denial_by z k x star)
+      by None star = denials_of_both (closest_sets m zone x) (option_to_list (option_and_then (closest_nsec m) star)) (of_closest x) (at_star star)
+      by (Some kind.Nsec) star = denials_of_both (closest_sets m zone x) (option_to_list (option_and_then (closest_nsec m) star)) (of_closest x) (at_star star)
+      by (Some (kind.Nsec3 algorithm salt iterations opt_out)) (Some (l ∷ e)) = absent_hashed (hashed_by (hashed_owner_of z algorithm salt iterations)) x e
+      by (Some (kind.Nsec3 algorithm salt iterations opt_out)) (Some []) = present_hashed (hashed_by (hashed_owner_of z algorithm salt iterations)) x
+      by (Some (kind.Nsec3 algorithm salt iterations opt_out)) None = present_hashed (hashed_by (hashed_owner_of z algorithm salt iterations)) x
 
-  of_end : (ds : Option RRset) (e : End) → Gives AreAll (end_proof z ds e)
+  of_end : (ds : Option RRset) (e : End) → AreAll (end_proof z ds e)
   of_end ds (missing x star there) = denied x star
   of_end None (referred c) = denied (lower c.owner) None
   of_end (Some s) (referred c) = λ r i. absurd i
@@ -88,14 +104,9 @@ module _ (z : Zone) (zone : IsZone z.denials) where
   with_all sets [] h k = h
   with_all sets (s ∷ more) h k = with_all (with_new same_owner sets s) more (with_one sets s h (k s (inl refl))) (λ r i. k r (inr i))
 
-  of_together : (sets more : Result (List RRset) ProtoError) → Gives AreAll sets → Gives AreAll more → Gives AreAll (together sets more)
-  of_together (Ok sets) (Ok more) h k = with_all sets more h k
-  of_together (Ok sets) (Err e) h k = tt
-  of_together (Err e) more h k = tt
-
-  of_stars : (made : List Name) (sets : Result (List RRset) ProtoError) → Gives AreAll sets → Gives AreAll (fold (with_star_proof z) sets made)
+  of_stars : (made : List Name) (sets : List RRset) → AreAll sets → AreAll (fold (with_star_proof z) sets made)
   of_stars [] sets h = h
-  of_stars (x ∷ made) sets h = of_stars made (with_star_proof z sets x) (of_together sets (star_proof z x) h (of_star x))
+  of_stars (x ∷ made) sets h = of_stars made (with_star_proof z sets x) (with_all sets (star_proof z x) h (of_star x))
 
-  pub proofs_are_denials : (ds : Option RRset) (made : List Name) (e : End) (sets : List RRset) → proofs z ds made e ≡ Ok sets → AreDenials z.denials sets
-  proofs_are_denials ds made e sets is = subst (Gives AreAll) is (of_together (fold (with_star_proof z) (Ok []) made) (end_proof z ds e) (of_stars made (Ok []) (λ s i. absurd i)) (of_end ds e))
+  pub proofs_are_denials : (ds : Option RRset) (made : List Name) (e : End) → AreDenials z.denials (proofs z ds made e)
+  proofs_are_denials ds made e = with_all (fold (with_star_proof z) [] made) (end_proof z ds e) (of_stars made [] (λ s i. absurd i)) (of_end ds e)

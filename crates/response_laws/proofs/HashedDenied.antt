@@ -1,15 +1,12 @@
 -- What the NSEC3 records of a response show of a name that doesn't exist, and that they prove a name error
 use Rattle.std.proofs.Common.{◌≡◌, ℕ, Bool, true, false, ◌||◌, List, refl, sym, ap, ◌∙◌, subst, true≢false}
-use Rattle.std.specs.Prelude.{Option, Some, None, Result, Ok, option_map}
-use Rattle.zone_proto.specs.declared.error.ProtoError.{ProtoError}
+use Rattle.std.specs.Prelude.{Option, Some, None, option_map}
 use Rattle.zone_proto.specs.declared.rdata.denial.NSEC3PARAM.{NSEC3PARAM as Nsec3Parameters}
-use Rattle.zone_proto.specs.HashedOwners.{owner_or_refusal}
 use Rattle.zone_proto.specs.Names.{Name, star_under}
 use Rattle.zone_proto.specs.Sets.{RRset}
 use Rattle.zone_proto.proofs.Members.{In, or_left, or_right}
-use Rattle.zone_map.specs.Wildcards.{exists}
+use Rattle.zone_map.specs.Wildcards.{exists, closest_encloser as found_encloser}
 use Rattle.zone_map.specs.Zones.{Sets, IsZone}
-use Rattle.zone_denial.specs.Nsec3Denial.{nsec3_denial}
 use Rattle.zone_denial.proofs.Chains.Nsec3Covers.{IsCover}
 use Rattle.zone_denial.proofs.Chains.Nsec3Names.{is_named, IsEnclosed}
 use Rattle.zone_denial.proofs.Names.LongestAncestors.{longest_above}
@@ -20,17 +17,18 @@ use Rattle.denial_laws.proofs.Chains.Nsec3LeftOut.{nsec3_absence_sound}
 use Rattle.denial_laws.proofs.Chains.Nsec3Readings.{record_of}
 use Rattle.denial_laws.proofs.Chains.Nsec3Shown.{IsShown, enclosing_shown}
 use Rattle.zone_response.specs.Denials.{proofs}
-use Rattle.zone_response.specs.HashedDenials.{lack_proof}
+use Rattle.zone_response.specs.HashedDenials.{absent_sets, present_sets}
 use Rattle.zone_response.specs.Queries.{Zone, Query, inquiry}
 use Rattle.zone_response.specs.Responses.{ds_at}
 use Rattle.zone_response.specs.Sections.{Sections}
 use Rattle.zone_response.specs.Wildcards.{star_of}
-use Rattle.zone_response.specs.Steps.{missing}
+use Rattle.zone_response.specs.Steps.{End, missing}
 use Rattle.response_laws.specs.HashedSayings.{zone_hash, DeniesByNsec3, HashesApart, IsReached, shown_nsec3, HasErrorProof, IsHashedError}
 use Rattle.response_laws.specs.Sayings.{name_error, saying}
-use Rattle.response_laws.proofs.HashedNames.{plain_under, origin_there, encloser_agrees}
-use Rattle.response_laws.proofs.HashedParts.{of_missing}
-use Rattle.response_laws.proofs.HashedProved.{same_name, no_nsec, records_proved, sound_proved, shown_of, hashed_name, judged_name, asked_star, off}
+use Rattle.response_laws.proofs.HashedBridges.{absent_is}
+use Rattle.response_laws.proofs.HashedNames.{plain_under, origin_there, existing_above, encloser_over, encloser_agrees}
+use Rattle.response_laws.proofs.HashedParts.{zone_owner, of_missing, of_present_name}
+use Rattle.response_laws.proofs.HashedProved.{same_name, no_nsec, records_proved, sound_proved, shown_of, hashed_name, judged_name, IsAsked, asked_star, off}
 use Rattle.response_laws.proofs.HashedShown.{IsEncloserShown}
 use Rattle.response_laws.proofs.HashedSummed.{sum_of_error}
 use Rattle.response_laws.proofs.HashedTold.{IsHashedName, away, below, enclosed, not_handed, opted_out_is, error_proved}
@@ -54,9 +52,6 @@ module _ (z : Zone) (parameters : Nsec3Parameters) (q : Query) (r : Sections) (d
   abbrev hash : Name → Option (List ℕ)
   hash = zone_hash z parameters
 
-  abbrev hashed : Name → Result Name ProtoError
-  hashed n = owner_or_refusal o (hash n)
-
   abbrev names : List Name
   names = d.names
 
@@ -70,9 +65,14 @@ module _ (z : Zone) (parameters : Nsec3Parameters) (q : Query) (r : Sections) (d
   rs = shown_nsec3 r
 
   -- the sets that prove what is said of a name without what is asked for
-  pub lack : (x : Name) (star : Option Name) (there : Bool) → (path_of z q).end ≡ missing x star there → (own : List RRset) × (lack_proof z.denials (λ n. owner_or_refusal z.origin (zone_hash z parameters n)) x star ≡ Ok own) × ((s : RRset) → In s own → In s h.proofs)
-  lack x star there end =
-      of_missing z d.chain.zone parameters d.flag d.kind (path_of z q).made x star there h.proofs (subst (λ e. proofs z (ds_at z.sets e) (path_of z q).made e ≡ Ok h.proofs) end (h.given signed))
+  given_at : (e : End) → (path_of z q).end ≡ e → proofs z (ds_at z.sets e) (path_of z q).made e ≡ h.proofs
+  given_at e end = subst (λ e. proofs z (ds_at z.sets e) (path_of z q).made e ≡ h.proofs) end (h.given signed)
+
+  absent_given : (x e : Name) (there : Bool) → (path_of z q).end ≡ missing x (Some (star_under e)) there → (s : RRset) → In s (absent_sets z.origin z.denials (zone_owner z parameters) x e) → In s h.proofs
+  absent_given x e there end = of_missing z d.chain.zone parameters d.flag d.kind (path_of z q).made x e there h.proofs (given_at (missing x (Some (star_under e)) there) end)
+
+  pub present_given : (x : Name) (there : Bool) → (path_of z q).end ≡ missing x None there → (s : RRset) → In s (present_sets z.origin z.denials (zone_owner z parameters) x) → In s h.proofs
+  present_given x there end = of_present_name z d.chain.zone parameters d.flag d.kind (path_of z q).made x there h.proofs (given_at (missing x None there) end)
 
   module _ (x : Name) (u : IsUnturned (inquiry z q) x) (apart : HashesApart z parameters d.names x) where
     abbrev k : IsReached o z.sets x
@@ -117,14 +117,13 @@ module _ (z : Zone) (parameters : Nsec3Parameters) (q : Query) (r : Sections) (d
       encloser = n.0;
       closer = n.1;
       is = n.2;
-      shown = encloser_shown own.0 own.2 n.0 n.1 (record { encloser = told.encloser; cover = told.cover; is_cover = told.is_cover; has_cover = told.has_cover });
-      star_on = λ i. shown_there own.0 own.2 (record_of j.zone j.apart (star_under n.0)) (told.star_on i);
-      star_off = λ out. let c = told.star_off out in (c.0, c.1, shown_there own.0 own.2 (record_of j.zone j.apart c.0) c.2);
+      shown = encloser_shown (absent_sets o m (zone_owner z parameters) x asked.encloser) among n.0 n.1 (record { encloser = told.encloser; cover = told.cover; is_cover = told.is_cover; has_cover = told.has_cover });
+      star_on = λ i. shown_there (absent_sets o m (zone_owner z parameters) x asked.encloser) among (record_of j.zone j.apart (star_under n.0)) (told.star_on i);
+      star_off = λ out. let c = told.star_off out in (c.0, c.1, shown_there (absent_sets o m (zone_owner z parameters) x asked.encloser) among (record_of j.zone j.apart c.0) c.2);
       agrees = λ all_in.
-          let s = asked_star z parameters q r d signed h x w source in
           ap star_under
-          (encloser_agrees o m hash parameters names d.chain (no_nsec z parameters q r d signed h) x (below j away_x) n.0 n.2.is_encloser s.encloser (encloser_kept z d.denials x ∙ s.found) all_in j.reached.uncut
-          (plain_under m x j.reached.no_dname)) ∙ s.is;
+          (encloser_agrees o m hash parameters names d.chain (no_nsec z parameters q r d signed h) x (below j away_x) n.0 n.2.is_encloser asked.encloser found all_in j.reached.uncut
+          (plain_under m x j.reached.no_dname)) ∙ asked.is;
     }
       where
         away_x : on_chain x ≡ false
@@ -133,11 +132,22 @@ module _ (z : Zone) (parameters : Nsec3Parameters) (q : Query) (r : Sections) (d
         n : (a : Name) × (c : Name) × IsEnclosed names x a c
         n = enclosed j away_x
 
-        own : (own : List RRset) × (nsec3_denial m hashed false x ≡ Ok own) × ((s : RRset) → In s own → In s h.proofs)
-        own = lack x (Some w) there end
+        -- the star is that of the closest encloser by names
+        asked : IsAsked z parameters q r d signed h x w
+        asked = asked_star z parameters q r d signed h x w source
 
-        told : IsShown j.zone j.apart n.0 n.1 (read_nsec3_sets own.0)
-        told = enclosing_shown j.zone j.apart (away j x away_x) n.0 n.1 n.2 own.0 own.1
+        found : found_encloser m x ≡ Some asked.encloser
+        found = encloser_kept z d.denials x ∙ asked.found
+
+        among : (s : RRset) → In s (absent_sets o m (zone_owner z parameters) x asked.encloser) → In s h.proofs
+        among = absent_given x asked.encloser there (end ∙ ap (λ w. missing x (Some w) there) (sym asked.is))
+
+        told : IsShown j.zone j.apart n.0 n.1 (read_nsec3_sets (absent_sets o m (zone_owner z parameters) x asked.encloser))
+        told =
+            enclosing_shown j.zone j.apart (away j x away_x) n.0 n.1 n.2 (absent_sets o m (zone_owner z parameters) x asked.encloser)
+            (absent_is j.zone j.apart n.0 n.1 n.2 (away j x away_x) asked.encloser
+            (existing_above o m hash parameters names d.chain (no_nsec z parameters q r d signed h) x (below j away_x) n.0 n.2.is_encloser asked.encloser found)
+            (encloser_over o m hash parameters names d.chain (no_nsec z parameters q r d signed h) x (below j away_x) n.0 n.2.is_encloser asked.encloser found))
 
     -- ---- a name error
 

@@ -1,9 +1,7 @@
 -- What the NSEC3 records of a response prove of a name without data
 use Rattle.std.proofs.Common.{◌≡◌, ◌≢◌, ℕ, Bool, true, false, not, ◌&&◌, ◌||◌, List, [], ◌∷◌, refl, sym, ap, ◌∙◌, subst, true≢false, ◌⊎◌, inl, inr, eqb-true}
-use Rattle.std.specs.Prelude.{Option, Some, None, Result, Ok, ◌==◌}
-use Rattle.zone_proto.specs.declared.error.ProtoError.{ProtoError}
+use Rattle.std.specs.Prelude.{Option, Some, ◌==◌}
 use Rattle.zone_proto.specs.declared.rdata.denial.NSEC3PARAM.{NSEC3PARAM as Nsec3Parameters}
-use Rattle.zone_proto.specs.HashedOwners.{owner_or_refusal}
 use Rattle.zone_proto.specs.Names.{Name, name_eq, is_root, IsAbove, star_label, star_under, is_at_or_above, is_wildcard}
 use Rattle.zone_proto.specs.Sets.{RRset}
 use Rattle.zone_proto.specs.Types.{NS, SOA, DS, RRSIG, NSEC, NSEC3, ANAME}
@@ -25,7 +23,7 @@ use Rattle.denial_laws.specs.Soundness.{IsUnflattened, IsWithoutData, IsUnsigned
 use Rattle.denial_laws.proofs.Chains.Nsec3LeftOut.{nsec3_absence_sound}
 use Rattle.denial_laws.proofs.Chains.Nsec3Readings.{record_of}
 use Rattle.denial_laws.proofs.Chains.Nsec3Soundness.{nsec3_unsigned_delegation_sound}
-use Rattle.zone_response.specs.HashedDenials.{lack_proof}
+use Rattle.zone_response.specs.HashedDenials.{present_sets}
 use Rattle.zone_response.specs.Queries.{Zone, Query, inquiry}
 use Rattle.zone_response.specs.Sections.{Sections}
 use Rattle.zone_response.specs.Wildcards.{star_of}
@@ -34,8 +32,9 @@ use Rattle.response_laws.specs.HashedSayings.{zone_hash, DeniesByNsec3, HashesAp
 use Rattle.response_laws.specs.ProvedSayings.{IsEmptyProof}
 use Rattle.response_laws.specs.Sayings.{no_data, saying}
 use Rattle.response_laws.proofs.BareNames.{lent_not_any, lent_unowned, lent_alias, lent_beside_soa}
-use Rattle.response_laws.proofs.HashedDenied.{lack, encloser_shown, unhanded, IsAbsentShown, absent_shown, out_is}
+use Rattle.response_laws.proofs.HashedDenied.{present_given, encloser_shown, unhanded, IsAbsentShown, absent_shown, out_is}
 use Rattle.response_laws.proofs.HashedNames.{uncut_star, plain_under, plain_star, encloser_in, encloser_above}
+use Rattle.response_laws.proofs.HashedParts.{zone_owner}
 use Rattle.response_laws.proofs.HashedProved.{no_nsec, records_proved, sound_proved, shown_of, hashed_name, judged_name, there_on}
 use Rattle.response_laws.proofs.HashedShown.{IsEncloserShown, own_matched, encloser_matched}
 use Rattle.response_laws.proofs.HashedSummed.{sum_of_own, sum_of_star, sum_of_left_out, sum_of_digest}
@@ -60,9 +59,6 @@ module _ (z : Zone) (parameters : Nsec3Parameters) (q : Query) (r : Sections) (d
 
   abbrev hash : Name → Option (List ℕ)
   hash = zone_hash z parameters
-
-  abbrev hashed : Name → Result Name ProtoError
-  hashed n = owner_or_refusal o (hash n)
 
   abbrev names : List Name
   names = d.names
@@ -108,13 +104,13 @@ module _ (z : Zone) (parameters : Nsec3Parameters) (q : Query) (r : Sections) (d
     bare_by star there end so (gone w e f absent g i) = absurd (true≢false (sym so ∙ e))
     bare_by star there end so (bare e f exists_there b) = by (on_chain x) refl
       where
-        own : (own : List RRset) × (lack_proof m hashed x None ≡ Ok own) × ((s : RRset) → In s own → In s h.proofs)
-        own = lack z parameters q r d signed h x None there (end ∙ ap (λ s. missing x s there) f)
+        among : (s : RRset) → In s (present_sets o m (zone_owner z parameters) x) → In s h.proofs
+        among = present_given z parameters q r d signed h x there (end ∙ ap (λ s. missing x s there) f)
 
         by : (b : Bool) → on_chain x ≡ b → IsBareBy
         by true on =
             let i = named_in names x on in
-            by_own i (shown_there own.0 own.2 (record_of j.zone j.apart x) (own_matched j.zone j.apart i own.0 own.1)) b
+            by_own i (shown_there (present_sets o m (zone_owner z parameters) x) among (record_of j.zone j.apart x) (own_matched j.zone j.apart i)) b
         by false away_x = out parameters.opt_out refl
           where
             out : (c : Bool) → parameters.opt_out ≡ c → IsBareBy
@@ -122,7 +118,7 @@ module _ (z : Zone) (parameters : Nsec3Parameters) (q : Query) (r : Sections) (d
             out true opts =
                 let n = enclosed j away_x in
                 by_opt_out opts away_x
-                (opted_out_is j rs of_zone away_x n.0 n.1 n.2 (encloser_shown z parameters q r d signed h x u apart own.0 own.2 n.0 n.1 (encloser_matched j.zone j.apart (away j x away_x) n.0 n.1 n.2 own.0 own.1)) ∙ opts)
+                (opted_out_is j rs of_zone away_x n.0 n.1 n.2 (encloser_shown z parameters q r d signed h x u apart (present_sets o m (zone_owner z parameters) x) among n.0 n.1 (encloser_matched j.zone j.apart (away j x away_x) n.0 n.1 n.2)) ∙ opts)
     bare_by star there end so (bare_star w e f absent g exists_there b) = by parameters.opt_out refl
       where
         s : IsAbsentShown z parameters q r d signed h x u apart w

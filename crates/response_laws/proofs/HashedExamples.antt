@@ -154,7 +154,7 @@ abbrev left_out : Sets
 left_out = start ∷ address a ∷ servers (star_under b) ∷ []
 
 abbrev from_star : Sections
-from_star = sections code.NoError (renamed true (star_under b) q (servers (star_under b)).1 ∷ []) (sent part.Signed 60 at_apex ∷ [])
+from_star = sections code.NoError (renamed true (star_under b) q (servers (star_under b)).1 ∷ []) (sent part.Signed 60 at_other ∷ [])
 
 of_star : IsResponse (zone left_out at_other) (asked q NS) from_star
 unfolding path
@@ -163,9 +163,9 @@ of_star = record { code = refl; authoritative = refl; answers = refl; authoritie
 star_says : saying (asked q NS) from_star ≡ Some (data_of q)
 star_says = refl
 
--- the name next closer to the origin is covered, and not that next closer to the star's encloser
-star_unproved : proves_wildcard_answer origin digest (shown_nsec3 from_star) q b ≡ false
-star_unproved = refl
+-- the name next closer to the star's encloser is covered
+star_proved : proves_wildcard_answer origin digest (shown_nsec3 from_star) q b ≡ true
+star_proved = refl
 
 -- ---- below a DNAME: the new name isn't there, and is denied
 

@@ -19,7 +19,7 @@ use Rattle.zone_denial.proofs.Chains.Nsec3AskedStar.{named_exists, exists_named,
 use Rattle.zone_denial.proofs.Chains.Nsec3Names.{is_named, named_in, in_named, origin_in}
 use Rattle.zone_denial.proofs.Names.AuthoritativeNames.{authoritative_from, besides_from}
 use Rattle.zone_denial.proofs.Names.LongestAncestors.{IsLongestAbove, longest_is, others_above, above_above}
-use Rattle.denial_laws.proofs.ShownEnclosers.{same_name, above_star}
+use Rattle.denial_laws.proofs.ShownEnclosers.{above_star}
 use Rattle.denial_laws.proofs.Tests.{refuted}
 
 -- ---- no cut above, and no DNAME
@@ -93,14 +93,17 @@ module _ (origin : Name) (m : Sets) (hash : Name → Option (List ℕ)) (paramet
     encloser_above = longest.above
 
     module _ (e : Name) (there : found_encloser m x ≡ Some e) where
-      -- is that which exists, if this is one of the names
-      pub same_encloser : Contains names e → a ≡ e
-      same_encloser c =
-          let existing = longest_is (exists m) x e there in
-          same_name a e (others_above (exists m) x e a existing longest.above (named_there a (named_in names a longest.passes)))
-          (others_above (is_named names) x a e longest existing.above (in_named names e (Contains-In e names c)))
+      existing : IsLongestAbove (exists m) x e
+      existing = longest_is (exists m) x e there
 
-      -- as it is without opt-out
+      pub existing_above : IsAbove e x
+      existing_above = existing.above
+
+      -- is that which exists, or above it
+      pub encloser_over : IsAtOrAbove a e
+      encloser_over = others_above (exists m) x e a existing longest.above (named_there a (named_in names a longest.passes))
+
+      -- is that which exists without opt-out
       pub encloser_agrees : parameters.opt_out ≡ false → is_below_cut origin m x ≡ false → is_below_dname m x ≡ false → a ≡ e
       encloser_agrees all_in uncut plain = same_found a e (sym is ∙ sym (enclosers_agree origin m hash parameters names h all_in none x ((above_test origin x).1 over) uncut plain) ∙ there)
         where

@@ -1,11 +1,10 @@
 -- What a response has of NSEC3 records, and that they prove that a star may answer
-use Rattle.std.proofs.Common.{◌≡◌, ℕ, Bool, true, false, cond, ◌||◌, List, refl, sym, ap, ◌∙◌, subst, ◌⊎◌, inl, inr}
-use Rattle.std.specs.Prelude.{Option, Some, None, Result, Ok, option_map, ◌==◌}
+use Rattle.std.proofs.Common.{◌≡◌, ◌<◌, ℕ, suc, Bool, true, false, cond, ◌||◌, List, length, refl, sym, ap, ◌∙◌, subst, true≢false, ◌⊎◌, inl, inr, arith}
+use Rattle.std.proofs.lemmas.List.{length-append}
+use Rattle.std.specs.Prelude.{Option, Some, None, option_map, ◌==◌}
 use Rattle.std.specs.List.{Contains}
-use Rattle.zone_proto.specs.declared.error.ProtoError.{ProtoError}
 use Rattle.zone_proto.specs.declared.rdata.denial.NSEC3PARAM.{NSEC3PARAM as Nsec3Parameters}
-use Rattle.zone_proto.specs.HashedOwners.{owner_or_refusal}
-use Rattle.zone_proto.specs.Names.{Name, lower, IsAbove, star_under, is_at_or_above}
+use Rattle.zone_proto.specs.Names.{Name, lower, IsAtOrAbove, IsAbove, star_under, is_at_or_above}
 use Rattle.zone_proto.specs.Sets.{RRset}
 use Rattle.zone_proto.specs.Types.{CNAME, RRSIG, NSEC, NSEC3}
 use Rattle.zone_proto.proofs.Members.{In, In-Contains, Contains-In}
@@ -14,11 +13,16 @@ use Rattle.zone_map.specs.Wildcards.{exists, renamed, closest_encloser as found_
 use Rattle.zone_map.specs.Zones.{Sets, set_at, owns, IsZone}
 use Rattle.zone_denial.specs.Authority.{is_below_cut}
 use Rattle.zone_denial.specs.Chains.{chain_sets, is_below_dname}
-use Rattle.zone_denial.specs.Nsec3Denial.{encloser_on, nsec3_denial}
+use Rattle.zone_denial.specs.Nsec3Denial.{next_closer}
+use Rattle.zone_denial.specs.Nsec3Zones.{IsHashedOn}
 use Rattle.zone_denial.specs.StarLaws.{OwnsNone}
 use Rattle.zone_denial.proofs.Chains.ChainSets.{one_kind}
 use Rattle.zone_denial.proofs.Chains.Nsec3Covers.{IsCover}
-use Rattle.zone_denial.proofs.Chains.Nsec3Names.{is_named, IsEnclosed}
+use Rattle.zone_denial.proofs.Chains.Nsec3Names.{is_named, in_named, IsEnclosed}
+use Rattle.zone_denial.proofs.Chain.NsecBelow.{above_through}
+use Rattle.zone_denial.proofs.Hashed.Nsec3Enclosers.{next_closer_is, below_ancestor}
+use Rattle.zone_denial.proofs.Names.LongestAncestors.{longest_is}
+use Rattle.zone_proto.proofs.Names.Tree.{above_cases}
 use Rattle.denial_validation.specs.Judgement.{nsec3_proof}
 use Rattle.denial_validation.specs.Nsec3Proofs.{proves_no_data, proves_wildcard_answer}
 use Rattle.denial_validation.specs.Nsec3Records.{Nsec3Record, read_nsec3}
@@ -28,9 +32,9 @@ use Rattle.denial_laws.specs.Nsec3Judged.{read_nsec3_sets, AreNsec3OfZone}
 use Rattle.denial_laws.specs.Nsec3Soundness.{IsNsec3SoundOn}
 use Rattle.denial_laws.proofs.Chains.Nsec3LeftOut.{nsec3_opt_out_sound}
 use Rattle.denial_laws.proofs.Chains.Nsec3Readings.{record_of}
-use Rattle.denial_laws.proofs.Chains.Nsec3Shown.{closer_shown}
 use Rattle.denial_laws.proofs.Chains.Nsec3Soundness.{nsec3_records_sound}
 use Rattle.denial_laws.proofs.Nsec3Readings.{from_read}
+use Rattle.zone_response.specs.HashedDenials.{star_sets}
 use Rattle.zone_response.specs.Queries.{Zone, Query, inquiry}
 use Rattle.zone_response.specs.Responses.{negative_ttl, ds_at, end_sets}
 use Rattle.zone_response.specs.Sections.{Sections}
@@ -43,9 +47,10 @@ use Rattle.response_laws.specs.Sayings.{Saying, data_of, name_error, no_data, re
 use Rattle.response_laws.proofs.Answers.{IsMadeFound, ByStarOf, path_answers}
 use Rattle.response_laws.proofs.HashedCalls.{told_is}
 use Rattle.response_laws.proofs.HashedLacks.{lacking, lacking_named}
-use Rattle.response_laws.proofs.HashedNames.{plain_under, there_named, absent_off, same_encloser, encloser_agrees}
-use Rattle.response_laws.proofs.HashedParts.{AreHashedProofs, hashed_proofs}
-use Rattle.response_laws.proofs.HashedTold.{IsHashedName, below, enclosed, answer_proved}
+use Rattle.response_laws.proofs.HashedNames.{there_named, absent_off, existing_above, encloser_over}
+use Rattle.response_laws.proofs.HashedParts.{zone_owner, AreHashedProofs, hashed_proofs}
+use Rattle.response_laws.proofs.HashedTold.{IsHashedName, away, below, enclosed, answer_proved}
+use Rattle.response_laws.proofs.HashedShown.{cover_shown}
 use Rattle.response_laws.proofs.LentSets.{owns_kept, exists_kept, encloser_kept, reached_kept, unreferred_kept}
 use Rattle.response_laws.proofs.Origins.{origin_by}
 use Rattle.response_laws.proofs.Parts.{path_of, IsMadeOf}
@@ -70,9 +75,6 @@ module _ (z : Zone) (parameters : Nsec3Parameters) (q : Query) (r : Sections) (d
 
   abbrev hash : Name → Option (List ℕ)
   hash = zone_hash z parameters
-
-  abbrev hashed : Name → Result Name ProtoError
-  hashed n = owner_or_refusal o (hash n)
 
   abbrev names : List Name
   names = d.names
@@ -188,21 +190,9 @@ module _ (z : Zone) (parameters : Nsec3Parameters) (q : Query) (r : Sections) (d
 
   -- ---- an answer of a star
 
-  kept_encloser : (x : Name) → IsReached o z.sets x → IsAbove o x → (a e : Name) → encloser_on names x ≡ Some a → found_encloser z.sets x ≡ Some e → (parameters.opt_out ≡ true → Contains names e) → a ≡ e
-  kept_encloser x k over a e is there kept = by parameters.opt_out refl
-    where
-      lent : found_encloser m x ≡ Some e
-      lent = encloser_kept z d.denials x ∙ there
-
-      by : (b : Bool) → parameters.opt_out ≡ b → a ≡ e
-      by false f = let u = reached_kept z d.denials x k in encloser_agrees o m hash parameters names d.chain no_nsec x over a is e lent f u.uncut (plain_under m x u.no_dname)
-      by true f = same_encloser o m hash parameters names d.chain no_nsec x over a is e lent (kept f)
-
-  star_proved : (y e : Name) → In y (path_of z q).made → IsReached o z.sets y → exists z.sets y ≡ false → found_encloser z.sets y ≡ Some e → HashesApart z parameters names y → (parameters.opt_out ≡ true → Contains names e)
-      → proves_wildcard_answer o hash rs y e ≡ true
-  star_proved y e i k absent there apart kept =
-      subst (λ a. proves_wildcard_answer o hash rs y a ≡ true) (kept_encloser y k (below j away_y) n.0 e n.2.is_encloser there kept)
-      (answer_proved j rs records_proved away_y n.0 n.1 n.2 c.0 c.1 (shown_of s.0 s.2 (record_of j.zone j.apart c.0) c.2))
+  star_proved : (y e : Name) → In y (path_of z q).made → IsReached o z.sets y → exists z.sets y ≡ false → found_encloser z.sets y ≡ Some e → HashesApart z parameters names y → proves_wildcard_answer o hash rs y e ≡ true
+  star_proved y e i k absent there apart =
+      answer_proved j rs records_proved away_y n.0 e c.0 n.2.is_encloser over above c.1 between cover.0 cover.1 (shown_of (star_sets o m (zone_owner z parameters) y e) (all.stars y i e there) (record_of j.zone j.apart cover.0) cover.2)
     where
       j : IsHashedName o m hash parameters names y
       j = hashed_name y k apart
@@ -213,11 +203,35 @@ module _ (z : Zone) (parameters : Nsec3Parameters) (q : Query) (r : Sections) (d
       n : (a : Name) × (c : Name) × IsEnclosed names y a c
       n = enclosed j away_y
 
-      s : (own : List RRset) × (nsec3_denial m hashed true y ≡ Ok own) × ((s : RRset) → In s own → In s h.proofs)
-      s = all.stars y i
+      lent : found_encloser m y ≡ Some e
+      lent = encloser_kept z d.denials y ∙ there
 
-      c : (k : Name) × IsCover j.zone j.apart n.1 k × In (record_of j.zone j.apart k) (read_nsec3_sets s.0)
-      c = closer_shown j.zone j.apart n.0 n.1 n.2 s.0 s.1
+      above : IsAbove e y
+      above = existing_above o m hash parameters names d.chain no_nsec y (below j away_y) n.0 n.2.is_encloser e lent
+
+      over : IsAtOrAbove n.0 e
+      over = encloser_over o m hash parameters names d.chain no_nsec y (below j away_y) n.0 n.2.is_encloser e lent
+
+      -- the name next closer to the star's encloser
+      c : (c : Name) × (next_closer y e ≡ Some c) × IsAtOrAbove c y × (length c ≡ suc (length e))
+      c = next_closer_is y e above
+
+      between : IsHashedOn names y c.0
+      between = inr (n.0, n.2.is_encloser, inl (c.2, above_through n.0 e c.0 over (below_ancestor y e c.0 above c.2 c.3)))
+
+      -- isn't one of the chain's, since it is longer than the encloser there
+      off_chain : In c.0 names → ⊥
+      off_chain v = by (above_cases c.0 y c.2)
+        where
+          longer : IsAtOrAbove n.0 e → length c.0 ≡ suc (length e) → length n.0 < length c.0
+          longer (f, q) h = omega (arith, ap length q, length-append f n.0, h)
+
+          by : (c.0 ≡ y) ⊎ IsAbove c.0 y → ⊥
+          by (inl q) = away j y away_y (subst (λ w. In w names) q v)
+          by (inr u) = true≢false (sym (in_named names c.0 v) ∙ (longest_is on_chain y n.0 n.2.is_encloser).longest c.0 u (longer over c.3))
+
+      cover : (k : Name) × IsCover j.zone j.apart c.0 k × In (record_of j.zone j.apart k) (read_nsec3_sets (star_sets o m (zone_owner z parameters) y e))
+      cover = cover_shown j.zone j.apart e c.0 c.1 between off_chain
 
   -- of a star's set under a name for which the star answered
   by_star_proved : (y : Name) → In y (path_of z q).made → (u : ℕ) (found : RRset) → IsMadeFound (inquiry z q) y u found → IsHashedFoundByStar z parameters d.names (shown_nsec3 r) y u found

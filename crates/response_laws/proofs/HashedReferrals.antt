@@ -1,9 +1,7 @@
 -- What the NSEC3 records of a referral prove of the child
 use Rattle.std.proofs.Common.{◌≡◌, ℕ, Bool, true, false, List, [], refl, sym, ap, ◌∙◌, subst, true≢false, ◌⊎◌, inl, inr}
-use Rattle.std.specs.Prelude.{Option, Some, None, Result, Ok, is_some}
-use Rattle.zone_proto.specs.declared.error.ProtoError.{ProtoError}
+use Rattle.std.specs.Prelude.{Option, Some, None, is_some}
 use Rattle.zone_proto.specs.declared.rdata.denial.NSEC3PARAM.{NSEC3PARAM as Nsec3Parameters}
-use Rattle.zone_proto.specs.HashedOwners.{owner_or_refusal}
 use Rattle.zone_proto.specs.Names.{Name, lower, IsAbove, star_under}
 use Rattle.zone_proto.specs.Sets.{RRset}
 use Rattle.zone_proto.specs.Types.{NS, SOA, DS}
@@ -19,7 +17,7 @@ use Rattle.denial_laws.specs.Nsec3Judged.{read_nsec3_sets, AreNsec3OfZone}
 use Rattle.denial_laws.proofs.Chains.Nsec3Readings.{record_of}
 use Rattle.zone_response.specs.declared.response.Part.TheVariants as part
 use Rattle.zone_response.specs.Denials.{proofs}
-use Rattle.zone_response.specs.HashedDenials.{lack_proof}
+use Rattle.zone_response.specs.HashedDenials.{present_sets}
 use Rattle.zone_response.specs.Queries.{Zone, Query}
 use Rattle.zone_response.specs.Responses.{child_ds, ds_at}
 use Rattle.zone_response.specs.Sections.{Sections}
@@ -28,7 +26,7 @@ use Rattle.response_laws.specs.HashedSayings.{zone_hash, DeniesByNsec3, HashesAp
 use Rattle.response_laws.specs.ProvedSayings.{HasAuthority, IsProvedReferral}
 use Rattle.response_laws.specs.Sayings.{referral, saying}
 use Rattle.response_laws.proofs.HashedNames.{plain_under}
-use Rattle.response_laws.proofs.HashedParts.{of_child}
+use Rattle.response_laws.proofs.HashedParts.{zone_owner, of_child}
 use Rattle.response_laws.proofs.HashedProved.{records_proved, shown_of, hashed_name, there_on}
 use Rattle.response_laws.proofs.HashedShown.{IsEncloserShown, own_matched, encloser_matched}
 use Rattle.response_laws.proofs.HashedSummed.{sum_of_delegation, sum_of_digest}
@@ -48,9 +46,6 @@ module _ (z : Zone) (parameters : Nsec3Parameters) (q : Query) (r : Sections) (d
   abbrev hash : Name → Option (List ℕ)
   hash = zone_hash z parameters
 
-  abbrev hashed : Name → Result Name ProtoError
-  hashed n = owner_or_refusal o (hash n)
-
   abbrev zone : IsZone z.sets
   zone = d.zone
 
@@ -68,10 +63,13 @@ module _ (z : Zone) (parameters : Nsec3Parameters) (q : Query) (r : Sections) (d
     abbrev of_zone : AreNsec3OfZone m rs
     of_zone = records_proved z parameters q r d signed h
 
-    own : (own : List RRset) × (lack_proof m hashed child None ≡ Ok own) × ((s : RRset) → In s own → In s h.proofs)
-    own =
+    abbrev sets : List RRset
+    sets = present_sets o m (zone_owner z parameters) child
+
+    among : (s : RRset) → In s sets → In s h.proofs
+    among =
         of_child z d.chain.zone parameters d.flag d.kind (path_of z q).made c h.proofs
-        (subst (λ ds. proofs z ds (path_of z q).made (referred c) ≡ Ok h.proofs) unsigned (subst (λ e. proofs z (ds_at z.sets e) (path_of z q).made e ≡ Ok h.proofs) end (h.given signed)))
+        (subst (λ ds. proofs z ds (path_of z q).made (referred c) ≡ h.proofs) unsigned (subst (λ e. proofs z (ds_at z.sets e) (path_of z q).made e ≡ h.proofs) end (h.given signed)))
 
     ns : owns z.sets child NS ≡ true
     ns = ap is_some k.stands
@@ -96,7 +94,7 @@ module _ (z : Zone) (parameters : Nsec3Parameters) (q : Query) (r : Sections) (d
         i = named_in d.names child on
 
         shown : In (record_of j.zone j.apart child) rs
-        shown = shown_of z parameters q r d signed h own.0 own.2 (record_of j.zone j.apart child) (own_matched j.zone j.apart i own.0 own.1)
+        shown = shown_of z parameters q r d signed h sets among (record_of j.zone j.apart child) (own_matched j.zone j.apart i)
 
         shows : shows_unsigned_delegation o hash rs child ≡ true
         shows = own_delegates j rs of_zone i shown under (owns_kept z d.denials child NS refl ∙ ns) (owns_kept z d.denials child DS refl ∙ ap is_some unsigned) (owns_kept z d.denials child SOA refl ∙ no_apex)
@@ -116,17 +114,17 @@ module _ (z : Zone) (parameters : Nsec3Parameters) (q : Query) (r : Sections) (d
         n : (a : Name) × (c : Name) × IsEnclosed d.names child a c
         n = enclosed j off
 
-        encloser_there : IsEncloserShown j.zone j.apart n.0 n.1 (read_nsec3_sets own.0)
-        encloser_there = encloser_matched j.zone j.apart (away j child off) n.0 n.1 n.2 own.0 own.1
+        encloser_there : IsEncloserShown j.zone j.apart n.0 n.1 (read_nsec3_sets sets)
+        encloser_there = encloser_matched j.zone j.apart (away j child off) n.0 n.1 n.2
 
         out : proves_opted_out o hash rs child ≡ true
         out =
             opted_out_is j rs of_zone off n.0 n.1 n.2
             (record {
-              encloser = shown_of z parameters q r d signed h own.0 own.2 (record_of j.zone j.apart n.0) encloser_there.encloser;
+              encloser = shown_of z parameters q r d signed h sets among (record_of j.zone j.apart n.0) encloser_there.encloser;
               cover = encloser_there.cover;
               is_cover = encloser_there.is_cover;
-              has_cover = shown_of z parameters q r d signed h own.0 own.2 (record_of j.zone j.apart encloser_there.cover) encloser_there.has_cover;
+              has_cover = shown_of z parameters q r d signed h sets among (record_of j.zone j.apart encloser_there.cover) encloser_there.has_cover;
             })
             ∙ opts
 

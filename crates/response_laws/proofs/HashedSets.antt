@@ -1,23 +1,17 @@
 -- What holds of each NSEC3 set of a zone holds of those that prove something
-use Rattle.std.proofs.Common.{◌≡◌, Bool, true, false, List, [], ◌∷◌, ◌++◌, refl, subst, ◌⊎◌, inl, inr}
-use Rattle.std.specs.Prelude.{Option, Some, None, Result, Ok, Err, filter_map, option_to_list}
-use Rattle.zone_proto.specs.declared.error.ProtoError.{ProtoError}
-use Rattle.zone_proto.specs.Names.{Name, base_name}
+use Rattle.std.proofs.Common.{◌≡◌, List, [], ◌∷◌, ◌++◌, refl, subst, ◌⊎◌, inl, inr, Ordering, Less, Equal, Greater}
+use Rattle.std.specs.Ordering.{match_ordering}
+use Rattle.std.specs.Prelude.{Option, Some, None, option_and_then, option_to_list}
+use Rattle.std.specs.Option.{option_map_or, option_or}
+use Rattle.zone_proto.specs.Names.{Name, proper_ancestors, star_under, suffixes}
 use Rattle.zone_proto.specs.Sets.{RRset}
 use Rattle.zone_proto.specs.Types.{NSEC3}
-use Rattle.zone_proto.proofs.Members.{In, In-from_filter_map, In-from_append}
+use Rattle.zone_proto.proofs.Members.{In, In-from_append}
 use Rattle.zone_map.specs.Zones.{Sets, set_at}
-use Rattle.zone_denial.specs.Nsec3Denial.{result_and_then, nsec3_denying_owners, nsec3_denial}
-use Rattle.zone_response.specs.HashedDenials.{or_else, matching, nearest_matching, encloser_proof, own_or_enclosed, lack_proof}
-
--- if there is a value, it is so
-abbrev pub Gives : {X : Type 0} → (X → Type 0) → Result X ProtoError → Type 0
-Gives P (Ok x) = P x
-Gives P (Err e) = Unit {0}
-
-gives_then : {X Y : Type 0} (P : X → Type 0) (Q : Y → Type 0) (f : X → Result Y ProtoError) (r : Result X ProtoError) → Gives P r → ((x : X) → P x → Gives Q (f x)) → Gives Q (result_and_then f r)
-gives_then P Q f (Ok x) h k = k x h
-gives_then P Q f (Err e) h k = tt
+use Rattle.zone_denial.specs.Nsec3Denial.{cover_owner}
+use Rattle.zone_denial.specs.Nsec3Lent.{owner_cmp}
+use Rattle.zone_denial.specs.TypeLists.{joined, in_order}
+use Rattle.zone_response.specs.HashedDenials.{next_closer, matching, covering, provable, closer_set, star_set, star_sets, absent_below, absent_sets, left_out_sets, present_sets}
 
 -- each set of a list has a property
 abbrev pub Each : (RRset → Type 0) → List RRset → Type 0
@@ -30,10 +24,39 @@ each_of_both P sets more h k s i = by (In-from_append s sets more i)
     by (inl u) = h s u
     by (inr u) = k s u
 
-module _ (P : RRset → Type 0) (m : Sets) (each : (o : Name) (s : RRset) → set_at m o NSEC3 ≡ Some s → P s) where
+-- ---- sets in order are the sets
+
+from_joined : (x v : RRset) (ys : List RRset) → In v (joined owner_cmp x ys) → In v (x ∷ ys)
+from_joined x v [] i = i
+from_joined x v (y ∷ ys) i = by (owner_cmp x y) i (λ j. from_joined x v ys j)
+  where
+    more : In v (x ∷ ys) → In v (x ∷ y ∷ ys)
+    more (inl e) = inl e
+    more (inr j) = inr (inr j)
+
+    by : (r : Ordering) → In v (match_ordering r (x ∷ y ∷ ys) (y ∷ ys) (y ∷ joined owner_cmp x ys)) → (In v (joined owner_cmp x ys) → In v (x ∷ ys)) → In v (x ∷ y ∷ ys)
+    by Less i ih = i
+    by Equal i ih = inr i
+    by Greater (inl e) ih = inr (inl e)
+    by Greater (inr j) ih = more (ih j)
+
+from_in_order : (v : RRset) (xs : List RRset) → In v (in_order owner_cmp xs) → In v xs
+from_in_order v [] i = i
+from_in_order v (x ∷ xs) i = by (from_joined x v (in_order owner_cmp xs) i) (λ j. from_in_order v xs j)
+  where
+    by : In v (x ∷ in_order owner_cmp xs) → (In v (in_order owner_cmp xs) → In v xs) → In v (x ∷ xs)
+    by (inl e) ih = inl e
+    by (inr j) ih = inr (ih j)
+
+-- ---- the sets of a denial
+
+module _ (P : RRset → Type 0) (m : Sets) (each : (o : Name) (s : RRset) → set_at m o NSEC3 ≡ Some s → P s) (origin : Name) (hashed : Name → Name) where
   -- a set that may be there
   abbrev MayHave : Option RRset → Type 0
   MayHave o = Each P (option_to_list o)
+
+  none : MayHave None
+  none s i = absurd i
 
   may_be : (h : Name) → MayHave (set_at m h NSEC3)
   may_be h = by (set_at m h NSEC3) refl
@@ -43,41 +66,58 @@ module _ (P : RRset → Type 0) (m : Sets) (each : (o : Name) (s : RRset) → se
       by (Some s) e r (inr i) = absurd i
       by None e r i = absurd i
 
-  module _ (hashed : Name → Result Name ProtoError) where
-    pub of_denial : (wildcard : Bool) (x : Name) → Gives (Each P) (nsec3_denial m hashed wildcard x)
-    of_denial wildcard x =
-        gives_then (λ owners. Unit {0}) (Each P) (λ owners. Ok (filter_map (λ o. set_at m o NSEC3) owners)) (nsec3_denying_owners m hashed wildcard x) (any (nsec3_denying_owners m hashed wildcard x))
-        (λ owners k s i. let o = In-from_filter_map (λ o. set_at m o NSEC3) s owners i in each o.0 s o.2)
-      where
-        any : (r : Result (List Name) ProtoError) → Gives (λ owners. Unit {0}) r
-        any (Ok x) = tt
-        any (Err e) = tt
+  of_matching : (x : Name) → MayHave (matching origin m hashed x)
+  of_matching x = may_be (hashed x)
 
-    of_matching : (x : Name) → Gives MayHave (matching m hashed x)
-    of_matching x = by (hashed x)
-      where
-        by : (r : Result Name ProtoError) → Gives MayHave (result_and_then (λ h. Ok (set_at m h NSEC3)) r)
-        by (Ok h) = may_be h
-        by (Err e) = tt
+  of_covering : (x : Name) → MayHave (covering origin m hashed x)
+  of_covering x = by (cover_owner m (hashed x))
+    where
+      by : (o : Option Name) → MayHave (option_and_then (λ o. set_at m o NSEC3) o)
+      by (Some o) = may_be o
+      by None = none
 
-    of_nearest : (x : Name) → Gives MayHave (nearest_matching m hashed x)
-    of_nearest [] = λ s i. absurd i
-    of_nearest (l ∷ a) = gives_then MayHave MayHave (λ s. or_else s (nearest_matching m hashed a)) (matching m hashed (l ∷ a)) (of_matching (l ∷ a)) (by (of_nearest a))
-      where
-        by : Gives MayHave (nearest_matching m hashed a) → (o : Option RRset) → MayHave o → Gives MayHave (or_else o (nearest_matching m hashed a))
-        by rest (Some s) h = h
-        by rest None h = rest
+  of_closer : (x e : Name) → MayHave (closer_set origin m hashed x e)
+  of_closer x e = by (next_closer x e)
+    where
+      by : (o : Option Name) → MayHave (option_and_then (covering origin m hashed) o)
+      by (Some c) = of_covering c
+      by None = none
 
-    of_encloser : (x : Name) → Gives (Each P) (encloser_proof m hashed x)
-    of_encloser x =
-        gives_then (Each P) (Each P) (λ cover. result_and_then (λ encloser. Ok (cover ++ option_to_list encloser)) (nearest_matching m hashed (base_name x))) (nsec3_denial m hashed true x) (of_denial true x)
-        (λ cover h. gives_then MayHave (Each P) (λ encloser. Ok (cover ++ option_to_list encloser)) (nearest_matching m hashed (base_name x)) (of_nearest (base_name x))
-        (λ encloser k. each_of_both P cover (option_to_list encloser) h k))
+  of_star_under : (e : Name) → MayHave (star_set origin m hashed e)
+  of_star_under e = by (matching origin m hashed (star_under e)) (of_matching (star_under e))
+    where
+      by : (o : Option RRset) → MayHave o → MayHave (option_or o (covering origin m hashed (star_under e)))
+      by (Some s) h = h
+      by None h = of_covering (star_under e)
 
-    pub of_lack : (x : Name) (star : Option Name) → Gives (Each P) (lack_proof m hashed x star)
-    of_lack x (Some star) = of_denial false x
-    of_lack x None = gives_then MayHave (Each P) (own_or_enclosed m hashed x) (matching m hashed x) (of_matching x) by
-      where
-        by : (o : Option RRset) → MayHave o → Gives (Each P) (own_or_enclosed m hashed x o)
-        by (Some s) h = h
-        by None h = of_encloser x
+  pub of_star_sets : (x e : Name) → Each P (star_sets origin m hashed x e)
+  of_star_sets x e = of_closer x e
+
+  of_absent_below : (x e : Name) → Each P (absent_below origin m hashed x e)
+  of_absent_below x e s i = all s (from_in_order s (option_to_list (matching origin m hashed e) ++ option_to_list (closer_set origin m hashed x e) ++ option_to_list (star_set origin m hashed e)) i)
+    where
+      all : Each P (option_to_list (matching origin m hashed e) ++ option_to_list (closer_set origin m hashed x e) ++ option_to_list (star_set origin m hashed e))
+      all =
+          each_of_both P (option_to_list (matching origin m hashed e) ++ option_to_list (closer_set origin m hashed x e)) (option_to_list (star_set origin m hashed e))
+          (each_of_both P (option_to_list (matching origin m hashed e)) (option_to_list (closer_set origin m hashed x e)) (of_matching e) (of_closer x e)) (of_star_under e)
+
+  pub of_absent : (x e : Name) → Each P (absent_sets origin m hashed x e)
+  of_absent x e = by (provable origin m hashed (suffixes e))
+    where
+      by : (o : Option Name) → Each P (option_map_or (absent_below origin m hashed x) o [])
+      by (Some a) = of_absent_below x a
+      by None = λ s i. absurd i
+
+  of_left_out : (x : Name) → Each P (option_map_or (left_out_sets origin m hashed x) (provable origin m hashed (proper_ancestors x)) [])
+  of_left_out x = by (provable origin m hashed (proper_ancestors x))
+    where
+      by : (o : Option Name) → Each P (option_map_or (left_out_sets origin m hashed x) o [])
+      by (Some a) = each_of_both P (option_to_list (closer_set origin m hashed x a)) (option_to_list (matching origin m hashed a)) (of_closer x a) (of_matching a)
+      by None = λ s i. absurd i
+
+  pub of_present : (x : Name) → Each P (present_sets origin m hashed x)
+  of_present x = by (matching origin m hashed x) (of_matching x)
+    where
+      by : (o : Option RRset) → MayHave o → Each P (option_map_or (λ s. s ∷ []) o (option_map_or (left_out_sets origin m hashed x) (provable origin m hashed (proper_ancestors x)) []))
+      by (Some s) h = h
+      by None h = of_left_out x

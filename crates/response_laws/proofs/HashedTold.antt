@@ -12,9 +12,10 @@ use Rattle.zone_proto.proofs.Names.Tree.{above_cases}
 use Rattle.zone_map.specs.Zones.{Sets, owns, owners}
 use Rattle.zone_map.proofs.Owned.{owner_in}
 use Rattle.zone_denial.specs.Chains.{is_told_at_delegation, is_delegation, IsNsec3Chain}
+use Rattle.zone_denial.specs.Nsec3Denial.{encloser_on}
 use Rattle.zone_denial.specs.Nsec3Zones.{IsHashedOn, TellsApart}
 use Rattle.zone_denial.specs.StarLaws.{OwnsNone}
-use Rattle.zone_denial.proofs.Chain.NsecBelow.{above_at}
+use Rattle.zone_denial.proofs.Chain.NsecBelow.{above_at, above_through}
 use Rattle.zone_denial.proofs.Chains.NsecLists.{delegation_below, delegation_owns, not_delegation}
 use Rattle.zone_denial.proofs.Chains.Nsec3Covers.{IsCover}
 use Rattle.zone_denial.proofs.Chains.Nsec3Names.{is_named, named_in, in_named, origin_in, IsEnclosed, enclosed_off}
@@ -284,14 +285,14 @@ module _ {origin : Name} {m : Sets} {hash : Name → Option (List ℕ)} {paramet
           (any_from_In (λ r. matches origin hash r (star_under a) && denies_type origin r (star_under a) t) (record_of j.zone j.apart (star_under a)) rs i
           (λ i. matches_itself j.zone j.apart (star_under a) on i && p i))
 
-    -- where what covers its next closer name is among them
-    pub answer_proved : is_named names x ≡ false → (a c : Name) → IsEnclosed names x a c → (k : Name) → IsCover j.zone j.apart c k → In (record_of j.zone j.apart k) rs
-        → proves_wildcard_answer origin hash rs x a ≡ true
-    answer_proved off a c e k is i =
-        λ n. is_at_or_above_complete origin a encloser_in n && (above_test a x).1 longest.above n && (ap (λ o. option_map_or (is_covered origin hash rs) o false) e.is_closer ∙ covered) n
+    -- a star may answer that stands under a name e between the encloser and x, where what covers the name next closer to e is among them
+    pub answer_proved : is_named names x ≡ false → (a e c : Name) → encloser_on names x ≡ Some a → IsAtOrAbove a e → IsAbove e x → next_closer x e ≡ Some c → IsHashedOn names x c → (k : Name) → IsCover j.zone j.apart c k → In (record_of j.zone j.apart k) rs
+        → proves_wildcard_answer origin hash rs x e ≡ true
+    answer_proved off a e c found over above closer between k is i =
+        λ n. is_at_or_above_complete origin e (above_through origin a e encloser_in over) n && (above_test e x).1 above n && (ap (λ o. option_map_or (is_covered origin hash rs) o false) closer ∙ covered) n
       where
         longest : IsLongestAbove on_chain x a
-        longest = longest_is on_chain x a e.is_encloser
+        longest = longest_is on_chain x a found
 
         encloser_in : IsAtOrAbove origin a
         encloser_in = others_above on_chain x a origin longest (below off) (in_named names origin (origin_in names origin j.zone.begins))
@@ -299,4 +300,4 @@ module _ {origin : Name} {m : Sets} {hash : Name → Option (List ℕ)} {paramet
         covered : is_covered origin hash rs c ≡ true
         covered =
             any_from_In (λ r. covers origin hash r c) (record_of j.zone j.apart k) rs i
-            (covers_is j.zone j.apart k c is.on (inr (a, e.is_encloser, inl (e.closer_at, e.closer_below))) ∙ is.covered)
+            (covers_is j.zone j.apart k c is.on between ∙ is.covered)

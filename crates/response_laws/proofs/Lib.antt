@@ -14,6 +14,7 @@ pub mod Origins
 pub mod OwnerSets
 pub mod NsecSets
 pub mod HashedSets
+pub mod HashedBridges
 pub mod Answers
 pub mod Authorities
 pub mod DenialTypes

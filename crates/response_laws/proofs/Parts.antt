@@ -1,9 +1,8 @@
 -- What a response is made of, where it is more than a code
 use Rattle.std.proofs.Common.{◌≡◌, ℕ, Bool, true, false, cond, not, ◌||◌, List, [], ◌∷◌, ◌++◌, map, refl, sym, ap, ◌∙◌, subst, true≢false, eq-eqb, ◌⊎◌, inl, inr, append_assoc}
-use Rattle.std.specs.Prelude.{Option, Some, None, Result, Ok, Err, min, fold, option_and_then, option_to_list, MatchOption, MatchResult, ◌==◌}
-use Rattle.std.specs.Bool.{MatchBool}
+use Rattle.std.specs.Prelude.{Option, Some, None, min, fold, option_and_then, option_to_list, ◌==◌}
+use Rattle.std.specs.Option.{option_map_or}
 use Rattle.std.proofs.lemmas.List.{append-nil}
-use Rattle.zone_proto.specs.declared.error.ProtoError.{ProtoError}
 use Rattle.zone_proto.specs.declared.nx_proof_kind.NxProofKind.TheVariants as kind
 use Rattle.zone_proto.specs.declared.response_code.ResponseCode.{ResponseCode}
 use Rattle.zone_proto.specs.declared.response_code.ResponseCode.TheVariants as code
@@ -12,18 +11,17 @@ use Rattle.zone_proto.specs.Sets.{RRset}
 use Rattle.zone_proto.specs.Types.{IN, SOA, NSEC}
 use Rattle.zone_proto.proofs.Members.{In, In-from_append, In-append_left, In-append_right}
 use Rattle.zone_map.specs.Zones.{Sets, set_at, IsZone}
-use Rattle.zone_denial.specs.Nsec3Denial.{result_and_then}
 use Rattle.zone_denial.specs.NsecDenial.{closest_nsec}
 use Rattle.zone_response.specs.declared.response.Part.TheVariants as part
-use Rattle.zone_response.specs.Denials.{star_proof, star_proof_by, denial, denial_by, end_proof, together, with_star_proof, proofs, sent_proof}
+use Rattle.zone_response.specs.Denials.{star_proof, star_proof_by, denial, denial_by, end_proof, with_star_proof, proofs}
 use Rattle.zone_response.specs.Paths.{Path, path}
 use Rattle.zone_response.specs.Queries.{Zone, Query, inquiry}
 use Rattle.zone_response.specs.QueryTypes.{is_no_data}
-use Rattle.zone_response.specs.Responses.{additional_sets, glue_at, bare, is_authority, code_at, negative_ttl, ds_at, end_sets, fails, refusal, IsResponse, IsSearched, IsResponseAlong, IsProvenResponse, IsResponseBy}
+use Rattle.zone_response.specs.Responses.{additional_sets, glue_at, bare, is_authority, code_at, negative_ttl, ds_at, end_sets, authority_sets, lacks_proofs, fails, refusal, refused, without_soa as no_soa, failing, unprovable as unproven, answered, outcome_proven, outcome_along, outcome_of, IsResponse, IsResponseTo, IsResponseBy}
 use Rattle.zone_response.specs.Sections.{Sections, sent}
 use Rattle.zone_response.specs.Steps.{End, referred, missing, failed}
 use Rattle.response_laws.specs.Failures.{without_soa, at_fault, unprovable, WhyAlone}
-use Rattle.response_laws.proofs.DenialTypes.{AreDenials, proofs_are_denials}
+use Rattle.response_laws.proofs.DenialTypes.{IsDenial, AreDenials, proofs_are_denials}
 use Rattle.response_laws.proofs.Faults.{fault_of}
 use Rattle.response_laws.proofs.NsecSets.{AreOwnersNsec, closest_sets, closest_owners, is_closest}
 use Rattle.response_laws.proofs.Hashings.{unhashed}
@@ -49,7 +47,7 @@ as_proof ttl s = sent part.Signed (min s.ttl ttl) s
 
 -- these sets prove what a search says
 abbrev pub ProofsOf : Zone → Path → List RRset → Type 0
-ProofsOf z p sets = proofs z (ds_at z.sets p.end) p.made p.end ≡ Ok sets
+ProofsOf z p sets = proofs z (ds_at z.sets p.end) p.made p.end ≡ sets
 
 -- the parts of a response
 pub record IsMadeOf (z : Zone) (q : Query) (r : Sections) : Type 0 where
@@ -110,9 +108,7 @@ fails_at _ h = absurd (true≢false (sym h))
 -- ---- the sets of the proofs, where a zone denies by NSEC
 
 -- they stand in it, and the closest ones of these names are among them
-pub record AreProofs (m : Sets) (names : List Name) (found : Result (List RRset) ProtoError) : Type 0 where
-  pub sets : List RRset
-  pub all : found ≡ Ok sets
+pub record AreProofs (m : Sets) (names : List Name) (sets : List RRset) : Type 0 where
   pub owners : AreOwnersNsec m sets
   pub tells : (x : Name) (s : RRset) → In x names → closest_nsec m x ≡ Some s → In s sets
 
@@ -120,19 +116,19 @@ module _ (z : Zone) (zone : IsZone z.denials) (nsec : z.nx_proof_kind ≡ Some k
   abbrev m : Sets
   m = z.denials
 
-  star_proof_is : (x : Name) → star_proof z x ≡ Ok (closest_sets m zone x)
+  star_proof_is : (x : Name) → star_proof z x ≡ closest_sets m zone x
   star_proof_is x = ap (λ k. star_proof_by z k x) nsec
 
-  denial_is : (x : Name) (star : Option Name) → denial z x star ≡ Ok (closest_sets m zone x ++ option_to_list (option_and_then (closest_nsec m) star))
+  denial_is : (x : Name) (star : Option Name) → denial z x star ≡ closest_sets m zone x ++ option_to_list (option_and_then (closest_nsec m) star)
   denial_is x star = ap (λ k. denial_by z k x star) nsec
 
   -- those of the names for which a star answered, behind others
   stars_from : (made before : List Name) (sets : List RRset) → AreOwnersNsec m sets → ((x : Name) (s : RRset) → In x before → closest_nsec m x ≡ Some s → In s sets)
-      → AreProofs m (before ++ made) (fold (with_star_proof z) (Ok sets) made)
-  stars_from [] before sets h k = record { sets = sets; all = refl; owners = h; tells = λ x s i. k x s (subst (In x) (append-nil before) i) }
+      → AreProofs m (before ++ made) (fold (with_star_proof z) sets made)
+  stars_from [] before sets h k = record { owners = h; tells = λ x s i. k x s (subst (In x) (append-nil before) i) }
   stars_from (y ∷ made) before sets h k =
-      subst (λ (names : List Name). AreProofs m names (fold (with_star_proof z) (Ok sets) (y ∷ made))) (append_assoc before (y ∷ []) made)
-      (subst (λ (start : Result (List RRset) ProtoError). AreProofs m ((before ++ y ∷ []) ++ made) (fold (with_star_proof z) start made)) (sym (ap (together (Ok sets)) (star_proof_is y)))
+      subst (λ (names : List Name). AreProofs m names (fold (with_star_proof z) sets (y ∷ made))) (append_assoc before (y ∷ []) made)
+      (subst (λ (start : List RRset). AreProofs m ((before ++ y ∷ []) ++ made) (fold (with_star_proof z) start made)) (sym (ap (all_of sets) (star_proof_is y)))
       (stars_from made (before ++ y ∷ []) (all_of sets (closest_sets m zone y)) (owners_of_all NSEC m sets (closest_sets m zone y) h (closest_owners m zone y)) told))
     where
       told : (x : Name) (s : RRset) → In x (before ++ y ∷ []) → closest_nsec m x ≡ Some s → In s (all_of sets (closest_sets m zone y))
@@ -144,13 +140,11 @@ module _ (z : Zone) (zone : IsZone z.denials) (nsec : z.nx_proof_kind ≡ Some k
           by (inr (inr u)) = absurd u
 
   -- those of what the end says
-  none_proved : AreProofs m [] (Ok [])
-  none_proved = record { sets = []; all = refl; owners = λ s i. absurd i; tells = λ x s i. absurd i }
+  none_proved : AreProofs m [] []
+  none_proved = record { owners = λ s i. absurd i; tells = λ x s i. absurd i }
 
-  denied : (x : Name) (star : Option Name) → AreProofs m (x ∷ option_to_list star) (denial z x star)
-  denied x star = record {
-    sets = closest_sets m zone x ++ option_to_list (option_and_then (closest_nsec m) star);
-    all = denial_is x star;
+  closest_proved : (x : Name) (star : Option Name) → AreProofs m (x ∷ option_to_list star) (closest_sets m zone x ++ option_to_list (option_and_then (closest_nsec m) star))
+  closest_proved x star = record {
     owners = λ s i. either s star (In-from_append s (closest_sets m zone x) (option_to_list (option_and_then (closest_nsec m) star)) i);
     tells = λ y s i e. told star y s i e;
   }
@@ -166,6 +160,9 @@ module _ (z : Zone) (zone : IsZone z.denials) (nsec : z.nx_proof_kind ≡ Some k
       told (Some w) y s (inr (inr i)) e = absurd i
       told None y s (inr i) e = absurd i
 
+  denied : (x : Name) (star : Option Name) → AreProofs m (x ∷ option_to_list star) (denial z x star)
+  denied x star = subst (AreProofs m (x ∷ option_to_list star)) (sym (denial_is x star)) (closest_proved x star)
+
   ends_proved : (ds : Option RRset) (e : End) → AreProofs m (told_at ds e) (end_proof z ds e)
   ends_proved ds (missing x star there) = denied x star
   ends_proved None (referred c) = denied (lower c.owner) None
@@ -177,19 +174,19 @@ module _ (z : Zone) (zone : IsZone z.denials) (nsec : z.nx_proof_kind ≡ Some k
       let stars = stars_from made [] [] (λ s i. absurd i) (λ x s i. absurd i) in
       let end = ends_proved ds e in
       record {
-        sets = all_of stars.sets end.sets;
-        all = λ i. together (stars.all i) (end.all i);
-        owners = owners_of_all NSEC m stars.sets end.sets stars.owners end.owners;
+        owners = owners_of_all NSEC m (fold (with_star_proof z) [] made) (end_proof z ds e) stars.owners end.owners;
         tells = λ x s i c. by stars end x s c (In-from_append x made (told_at ds e) i);
       }
     where
-      by : (stars : AreProofs m made (fold (with_star_proof z) (Ok []) made)) (end : AreProofs m (told_at ds e) (end_proof z ds e)) (x : Name) (s : RRset) → closest_nsec m x ≡ Some s
-          → In x made ⊎ In x (told_at ds e) → In s (all_of stars.sets end.sets)
-      by stars end x s c (inl i) = kept_in_all NSEC m stars.sets end.sets s (stars.tells x s i c)
-      by stars end x s c (inr i) = more_in_all NSEC m stars.sets end.sets s stars.owners end.owners (end.tells x s i c)
+      by : (stars : AreProofs m made (fold (with_star_proof z) [] made)) (end : AreProofs m (told_at ds e) (end_proof z ds e)) (x : Name) (s : RRset) → closest_nsec m x ≡ Some s
+          → In x made ⊎ In x (told_at ds e) → In s (all_of (fold (with_star_proof z) [] made) (end_proof z ds e))
+      by stars end x s c (inl i) = kept_in_all NSEC m (fold (with_star_proof z) [] made) (end_proof z ds e) s (stars.tells x s i c)
+      by stars end x s c (inr i) = more_in_all NSEC m (fold (with_star_proof z) [] made) (end_proof z ds e) s stars.owners end.owners (end.tells x s i c)
 
-abbrev same_result : Result (List RRset) ProtoError → Result (List RRset) ProtoError → Type 0
-same_result a b = a ≡ b
+-- what holds of each set of a list holds where the list is asked for, and else of none
+each_asked : (P : RRset → Type 0) (sets : List RRset) (b : Bool) → ((s : RRset) → In s sets → P s) → (s : RRset) → In s (cond b sets []) → P s
+each_asked P sets true h s i = h s i
+each_asked P sets false h s i = absurd i
 
 -- of a search that doesn't fail
 module _ (z : Zone) (q : Query) (r : Sections) (zone : IsZone z.denials) (inside : is_at_or_above z.origin q.name ≡ true) (soa : RRset) (e : set_at z.sets z.origin SOA ≡ Some soa) where
@@ -199,68 +196,46 @@ module _ (z : Zone) (q : Query) (r : Sections) (zone : IsZone z.denials) (inside
   abbrev ds : Option RRset
   ds = ds_at z.sets p.end
 
-  made_by : (signed : Bool) → q.signed ≡ signed → fails p.end ≡ false → (found : Result (List RRset) ProtoError) → proofs z ds p.made p.end ≡ found
-      → MatchResult (result_and_then (λ sets. Ok (end_sets ds q.signed soa p.end ++ map (sent_proof (negative_ttl soa)) sets)) (cond signed found (Ok []))) (λ all. IsResponseBy (inquiry z q) p all r) (λ refusal. r ≡ bare code.ServFail)
-      → HowAnswered z q r
-  made_by true f passes (Ok sets) g is =
-      by_parts
-      (record {
-        soa = soa;
-        stands = e;
-        inside = inside;
-        passes = passes;
-        authoritative = is.authoritative;
-        code = is.code;
-        answers = is.answers;
-        additionals = is.additionals;
-        glue = is.glue;
-        proofs = sets;
-        authorities = is.authorities;
-        denials = proofs_are_denials z zone ds p.made p.end sets g;
-        given = λ k. g;
-        unproved = λ k. absurd (true≢false (sym f ∙ k));
-        owners = λ n. let found = proofs_are z zone n ds p.made p.end in subst (AreOwnersNsec z.denials) (same found.sets (sym found.all ∙ g)) found.owners;
-        tells = λ n k x s i c. let found = proofs_are z zone n ds p.made p.end in subst (In s) (same found.sets (sym found.all ∙ g)) (found.tells x s i c);
-      })
-    where
-      same : (a : List RRset) → same_result (Ok a) (Ok sets) → a ≡ sets
-      same a e = cc
-  made_by true f passes (Err why) g is = by_code_alone code.ServFail (unprovable why f (ap (λ b. cond b (proofs z ds p.made p.end) (Ok [])) f ∙ g) (unhashed z p.made ds p.end why g)) is
-  made_by false f passes found g is =
-      by_parts
-      (record {
-        soa = soa;
-        stands = e;
-        inside = inside;
-        passes = passes;
-        authoritative = is.authoritative;
-        code = is.code;
-        answers = is.answers;
-        additionals = is.additionals;
-        glue = is.glue;
-        proofs = [];
-        authorities = is.authorities;
-        denials = λ s i. absurd i;
-        given = λ k. absurd (true≢false (sym k ∙ f));
-        unproved = λ k. refl;
-        owners = λ n s i. absurd i;
-        tells = λ n k. absurd (true≢false (sym k ∙ f));
-      })
+  -- all that prove what it says
+  abbrev all : List RRset
+  all = proofs z ds p.made p.end
 
-  pub made_of : fails p.end ≡ false → IsProvenResponse z (inquiry z q) soa p r → HowAnswered z q r
-  made_of passes is = made_by q.signed refl passes (proofs z ds p.made p.end) refl is
+  pub made_of : fails p.end ≡ false → IsResponseBy (inquiry z q) p (authority_sets z q.signed soa p.made p.end) r → IsMadeOf z q r
+  made_of passes is = record {
+    soa = soa;
+    stands = e;
+    inside = inside;
+    passes = passes;
+    authoritative = is.authoritative;
+    code = is.code;
+    answers = is.answers;
+    additionals = is.additionals;
+    glue = is.glue;
+    proofs = cond q.signed all [];
+    authorities = is.authorities;
+    denials = each_asked (IsDenial z.denials) all q.signed (proofs_are_denials z zone ds p.made p.end);
+    given = λ k. sym (ap (λ b. cond b all []) k);
+    unproved = λ k. ap (λ b. cond b all []) k;
+    owners = λ n. each_asked (λ s. set_at z.denials (lower s.owner) NSEC ≡ Some s) all q.signed (proofs_are z zone n ds p.made p.end).owners;
+    tells = λ n k x s i c. subst (In s) (sym (ap (λ b. cond b all []) k)) ((proofs_are z zone n ds p.made p.end).tells x s i c);
+  }
 
 pub how_answered : (z : Zone) (q : Query) (r : Sections) → IsZone z.denials → IsResponse z q r → HowAnswered z q r
 how_answered z q r zone = by (refusal z.origin q) refl
   where
-    along : is_at_or_above z.origin q.name ≡ true → (soa : RRset) → set_at z.sets z.origin SOA ≡ Some soa → (b : Bool) → fails (path (inquiry z q) q.name).end ≡ b → MatchBool b (r ≡ bare code.ServFail) (IsProvenResponse z (inquiry z q) soa (path (inquiry z q) q.name) r) → HowAnswered z q r
-    along inside soa e true f is = let at = fails_at (path (inquiry z q) q.name).end f in by_code_alone code.ServFail (at_fault at (fault_of (inquiry z q) q.name at)) is
-    along inside soa e false f is = made_of z q r zone inside soa e f is
+    proven : is_at_or_above z.origin q.name ≡ true → (soa : RRset) → set_at z.sets z.origin SOA ≡ Some soa → fails (path_of z q).end ≡ false → (b : Bool) → lacks_proofs z q.signed (path_of z q).made (path_of z q).end ≡ b
+        → IsResponseTo (inquiry z q) (cond b unproven (answered (path_of z q) (authority_sets z q.signed soa (path_of z q).made (path_of z q).end))) r → HowAnswered z q r
+    proven inside soa e f true g is = let w = unhashed z q g in by_code_alone code.ServFail (unprovable w.0 w.1 w.2) is
+    proven inside soa e f false g is = by_parts (made_of z q r zone inside soa e f is)
 
-    found : is_at_or_above z.origin q.name ≡ true → (o : Option RRset) → set_at z.sets z.origin SOA ≡ o → MatchOption o (r ≡ bare code.ServFail) (λ soa. IsResponseAlong z (inquiry z q) soa (path (inquiry z q) q.name) r) → HowAnswered z q r
+    along : is_at_or_above z.origin q.name ≡ true → (soa : RRset) → set_at z.sets z.origin SOA ≡ Some soa → (b : Bool) → fails (path_of z q).end ≡ b → IsResponseTo (inquiry z q) (cond b failing (outcome_proven z q.signed soa (path_of z q))) r → HowAnswered z q r
+    along inside soa e true f is = let at = fails_at (path_of z q).end f in by_code_alone code.ServFail (at_fault at (fault_of (inquiry z q) q.name at)) is
+    along inside soa e false f is = proven inside soa e f (lacks_proofs z q.signed (path_of z q).made (path_of z q).end) refl is
+
+    found : is_at_or_above z.origin q.name ≡ true → (o : Option RRset) → set_at z.sets z.origin SOA ≡ o → IsResponseTo (inquiry z q) (option_map_or (λ soa. outcome_along z q.signed soa (path_of z q)) o no_soa) r → HowAnswered z q r
     found inside None e is = by_code_alone code.ServFail (without_soa e) is
-    found inside (Some soa) e is = along inside soa e (fails (path (inquiry z q) q.name).end) refl is
+    found inside (Some soa) e is = along inside soa e (fails (path_of z q).end) refl is
 
-    by : (o : Option ResponseCode) → refusal z.origin q ≡ o → MatchOption o (IsSearched z (inquiry z q) q.name r) (λ c. r ≡ bare c) → HowAnswered z q r
+    by : (o : Option ResponseCode) → refusal z.origin q ≡ o → IsResponseTo (inquiry z q) (option_map_or refused o (outcome_of z (inquiry z q) q.name)) r → HowAnswered z q r
     by (Some c) e is = by_code_alone c (refusal_why z q c e) is
     by None e is = found (not_refused z q e) (set_at z.sets z.origin SOA) refl is

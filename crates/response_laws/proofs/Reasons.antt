@@ -1,8 +1,7 @@
 -- Sets of denial stand in a response only where something is to be proved
 use Rattle.std.proofs.Common.{◌≡◌, ℕ, zero, suc, Bool, true, false, cond, not, ◌&&◌, List, [], ◌∷◌, ◌++◌, refl, sym, ap, ◌∙◌, subst, ◌⊎◌, inl, inr}
-use Rattle.std.specs.Prelude.{Option, Some, None, Result, Ok}
+use Rattle.std.specs.Prelude.{Option, Some, None}
 use Rattle.std.specs.List.{list_any}
-use Rattle.zone_proto.specs.declared.error.ProtoError.{ProtoError}
 use Rattle.zone_proto.specs.Names.{Name, name_eq}
 use Rattle.zone_proto.specs.Sets.{RRset}
 use Rattle.zone_proto.proofs.Members.{In, In-from_append, In-append_left, In-append_right}
@@ -28,14 +27,14 @@ NeedsProof (Some s) (referred c) = ⊥
 NeedsProof ds _ = ⊥
 
 -- sets prove something of a name for which a star answered, or of the end
-pub proves_what : (z : Zone) (ds : Option RRset) (made : List Name) (e : End) (sets : List RRset) (s : RRset) → proofs z ds made e ≡ Ok sets → In s sets → ((y : Name) × In y made) ⊎ NeedsProof ds e
+pub proves_what : (z : Zone) (ds : Option RRset) (made : List Name) (e : End) (sets : List RRset) (s : RRset) → proofs z ds made e ≡ sets → In s sets → ((y : Name) × In y made) ⊎ NeedsProof ds e
 proves_what z ds (y ∷ made) e sets s is i = inl (y, inl refl)
 proves_what z ds [] e sets s is i = inr (by ds e is)
   where
-    none : ◌≡◌ {A = Result (List RRset) ProtoError} (Ok []) (Ok sets) → ⊥
-    none f = let empty : [] ≡ sets = cc in subst (In s) (sym empty) i
+    none : [] ≡ sets → ⊥
+    none f = subst (In s) (sym f) i
 
-    by : (ds : Option RRset) (e : End) → proofs z ds [] e ≡ Ok sets → NeedsProof ds e
+    by : (ds : Option RRset) (e : End) → proofs z ds [] e ≡ sets → NeedsProof ds e
     by ds (missing x star there) f = tt
     by None (referred c) f = tt
     by (Some d) (referred c) f = none f

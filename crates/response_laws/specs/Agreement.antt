@@ -20,7 +20,7 @@ use Rattle.zone_response.specs.Denials.{hashed_owner_of}
 use Rattle.zone_response.specs.Paths.{Path, path}
 use Rattle.zone_response.specs.Queries.{Zone, Query, Inquiry, inquiry}
 use Rattle.zone_response.specs.QueryTypes.{is_no_data}
-use Rattle.zone_response.specs.Responses.{ds_at, proof_sets}
+use Rattle.zone_response.specs.Responses.{lacks_proofs}
 use Rattle.zone_response.specs.Sections.{Sections, as_it_is, part_for, is_signed}
 use Rattle.zone_response.specs.Wildcards.{asked_star}
 use Rattle.zone_response.specs.Aname.{addresses, stand_in_answer}
@@ -100,7 +100,7 @@ pub record IsOrdinaryQuery (z : Zone) (q : Query) : Type 0 where
 
 -- the sets that prove what a path says are found: each name that is hashed for them has a hashed owner
 abbrev pub IsProvable : Zone → Query → Path → Type 0
-IsProvable z q p = IsOk (proof_sets z (ds_at z.sets p.end) q.signed p.made p.end)
+IsProvable z q p = IsFalse (lacks_proofs z q.signed p.made p.end)
 
 -- ---- the agreement
 

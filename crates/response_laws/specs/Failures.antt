@@ -1,5 +1,6 @@
 -- Why a response is a code alone: that the zone isn't asked what it could answer, or that it can't answer
-use Rattle.std.specs.Prelude.{◌≡◌, ◌≢◌, ◌⊎◌, List, Option, Some, None, Result, Err, IsTrue, IsFalse}
+use Rattle.std.specs.Prelude.{◌≡◌, ◌≢◌, ◌⊎◌, List, Option, Some, None, Err, IsTrue, IsFalse}
+use Rattle.std.specs.List.{Contains}
 use Rattle.zone_proto.specs.declared.error.ProtoError.{ProtoError}
 use Rattle.zone_proto.specs.declared.nx_proof_kind.NxProofKind.{NxProofKind}
 use Rattle.zone_proto.specs.declared.nx_proof_kind.NxProofKind.TheVariants as kind
@@ -10,11 +11,11 @@ use Rattle.zone_proto.specs.Sets.{RRset}
 use Rattle.zone_proto.specs.Types.{IN, SOA, ANAME}
 use Rattle.zone_map.specs.Zones.{set_at, owns, IsZone}
 use Rattle.zone_response.specs.Denials.{hashed_owner_of}
-use Rattle.zone_response.specs.Paths.{Path, path}
+use Rattle.zone_response.specs.Paths.{path}
 use Rattle.zone_response.specs.Queries.{Zone, Query, HasOwnDenials, Inquiry, inquiry}
 use Rattle.zone_response.specs.QueryTypes.{is_no_data}
 use Rattle.zone_response.specs.Dname.{dname_target}
-use Rattle.zone_response.specs.Responses.{bare, ds_at, proof_sets, refusal}
+use Rattle.zone_response.specs.Responses.{bare, query_hashed, refusal}
 use Rattle.zone_response.specs.Sections.{Sections, is_signed}
 use Rattle.zone_response.specs.Aname.{addresses, untold, stand_in_answer}
 use Rattle.zone_response.specs.Steps.{failed, made_by, keeps}
@@ -43,14 +44,10 @@ pub data Fault (q : Inquiry) : Type 0 where
 
 -- ---- why a zone fails
 
--- a zone denies by hashed names, and a name has no hashed owner (RFC 5155 sections 3 and 5), for this cause
-abbrev pub IsUnhashed : Zone → Option NxProofKind → ProtoError → Type 0
-IsUnhashed z (Some (kind.Nsec3 algorithm salt iterations opt_out)) why = (x : Name) × (hashed_owner_of z algorithm salt iterations x ≡ Err why)
-IsUnhashed z _ why = ⊥
-
--- the sets that prove what a path says, or why there are none
-abbrev pub proofs_of : Zone → Query → Path → Result (List RRset) ProtoError
-proofs_of z q p = proof_sets z (ds_at z.sets p.end) q.signed p.made p.end
+-- a zone denies by hashed names, and one of these names has no hashed owner (RFC 5155 sections 3 and 5), for this cause
+abbrev pub IsUnhashed : Zone → Option NxProofKind → List Name → ProtoError → Type 0
+IsUnhashed z (Some (kind.Nsec3 algorithm salt iterations opt_out)) names why = (x : Name) × Contains names x × (hashed_owner_of z algorithm salt iterations x ≡ Err why)
+IsUnhashed z _ names why = ⊥
 
 -- why a zone has failed
 pub data Failure (z : Zone) (q : Query) : Type 0 where
@@ -59,7 +56,7 @@ pub data Failure (z : Zone) (q : Query) : Type 0 where
   -- the search ends at a fault
   at_fault : (path (inquiry z q) q.name).end ≡ failed → Fault (inquiry z q) → Failure z q
   -- what is to be said has to be proved, and a name that is hashed for that has no hashed owner
-  unprovable : (why : ProtoError) → IsTrue q.signed → proofs_of z q (path (inquiry z q) q.name) ≡ Err why → IsUnhashed z z.nx_proof_kind why → Failure z q
+  unprovable : (why : ProtoError) → IsTrue q.signed → IsUnhashed z z.nx_proof_kind (query_hashed z q) why → Failure z q
 
 -- ---- why a code stands alone
 

@@ -78,13 +78,13 @@ proof_in z parameters r x t = nsec3_proof z.origin (zone_hash z parameters) (sho
 abbrev pub shown_records : Sections → List Record
 shown_records r = flat_map (λ s. s.records) r.authorities
 
--- a set as it is found for a name by a star: the star's under that name, for which the star may answer, as the records rs prove (RFC 5155 section 7.2.6): with opt-out only if the name over the star has an NSEC3 set, as it has unless the star and what is below that name are left out
+-- a set as it is found for a name by a star: the star's under that name, for which the star may answer, as the records rs prove (RFC 5155 section 7.2.6), with opt-out too, and where the name over the star has no NSEC3 set
 pub record IsHashedFoundByStar (z : Zone) (parameters : Nsec3Parameters) (names : List Name) (rs : List Nsec3Record) (name : Name) (record_type : ℕ) (found : RRset) : Type 0 where
   pub encloser : Name
   pub stored : RRset
   pub stands : set_at z.sets (star_under encloser) record_type ≡ Some stored
   pub made : found ≡ renamed true (star_under encloser) name stored
-  pub proved : HashesApart z parameters names name → (IsTrue parameters.opt_out → Contains names encloser) → IsTrue (proves_wildcard_answer z.origin (zone_hash z parameters) rs name encloser)
+  pub proved : HashesApart z parameters names name → IsTrue (proves_wildcard_answer z.origin (zone_hash z parameters) rs name encloser)
 
 -- ---- a name error
 

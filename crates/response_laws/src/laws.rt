@@ -26,8 +26,8 @@ pub fn responses_say_how_they_end()
 
 /// SERVFAIL comes for a reason (`Failure`): the zone has no SOA; the search ends at a DNAME set without a target, or at an ANAME set that
 /// leads to a name which the zone doesn't tell, or to addresses that have to be proved and that nobody signs (`Fault`); or something is
-/// to be proved, and a name has no hashed owner. So it doesn't come where the zone has an SOA and no such fault, and each name has a
-/// hashed owner, as in each zone that doesn't deny by hashed names (`IsAnswerable`); and wherever there is a reason, it comes alone.
+/// to be proved, and a name that is hashed for that has no hashed owner. So it doesn't come where the zone has an SOA and no such fault,
+/// and each name has a hashed owner, as in each zone that doesn't deny by hashed names (`IsAnswerable`); and wherever there is a reason, it comes alone.
 pub fn failures_have_reasons()
     ensures reason { FailureHasReason IsResponse }
     ensures answered { AnswerableIsAnswered IsResponse }
@@ -124,8 +124,8 @@ pub fn responses_prove_what_they_say()
 ///
 /// With opt-out what is proved of a name that has no NSEC3 set says less, and is insecure (section 9.2): what is there is an unsigned
 /// delegation that is left out, or stands below a zone cut or a DNAME (`IsLeftOutOn`). One name error has no proof then: that of a name
-/// below an empty name that is left out, where a star stands above it (`HasErrorProof`); nor has the answer of a star, if the name over
-/// that star has no NSEC3 set.
+/// below an empty name that is left out, where a star stands above it (`HasErrorProof`). That a star may answer is proved even where
+/// the name over the star has no NSEC3 set.
 ///
 /// That there are no data is proved as by NSEC: of every type but RRSIG, and DS of an apex; and of a name that doesn't exist where the
 /// star that is asked for it owns no NS (`IsHashedShowable`); where no ANAME stands in (`HasNoHashedStandIn`), a lookup among these sets

@@ -12,7 +12,9 @@ pub mod NearSets
 pub mod HostFacts
 pub mod SetLists
 pub mod ProofSteps
-pub mod HashedSteps
+pub mod LabelCounts
+pub mod ProvableWalk
+pub mod ProvenNames
 pub mod UnsentSets
 pub mod ResponseCases
 pub mod ResponseExamples

@@ -1,27 +1,23 @@
 -- The sets that prove what is said: of one name, and name after name
-use Rattle.std.proofs.Common.{◌≡◌, ◌⊎◌, inl, inr, true, List, [], ◌∷◌, ◌++◌, refl, sym, ap, ◌∙◌, subst}
-use Rattle.std.specs.Prelude.{fold, option_and_then, option_to_list, Option, Some, None, Result, Ok, Err, IfErr, IsErr, IsErrAnd}
+use Rattle.std.proofs.Common.{◌≡◌, ◌⊎◌, inl, inr, true, false, List, [], ◌∷◌, ◌++◌, refl, sym, ap, subst}
+use Rattle.std.specs.Prelude.{option_and_then, option_map, option_to_list, Option, Some, None, Result, Ok, Err, IfErr, IsErrAnd}
+use Rattle.std.specs.Option.{option_map_or}
 use Rattle.zone_proto.specs.declared.error.ProtoError.{ProtoError}
 use Rattle.zone_proto.specs.declared.nx_proof_kind.NxProofKind.{NxProofKind}
 use Rattle.zone_proto.specs.declared.nx_proof_kind.NxProofKind.TheVariants as kind
-use Rattle.zone_proto.specs.Names.{Name}
-use Rattle.zone_proto.specs.Sets.{RRset}
+use Rattle.zone_proto.specs.Names.{Name, base_name, is_root, star_under}
 use Rattle.zone_handler.specs.declared.lookup_error.LookupError.{LookupError}
 use Rattle.zone_handler.specs.declared.lookup_error.LookupError.TheVariants as error
 use Rattle.zone_handler.specs.declared.nsec3_query_info.Nsec3QueryInfo.{Nsec3QueryInfo}
-use Rattle.zone_denial.specs.Nsec3Denial.{result_and_then, nsec3_denial}
-use Rattle.zone_denial.specs.Nsec3Lent.{hashed_for, query_denial}
+use Rattle.zone_map.specs.Wildcards.{closest_encloser}
+use Rattle.zone_denial.specs.Nsec3Lent.{hashed_for}
 use Rattle.zone_denial.specs.NsecDenial.{closest_nsec}
-use Rattle.zone_response.specs.Denials.{hashed_owner_of, star_proof_by, denial_by, together, with_star_proof}
-use Rattle.zone_response.specs.HashedDenials.{no_data_proof, AsksByHash}
+use Rattle.zone_response.specs.Denials.{hashed_owner_of, star_proof_by, star_hashed_by, denial_by, denial_hashed_by, have_owners_by}
+use Rattle.zone_response.specs.HashedDenials.{star_sets, star_hashed, absent_sets, absent_hashed, present_sets, present_hashed, hashed_by, have_owners, unless_root, AsksByHash}
 use Rattle.zone_response.specs.Queries.{Zone}
+use Rattle.zone_response.proofs.ProvableWalk.{front_had, both_have, front_lacks, rest_lacks}
 
 -- ---- refusals
-
--- what comes of a refusal is refused
-pub refused_then : {X Y E : Type 0} (f : X → Result Y E) (o : Result X E) → IsErr o → IsErr (result_and_then f o)
-refused_then f (Ok x) h = cc
-refused_then f (Err e) h = refl
 
 -- an error that is handed on
 pub raised : {A E : Type 0} (r : Result A E) (P : E → Type 0) (e : E) → IsErrAnd r (λ k. k ≡ e) → P e → IfErr r P
@@ -29,57 +25,163 @@ raised (Ok a) P e h p = tt
 raised (Err k) P e h p = subst P (sym h) p
 
 -- want of memory, or a refusal from which another comes
-pub or_refused : {X Y E D : Type 0} (e : LookupError) (o : Result X E) (r : Result Y D) → (IsErr o → IsErr r) → (e ≡ error.Memory) ⊎ IsErr o → (e ≡ error.Memory) ⊎ IsErr r
-or_refused e o r goes (inl memory) = inl memory
-or_refused e o r goes (inr refused) = inr (goes refused)
+pub or_refused : {X Y : Type 0} (e : LookupError) → (X → Y) → (e ≡ error.Memory) ⊎ X → (e ≡ error.Memory) ⊎ Y
+or_refused e goes (inl memory) = inl memory
+or_refused e goes (inr refused) = inr (goes refused)
 
 -- ---- of one name, by how the zone denies
 
+-- the hash of the zone, with the parameters of a query
+abbrev pub hash_in : Zone → Nsec3QueryInfo → Name → Result Name ProtoError
+hash_in z q = hashed_for z.origin z.digest_of q
+
 module _ (z : Zone) (x : Name) where
+  -- a star under the closest encloser
+  pub star_is : (star : Name) → Some star ≡ option_map star_under (closest_encloser z.sets x) → closest_encloser z.sets x ≡ Some (base_name star)
+  star_is star e = by (closest_encloser z.sets x) e
+    where
+      by : (o : Option Name) → Some star ≡ option_map star_under o → o ≡ Some (base_name star)
+      by None e = cc
+      by (Some a) e = ap Some (sym (ap base_name (same star (star_under a) e)))
+        where
+          same : (n k : Name) → Some n ≡ Some k → n ≡ k
+          same n k e = cc
+
+  pub no_star_is : None ≡ option_map star_under (closest_encloser z.sets x) → closest_encloser z.sets x ≡ None
+  no_star_is e = by (closest_encloser z.sets x) e
+    where
+      by : (o : Option Name) → None ≡ option_map star_under o → o ≡ None
+      by None e = refl
+      by (Some a) e = cc
+
+  pub not_root : (star : Name) (o : Option Name) → Some star ≡ option_map star_under o → is_root star ≡ false
+  not_root star None e = cc
+  not_root [] (Some a) e = cc
+  not_root (l ∷ ls) (Some a) e = refl
+
   -- for a name for which a star answered
-  pub starred_by_hash : (k : Option NxProofKind) (q : Nsec3QueryInfo) → AsksByHash k x (Some q) → query_denial z.digest_of z.origin z.denials (record q { has_wildcard_match = true }) ≡ star_proof_by z k x
+  pub starred_by_hash : (k : Option NxProofKind) (q : Nsec3QueryInfo) → AsksByHash k x (Some q)
+      → option_map_or (star_sets z.origin z.denials (hashed_by (hash_in z q)) q.qname.now) (closest_encloser z.sets x) [] ≡ star_proof_by z k x
   starred_by_hash None q h = cc
   starred_by_hash (Some kind.Nsec) q h = cc
   starred_by_hash (Some (kind.Nsec3 algorithm salt iterations opt_out)) q h =
-      λ i. nsec3_denial z.denials (hashed_owner_of z (h.algorithm i) (h.salt i) (h.iterations i)) true (h.name i)
+      λ i. option_map_or (star_sets z.origin z.denials (hashed_by (hashed_owner_of z (h.algorithm i) (h.salt i) (h.iterations i))) (h.name i)) (closest_encloser z.sets x) []
 
-  pub starred_by_name : (k : Option NxProofKind) → AsksByHash k x None → star_proof_by z k x ≡ Ok (option_to_list (closest_nsec z.denials x))
+  pub star_names_by_hash : (k : Option NxProofKind) (q : Nsec3QueryInfo) → AsksByHash k x (Some q)
+      → option_map_or (star_hashed q.qname.now) (closest_encloser z.sets x) [] ≡ star_hashed_by z k x
+  star_names_by_hash None q h = cc
+  star_names_by_hash (Some kind.Nsec) q h = cc
+  star_names_by_hash (Some (kind.Nsec3 algorithm salt iterations opt_out)) q h = λ i. option_map_or (star_hashed (h.name i)) (closest_encloser z.sets x) []
+
+  pub owners_by_hash : (k : Option NxProofKind) (q : Nsec3QueryInfo) → AsksByHash k x (Some q) → (names : List Name) → have_owners (hash_in z q) names ≡ have_owners_by z k names
+  owners_by_hash None q h names = cc
+  owners_by_hash (Some kind.Nsec) q h names = cc
+  owners_by_hash (Some (kind.Nsec3 algorithm salt iterations opt_out)) q h names = λ i. have_owners (hashed_owner_of z (h.algorithm i) (h.salt i) (h.iterations i)) names
+
+  pub owners_by_name : (k : Option NxProofKind) → AsksByHash k x None → (names : List Name) → have_owners_by z k names ≡ true
+  owners_by_name None h names = refl
+  owners_by_name (Some kind.Nsec) h names = refl
+  owners_by_name (Some (kind.Nsec3 algorithm salt iterations opt_out)) h names = absurd h
+
+  pub starred_by_name : (k : Option NxProofKind) → AsksByHash k x None → star_proof_by z k x ≡ option_to_list (closest_nsec z.denials x)
   starred_by_name None h = refl
   starred_by_name (Some kind.Nsec) h = refl
   starred_by_name (Some (kind.Nsec3 algorithm salt iterations opt_out)) h = absurd h
 
   -- for a name that doesn't exist
-  pub absent_by_hash : (k : Option NxProofKind) (q : Nsec3QueryInfo) (star : Name) → AsksByHash k x (Some q) → query_denial z.digest_of z.origin z.denials q ≡ denial_by z k x (Some star)
-  absent_by_hash None q star h = cc
-  absent_by_hash (Some kind.Nsec) q star h = cc
-  absent_by_hash (Some (kind.Nsec3 algorithm salt iterations opt_out)) q star h =
-      λ i. nsec3_denial z.denials (hashed_owner_of z (h.algorithm i) (h.salt i) (h.iterations i)) (h.unstarred i) (h.name i)
+  pub absent_by_hash : (k : Option NxProofKind) (q : Nsec3QueryInfo) (star : Option Name) (w : Name) → AsksByHash k x (Some q) → Some w ≡ option_and_then unless_root star
+      → absent_sets z.origin z.denials (hashed_by (hash_in z q)) q.qname.now (base_name w) ≡ denial_by z k x star
+  absent_by_hash k q None w h e = cc
+  absent_by_hash k q (Some []) w h e = cc
+  absent_by_hash None q (Some (s ∷ a)) w h e = cc
+  absent_by_hash (Some kind.Nsec) q (Some (s ∷ a)) w h e = cc
+  absent_by_hash (Some (kind.Nsec3 algorithm salt iterations opt_out)) q (Some (s ∷ a)) w h e =
+      λ i. absent_sets z.origin z.denials (hashed_by (hashed_owner_of z (h.algorithm i) (h.salt i) (h.iterations i))) (h.name i) (base_name (same w (s ∷ a) e i))
+    where
+      same : (n k : Name) → Some n ≡ Some k → n ≡ k
+      same n k e = cc
+
+  pub absent_names_by_hash : (k : Option NxProofKind) (q : Nsec3QueryInfo) (star : Option Name) (w : Name) → AsksByHash k x (Some q) → Some w ≡ option_and_then unless_root star
+      → absent_hashed z.origin z.denials (hashed_by (hash_in z q)) q.qname.now (base_name w) ≡ denial_hashed_by z k x star
+  absent_names_by_hash k q None w h e = cc
+  absent_names_by_hash k q (Some []) w h e = cc
+  absent_names_by_hash None q (Some (s ∷ a)) w h e = cc
+  absent_names_by_hash (Some kind.Nsec) q (Some (s ∷ a)) w h e = cc
+  absent_names_by_hash (Some (kind.Nsec3 algorithm salt iterations opt_out)) q (Some (s ∷ a)) w h e =
+      λ i. absent_hashed z.origin z.denials (hashed_by (hashed_owner_of z (h.algorithm i) (h.salt i) (h.iterations i))) (h.name i) (base_name (same w (s ∷ a) e i))
+    where
+      same : (n k : Name) → Some n ≡ Some k → n ≡ k
+      same n k e = cc
 
   -- for a name that exists
-  pub present_by_hash : (k : Option NxProofKind) (q : Nsec3QueryInfo) → AsksByHash k x (Some q) → no_data_proof z.denials (hashed_for z.origin z.digest_of q) q.qname.now ≡ denial_by z k x None
-  present_by_hash None q h = cc
-  present_by_hash (Some kind.Nsec) q h = cc
-  present_by_hash (Some (kind.Nsec3 algorithm salt iterations opt_out)) q h =
-      λ i. no_data_proof z.denials (hashed_owner_of z (h.algorithm i) (h.salt i) (h.iterations i)) (h.name i)
+  pub present_by_hash : (k : Option NxProofKind) (q : Nsec3QueryInfo) (star : Option Name) → AsksByHash k x (Some q) → None ≡ option_and_then unless_root star
+      → present_sets z.origin z.denials (hashed_by (hash_in z q)) q.qname.now ≡ denial_by z k x star
+  present_by_hash k q (Some (s ∷ a)) h e = cc
+  present_by_hash None q None h e = cc
+  present_by_hash None q (Some []) h e = cc
+  present_by_hash (Some kind.Nsec) q None h e = cc
+  present_by_hash (Some kind.Nsec) q (Some []) h e = cc
+  present_by_hash (Some (kind.Nsec3 algorithm salt iterations opt_out)) q None h e =
+      λ i. present_sets z.origin z.denials (hashed_by (hashed_owner_of z (h.algorithm i) (h.salt i) (h.iterations i))) (h.name i)
+  present_by_hash (Some (kind.Nsec3 algorithm salt iterations opt_out)) q (Some []) h e =
+      λ i. present_sets z.origin z.denials (hashed_by (hashed_owner_of z (h.algorithm i) (h.salt i) (h.iterations i))) (h.name i)
 
-  pub denied_by_name : (k : Option NxProofKind) (star : Option Name) → AsksByHash k x None → denial_by z k x star ≡ Ok (option_to_list (closest_nsec z.denials x) ++ option_to_list (option_and_then (closest_nsec z.denials) star))
+  pub present_names_by_hash : (k : Option NxProofKind) (q : Nsec3QueryInfo) (star : Option Name) → AsksByHash k x (Some q) → None ≡ option_and_then unless_root star
+      → present_hashed z.origin z.denials (hashed_by (hash_in z q)) q.qname.now ≡ denial_hashed_by z k x star
+  present_names_by_hash k q (Some (s ∷ a)) h e = cc
+  present_names_by_hash None q None h e = cc
+  present_names_by_hash None q (Some []) h e = cc
+  present_names_by_hash (Some kind.Nsec) q None h e = cc
+  present_names_by_hash (Some kind.Nsec) q (Some []) h e = cc
+  present_names_by_hash (Some (kind.Nsec3 algorithm salt iterations opt_out)) q None h e =
+      λ i. present_hashed z.origin z.denials (hashed_by (hashed_owner_of z (h.algorithm i) (h.salt i) (h.iterations i))) (h.name i)
+  present_names_by_hash (Some (kind.Nsec3 algorithm salt iterations opt_out)) q (Some []) h e =
+      λ i. present_hashed z.origin z.denials (hashed_by (hashed_owner_of z (h.algorithm i) (h.salt i) (h.iterations i))) (h.name i)
+
+  pub denied_by_name : (k : Option NxProofKind) (star : Option Name) → AsksByHash k x None → denial_by z k x star ≡ option_to_list (closest_nsec z.denials x) ++ option_to_list (option_and_then (closest_nsec z.denials) star)
   denied_by_name None star h = refl
   denied_by_name (Some kind.Nsec) star h = refl
   denied_by_name (Some (kind.Nsec3 algorithm salt iterations opt_out)) star h = absurd h
 
 -- ---- name after name
 
--- more sets that are refused
-pub refused_together : (sets : List RRset) (more : Result (List RRset) ProtoError) → IsErr more → IsErr (together (Ok sets) more)
-refused_together sets more h = refused_then _ more h
+module _ (z : Zone) (k : Option NxProofKind) where
+  pub all_have : (names more : List Name) → have_owners_by z k names ≡ true → have_owners_by z k more ≡ true → have_owners_by z k (names ++ more) ≡ true
+  all_have names more f g = by k f g
+    where
+      by : (k : Option NxProofKind) → have_owners_by z k names ≡ true → have_owners_by z k more ≡ true → have_owners_by z k (names ++ more) ≡ true
+      by (Some (kind.Nsec3 algorithm salt iterations opt_out)) f g = both_have (hashed_owner_of z algorithm salt iterations) names more f g
+      by (Some kind.Nsec) f g = refl
+      by None f g = refl
 
-module _ (z : Zone) where
-  still_refused : (o : Result (List RRset) ProtoError) (names : List Name) → IsErr o → IsErr (fold (with_star_proof z) o names)
-  still_refused o [] h = h
-  still_refused o (x ∷ names) h = still_refused (with_star_proof z o x) names (refused_then _ o h)
+  pub passed_have : (names more : List Name) → have_owners_by z k names ≡ true → have_owners_by z k (names ++ more) ≡ have_owners_by z k more
+  passed_have names more f = by k f
+    where
+      by : (k : Option NxProofKind) → have_owners_by z k names ≡ true → have_owners_by z k (names ++ more) ≡ have_owners_by z k more
+      by (Some (kind.Nsec3 algorithm salt iterations opt_out)) f = front_had (hashed_owner_of z algorithm salt iterations) names more f
+      by (Some kind.Nsec) f = refl
+      by None f = refl
 
-  -- a name that is refused refuses all, where the sets so far and the names that are left make the whole
-  pub refused_at : (sets : Result (List RRset) ProtoError) (x : Name) (left more : List Name) (whole : Result (List RRset) ProtoError) → left ≡ x ∷ more → fold (with_star_proof z) sets left ≡ whole
-      → IsErr (with_star_proof z sets x) → IsErr whole
-  refused_at sets x left more whole e is h =
-      subst (λ (o : Result (List RRset) ProtoError). IsErr o) (sym (ap (fold (with_star_proof z) sets) e) ∙ is) (still_refused (with_star_proof z sets x) more h)
+  pub none_lacks : have_owners_by z k [] ≡ true
+  none_lacks = by k
+    where
+      by : (k : Option NxProofKind) → have_owners_by z k [] ≡ true
+      by (Some (kind.Nsec3 algorithm salt iterations opt_out)) = refl
+      by (Some kind.Nsec) = refl
+      by None = refl
+
+  pub first_lacks : (names more : List Name) → have_owners_by z k names ≡ false → have_owners_by z k (names ++ more) ≡ false
+  first_lacks names more f = by k f
+    where
+      by : (k : Option NxProofKind) → have_owners_by z k names ≡ false → have_owners_by z k (names ++ more) ≡ false
+      by (Some (kind.Nsec3 algorithm salt iterations opt_out)) f = front_lacks (hashed_owner_of z algorithm salt iterations) names more f
+      by (Some kind.Nsec) f = f
+      by None f = f
+
+  pub others_lack : (names more : List Name) → have_owners_by z k more ≡ false → have_owners_by z k (names ++ more) ≡ false
+  others_lack names more f = by k f
+    where
+      by : (k : Option NxProofKind) → have_owners_by z k more ≡ false → have_owners_by z k (names ++ more) ≡ false
+      by (Some (kind.Nsec3 algorithm salt iterations opt_out)) f = rest_lacks (hashed_owner_of z algorithm salt iterations) names more f
+      by (Some kind.Nsec) f = f
+      by None f = f

@@ -1,10 +1,10 @@
 -- What isn't sent isn't looked up
 use Rattle.std.proofs.Common.{◌≡◌, Bool, true, false, cond, List, [], ◌++◌, refl, ap}
-use Rattle.std.specs.Prelude.{Option, None, Ok}
+use Rattle.std.specs.Prelude.{Option, None}
 use Rattle.zone_proto.specs.Names.{Name}
 use Rattle.zone_proto.specs.Sets.{RRset}
 use Rattle.zone_response.specs.Queries.{Zone}
-use Rattle.zone_response.specs.Responses.{end_sets, authority_sets_with}
+use Rattle.zone_response.specs.Responses.{end_sets, hashed_with, lacks_proofs_with, authority_sets_with}
 use Rattle.zone_response.specs.Steps.{End, complete, referred, missing, outside, unfollowed, too_long, failed}
 
 unsent : (ds other : Option RRset) (soa : RRset) (e : End) → end_sets ds false soa e ≡ end_sets other false soa e
@@ -17,6 +17,15 @@ unsent ds other soa too_long = refl
 unsent ds other soa failed = refl
 
 -- where the query doesn't ask for DNSSEC, the DS set of a child is of no account
-pub unsent_ds : (z : Zone) (ds : Option RRset) (signed : Bool) (soa : RRset) (made : List Name) (e : End) → authority_sets_with z (cond signed ds None) signed soa made e ≡ authority_sets_with z ds signed soa made e
-unsent_ds z ds true soa made e = refl
-unsent_ds z ds false soa made e = ap (λ (sets : List RRset). Ok (sets ++ [])) (unsent None ds soa e)
+module _ (z : Zone) (ds : Option RRset) (made : List Name) (e : End) where
+  pub unsent_ds : (signed : Bool) (soa : RRset) → authority_sets_with z (cond signed ds None) signed soa made e ≡ authority_sets_with z ds signed soa made e
+  unsent_ds true soa = refl
+  unsent_ds false soa = ap (λ (sets : List RRset). sets ++ []) (unsent None ds soa e)
+
+  pub unhashed_ds : (signed : Bool) → hashed_with z (cond signed ds None) signed made e ≡ hashed_with z ds signed made e
+  unhashed_ds true = refl
+  unhashed_ds false = refl
+
+  pub unproved_ds : (signed : Bool) → lacks_proofs_with z (cond signed ds None) signed made e ≡ lacks_proofs_with z ds signed made e
+  unproved_ds true = refl
+  unproved_ds false = refl

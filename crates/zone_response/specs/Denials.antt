@@ -1,16 +1,17 @@
 -- The sets that prove what a response says: NSEC sets (RFC 4035 section 3.1.3), or NSEC3 sets where a zone denies by hashed names (RFC 5155 section 7.2)
-use Rattle.std.specs.Prelude.{ℕ, Bool, true, List, [], ◌++◌, fold, min, option_and_then, option_to_list, Option, Some, None, Result, Ok}
+use Rattle.std.specs.Prelude.{ℕ, Bool, true, List, [], ◌∷◌, ◌++◌, flat_map, fold, min, option_and_then, option_to_list, Option, Some, None, Result}
+use Rattle.std.specs.Option.{option_map_or}
 use Rattle.zone_proto.specs.declared.error.ProtoError.{ProtoError}
 use Rattle.zone_proto.specs.declared.nx_proof_kind.NxProofKind.{NxProofKind}
 use Rattle.zone_proto.specs.declared.nx_proof_kind.NxProofKind.TheVariants as kind
 use Rattle.zone_proto.specs.HashedOwners.{owner_or_refusal}
 use Rattle.zone_proto.specs.Names.{Name, lower, same_name}
 use Rattle.zone_proto.specs.Sets.{RRset}
-use Rattle.zone_denial.specs.Nsec3Denial.{result_and_then, nsec3_denial}
+use Rattle.zone_map.specs.Wildcards.{closest_encloser}
 use Rattle.zone_denial.specs.NsecDenial.{closest_nsec}
 use Rattle.zone_lookup.specs.Runs.{with_new}
 use Rattle.zone_response.specs.declared.response.Part.TheVariants as part
-use Rattle.zone_response.specs.HashedDenials.{lack_proof}
+use Rattle.zone_response.specs.HashedDenials.{star_sets, absent_sets, present_sets, star_hashed, absent_hashed, present_hashed, hashed_by, have_owners}
 use Rattle.zone_response.specs.Queries.{Zone}
 use Rattle.zone_response.specs.Sections.{sent}
 use Rattle.zone_response.specs.Steps.{End, referred, missing}
@@ -23,45 +24,95 @@ module _ (z : Zone) where
   hashed_owner_of algorithm salt iterations x = owner_or_refusal z.origin (z.digest_of algorithm salt x iterations)
 
   -- what proves that a star may answer for a name: the NSEC set that covers the name (RFC 4035 section 3.1.3.3), or the NSEC3 set that covers the next closer name (RFC 5155 section 7.2.6)
-  abbrev pub star_proof_by : Option NxProofKind → Name → Result (List RRset) ProtoError
-  star_proof_by (Some (kind.Nsec3 algorithm salt iterations opt_out)) x = nsec3_denial z.denials (hashed_owner_of algorithm salt iterations) true x
-  star_proof_by _ x = Ok (option_to_list (closest_nsec z.denials x))
+  abbrev pub star_proof_by : Option NxProofKind → Name → List RRset
+  star_proof_by (Some (kind.Nsec3 algorithm salt iterations opt_out)) x =
+      option_map_or (star_sets z.origin z.denials (hashed_by (hashed_owner_of algorithm salt iterations)) x) (closest_encloser z.sets x) []
+  star_proof_by _ x = option_to_list (closest_nsec z.denials x)
 
-  -- what proves that a name, and the star that was asked for it, hasn't what is asked for: by NSEC, the sets of these, which list what they own, or else those that cover them (RFC 4035 sections 3.1.3.1, 3.1.3.2 and 3.1.3.4)
-  abbrev pub denial_by : Option NxProofKind → Name → Option Name → Result (List RRset) ProtoError
-  denial_by (Some (kind.Nsec3 algorithm salt iterations opt_out)) x star = lack_proof z.denials (hashed_owner_of algorithm salt iterations) x star
-  denial_by _ x star = Ok (option_to_list (closest_nsec z.denials x) ++ option_to_list (option_and_then (closest_nsec z.denials) star))
+  -- what proves that a name, and the star that was asked for it, hasn't what is asked for: by NSEC, the sets of these, which list what they own, or else those that cover them (RFC 4035 sections 3.1.3.1, 3.1.3.2 and 3.1.3.4). A star stands under the closest encloser
+  abbrev pub denial_by : Option NxProofKind → Name → Option Name → List RRset
+  denial_by (Some (kind.Nsec3 algorithm salt iterations opt_out)) x (Some (star ∷ encloser)) = absent_sets z.origin z.denials (hashed_by (hashed_owner_of algorithm salt iterations)) x encloser
+  denial_by (Some (kind.Nsec3 algorithm salt iterations opt_out)) x _ = present_sets z.origin z.denials (hashed_by (hashed_owner_of algorithm salt iterations)) x
+  denial_by _ x star = option_to_list (closest_nsec z.denials x) ++ option_to_list (option_and_then (closest_nsec z.denials) star)
 
-  abbrev pub star_proof : Name → Result (List RRset) ProtoError
+  abbrev pub star_proof : Name → List RRset
   star_proof = star_proof_by z.nx_proof_kind
 
-  abbrev pub denial : Name → Option Name → Result (List RRset) ProtoError
+  abbrev pub denial : Name → Option Name → List RRset
   denial = denial_by z.nx_proof_kind
 
   -- what proves what the end of a search says: of a name without the set that is asked for, or of a child without DS (RFC 4035 section 3.1.4, RFC 5155 section 7.2.7)
-  abbrev pub end_proof : Option RRset → End → Result (List RRset) ProtoError
+  abbrev pub end_proof : Option RRset → End → List RRset
   end_proof ds (missing x star there) = denial x star
   end_proof None (referred c) = denial (lower c.owner) None
-  end_proof (Some ds) (referred c) = Ok []
-  end_proof ds _ = Ok []
+  end_proof (Some ds) (referred c) = []
+  end_proof ds _ = []
 
 -- ---- of all
 
 abbrev pub same_owner : RRset → RRset → Bool
 same_owner r s = same_name r.owner s.owner
 
--- sets and more sets, each once; or the first refusal
-abbrev pub together : Result (List RRset) ProtoError → Result (List RRset) ProtoError → Result (List RRset) ProtoError
-together sets more = result_and_then (λ ss. result_and_then (λ ns. Ok (fold (with_new same_owner) ss ns)) more) sets
+-- sets and more sets, each once
+abbrev pub together : List RRset → List RRset → List RRset
+together sets more = fold (with_new same_owner) sets more
 
 -- sets, and those that prove that a star may answer for a name
-abbrev pub with_star_proof : Zone → Result (List RRset) ProtoError → Name → Result (List RRset) ProtoError
+abbrev pub with_star_proof : Zone → List RRset → Name → List RRset
 with_star_proof z sets x = together sets (star_proof z x)
 
 -- the sets that prove that a star may answer for each name for which one did, and what the end says
-abbrev pub proofs : Zone → Option RRset → List Name → End → Result (List RRset) ProtoError
-proofs z ds made end = together (fold (with_star_proof z) (Ok []) made) (end_proof z ds end)
+abbrev pub proofs : Zone → Option RRset → List Name → End → List RRset
+proofs z ds made end = together (fold (with_star_proof z) [] made) (end_proof z ds end)
 
 -- such a set goes out with the lesser of its TTL and of that of a negative response (RFC 9077 section 3)
 abbrev pub sent_proof : ℕ → RRset → RRset
 sent_proof ttl s = sent part.Signed (min s.ttl ttl) s
+
+-- ---- whether they can be found: each name that is hashed for them has a hashed owner
+
+module _ (z : Zone) where
+  -- these have one, where a zone denies by hashed names
+  abbrev pub have_owners_by : Option NxProofKind → List Name → Bool
+  have_owners_by (Some (kind.Nsec3 algorithm salt iterations opt_out)) names = have_owners (hashed_owner_of z algorithm salt iterations) names
+  have_owners_by _ names = true
+
+  -- the names that are hashed for a name for which a star answered
+  abbrev pub star_hashed_by : Option NxProofKind → Name → List Name
+  star_hashed_by (Some (kind.Nsec3 algorithm salt iterations opt_out)) x = option_map_or (star_hashed x) (closest_encloser z.sets x) []
+  star_hashed_by _ x = []
+
+  -- for a name without what is asked for
+  abbrev pub denial_hashed_by : Option NxProofKind → Name → Option Name → List Name
+  denial_hashed_by (Some (kind.Nsec3 algorithm salt iterations opt_out)) x (Some (star ∷ encloser)) = absent_hashed z.origin z.denials (hashed_by (hashed_owner_of z algorithm salt iterations)) x encloser
+  denial_hashed_by (Some (kind.Nsec3 algorithm salt iterations opt_out)) x _ = present_hashed z.origin z.denials (hashed_by (hashed_owner_of z algorithm salt iterations)) x
+  denial_hashed_by _ x star = []
+
+  abbrev pub star_hashed_names : Name → List Name
+  star_hashed_names = star_hashed_by z.nx_proof_kind
+
+  abbrev pub denial_hashed : Name → Option Name → List Name
+  denial_hashed = denial_hashed_by z.nx_proof_kind
+
+  -- for the end of a search
+  abbrev pub end_hashed : Option RRset → End → List Name
+  end_hashed ds (missing x star there) = denial_hashed x star
+  end_hashed None (referred c) = denial_hashed (lower c.owner) None
+  end_hashed (Some ds) (referred c) = []
+  end_hashed ds _ = []
+
+  -- for all
+  abbrev pub hashed_names : Option RRset → List Name → End → List Name
+  hashed_names ds made end = flat_map star_hashed_names made ++ end_hashed ds end
+
+  abbrev pub star_has_owners : Name → Bool
+  star_has_owners x = have_owners_by z.nx_proof_kind (star_hashed_names x)
+
+  abbrev pub denial_has_owners : Name → Option Name → Bool
+  denial_has_owners x star = have_owners_by z.nx_proof_kind (denial_hashed x star)
+
+  abbrev pub end_has_owners : Option RRset → End → Bool
+  end_has_owners ds end = have_owners_by z.nx_proof_kind (end_hashed ds end)
+
+  abbrev pub is_provable : Option RRset → List Name → End → Bool
+  is_provable ds made end = have_owners_by z.nx_proof_kind (hashed_names ds made end)

@@ -1,19 +1,16 @@
 -- The response of an authoritative server to a query
-use Rattle.std.specs.Prelude.{◌≡◌, ℕ, Bool, true, false, ◌||◌, not, cond, List, [], ◌∷◌, ◌++◌, ◌==◌, length, map, min, Option, Some, None, MatchOption, MatchResult, Result, Ok, option_to_list}
-use Rattle.std.specs.Bool.{MatchBool}
+use Rattle.std.specs.Prelude.{◌≡◌, ℕ, Bool, true, false, ◌&&◌, ◌||◌, not, cond, List, [], ◌∷◌, ◌++◌, ◌==◌, length, map, min, Option, Some, None, option_to_list}
 use Rattle.std.specs.Option.{option_map_or}
-use Rattle.zone_proto.specs.declared.error.ProtoError.{ProtoError}
 use Rattle.zone_proto.specs.declared.response_code.ResponseCode.{ResponseCode}
 use Rattle.zone_proto.specs.declared.response_code.ResponseCode.TheVariants as code
 use Rattle.zone_proto.specs.Names.{Name, lower, is_at_or_above}
 use Rattle.zone_proto.specs.Sets.{RRset}
 use Rattle.zone_proto.specs.Types.{IN, SOA, DS}
 use Rattle.zone_map.specs.Zones.{Sets, set_at}
-use Rattle.zone_denial.specs.Nsec3Denial.{result_and_then}
 use Rattle.zone_lookup.specs.Flattening.{last_set}
 use Rattle.zone_lookup.specs.StartOfAuthority.{first_soa}
 use Rattle.zone_response.specs.declared.response.Part.TheVariants as part
-use Rattle.zone_response.specs.Denials.{proofs, sent_proof}
+use Rattle.zone_response.specs.Denials.{proofs, hashed_names, is_provable, sent_proof}
 use Rattle.zone_response.specs.Additional.{beside, sibling_glue, glue}
 use Rattle.zone_response.specs.Paths.{Path, path}
 use Rattle.zone_response.specs.Queries.{Zone, Query, Inquiry, inquiry}
@@ -65,16 +62,29 @@ end_sets ds signed soa (missing x star there) = sent (part_for signed) (negative
 end_sets ds signed soa (referred c) = referral_sets ds signed c
 end_sets ds signed soa _ = []
 
--- the sets that prove what is said, where the query asks for DNSSEC; or why a name has no hashed owner of which something is to be proved
-abbrev pub proof_sets : Zone → Option RRset → Bool → List Name → End → Result (List RRset) ProtoError
-proof_sets z ds signed made end = cond signed (proofs z ds made end) (Ok [])
+-- the sets that prove what is said, where the query asks for DNSSEC
+abbrev pub proof_sets : Zone → Option RRset → Bool → List Name → End → List RRset
+proof_sets z ds signed made end = cond signed (proofs z ds made end) []
+
+-- the names that are hashed for them, and whether one of these has no hashed owner, so that they can't be found
+abbrev pub hashed_with : Zone → Option RRset → Bool → List Name → End → List Name
+hashed_with z ds signed made end = cond signed (hashed_names z ds made end) []
+
+abbrev pub lacks_proofs_with : Zone → Option RRset → Bool → List Name → End → Bool
+lacks_proofs_with z ds signed made end = signed && not (is_provable z ds made end)
 
 -- the authority section, where the child that is referred to has this DS set
-abbrev pub authority_sets_with : Zone → Option RRset → Bool → RRset → List Name → End → Result (List RRset) ProtoError
-authority_sets_with z ds signed soa made end = result_and_then (λ sets. Ok (end_sets ds signed soa end ++ map (sent_proof (negative_ttl soa)) sets)) (proof_sets z ds signed made end)
+abbrev pub authority_sets_with : Zone → Option RRset → Bool → RRset → List Name → End → List RRset
+authority_sets_with z ds signed soa made end = end_sets ds signed soa end ++ map (sent_proof (negative_ttl soa)) (proof_sets z ds signed made end)
 
-abbrev pub authority_sets : Zone → Bool → RRset → List Name → End → Result (List RRset) ProtoError
+abbrev pub authority_sets : Zone → Bool → RRset → List Name → End → List RRset
 authority_sets z signed soa made end = authority_sets_with z (ds_at z.sets end) signed soa made end
+
+abbrev pub hashed_for : Zone → Bool → List Name → End → List Name
+hashed_for z signed made end = hashed_with z (ds_at z.sets end) signed made end
+
+abbrev pub lacks_proofs : Zone → Bool → List Name → End → Bool
+lacks_proofs z signed made end = lacks_proofs_with z (ds_at z.sets end) signed made end
 
 -- beside the last set of an answer
 abbrev pub beside_last : Inquiry → List RRset → List RRset
@@ -95,8 +105,6 @@ abbrev pub left_at : End → Option Name
 left_at (outside x) = Some x
 left_at _ = None
 
--- ---- the whole
-
 -- the response of a path, with these sets in its authority section
 pub record IsResponseBy (q : Inquiry) (p : Path) (sets : List RRset) (r : Sections) : Type 0 where
   pub code : r.code ≡ code_at p.end
@@ -107,18 +115,19 @@ pub record IsResponseBy (q : Inquiry) (p : Path) (sets : List RRset) (r : Sectio
   pub glue : r.glue ≡ glue_at q.sets p.end
   pub left_at : r.left_at ≡ left_at p.end
 
--- the response of a path that doesn't fail: where a name has no hashed owner of which something is to be proved, it is the code ServFail alone
-abbrev pub IsProvenResponse : Zone → Inquiry → RRset → Path → Sections → Type 0
-IsProvenResponse z q soa p r = MatchResult (authority_sets z q.signed soa p.made p.end) (λ sets. IsResponseBy q p sets r) (λ refusal. r ≡ bare code.ServFail)
+-- ---- what comes of a query
 
--- a search fails at what this server doesn't answer: at a DNAME set without a target, and where an ANAME stands in for addresses that the zone can't tell, or would have to sign
-abbrev pub fails : End → Bool
-fails failed = true
-fails _ = false
-
--- the response of a path, in a zone with this SOA set
-abbrev pub IsResponseAlong : Zone → Inquiry → RRset → Path → Sections → Type 0
-IsResponseAlong z q soa p r = MatchBool (fails p.end) (r ≡ bare code.ServFail) (IsProvenResponse z q soa p r)
+pub data Outcome : Type 0 where
+  -- it isn't searched
+  refused : ResponseCode → Outcome
+  -- the zone has no SOA, and so is none
+  without_soa : Outcome
+  -- the search came to what this server doesn't answer
+  failing : Outcome
+  -- a name has no hashed owner of which something is to be proved
+  unprovable : Outcome
+  -- the search took this path, and these sets stand in the authority section
+  answered : Path → List RRset → Outcome
 
 -- the code of a query that isn't searched: of another class than the zone's or outside the zone; and of a type that is no data
 abbrev pub refusal : Name → Query → Option ResponseCode
@@ -126,10 +135,41 @@ refusal origin q =
     cond (not (q.class == IN) || not (is_at_or_above origin q.name)) (Some code.Refused)
     (cond (is_no_data q.record_type) (Some code.NotImp) None)
 
--- a zone without SOA has failed, and else the path from the name that is asked for tells
-abbrev pub IsSearched : Zone → Inquiry → Name → Sections → Type 0
-IsSearched z q x r = MatchOption (set_at z.sets z.origin SOA) (r ≡ bare code.ServFail) (λ soa. IsResponseAlong z q soa (path q x) r)
+-- a search fails at what this server doesn't answer: at a DNAME set without a target, and where an ANAME stands in for addresses that the zone can't tell, or would have to sign
+abbrev pub fails : End → Bool
+fails failed = true
+fails _ = false
 
--- the response to a query: a refusal is its code alone
+-- along a path that doesn't fail, in a zone with this SOA set
+abbrev pub outcome_proven : Zone → Bool → RRset → Path → Outcome
+outcome_proven z signed soa p = cond (lacks_proofs z signed p.made p.end) unprovable (answered p (authority_sets z signed soa p.made p.end))
+
+-- along a path
+abbrev pub outcome_along : Zone → Bool → RRset → Path → Outcome
+outcome_along z signed soa p = cond (fails p.end) failing (outcome_proven z signed soa p)
+
+-- of a search for x
+abbrev pub outcome_of : Zone → Inquiry → Name → Outcome
+outcome_of z q x = option_map_or (λ soa. outcome_along z q.signed soa (path q x)) (set_at z.sets z.origin SOA) without_soa
+
+abbrev pub outcome : Zone → Query → Outcome
+outcome z q = option_map_or refused (refusal z.origin q) (outcome_of z (inquiry z q) q.name)
+
+-- ---- the response
+
+-- of an outcome; a refusal is its code alone, and so is ServFail where the zone can't answer
+abbrev pub IsResponseTo : Inquiry → Outcome → Sections → Type 0
+IsResponseTo q (refused c) r = r ≡ bare c
+IsResponseTo q (answered p sets) r = IsResponseBy q p sets r
+IsResponseTo q _ r = r ≡ bare code.ServFail
+
 abbrev pub IsResponse : Zone → Query → Sections → Type 0
-IsResponse z q r = MatchOption (refusal z.origin q) (IsSearched z (inquiry z q) q.name r) (λ c. r ≡ bare c)
+IsResponse z q r = IsResponseTo (inquiry z q) (outcome z q) r
+
+-- ---- the names that are hashed for it
+
+abbrev pub path_hashed : Zone → Bool → Path → List Name
+path_hashed z signed p = hashed_for z signed p.made p.end
+
+abbrev pub query_hashed : Zone → Query → List Name
+query_hashed z q = path_hashed z q.signed (path (inquiry z q) q.name)

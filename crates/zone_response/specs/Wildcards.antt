@@ -1,4 +1,4 @@
--- The source of synthesis of a name (RFC 4592 section 3.3.1), where a name that begins with `*` is a name like others (section 3.3)
+-- The source of synthesis of a name (RFC 4592 section 3.3.1), where a name that begins with `*` is a name like others (section 2.3)
 use Rattle.std.specs.Prelude.{Bool, false, ◌||◌, cond, Option, None, option_map}
 use Rattle.std.specs.Option.{option_map_or}
 use Rattle.zone_proto.specs.Names.{Name, star_under}

@@ -1,8 +1,8 @@
 //! What a query is answered with.
-ghost use Rattle.std.specs.Prelude.{◌≡◌, ◌≢◌, ◌&&◌, is_some, option_copied, IfOk, IsOkUnless};
-ghost use Rattle.zone_response.specs.Paths.{path_of};
+ghost use Rattle.std.specs.Prelude.{◌≡◌, ◌≢◌, ◌≤◌, ◌+◌, ◌&&◌, length, is_some, option_copied, IfOk, IsOkUnless};
+ghost use Rattle.zone_response.specs.Paths.{path, path_of};
 ghost use Rattle.zone_response.specs.Queries.{zone_of, query_of, inquiry_of};
-ghost use Rattle.zone_response.specs.Responses.{bare, refusal, IsResponse, IsSearched, IsResponseAlong, IsProvenResponse, IsResponseBy};
+ghost use Rattle.zone_response.specs.Responses.{bare, refusal, outcome_of, outcome_along, outcome_proven, path_hashed, query_hashed, IsResponse, IsResponseTo, IsResponseBy};
 ghost use Rattle.zone_response.specs.Sections.{sections, sent_sets};
 
 use crate::names::is_at_or_above;
@@ -16,6 +16,7 @@ use crate::steps::Asked;
 use std::alloc::Global;
 use zone_handler::{LookupError, LookupOptions};
 use zone_lookup::InnerInMemory;
+use zone_map::Counter;
 use zone_proto::{
     DNSClass, LowerName, Nsec3Hash, RecordSet, RecordType, ResponseCode, RrKey, Signer,
 };
@@ -57,6 +58,30 @@ pub fn respond<'z, S: Signer, H: Nsec3Hash>(
         (query_of question.entry options.dnssec_ok) (sections r)) }
     ensures err { IsOkUnless result LookupError.Memory }
 {
+    respond_counted(zone, question, options, &mut Counter::new())
+}
+
+/// The response of [`respond`], and how many names are hashed for it: each adds one to `hashes`. Without DNSSEC there are none, nor
+/// are there where the zone doesn't deny by NSEC3. Else it is one for each answer of a wildcard, and for the end of the search
+/// three at most for a name error and for a wildcard without the set that is asked for, and one for absent data and for a
+/// referral without DS. Names that opt-out leaves out of the chain cost more: one for each ancestor of the name that exists
+/// without an NSEC3 set, and for a name of its own without one, two more.
+pub fn respond_counted<'z, S: Signer, H: Nsec3Hash>(
+    zone: ServedZone<'z, S, H>,
+    question: Question<'_>,
+    options: LookupOptions,
+    hashes: &mut Counter,
+) -> Result<Response<'z>, LookupError>
+    ensures response { IfOk result
+        (λ r. IsResponse (zone_of S.signature_of H.digest_of zone.entry)
+        (query_of question.entry options.dnssec_ok) (sections r)) }
+    ensures counted { hashes.new
+        ≤ hashes.old
+        + length
+        (query_hashed (zone_of S.signature_of H.digest_of zone.entry)
+        (query_of question.entry options.dnssec_ok)) }
+    ensures err { IsOkUnless result LookupError.Memory }
+{
     let asked = Asked {
         origin: zone.origin,
         record_type: question.query_type,
@@ -67,7 +92,7 @@ pub fn respond<'z, S: Signer, H: Nsec3Hash>(
     let name = question.name;
     match refusal(question.query_class, asked, name) {
         Some(code) => Ok(bare(name.alloc(), code)),
-        None => searched(&zone, asked, name),
+        None => searched(&zone, asked, name, hashes),
     }
 }
 
@@ -83,16 +108,30 @@ fn searched<'z, S: Signer, H: Nsec3Hash>(
     zone: &ServedZone<'z, S, H>,
     asked: Asked<'_>,
     name: &LowerName,
+    hashes: &mut Counter,
 ) -> Result<Response<'z>, LookupError>
     requires { asked.origin.now ≡ zone.now.origin.now }
     ensures response { IfOk result
-        (λ r. IsSearched (zone_of S.signature_of H.digest_of zone.now)
-        (inquiry_of S.signature_of asked.entry zone.now.inner.now) name.now (sections r)) }
+        (λ r. IsResponseTo (inquiry_of S.signature_of asked.entry zone.now.inner.now)
+        (outcome_of (zone_of S.signature_of H.digest_of zone.now)
+        (inquiry_of S.signature_of asked.entry zone.now.inner.now) name.now)
+        (sections r)) }
+    ensures counted { hashes.new
+        ≤ hashes.old
+        + length
+        (path_hashed (zone_of S.signature_of H.digest_of zone.now) asked.entry.signed
+        (path (inquiry_of S.signature_of asked.entry zone.now.inner.now) name.now)) }
     ensures err { IsOkUnless result LookupError.Memory }
 {
     let apex = read_apex(zone.inner, zone.origin)?;
     match apex.one {
-        Some(soa) => along(zone, asked, soa, walk(zone.inner, asked, apex, name)?),
+        Some(soa) => along(
+            zone,
+            asked,
+            soa,
+            walk(zone.inner, asked, apex, name)?,
+            hashes,
+        ),
         None => Ok(bare(name.alloc(), ResponseCode::ServFail)),
     }
 }
@@ -103,17 +142,23 @@ fn along<'z, S: Signer, H: Nsec3Hash>(
     asked: Asked<'_>,
     soa: &'z RecordSet,
     path: Path<'z>,
+    hashes: &mut Counter,
 ) -> Result<Response<'z>, LookupError>
     ensures response { IfOk result
-        (λ r. IsResponseAlong (zone_of S.signature_of H.digest_of zone.now)
-        (inquiry_of S.signature_of asked.entry zone.now.inner.now) soa.now (path_of path.entry)
-        (sections r)) }
+        (λ r. IsResponseTo (inquiry_of S.signature_of asked.entry zone.now.inner.now)
+        (outcome_along (zone_of S.signature_of H.digest_of zone.now) asked.entry.signed soa.now
+        (path_of path.entry)) (sections r)) }
+    ensures counted { hashes.new
+        ≤ hashes.old
+        + length
+        (path_hashed (zone_of S.signature_of H.digest_of zone.now) asked.entry.signed
+        (path_of path.entry)) }
     ensures err { IsOkUnless result LookupError.Memory }
 {
     if fails(&path.end) {
         return Ok(bare(*path.answers.allocator(), ResponseCode::ServFail));
     }
-    proven(zone, asked, soa, path)
+    proven(zone, asked, soa, path, hashes)
 }
 
 /// The response of a path that doesn't fail.
@@ -122,14 +167,27 @@ fn proven<'z, S: Signer, H: Nsec3Hash>(
     asked: Asked<'_>,
     soa: &'z RecordSet,
     path: Path<'z>,
+    hashes: &mut Counter,
 ) -> Result<Response<'z>, LookupError>
     ensures response { IfOk result
-        (λ r. IsProvenResponse (zone_of S.signature_of H.digest_of zone.now)
-        (inquiry_of S.signature_of asked.entry zone.now.inner.now) soa.now (path_of path.entry)
-        (sections r)) }
+        (λ r. IsResponseTo (inquiry_of S.signature_of asked.entry zone.now.inner.now)
+        (outcome_proven (zone_of S.signature_of H.digest_of zone.now) asked.entry.signed soa.now
+        (path_of path.entry)) (sections r)) }
+    ensures counted { hashes.new
+        ≤ hashes.old
+        + length
+        (path_hashed (zone_of S.signature_of H.digest_of zone.now) asked.entry.signed
+        (path_of path.entry)) }
     ensures err { IsOkUnless result LookupError.Memory }
 {
-    match authorities(zone, asked.signed, soa, path.made.as_slice(), &path.end) {
+    match authorities(
+        zone,
+        asked.signed,
+        soa,
+        path.made.as_slice(),
+        &path.end,
+        hashes,
+    ) {
         Ok(authorities) => by_path(zone.inner, asked, path, authorities),
         Err(error) => unproven(path, error),
     }

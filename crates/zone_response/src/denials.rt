@@ -1,48 +1,60 @@
 //! The NSEC or NSEC3 sets that prove what a response says.
-ghost use Rattle.std.specs.Prelude.{◌≡◌, ◌⊎◌, ◌++◌, fold, map, Ok, IfErr, IfOk, IsErr, OnOk, IsOkUnless, option_and_then, option_copied, option_to_list};
+ghost use Rattle.std.specs.Prelude.{◌≡◌, ◌≤◌, ◌+◌, ◌⊎◌, ◌++◌, false, true, fold, length, map, IfErr, IfOk, OnOk, IsOkUnless, option_and_then, option_copied, option_to_list};
 ghost use Rattle.std.specs.List.{list_any};
 ghost use Rattle.zone_proto.specs.Names.{same_name};
 ghost use Rattle.zone_denial.specs.NsecDenial.{closest_nsec};
 ghost use Rattle.zone_lookup.specs.Runs.{with_new};
-ghost use Rattle.zone_response.specs.Denials.{star_proof, denial, end_proof, same_owner, together, with_star_proof, proofs, sent_proof};
-ghost use Rattle.zone_response.specs.HashedDenials.{AsksByHash};
+ghost use Rattle.zone_response.specs.Denials.{star_proof, star_hashed_names, star_has_owners, denial, denial_hashed, denial_has_owners, end_proof, end_hashed, end_has_owners, same_owner, with_star_proof, proofs, hashed_names, is_provable, sent_proof};
+ghost use Rattle.zone_response.specs.HashedDenials.{AsksByHash, unless_root};
 ghost use Rattle.zone_response.specs.Queries.{zone_of};
 ghost use Rattle.zone_response.specs.Sections.{sent_sets};
 ghost use Rattle.zone_response.specs.Steps.{end_of};
 
-use crate::hashed_denials::{no_data_proof, query_denial};
+use crate::hashed_denials::{absent_sets, present_sets, star_sets};
 use crate::lists::{lend_for, push};
 use crate::question::ServedZone;
 use crate::response::{Part, Sent};
 use crate::steps::End;
+use crate::wildcards::star_of;
 use zone_denial::closest::closest_nsec;
 use zone_handler::{LookupError, Nsec3QueryInfo};
-use zone_map::RecordMap;
+use zone_map::{Counter, RecordMap};
 use zone_proto::{LowerName, Nsec3Hash, NxProofKind, ProtoError, RecordSet, RecordType, Signer};
 
 /// The sets that prove that a star may answer for each name for which one did, and what the end says; each set once. `ds` is the DS
-/// set of the child that is referred to, if it owns one. Refused by `Memory`, and as the hash of a zone that denies by NSEC3
-/// refuses a name.
+/// set of the child that is referred to, if it owns one. It counts the names that it hashes. Refused by `Memory`, and as the hash
+/// of a zone that denies by NSEC3 refuses a name.
 pub(crate) fn proofs<'z, S: Signer, H: Nsec3Hash>(
     zone: &ServedZone<'z, S, H>,
     ds: Option<&RecordSet>,
     made: &[LowerName],
     end: &End<'_>,
+    hashes: &mut Counter,
 ) -> Result<Vec<&'z RecordSet>, LookupError>
     ensures ok { IfOk result
-        (λ sets. proofs (zone_of S.signature_of H.digest_of zone.now) (option_copied ds.entry)
+        (λ sets. map (λ s. s.now) sets.items
+        ≡ proofs (zone_of S.signature_of H.digest_of zone.now) (option_copied ds.entry) made.now
+        (end_of end.now)) }
+    ensures hashed { OnOk result
+        (is_provable (zone_of S.signature_of H.digest_of zone.now) (option_copied ds.entry)
         made.now (end_of end.now)
-        ≡ Ok (map (λ s. s.now) sets.items)) }
+        ≡ true) }
+    ensures counted { hashes.new
+        ≤ hashes.old
+        + length
+        (hashed_names (zone_of S.signature_of H.digest_of zone.now) (option_copied ds.entry)
+        made.now (end_of end.now)) }
     ensures err { IfErr result
         (λ e. (e ≡ LookupError.Memory)
-        ⊎ IsErr (proofs (zone_of S.signature_of H.digest_of zone.now) (option_copied ds.entry)
-        made.now (end_of end.now))) }
+        ⊎ (is_provable (zone_of S.signature_of H.digest_of zone.now) (option_copied ds.entry)
+        made.now (end_of end.now)
+        ≡ false)) }
 {
     let mut sets = Vec::new(zone.origin.alloc());
     for name in made {
-        add_star_proof(zone, name, &mut sets)?;
+        add_star_proof(zone, name, &mut sets, hashes)?;
     }
-    let more = end_proof(zone, ds, end)?;
+    let more = end_proof(zone, ds, end, hashes)?;
     add_all(&mut sets, more)?;
     Ok(sets)
 }
@@ -52,17 +64,23 @@ fn add_star_proof<'z, S: Signer, H: Nsec3Hash>(
     zone: &ServedZone<'z, S, H>,
     name: &LowerName,
     sets: &mut Vec<&'z RecordSet>,
+    hashes: &mut Counter,
 ) -> Result<(), LookupError>
     ensures ok { OnOk result
-        (with_star_proof (zone_of S.signature_of H.digest_of zone.now)
-        (Ok (map (λ s. s.now) sets.old.items)) name.now
-        ≡ Ok (map (λ s. s.now) sets.new.items)) }
+        (map (λ s. s.now) sets.new.items
+        ≡ with_star_proof (zone_of S.signature_of H.digest_of zone.now)
+        (map (λ s. s.now) sets.old.items) name.now) }
+    ensures hashed { OnOk result
+        (star_has_owners (zone_of S.signature_of H.digest_of zone.now) name.now ≡ true) }
+    ensures counted { hashes.new
+        ≤ hashes.old
+        + length
+        (star_hashed_names (zone_of S.signature_of H.digest_of zone.now) name.now) }
     ensures err { IfErr result
         (λ e. (e ≡ LookupError.Memory)
-        ⊎ IsErr (with_star_proof (zone_of S.signature_of H.digest_of zone.now)
-        (Ok (map (λ s. s.now) sets.old.items)) name.now)) }
+        ⊎ (star_has_owners (zone_of S.signature_of H.digest_of zone.now) name.now ≡ false)) }
 {
-    let more = star_proof(zone, name)?;
+    let more = star_proof(zone, name, hashes)?;
     Ok(add_all(sets, more)?)
 }
 
@@ -70,22 +88,26 @@ fn add_star_proof<'z, S: Signer, H: Nsec3Hash>(
 fn star_proof<'z, S: Signer, H: Nsec3Hash>(
     zone: &ServedZone<'z, S, H>,
     name: &LowerName,
+    hashes: &mut Counter,
 ) -> Result<Vec<&'z RecordSet>, LookupError>
     ensures ok { IfOk result
-        (λ sets. star_proof (zone_of S.signature_of H.digest_of zone.now) name.now
-        ≡ Ok (map (λ s. s.now) sets.items)) }
+        (λ sets. map (λ s. s.now) sets.items
+        ≡ star_proof (zone_of S.signature_of H.digest_of zone.now) name.now) }
+    ensures hashed { OnOk result
+        (star_has_owners (zone_of S.signature_of H.digest_of zone.now) name.now ≡ true) }
+    ensures counted { hashes.new
+        ≤ hashes.old
+        + length
+        (star_hashed_names (zone_of S.signature_of H.digest_of zone.now) name.now) }
     ensures err { IfErr result
         (λ e. (e ≡ LookupError.Memory)
-        ⊎ IsErr (star_proof (zone_of S.signature_of H.digest_of zone.now) name.now)) }
+        ⊎ (star_has_owners (zone_of S.signature_of H.digest_of zone.now) name.now ≡ false)) }
 {
     match hashed_query(zone.nx_proof_kind, name) {
-        Some(query) => {
-            let starred = Nsec3QueryInfo {
-                has_wildcard_match: true,
-                ..query
-            };
-            query_denial(zone, starred)
-        }
+        Some(query) => match star_of(zone.inner, name)? {
+            Some(star) => star_sets(zone, query, &star, hashes),
+            None => Ok(Vec::new(zone.origin.alloc())),
+        },
         None => nsec_proof(zone.denials, name, None),
     }
 }
@@ -95,21 +117,32 @@ fn end_proof<'z, S: Signer, H: Nsec3Hash>(
     zone: &ServedZone<'z, S, H>,
     ds: Option<&RecordSet>,
     end: &End<'_>,
+    hashes: &mut Counter,
 ) -> Result<Vec<&'z RecordSet>, LookupError>
     ensures ok { IfOk result
-        (λ sets. end_proof (zone_of S.signature_of H.digest_of zone.now) (option_copied ds.entry)
+        (λ sets. map (λ s. s.now) sets.items
+        ≡ end_proof (zone_of S.signature_of H.digest_of zone.now) (option_copied ds.entry)
+        (end_of end.now)) }
+    ensures hashed { OnOk result
+        (end_has_owners (zone_of S.signature_of H.digest_of zone.now) (option_copied ds.entry)
         (end_of end.now)
-        ≡ Ok (map (λ s. s.now) sets.items)) }
+        ≡ true) }
+    ensures counted { hashes.new
+        ≤ hashes.old
+        + length
+        (end_hashed (zone_of S.signature_of H.digest_of zone.now) (option_copied ds.entry)
+        (end_of end.now)) }
     ensures err { IfErr result
         (λ e. (e ≡ LookupError.Memory)
-        ⊎ IsErr (end_proof (zone_of S.signature_of H.digest_of zone.now) (option_copied ds.entry)
-        (end_of end.now))) }
+        ⊎ (end_has_owners (zone_of S.signature_of H.digest_of zone.now) (option_copied ds.entry)
+        (end_of end.now)
+        ≡ false)) }
 {
     match end {
-        End::Missing(missing) => denial(zone, &missing.name, missing.star.as_ref()),
+        End::Missing(missing) => denial(zone, &missing.name, missing.star.as_ref(), hashes),
         End::Referred(cut) => match ds {
             Some(_) => Ok(Vec::new(zone.origin.alloc())),
-            None => denial(zone, &LowerName::new(cut.name())?, None),
+            None => denial(zone, &LowerName::new(cut.name())?, None, hashes),
         },
         _ => Ok(Vec::new(zone.origin.alloc())),
     }
@@ -120,26 +153,47 @@ fn denial<'z, S: Signer, H: Nsec3Hash>(
     zone: &ServedZone<'z, S, H>,
     name: &LowerName,
     star: Option<&LowerName>,
+    hashes: &mut Counter,
 ) -> Result<Vec<&'z RecordSet>, LookupError>
     ensures ok { IfOk result
-        (λ sets. denial (zone_of S.signature_of H.digest_of zone.now) name.now
+        (λ sets. map (λ s. s.now) sets.items
+        ≡ denial (zone_of S.signature_of H.digest_of zone.now) name.now
+        (option_copied star.entry)) }
+    ensures hashed { OnOk result
+        (denial_has_owners (zone_of S.signature_of H.digest_of zone.now) name.now
         (option_copied star.entry)
-        ≡ Ok (map (λ s. s.now) sets.items)) }
+        ≡ true) }
+    ensures counted { hashes.new
+        ≤ hashes.old
+        + length
+        (denial_hashed (zone_of S.signature_of H.digest_of zone.now) name.now
+        (option_copied star.entry)) }
     ensures err { IfErr result
         (λ e. (e ≡ LookupError.Memory)
-        ⊎ IsErr (denial (zone_of S.signature_of H.digest_of zone.now) name.now
-        (option_copied star.entry))) }
+        ⊎ (denial_has_owners (zone_of S.signature_of H.digest_of zone.now) name.now
+        (option_copied star.entry)
+        ≡ false)) }
 {
     match hashed_query(zone.nx_proof_kind, name) {
-        Some(query) => match star {
-            Some(_) => query_denial(zone, query),
-            None => no_data_proof(zone, query),
+        Some(query) => match below_root(star) {
+            Some(star) => absent_sets(zone, query, star, hashes),
+            None => present_sets(zone, query, hashes),
         },
         None => nsec_proof(zone.denials, name, star),
     }
 }
 
-/// What is asked of a zone that denies by NSEC3, of this kind, about a name for which no wildcard answered.
+/// A name that isn't the root, as each star.
+fn below_root(star: Option<&LowerName>) -> Option<&LowerName>
+    ensures { option_copied result ≡ option_and_then unless_root (option_copied star.entry) }
+{
+    match star {
+        Some(star) if !star.is_root() => Some(star),
+        _ => None,
+    }
+}
+
+/// What is asked of a zone that denies by NSEC3, of this kind, about a name.
 fn hashed_query<'q>(
     kind: Option<&'q NxProofKind>,
     name: &'q LowerName,
@@ -158,6 +212,7 @@ fn hashed_query<'q>(
             qname: name,
             // Nothing depends on the type.
             qtype: RecordType::NSEC3,
+            // And nothing on this.
             has_wildcard_match: false,
             algorithm: *algorithm,
             salt: salt.as_slice(),

@@ -11,6 +11,7 @@
 mod additional;
 mod aname;
 mod answering;
+mod covering;
 mod cursor;
 mod denials;
 mod descent;
@@ -21,6 +22,7 @@ mod lists;
 mod names;
 mod node_sets;
 mod nodes;
+mod owner_order;
 mod paths;
 mod query_types;
 mod question;
@@ -29,6 +31,6 @@ mod sections;
 mod steps;
 mod wildcards;
 
-pub use answering::respond;
+pub use answering::{respond, respond_counted};
 pub use question::{Question, ServedZone};
 pub use response::{Part, Response, Sent};

@@ -1,6 +1,6 @@
 //! The parts of a response by how its search ends.
-ghost use Rattle.std.specs.Prelude.{◌≡◌, ◌⊎◌, ◌++◌, None, cond, map, Ok, IfOk, IfErr, IsErr, OnOk, IsOkUnless, option_copied};
-ghost use Rattle.zone_response.specs.Responses.{code_at, is_authority, negative_ttl, ds_at, referral_sets, end_sets, proof_sets, authority_sets, authority_sets_with, beside_last, additional_sets, glue_at, left_at, fails};
+ghost use Rattle.std.specs.Prelude.{◌≡◌, ◌≤◌, ◌+◌, ◌⊎◌, ◌++◌, false, true, None, cond, length, map, IfOk, IfErr, OnOk, IsOkUnless, option_copied};
+ghost use Rattle.zone_response.specs.Responses.{code_at, is_authority, negative_ttl, ds_at, referral_sets, end_sets, proof_sets, lacks_proofs, lacks_proofs_with, hashed_for, hashed_with, authority_sets, authority_sets_with, beside_last, additional_sets, glue_at, left_at, fails};
 ghost use Rattle.zone_response.specs.Additional.{beside};
 ghost use Rattle.zone_response.specs.Queries.{inquiry_of, zone_of};
 ghost use Rattle.zone_response.specs.Sections.{sent_set, sent_sets};
@@ -15,6 +15,7 @@ use crate::steps::{Asked, End, part_for};
 use zone_handler::LookupError;
 use zone_lookup::InnerInMemory;
 use zone_lookup::start_of_authority::first_soa;
+use zone_map::Counter;
 use zone_proto::{
     LowerName, Nsec3Hash, ProtoError, RecordSet, RecordType, ResponseCode, RrKey, Signer,
 };
@@ -73,25 +74,37 @@ fn negative_ttl(soa: &RecordSet) -> u32
     }
 }
 
-/// The authority section. Refused by `Memory`, and as the hash of a zone that denies by NSEC3 refuses a name.
+/// The authority section. It counts the names that are hashed for it. Refused by `Memory`, and as the hash of a zone that denies by
+/// NSEC3 refuses a name.
 pub(crate) fn authorities<'z, S: Signer, H: Nsec3Hash>(
     zone: &ServedZone<'z, S, H>,
     signed: bool,
     soa: &'z RecordSet,
     made: &[LowerName],
     end: &End<'z>,
+    hashes: &mut Counter,
 ) -> Result<Vec<Sent<'z>>, LookupError>
     ensures ok { IfOk result
-        (λ list. authority_sets (zone_of S.signature_of H.digest_of zone.now) signed soa.now
-        made.now (end_of end.now)
-        ≡ Ok (sent_sets list)) }
+        (λ list. sent_sets list
+        ≡ authority_sets (zone_of S.signature_of H.digest_of zone.now) signed soa.now made.now
+        (end_of end.now)) }
+    ensures provable { OnOk result
+        (lacks_proofs (zone_of S.signature_of H.digest_of zone.now) signed made.now
+        (end_of end.now)
+        ≡ false) }
+    ensures counted { hashes.new
+        ≤ hashes.old
+        + length
+        (hashed_for (zone_of S.signature_of H.digest_of zone.now) signed made.now
+        (end_of end.now)) }
     ensures err { IfErr result
         (λ e. (e ≡ LookupError.Memory)
-        ⊎ IsErr (authority_sets (zone_of S.signature_of H.digest_of zone.now) signed soa.now
-        made.now (end_of end.now))) }
+        ⊎ (lacks_proofs (zone_of S.signature_of H.digest_of zone.now) signed made.now
+        (end_of end.now)
+        ≡ true)) }
 {
     let ds = sent_ds(zone.inner, signed, end)?;
-    authorities_with(zone, ds, signed, soa, made, end)
+    authorities_with(zone, ds, signed, soa, made, end, hashes)
 }
 
 /// The authority section, where a child to which the search is referred has this DS set.
@@ -102,19 +115,30 @@ fn authorities_with<'z, S: Signer, H: Nsec3Hash>(
     soa: &'z RecordSet,
     made: &[LowerName],
     end: &End<'z>,
+    hashes: &mut Counter,
 ) -> Result<Vec<Sent<'z>>, LookupError>
     ensures ok { IfOk result
-        (λ list. authority_sets_with (zone_of S.signature_of H.digest_of zone.now)
-        (option_copied ds.entry) signed soa.now made.now (end_of end.now)
-        ≡ Ok (sent_sets list)) }
+        (λ list. sent_sets list
+        ≡ authority_sets_with (zone_of S.signature_of H.digest_of zone.now)
+        (option_copied ds.entry) signed soa.now made.now (end_of end.now)) }
+    ensures provable { OnOk result
+        (lacks_proofs_with (zone_of S.signature_of H.digest_of zone.now)
+        (option_copied ds.entry) signed made.now (end_of end.now)
+        ≡ false) }
+    ensures counted { hashes.new
+        ≤ hashes.old
+        + length
+        (hashed_with (zone_of S.signature_of H.digest_of zone.now) (option_copied ds.entry)
+        signed made.now (end_of end.now)) }
     ensures err { IfErr result
         (λ e. (e ≡ LookupError.Memory)
-        ⊎ IsErr (authority_sets_with (zone_of S.signature_of H.digest_of zone.now)
-        (option_copied ds.entry) signed soa.now made.now (end_of end.now))) }
+        ⊎ (lacks_proofs_with (zone_of S.signature_of H.digest_of zone.now)
+        (option_copied ds.entry) signed made.now (end_of end.now)
+        ≡ true)) }
 {
     let mut list = Vec::new(zone.origin.alloc());
     send_end(soa, end, ds, signed, &mut list)?;
-    let sets = proof_sets(zone, signed, made, end, ds)?;
+    let sets = proof_sets(zone, signed, made, end, ds, hashes)?;
     send_proofs(sets, negative_ttl(soa), &mut list)?;
     Ok(list)
 }
@@ -126,20 +150,31 @@ fn proof_sets<'z, S: Signer, H: Nsec3Hash>(
     made: &[LowerName],
     end: &End<'_>,
     ds: Option<&RecordSet>,
+    hashes: &mut Counter,
 ) -> Result<Vec<&'z RecordSet>, LookupError>
     ensures ok { IfOk result
-        (λ sets. proof_sets (zone_of S.signature_of H.digest_of zone.now) (option_copied ds.entry)
-        signed made.now (end_of end.now)
-        ≡ Ok (map (λ s. s.now) sets.items)) }
+        (λ sets. map (λ s. s.now) sets.items
+        ≡ proof_sets (zone_of S.signature_of H.digest_of zone.now) (option_copied ds.entry)
+        signed made.now (end_of end.now)) }
+    ensures provable { OnOk result
+        (lacks_proofs_with (zone_of S.signature_of H.digest_of zone.now)
+        (option_copied ds.entry) signed made.now (end_of end.now)
+        ≡ false) }
+    ensures counted { hashes.new
+        ≤ hashes.old
+        + length
+        (hashed_with (zone_of S.signature_of H.digest_of zone.now) (option_copied ds.entry)
+        signed made.now (end_of end.now)) }
     ensures err { IfErr result
         (λ e. (e ≡ LookupError.Memory)
-        ⊎ IsErr (proof_sets (zone_of S.signature_of H.digest_of zone.now) (option_copied ds.entry)
-        signed made.now (end_of end.now))) }
+        ⊎ (lacks_proofs_with (zone_of S.signature_of H.digest_of zone.now)
+        (option_copied ds.entry) signed made.now (end_of end.now)
+        ≡ true)) }
 {
     if !signed {
         return Ok(Vec::new(zone.origin.alloc()));
     }
-    proofs(zone, ds, made, end)
+    proofs(zone, ds, made, end, hashes)
 }
 
 /// The DS set that goes out: without DNSSEC none, so that none is looked up.

@@ -1,10 +1,11 @@
-use Rattle.std.proofs.Common.{◌≡◌, sym, ap, ◌∙◌, subst}
+use Rattle.std.proofs.Common.{◌≡◌, ◌≤◌, ◌+◌, length, sym, ap, ◌∙◌, subst}
 use Rattle.std.specs.Prelude.{Some, None, option_copied}
 use Rattle.zone_proto.specs.Names.{Name}
 use Rattle.zone_proto.specs.Types.{SOA}
 use Rattle.zone_map.specs.Zones.{set_at}
-use Rattle.zone_response.specs.Paths.{path_of}
+use Rattle.zone_response.specs.Paths.{Path, path_of}
 use Rattle.zone_response.specs.Queries.{zone_of, inquiry_of}
+use Rattle.zone_response.specs.Responses.{path_hashed}
 use Rattle.zone_response.specs.Sections.{sections}
 use Rattle.zone_response.specs.NodeSets.{StandsAt}
 use Rattle.zone_response.specs.Descent.{DNAME}
@@ -25,3 +26,8 @@ returns-in-None-clause-response g c =
     let m = c.args.zone.now.inner.now.records in
     let stored : None ≡ set_at m c.args.zone.now.origin.now SOA = ap option_copied (sym c.in-None.is) ∙ c.in_ok-apex.ensures.ok.one in
     without_soa (zone_of g.S.Signer.signature_of g.H.Nsec3Hash.digest_of c.args.zone.now) (inquiry_of g.S.Signer.signature_of c.args.asked c.args.zone.now.inner.now) c.args.name.now (sections c.bare.result) stored c.bare.ensures
+
+pub returns-in_ok-walk-in-Some-clause-counted : goal.returns-in_ok-walk-in-Some-clause-counted
+returns-in_ok-walk-in-Some-clause-counted g c =
+    let z = zone_of g.S.Signer.signature_of g.H.Nsec3Hash.digest_of c.args.zone.now in
+    subst (λ (p : Path). c.along.new.hashes ≤ c.args.hashes.now + length (path_hashed z c.args.asked.signed p)) c.in_ok-walk-in-Some.ensures.ok c.along.ensures.counted

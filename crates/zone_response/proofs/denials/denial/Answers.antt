@@ -1,51 +1,95 @@
-use Rattle.std.proofs.Common.{Bor, ◌≡◌, ◌⊎◌, map, sym, ap, ◌∙◌, subst}
-use Rattle.std.specs.Prelude.{Ok, IsErr, option_copied}
-use Rattle.std.proofs.lemmas.Result.{IfOk-weaker, IfErr-weaker}
+use Rattle.std.proofs.Common.{Bor, ◌≡◌, ◌≤◌, ◌+◌, ◌⊎◌, List, true, false, length, map, ap, ◌∙◌, subst}
+use Rattle.std.specs.Prelude.{OnOk, IfErr, option_copied}
+use Rattle.std.proofs.lemmas.Result.{IfOk-weaker}
+use Rattle.zone_proto.specs.Names.{Name, base_name}
 use Rattle.zone_proto.specs.Sets.{RRset}
 use Rattle.zone_handler.specs.declared.lookup_error.LookupError.TheVariants.{Memory}
-use Rattle.zone_denial.specs.Nsec3Lent.{hashed_for, query_denial}
-use Rattle.zone_response.specs.Denials.{denial}
-use Rattle.zone_response.specs.HashedDenials.{no_data_proof}
+use Rattle.zone_response.specs.Denials.{denial, have_owners_by}
+use Rattle.zone_response.specs.HashedDenials.{absent_sets, absent_hashed, present_sets, present_hashed, hashed_by}
 use Rattle.zone_response.specs.Queries.{zone_of}
-use Rattle.zone_response.proofs.ProofSteps.{or_refused, absent_by_hash, present_by_hash}
+use Rattle.zone_response.proofs.ProofSteps.{hash_in, owners_by_hash, absent_by_hash, absent_names_by_hash, present_by_hash, present_names_by_hash}
 use Rattle.zone_response.proofs.denials.denial.Goals as goal
 
-pub returns-in-Some-star-clause-ok : goal.returns-in-Some-star-clause-ok
-returns-in-Some-star-clause-ok g c =
+pub returns-in-Some-below_root-clause-ok : goal.returns-in-Some-below_root-clause-ok
+returns-in-Some-below_root-clause-ok g c =
     let z = zone_of g.S.Signer.signature_of g.H.Nsec3Hash.digest_of c.args.zone.now in
     let x = c.args.name.now in
-    let same : query_denial z.digest_of z.origin z.denials c.in-Some.query ≡ denial z x (option_copied c.args.star) =
-    absent_by_hash z x z.nx_proof_kind c.in-Some.query c.in-Some-star.field-0.now c.in-Some.ensures ∙ sym (ap (λ s. denial z x (option_copied s)) c.in-Some-star.is) in
-    IfOk-weaker c.query_denial.result (λ sets. query_denial z.digest_of z.origin z.denials c.in-Some.query ≡ Ok (map (λ (b : Bor RRset). b.now) sets.items)) (λ sets. denial z x (option_copied c.args.star) ≡ Ok (map (λ (b : Bor RRset). b.now) sets.items))
-    (λ sets h. sym same ∙ h) c.query_denial.ensures.ok
-
-pub returns-in-Some-star-clause-err : goal.returns-in-Some-star-clause-err
-returns-in-Some-star-clause-err g c =
-    let z = zone_of g.S.Signer.signature_of g.H.Nsec3Hash.digest_of c.args.zone.now in
-    let x = c.args.name.now in
-    let denied = query_denial z.digest_of z.origin z.denials c.in-Some.query in
-    let same : denied ≡ denial z x (option_copied c.args.star) =
-    absent_by_hash z x z.nx_proof_kind c.in-Some.query c.in-Some-star.field-0.now c.in-Some.ensures ∙ sym (ap (λ s. denial z x (option_copied s)) c.in-Some-star.is) in
-    IfErr-weaker c.query_denial.result (λ e. (e ≡ Memory) ⊎ IsErr denied) (λ e. (e ≡ Memory) ⊎ IsErr (denial z x (option_copied c.args.star)))
-    (λ e h. or_refused e denied (denial z x (option_copied c.args.star)) (λ r. subst (λ o. IsErr o) same r) h) c.query_denial.ensures.err
-
-pub returns-in-None-star-clause-ok : goal.returns-in-None-star-clause-ok
-returns-in-None-star-clause-ok g c =
-    let z = zone_of g.S.Signer.signature_of g.H.Nsec3Hash.digest_of c.args.zone.now in
-    let x = c.args.name.now in
+    let k = z.nx_proof_kind in
     let q = c.in-Some.query in
-    let same : no_data_proof z.denials (hashed_for z.origin z.digest_of q) q.qname.now ≡ denial z x (option_copied c.args.star) =
-    present_by_hash z x z.nx_proof_kind q c.in-Some.ensures ∙ sym (ap (λ s. denial z x (option_copied s)) c.in-None-star.is) in
-    IfOk-weaker c.no_data_proof.result (λ sets. no_data_proof z.denials (hashed_for z.origin z.digest_of q) q.qname.now ≡ Ok (map (λ (b : Bor RRset). b.now) sets.items)) (λ sets. denial z x (option_copied c.args.star) ≡ Ok (map (λ (b : Bor RRset). b.now) sets.items))
-    (λ sets h. sym same ∙ h) c.no_data_proof.ensures.ok
+    let star = option_copied c.args.star in
+    IfOk-weaker c.absent_sets.result (λ sets. map (λ (b : Bor RRset). b.now) sets.items ≡ absent_sets z.origin z.denials (hashed_by (hash_in z q)) q.qname.now (base_name c.in-Some-below_root.star.now))
+    (λ sets. map (λ (b : Bor RRset). b.now) sets.items ≡ denial z x star) (λ sets h. h ∙ absent_by_hash z x k q star c.in-Some-below_root.star.now c.in-Some.ensures c.in-Some-below_root.ensures) c.absent_sets.ensures.ok
 
-pub returns-in-None-star-clause-err : goal.returns-in-None-star-clause-err
-returns-in-None-star-clause-err g c =
+pub returns-in-Some-below_root-clause-hashed : goal.returns-in-Some-below_root-clause-hashed
+returns-in-Some-below_root-clause-hashed g c =
     let z = zone_of g.S.Signer.signature_of g.H.Nsec3Hash.digest_of c.args.zone.now in
     let x = c.args.name.now in
+    let k = z.nx_proof_kind in
     let q = c.in-Some.query in
-    let proof = no_data_proof z.denials (hashed_for z.origin z.digest_of q) q.qname.now in
-    let same : proof ≡ denial z x (option_copied c.args.star) =
-    present_by_hash z x z.nx_proof_kind q c.in-Some.ensures ∙ sym (ap (λ s. denial z x (option_copied s)) c.in-None-star.is) in
-    IfErr-weaker c.no_data_proof.result (λ e. (e ≡ Memory) ⊎ IsErr proof) (λ e. (e ≡ Memory) ⊎ IsErr (denial z x (option_copied c.args.star)))
-    (λ e h. or_refused e proof (denial z x (option_copied c.args.star)) (λ r. subst (λ o. IsErr o) same r) h) c.no_data_proof.ensures.err
+    let star = option_copied c.args.star in
+    let names = absent_hashed z.origin z.denials (hashed_by (hash_in z q)) q.qname.now (base_name c.in-Some-below_root.star.now) in
+    let same = absent_names_by_hash z x k q star c.in-Some-below_root.star.now c.in-Some.ensures c.in-Some-below_root.ensures in
+    subst (λ b. OnOk c.absent_sets.result (b ≡ true)) (owners_by_hash z x k q c.in-Some.ensures names ∙ ap (have_owners_by z k) same) c.absent_sets.ensures.hashed
+
+pub returns-in-Some-below_root-clause-counted : goal.returns-in-Some-below_root-clause-counted
+returns-in-Some-below_root-clause-counted g c =
+    let z = zone_of g.S.Signer.signature_of g.H.Nsec3Hash.digest_of c.args.zone.now in
+    let x = c.args.name.now in
+    let k = z.nx_proof_kind in
+    let q = c.in-Some.query in
+    let star = option_copied c.args.star in
+    let same = absent_names_by_hash z x k q star c.in-Some-below_root.star.now c.in-Some.ensures c.in-Some-below_root.ensures in
+    subst (λ (names : List Name). c.absent_sets.new.hashes ≤ c.args.hashes.now + length names) same c.absent_sets.ensures.counted
+
+pub returns-in-Some-below_root-clause-err : goal.returns-in-Some-below_root-clause-err
+returns-in-Some-below_root-clause-err g c =
+    let z = zone_of g.S.Signer.signature_of g.H.Nsec3Hash.digest_of c.args.zone.now in
+    let x = c.args.name.now in
+    let k = z.nx_proof_kind in
+    let q = c.in-Some.query in
+    let star = option_copied c.args.star in
+    let names = absent_hashed z.origin z.denials (hashed_by (hash_in z q)) q.qname.now (base_name c.in-Some-below_root.star.now) in
+    let same = absent_names_by_hash z x k q star c.in-Some-below_root.star.now c.in-Some.ensures c.in-Some-below_root.ensures in
+    subst (λ b. IfErr c.absent_sets.result (λ e. (e ≡ Memory) ⊎ (b ≡ false))) (owners_by_hash z x k q c.in-Some.ensures names ∙ ap (have_owners_by z k) same) c.absent_sets.ensures.err
+
+pub returns-in-None-below_root-clause-ok : goal.returns-in-None-below_root-clause-ok
+returns-in-None-below_root-clause-ok g c =
+    let z = zone_of g.S.Signer.signature_of g.H.Nsec3Hash.digest_of c.args.zone.now in
+    let x = c.args.name.now in
+    let k = z.nx_proof_kind in
+    let q = c.in-Some.query in
+    let star = option_copied c.args.star in
+    IfOk-weaker c.present_sets.result (λ sets. map (λ (b : Bor RRset). b.now) sets.items ≡ present_sets z.origin z.denials (hashed_by (hash_in z q)) q.qname.now)
+    (λ sets. map (λ (b : Bor RRset). b.now) sets.items ≡ denial z x star) (λ sets h. h ∙ present_by_hash z x k q star c.in-Some.ensures c.in-None-below_root.ensures) c.present_sets.ensures.ok
+
+pub returns-in-None-below_root-clause-hashed : goal.returns-in-None-below_root-clause-hashed
+returns-in-None-below_root-clause-hashed g c =
+    let z = zone_of g.S.Signer.signature_of g.H.Nsec3Hash.digest_of c.args.zone.now in
+    let x = c.args.name.now in
+    let k = z.nx_proof_kind in
+    let q = c.in-Some.query in
+    let star = option_copied c.args.star in
+    let names = present_hashed z.origin z.denials (hashed_by (hash_in z q)) q.qname.now in
+    let same = present_names_by_hash z x k q star c.in-Some.ensures c.in-None-below_root.ensures in
+    subst (λ b. OnOk c.present_sets.result (b ≡ true)) (owners_by_hash z x k q c.in-Some.ensures names ∙ ap (have_owners_by z k) same) c.present_sets.ensures.hashed
+
+pub returns-in-None-below_root-clause-counted : goal.returns-in-None-below_root-clause-counted
+returns-in-None-below_root-clause-counted g c =
+    let z = zone_of g.S.Signer.signature_of g.H.Nsec3Hash.digest_of c.args.zone.now in
+    let x = c.args.name.now in
+    let k = z.nx_proof_kind in
+    let q = c.in-Some.query in
+    let star = option_copied c.args.star in
+    let same = present_names_by_hash z x k q star c.in-Some.ensures c.in-None-below_root.ensures in
+    subst (λ (names : List Name). c.present_sets.new.hashes ≤ c.args.hashes.now + length names) same c.present_sets.ensures.counted
+
+pub returns-in-None-below_root-clause-err : goal.returns-in-None-below_root-clause-err
+returns-in-None-below_root-clause-err g c =
+    let z = zone_of g.S.Signer.signature_of g.H.Nsec3Hash.digest_of c.args.zone.now in
+    let x = c.args.name.now in
+    let k = z.nx_proof_kind in
+    let q = c.in-Some.query in
+    let star = option_copied c.args.star in
+    let names = present_hashed z.origin z.denials (hashed_by (hash_in z q)) q.qname.now in
+    let same = present_names_by_hash z x k q star c.in-Some.ensures c.in-None-below_root.ensures in
+    subst (λ b. IfErr c.present_sets.result (λ e. (e ≡ Memory) ⊎ (b ≡ false))) (owners_by_hash z x k q c.in-Some.ensures names ∙ ap (have_owners_by z k) same) c.present_sets.ensures.err

@@ -1,7 +1,10 @@
+use Rattle.std.proofs.Common.{◌≤◌, ◌+◌, length, subst}
+use Rattle.zone_response.specs.Paths.{path}
+use Rattle.zone_response.specs.Responses.{path_hashed}
 use Rattle.zone_response.specs.Queries.{zone_of, query_of}
 use Rattle.zone_response.specs.Sections.{sections}
-use Rattle.zone_response.proofs.ResponseCases.{refused, inquired, searched}
-use Rattle.zone_response.proofs.answering.respond.Goals as goal
+use Rattle.zone_response.proofs.ResponseCases.{asked, refused, inquired, searched}
+use Rattle.zone_response.proofs.answering.respond_counted.Goals as goal
 
 pub returns-in-Some-clause-response : goal.returns-in-Some-clause-response
 returns-in-Some-clause-response g c =
@@ -12,3 +15,9 @@ returns-in-None-clause-response g c =
     let z = zone_of g.S.Signer.signature_of g.H.Nsec3Hash.digest_of c.args.zone in
     let q = query_of c.args.question c.args.options.dnssec_ok in
     searched z q c.searched.result c.in-None.ensures (inquired z q c.searched.result c.is_proved.result c.is_proved.ensures c.searched.ensures.response)
+
+pub returns-in-None-clause-counted : goal.returns-in-None-clause-counted
+returns-in-None-clause-counted g c =
+    let z = zone_of g.S.Signer.signature_of g.H.Nsec3Hash.digest_of c.args.zone in
+    let q = query_of c.args.question c.args.options.dnssec_ok in
+    subst (λ b. c.searched.new.hashes ≤ c.args.hashes.now + length (path_hashed z q.signed (path (asked z q b) q.name))) c.is_proved.ensures c.searched.ensures.counted
