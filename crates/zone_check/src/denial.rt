@@ -1,9 +1,13 @@
 //! What a zone denies by, and what is told of that.
-ghost use Rattle.std.specs.Prelude.{◌≡◌, ◌≤◌, [], Ok, Some};
+ghost use Rattle.std.specs.Prelude.{◌≡◌, ◌≤◌, List, [], Ok, Some};
 ghost use Rattle.zone_proto.specs.declared.nx_proof_kind.NxProofKind.TheVariants as kind;
 ghost use Rattle.zone_proto.specs.Types.{NSEC as nsec_type, NSEC3 as nsec3_type};
 ghost use Rattle.zone_map.specs.Zones.{owners};
-ghost use Rattle.zone_denial.specs.Chains.{IsNsecChain, chain_sets};
+ghost use Rattle.zone_proto.specs.declared.rdata.denial.NSEC3PARAM.{NSEC3PARAM as Parameters};
+ghost use Rattle.zone_proto.specs.Names.{Name as NameLabels};
+ghost use Rattle.zone_denial.specs.Chains.{IsNsecChain, IsNsec3Chain, chain_sets};
+ghost use Rattle.zone_denial.specs.Nsec3Zones.{hash_with};
+ghost use Rattle.zone_sha1.specs.Digests.{name_digest};
 
 use crate::telling::tell_at;
 use std::fmt;
@@ -55,6 +59,14 @@ pub fn tell_denial<E: Write>(file: &str, loaded: &Loaded, fault: &mut E) -> Opti
         → (owners loaded.now.records nsec_type ≡ []) × (owners loaded.now.records nsec3_type ≡ []) }
     ensures nsec { result ≡ Some Denial.NsecChain
         → IsNsecChain loaded.now.origin (chain_sets (Some kind.Nsec) loaded.now.records) }
+    ensures nsec3 { result ≡ Some Denial.Nsec3Chain
+        → (parameters : Parameters) × (names : List NameLabels)
+        × IsNsec3Chain loaded.now.origin
+        (chain_sets
+        (Some (kind.Nsec3 parameters.algorithm parameters.salt
+        parameters.iterations parameters.opt_out)) loaded.now.records)
+        (hash_with (λ algorithm salt name iterations. name_digest algorithm salt name iterations)
+        parameters) parameters names }
 {
     match denial_of(loaded) {
         Ok(denial) => Some(denial),
@@ -72,6 +84,14 @@ fn denial_of(loaded: &Loaded) -> Result<Denial, ChainFault>
         → (owners loaded.now.records nsec_type ≡ []) × (owners loaded.now.records nsec3_type ≡ []) }
     ensures nsec { result ≡ Ok Denial.NsecChain
         → IsNsecChain loaded.now.origin (chain_sets (Some kind.Nsec) loaded.now.records) }
+    ensures nsec3 { result ≡ Ok Denial.Nsec3Chain
+        → (parameters : Parameters) × (names : List NameLabels)
+        × IsNsec3Chain loaded.now.origin
+        (chain_sets
+        (Some (kind.Nsec3 parameters.algorithm parameters.salt
+        parameters.iterations parameters.opt_out)) loaded.now.records)
+        (hash_with (λ algorithm salt name iterations. name_digest algorithm salt name iterations)
+        parameters) parameters names }
 {
     match denial_kind(&loaded.records, &loaded.origin, &Sha1Hash)? {
         Some(NxProofKind::Nsec) => nsec_chain(loaded),
@@ -100,6 +120,14 @@ fn nsec_chain(loaded: &Loaded) -> Result<Denial, ChainFault>
     ensures other { ¬ (result ≡ Ok Denial.Nothing) }
     ensures nsec { result ≡ Ok Denial.NsecChain
         → IsNsecChain loaded.now.origin (chain_sets (Some kind.Nsec) loaded.now.records) }
+    ensures nsec3 { result ≡ Ok Denial.Nsec3Chain
+        → (parameters : Parameters) × (names : List NameLabels)
+        × IsNsec3Chain loaded.now.origin
+        (chain_sets
+        (Some (kind.Nsec3 parameters.algorithm parameters.salt
+        parameters.iterations parameters.opt_out)) loaded.now.records)
+        (hash_with (λ algorithm salt name iterations. name_digest algorithm salt name iterations)
+        parameters) parameters names }
 {
     verify_nsec(&loaded.records, &loaded.origin)?;
     Ok(Denial::NsecChain)
@@ -109,6 +137,14 @@ fn nsec_chain(loaded: &Loaded) -> Result<Denial, ChainFault>
 fn nsec3_chain(loaded: &Loaded, parameters: &NSEC3PARAM) -> Result<Denial, ChainFault>
     ensures other { ¬ (result ≡ Ok Denial.Nothing) }
     ensures nsec { ¬ (result ≡ Ok Denial.NsecChain) }
+    ensures nsec3 { result ≡ Ok Denial.Nsec3Chain
+        → (parameters : Parameters) × (names : List NameLabels)
+        × IsNsec3Chain loaded.now.origin
+        (chain_sets
+        (Some (kind.Nsec3 parameters.algorithm parameters.salt
+        parameters.iterations parameters.opt_out)) loaded.now.records)
+        (hash_with (λ algorithm salt name iterations. name_digest algorithm salt name iterations)
+        parameters) parameters names }
 {
     verify_nsec3(&loaded.records, &loaded.origin, &Sha1Hash, parameters)?;
     Ok(Denial::Nsec3Chain)
@@ -121,6 +157,14 @@ fn no_chain(loaded: &Loaded) -> Result<Denial, ChainFault>
         → (owners loaded.now.records nsec_type ≡ []) × (owners loaded.now.records nsec3_type ≡ []) }
     ensures nsec { result ≡ Ok Denial.NsecChain
         → IsNsecChain loaded.now.origin (chain_sets (Some kind.Nsec) loaded.now.records) }
+    ensures nsec3 { result ≡ Ok Denial.Nsec3Chain
+        → (parameters : Parameters) × (names : List NameLabels)
+        × IsNsec3Chain loaded.now.origin
+        (chain_sets
+        (Some (kind.Nsec3 parameters.algorithm parameters.salt
+        parameters.iterations parameters.opt_out)) loaded.now.records)
+        (hash_with (λ algorithm salt name iterations. name_digest algorithm salt name iterations)
+        parameters) parameters names }
 {
     if !loaded.records.is_without(RecordType::NSEC) {
         return nsec_chain(loaded);

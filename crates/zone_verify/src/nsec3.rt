@@ -1,5 +1,11 @@
 //! Whether the NSEC3 sets of a zone are a chain.
 
+ghost use Rattle.std.specs.Prelude.{List, Some, OnOk};
+ghost use Rattle.zone_proto.specs.declared.nx_proof_kind.NxProofKind.TheVariants as kind;
+ghost use Rattle.zone_proto.specs.Names.{Name as NameLabels};
+ghost use Rattle.zone_denial.specs.Chains.{chain_sets, IsNsec3Chain};
+ghost use Rattle.zone_denial.specs.Nsec3Zones.{hash_with};
+
 use crate::authoritative_keys::authoritative_keys;
 use crate::chain_sets::ChainSets;
 use crate::fault::ChainFault;
@@ -27,7 +33,15 @@ pub fn verify_nsec3<H: Nsec3Hash>(
     origin: &LowerName,
     hash: &H,
     parameters: &NSEC3PARAM,
-) -> Result<(), ChainFault> {
+) -> Result<(), ChainFault>
+    ensures chain { OnOk result
+        ((names : List NameLabels)
+        × IsNsec3Chain origin.now
+        (chain_sets
+        (Some (kind.Nsec3 parameters.now.algorithm parameters.now.salt
+        parameters.now.iterations parameters.now.opt_out)) records.now)
+        (hash_with (H.digest_of hash.now) parameters.now) parameters.now names) }
+{
     let sets = ChainSets {
         records,
         parameters: Some(parameters),
@@ -47,6 +61,8 @@ pub fn verify_nsec3<H: Nsec3Hash>(
     };
     let mut names = zone.names(keys.as_slice())?;
     names.sort_unstable();
-    check_links(names.as_slice())?;
-    check_owners(&sets, names.as_slice())
+    let sorted = names.as_slice();
+    check_links(sorted)?;
+    check_owners(&sets, sorted)?;
+    Ok(())
 }

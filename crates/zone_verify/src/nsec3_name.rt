@@ -1,4 +1,11 @@
 //! A name that a chain of NSEC3 sets goes through.
+ghost use Rattle.std.specs.Prelude.{◌≡◌, Some, IfOk, IfSome, OnOk, length};
+ghost use Rattle.std.specs.Option.{IfNone};
+ghost use Rattle.zone_proto.specs.HashedOwners.{hashed_owner};
+ghost use Rattle.zone_denial.specs.Nsec3Circle.{first_nsec3};
+ghost use Rattle.zone_denial.specs.Nsec3Zones.{hash_with};
+ghost use Rattle.zone_verify.specs.ChainSets.{sets_of};
+ghost use Rattle.zone_verify.specs.Nsec3Names.{HasNsec3, HasNone};
 ghost use Rattle.std.specs.Cmp.{partial_order_from_total, partial_equiv_from_equiv};
 ghost use Rattle.std.specs.Ordering.{as_partial_cmp, eq_by_cmp};
 ghost use Rattle.std.proofs.Common.{refl};
@@ -76,7 +83,19 @@ impl<'z, H: Nsec3Hash> HashedZone<'z, H> {
     ///
     /// Refused by `Hash` where there is no digest of the name, by `OwnerTooLong`, by `Several` where the set has several records, by
     /// `OptOut` where that flag isn't that of the chain, and by `Memory`.
-    pub(crate) fn find(&self, name: &LowerName) -> Result<Option<ChainName<'z>>, ChainFault> {
+    pub(crate) fn find(&self, name: &LowerName) -> Result<Option<ChainName<'z>>, ChainFault>
+        ensures name { IfOk result (λ found. IfSome found (λ c. c.name ≡ name.now)) }
+        ensures has { IfOk result
+            (λ found. IfSome found
+            (HasNsec3 self.now.origin.now (sets_of self.now.sets)
+            (hash_with (H.digest_of self.now.hash.now) self.now.parameters.now)
+            self.now.parameters.now.opt_out)) }
+        ensures none { IfOk result
+            (λ found. IfNone found
+            (HasNone self.now.origin.now (sets_of self.now.sets)
+            (hash_with (H.digest_of self.now.hash.now) self.now.parameters.now)
+            self.now.parameters.now.opt_out name.now)) }
+    {
         let digest = self.digest(name)?;
         let owner = self.owner(name, &digest)?;
         let Some(set) = self.sets.get(&owner, RecordType::NSEC3)? else {
@@ -95,7 +114,11 @@ impl<'z, H: Nsec3Hash> HashedZone<'z, H> {
     }
 
     /// The digest of a name. Refused by `Hash` where there is none, and by `Memory`.
-    fn digest(&self, name: &LowerName) -> Result<Vec<u8>, ChainFault> {
+    fn digest(&self, name: &LowerName) -> Result<Vec<u8>, ChainFault>
+        ensures { IfOk result
+            (λ d. hash_with (H.digest_of self.now.hash.now) self.now.parameters.now name.now
+            ≡ Some d.items) }
+    {
         let digest = self.hash.hash(
             self.parameters.algorithm,
             self.parameters.salt.as_slice(),
@@ -110,7 +133,9 @@ impl<'z, H: Nsec3Hash> HashedZone<'z, H> {
     }
 
     /// The owner of the NSEC3 set of a name with this digest. Refused by `OwnerTooLong` where that is no name, and by `Memory`.
-    fn owner(&self, name: &LowerName, digest: &[u8]) -> Result<LowerName, ChainFault> {
+    fn owner(&self, name: &LowerName, digest: &[u8]) -> Result<LowerName, ChainFault>
+        ensures { IfOk result (λ n. n ≡ hashed_owner self.now.origin.now digest.now) }
+    {
         match hashed_owner(digest, self.origin) {
             Ok(owner) => Ok(owner),
             Err(ProtoError::Memory) => Err(ChainFault::Memory),
@@ -120,13 +145,18 @@ impl<'z, H: Nsec3Hash> HashedZone<'z, H> {
 }
 
 /// The owner of the NSEC3 set of a name with this digest (RFC 5155 section 3). Refused where that is no name, and by `Memory`.
-fn hashed_owner(digest: &[u8], origin: &LowerName) -> Result<LowerName, ProtoError> {
+fn hashed_owner(digest: &[u8], origin: &LowerName) -> Result<LowerName, ProtoError>
+    ensures { IfOk result (λ n. n ≡ hashed_owner origin.now digest.now) }
+{
     let label = base32_dnssec(origin.alloc(), digest)?;
     origin.prepend_label(label.as_bytes())
 }
 
 /// The data of an NSEC3 set's only record.
-fn only_nsec3<'z>(name: &LowerName, set: &'z RecordSet) -> Result<&'z NSEC3, ChainFault> {
+fn only_nsec3<'z>(name: &LowerName, set: &'z RecordSet) -> Result<&'z NSEC3, ChainFault>
+    ensures single { OnOk result (length set.now.records ≡ 1) }
+    ensures data { IfOk result (λ found. first_nsec3 set.now.records ≡ Some found.now) }
+{
     match first_nsec3(set) {
         Some(data) if set.as_slice().len() == 1 => Ok(data),
         _ => Err(ChainFault::Several(told(name)?, RecordType::NSEC3)),
