@@ -82,6 +82,8 @@ def keep(made, folder, name, kind, made_of):
         if os.path.isdir(made):
             remove(new)
             shutil.copytree(made, new)
+            # A folder can't take the place of one that isn't empty.
+            remove(path)
         else:
             shutil.copyfile(made, new)
             os.chmod(new, 0o755)
