@@ -1,9 +1,11 @@
 //! Makes the calls on the current set, and on those that are collected.
+ghost use Rattle.std.specs.Prelude.{◌≡◌, true, false};
+ghost use Rattle.zone_proto.specs.Sets.{is_single, stores};
 
 use crate::state::replace;
 use library_rows_arguments::{Arguments, Held};
 use library_rows_values::{Answer, write_made_set, write_records, write_set};
-use zone_proto::{LowerName, ProtoError, RecordSet, RecordType, RrKey, Rrsigs};
+use zone_proto::{LowerName, ProtoError, RData, RecordSet, RecordType, RrKey, Rrsigs};
 
 /// Makes a call on sets.
 pub fn make_set_call(out: &mut Answer, held: &mut Held, verb: &str, arguments: &mut Arguments<'_>) {
@@ -80,6 +82,7 @@ fn make_on_set(out: &mut Answer, set: &mut RecordSet, verb: &str, arguments: &mu
     match verb {
         "insert" => insert(out, set, arguments),
         "add" => add(out, set, arguments),
+        "append" => append(out, set, arguments),
         "sign" => sign(out, set, arguments),
         "copy set" => write_made_set(out, set.clone()),
         "records" => write_lent(out, set, arguments.is_flagged),
@@ -164,6 +167,38 @@ fn insert(out: &mut Answer, set: &mut RecordSet, arguments: &mut Arguments<'_>) 
         drop(record);
         out.say("not for this caller");
     }
+}
+
+/// Appends a record that has the set's owner and type, and data that the set doesn't have, where it may have several.
+fn append(out: &mut Answer, set: &mut RecordSet, arguments: &mut Arguments<'_>) {
+    let record = arguments.take_record();
+    if record.name == *set.name()
+        && record.record_type() == set.record_type()
+        && has_room(set)
+        && !has_data(set, &record.rdata)
+    {
+        out.done(set.append(record, arguments.take_long()));
+    } else {
+        drop(record);
+        out.say("not for this caller");
+    }
+}
+
+/// Whether a set may have several records.
+fn has_room(set: &RecordSet) -> bool
+    ensures { result ≡ true → is_single set.now.record_type ≡ false }
+{
+    !matches!(
+        set.record_type(),
+        RecordType::SOA | RecordType::CNAME | RecordType::ANAME
+    )
+}
+
+/// Whether a set has a record of these data.
+fn has_data(set: &RecordSet, rdata: &RData) -> bool
+    ensures { result ≡ stores set.now.records rdata.now }
+{
+    set.as_slice().iter().any(|stored| stored.rdata == *rdata)
 }
 
 /// Adds data that have the set's type.

@@ -41,6 +41,8 @@ names: holds: NAME NAME
 names: lower holds: NAME NAME
 names: order: NAME NAME
 names: lower order: NAME NAME
+names: lower shared: NAME NAME
+names: lower ancestor: NUMBER NAME
 names: same: NAME NAME
 names: lower same: NAME NAME
 names: exactly: NAME NAME
@@ -55,6 +57,7 @@ records: code: NUMBER
 records: record: RECORD
 records: copy record: RECORD
 records: copy data: DATA
+records: data order: DATA = DATA
 records: copy kind: NUMBER OCTETS NUMBER
 records: equal: RECORD = RECORD
 records: octets: TYPE OCTETS
@@ -67,6 +70,7 @@ sets: set serial: NUMBER
 sets: set: NAME TYPE TTL NUMBER
 sets: insert: serial NUMBER RECORD
 sets: add: DATA
+sets: append: serial NUMBER RECORD
 sets: sign: RECORD
 sets: unsign:
 sets: show:

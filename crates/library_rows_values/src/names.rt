@@ -61,12 +61,13 @@ fn compare_lower(out: &mut Answer, verb: &str, first: &LowerName, second: &Lower
     match verb {
         "holds" => out.hold(first.zone_of(second)),
         "order" => out.order(first.cmp(second)),
+        "shared" => out.put(&first.shared_labels(second)),
         _ => write_sameness(out, first == second, first.partial_cmp(second)),
     }
 }
 
 /// Writes whether two names are the same, and their order.
-fn write_sameness(out: &mut Answer, are_same: bool, order: Option<Ordering>) {
+pub fn write_sameness(out: &mut Answer, are_same: bool, order: Option<Ordering>) {
     out.hold(are_same);
     out.say(", ");
     out.order(order.unwrap_or(Ordering::Less));
@@ -109,7 +110,7 @@ fn make_lower_call(out: &mut Answer, verb: &str, arguments: &mut Arguments<'_>) 
         "parse" => out.give(LowerName::parse(arguments.alloc, arguments.text)),
         "labels" => out.give(LowerName::from_labels(arguments.take_labels())),
         "star" => out.value(arguments.take_lower().into_wildcard()),
-        "holds" | "order" | "same" => {
+        "holds" | "order" | "same" | "shared" => {
             let second = arguments.take_lower();
             compare_lower(out, verb, &arguments.take_lower(), &second);
         }
@@ -126,6 +127,9 @@ fn make_on_lower(out: &mut Answer, verb: &str, name: &LowerName, arguments: &mut
         "base" => out.give(name.base_name()),
         "prepend" => out.give(name.prepend_label(arguments.take_octets().as_slice())),
         "wire" => out.octets(name.wire_lower()),
+        "ancestor" => out.give(name.ancestor(usize::try_from(arguments.take_number()).unwrap_or(
+            usize::MAX,
+        ))),
         "suffixes" => {
             write_suffixes(out, name.suffixes());
             out.hold(LowerName::root(name.alloc()).is_root());

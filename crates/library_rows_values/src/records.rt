@@ -1,5 +1,6 @@
 //! Makes the calls on types, data, records and questions.
 
+use crate::names::write_sameness;
 use crate::write::Answer;
 use library_rows_arguments::Arguments;
 use line_text::{DataText, HexText, RecordText};
@@ -14,6 +15,7 @@ pub fn make_record_call(out: &mut Answer, verb: &str, arguments: &mut Arguments<
         "record" => write_record(out, Ok(arguments.take_record())),
         "copy record" => copy_record(out, arguments),
         "copy data" => copy_data(out, arguments),
+        "data order" => order_data(out, arguments),
         "copy kind" => copy_kind(out, arguments),
         "equal" => compare_records(out, arguments),
         "of type" => write_types_of(out, arguments.take_record()),
@@ -36,6 +38,15 @@ fn make_octets_call(out: &mut Answer, verb: &str, arguments: &mut Arguments<'_>)
 fn compare_records(out: &mut Answer, arguments: &mut Arguments<'_>) {
     let second = arguments.take_record();
     out.compare(&second, Ok(arguments.take_record()));
+    drop(second);
+}
+
+/// Writes how data stand to others in their order.
+fn order_data(out: &mut Answer, arguments: &mut Arguments<'_>) {
+    let second = arguments.take_data();
+    let first = arguments.take_data();
+    write_sameness(out, first == second, first.partial_cmp(&second));
+    drop(first);
     drop(second);
 }
 

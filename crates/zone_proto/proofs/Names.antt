@@ -1,8 +1,9 @@
 -- Names, in one piece and label by label, and their ancestors
 pub mod Packings
+pub mod Escapes
+pub mod SharedEnds
 pub mod FirstLabels
 pub mod Countings
-pub mod CountedEnds
 pub mod Lower
 pub mod NameParts
 pub mod LabelFaults

@@ -260,3 +260,15 @@ pub signature_put : (s : RRset) (new : List Record) (r : Record) (result : Resul
     → IsChange s (record s { signatures = s.signatures ++ r ∷ [] }) result (record s { signatures = new })
 signature_put s new r (Ok u) change = record { ok = ap (λ rs. record s { signatures = rs }) change.ok; err = tt; same = tt }
 signature_put s new r (Err e) change = record { ok = tt; err = change.err; same = ap (λ rs. record s { signatures = rs }) change.same }
+
+-- ---- a record of new data stands last
+
+unless_stored : (s : RRset) (r : Record) (serial : ℕ) (b : Bool) → b ≡ false → (if b then None else Some (appended s r serial)) ≡ Some (appended s r serial)
+unless_stored s r serial b e = ap (λ (x : Bool). if x then None else Some (appended s r serial)) e
+
+pub new_stands_last : (s : RRset) (d : RData) (r : Record) (serial : ℕ) → is_single (type_of d) ≡ false → stores s.records d ≡ false
+    → inserted_by d s r serial ≡ Some (appended s r serial)
+new_stands_last s (V.SOA a) r serial many absent = cc
+new_stands_last s (V.CNAME a) r serial many absent = cc
+new_stands_last s (V.ANAME a) r serial many absent = cc
+new_stands_last s d r serial many absent = unless_stored s r serial (stores s.records d) absent

@@ -1,5 +1,5 @@
 -- Names: their tree, their canonical order and their wire form
-use Rattle.std.specs.Prelude.{◌≡◌, ℕ, ◌+◌, ◌<◌, ◌≤◌, List, [], ◌∷◌, ◌++◌, length, map, reverse, Bool, true, false, ◌||◌, nat_eq}
+use Rattle.std.specs.Prelude.{◌≡◌, ℕ, ◌+◌, ◌-◌, ◌<◌, ◌≤◌, List, [], ◌∷◌, ◌++◌, length, map, drop, reverse, Bool, true, false, ◌||◌, nat_eq}
 use Rattle.std.specs.declared.cmp.Ordering.{Ordering}
 use Rattle.std.specs.Char.{to_ascii_lowercase}
 use Rattle.std.specs.List.{AllByRecursion}
@@ -46,6 +46,12 @@ IsAtOrAbove a n = (front : Name) × (n ≡ front ++ a)
 -- a is a proper ancestor of n: some labels stand before a's
 abbrev pub IsAbove : Name → Name → Type 0
 IsAbove a n = (l : Label) × (front : Name) × (n ≡ (l ∷ front) ++ a)
+
+-- so many labels stand at the end of both names, and no more
+pub record SharesLabels (n m : Name) (count : ℕ) : Type 0 where
+  pub within : count ≤ length n
+  pub shared : IsAtOrAbove (drop (length n - count) n) m
+  pub most : (a : Name) → IsAtOrAbove a n → IsAtOrAbove a m → length a ≤ count
 
 -- the tests of these: equality of labels and of names, and where a name stands in the tree
 abbrev pub label_eq : Label → Label → Bool

@@ -1,43 +1,40 @@
-//! Names in one piece of octets: each label behind its length, leftmost first, as in the wire form (RFC 1035 section 3.1).
+//! Labels in one piece of octets: each behind its length, leftmost first, as in the wire form (RFC 1035 section 3.1).
 //
-// Here a label may have an octet 0. A length is at most 63, so that it is no letter, and the octets can be put into lower
-// case as they stand.
+// Here a label may have any octet. A length is at most 63, so that it is no letter, and the octets can be put into lower case
+// as they stand.
 ghost use Rattle.std.specs.Prelude.{◌≡◌, ◌↔◌, [], ◌∷◌, ◌++◌, ◌+◌, ◌≤◌, length, drop, IsTrue, IfOk, IfSome, MatchOption, OnOk};
 ghost use Rattle.std.specs.List.{AllByRecursion};
 ghost use Rattle.zone_proto.specs.Names.{lower, wildcard_of, IsLabel, IsName};
 ghost use Rattle.zone_proto.specs.Counting.{counting, counted_name, IsCounting};
-ghost use Rattle.zone_proto.specs.Octets.{written};
 
 use crate::labels_iter::Labels;
-use crate::octets::Octets;
-use crate::storage::{Short, Storage};
+use crate::storage::Storage;
 use crate::wire::wire_length;
 use std::alloc::{AllocError, Global};
 use std::marker::Model;
 
 /// A name whose labels stand behind their lengths.
 #[derive(Debug, Drop)]
-pub(crate) struct Counted<S: Storage> {
-    octets: S,
+pub(crate) struct Counted {
+    octets: Vec<u8>,
 }
 
-impl<S: Storage> Model for Counted<S> {
+impl Model for Counted {
     ghost use Rattle.std.specs.Prelude.{List, ℕ};
     ghost use Rattle.zone_proto.specs.Counting.{counted_name, IsCounting};
 
     ghost Value = { List (List ℕ) };
 
-    ghost view = { λ c. counted_name (S.octets_in c.octets) };
+    ghost view = { λ c. counted_name c.octets.items };
 
-    ghost invariant = { λ c.
-        IsCounting (S.octets_in c.octets) (counted_name (S.octets_in c.octets)) };
+    ghost invariant = { λ c. IsCounting c.octets.items (counted_name c.octets.items) };
 }
 
-impl<S: Storage> Counted<S> {
+impl Counted {
     /// The name whose labels stand in these octets.
-    pub(crate) fn of_octets(octets: S) -> Counted<S>
-        requires { IsCounting (S.octets_in octets) (counted_name (S.octets_in octets)) }
-        ensures { result ≡ counted_name (S.octets_in octets) }
+    pub(crate) fn of_octets(octets: Vec<u8>) -> Counted
+        requires { IsCounting octets.items (counted_name octets.items) }
+        ensures { result ≡ counted_name octets.items }
     {
         Counted { octets }
     }
@@ -58,7 +55,7 @@ impl<S: Storage> Counted<S> {
             return;
         }
         let count = usize::from(octets[0]);
-        self.octets.cut_front(count + 1);
+        cut_front(&mut self.octets, count + 1);
     }
 
     /// Replaces the first label by `*`, in place; the root stays.
@@ -70,7 +67,7 @@ impl<S: Storage> Counted<S> {
             return;
         }
         let count = usize::from(octets[0]);
-        self.octets.cut_front(count - 1);
+        cut_front(&mut self.octets, count - 1);
         self.octets.write(0, 1);
         self.octets.write(1, b'*');
     }
@@ -90,30 +87,33 @@ impl<S: Storage> Counted<S> {
         self.octets.octets()
     }
 
-    /// The allocator that the octets were made with.
-    pub(crate) fn alloc(&self) -> Global {
-        self.octets.alloc()
+    /// A copy.
+    pub(crate) fn clone(&self) -> Result<Counted, AllocError>
+        ensures { IfOk result (λ c. c ≡ self.now) }
+    {
+        Ok(Counted {
+            octets: Vec::from_slice(*self.octets.allocator(), &self.octets)?,
+        })
     }
 }
 
-impl Counted<Short> {
-    /// A copy, without memory.
-    pub(crate) fn clone(&self) -> Counted<Short>
-        ensures { result ≡ self.now }
-    {
-        Counted {
-            octets: self.octets.clone(),
-        }
-    }
+/// Takes so many octets away at the front.
+fn cut_front(octets: &mut Vec<u8>, count: usize)
+    requires { count ≤ length octets.old.items }
+    ensures { octets.new.items ≡ drop count octets.old.items }
+{
+    let len = octets.len();
+    octets.as_mut_slice().copy_within(count..len, 0);
+    octets.truncate(len - count);
 }
 
 /// The octets of the name of these labels.
-pub(crate) fn count(alloc: Global, labels: Labels<'_>) -> Result<Octets, AllocError>
+pub(crate) fn count(alloc: Global, labels: Labels<'_>) -> Result<Vec<u8>, AllocError>
     requires { IsName labels }
-    ensures name { IfOk result (λ o. counted_name (written o) ≡ labels.entry) }
-    ensures counting { IfOk result (λ o. IsCounting (written o) (counted_name (written o))) }
+    ensures name { IfOk result (λ o. counted_name o.items ≡ labels.entry) }
+    ensures counting { IfOk result (λ o. IsCounting o.items (counted_name o.items)) }
 {
-    let mut octets = Octets::with_capacity(alloc, wire_length(labels.clone()).saturating_sub(1))?;
+    let mut octets = Vec::with_capacity(alloc, wire_length(labels.clone()).saturating_sub(1))?;
     push_labels(&mut octets, labels)?;
     Ok(octets)
 }
@@ -123,32 +123,32 @@ pub(crate) fn count_child(
     alloc: Global,
     label: &[u8],
     labels: Labels<'_>,
-) -> Result<Octets, AllocError>
+) -> Result<Vec<u8>, AllocError>
     requires label { IsLabel label.now }
     requires labels { IsName labels }
-    ensures name { IfOk result (λ o. counted_name (written o) ≡ label.now ∷ labels.entry) }
-    ensures counting { IfOk result (λ o. IsCounting (written o) (counted_name (written o))) }
+    ensures name { IfOk result (λ o. counted_name o.items ≡ label.now ∷ labels.entry) }
+    ensures counting { IfOk result (λ o. IsCounting o.items (counted_name o.items)) }
 {
-    let mut octets = Octets::with_capacity(alloc, label.len() + wire_length(labels.clone()))?;
+    let mut octets = Vec::with_capacity(alloc, label.len() + wire_length(labels.clone()))?;
     push_label(&mut octets, label)?;
     push_labels(&mut octets, labels)?;
     Ok(octets)
 }
 
 /// Appends a label behind its length.
-fn push_label(octets: &mut Octets, label: &[u8]) -> Result<(), AllocError>
+fn push_label(octets: &mut Vec<u8>, label: &[u8]) -> Result<(), AllocError>
     requires { length label.now ≤ 63 }
     ensures { OnOk result
-        (written octets.new ≡ written octets.old ++ length label.now ∷ label.now) }
+        (octets.new.items ≡ octets.old.items ++ length label.now ∷ label.now) }
 {
     octets.push(label.len() as u8)?;
     octets.extend_from_slice(label)
 }
 
 /// Appends each label behind its length.
-fn push_labels(octets: &mut Octets, labels: Labels<'_>) -> Result<(), AllocError>
+fn push_labels(octets: &mut Vec<u8>, labels: Labels<'_>) -> Result<(), AllocError>
     requires { AllByRecursion IsLabel labels }
-    ensures { OnOk result (written octets.new ≡ written octets.old ++ counting labels.entry) }
+    ensures { OnOk result (octets.new.items ≡ octets.old.items ++ counting labels.entry) }
 {
     for label in labels {
         push_label(octets, label)?;

@@ -1,10 +1,10 @@
 //! Laws of the definitions of types, data and record sets; each is proved, and no call does anything.
-ghost use Rattle.std.specs.Prelude.{◌≡◌, ◌<◌, ℕ, [], ◌≢◌, Some, true};
+ghost use Rattle.std.specs.Prelude.{◌≡◌, ◌<◌, ℕ, [], ◌≢◌, Some, false, true};
 ghost use Rattle.std.specs.Cmp.{IsEquivalence};
 ghost use Rattle.zone_proto.specs.Names.{same_name};
 ghost use Rattle.zone_proto.specs.Data.{same_data, type_of};
 ghost use Rattle.zone_proto.specs.Records.{same_record};
-ghost use Rattle.zone_proto.specs.Sets.{RRset, IsSet, same_set, inserted};
+ghost use Rattle.zone_proto.specs.Sets.{RRset, IsSet, same_set, appended, inserted, is_single, stores};
 ghost use Rattle.zone_proto.specs.TypeText.{type_text, type_of_text};
 ghost use Rattle.zone_proto.specs.declared.record.Record.{Record};
 
@@ -37,6 +37,14 @@ pub fn insertion_keeps_the_set()
         → IsSet s.owner s.record_type s.records
         → inserted s r serial ≡ Some t
         → IsSet t.owner t.record_type t.records }
+{}
+
+/// Where a set may have several records, one whose data it doesn't have is put behind them.
+pub fn new_data_stand_last()
+    ensures { (s : RRset) (r : Record) (serial : ℕ)
+        → is_single (type_of r.rdata) ≡ false
+        → stores s.records r.rdata ≡ false
+        → inserted s r serial ≡ Some (appended s r serial) }
 {}
 
 /// A type is read from the text that is printed of it.

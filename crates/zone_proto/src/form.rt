@@ -1,23 +1,23 @@
 //! How the labels of a name are kept.
 ghost use Rattle.std.specs.Prelude.{◌≡◌, ◌↔◌, [], ◌∷◌, drop, IsTrue, IfOk, IfSome};
 ghost use Rattle.std.specs.List.{AllByRecursion};
-ghost use Rattle.zone_proto.specs.Names.{lower, name_cmp, caseless_cmp, wildcard_of, IsAtOrAbove, IsLabel, IsName};
-ghost use Rattle.zone_proto.specs.Packing.{name_of, IsPacking, IsPackable, IsInner};
+ghost use Rattle.zone_proto.specs.Names.{lower, name_cmp, caseless_cmp, wildcard_of, IsAtOrAbove, IsLabel, IsName, SharesLabels};
+ghost use Rattle.zone_proto.specs.Packing.{name_of, order_octets, IsPacking, IsPackable, IsInner};
 ghost use Rattle.zone_proto.specs.Counting.{counted_name, IsCounting};
 ghost use Rattle.zone_proto.specs.Octets.{written};
 ghost use Rattle.zone_proto.specs.Forms.{labels_of};
 ghost use Rattle.zone_proto.specs.Vectors.{octets_of};
 
-use crate::counted::{Counted, count, count_child};
-use crate::counted_order::compare_counted;
+use crate::counted::{count, count_child};
+use crate::escaped::Escaped;
 use crate::labels_iter::Labels;
 use crate::letter_case::lower_all;
-use crate::name_order::{compare_labels, labels_are_above, labels_are_same};
-use crate::octets::Octets;
-use crate::packed::{
-    Packed, compare_packed, compare_packed_caseless, pack, pack_child, packed_are_same,
-    packed_is_above,
+use crate::name_order::{
+    compare_label, compare_labels, count_shared, labels_are_above, labels_are_same,
 };
+use crate::octet_order::{compare_octets, count_shared_ends, is_front_caseless};
+use crate::octets::Octets;
+use crate::packed::{Packed, pack, pack_child};
 use crate::prepended_labels::PrependedLabels;
 use crate::storage::Short;
 use std::alloc::{AllocError, Global};
@@ -33,21 +33,15 @@ pub(crate) enum Form {
     ShortPacked(Packed<Short>),
     /// All in one piece, each before its end.
     LongPacked(Packed<Vec<u8>>),
-    /// All in one piece, each behind its length, because one has an octet 0: up to 30 octets, in the value itself.
-    ShortCounted(Counted<Short>),
-    /// All in one piece, each behind its length, because one has an octet 0.
-    LongCounted(Counted<Vec<u8>>),
+    /// Beside the octets that order the name, because one has an octet 0 or 1.
+    Escaped(Box<Escaped>),
 }
 
 /// A call of its own, so that the proofs of all that drop a name don't go into its forms.
 impl Drop for Form {
     fn drop(self) {
         match self {
-            Form::Listed(_)
-            | Form::ShortPacked(_)
-            | Form::LongPacked(_)
-            | Form::ShortCounted(_)
-            | Form::LongCounted(_) => {}
+            Form::Listed(_) | Form::ShortPacked(_) | Form::LongPacked(_) | Form::Escaped(_) => {}
         }
     }
 }
@@ -71,15 +65,13 @@ impl Form {
         }
     }
 
-    /// The labels that stand in these octets, each behind its length. Takes no memory.
-    pub(crate) fn of_counting(octets: Octets) -> Form
-        requires { IsCounting (written octets) (counted_name (written octets)) }
-        ensures { labels_of result ≡ counted_name (written octets) }
+    /// The labels that stand in these octets, each behind its length.
+    pub(crate) fn of_counting(octets: Vec<u8>) -> Result<Form, AllocError>
+        requires { IsCounting octets.items (counted_name octets.items) }
+        ensures { IfOk result (λ f. labels_of f ≡ counted_name octets.items) }
     {
-        match octets {
-            Octets::Short(short) => Form::ShortCounted(Counted::of_octets(short)),
-            Octets::Long(long) => Form::LongCounted(Counted::of_octets(long)),
-        }
+        let alloc = *octets.allocator();
+        Ok(Form::Escaped(Box::new(alloc, Escaped::of_counting(octets)?)?))
     }
 
     /// Lends the labels.
@@ -90,8 +82,7 @@ impl Form {
             Form::Listed(listed) => Labels::of_list(listed),
             Form::ShortPacked(packed) => Labels::of_piece(packed.octets()),
             Form::LongPacked(packed) => Labels::of_piece(packed.octets()),
-            Form::ShortCounted(counted) => Labels::of_counted(counted.octets()),
-            Form::LongCounted(counted) => Labels::of_counted(counted.octets()),
+            Form::Escaped(escaped) => Labels::of_counted(escaped.labels()),
         }
     }
 
@@ -102,27 +93,15 @@ impl Form {
         PrependedLabels::new(self.labels())
     }
 
-    /// The octets of the labels in one piece, each before its end, if they stand so.
-    fn packed(&self) -> Option<&[u8]>
-        ensures name { IfSome result (λ s. name_of s.now ≡ labels_of self.now) }
-        ensures packing { IfSome result (λ s. IsPacking s.now (name_of s.now)) }
+    /// The octets that order the name, unless the labels stand each by itself.
+    fn order(&self) -> Option<&[u8]>
+        ensures { IfSome result (λ s. s.now ≡ order_octets (labels_of self.now)) }
     {
         match self {
+            Form::Listed(_) => None,
             Form::ShortPacked(packed) => Some(packed.octets()),
             Form::LongPacked(packed) => Some(packed.octets()),
-            _ => None,
-        }
-    }
-
-    /// The octets of the labels in one piece, each behind its length, if they stand so.
-    fn counted(&self) -> Option<&[u8]>
-        ensures name { IfSome result (λ s. counted_name s.now ≡ labels_of self.now) }
-        ensures counting { IfSome result (λ s. IsCounting s.now (counted_name s.now)) }
-    {
-        match self {
-            Form::ShortCounted(counted) => Some(counted.octets()),
-            Form::LongCounted(counted) => Some(counted.octets()),
-            _ => None,
+            Form::Escaped(escaped) => Some(escaped.order()),
         }
     }
 
@@ -134,8 +113,7 @@ impl Form {
             Form::Listed(listed) => listed.is_empty(),
             Form::ShortPacked(packed) => packed.is_root(),
             Form::LongPacked(packed) => packed.is_root(),
-            Form::ShortCounted(counted) => counted.is_root(),
-            Form::LongCounted(counted) => counted.is_root(),
+            Form::Escaped(escaped) => escaped.is_root(),
         }
     }
 
@@ -145,8 +123,7 @@ impl Form {
             Form::Listed(listed) => *listed.allocator(),
             Form::ShortPacked(packed) => packed.alloc(),
             Form::LongPacked(packed) => packed.alloc(),
-            Form::ShortCounted(counted) => counted.alloc(),
-            Form::LongCounted(counted) => counted.alloc(),
+            Form::Escaped(escaped) => escaped.alloc(),
         }
     }
 
@@ -159,8 +136,7 @@ impl Form {
             Form::Listed(listed) => pack_list(&listed),
             Form::ShortPacked(packed) => Ok(Form::ShortPacked(packed)),
             Form::LongPacked(packed) => Ok(Form::LongPacked(packed)),
-            Form::ShortCounted(counted) => Ok(Form::ShortCounted(counted)),
-            Form::LongCounted(counted) => Ok(Form::LongCounted(counted)),
+            Form::Escaped(escaped) => Ok(Form::Escaped(escaped)),
         }
     }
 
@@ -173,8 +149,7 @@ impl Form {
             Form::Listed(listed) => pack_list(listed),
             Form::ShortPacked(packed) => Ok(Form::ShortPacked(packed.clone())),
             Form::LongPacked(packed) => copy_packing(packed.alloc(), packed.octets()),
-            Form::ShortCounted(counted) => Ok(Form::ShortCounted(counted.clone())),
-            Form::LongCounted(counted) => copy_counting(counted.alloc(), counted.octets()),
+            Form::Escaped(escaped) => copy_escaped(escaped),
         }
     }
 
@@ -188,8 +163,8 @@ impl Form {
             Form::Listed(listed) => child_of_list(listed, label),
             Form::ShortPacked(packed) => child_of_packing(packed.alloc(), packed.octets(), label),
             Form::LongPacked(packed) => child_of_packing(packed.alloc(), packed.octets(), label),
-            Form::ShortCounted(_) | Form::LongCounted(_) => {
-                child_counted(self.alloc(), label, self.labels())
+            Form::Escaped(escaped) => {
+                child_escaped(escaped.alloc(), label, Labels::of_counted(escaped.labels()))
             }
         }
     }
@@ -202,8 +177,7 @@ impl Form {
             Form::Listed(listed) => drop_first(listed),
             Form::ShortPacked(packed) => packed.shorten(),
             Form::LongPacked(packed) => packed.shorten(),
-            Form::ShortCounted(counted) => counted.shorten(),
-            Form::LongCounted(counted) => counted.shorten(),
+            Form::Escaped(escaped) => escaped.shorten(),
         }
     }
 
@@ -216,8 +190,7 @@ impl Form {
             Form::Listed(listed) => star_first(listed),
             Form::ShortPacked(packed) => packed.make_wildcard(),
             Form::LongPacked(packed) => packed.make_wildcard(),
-            Form::ShortCounted(counted) => counted.make_wildcard(),
-            Form::LongCounted(counted) => counted.make_wildcard(),
+            Form::Escaped(escaped) => escaped.make_wildcard(),
         }
     }
 
@@ -229,8 +202,7 @@ impl Form {
             Form::Listed(listed) => lower_all(listed),
             Form::ShortPacked(packed) => packed.lower(),
             Form::LongPacked(packed) => packed.lower(),
-            Form::ShortCounted(counted) => counted.lower(),
-            Form::LongCounted(counted) => counted.lower(),
+            Form::Escaped(escaped) => escaped.lower(),
         }
     }
 
@@ -240,9 +212,9 @@ impl Form {
         requires other { lower (labels_of other.now) ≡ labels_of other.now }
         ensures { result ≡ name_cmp (labels_of self.now) (labels_of other.now) }
     {
-        match (self.packed(), other.packed()) {
-            (Some(own), Some(theirs)) => compare_packed(own, theirs),
-            _ => self.compare_labelwise(other),
+        match (self.order(), other.order()) {
+            (Some(own), Some(theirs)) => compare_octets(own, theirs),
+            _ => compare_labels(self.compared(), other.compared()),
         }
     }
 
@@ -250,19 +222,8 @@ impl Form {
     pub(crate) fn compare_caseless(&self, other: &Form) -> Ordering
         ensures { result ≡ caseless_cmp (labels_of self.now) (labels_of other.now) }
     {
-        match (self.packed(), other.packed()) {
-            (Some(own), Some(theirs)) => compare_packed_caseless(own, theirs),
-            _ => self.compare_labelwise(other),
-        }
-    }
-
-    /// The canonical order, the case of letters ignored, label by label. It is for labels that don't stand before their ends,
-    /// since those before their ends are compared faster as one string.
-    fn compare_labelwise(&self, other: &Form) -> Ordering
-        ensures { result ≡ caseless_cmp (labels_of self.now) (labels_of other.now) }
-    {
-        match (self.counted(), other.counted()) {
-            (Some(own), Some(theirs)) => compare_counted(own, theirs),
+        match (self.order(), other.order()) {
+            (Some(own), Some(theirs)) => compare_label(own, theirs),
             _ => compare_labels(self.compared(), other.compared()),
         }
     }
@@ -271,8 +232,8 @@ impl Form {
     pub(crate) fn is_same(&self, other: &Form) -> bool
         ensures { IsTrue result ↔ (labels_of self.now ≡ labels_of other.now) }
     {
-        match (self.packed(), other.packed()) {
-            (Some(own), Some(theirs)) => packed_are_same(own, theirs),
+        match (self.order(), other.order()) {
+            (Some(own), Some(theirs)) => own == theirs,
             _ => labels_are_same(self.labels(), other.labels()),
         }
     }
@@ -282,9 +243,21 @@ impl Form {
         ensures { IsTrue result
             ↔ IsAtOrAbove (lower (labels_of self.now)) (lower (labels_of other.now)) }
     {
-        match (self.packed(), other.packed()) {
-            (Some(own), Some(theirs)) => packed_is_above(own, theirs),
+        match (self.order(), other.order()) {
+            (Some(own), Some(theirs)) => is_front_caseless(own, theirs),
             _ => labels_are_above(self.compared(), other.compared()),
+        }
+    }
+
+    /// How many last labels the names share, which are in lower case.
+    pub(crate) fn shared_labels(&self, other: &Form) -> usize
+        requires own { lower (labels_of self.now) ≡ labels_of self.now }
+        requires other { lower (labels_of other.now) ≡ labels_of other.now }
+        ensures { SharesLabels (labels_of self.now) (labels_of other.now) result }
+    {
+        match (self.order(), other.order()) {
+            (Some(own), Some(theirs)) => count_shared_ends(own, theirs),
+            _ => count_shared(self.compared(), other.compared()),
         }
     }
 }
@@ -297,12 +270,11 @@ fn copy_packing(alloc: Global, octets: &[u8]) -> Result<Form, AllocError>
     Ok(Form::of_packing(Octets::from_slice(alloc, octets)?))
 }
 
-/// A copy of labels in one piece, each behind its length.
-fn copy_counting(alloc: Global, octets: &[u8]) -> Result<Form, AllocError>
-    requires { IsCounting octets.now (counted_name octets.now) }
-    ensures { IfOk result (λ f. labels_of f ≡ counted_name octets.now) }
+/// A copy of labels beside the octets that order the name.
+fn copy_escaped(escaped: &Escaped) -> Result<Form, AllocError>
+    ensures { IfOk result (λ f. labels_of f ≡ escaped.now) }
 {
-    Ok(Form::of_counting(Octets::from_slice(alloc, octets)?))
+    Ok(Form::Escaped(Box::new(escaped.alloc(), escaped.clone()?)?))
 }
 
 /// The labels of a list with one more before the first.
@@ -313,7 +285,7 @@ fn child_of_list(labels: &Vec<Vec<u8>>, label: &[u8]) -> Result<Form, AllocError
 {
     let alloc = *labels.allocator();
     if !is_packable(labels) {
-        return child_counted(alloc, label, Labels::of_list(labels));
+        return child_escaped(alloc, label, Labels::of_list(labels));
     }
     let octets = pack(alloc, labels)?;
     child_of_packing(alloc, octets.as_slice(), label)
@@ -327,18 +299,18 @@ fn child_of_packing(alloc: Global, octets: &[u8], label: &[u8]) -> Result<Form, 
     ensures { IfOk result (λ f. labels_of f ≡ label.now ∷ name_of octets.now) }
 {
     if !is_inner(label) {
-        return child_counted(alloc, label, Labels::of_piece(octets));
+        return child_escaped(alloc, label, Labels::of_piece(octets));
     }
     Ok(Form::of_packing(pack_child(alloc, octets, label)?))
 }
 
-/// The labels with one more before the first, each behind its length.
-fn child_counted(alloc: Global, label: &[u8], labels: Labels<'_>) -> Result<Form, AllocError>
+/// The labels with one more before the first, beside the octets that order the name.
+fn child_escaped(alloc: Global, label: &[u8], labels: Labels<'_>) -> Result<Form, AllocError>
     requires label { IsLabel label.now }
     requires labels { IsName labels }
     ensures { IfOk result (λ f. labels_of f ≡ label.now ∷ labels.entry) }
 {
-    Ok(Form::of_counting(count_child(alloc, label, labels)?))
+    Ok(Form::of_counting(count_child(alloc, label, labels)?)?)
 }
 
 /// Takes the first label away, if there is one.
@@ -370,22 +342,22 @@ fn pack_list(labels: &Vec<Vec<u8>>) -> Result<Form, AllocError>
     if is_packable(labels) {
         return Ok(Form::of_packing(pack(alloc, labels)?));
     }
-    Ok(Form::of_counting(count(alloc, Labels::of_list(labels))?))
+    Ok(Form::of_counting(count(alloc, Labels::of_list(labels))?)?)
 }
 
-/// Whether the label has no octet 0.
+/// Whether the label has no octet 0 or 1.
 pub(crate) fn is_inner(label: &[u8]) -> bool
     ensures { IsTrue result → AllByRecursion IsInner label.now }
 {
     for octet in label {
-        if *octet == 0 {
+        if *octet <= 1 {
             return false;
         }
     }
     true
 }
 
-/// Whether no label has an octet 0.
+/// Whether no label has an octet 0 or 1.
 fn is_packable(labels: &[Vec<u8>]) -> bool
     ensures { IsTrue result → IsPackable (octets_of labels.now) }
 {

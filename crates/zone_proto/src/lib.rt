@@ -10,10 +10,10 @@
 
 mod base32;
 mod counted;
-mod counted_order;
 pub mod data_laws;
 mod dns_class;
 mod error;
+mod escaped;
 mod form;
 mod insertion;
 mod labels;

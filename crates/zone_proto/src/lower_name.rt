@@ -1,6 +1,6 @@
 //! Names in lower case, as the owners of record sets are kept.
-ghost use Rattle.std.specs.Prelude.{◌≡◌, ◌↔◌, [], ◌∷◌, length, drop, IsTrue, IfOk, IsOkUnless};
-ghost use Rattle.zone_proto.specs.Names.{lower, lower_label, suffixes, wire_form, wildcard_of, IsAtOrAbove, IsLowerName, IsWildcard};
+ghost use Rattle.std.specs.Prelude.{◌≡◌, ◌↔◌, [], ◌∷◌, ◌-◌, length, drop, IsTrue, IfOk, IsOkUnless};
+ghost use Rattle.zone_proto.specs.Names.{lower, lower_label, suffixes, wire_form, wildcard_of, IsAtOrAbove, IsLowerName, IsWildcard, SharesLabels};
 ghost use Rattle.zone_proto.specs.Keys.{key, IsKeyInRange};
 ghost use Rattle.zone_proto.specs.Ranges.{IsNameInRange};
 ghost use Rattle.zone_proto.specs.Forms.{labels_of};
@@ -155,6 +155,25 @@ impl LowerName {
         ensures { IsTrue result ↔ IsAtOrAbove self.now other.now }
     {
         self.name.zone_of(&other.name)
+    }
+
+    /// How many last labels the name shares with another one: as many as their longest common ancestor has. Takes no memory.
+    pub fn shared_labels(&self, other: &LowerName) -> usize
+        ensures { SharesLabels self.now other.now result }
+    {
+        self.form().shared_labels(other.form())
+    }
+
+    /// A copy of the name's last labels, so many or all that there are: an ancestor, or the name itself. Refused only for want
+    /// of memory.
+    pub fn ancestor(&self, count: usize) -> Result<LowerName, ProtoError>
+        ensures { IsCopy result (drop (length self.now - count) self.now) }
+    {
+        let mut name = self.clone()?;
+        for _taken in 0..self.num_labels().saturating_sub(count) {
+            name.shorten();
+        }
+        Ok(name)
     }
 
     /// Whether a name is this one with its letters in lower case too, which `==` of names doesn't tell. Takes no memory.

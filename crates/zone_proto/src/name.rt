@@ -27,7 +27,7 @@ use std::marker::Model;
 /// octets, and the wire form of the name at most 255 (RFC 1035 sections 2.3.4 and 3.1). Names are equal, ordered and
 /// hashed without the case of ASCII letters (RFC 4034 section 6.1, RFC 4343).
 ///
-/// A name that was read or copied is copied without memory if its wire form has at most 31 octets.
+/// A name that was read or copied is copied without memory if its wire form has at most 31 octets, and no label an octet 0 or 1.
 #[derive(Debug, Drop)]
 pub struct Name {
     form: Form,
@@ -93,7 +93,8 @@ impl Name {
     ///
     /// Octets that are the wire form of no labels give `BadText`: they end before the name does, or go on behind it. A label
     /// of more than 63 octets gives `LabelTooLong`, so that a pointer of a message is refused too; then a wire form of more
-    /// than 255 octets gives `NameTooLong`; then comes `Memory`. Takes no memory for at most 31 octets.
+    /// than 255 octets gives `NameTooLong`; then comes `Memory`. Takes no memory for at most 31 octets, where no label has an
+    /// octet 0 or 1.
     pub fn from_wire(alloc: Global, octets: &[u8]) -> Result<Name, ProtoError>
         ensures ok { IfOk result (λ n. octets.now ≡ wire_form n) }
         ensures refusal { TellsWireFault result octets.now }

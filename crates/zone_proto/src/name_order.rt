@@ -5,7 +5,7 @@ ghost use Rattle.std.specs.Cmp.{partial_order_from_total, partial_equiv_from_equ
 ghost use Rattle.std.specs.Cmp.Lexicographic.{slice_cmp};
 ghost use Rattle.std.specs.Ordering.{as_partial_cmp, eq_by_cmp, nat_cmp};
 ghost use Rattle.std.proofs.Common.{refl};
-ghost use Rattle.zone_proto.specs.Names.{name_cmp, caseless_cmp, lower, IsAtOrAbove};
+ghost use Rattle.zone_proto.specs.Names.{name_cmp, caseless_cmp, lower, IsAtOrAbove, SharesLabels};
 ghost use Rattle.zone_proto.specs.NameLaws.{name_cmp_total, name_eq_equiv, caseless_cmp_total, caseless_eq_equiv};
 
 use crate::labels_iter::Labels;
@@ -115,6 +115,20 @@ pub fn labels_are_above(a: PrependedLabels<'_>, b: PrependedLabels<'_>) -> bool
         return false;
     }
     compare_alike(a, skip(b, j - i)).is_eq()
+}
+
+/// How many last labels two lists of labels in lower case share: the first of the one are taken away until the others are the
+/// last of the other.
+pub(crate) fn count_shared(a: PrependedLabels<'_>, b: PrependedLabels<'_>) -> usize
+    requires own { lower a ≡ a }
+    requires other { lower b ≡ b }
+    ensures { SharesLabels a.entry b.entry result }
+{
+    let mut rest = a;
+    while !labels_are_above(rest.clone(), b.clone()) {
+        let _ = rest.next();
+    }
+    rest.len()
 }
 
 /// Whether the labels are identical, the case of letters included.

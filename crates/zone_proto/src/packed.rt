@@ -2,23 +2,18 @@
 //
 // The canonical order of names (RFC 4034 section 6.1) compares labels from the rightmost on, each as a string of octets,
 // and an end is the least. As every label here is ended by the least octet, that is the order of the octets as one
-// string, and an ancestor is a front of its descendants. A label with an octet 0 has no place in this form.
-ghost use Rattle.std.specs.Prelude.{◌≡◌, ◌↔◌, [], ◌∷◌, ◌+◌, ◌^◌, ◌<◌, ◌≤◌, length, map, take, drop, set, IsTrue, IfOk, IfSome, MatchOption};
-ghost use Rattle.std.specs.Char.{to_ascii_lowercase};
-ghost use Rattle.std.specs.Cmp.Lexicographic.{slice_cmp};
+// string, and an ancestor is a front of its descendants. A label with an octet 0 has no place in this form, nor has one with
+// an octet 1, with which 0 is written where such names are ordered (`escaped`).
+ghost use Rattle.std.specs.Prelude.{◌≡◌, ◌↔◌, [], ◌∷◌, ◌+◌, ◌^◌, ◌<◌, ◌≤◌, length, take, drop, set, IsTrue, IfOk, IfSome, MatchOption};
 ghost use Rattle.std.specs.List.{AllByRecursion};
-ghost use Rattle.std.specs.Ordering.{nat_cmp, is_eq};
-ghost use Rattle.zone_proto.specs.Names.{lower, name_cmp, caseless_cmp, wildcard_of, IsAtOrAbove, IsName};
+ghost use Rattle.zone_proto.specs.Names.{lower, wildcard_of, IsName};
 ghost use Rattle.zone_proto.specs.Octets.{written};
 ghost use Rattle.zone_proto.specs.Packing.{packing, name_of, IsPacking, IsPackable, IsInner};
 ghost use Rattle.zone_proto.specs.Vectors.{octets_of};
 
-use crate::name_order::compare_label;
-use crate::octet_order::compare_octets;
 use crate::octets::Octets;
 use crate::storage::{Short, Storage};
 use std::alloc::{AllocError, Global};
-use std::cmp::Ordering;
 use std::marker::Model;
 
 /// A name in one piece.
@@ -140,54 +135,6 @@ pub(crate) fn pack_child(alloc: Global, octets: &[u8], label: &[u8]) -> Result<O
     Ok(child)
 }
 
-/// The canonical order, of names in lower case.
-pub(crate) fn compare_packed(a: &[u8], b: &[u8]) -> Ordering
-    requires a { IsPacking a.now (name_of a.now) }
-    requires b { IsPacking b.now (name_of b.now) }
-    ensures { result ≡ name_cmp (name_of a.now) (name_of b.now) }
-{
-    compare_octets(a, b)
-}
-
-/// The canonical order, the case of letters ignored.
-pub(crate) fn compare_packed_caseless(a: &[u8], b: &[u8]) -> Ordering
-    requires a { IsPacking a.now (name_of a.now) }
-    requires b { IsPacking b.now (name_of b.now) }
-    ensures { result ≡ caseless_cmp (name_of a.now) (name_of b.now) }
-{
-    compare_label(a, b)
-}
-
-/// Whether the names are identical, the case of letters included.
-pub(crate) fn packed_are_same(a: &[u8], b: &[u8]) -> bool
-    requires a { IsPacking a.now (name_of a.now) }
-    requires b { IsPacking b.now (name_of b.now) }
-    ensures { IsTrue result ↔ (name_of a.now ≡ name_of b.now) }
-{
-    a == b
-}
-
-/// Whether the name `b` is `a` or below it, the case of letters ignored.
-pub(crate) fn packed_is_above(a: &[u8], b: &[u8]) -> bool
-    requires a { IsPacking a.now (name_of a.now) }
-    requires b { IsPacking b.now (name_of b.now) }
-    ensures { IsTrue result ↔ IsAtOrAbove (lower (name_of a.now)) (lower (name_of b.now)) }
-{
-    if a.len() > b.len() {
-        return false;
-    }
-    are_same_caseless(a, &b[..a.len()])
-}
-
-/// Whether octets are the same, the case of letters ignored.
-fn are_same_caseless(a: &[u8], b: &[u8]) -> bool
-    ensures { result
-        ≡ is_eq (slice_cmp nat_cmp (map to_ascii_lowercase a.now) (map to_ascii_lowercase b.now)) }
-{
-    // Of names in lower case the first comparison tells, which takes eight octets at a time.
-    compare_octets(a, b).is_eq() || compare_label(a, b).is_eq()
-}
-
 /// How many octets the labels have with their ends.
 fn packed_length(labels: &[Vec<u8>]) -> usize {
     let mut octets = 0usize;
@@ -210,7 +157,7 @@ fn first_label_at(octets: &[u8]) -> usize
 }
 
 /// Writes the label `*` from a place on, in place of all that stands there.
-fn overwrite<S: Storage>(octets: &mut S, start: usize)
+pub(crate) fn overwrite<S: Storage>(octets: &mut S, start: usize)
     requires within { start + 1 < length (S.octets_in octets.old) }
     requires fits { start + 2 < 2 ^ 64 }
     ensures { S.octets_in octets.new

@@ -1,9 +1,9 @@
 //! Record sets (RFC 2181 section 5), with their signatures.
-ghost use Rattle.std.specs.Prelude.{◌≡◌, ◌<◌, ◌≤◌, ◌+◌, [], ◌++◌, ◌∷◌, true, ◌==◌, length, take, drop};
+ghost use Rattle.std.specs.Prelude.{◌≡◌, ◌<◌, ◌≤◌, ◌+◌, [], ◌++◌, ◌∷◌, true, false, ◌==◌, length, take, drop};
 ghost use Rattle.zone_proto.specs.Names.{same_name};
 ghost use Rattle.zone_proto.specs.Types.{IN, RRSIG};
 ghost use Rattle.zone_proto.specs.Data.{type_of};
-ghost use Rattle.zone_proto.specs.Sets.{IsSet, AreSignatures, inserted, lent, record_of, set_under};
+ghost use Rattle.zone_proto.specs.Sets.{IsSet, AreSignatures, appended, inserted, is_single, lent, record_of, set_under, stores};
 ghost use Rattle.zone_proto.specs.Results.{IsChange, IsCopy, IsInsertion};
 ghost use Rattle.zone_proto.specs.Stepping.{stepped};
 
@@ -274,10 +274,38 @@ impl RecordSet {
         }
         let ttl = new.ttl;
         put_record(&mut self.records, new)?;
+        self.has_taken(ttl, serial);
+        Ok(true)
+    }
+
+    /// Puts a record of the set's owner and type behind the others, as `insert` does with one whose data aren't stored, but
+    /// without looking through them: of many records the caller finds out in less time which data stand there already. Not for
+    /// the types of which a set has one record at most. `Memory` leaves the set as it was.
+    pub fn append(&mut self, new: Record, serial: u32) -> Result<(), ProtoError>
+        requires owner { same_name new.name self.old.owner ≡ true }
+        requires kind { type_of new.rdata ≡ self.old.record_type }
+        requires several { is_single self.old.record_type ≡ false }
+        requires absent { stores self.old.records new.rdata ≡ false }
+        ensures { IsChange self.old (appended self.old new serial) result self.new }
+    {
+        let ttl = new.ttl;
+        put_last(&mut self.records, new)?;
+        self.has_taken(ttl, serial);
+        Ok(())
+    }
+
+    /// What follows from a record that was taken: the set has its TTL and this serial, and no signatures.
+    fn has_taken(&mut self, ttl: u32, serial: u32)
+        ensures { self.new
+            ≡ record self.old {
+              ttl = ttl;
+              serial = serial;
+              signatures = [];
+            } }
+    {
         self.ttl = ttl;
         self.serial = serial;
         self.clear_rrsigs();
-        Ok(true)
     }
 
     /// Inserts, by the rule of `insert` and with serial 0, a record of these data with the set's owner and TTL and class IN.

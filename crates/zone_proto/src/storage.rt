@@ -1,5 +1,5 @@
 //! What the octets of a name stand in: the value itself where they are few, else a piece of memory.
-ghost use Rattle.std.specs.Prelude.{◌≡◌, ◌↔◌, ℕ, List, [], ◌∷◌, ◌++◌, ◌+◌, ◌<◌, ◌≤◌, length, take, drop, map, set, IsTrue};
+ghost use Rattle.std.specs.Prelude.{◌≡◌, ◌↔◌, ℕ, List, [], ◌∷◌, ◌++◌, ◌+◌, ◌<◌, ◌≤◌, length, take, map, set, IsTrue};
 ghost use Rattle.std.specs.Char.{to_ascii_lowercase};
 
 use crate::letter_case::lower_octets;
@@ -25,11 +25,6 @@ pub(crate) trait Storage: Drop {
     fn write(&mut self, at: usize, octet: u8)
         requires { at < length (octets_in self.old) }
         ensures { octets_in self.new ≡ set (octets_in self.old) at octet };
-
-    /// Takes so many octets away at the front.
-    fn cut_front(&mut self, count: usize)
-        requires { count ≤ length (octets_in self.old) }
-        ensures { octets_in self.new ≡ drop count (octets_in self.old) };
 
     /// Puts the letters into lower case.
     fn lower(&mut self)
@@ -133,12 +128,6 @@ impl Storage for Short {
         self.octets[at] = octet;
     }
 
-    fn cut_front(&mut self, count: usize) {
-        let length = usize::from(self.length);
-        self.octets.copy_within(count..length, 0);
-        self.length -= count as u8;
-    }
-
     fn lower(&mut self) {
         lower_octets(&mut self.octets[..usize::from(self.length)]);
     }
@@ -162,12 +151,6 @@ impl Storage for Vec<u8> {
 
     fn write(&mut self, at: usize, octet: u8) {
         self[at] = octet;
-    }
-
-    fn cut_front(&mut self, count: usize) {
-        let len = self.len();
-        self.as_mut_slice().copy_within(count..len, 0);
-        Vec::truncate(self, len - count);
     }
 
     fn lower(&mut self) {

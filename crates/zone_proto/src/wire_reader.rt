@@ -1,10 +1,10 @@
 //! Names read from their wire form (RFC 1035 section 3.1).
-ghost use Rattle.std.specs.Prelude.{◌≡◌, ◌≤◌, IfOk, IfErr, length, nat_lt, if◌then◌else◌, Some, None};
+ghost use Rattle.std.specs.Prelude.{◌≡◌, ◌≤◌, IfOk, IfErr, IsTrue, length, nat_lt, if◌then◌else◌, Some, None};
 ghost use Rattle.std.specs.List.{AllByRecursion};
 ghost use Rattle.zone_proto.specs.Counting.{counted_name, IsCounting};
 ghost use Rattle.zone_proto.specs.Names.{wire_form, IsName};
 ghost use Rattle.zone_proto.specs.Ranges.{IsOctet};
-ghost use Rattle.zone_proto.specs.Packing.{packing, IsInner};
+ghost use Rattle.zone_proto.specs.Packing.{packing, IsPackable};
 ghost use Rattle.zone_proto.specs.Faults.{first_of_faults};
 ghost use Rattle.zone_proto.specs.Forms.{labels_of};
 ghost use Rattle.zone_proto.specs.WireForms.{IsWireFault, IsWireForm, TellsWireFault};
@@ -13,7 +13,6 @@ use crate::counted::split_counted;
 use crate::error::ProtoError;
 use crate::form::{Form, is_inner};
 use crate::labels::{LONGEST_LABEL, LONGEST_NAME};
-use crate::octets::Octets;
 use crate::packed::Packed;
 use crate::storage::{ROOM, Short};
 use std::alloc::{AllocError, Global};
@@ -25,11 +24,26 @@ pub(crate) fn read_wire(alloc: Global, octets: &[u8]) -> Result<Form, ProtoError
     ensures refusal { TellsWireFault result octets.now }
 {
     let labels = check_wire(octets)?;
-    if is_inner(labels) {
+    if are_inner(labels) {
         Ok(pack(alloc, labels)?)
     } else {
-        Ok(Form::of_counting(Octets::from_slice(alloc, labels)?))
+        Ok(Form::of_counting(Vec::from_slice(alloc, labels)?)?)
     }
+}
+
+/// Whether none of the labels has an octet 0 or 1.
+fn are_inner(labels: &[u8]) -> bool
+    requires { IsCounting labels.now (counted_name labels.now) }
+    ensures { IsTrue result → IsPackable (counted_name labels.now) }
+{
+    let mut rest = labels;
+    while let Some((label, after)) = split_counted(rest) {
+        if !is_inner(label) {
+            return false;
+        }
+        rest = after;
+    }
+    true
 }
 
 /// The labels behind their lengths, without the end, where the octets are the wire form of a name; else the first fault.
@@ -75,10 +89,10 @@ fn first_fault(fault: Option<ProtoError>, label: &[u8]) -> Option<ProtoError>
     }
 }
 
-/// The labels, none of which has an octet 0, each before its end. Up to 30 octets take no memory.
+/// The labels, none of which has an octet 0 or 1, each before its end. Up to 30 octets take no memory.
 fn pack(alloc: Global, labels: &[u8]) -> Result<Form, AllocError>
     requires counting { IsCounting labels.now (counted_name labels.now) }
-    requires inner { AllByRecursion IsInner labels.now }
+    requires inner { IsPackable (counted_name labels.now) }
     ensures { IfOk result (λ f. labels_of f ≡ counted_name labels.now) }
 {
     if labels.len() <= ROOM {
@@ -89,10 +103,10 @@ fn pack(alloc: Global, labels: &[u8]) -> Result<Form, AllocError>
     Ok(Form::LongPacked(Packed::of_octets(octets)))
 }
 
-/// Up to 30 octets of labels, none of which has an octet 0, each before its end.
+/// Up to 30 octets of labels, none of which has an octet 0 or 1, each before its end.
 fn pack_short(alloc: Global, labels: &[u8]) -> Packed<Short>
     requires counting { IsCounting labels.now (counted_name labels.now) }
-    requires inner { AllByRecursion IsInner labels.now }
+    requires inner { IsPackable (counted_name labels.now) }
     requires few { length labels.now ≤ 30 }
     ensures { result ≡ counted_name labels.now }
 {

@@ -40,7 +40,7 @@ inner_after s (l ∷ n) i d e h le lt z =
     (sym (ap (λ t. get_or t i d) e ∙ get_or-append_right (packing n) (l ++ 0 ∷ []) (length (packing n)) i d refl le) ∙ z)
 
 -- a walk from the back to the octet that ends the label before the first
-le_cases : (p i : ℕ) → p ≤ i → (p ≡ i) ⊎ (p < i)
+pub le_cases : (p i : ℕ) → p ≤ i → (p ≡ i) ⊎ (p < i)
 le_cases p i h = by (nat_cmp p i) (ranked p i (nat_cmp p i) refl)
   where
     by : (o : Ordering) → MatchOrdering o (p < i) (p ≡ i) (i < p) → (p ≡ i) ⊎ (p < i)

@@ -18,31 +18,43 @@ use Rattle.zone_proto.specs.Packing.{IsInner, IsPackable, packing, read_on, name
 use Rattle.zone_proto.proofs.Names.Faults.{AllByRecursion-push}
 use Rattle.zone_proto.proofs.Ordering.FromLeft.{then_assoc}
 
+-- no label has an octet 0, which would end it
+abbrev pub IsClear : Name → Type 0
+IsClear = AllByRecursion (AllByRecursion (λ b. 0 < b))
+
+clear_label : (l : Label) → AllByRecursion IsInner l → AllByRecursion (λ b. 0 < b) l
+clear_label [] h = tt
+clear_label (b ∷ l) h = (omega (arith, h.0), clear_label l h.1)
+
+pub packable_clear : (n : Name) → IsPackable n → IsClear n
+packable_clear [] h = tt
+packable_clear (l ∷ n) h = (clear_label l h.0, packable_clear n h.1)
+
 -- ---- what is packed is read back
 
 is_inner : (b : ℕ) → 0 < b → (b == 0) ≡ false
 is_inner b h = grind (arith, nat_tests)
 
-read_label : (n : Name) (l k : Label) (s : List ℕ) → AllByRecursion IsInner k → read_on n l (k ++ s) ≡ read_on n (l ++ k) s
+read_label : (n : Name) (l k : Label) (s : List ℕ) → AllByRecursion (λ b. 0 < b) k → read_on n l (k ++ s) ≡ read_on n (l ++ k) s
 read_label n l [] s h = ap (λ z. read_on n z s) (sym (append-nil l))
 read_label n l (b ∷ k) s h =
     ap (λ t. cond t (read_on (l ∷ n) [] (k ++ s)) (read_on n (l ++ b ∷ []) (k ++ s))) (is_inner b h.0)
     ∙ read_label n (l ++ b ∷ []) k s h.1
     ∙ ap (λ z. read_on n z s) (append_assoc l (b ∷ []) k)
 
-pub read_packing : (m n : Name) (s : List ℕ) → IsPackable m → read_on n [] (packing m ++ s) ≡ read_on (m ++ n) [] s
+pub read_packing : (m n : Name) (s : List ℕ) → IsClear m → read_on n [] (packing m ++ s) ≡ read_on (m ++ n) [] s
 read_packing [] n s h = refl
 read_packing (l ∷ m) n s h =
     ap (read_on n []) (append_assoc (packing m) (l ++ 0 ∷ []) s ∙ ap (λ z. packing m ++ z) (append_assoc l (0 ∷ []) s))
     ∙ read_packing m n (l ++ 0 ∷ s) h.1
     ∙ read_label (m ++ n) [] l (0 ∷ s) h.0
 
-pub name_of_packing : (m : Name) → IsPackable m → name_of (packing m) ≡ m
+pub name_of_packing : (m : Name) → IsClear m → name_of (packing m) ≡ m
 name_of_packing m h = ap name_of (sym (append-nil (packing m))) ∙ read_packing m [] [] h ∙ append-nil m
 
 -- octets that are a packing are the packing of their name
 pub is_name_of : (s : List ℕ) (n : Name) → IsPackable n → s ≡ packing n → name_of s ≡ n
-is_name_of s n h e = ap name_of e ∙ name_of_packing n h
+is_name_of s n h e = ap name_of e ∙ name_of_packing n (packable_clear n h)
 
 pub is_packing : (s : List ℕ) (n : Name) → IsPackable n → s ≡ packing n → IsPacking s (name_of s)
 is_packing s n h e =
@@ -51,7 +63,7 @@ is_packing s n h e =
 
 -- ---- the order of the octets is the order of the names
 
-abbrev from_root : List Label → List ℕ
+abbrev pub from_root : List Label → List ℕ
 from_root [] = []
 from_root (l ∷ ls) = l ++ 0 ∷ from_root ls
 
@@ -59,18 +71,18 @@ from_root-push : (ls : List Label) (l : Label) → from_root (ls ++ l ∷ []) �
 from_root-push [] l = refl
 from_root-push (k ∷ ls) l = ap (λ z. k ++ 0 ∷ z) (from_root-push ls l) ∙ sym (append_assoc k (0 ∷ from_root ls) (l ++ 0 ∷ []))
 
-packing_from_root : (n : Name) → packing n ≡ from_root (reverse n)
+pub packing_from_root : (n : Name) → packing n ≡ from_root (reverse n)
 packing_from_root [] = refl
 packing_from_root (l ∷ n) =
     ap (λ z. z ++ (l ++ 0 ∷ [])) (packing_from_root n) ∙ sym (from_root-push (reverse n) l) ∙ ap from_root (sym (reverse-append (l ∷ []) n))
 
-packable_reverse : (n : Name) → IsPackable n → IsPackable (reverse n)
-packable_reverse [] h = tt
-packable_reverse (l ∷ n) h =
-    subst IsPackable (sym (reverse-append (l ∷ []) n)) (AllByRecursion-push (AllByRecursion IsInner) (reverse n) l (packable_reverse n h.1) h.0)
+clear_reverse : (n : Name) → IsClear n → IsClear (reverse n)
+clear_reverse [] h = tt
+clear_reverse (l ∷ n) h =
+    subst IsClear (sym (reverse-append (l ∷ []) n)) (AllByRecursion-push (AllByRecursion (λ b. 0 < b)) (reverse n) l (clear_reverse n h.1) h.0)
 
 -- a label that ends is compared before what follows
-label_first : (x y s t : List ℕ) → AllByRecursion IsInner x → AllByRecursion IsInner y
+label_first : (x y s t : List ℕ) → AllByRecursion (λ b. 0 < b) x → AllByRecursion (λ b. 0 < b) y
     → slice_cmp nat_cmp (x ++ 0 ∷ s) (y ++ 0 ∷ t) ≡ ordering_then (slice_cmp nat_cmp x y) (slice_cmp nat_cmp s t)
 label_first [] [] s t h g = ap (λ r. ordering_then r (slice_cmp nat_cmp s t)) (sym (nat_cmp_is 0 0 Equal refl))
 label_first [] (b ∷ y) s t h g = ap (λ r. ordering_then r (slice_cmp nat_cmp s (y ++ 0 ∷ t))) (sym (nat_cmp_is 0 b Less g.0))
@@ -86,7 +98,7 @@ some_first : (x s : List ℕ) → slice_cmp nat_cmp (x ++ 0 ∷ s) [] ≡ Greate
 some_first [] s = refl
 some_first (a ∷ x) s = refl
 
-from_root_cmp : (xs ys : List Label) → IsPackable xs → IsPackable ys
+from_root_cmp : (xs ys : List Label) → IsClear xs → IsClear ys
     → slice_cmp nat_cmp (from_root xs) (from_root ys) ≡ slice_cmp (slice_cmp nat_cmp) xs ys
 from_root_cmp [] [] h g = refl
 from_root_cmp [] (y ∷ ys) h g = none_first y (from_root ys)
@@ -94,14 +106,14 @@ from_root_cmp (x ∷ xs) [] h g = some_first x (from_root xs)
 from_root_cmp (x ∷ xs) (y ∷ ys) h g =
     label_first x y (from_root xs) (from_root ys) h.0 g.0 ∙ ap (ordering_then (slice_cmp nat_cmp x y)) (from_root_cmp xs ys h.1 g.1)
 
-pub packing_cmp : (n m : Name) → IsPackable n → IsPackable m → slice_cmp nat_cmp (packing n) (packing m) ≡ name_cmp n m
+pub packing_cmp : (n m : Name) → IsClear n → IsClear m → slice_cmp nat_cmp (packing n) (packing m) ≡ name_cmp n m
 packing_cmp n m h g =
     (λ i. slice_cmp nat_cmp (packing_from_root n i) (packing_from_root m i))
-    ∙ from_root_cmp (reverse n) (reverse m) (packable_reverse n h) (packable_reverse m g)
+    ∙ from_root_cmp (reverse n) (reverse m) (clear_reverse n h) (clear_reverse m g)
 
 -- ---- lower case
 
-inner_lower : (b : ℕ) → 0 < b → 0 < to_ascii_lowercase b
+inner_lower : (b : ℕ) → 1 < b → 1 < to_ascii_lowercase b
 inner_lower b h = grind (arith, nat_tests)
 
 label_lower : (l : Label) → AllByRecursion IsInner l → AllByRecursion IsInner (map to_ascii_lowercase l)
@@ -118,11 +130,6 @@ packing_lower (l ∷ n) =
     map-append to_ascii_lowercase (packing n) (l ++ 0 ∷ [])
     ∙ λ i. packing_lower n i ++ map-append to_ascii_lowercase l (0 ∷ []) i
 
-pub packing_caseless : (n m : Name) → IsPackable n → IsPackable m
-    → slice_cmp nat_cmp (map to_ascii_lowercase (packing n)) (map to_ascii_lowercase (packing m)) ≡ caseless_cmp n m
-packing_caseless n m h g =
-    (λ i. slice_cmp nat_cmp (packing_lower n i) (packing_lower m i)) ∙ packing_cmp (lower n) (lower m) (packable_lower n h) (packable_lower m g)
-
 -- ---- a front is an ancestor
 
 goes_on : (n : Name) (l : Label) (s : List ℕ) → IsAtOrAbove n (read_on n l s)
@@ -134,7 +141,7 @@ goes_on n l (b ∷ s) = by (b == 0) (goes_on (l ∷ n) [] s) (goes_on n (l ++ b 
     by true up on = (up.0 ++ l ∷ [], up.1 ∙ sym (append_assoc up.0 (l ∷ []) n))
     by false up on = on
 
-pub above_from_front : (a n : Name) (t : List ℕ) → IsPackable a → IsPackable n → packing n ≡ packing a ++ t → IsAtOrAbove a n
+pub above_from_front : (a n : Name) (t : List ℕ) → IsClear a → IsClear n → packing n ≡ packing a ++ t → IsAtOrAbove a n
 above_from_front a n t h g e =
     subst (IsAtOrAbove a)
     (ap (λ z. read_on z [] t) (sym (append-nil a)) ∙ sym (read_packing a [] t h) ∙ ap name_of (sym e) ∙ name_of_packing n g)
@@ -164,56 +171,3 @@ counted n l (b ∷ s) = by (b == 0) (counted (l ∷ n) [] s) (counted n (l ++ b 
 
 pub count_of : (s : List ℕ) → length (name_of s) ≡ ends s
 count_of s = omega (arith, counted [] [] s)
-
--- ---- the test whether octets are a front
-
-too_long : (a n : Name) → IsAtOrAbove (lower a) (lower n) → length (packing a) ≤ length (packing n)
-too_long a n w =
-    let up = front_from_above (lower a) w.0 in
-    let whole : packing (lower n) ≡ packing (lower a) ++ up.0 = ap packing w.1 ∙ up.1 in
-    omega (
-      arith,
-      ap length whole,
-      length-append (packing (lower a)) up.0,
-      ap length (packing_lower a),
-      ap length (packing_lower n),
-      length-map (packing a) to_ascii_lowercase,
-      length-map (packing n) to_ascii_lowercase,
-    )
-
-pub no_room : (s t : List ℕ) (a n : Name) → s ≡ packing a → t ≡ packing n → length t < length s → IsAtOrAbove (lower a) (lower n) → ⊥
-no_room s t a n e d h w = omega (arith, too_long a n w, ap length e, ap length d, h)
-
-equal_from : (o : Ordering) → is_eq o ≡ true → o ≡ Equal
-equal_from Less e = cc
-equal_from Equal e = refl
-equal_from Greater e = cc
-
--- of octets that are equal, those in lower case are
-pub equal_lowered : (s t : List ℕ) (r : Bool) → r ≡ true → r ≡ is_eq (slice_cmp nat_cmp s t)
-    → r ≡ is_eq (slice_cmp nat_cmp (map to_ascii_lowercase s) (map to_ascii_lowercase t))
-equal_lowered s t r y e =
-    let same : s ≡ t = exact_bytes _ _ (equal_from _ (sym e ∙ y)) in
-    y ∙ sym (
-    ap (λ z. is_eq (slice_cmp nat_cmp (map to_ascii_lowercase s) (map to_ascii_lowercase z))) (sym same)
-    ∙ ap is_eq (tied_itself nat_list_cmp_total (map to_ascii_lowercase s)))
-
-pub front_test : (s t : List ℕ) (a n : Name) (r : Bool) → IsPacking s a → IsPacking t n
-    → r ≡ is_eq (slice_cmp nat_cmp (map to_ascii_lowercase s) (map to_ascii_lowercase (take (length s) t)))
-    → (r ≡ true → IsAtOrAbove (lower a) (lower n)) × (IsAtOrAbove (lower a) (lower n) → r ≡ true)
-front_test s t a n r h g e =
-    let own : map to_ascii_lowercase s ≡ packing (lower a) = ap (map to_ascii_lowercase) h.octets ∙ packing_lower a in
-    let whole : map to_ascii_lowercase t ≡ packing (lower n) = ap (map to_ascii_lowercase) g.octets ∙ packing_lower n in
-    let count : length s ≡ length (packing (lower a)) = sym (length-map s to_ascii_lowercase) ∙ ap length own in
-    let test : r ≡ is_eq (slice_cmp nat_cmp (packing (lower a)) (take (length (packing (lower a))) (packing (lower n)))) =
-    e ∙ (λ i. is_eq (slice_cmp nat_cmp (own i) ((sym (take-map to_ascii_lowercase (length s) t) ∙ λ j. take (count j) (whole j)) i))) in (
-      λ y. let same : packing (lower a) ≡ take (length (packing (lower a))) (packing (lower n)) = exact_bytes _ _ (equal_from _ (sym test ∙ y)) in
-          above_from_front (lower a) (lower n) (drop (length (packing (lower a))) (packing (lower n)))
-          (packable_lower a h.packable) (packable_lower n g.packable)
-          (sym (take-append-drop (length (packing (lower a))) (packing (lower n))) ∙ ap (λ z. z ++ drop (length (packing (lower a))) (packing (lower n))) (sym same)),
-      λ w. let up = front_from_above (lower a) w.0 in
-          test
-          ∙ ap (λ z. is_eq (slice_cmp nat_cmp (packing (lower a)) (take (length (packing (lower a))) z))) (ap packing w.1 ∙ up.1)
-          ∙ ap (λ z. is_eq (slice_cmp nat_cmp (packing (lower a)) z)) (take-append_seam (packing (lower a)) up.0)
-          ∙ ap is_eq (tied_itself nat_list_cmp_total (packing (lower a))),
-    )

@@ -165,19 +165,6 @@ is_wire_form octets rest labels fault r is found short cut =
       form = form ∙ ap wire_form same;
     }
 
--- ---- labels without an octet 0
-
-after_front : {A : Type 0} (P : A → Type 0) (xs ys : List A) → AllByRecursion P (xs ++ ys) → AllByRecursion P xs × AllByRecursion P ys
-after_front P [] ys h = (tt, h)
-after_front P (x ∷ xs) ys h = let rest = after_front P xs ys h.1 in ((h.0, rest.0), rest.1)
-
-packable : (n : Name) → AllByRecursion IsInner (counting n) → IsPackable n
-packable [] h = tt
-packable (l ∷ n) h = let parts = after_front IsInner l (counting n) h.1 in (parts.0, packable n parts.1)
-
-pub inner_is_packable : (labels : List ℕ) → IsCounting labels (counted_name labels) → AllByRecursion IsInner labels → IsPackable (counted_name labels)
-inner_is_packable labels c h = packable (counted_name labels) (subst (AllByRecursion IsInner) c.octets h)
-
 -- ---- the labels from the root on
 
 pub counting_is_packing : (n : Name) → length (packing n) ≡ length (counting n)
@@ -270,12 +257,11 @@ pub refilled : (n : ℕ) (xs ws : List ℕ) → length ws ≡ n → take n (ws +
 refilled n xs ws size = take_at ws (drop (length ws) xs) n size
 
 -- the packing that was written is that of the name
-pub packed : (labels ws octets : List ℕ) → IsCounting labels (counted_name labels) → AllByRecursion IsInner labels → ws ≡ packing (counted_name labels)
+pub packed : (labels ws octets : List ℕ) → IsCounting labels (counted_name labels) → IsPackable (counted_name labels) → ws ≡ packing (counted_name labels)
     → octets ≡ ws → IsPacking octets (name_of octets) × (name_of octets ≡ counted_name labels)
 packed labels ws octets c inner written is =
-    let valid = inner_is_packable labels c inner in
     let e : octets ≡ packing (counted_name labels) = is ∙ written in
-    (is_packing octets (counted_name labels) valid e, is_name_of octets (counted_name labels) valid e)
+    (is_packing octets (counted_name labels) inner e, is_name_of octets (counted_name labels) inner e)
 
 -- ---- the test whether a list is empty
 

@@ -1,12 +1,15 @@
 -- Lists of numbers that begin alike: what follows decides their order.
-use Rattle.std.proofs.Common.{◌≡◌, ℕ, ◌+◌, ◌-◌, ◌≤◌, List, [], ◌∷◌, ◌++◌, length, take, drop, Bool, false, refl, sym, ap, ◌∙◌, arith, min}
-use Rattle.std.proofs.lemmas.List.{take-append-drop, take-take, length-take, length-drop, drop-take, take_all}
+use Rattle.std.proofs.Common.{◌≡◌, ℕ, ◌+◌, ◌-◌, ◌<◌, ◌≤◌, List, [], ◌∷◌, ◌++◌, length, map, take, drop, Bool, true, false, refl, sym, ap, ◌∙◌, arith, min}
+use Rattle.std.proofs.lemmas.List.{take-append-drop, take-take, length-take, length-drop, drop-take, take_all, take_at, map-append, length-append, length-map}
+use Rattle.std.proofs.lemmas.Cmp.{tied_itself}
+use Rattle.std.specs.Char.{to_ascii_lowercase}
+use Rattle.std.specs.List.{take-map}
 use Rattle.std.proofs.lemmas.Map.Lookups.{exact_bytes}
 use Rattle.std.specs.declared.cmp.Ordering.{Ordering}
 use Rattle.std.specs.declared.cmp.Ordering.TheVariants.{Less, Equal, Greater}
-use Rattle.std.specs.Ordering.{nat_cmp, ordering_then, is_ne}
+use Rattle.std.specs.Ordering.{nat_cmp, ordering_then, is_ne, is_eq}
 use Rattle.std.specs.Cmp.{nat_cmp_is}
-use Rattle.std.specs.Cmp.Lexicographic.{slice_cmp}
+use Rattle.std.specs.Cmp.Lexicographic.{slice_cmp, nat_list_cmp_total}
 use Rattle.zone_proto.proofs.Ordering.FromLeft.{cmp_append, cmp_end}
 
 after_front : (p s t : List ℕ) → slice_cmp nat_cmp (p ++ s) (p ++ t) ≡ slice_cmp nat_cmp s t
@@ -67,3 +70,41 @@ shared_first s t k least =
     (λ x y. omega (arith, x, y, length-drop k s, length-drop k t, least))))
     ∙ sym (cmp_append nat_cmp (take k s) (take k t) (drop k s) (drop k t) (in_s ∙ sym in_t))
     ∙ λ i. slice_cmp nat_cmp (take-append-drop k s i) (take-append-drop k t i)
+
+-- ---- the case of letters ignored
+
+pub equal_from : (o : Ordering) → is_eq o ≡ true → o ≡ Equal
+equal_from Less e = cc
+equal_from Equal e = refl
+equal_from Greater e = cc
+
+-- of octets that are equal, those in lower case are
+pub equal_lowered : (s t : List ℕ) (r : Bool) → r ≡ true → r ≡ is_eq (slice_cmp nat_cmp s t)
+    → r ≡ is_eq (slice_cmp nat_cmp (map to_ascii_lowercase s) (map to_ascii_lowercase t))
+equal_lowered s t r y e =
+    let same : s ≡ t = exact_bytes _ _ (equal_from _ (sym e ∙ y)) in
+    y ∙ sym (
+    ap (λ z. is_eq (slice_cmp nat_cmp (map to_ascii_lowercase s) (map to_ascii_lowercase z))) (sym same)
+    ∙ ap is_eq (tied_itself nat_list_cmp_total (map to_ascii_lowercase s)))
+
+-- the first octets of a list are others, or the list doesn't begin with these
+pub front_test : (s t : List ℕ) (r : Bool) → length s ≤ length t
+    → r ≡ is_eq (slice_cmp nat_cmp (map to_ascii_lowercase s) (map to_ascii_lowercase (take (length s) t)))
+    → (r ≡ true → (u : List ℕ) × (map to_ascii_lowercase t ≡ map to_ascii_lowercase s ++ u))
+    × ((u : List ℕ) × (map to_ascii_lowercase t ≡ map to_ascii_lowercase s ++ u) → r ≡ true)
+front_test s t r short e = (
+  λ y. let same : map to_ascii_lowercase s ≡ map to_ascii_lowercase (take (length s) t) = exact_bytes _ _ (equal_from _ (sym e ∙ y)) in (
+    map to_ascii_lowercase (drop (length s) t),
+    ap (map to_ascii_lowercase) (sym (take-append-drop (length s) t))
+        ∙ map-append to_ascii_lowercase (take (length s) t) (drop (length s) t)
+        ∙ ap (λ z. z ++ map to_ascii_lowercase (drop (length s) t)) (sym same),
+  ),
+  λ w. let same : map to_ascii_lowercase (take (length s) t) ≡ map to_ascii_lowercase s =
+      sym (take-map to_ascii_lowercase (length s) t) ∙ ap (take (length s)) w.1 ∙ take_at (map to_ascii_lowercase s) w.0 (length s) (length-map s to_ascii_lowercase) in
+      e ∙ ap (λ z. is_eq (slice_cmp nat_cmp (map to_ascii_lowercase s) z)) same ∙ ap is_eq (tied_itself nat_list_cmp_total (map to_ascii_lowercase s)),
+)
+
+-- a longer list is no front
+pub no_front : (s t u : List ℕ) → length t < length s → map to_ascii_lowercase t ≡ map to_ascii_lowercase s ++ u → ⊥
+no_front s t u long e =
+    omega (arith, long, ap length e, length-append (map to_ascii_lowercase s) u, length-map s to_ascii_lowercase, length-map t to_ascii_lowercase)

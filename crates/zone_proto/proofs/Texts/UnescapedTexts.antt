@@ -12,7 +12,7 @@ use Rattle.zone_proto.specs.Unescaped.{IsUnescaped, IsUnescapedLabel, IsFront}
 use Rattle.zone_proto.proofs.Names.Packings.{is_packing, is_name_of}
 use Rattle.zone_proto.proofs.Texts.TextFaults.{label_text}
 
-inner_octet : (b : ℕ) → IsTrue (is_graphic b) → 0 < b
+inner_octet : (b : ℕ) → IsTrue (is_graphic b) → 1 < b
 inner_octet b h = grind (arith, nat_tests)
 
 inner_octets : (l : Label) → AllByRecursion IsUnescaped l → AllByRecursion IsInner l

@@ -9,7 +9,7 @@ use crate::seq::Seq;
 /// The data of an NSEC record: what the owner has, and the next owner (RFC 4034 section 4.1).
 ///
 /// Equal by all parts, names without case.
-#[derive(PartialEq, Eq, Debug, Drop)]
+#[derive(PartialEq, Eq, PartialOrd, Ord, Debug, Drop)]
 pub struct NSEC {
     /// The next authoritative name in canonical order; the zone's origin after the last.
     pub next_domain_name: Name,
@@ -32,7 +32,7 @@ impl NSEC {
 /// The data of an NSEC3 record: denial by hashed names (RFC 5155 section 3.1).
 ///
 /// Equal by all parts.
-#[derive(PartialEq, Eq, Debug, Drop)]
+#[derive(PartialEq, Eq, PartialOrd, Ord, Debug, Drop)]
 pub struct NSEC3 {
     /// The hash algorithm's number; 1 is SHA-1.
     pub algorithm: u8,
@@ -67,7 +67,7 @@ impl NSEC3 {
 /// The data of an NSEC3PARAM record: the parameters of a zone's hashes (RFC 5155 section 4.1).
 ///
 /// Equal by all parts.
-#[derive(PartialEq, Eq, Debug, Drop)]
+#[derive(PartialEq, Eq, PartialOrd, Ord, Debug, Drop)]
 pub struct NSEC3PARAM {
     /// The hash algorithm's number; 1 is SHA-1.
     pub algorithm: u8,

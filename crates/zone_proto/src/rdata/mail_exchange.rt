@@ -7,7 +7,7 @@ use crate::name::Name;
 /// The data of an MX record: a mail exchange of the owner (RFC 1035 section 3.3.9).
 ///
 /// Equal by all parts, names without case.
-#[derive(PartialEq, Eq, Debug, Drop)]
+#[derive(PartialEq, Eq, PartialOrd, Ord, Debug, Drop)]
 pub struct MX {
     /// The lower value is preferred.
     pub preference: u16,

@@ -10,7 +10,7 @@ use crate::seq::Seq;
 /// The data of a type without a case of its own in `RData`: the type and the data's octets as they are (RFC 3597 section 3).
 ///
 /// Equal by type and octets.
-#[derive(PartialEq, Eq, Debug, Drop)]
+#[derive(PartialEq, Eq, PartialOrd, Ord, Debug, Drop)]
 pub struct OtherData {
     record_type: RecordType,
     octets: Seq<u8>,

@@ -7,7 +7,7 @@ use crate::name::Name;
 /// The data of an SRV record: where a service is found (RFC 2782).
 ///
 /// Equal by all parts, names without case.
-#[derive(PartialEq, Eq, Debug, Drop)]
+#[derive(PartialEq, Eq, PartialOrd, Ord, Debug, Drop)]
 pub struct SRV {
     /// The lower value is tried first.
     pub priority: u16,

@@ -9,7 +9,7 @@ use crate::seq::Seq;
 /// The data of a DNSKEY record: a zone's public key (RFC 4034 section 2.1).
 ///
 /// Equal by all parts.
-#[derive(PartialEq, Eq, Debug, Drop)]
+#[derive(PartialEq, Eq, PartialOrd, Ord, Debug, Drop)]
 pub struct DNSKEY {
     /// 256 for a zone key, 257 for one that is a secure entry point too.
     pub flags: u16,
@@ -38,7 +38,7 @@ impl DNSKEY {
 /// The data of an RRSIG record: the signature of a record set (RFC 4034 section 3.1).
 ///
 /// Equal by all parts, names without case.
-#[derive(PartialEq, Eq, Debug, Drop)]
+#[derive(PartialEq, Eq, PartialOrd, Ord, Debug, Drop)]
 pub struct RRSIG {
     /// The type of the signed set.
     pub type_covered: RecordType,

@@ -7,7 +7,7 @@ use crate::name::Name;
 /// The data of an SOA record: the start of a zone of authority (RFC 1035 section 3.3.13).
 ///
 /// Equal by all parts, names without case.
-#[derive(PartialEq, Eq, Debug, Drop)]
+#[derive(PartialEq, Eq, PartialOrd, Ord, Debug, Drop)]
 pub struct SOA {
     /// The server that is the zone's original source.
     pub mname: Name,

@@ -7,15 +7,15 @@ use Rattle.zone_proto.proofs.Names.Countings.{is_counting, is_counted_name, coun
 use Rattle.zone_proto.proofs.counted.Counted.lower.Goals as goal
 
 pub invariant_of-self : goal.invariant_of-self
-invariant_of-self g c =
-    let n : Name = counted_name (g.S.Storage.octets_in c.self.inside.octets) in
-    let low : g.S.Storage.octets_in c.lower.new.self ≡ counting (lower n) =
+invariant_of-self c =
+    let n : Name = counted_name (c.self.inside.octets.items) in
+    let low : c.lower.new.self.items ≡ counting (lower n) =
     c.lower.ensures ∙ ap (map to_ascii_lowercase) c.self.invariant.octets ∙ counting_lower n c.self.invariant.labels in
-    is_counting (g.S.Storage.octets_in c.lower.new.self) (lower n) (labels_lower n c.self.invariant.labels) low
+    is_counting c.lower.new.self.items (lower n) (labels_lower n c.self.invariant.labels) low
 
 pub returns : goal.returns
-returns g c =
-    let n : Name = counted_name (g.S.Storage.octets_in c.self.inside.octets) in
-    let low : g.S.Storage.octets_in c.lower.new.self ≡ counting (lower n) =
+returns c =
+    let n : Name = counted_name (c.self.inside.octets.items) in
+    let low : c.lower.new.self.items ≡ counting (lower n) =
     c.lower.ensures ∙ ap (map to_ascii_lowercase) c.self.invariant.octets ∙ counting_lower n c.self.invariant.labels in
-    is_counted_name (g.S.Storage.octets_in c.lower.new.self) (lower n) low ∙ ap lower c.self.view_is
+    is_counted_name c.lower.new.self.items (lower n) low ∙ ap lower c.self.view_is

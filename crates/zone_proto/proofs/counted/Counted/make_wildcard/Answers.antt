@@ -5,18 +5,18 @@ use Rattle.zone_proto.proofs.Names.Countings.{starred_front}
 use Rattle.zone_proto.proofs.counted.Counted.make_wildcard.Goals as goal
 
 pub invariant_of-self : goal.invariant_of-self
-invariant_of-self g c =
-    let s = g.S.Storage.octets_in c.self.inside.octets in
+invariant_of-self c =
+    let s = c.self.inside.octets.items in
     let some : s ≡ [] → ⊥ = λ e. omega (arith, some_octets (length c.octets-octets.result.now) (sym c.is_empty.ensures ∙ c.if-is_empty.false), ap length c.octets-octets.ensures, ap length e) in
     let at : c.from-count.result ≡ get_or s 0 0 = c.from-count.ensures ∙ ap (λ z. get_or z 0 0) c.octets-octets.ensures in
-    (starred_front s (g.S.Storage.octets_in c.write-2.new.self) c.from-count.result c.self.invariant some at
+    (starred_front s c.write-2.new.self.items c.from-count.result c.self.invariant some at
     (c.write-2.ensures ∙ ap (λ z. set z 1 42) (c.write.ensures ∙ ap (λ z. set z 0 1) c.cut_front.ensures))).counting
 
 pub returns : goal.returns
-returns g c =
-    let s = g.S.Storage.octets_in c.self.inside.octets in
+returns c =
+    let s = c.self.inside.octets.items in
     let some : s ≡ [] → ⊥ = λ e. omega (arith, some_octets (length c.octets-octets.result.now) (sym c.is_empty.ensures ∙ c.if-is_empty.false), ap length c.octets-octets.ensures, ap length e) in
     let at : c.from-count.result ≡ get_or s 0 0 = c.from-count.ensures ∙ ap (λ z. get_or z 0 0) c.octets-octets.ensures in
-    (starred_front s (g.S.Storage.octets_in c.write-2.new.self) c.from-count.result c.self.invariant some at
+    (starred_front s c.write-2.new.self.items c.from-count.result c.self.invariant some at
     (c.write-2.ensures ∙ ap (λ z. set z 1 42) (c.write.ensures ∙ ap (λ z. set z 0 1) c.cut_front.ensures))).name
     ∙ ap wildcard_of c.self.view_is

@@ -29,7 +29,7 @@ returns c =
     let taken = inserted_taken (set_of c.self.inside) c.args.new c.args.serial c.self.invariant.set kind new in
     record {
       answer = search rules;
-      after = rw (c.clear_rrsigs.ensures, ← c.self.view_is, taken, c.in_ok-put_record.ensures.ok) refl;
+      after = rw (c.has_taken.ensures, ← c.self.view_is, taken, c.in_ok-put_record.ensures.ok) refl;
       err = tt;
       same = tt;
     }

@@ -1,0 +1,7 @@
+use Rattle.std.proofs.Common.{drop, ap, ◌∙◌}
+use Rattle.std.proofs.lemmas.List.{drop-drop}
+use Rattle.zone_proto.proofs.lower_name.LowerName.ancestor.Goals as goal
+
+pub loop-taken-preserved : goal.loop-taken-preserved
+loop-taken-preserved c =
+    c.shorten.ensures ∙ ap (drop 1) c.loop-taken.invariant ∙ drop-drop 1 c.loop-taken._taken c.args.self.now
