@@ -1,5 +1,5 @@
-//! Takes all memory that the process can get, and leaves a stated room of it, so that a test can see what a call
-//! answers where a growth is refused. Each test is a process of its own, so no other one is disturbed.
+//! Takes all memory that the process can get, and leaves a stated amount, so that a test can see what a call answers when an
+//! allocation is refused. Each test is a separate process, so no other is disturbed.
 #![tactic(auto)]
 
 mod scarcity;

@@ -14,7 +14,7 @@ const BETWEEN: usize = 1 << 27;
 const BLOCKS: usize = 100_000;
 
 /// How many rooms can be left at most from a begin to its end.
-const ROOMS: usize = 4_096;
+const PIECES: usize = 4_096;
 
 /// Octets: larger than any room that is left, and below the size from which the C library maps a block by itself.
 const PIECE: usize = 65_536;
@@ -42,7 +42,7 @@ impl Scarcity {
         Ok(Scarcity {
             large,
             others,
-            pieces: Vec::with_capacity(alloc, ROOMS)?,
+            pieces: Vec::with_capacity(alloc, PIECES)?,
         })
     }
 

@@ -52,7 +52,7 @@ nested a b [] g e = inr (g, e)
 nested a b (l ∷ f) [] e = inl (l ∷ f, sym e)
 nested a b (l ∷ f) (m ∷ g) e = nested a b f g (ap (drop 1) e)
 
--- and the one that stands before the other is the shorter
+-- and the one that comes before the other is the shorter
 shorter : (a b x : Name) → name_cmp a b ≡ Less → IsAtOrAbove a x → IsAtOrAbove b x → length a < length b
 shorter a b x less h k = by (nested a b h.0 k.0 (sym h.1 ∙ k.1))
   where
@@ -80,7 +80,7 @@ after_not_above y x h = by (is_at_or_above y x) refl
     by true g = absurd (true≢false (sym (upto (above_cases y x (is_at_or_above_sound y x g))) ∙ h))
     by false g = refl
 
--- what stands before a name that isn't after another isn't either
+-- what precedes a name that isn't after another isn't either
 before_upto : (a b c : Name) → name_cmp a b ≡ Less → is_upto name_cmp b c ≡ true → is_upto name_cmp a c ≡ true
 before_upto a b c h k = by (upto_cases name_order b c k)
   where
@@ -137,7 +137,7 @@ module _ {V : Type 0} (x : Name) where
       by true k = absurd (true≢false (sym (before_upto e y.0 x s.0 k) ∙ h))
       by false k = refl
 
-  -- the entries stand in two parts
+  -- the entries are in two parts
   record IsCut (es : List (Name × V)) : Type 0 where
     pub beyond : List (Name × V)
     pub stands : es ≡ upto es ++ beyond
@@ -153,7 +153,7 @@ module _ {V : Type 0} (x : Name) where
           let all = later e.0 es (sorted_head name_cmp e.0 (names es) s) h in
           record { beyond = e ∷ es; stands = ap (λ zs. zs ++ e ∷ es) (sym (left_out e es h ∙ all_left_out es all)); behind = (h, all) }
 
-  -- those before one in order stand before it
+  -- those before one in order come before it
   before_it : (front rest : List (Name × V)) (p : Name × V) → IsStrictlySortedBy name_cmp (names (front ++ p ∷ rest)) → AllByRecursion (λ y. name_cmp y.0 p.0 ≡ Less) front
   before_it [] rest p s = tt
   before_it (y ∷ front) rest p s =

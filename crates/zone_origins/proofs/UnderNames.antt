@@ -1,4 +1,5 @@
--- Entries whose values stand under names that they have: what is found, put and taken out by name among the entries is so among the values
+-- Entries whose values are under names that they have: what is found, put and taken out by name among the entries is so
+-- among the values
 use Rattle.std.proofs.Common.{◌≡◌, Bool, true, false, cond, List, [], ◌∷◌, ◌++◌, map, refl, sym, ap, subst, ◌∙◌, Ordering, Less, Equal, Greater}
 use Rattle.std.specs.Prelude.{Option, Some, None, option_map, is_some}
 use Rattle.std.specs.BTreeMap.{insert_entry, is_at}
@@ -107,7 +108,7 @@ module _ {V Z : Type 0} (value : V → Z) (origin : Z → Name) where
   pub is_found : (k : Name) (es : List (Name × V)) → Under es → is_some (lookup (is_at (name_cmp k)) es) ≡ is_some (find (Begins k) (values es))
   is_found k es h = some_mapped (lookup (is_at (name_cmp k)) es) ∙ ap is_some (found k es h)
 
--- behind entries that all stand before it an entry is put last
+-- behind entries that all come before it an entry is put last
 pub put_last : {V : Type 0} (es : List (Name × V)) (k : Name) (v : V) → AllByRecursion (λ e. name_cmp e.0 k ≡ Less) es → insert_entry name_cmp es k v ≡ es ++ (k, v) ∷ []
 put_last [] k v h = refl
 put_last (e ∷ es) k v h =
@@ -154,7 +155,7 @@ module _ {V Z : Type 0} (value : V → Z) where
   all_named : (all copied left : List (Name × V)) → left ≡ [] → HasCopied all copied left → map (λ e. e.0) copied ≡ map (λ e. e.0) all
   all_named all copied left none h = sym (append-nil (map (λ e. e.0) copied)) ∙ ap (λ es. map (λ e. e.0) copied ++ map (λ e. e.0) es) (sym none) ∙ h.names
 
-  -- where each stands under its name, each of the copy does
+  -- where each is under its name, so is each of the copy
   pub copied_under : (origin : Z → Name) (all copied left : List (Name × V)) → left ≡ [] → HasCopied all copied left → AreUnderNames (λ v. origin (value v)) all → AreUnderNames (λ v. origin (value v)) copied
   copied_under origin all copied left none h under =
       map-map origin (λ (e : Name × V). value e.1) copied ∙ ap (map origin) (all_copied all copied left none h) ∙ sym (map-map origin (λ (e : Name × V). value e.1) all) ∙ under ∙ sym (all_named all copied left none h)

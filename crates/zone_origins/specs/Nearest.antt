@@ -2,8 +2,8 @@
 use Rattle.std.specs.Prelude.{◌≡◌, ◌<◌, true, false, List, ◌∷◌, ◌++◌, All, length, Option, Some, None}
 use Rattle.zone_proto.specs.Names.{Name, is_at_or_above, IsAtOrAbove}
 
--- Of the entries whose names are a name or stand above it this one has the longest: those before it have shorter ones, and none stands
--- behind it (canonical order, RFC 4034 section 6.1).
+-- Of the entries whose names are a name or are above it this one has the longest: those before it have shorter ones,
+-- and none comes after it (canonical order, RFC 4034 section 6.1).
 pub record IsNearest {V : Type 0} (x : Name) (es : List (Name × V)) (e : Name × V) : Type 0 where
   pub front : List (Name × V)
   pub rest : List (Name × V)
@@ -12,7 +12,7 @@ pub record IsNearest {V : Type 0} (x : Name) (es : List (Name × V)) (e : Name �
   pub before : All (λ (y : Name × V). is_at_or_above y.0 x ≡ true → length y.0 < length e.0) front
   pub behind : All (λ (y : Name × V). is_at_or_above y.0 x ≡ false) rest
 
--- it, or None where no entry's name is the name or stands above it
+-- it, or None if no entry's name is the name or is above it
 abbrev pub IsNearestIfAny : {V : Type 0} → Name → List (Name × V) → Option (Name × V) → Type 0
 IsNearestIfAny x es (Some e) = IsNearest x es e
 IsNearestIfAny x es None = All (λ y. is_at_or_above y.0 x ≡ false) es

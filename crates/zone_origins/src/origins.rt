@@ -6,13 +6,13 @@ use std::alloc::AllocError;
 use std::collections::BTreeMap;
 use zone_proto::{LowerName, ProtoError};
 
-/// What is kept for the longest of some names that is a name or stands above it (RFC 1034 section 4.3.2 step 2), and that name; None
-/// where none of them is or does. Refused for want of memory alone.
+/// What is kept for the longest of some names that is a name or is above it (RFC 1034 section 4.3.2 step 2), and that
+/// name; None if none of them is or does. Fails only for lack of memory.
 ///
-/// The last name that isn't after the one that is sought is looked up first: in canonical order (RFC 4034 section 6.1) a name stands
-/// before those below it, and these stand together. Where it isn't above, what both are below is sought next. So a lookup costs as
-/// many searches as names of that kind stand on the way, and no more than the first of them has labels, however many the sought name
-/// has; mostly one.
+/// The last name that isn't after the one that is sought is looked up first: in canonical order (RFC 4034 section 6.1)
+/// a name comes before those below it, and these stand together. Where it isn't above, what both are below is sought
+/// next. So a lookup costs as many searches as names of that kind stand on the way, and no more than the first of them
+/// has labels, however many the sought name has; mostly one.
 pub fn nearest<'m, V>(
     entries: &'m BTreeMap<LowerName, V>,
     name: &LowerName,

@@ -261,7 +261,7 @@ pub signature_put : (s : RRset) (new : List Record) (r : Record) (result : Resul
 signature_put s new r (Ok u) change = record { ok = ap (λ rs. record s { signatures = rs }) change.ok; err = tt; same = tt }
 signature_put s new r (Err e) change = record { ok = tt; err = change.err; same = ap (λ rs. record s { signatures = rs }) change.same }
 
--- ---- a record of new data stands last
+-- ---- a record of new data comes last
 
 unless_stored : (s : RRset) (r : Record) (serial : ℕ) (b : Bool) → b ≡ false → (if b then None else Some (appended s r serial)) ≡ Some (appended s r serial)
 unless_stored s r serial b e = ap (λ (x : Bool). if x then None else Some (appended s r serial)) e

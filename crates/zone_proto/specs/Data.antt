@@ -26,8 +26,8 @@ same_octets = pointwise nat_eq
 abbrev pub same_types : List RecordType → List RecordType → Bool
 same_types = pointwise (λ a b. a.0 == b.0)
 
--- parts of data are equal part by part, names without case (RFC 4034 section 6.2 lists the names in data)
--- the start of a zone
+-- parts of data are equal part by part, names ignoring case (RFC 4034 section 6.2 lists the names in data) the start of
+-- a zone
 abbrev pub same_soa : SoaData → SoaData → Bool
 same_soa a b =
     same_name a.mname b.mname && (same_name a.rname b.rname && (a.serial == b.serial
@@ -81,7 +81,7 @@ same_rrsig a b =
 abbrev pub same_other : OtherData → OtherData → Bool
 same_other a b = a.record_type.0 == b.record_type.0 && (same_octets a.octets b.octets)
 
--- data are equal by all parts, names without case
+-- data are equal by all parts, names ignoring case
 abbrev pub same_data : RData → RData → Bool
 same_data (V.A a) (V.A b) = same_octets a b
 same_data (V.AAAA a) (V.AAAA b) = same_octets a b

@@ -22,7 +22,7 @@ first_of_faults (Some e) g = Some e
 abbrev pub fault_of : Name → Option ProtoError
 fault_of ls = first_of_faults (label_fault ls) (length_fault ls)
 
--- a refusal is the fault if there is one, or want of memory
+-- a refusal is the fault if there is one, or lack of memory
 abbrev pub IsFaultOrMemory : Option ProtoError → ProtoError → Type 0
 IsFaultOrMemory f e = (e ≡ Memory) ⊎ (f ≡ Some e)
 

@@ -16,8 +16,8 @@ abbrev pub name_or_fault : Name → Option ProtoError → Result Name ProtoError
 name_or_fault n None = Ok n
 name_or_fault n (Some e) = Err e
 
--- the owner for the answer of a hash: there is none where the hash gives no digest, and where the digest's text is no label
--- or makes the name too long
+-- the owner for the answer of a hash: there is none if the hash gives no digest, and where the digest's text is no
+-- label or makes the name too long
 abbrev pub owner_or_refusal : Name → Option (List ℕ) → Result Name ProtoError
 owner_or_refusal zone None = Err Hash
 owner_or_refusal zone (Some digest) = name_or_fault (hashed_owner zone digest) (fault_of (hashed_owner zone digest))

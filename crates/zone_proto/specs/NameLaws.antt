@@ -53,7 +53,7 @@ exact_names x y h =
 pub exact_caseless : (x y : List (List ℕ)) → caseless_cmp x y ≡ Equal → lower x ≡ lower y
 exact_caseless x y h = exact_names (lower x) (lower y) h
 
--- ---- a front stands before what goes on from it, and what goes on from it stands together
+-- ---- a front comes before what goes on from it, and what goes on from it stands together
 
 module _ {K : Type 0} (R : K → K → Ordering) (o : IsTotalOrder R) (exact : CmpEqualImpliesEq R) where
   pub front_first : (p t : List K) → is_gt (slice_cmp R p (p ++ t)) ≡ false

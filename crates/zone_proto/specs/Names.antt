@@ -43,17 +43,17 @@ same_name = eq_by_cmp caseless_cmp
 abbrev pub IsAtOrAbove : Name → Name → Type 0
 IsAtOrAbove a n = (front : Name) × (n ≡ front ++ a)
 
--- a is a proper ancestor of n: some labels stand before a's
+-- a is a proper ancestor of n: some labels come before a's
 abbrev pub IsAbove : Name → Name → Type 0
 IsAbove a n = (l : Label) × (front : Name) × (n ≡ (l ∷ front) ++ a)
 
--- so many labels stand at the end of both names, and no more
+-- so many labels are at the end of both names, and no more
 pub record SharesLabels (n m : Name) (count : ℕ) : Type 0 where
   pub within : count ≤ length n
   pub shared : IsAtOrAbove (drop (length n - count) n) m
   pub most : (a : Name) → IsAtOrAbove a n → IsAtOrAbove a m → length a ≤ count
 
--- the tests of these: equality of labels and of names, and where a name stands in the tree
+-- the tests of these: equality of labels and of names, and where a name is in the tree
 abbrev pub label_eq : Label → Label → Bool
 label_eq = pointwise nat_eq
 
@@ -83,26 +83,26 @@ is_root [] = true
 is_root (l ∷ ls) = false
 
 -- `*`, the label of a wildcard (RFC 4592 section 2.1.1)
-abbrev pub star_label : Label
-star_label = 42 ∷ []
+abbrev pub asterisk_label : Label
+asterisk_label = 42 ∷ []
 
 -- the first label is `*`
 abbrev pub IsWildcard : Name → Type 0
-IsWildcard n = (base : Name) × (n ≡ star_label ∷ base)
+IsWildcard n = (base : Name) × (n ≡ asterisk_label ∷ base)
 
 -- the first label replaced by `*`; the root stays
 abbrev pub wildcard_of : Name → Name
 wildcard_of [] = []
-wildcard_of (l ∷ ls) = star_label ∷ ls
+wildcard_of (l ∷ ls) = asterisk_label ∷ ls
 
 -- the test of a first label `*`
 abbrev pub is_wildcard : Name → Bool
 is_wildcard [] = false
-is_wildcard (l ∷ ls) = label_eq l star_label
+is_wildcard (l ∷ ls) = label_eq l asterisk_label
 
--- the wildcard under a name: `*` before its labels
-abbrev pub star_under : Name → Name
-star_under a = star_label ∷ a
+-- the wildcard at a name: `*` before its labels
+abbrev pub wildcard_under : Name → Name
+wildcard_under a = asterisk_label ∷ a
 
 -- the name without its first label; the root of the root
 abbrev pub base_name : Name → Name

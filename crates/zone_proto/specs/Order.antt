@@ -5,11 +5,11 @@ use Rattle.std.specs.declared.cmp.Ordering.{Ordering}
 use Rattle.std.specs.Ordering.{is_lt, is_le, flip_args}
 
 module _ {K : Type 0} (cmp : K → K → Ordering) where
-  -- x stands before y
+  -- x comes before y
   abbrev pub is_before : K → K → Bool
   is_before x y = is_lt (cmp x y)
 
-  -- x is y or stands before it
+  -- x is y or comes before it
   abbrev pub is_upto : K → K → Bool
   is_upto x y = is_le (cmp x y)
 
@@ -23,12 +23,12 @@ module _ {K : Type 0} (cmp : K → K → Ordering) where
   greatest [] = None
   greatest (x ∷ xs) = Some (greater x (greatest xs))
 
-  -- what these words mean: an element that none stands after
+  -- what these words mean: an element that none comes after
   pub record IsGreatest (xs : List K) (m : K) : Type 0 where
     pub element : Contains xs m
     pub last : (x : K) → Contains xs x → IsFalse (is_before m x)
 
-  -- an element that none stands before
+  -- an element that none comes before
   pub record IsLeast (xs : List K) (m : K) : Type 0 where
     pub element : Contains xs m
     pub first : (x : K) → Contains xs x → IsFalse (is_before x m)

@@ -3,7 +3,7 @@ use Rattle.std.specs.Prelude.{◌≡◌, ℕ, ◌+◌, ◌<◌, List, [], ◌∷
 use Rattle.std.specs.List.{AllByRecursion}
 use Rattle.zone_proto.specs.Names.{Name, Label}
 
--- an octet of a label that stands there as it is: 0 would end the label, and 1 begins a pair
+-- an octet of a label that is there as it is: 0 would end the label, and 1 begins a pair
 abbrev pub IsInner : ℕ → Type 0
 IsInner b = 1 < b
 

@@ -1,4 +1,4 @@
--- How the program reads a text, octet by octet from the left. No public call of this crate speaks of it: what is read is
+-- How the program reads a text, octet by octet from the left. No public call of this crate is about it: what is read is
 -- said by the text form, in `TextForm`.
 use Rattle.std.specs.Prelude.{ℕ, ◌+◌, ◌*◌, ◌-◌, ◌++◌, List, [], ◌∷◌, ◌&&◌, ◌==◌, nat_le, if◌then◌else◌, Option, Some, None}
 use Rattle.zone_proto.specs.Names.{Name, Label}
@@ -6,9 +6,9 @@ use Rattle.zone_proto.specs.TextForm.{dot, backslash, is_digit, is_graphic}
 use Rattle.zone_proto.specs.declared.parser.Mode.{Mode}
 use Rattle.zone_proto.specs.declared.parser.Mode.TheVariants.{Start, AfterDot, InLabel, Escaped, OneDigit, TwoDigits}
 
--- what has been read: where the reader stands, the labels before the current one, and the current label's octets
--- so far. It stands at the start of the text, after a dot, after an octet of a label, after a backslash, or after a
--- backslash and one or two digits of this value
+-- what has been read: where the reader stands, the labels before the current one, and the current label's octets so
+-- far. It is at the start of the text, after a dot, after an octet of a label, after a backslash, or after a backslash
+-- and one or two digits of this value
 pub record Reader : Type 0 where
   pub mode : Mode
   pub labels : List Label
@@ -21,7 +21,7 @@ start = record { mode = Start; labels = []; label = [] }
 abbrev pub with_octet : Reader → ℕ → Reader
 with_octet r b = record { mode = InLabel; labels = r.labels; label = r.label ++ b ∷ [] }
 
--- an octet that no backslash stands before: a dot ends the label, a backslash begins an escape, and any other graphic
+-- an octet that no backslash comes before: a dot ends the label, a backslash begins an escape, and any other graphic
 -- octet is itself
 abbrev pub plain_step : Reader → ℕ → Option Reader
 plain_step r b =

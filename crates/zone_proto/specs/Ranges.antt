@@ -1,4 +1,4 @@
--- Numbers as they stand in names and keys.
+-- Numbers as they are in names and keys.
 use Rattle.std.specs.Prelude.{ℕ, ◌<◌, List, []}
 use Rattle.std.specs.List.{AllByRecursion, flat_map}
 

@@ -5,29 +5,30 @@ use Rattle.zone_proto.specs.declared.error.ProtoError.TheVariants.{Memory}
 use Rattle.zone_proto.specs.Names.{Label, Name}
 use Rattle.zone_proto.specs.Faults.{label_fault, fault_of, IsFaultOrMemory, IsTextFault}
 
--- a copy of a value, refused only for want of memory
+-- a copy of a value, Fails only for lack of memory
 pub record IsCopy {A : Type 0} (result : Result A ProtoError) (whole : A) : Type 0 where
   pub ok : IfOk result (λ copy. copy ≡ whole)
   pub err : IsOkUnless result Memory
 
 -- a call that takes labels refuses them exactly where they have a fault, and for that fault
-abbrev pub TellsFault : {A : Type 0} → Result A ProtoError → Name → Type 0
-TellsFault result ls = MatchResult result (λ _. fault_of ls ≡ None) (λ e. fault_of ls ≡ Some e)
+abbrev pub ReportsFault : {A : Type 0} → Result A ProtoError → Name → Type 0
+ReportsFault result ls = MatchResult result (λ _. fault_of ls ≡ None) (λ e. fault_of ls ≡ Some e)
 
 -- the same of a call that takes the first label of some
-abbrev pub TellsLabelFault : {A : Type 0} → Result A ProtoError → Label → Type 0
-TellsLabelFault result l = (ls : Name)
+abbrev pub ReportsLabelFault : {A : Type 0} → Result A ProtoError → Label → Type 0
+ReportsLabelFault result l = (ls : Name)
     → MatchResult result (λ _. label_fault (l ∷ ls) ≡ label_fault ls) (λ e. label_fault (l ∷ ls) ≡ Some e)
 
 -- the same of a call that takes labels and memory, of which there may be none
-abbrev pub TellsFaultOrMemory : {A : Type 0} → Result A ProtoError → Name → Type 0
-TellsFaultOrMemory result ls = MatchResult result (λ _. fault_of ls ≡ None) (IsFaultOrMemory (fault_of ls))
+abbrev pub ReportsFaultOrMemory : {A : Type 0} → Result A ProtoError → Name → Type 0
+ReportsFaultOrMemory result ls = MatchResult result (λ _. fault_of ls ≡ None) (IsFaultOrMemory (fault_of ls))
 
--- a call that reads a text refuses it for its fault, or for want of memory
-abbrev pub TellsTextFault : {A : Type 0} → Result A ProtoError → List ℕ → Type 0
-TellsTextFault result text = IfErr result (λ e. (e ≡ Memory) ⊎ IsTextFault text e)
+-- a call that reads a text refuses it for its fault, or for lack of memory
+abbrev pub ReportsTextFault : {A : Type 0} → Result A ProtoError → List ℕ → Type 0
+ReportsTextFault result text = IfErr result (λ e. (e ≡ Memory) ⊎ IsTextFault text e)
 
--- of a value before, what an insertion makes of it, the answer, and the value after: the answer tells whether what came was taken, and where it wasn't, or no memory was found, the value is as it was
+-- of a value before, what an insertion makes of it, the answer, and the value after: the answer says whether what came
+-- was taken, and where it wasn't, or no memory was found, the value is as it was
 pub record IsInsertion {A : Type 0} (old : A) (made : Option A) (result : Result Bool ProtoError) (new : A) : Type 0 where
   pub answer : IfOk result (λ taken. taken ≡ is_some made)
   pub after : OnOk result (new ≡ unwrap_or made old)

@@ -39,7 +39,7 @@ pub record IsSet (owner : Name) (record_type : ℕ) (records : List Record) : Ty
 abbrev pub AreSignatures : List Record → Type 0
 AreSignatures rs = All (λ (r : Record). type_of r.rdata ≡ types.RRSIG) rs
 
--- sets are equal by all seven parts, names without case, records as records are equal
+-- sets are equal by all seven parts, names ignoring case, records as records are equal
 abbrev pub same_set : RRset → RRset → Bool
 same_set a b = same_name a.owner b.owner && (a.record_type == b.record_type && (a.class == b.class && (a.ttl == b.ttl && (a.serial == b.serial && (pointwise same_record a.records b.records && (pointwise same_record a.signatures b.signatures))))))
 
@@ -81,7 +81,7 @@ inserted_by (V.CNAME n) s r serial = Some (replaced s r serial)
 inserted_by (V.ANAME n) s r serial = Some (replaced s r serial)
 inserted_by d s r serial = if stores s.records d then None else Some (appended s r serial)
 
--- the set after the insertion of a record with a serial; none where the record isn't taken
+-- the set after the insertion of a record with a serial; none if the record isn't taken
 abbrev pub inserted : RRset → Record → ℕ → Option RRset
 inserted s r serial = inserted_by r.rdata s r serial
 

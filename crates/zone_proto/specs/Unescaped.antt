@@ -14,6 +14,6 @@ pub record IsUnescapedLabel (l : Label) : Type 0 where
   pub short : length l ≤ 63
   pub octets : AllByRecursion IsUnescaped l
 
--- what may stand before a label: nothing, or a text that ends with a dot
+-- what may come before a label: nothing, or a text that ends with a dot
 abbrev pub IsFront : List ℕ → Type 0
 IsFront s = (s ≡ []) ⊎ ((before : List ℕ) × (s ≡ before ++ dot ∷ []))

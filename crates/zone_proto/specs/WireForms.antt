@@ -16,9 +16,9 @@ pub data IsWireFault (octets : List ℕ) (e : ProtoError) : Type 0 where
   no_labels : ((ls : Name) → HaveOctets ls → octets ≢ wire_form ls) → e ≡ BadText → IsWireFault octets e
   no_name : (ls : Name) → HaveOctets ls → octets ≡ wire_form ls → fault_of ls ≡ Some e → IsWireFault octets e
 
--- a call that reads a wire form refuses it for its fault, or for want of memory
-abbrev pub TellsWireFault : {A : Type 0} → Result A ProtoError → List ℕ → Type 0
-TellsWireFault result octets = IfErr result (λ e. (e ≡ Memory) ⊎ IsWireFault octets e)
+-- a call that reads a wire form refuses it for its fault, or for lack of memory
+abbrev pub ReportsWireFault : {A : Type 0} → Result A ProtoError → List ℕ → Type 0
+ReportsWireFault result octets = IfErr result (λ e. (e ≡ Memory) ⊎ IsWireFault octets e)
 
 -- the octets are the wire form of a name, and the labels are those of the name, each behind its length
 pub record IsWireForm (octets labels : List ℕ) : Type 0 where

@@ -8,7 +8,7 @@ use std::alloc::Global;
 use std::fmt;
 
 /// The text of octets in base32hex: five bits a character from the highest on, the last one filled with zero bits, in
-/// lower case and without padding (RFC 4648 section 7, RFC 5155 section 3.3). Refused only for want of memory.
+/// lower case and without padding (RFC 4648 section 7, RFC 5155 section 3.3). Fails only for lack of memory.
 pub fn base32_dnssec(alloc: Global, octets: &[u8]) -> Result<String, ProtoError>
     ensures ok { IfOk result (λ text. string_bytes text ≡ base32_text octets.now) }
     ensures err { IsOkUnless result ProtoError.Memory }

@@ -1,7 +1,7 @@
 //! Labels in one piece of octets: each behind its length, leftmost first, as in the wire form (RFC 1035 section 3.1).
 //
-// Here a label may have any octet. A length is at most 63, so that it is no letter, and the octets can be put into lower case
-// as they stand.
+// Here a label may have any octet. A length is at most 63, so that it is no letter, and the octets can be put into
+// lower case as they are.
 ghost use Rattle.std.specs.Prelude.{◌≡◌, ◌↔◌, [], ◌∷◌, ◌++◌, ◌+◌, ◌≤◌, length, drop, IsTrue, IfOk, IfSome, MatchOption, OnOk};
 ghost use Rattle.std.specs.List.{AllByRecursion};
 ghost use Rattle.zone_proto.specs.Names.{lower, wildcard_of, IsLabel, IsName};
@@ -13,7 +13,7 @@ use crate::wire::wire_length;
 use std::alloc::{AllocError, Global};
 use std::marker::Model;
 
-/// A name whose labels stand behind their lengths.
+/// A name whose labels come after their lengths.
 #[derive(Debug, Drop)]
 pub(crate) struct Counted {
     octets: Vec<u8>,
@@ -31,7 +31,7 @@ impl Model for Counted {
 }
 
 impl Counted {
-    /// The name whose labels stand in these octets.
+    /// The name whose labels are in these octets.
     pub(crate) fn of_octets(octets: Vec<u8>) -> Counted
         requires { IsCounting octets.items (counted_name octets.items) }
         ensures { result ≡ counted_name octets.items }
@@ -165,6 +165,22 @@ pub(crate) fn split_counted(octets: &[u8]) -> Option<(&[u8], &[u8])>
 {
     let (count, rest) = octets.split_first()?;
     Some(rest.split_at(usize::from(*count)))
+}
+
+/// The octets of the labels after the first so many.
+pub(crate) fn after_labels(octets: &[u8], count: usize) -> &[u8]
+    requires { IsCounting octets.now (counted_name octets.now) }
+    ensures name { counted_name result.now ≡ drop count (counted_name octets.now) }
+    ensures counting { IsCounting result.now (counted_name result.now) }
+{
+    let mut rest = octets;
+    for _passed in 0..count {
+        let Some((_, after)) = split_counted(rest) else {
+            return rest;
+        };
+        rest = after;
+    }
+    rest
 }
 
 /// How many labels the octets have.

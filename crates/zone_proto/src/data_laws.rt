@@ -23,7 +23,7 @@ pub fn equality_of_sets()
     ensures { IsEquivalence same_set }
 {}
 
-/// An insertion that takes a record keeps the set's owner and type, leaves at least one record, and leaves a set.
+/// An insertion that accepts a record keeps the set's owner and type, leaves at least one record, and leaves a set.
 pub fn insertion_keeps_the_set()
     ensures owner { (s t : RRset) (r : Record) (serial : ℕ) → inserted s r serial ≡ Some t
         → t.owner ≡ s.owner }
@@ -39,7 +39,7 @@ pub fn insertion_keeps_the_set()
         → IsSet t.owner t.record_type t.records }
 {}
 
-/// Where a set may have several records, one whose data it doesn't have is put behind them.
+/// If a set may have several records, one whose data it doesn't have is appended.
 pub fn new_data_stand_last()
     ensures { (s : RRset) (r : Record) (serial : ℕ)
         → is_single (type_of r.rdata) ≡ false

@@ -1,15 +1,16 @@
 //! Names with an octet 0 or 1 in a label: their labels, and the octets by which they are ordered.
 //
-// Names are ordered by the octets of their labels from the root on, each ended by the octet 0 (`packed`). A label with this octet
-// has no place in that form, so 0 and 1 are written there as pairs that begin with 1: then all names are ordered by one comparison
-// of octets, whichever way they are kept. Labels are lent as they are, so that they stand beside it once more.
+// Names are ordered by the octets of their labels from the root on, each ended by the octet 0 (`packed`). A label with
+// this octet has no place in that form, so 0 and 1 are written there as pairs that begin with 1: then all names are
+// ordered by one comparison of octets, whichever way they are kept. Labels are lent as they are, so that they are
+// beside it once more.
 ghost use Rattle.std.specs.Prelude.{◌≡◌, ◌↔◌, [], ◌++◌, drop, length, IsTrue, IfOk, OnOk, ◌≤◌};
 ghost use Rattle.std.specs.List.{AllByRecursion};
 ghost use Rattle.zone_proto.specs.Counting.{counted_name, IsCounting};
 ghost use Rattle.zone_proto.specs.Names.{lower, wildcard_of, IsLabel, IsName};
 ghost use Rattle.zone_proto.specs.Packing.{escaped, order_octets};
 
-use crate::counted::{Counted, split_counted};
+use crate::counted::{Counted, after_labels, split_counted};
 use crate::labels_iter::Labels;
 use crate::letter_case::lower_octets;
 use crate::packed::overwrite;
@@ -35,7 +36,7 @@ impl Model for Escaped {
 }
 
 impl Escaped {
-    /// The name whose labels stand in these octets, each behind its length.
+    /// The name whose labels are in these octets, each behind its length.
     pub(crate) fn of_counting(octets: Vec<u8>) -> Result<Escaped, AllocError>
         requires { IsCounting octets.items (counted_name octets.items) }
         ensures { IfOk result (λ e. e ≡ counted_name octets.items) }
@@ -108,6 +109,15 @@ impl Escaped {
         *self.order.allocator()
     }
 
+    /// A copy without the first so many labels, or the root. It takes time by the octets that are left, and not by the labels
+    /// that are taken away.
+    pub(crate) fn without_first(&self, count: usize) -> Result<Escaped, AllocError>
+        ensures { IfOk result (λ e. e ≡ drop count self.now) }
+    {
+        let rest = after_labels(self.labels.octets(), count);
+        Escaped::of_counting(Vec::from_slice(self.alloc(), rest)?)
+    }
+
     /// A copy.
     pub(crate) fn clone(&self) -> Result<Escaped, AllocError>
         ensures { IfOk result (λ e. e ≡ self.now) }
@@ -153,7 +163,8 @@ fn order_length(labels: Labels<'_>) -> usize
     count
 }
 
-/// Where the first label begins in as many octets that order a name, whose labels stand in these octets; at the end of none.
+/// Where the first label begins in as many octets that order a name, whose labels are in these octets; at the end of
+/// none.
 fn first_label_at(labels: &[u8], count: usize) -> usize
     requires labels { IsCounting labels.now (counted_name labels.now) }
     requires count { count ≡ length (order_octets (counted_name labels.now)) }

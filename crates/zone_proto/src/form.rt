@@ -47,14 +47,14 @@ impl Drop for Form {
 }
 
 impl Form {
-    /// No label. Takes no memory.
+    /// No label. Doesn't allocate.
     pub(crate) fn root(alloc: Global) -> Form
         ensures { labels_of result ≡ [] }
     {
         Form::ShortPacked(Packed::of_octets(Short::new(alloc)))
     }
 
-    /// The labels that stand in these octets, each before its end. Takes no memory.
+    /// The labels that are in these octets, each before its end. Doesn't allocate.
     pub(crate) fn of_packing(octets: Octets) -> Form
         requires { IsPacking (written octets) (name_of (written octets)) }
         ensures { labels_of result ≡ name_of (written octets) }
@@ -65,7 +65,7 @@ impl Form {
         }
     }
 
-    /// The labels that stand in these octets, each behind its length.
+    /// The labels that are in these octets, each behind its length.
     pub(crate) fn of_counting(octets: Vec<u8>) -> Result<Form, AllocError>
         requires { IsCounting octets.items (counted_name octets.items) }
         ensures { IfOk result (λ f. labels_of f ≡ counted_name octets.items) }
@@ -153,6 +153,22 @@ impl Form {
         }
     }
 
+    /// A copy without the first so many labels, in one piece.
+    pub(crate) fn without_first(&self, count: usize) -> Result<Form, AllocError>
+        requires { IsName (labels_of self.now) }
+        ensures { IfOk result (λ f. labels_of f ≡ drop count (labels_of self.now)) }
+    {
+        if let Form::Escaped(escaped) = self {
+            let rest = escaped.without_first(count)?;
+            return Ok(Form::Escaped(Box::new(escaped.alloc(), rest)?));
+        }
+        let mut form = self.copy()?;
+        for _taken in 0..count {
+            form.shorten();
+        }
+        Ok(form)
+    }
+
     /// A copy with one more label before the first, in one piece.
     pub(crate) fn child(&self, label: &[u8]) -> Result<Form, AllocError>
         requires label { IsLabel label.now }
@@ -187,7 +203,7 @@ impl Form {
         ensures { labels_of self.new ≡ wildcard_of (labels_of self.old) }
     {
         match self {
-            Form::Listed(listed) => star_first(listed),
+            Form::Listed(listed) => asterisk_first(listed),
             Form::ShortPacked(packed) => packed.make_wildcard(),
             Form::LongPacked(packed) => packed.make_wildcard(),
             Form::Escaped(escaped) => escaped.make_wildcard(),
@@ -218,7 +234,7 @@ impl Form {
         }
     }
 
-    /// The canonical order, the case of letters ignored.
+    /// The canonical order, ignoring case.
     pub(crate) fn compare_caseless(&self, other: &Form) -> Ordering
         ensures { result ≡ caseless_cmp (labels_of self.now) (labels_of other.now) }
     {
@@ -238,7 +254,7 @@ impl Form {
         }
     }
 
-    /// Whether the other name is this one or below it, the case of letters ignored.
+    /// Whether the other name is this one or below it, ignoring case.
     pub(crate) fn zone_of(&self, other: &Form) -> bool
         ensures { IsTrue result
             ↔ IsAtOrAbove (lower (labels_of self.now)) (lower (labels_of other.now)) }
@@ -323,7 +339,7 @@ fn drop_first(labels: &mut Vec<Vec<u8>>)
 }
 
 /// Replaces the first label by `*`, if there is one.
-fn star_first(labels: &mut Vec<Vec<u8>>)
+fn asterisk_first(labels: &mut Vec<Vec<u8>>)
     requires { IsName (octets_of labels.old.items) }
     ensures { octets_of labels.new.items ≡ wildcard_of (octets_of labels.old.items) }
 {

@@ -77,7 +77,7 @@ fn put_alone(records: &mut Vec<Record>, new: Record) -> Result<(), ProtoError>
     Ok(())
 }
 
-/// Puts a record behind all others; a list of one has room for one.
+/// Appends a record; a list of one has room for one.
 pub(crate) fn put_last(records: &mut Vec<Record>, new: Record) -> Result<(), ProtoError>
     ensures { IsChange records.old.items (records.old.items ++ new ∷ []) result records.new.items }
 {

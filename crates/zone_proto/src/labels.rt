@@ -2,7 +2,7 @@
 ghost use Rattle.std.specs.Prelude.{◌∷◌, OnOk};
 ghost use Rattle.zone_proto.specs.Names.{IsLabel, IsName};
 ghost use Rattle.zone_proto.specs.Vectors.{octets_of};
-ghost use Rattle.zone_proto.specs.Results.{TellsFault, TellsLabelFault};
+ghost use Rattle.zone_proto.specs.Results.{ReportsFault, ReportsLabelFault};
 
 use crate::error::ProtoError;
 use crate::labels_iter::Labels;
@@ -16,7 +16,7 @@ pub(crate) const LONGEST_NAME: usize = 255;
 
 /// Whether the labels make a name, and else the first fault.
 pub(crate) fn check_labels(labels: &[Vec<u8>]) -> Result<(), ProtoError>
-    ensures fault { TellsFault result (octets_of labels.now) }
+    ensures fault { ReportsFault result (octets_of labels.now) }
     ensures valid { OnOk result (IsName (octets_of labels.now)) }
 {
     let mut wire = 0usize;
@@ -33,7 +33,7 @@ pub(crate) fn check_labels(labels: &[Vec<u8>]) -> Result<(), ProtoError>
 /// Whether a name is still one with the label before its labels, and else the first fault.
 pub(crate) fn check_prepended(label: &[u8], labels: Labels<'_>) -> Result<(), ProtoError>
     requires { IsName labels }
-    ensures fault { TellsFault result (label.now ∷ labels.entry) }
+    ensures fault { ReportsFault result (label.now ∷ labels.entry) }
     ensures valid { OnOk result (IsName (label.now ∷ labels.entry)) }
 {
     check_label(label)?;
@@ -45,7 +45,7 @@ pub(crate) fn check_prepended(label: &[u8], labels: Labels<'_>) -> Result<(), Pr
 
 /// Whether these octets make a label, and else the fault.
 fn check_label(label: &[u8]) -> Result<(), ProtoError>
-    ensures fault { TellsLabelFault result label.now }
+    ensures fault { ReportsLabelFault result label.now }
     ensures valid { OnOk result (IsLabel label.now) }
 {
     if label.is_empty() {

@@ -9,7 +9,7 @@ use crate::counted::{count_counted, split_counted};
 use crate::packed::{count_labels, split_label};
 use std::marker::Model;
 
-/// Lends the labels of a name, leftmost first. Takes no memory.
+/// Lends the labels of a name, leftmost first. Doesn't allocate.
 #[derive(Debug, Drop)]
 pub struct Labels<'n> {
     listed: &'n [Vec<u8>],
@@ -56,7 +56,7 @@ impl<'n> Labels<'n> {
         }
     }
 
-    /// The labels of a name whose labels stand behind their lengths.
+    /// The labels of a name whose labels come after their lengths.
     pub(crate) fn of_counted(counted: &'n [u8]) -> Labels<'n>
         requires { IsCounting counted.now (counted_name counted.now) }
         ensures { result ≡ counted_name counted.now }

@@ -1,6 +1,5 @@
-//! What zones are made of: names and their canonical order (RFC 4034 section 6.1), types and classes, the data of
-//! records, records and record sets, the keys of a map of sets, and the traits of what signs sets and of what hashes
-//! names.
+//! What zones consist of: names and their canonical order (RFC 4034 section 6.1), types and classes, the data of records,
+//! records and record sets, the keys of a map of sets, and the traits for signers of sets and for hashes of names.
 //!
 //! Contracts see a name as the list of its labels, data and records as themselves, and a set as a plain value of owner,
 //! type, class, TTL, serial, records and signatures. A call that takes memory answers a `Result`, and where a growth is

@@ -7,7 +7,7 @@ ghost use Rattle.zone_proto.specs.Forms.{labels_of};
 ghost use Rattle.zone_proto.specs.Vectors.{octets_of};
 ghost use Rattle.zone_proto.specs.Suffixes.{suffixes_left};
 ghost use Rattle.zone_proto.specs.TextForm.{IsNameText};
-ghost use Rattle.zone_proto.specs.Results.{IsCopy, TellsFault, TellsFaultOrMemory, TellsTextFault};
+ghost use Rattle.zone_proto.specs.Results.{IsCopy, ReportsFault, ReportsFaultOrMemory, ReportsTextFault};
 
 use crate::error::ProtoError;
 use crate::form::Form;
@@ -37,14 +37,14 @@ impl Model for LowerName {
 }
 
 impl LowerName {
-    /// A copy of the name in lower case. Refused only for want of memory.
+    /// A copy of the name in lower case. Fails only for lack of memory.
     pub fn new(name: &Name) -> Result<LowerName, ProtoError>
         ensures { IsCopy result (lower name.now) }
     {
         Ok(LowerName::from(name.clone()?))
     }
 
-    /// The root, which has no label. Takes no memory.
+    /// The root, which has no label. Doesn't allocate.
     pub fn root(alloc: Global) -> LowerName
         ensures { result ≡ [] }
     {
@@ -53,10 +53,10 @@ impl LowerName {
         }
     }
 
-    /// The name of these labels in lower case, leftmost first. Takes no memory. Refused as `Name::from_labels` is.
+    /// The name of these labels in lower case, leftmost first. Doesn't allocate. Refused as `Name::from_labels` is.
     pub fn from_labels(labels: Vec<Vec<u8>>) -> Result<LowerName, ProtoError>
         ensures ok { IfOk result (λ n. n ≡ lower (octets_of labels.items)) }
-        ensures refusal { TellsFault result (octets_of labels.items) }
+        ensures refusal { ReportsFault result (octets_of labels.items) }
     {
         Ok(LowerName::from(Name::from_labels(labels)?))
     }
@@ -65,7 +65,7 @@ impl LowerName {
     pub fn parse(alloc: Global, text: &str) -> Result<LowerName, ProtoError>
         ensures ok { IfOk result
             (λ n. (name : Name) × IsNameText text.now name × (n ≡ lower name)) }
-        ensures refusal { TellsTextFault result text.now }
+        ensures refusal { ReportsTextFault result text.now }
     {
         Ok(LowerName::from(Name::parse(alloc, text)?))
     }
@@ -109,7 +109,7 @@ impl LowerName {
         self.name.is_wildcard()
     }
 
-    /// The name without its first label; the root of the root. Refused only for want of memory.
+    /// The name without its first label; the root of the root. Fails only for lack of memory.
     pub fn base_name(&self) -> Result<LowerName, ProtoError>
         ensures { IsCopy result (drop 1 self.now) }
     {
@@ -137,7 +137,7 @@ impl LowerName {
         }
     }
 
-    /// The key of this name and a type. Takes no memory.
+    /// The key of this name and a type. Doesn't allocate.
     pub(crate) fn into_key(self, record_type: RecordType) -> RrKey
         ensures value { result ≡ key self record_type.0 }
         ensures named { IsLowerName result.name }
@@ -157,26 +157,27 @@ impl LowerName {
         self.name.zone_of(&other.name)
     }
 
-    /// How many last labels the name shares with another one: as many as their longest common ancestor has. Takes no memory.
+    /// How many last labels the name shares with another one: as many as their longest common ancestor has. Doesn't
+    /// allocate.
     pub fn shared_labels(&self, other: &LowerName) -> usize
         ensures { SharesLabels self.now other.now result }
     {
         self.form().shared_labels(other.form())
     }
 
-    /// A copy of the name's last labels, so many or all that there are: an ancestor, or the name itself. Refused only for want
-    /// of memory.
+    /// A copy of the name's last labels, so many or all that there are: an ancestor, or the name itself. Fails only for
+    /// lack of memory.
     pub fn ancestor(&self, count: usize) -> Result<LowerName, ProtoError>
         ensures { IsCopy result (drop (length self.now - count) self.now) }
     {
-        let mut name = self.clone()?;
-        for _taken in 0..self.num_labels().saturating_sub(count) {
-            name.shorten();
-        }
-        Ok(name)
+        let taken = self.num_labels().saturating_sub(count);
+        Ok(LowerName {
+            name: self.name.without_first(taken)?,
+        })
     }
 
-    /// Whether a name is this one with its letters in lower case too, which `==` of names doesn't tell. Takes no memory.
+    /// Whether a name is this one with its letters in lower case too, which `==` of names doesn't tell. Doesn't
+    /// allocate.
     pub fn is_exactly(&self, name: &Name) -> bool
         ensures same { IsTrue result ↔ (name.now ≡ self.now) }
         ensures lower { lower self.now ≡ self.now }
@@ -187,20 +188,21 @@ impl LowerName {
     /// The name with one more label, put into lower case, before its first. Refused as `Name::prepend_label` is.
     pub fn prepend_label(&self, label: &[u8]) -> Result<LowerName, ProtoError>
         ensures ok { IfOk result (λ n. n ≡ lower_label label.now ∷ self.now) }
-        ensures refusal { TellsFaultOrMemory result (label.now ∷ self.now) }
+        ensures refusal { ReportsFaultOrMemory result (label.now ∷ self.now) }
         ensures valid { IsLowerName self.now }
     {
         Ok(LowerName::from(self.name.prepend_label(label)?))
     }
 
-    /// Lends the labels of the name and of each of its ancestors, from the whole name down to the root. Takes no memory.
+    /// Lends the labels of the name and of each of its ancestors, from the whole name down to the root. Doesn't
+    /// allocate.
     pub fn suffixes(&self) -> Suffixes<'_>
         ensures { suffixes_left result ≡ suffixes self.now }
     {
         self.name.suffixes()
     }
 
-    /// The wire form: the canonical form of the name (RFC 4034 section 6.2). Refused only for want of memory.
+    /// The wire form: the canonical form of the name (RFC 4034 section 6.2). Fails only for lack of memory.
     pub fn wire_lower(&self) -> Result<Vec<u8>, ProtoError>
         ensures ok { IfOk result (λ bytes. bytes.items ≡ wire_form self.now) }
         ensures err { IsOkUnless result ProtoError.Memory }
@@ -213,7 +215,7 @@ impl LowerName {
         self.name.alloc()
     }
 
-    /// A copy of the name. Refused only for want of memory.
+    /// A copy of the name. Fails only for lack of memory.
     pub fn clone(&self) -> Result<LowerName, ProtoError>
         ensures copy { IsCopy result self.now }
         ensures valid { IsLowerName self.now }

@@ -38,7 +38,7 @@ impl Query {
 pub struct Message {
     /// What answers the question.
     pub answers: Vec<Record>,
-    /// What speaks of the authority.
+    /// Records about the authority for the name.
     pub authorities: Vec<Record>,
     /// What may help beside the answer.
     pub additionals: Vec<Record>,

@@ -6,8 +6,8 @@ ghost use Rattle.zone_proto.specs.Forms.{labels_of};
 ghost use Rattle.zone_proto.specs.Vectors.{octets_of};
 ghost use Rattle.zone_proto.specs.Suffixes.{suffixes_left};
 ghost use Rattle.zone_proto.specs.TextForm.{IsNameText};
-ghost use Rattle.zone_proto.specs.Results.{IsCopy, TellsFault, TellsFaultOrMemory, TellsTextFault};
-ghost use Rattle.zone_proto.specs.WireForms.{TellsWireFault};
+ghost use Rattle.zone_proto.specs.Results.{IsCopy, ReportsFault, ReportsFaultOrMemory, ReportsTextFault};
+ghost use Rattle.zone_proto.specs.WireForms.{ReportsWireFault};
 
 use crate::error::ProtoError;
 use crate::form::Form;
@@ -25,7 +25,7 @@ use std::marker::Model;
 ///
 /// A name is the list of its labels, leftmost first, and always absolute; the root has no label. A label has 1 to 63
 /// octets, and the wire form of the name at most 255 (RFC 1035 sections 2.3.4 and 3.1). Names are equal, ordered and
-/// hashed without the case of ASCII letters (RFC 4034 section 6.1, RFC 4343).
+/// hashed ignoring the case of ASCII letters (RFC 4034 section 6.1, RFC 4343).
 ///
 /// A name that was read or copied is copied without memory if its wire form has at most 31 octets, and no label an octet 0 or 1.
 #[derive(Debug, Drop)]
@@ -47,7 +47,7 @@ impl Model for Name {
 }
 
 impl Name {
-    /// The root, which has no label. Takes no memory.
+    /// The root, which has no label. Doesn't allocate.
     pub fn root(alloc: Global) -> Name
         ensures { result ≡ [] }
     {
@@ -56,13 +56,13 @@ impl Name {
         }
     }
 
-    /// The name of these labels, leftmost first. Takes no memory.
+    /// The name of these labels, leftmost first. Doesn't allocate.
     ///
     /// From the left, the first empty label gives `EmptyLabel` or the first one over 63 octets `LabelTooLong`; then a
     /// wire form of more than 255 octets gives `NameTooLong`.
     pub fn from_labels(labels: Vec<Vec<u8>>) -> Result<Name, ProtoError>
         ensures ok { IfOk result (λ n. n ≡ octets_of labels.items) }
-        ensures refusal { TellsFault result (octets_of labels.items) }
+        ensures refusal { ReportsFault result (octets_of labels.items) }
     {
         check_labels(&labels)?;
         Ok(Name {
@@ -74,14 +74,14 @@ impl Name {
     ///
     /// `.` is the root. Else labels are separated by dots, and one final dot may be left out. A backslash and three
     /// decimal digits of value at most 255 are that octet; a backslash and another octet from 33 to 126 are that octet;
-    /// any other octet from 33 to 126 is itself. Everything else, the empty text too, gives `BadText`, wherever it
-    /// stands in the text; then come the refusals of `from_labels`, and `Memory`. That no text is of two names' forms, and
-    /// that each is read or refused for one cause, is `laws::text_is_read_or_refused`. A text without a backslash takes no
-    /// memory if the wire form of its name has at most 31 octets.
+    /// any other octet from 33 to 126 is itself. Everything else, the empty text too, gives `BadText`, wherever it is
+    /// in the text; then come the refusals of `from_labels`, and `Memory`. That no text is of two names' forms, and
+    /// that each is read or refused for one cause, is `laws::text_is_read_or_refused`. A text without a backslash
+    /// doesn't allocate if the wire form of its name has at most 31 octets.
     pub fn parse(alloc: Global, text: &str) -> Result<Name, ProtoError>
         ensures ok { IfOk result (IsNameText text.now) }
         ensures name { IfOk result (λ n. IsName n) }
-        ensures refusal { TellsTextFault result text.now }
+        ensures refusal { ReportsTextFault result text.now }
     {
         if let Some(form) = read_unescaped(alloc, text.as_bytes())? {
             return Ok(Name { form });
@@ -91,23 +91,23 @@ impl Name {
 
     /// Reads the wire form of a name: each label behind its length, and the octet 0 of the root (RFC 1035 section 3.1).
     ///
-    /// Octets that are the wire form of no labels give `BadText`: they end before the name does, or go on behind it. A label
-    /// of more than 63 octets gives `LabelTooLong`, so that a pointer of a message is refused too; then a wire form of more
-    /// than 255 octets gives `NameTooLong`; then comes `Memory`. Takes no memory for at most 31 octets, where no label has an
-    /// octet 0 or 1.
+    /// Octets that are the wire form of no labels give `BadText`: they end before the name does, or go on behind it. A
+    /// label of more than 63 octets gives `LabelTooLong`, so that a pointer of a message is refused too; then a wire
+    /// form of more than 255 octets gives `NameTooLong`; then comes `Memory`. Doesn't allocate for at most 31 octets,
+    /// where no label has an octet 0 or 1.
     pub fn from_wire(alloc: Global, octets: &[u8]) -> Result<Name, ProtoError>
         ensures ok { IfOk result (λ n. octets.now ≡ wire_form n) }
-        ensures refusal { TellsWireFault result octets.now }
+        ensures refusal { ReportsWireFault result octets.now }
     {
         Ok(Name {
             form: read_wire(alloc, octets)?,
         })
     }
 
-    /// Reads a name whose labels stand in a list.
+    /// Reads a name whose labels are in a list.
     fn read(alloc: Global, text: &str) -> Result<Name, ProtoError>
         ensures ok { IfOk result (IsNameText text.now) }
-        ensures refusal { TellsTextFault result text.now }
+        ensures refusal { ReportsTextFault result text.now }
     {
         Name::from_labels(read_labels(alloc, text)?)
     }
@@ -163,13 +163,22 @@ impl Name {
         }
     }
 
-    /// The name without its first label; the root of the root. Refused only for want of memory.
+    /// The name without its first label; the root of the root. Fails only for lack of memory.
     pub fn base_name(&self) -> Result<Name, ProtoError>
         ensures { IsCopy result (drop 1 self.now) }
     {
         let mut name = self.clone()?;
         name.shorten();
         Ok(name)
+    }
+
+    /// A copy without the first so many labels, or the root.
+    pub(crate) fn without_first(&self, count: usize) -> Result<Name, ProtoError>
+        ensures { IsCopy result (drop count self.now) }
+    {
+        Ok(Name {
+            form: self.form.without_first(count)?,
+        })
     }
 
     /// Takes the first label away, in place and without memory; the root stays.
@@ -188,8 +197,8 @@ impl Name {
         Name { form }
     }
 
-    /// Whether the other name is this one or below it: whether this name's labels are the other's last labels, the
-    /// case of letters ignored.
+    /// Whether the other name is this one or below it: whether this name's labels are the other's last labels, ignoring
+    /// case.
     pub fn zone_of(&self, other: &Name) -> bool
         ensures { IsTrue result ↔ IsAtOrAbove (lower self.now) (lower other.now) }
     {
@@ -202,7 +211,7 @@ impl Name {
     /// octets `NameTooLong`; then comes `Memory`.
     pub fn prepend_label(&self, label: &[u8]) -> Result<Name, ProtoError>
         ensures ok { IfOk result (λ n. n ≡ label.now ∷ self.now) }
-        ensures refusal { TellsFaultOrMemory result (label.now ∷ self.now) }
+        ensures refusal { ReportsFaultOrMemory result (label.now ∷ self.now) }
     {
         check_prepended(label, self.labels())?;
         Ok(Name {
@@ -210,14 +219,15 @@ impl Name {
         })
     }
 
-    /// Lends the labels of the name and of each of its ancestors, from the whole name down to the root. Takes no memory.
+    /// Lends the labels of the name and of each of its ancestors, from the whole name down to the root. Doesn't
+    /// allocate.
     pub fn suffixes(&self) -> Suffixes<'_>
         ensures { suffixes_left result ≡ suffixes self.now }
     {
         Suffixes::of(self.labels())
     }
 
-    /// The wire form in lower case: the canonical form of the name (RFC 4034 section 6.2). Refused only for want of
+    /// The wire form in lower case: the canonical form of the name (RFC 4034 section 6.2). Fails only for lack of
     /// memory.
     pub fn wire_lower(&self) -> Result<Vec<u8>, ProtoError>
         ensures ok { IfOk result (λ bytes. bytes.items ≡ wire_form (lower self.now)) }
@@ -241,7 +251,7 @@ impl Name {
         self.form.alloc()
     }
 
-    /// A copy of the name, in the same case. Refused only for want of memory.
+    /// A copy of the name, in the same case. Fails only for lack of memory.
     pub fn clone(&self) -> Result<Name, ProtoError>
         ensures { IsCopy result self.now }
     {

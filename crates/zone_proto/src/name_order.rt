@@ -39,7 +39,7 @@ impl PartialOrd for Name {
     }
 }
 
-/// The canonical order, the case of ASCII letters ignored.
+/// The canonical order, ignoring case.
 impl Ord for Name {
     ghost cmp = { caseless_cmp };
 
@@ -94,8 +94,8 @@ impl Ord for LowerName {
     }
 }
 
-/// The canonical order of two lists of labels, the case of letters ignored: the rightmost first (RFC 4034 section 6.1). Takes no
-/// memory.
+/// The canonical order of two lists of labels, ignoring case: the rightmost first (RFC 4034 section 6.1). Doesn't
+/// allocate.
 pub fn compare_labels(a: PrependedLabels<'_>, b: PrependedLabels<'_>) -> Ordering
     ensures { result ≡ caseless_cmp a.entry b.entry }
 {
@@ -105,7 +105,7 @@ pub fn compare_labels(a: PrependedLabels<'_>, b: PrependedLabels<'_>) -> Orderin
     compare_alike(skip(a, i - shared), skip(b, j - shared)).then(i.cmp(&j))
 }
 
-/// Whether the labels of `a` are the last of `b`, the case of letters ignored: the name `b` is `a` or below it. Takes no memory.
+/// Whether the labels of `a` are the last of `b`, ignoring case: the name `b` is `a` or below it. Doesn't allocate.
 pub fn labels_are_above(a: PrependedLabels<'_>, b: PrependedLabels<'_>) -> bool
     ensures { IsTrue result ↔ IsAtOrAbove (lower a.entry) (lower b.entry) }
 {
@@ -158,8 +158,7 @@ fn skip<'n>(labels: PrependedLabels<'n>, count: usize) -> PrependedLabels<'n>
     rest
 }
 
-/// The canonical order of as many labels, the case of letters ignored. A label further right decides before one further
-/// left.
+/// The canonical order of as many labels, ignoring case. A label further right decides before one further left.
 fn compare_alike(a: PrependedLabels<'_>, b: PrependedLabels<'_>) -> Ordering
     requires { length a ≡ length b }
     ensures { result ≡ caseless_cmp a.entry b.entry }
@@ -174,7 +173,7 @@ fn compare_alike(a: PrependedLabels<'_>, b: PrependedLabels<'_>) -> Ordering
     order
 }
 
-/// The order of two labels, the case of letters ignored.
+/// The order of two labels, ignoring case.
 pub(crate) fn compare_label(a: &[u8], b: &[u8]) -> Ordering
     ensures { result
         ≡ slice_cmp nat_cmp (map to_ascii_lowercase a.now) (map to_ascii_lowercase b.now) }

@@ -23,7 +23,7 @@ pub enum NxProofKind {
 }
 
 impl NxProofKind {
-    /// A copy of this kind, all parts alike; `Memory` where none is found.
+    /// A copy of this kind, identical in all parts. Its only error is `Memory`.
     pub fn clone(&self) -> Result<NxProofKind, ProtoError>
         ensures { IsCopy result self.now }
     {

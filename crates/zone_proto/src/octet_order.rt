@@ -8,8 +8,8 @@ ghost use Rattle.zone_proto.specs.Packing.{shared_ends};
 use crate::name_order::compare_label;
 use std::cmp::Ordering;
 
-/// The lexicographic order of octets. It is that of the names whose octets they are; eight octets are compared at a time, since nearly
-/// all that a look-up does is to compare names.
+/// The lexicographic order of octets. It is that of the names whose octets they are; eight octets are compared at a
+/// time, since nearly all that a lookup does is to compare names.
 pub(crate) fn compare_octets(a: &[u8], b: &[u8]) -> Ordering
     ensures { result ≡ slice_cmp nat_cmp a.now b.now }
 {
@@ -51,7 +51,7 @@ fn compare_eight(a: &[u8; 8], b: &[u8; 8]) -> Ordering
     u64::from_be_bytes(*a).cmp(&u64::from_be_bytes(*b))
 }
 
-/// Whether octets begin with others, the case of letters ignored.
+/// Whether octets begin with others, ignoring case.
 pub(crate) fn is_front_caseless(front: &[u8], whole: &[u8]) -> bool
     ensures { IsTrue result
         ↔ ((rest : List ℕ)
@@ -60,7 +60,7 @@ pub(crate) fn is_front_caseless(front: &[u8], whole: &[u8]) -> bool
     front.len() <= whole.len() && are_same_caseless(front, &whole[..front.len()])
 }
 
-/// Whether octets are the same, the case of letters ignored.
+/// Whether octets are the same, ignoring case.
 fn are_same_caseless(a: &[u8], b: &[u8]) -> bool
     ensures { result
         ≡ is_eq (slice_cmp nat_cmp (map to_ascii_lowercase a.now) (map to_ascii_lowercase b.now)) }

@@ -2,7 +2,7 @@
 ghost use Rattle.std.specs.Prelude.{◌≡◌, [], ◌∷◌, ◌++◌, IfOk, OnOk};
 ghost use Rattle.zone_proto.specs.Octets.{written};
 
-use crate::storage::{ROOM, Short, Storage};
+use crate::storage::{INLINE_OCTETS, Short, Storage};
 use std::alloc::{AllocError, Global};
 
 /// Octets as they are written.
@@ -19,7 +19,7 @@ impl Octets {
     pub(crate) fn with_capacity(alloc: Global, capacity: usize) -> Result<Octets, AllocError>
         ensures { IfOk result (λ o. written o ≡ []) }
     {
-        if capacity <= ROOM {
+        if capacity <= INLINE_OCTETS {
             return Ok(Octets::Short(Short::new(alloc)));
         }
         Ok(Octets::Long(Vec::with_capacity(alloc, capacity)?))

@@ -34,7 +34,7 @@ impl<S: Storage> Model for Packed<S> {
 }
 
 impl<S: Storage> Packed<S> {
-    /// The name whose labels stand in these octets.
+    /// The name whose labels are in these octets.
     pub(crate) fn of_octets(octets: S) -> Packed<S>
         requires { IsPacking (S.octets_in octets) (name_of (S.octets_in octets)) }
         ensures { result ≡ name_of (S.octets_in octets) }
@@ -144,7 +144,7 @@ fn packed_length(labels: &[Vec<u8>]) -> usize {
     octets
 }
 
-/// How many octets stand before the first label.
+/// How many octets come before the first label.
 fn first_label_at(octets: &[u8]) -> usize
     requires { IsPacking octets.now (name_of octets.now) }
     ensures { result ≡ length (packing (drop 1 (name_of octets.now))) }
@@ -156,7 +156,7 @@ fn first_label_at(octets: &[u8]) -> usize
     start
 }
 
-/// Writes the label `*` from a place on, in place of all that stands there.
+/// Writes the label `*` from a place on, in place of all that is there.
 pub(crate) fn overwrite<S: Storage>(octets: &mut S, start: usize)
     requires within { start + 1 < length (S.octets_in octets.old) }
     requires fits { start + 2 < 2 ^ 64 }

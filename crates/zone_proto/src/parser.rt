@@ -11,7 +11,7 @@ use crate::error::ProtoError;
 use std::alloc::Global;
 
 /// Room for one label of any length that a name may have.
-const LABEL_ROOM: usize = 63;
+const INLINE_LABEL: usize = 63;
 
 /// More labels than a name can have.
 const MANY_LABELS: usize = 128;
@@ -177,7 +177,7 @@ fn read(alloc: Global, bytes: &[u8]) -> Result<Vec<Vec<u8>>, ProtoError>
     let mut reader = Reader {
         mode: Mode::Start,
         labels: Vec::with_capacity(alloc, label_count(bytes))?,
-        label: Vec::with_capacity(alloc, LABEL_ROOM)?,
+        label: Vec::with_capacity(alloc, INLINE_LABEL)?,
     };
     for octet in bytes {
         reader.step(alloc, *octet)?;

@@ -5,7 +5,7 @@ ghost use Rattle.std.specs.Iterator.{YieldsFirstBy, item_count};
 use crate::labels_iter::Labels;
 use std::marker::Model;
 
-/// Lends the labels of a name, or of a name one label below it, leftmost first. Takes no memory.
+/// Lends the labels of a name, or of a name one label below it, leftmost first. Doesn't allocate.
 #[derive(Debug, Drop)]
 pub struct PrependedLabels<'n> {
     first: Option<&'n [u8]>,

@@ -22,7 +22,7 @@ pub use start_of_authority::SOA;
 
 /// The data of a record, by type.
 ///
-/// Equal by all parts, names without case.
+/// Equal by all parts, names ignoring case.
 #[derive(PartialOrd, Ord, Debug, Drop)]
 pub enum RData {
     /// An address of four octets (RFC 1035 section 3.4.1).
@@ -80,7 +80,7 @@ impl RData {
         }
     }
 
-    /// A copy of these data, all parts alike, the case of letters in names too; `Memory` where none is found.
+    /// A copy of these data, identical in all parts, even in the case of letters in names. Its only error is `Memory`.
     pub fn clone(&self) -> Result<RData, ProtoError>
         ensures { IsCopy result self.now }
     {

@@ -42,7 +42,7 @@ impl Eq for Record {
 }
 
 impl Record {
-    /// A record of class IN. Takes no memory.
+    /// A record of class IN. Doesn't allocate.
     pub fn from_rdata(name: Name, ttl: u32, rdata: RData) -> Record
         ensures { result
             ≡ record { name = name; dns_class = DNSClass.IN; ttl = ttl; rdata = rdata } }
@@ -62,7 +62,8 @@ impl Record {
         self.rdata.record_type()
     }
 
-    /// A copy of the record: all parts alike, the case of letters in names and the TTL too. `Memory` where none is found.
+    /// A copy of the record: identical in all parts, the case of letters in names and the TTL too. `Memory` where none
+    /// is found.
     pub fn clone(&self) -> Result<Record, ProtoError>
         ensures { IsCopy result self.now }
     {

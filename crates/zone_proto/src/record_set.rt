@@ -89,8 +89,8 @@ impl Eq for RecordSet {
 }
 
 impl RecordSet {
-    /// A set without records, of class IN and TTL 0. `serial` is the zone's serial at this moment; each record that the set
-    /// takes later brings a serial of its own. Takes no memory.
+    /// A set without records, of class IN and TTL 0. `serial` is the zone's serial at this moment; each record that the
+    /// set takes later brings a serial of its own. Doesn't allocate.
     pub fn new(name: Name, record_type: RecordType, serial: u32) -> RecordSet
         ensures { result ≡ record {
           owner = name;
@@ -114,7 +114,7 @@ impl RecordSet {
         }
     }
 
-    /// A set without records, of class IN, serial 0 and this TTL in seconds. Takes no memory.
+    /// A set without records, of class IN, serial 0 and this TTL in seconds. Doesn't allocate.
     pub fn with_ttl(name: Name, record_type: RecordType, ttl: u32) -> RecordSet
         ensures { result ≡ record {
           owner = name;
@@ -131,7 +131,8 @@ impl RecordSet {
         set
     }
 
-    /// A copy of the set: all parts alike, the case of letters in names, TTLs and serials too. `Memory` where none is found.
+    /// A copy of the set: identical in all parts, the case of letters in names, TTLs and serials too. `Memory` where
+    /// none is found.
     pub fn clone(&self) -> Result<RecordSet, ProtoError>
         ensures { IsCopy result self.now }
     {
@@ -140,7 +141,7 @@ impl RecordSet {
         Ok(copy)
     }
 
-    /// A copy of the set without its signatures, as it stands before it is signed anew. `Memory` where none is found.
+    /// A copy of the set without its signatures, as it is before it is signed anew. `Memory` where none is found.
     pub fn clone_without_rrsigs(&self) -> Result<RecordSet, ProtoError>
         ensures { IsCopy result (record self.now { signatures = [] }) }
     {
@@ -227,7 +228,7 @@ impl RecordSet {
     }
 
     /// The records in order, and with `and_rrsigs` the signatures after them; nothing at all for a set without records.
-    /// Takes no memory.
+    /// Doesn't allocate.
     pub fn records(&self, and_rrsigs: bool) -> RrsetRecords<'_>
         ensures lent { result ≡ lent self.now and_rrsigs }
         ensures rule { IsSet self.now.owner self.now.record_type self.now.records }
@@ -240,7 +241,7 @@ impl RecordSet {
         }
     }
 
-    /// The records in order, as a slice. Takes no memory.
+    /// The records in order, as a slice. Doesn't allocate.
     pub fn as_slice(&self) -> &[Record]
         ensures value { result.now ≡ self.now.records }
         ensures rule { IsSet self.now.owner self.now.record_type self.now.records }
@@ -248,7 +249,7 @@ impl RecordSet {
         self.records.as_slice()
     }
 
-    /// The records in order. Takes no memory.
+    /// The records in order. Doesn't allocate.
     pub fn records_without_rrsigs(&self) -> RrsetRecords<'_>
         ensures lent { result ≡ self.now.records }
         ensures rule { IsSet self.now.owner self.now.record_type self.now.records }
@@ -256,11 +257,11 @@ impl RecordSet {
         RrsetRecords::new(self.records.as_slice(), &[])
     }
 
-    /// Inserts a record of the set's owner and type, and tells whether it was taken.
+    /// Inserts a record of the set's owner and type, and says whether it was taken.
     ///
     /// - An SOA where one is stored is taken if its serial is the greater number, and replaces it.
     /// - A CNAME or an ANAME is taken, and replaces what is stored.
-    /// - Any other record is taken unless one of equal data is stored, and stands last.
+    /// - Any other record is taken unless one of equal data is stored, and comes last.
     ///
     /// With a taken record the set's TTL becomes the record's, its serial becomes `serial`, and its signatures are dropped.
     /// A record that isn't taken, and the refusal `Memory`, leave the set as it was.
@@ -278,9 +279,9 @@ impl RecordSet {
         Ok(true)
     }
 
-    /// Puts a record of the set's owner and type behind the others, as `insert` does with one whose data aren't stored, but
-    /// without looking through them: of many records the caller finds out in less time which data stand there already. Not for
-    /// the types of which a set has one record at most. `Memory` leaves the set as it was.
+    /// Appends a record of the set's owner and type to the others, as `insert` does with one whose data aren't stored,
+    /// but without looking through them: of many records the caller finds out in less time which data are there
+    /// already. Not for the types of which a set has one record at most. `Memory` leaves the set as it was.
     pub fn append(&mut self, new: Record, serial: u32) -> Result<(), ProtoError>
         requires owner { same_name new.name self.old.owner ≡ true }
         requires kind { type_of new.rdata ≡ self.old.record_type }
@@ -328,16 +329,16 @@ impl RecordSet {
         put_last(&mut self.rrsigs, rrsig)
     }
 
-    /// Puts these signatures in the place of those that the set has. Takes no memory.
+    /// Puts these signatures in place of those that the set has. Doesn't allocate.
     pub fn replace_rrsigs(&mut self, rrsigs: Rrsigs)
         ensures { self.new ≡ record self.old { signatures = rrsigs } }
     {
         self.rrsigs = rrsigs.into_records();
     }
 
-    /// Exchanges the signatures that the set has, in order, with those of a list from `start` on (an index, from 0), and
-    /// answers where the next ones of that list stand. Where the list has fewer there, nothing is exchanged, and the answer
-    /// is `start`. Takes no memory.
+    /// Exchanges the signatures that the set has, in order, with those of a list from `start` on (an index, from 0),
+    /// and answers where the next ones of that list stand. Where the list has fewer there, nothing is exchanged, and
+    /// the answer is `start`. Doesn't allocate.
     pub fn exchange_rrsigs(&mut self, others: &mut Rrsigs, start: usize) -> usize
         ensures set { length self.old.signatures ≤ length (drop start others.old)
             → self.new
@@ -357,8 +358,8 @@ impl RecordSet {
         others.exchange(start, self.rrsigs.as_mut_slice())
     }
 
-    /// Steps the serial of the set's SOA by one modulo 2^32 (RFC 1982 section 3.1), which becomes the set's serial too; a set
-    /// that doesn't begin with an SOA stays as it is. The signatures stay. Takes no memory.
+    /// Steps the serial of the set's SOA by one modulo 2^32 (RFC 1982 section 3.1), which becomes the set's serial too;
+    /// a set that doesn't begin with an SOA stays as it is. The signatures stay. Doesn't allocate.
     pub fn step_serial(&mut self)
         ensures { self.new ≡ stepped self.old }
     {
@@ -369,14 +370,14 @@ impl RecordSet {
         }
     }
 
-    /// Puts another serial in the place of the set's; its records and signatures stay. Takes no memory.
+    /// Puts another serial in place of the set's; its records and signatures stay. Doesn't allocate.
     pub fn set_serial(&mut self, other: u32)
         ensures { self.new ≡ record self.old { serial = other } }
     {
         self.serial = other;
     }
 
-    /// Drops the signatures. Takes no memory.
+    /// Drops the signatures. Doesn't allocate.
     pub fn clear_rrsigs(&mut self)
         ensures { self.new ≡ record self.old { signatures = [] } }
     {

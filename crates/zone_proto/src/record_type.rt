@@ -86,8 +86,8 @@ impl RecordType {
     /// An alias for addresses alone; a number for private use (RFC 6895 section 3.1).
     pub const ANAME: RecordType = RecordType(65305);
 
-    /// Whether `RData` has a case of its own for the type, so that its data are read part by part; those of any other type are
-    /// mere octets (RFC 3597 section 3). Takes no memory.
+    /// Whether `RData` has a case of its own for the type, so that its data are read part by part; those of any other
+    /// type are mere octets (RFC 3597 section 3). Doesn't allocate.
     pub fn has_own_case(self) -> bool
         ensures { result ≡ has_own_case self.0 }
     {
@@ -95,7 +95,7 @@ impl RecordType {
     }
 
     /// The type that a text names: a word of a type, as `AAAA`, or `TYPE` and a number of decimal digits up to 65535,
-    /// as `TYPE28`, all in upper case; none for any other text. Takes no memory.
+    /// as `TYPE28`, all in upper case; none for any other text. Doesn't allocate.
     pub fn from_text(text: &str) -> Option<RecordType>
         ensures { option_map (λ t. t.0) result ≡ type_of_text text.now }
     {

@@ -20,7 +20,7 @@ pub struct RrKey {
 }
 
 impl RrKey {
-    /// The key of a name and a type. Takes no memory.
+    /// The key of a name and a type. Doesn't allocate.
     pub fn new(name: LowerName, record_type: RecordType) -> RrKey
         ensures value { result ≡ key name record_type.0 }
         ensures named { IsLowerName result.name }
@@ -29,8 +29,8 @@ impl RrKey {
         name.into_key(record_type)
     }
 
-    /// The key of a name and type 0. No key of the name, or of a name below it, stands before it, so what a map has of these
-    /// stands from it on. Refused only for want of memory.
+    /// The key of a name and type 0. No key of the name, or of a name below it, comes before it, so what a map has of
+    /// these stands from it on. Fails only for lack of memory.
     pub fn first_of(name: &LowerName) -> Result<RrKey, ProtoError>
         ensures copy { IsCopy result (first_key name.now) }
         ensures range { IfOk result (λ first. IsKeyInRange first) }
@@ -46,7 +46,7 @@ impl RrKey {
         self.record_type == other.record_type && self.name == other.name
     }
 
-    /// A copy of the key. Refused only for want of memory.
+    /// A copy of the key. Fails only for lack of memory.
     pub fn clone(&self) -> Result<RrKey, ProtoError>
         ensures copy { IsCopy result self.now }
         ensures range { IsKeyInRange self.now }

@@ -5,7 +5,7 @@ ghost use Rattle.std.specs.Iterator.{YieldsFirstRef, item_count};
 use crate::record::Record;
 use std::marker::Model;
 
-/// The records of a set, lent one by one; takes no memory.
+/// The records of a set, lent one by one; doesn't allocate.
 #[derive(Debug, Drop)]
 pub struct RrsetRecords<'r> {
     records: &'r [Record],

@@ -29,7 +29,7 @@ impl Model for Rrsigs {
 }
 
 impl Rrsigs {
-    /// No signatures, and room for so many. Refused by `Memory` alone.
+    /// No signatures, and room for so many. Its only error is `Memory`.
     pub fn with_capacity(alloc: Global, count: usize) -> Result<Rrsigs, ProtoError>
         ensures ok { IfOk result (λ rrsigs. rrsigs ≡ []) }
         ensures err { IsOkUnless result ProtoError.Memory }
@@ -39,7 +39,8 @@ impl Rrsigs {
         })
     }
 
-    /// Puts a signature behind the others. The caller hands in a record of type RRSIG. `Memory` leaves them as they were.
+    /// Appends a signature to the others. The caller hands in a record of type RRSIG. `Memory` leaves them as they
+    /// were.
     pub fn push(&mut self, rrsig: Record) -> Result<(), ProtoError>
         requires kind { type_of rrsig.rdata ≡ RRSIG }
         ensures { IsChange self.old (self.old ++ rrsig ∷ []) result self.new }
@@ -55,7 +56,8 @@ impl Rrsigs {
         self.records.len()
     }
 
-    /// Takes those from `start` on out, as a list with room for these alone. Refused by `Memory` alone, which leaves them.
+    /// Takes those from `start` on out, as a list with room for these alone. Its only error is `Memory`, which leaves
+    /// them.
     pub fn split_off(&mut self, start: usize) -> Result<Rrsigs, ProtoError>
         requires { start ≤ length self.old }
         ensures ok { IfOk result (λ rrsigs. rrsigs ≡ drop start self.old) }
@@ -68,8 +70,8 @@ impl Rrsigs {
         })
     }
 
-    /// Exchanges signatures, in order, with those from `start` on, and answers where the next ones stand. Where fewer stand
-    /// there, nothing is exchanged, and the answer is `start`. Takes no memory.
+    /// Exchanges signatures, in order, with those from `start` on, and answers where the next ones stand. Where fewer
+    /// are there, nothing is exchanged, and the answer is `start`. Doesn't allocate.
     pub(crate) fn exchange(&mut self, start: usize, others: &mut [Record]) -> usize
         requires { AreSignatures others.old }
         ensures others { length others.old ≤ length (drop start self.old)

@@ -1,4 +1,4 @@
-//! Lists of items that stand in the value itself.
+//! Lists of items that are in the value itself.
 ghost use Rattle.std.specs.Prelude.{◌≡◌, ◌≤◌, ◌↔◌, IsSome, IfSome, length};
 
 use std::marker::Model;

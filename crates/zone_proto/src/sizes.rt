@@ -30,7 +30,7 @@ fn lists_are_small() {
     // As many as a Vec, and the tag that tells where the items stand.
     prove!(size_of::<Seq<u8>>() <= 32);
     prove!(size_of::<Seq<RecordType>>() <= 32);
-    // Three lists, and what stands before them.
+    // Three lists, and what precedes them.
     prove!(size_of::<NSEC3>() <= 104);
     // The largest data, and a tag, which takes as much room as a pointer is aligned to.
     prove!(size_of::<RData>() <= 112);

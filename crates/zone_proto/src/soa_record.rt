@@ -3,7 +3,7 @@ use crate::dns_class::DNSClass;
 use crate::name::Name;
 use crate::rdata::SOA;
 
-/// A record whose data are an SOA, as it stands beside a negative answer (RFC 2308 section 3).
+/// A record whose data are an SOA, as it is beside a negative answer (RFC 2308 section 3).
 #[derive(Debug, Drop)]
 pub struct SoaRecord {
     /// The owner.

@@ -6,8 +6,8 @@ use crate::letter_case::lower_octets;
 use std::alloc::Global;
 use std::marker::Model;
 
-/// How many octets stand in the value itself.
-pub(crate) const ROOM: usize = 30;
+/// How many octets are in the value itself.
+pub(crate) const INLINE_OCTETS: usize = 30;
 
 /// What the octets of a name stand in. No call takes memory.
 pub(crate) trait Storage: Drop {
@@ -38,7 +38,7 @@ pub(crate) trait Storage: Drop {
 #[derive(Debug, Drop)]
 pub(crate) struct Short {
     length: u8,
-    octets: [u8; ROOM],
+    octets: [u8; INLINE_OCTETS],
     alloc: Global,
 }
 
@@ -57,11 +57,11 @@ impl Short {
     pub(crate) fn new(alloc: Global) -> Short
         ensures { result ≡ [] }
     {
-        Short::first(alloc, [0; ROOM], 0)
+        Short::first(alloc, [0; INLINE_OCTETS], 0)
     }
 
-    /// So many octets at the front of these.
-    pub(crate) fn first(alloc: Global, octets: [u8; ROOM], count: usize) -> Short
+    /// So many octets at the start of these.
+    pub(crate) fn first(alloc: Global, octets: [u8; INLINE_OCTETS], count: usize) -> Short
         requires { count ≤ 30 }
         ensures { result ≡ take count octets }
     {
@@ -76,7 +76,7 @@ impl Short {
     pub(crate) fn has_room(&self, count: usize) -> bool
         ensures { IsTrue result ↔ (length self.now + count ≤ 30) }
     {
-        count <= ROOM - usize::from(self.length)
+        count <= INLINE_OCTETS - usize::from(self.length)
     }
 
     /// Appends octets, for which there is room.

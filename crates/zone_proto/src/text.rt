@@ -78,8 +78,8 @@ impl fmt::Display for NameText<'_> {
     }
 }
 
-/// The text of at least one label, all of whose octets are plain, put into the room; none where one isn't, or where the room
-/// is too short.
+/// The text of at least one label, all of whose octets are plain, put into the room; none if one isn't, or where the
+/// room is too short.
 fn plain_text<'r>(labels: Labels<'_>, room: &'r mut [u8]) -> Option<&'r str>
     ensures { IfSome result (λ text. text.now ≡ name_text labels.entry) }
 {
@@ -99,7 +99,7 @@ fn put_labels(labels: Labels<'_>, room: &mut [u8]) -> Option<usize>
     if end == 0 { None } else { Some(end) }
 }
 
-/// Puts the text of a label behind the front of the room, and answers where it ends.
+/// Appends the text of a label to the front of the room, and answers where it ends.
 fn put_label(label: &[u8], room: &mut [u8], front: usize) -> Option<usize>
     requires { front ≤ length room.old }
     ensures room { length room.new ≡ length room.old }

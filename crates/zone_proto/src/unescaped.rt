@@ -15,8 +15,8 @@ use std::alloc::{AllocError, Global};
 /// it may have (RFC 1035 section 2.3.4).
 const LONGEST_TEXT: usize = 253;
 
-/// The name of a text without escapes, and nothing where the text is another one: one with an escape, with a fault, of the
-/// root, or of more than 253 octets. A name of up to 30 octets takes no memory.
+/// The name of a text without escapes, and nothing where the text is another one: one with an escape, with a fault, of
+/// the root, or of more than 253 octets. A name of up to 30 octets doesn't allocate.
 pub(crate) fn read_unescaped(alloc: Global, text: &[u8]) -> Result<Option<Form>, AllocError>
     ensures text { IfOk result (λ found. IfSome found (λ f. IsNameText text.now (labels_of f))) }
     ensures name { IfOk result (λ found. IfSome found (λ f. IsName (labels_of f))) }
@@ -47,8 +47,8 @@ fn without_final_dot(text: &[u8]) -> &[u8]
     }
 }
 
-/// The last label of a text without escapes, with what stands before it, which is nothing or ends with a dot; nothing where
-/// the label is empty or has more than 63 octets, or where another octet stands before it.
+/// The last label of a text without escapes, with what precedes it, which is nothing or ends with a dot; nothing where
+/// the label is empty or has more than 63 octets, or where another octet comes before it.
 fn last_label(text: &[u8]) -> Option<(&[u8], &[u8])>
     ensures whole { IfSome result (λ p. text.now ≡ p.0.now ++ p.1.now) }
     ensures front { IfSome result (λ p. IsFront p.0.now) }
@@ -73,7 +73,7 @@ fn label_start(text: &[u8]) -> usize
     start
 }
 
-/// Whether a label may stand after this: nothing, or a dot at the end.
+/// Whether a label may come after this: nothing, or a dot at the end.
 fn is_front(text: &[u8]) -> bool
     ensures { IsTrue result → IsFront text.now }
 {

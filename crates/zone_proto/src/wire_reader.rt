@@ -7,21 +7,21 @@ ghost use Rattle.zone_proto.specs.Ranges.{IsOctet};
 ghost use Rattle.zone_proto.specs.Packing.{packing, IsPackable};
 ghost use Rattle.zone_proto.specs.Faults.{first_of_faults};
 ghost use Rattle.zone_proto.specs.Forms.{labels_of};
-ghost use Rattle.zone_proto.specs.WireForms.{IsWireFault, IsWireForm, TellsWireFault};
+ghost use Rattle.zone_proto.specs.WireForms.{IsWireFault, IsWireForm, ReportsWireFault};
 
 use crate::counted::split_counted;
 use crate::error::ProtoError;
 use crate::form::{Form, is_inner};
 use crate::labels::{LONGEST_LABEL, LONGEST_NAME};
 use crate::packed::Packed;
-use crate::storage::{ROOM, Short};
+use crate::storage::{INLINE_OCTETS, Short};
 use std::alloc::{AllocError, Global};
 
 /// The labels of the name whose wire form the octets are.
 pub(crate) fn read_wire(alloc: Global, octets: &[u8]) -> Result<Form, ProtoError>
     ensures ok { IfOk result (λ f. octets.now ≡ wire_form (labels_of f)) }
     ensures name { IfOk result (λ f. IsName (labels_of f)) }
-    ensures refusal { TellsWireFault result octets.now }
+    ensures refusal { ReportsWireFault result octets.now }
 {
     let labels = check_wire(octets)?;
     if are_inner(labels) {
@@ -75,7 +75,7 @@ fn check_wire(octets: &[u8]) -> Result<&[u8], ProtoError>
     Err(ProtoError::BadText)
 }
 
-/// The fault, or where there is none that of a label, which has octets.
+/// The fault, or if there is none that of a label, which has octets.
 fn first_fault(fault: Option<ProtoError>, label: &[u8]) -> Option<ProtoError>
     ensures first { result
         ≡ first_of_faults fault
@@ -95,7 +95,7 @@ fn pack(alloc: Global, labels: &[u8]) -> Result<Form, AllocError>
     requires inner { IsPackable (counted_name labels.now) }
     ensures { IfOk result (λ f. labels_of f ≡ counted_name labels.now) }
 {
-    if labels.len() <= ROOM {
+    if labels.len() <= INLINE_OCTETS {
         return Ok(Form::ShortPacked(pack_short(alloc, labels)));
     }
     let mut octets = Vec::from_elem(alloc, 0, labels.len())?;
@@ -110,13 +110,13 @@ fn pack_short(alloc: Global, labels: &[u8]) -> Packed<Short>
     requires few { length labels.now ≤ 30 }
     ensures { result ≡ counted_name labels.now }
 {
-    let mut room = [0; ROOM];
+    let mut room = [0; INLINE_OCTETS];
     write_packing(&mut room[..labels.len()], labels);
     Packed::of_octets(Short::first(alloc, room, labels.len()))
 }
 
-/// Writes the labels from the root on, each before its end. What stands behind a label in their wire form is as long as what
-/// stands before it here.
+/// Writes the labels from the root on, each before its end. What follows a label in their wire form is as long as what
+/// precedes it here.
 fn write_packing(octets: &mut [u8], labels: &[u8])
     requires counting { IsCounting labels.now (counted_name labels.now) }
     requires room { length octets.old ≡ length labels.now }

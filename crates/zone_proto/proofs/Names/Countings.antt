@@ -1,4 +1,5 @@
--- Names whose labels stand behind their lengths: they are read back, in lower case too, and the first label is found at the front.
+-- Names whose labels come after their lengths: they are read back, in lower case too, and the first label is found at
+-- the front.
 use Rattle.std.proofs.Common.{◌≡◌, ℕ, zero, suc, ◌+◌, ◌-◌, ◌<◌, ◌≤◌, List, [], ◌∷◌, ◌++◌, length, map, take, drop, get_or, set, refl, sym, ap, ◌∙◌, arith, subst}
 use Rattle.std.proofs.lemmas.List.{length-append, length-map, map-append}
 use Rattle.std.proofs.Math.Seq.{take-append_seam, drop-append_seam}

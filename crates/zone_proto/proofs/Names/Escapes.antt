@@ -1,6 +1,6 @@
 -- The octets by which names are ordered: 0 and 1 are pairs there, and the order, the case and the tree of the names stay.
-use Rattle.std.proofs.Common.{◌≡◌, ℕ, zero, suc, ◌+◌, ◌-◌, ◌<◌, ◌≤◌, add-one, List, [], ◌∷◌, ◌++◌, length, map, take, drop, set, reverse, Bool, true, false, cond, refl, sym, ap, ◌∙◌, arith, subst}
-use Rattle.std.proofs.lemmas.List.{append_assoc, reverse-append, length-append, map-append, take-append-drop}
+use Rattle.std.proofs.Common.{◌≡◌, ℕ, ◌+◌, ◌<◌, add-one, List, [], ◌∷◌, ◌++◌, length, map, take, drop, set, reverse, Bool, true, false, cond, refl, sym, ap, ◌∙◌, arith}
+use Rattle.std.proofs.lemmas.List.{reverse-append, length-append, map-append, take-append-drop}
 use Rattle.std.proofs.Math.Seq.{drop-append_seam}
 use Rattle.std.proofs.lemmas.Cmp.{tied_itself}
 use Rattle.std.proofs.lemmas.Map.Lookups.{exact_bytes}
@@ -13,7 +13,7 @@ use Rattle.std.specs.Cmp.{nat_cmp_is}
 use Rattle.std.specs.Cmp.Lexicographic.{slice_cmp, nat_list_cmp_total}
 use Rattle.std.specs.Char.{to_ascii_lowercase}
 use Rattle.std.specs.List.{AllByRecursion, drop-map}
-use Rattle.zone_proto.specs.Names.{Name, Label, name_cmp, caseless_cmp, lower, lower_label, IsAtOrAbove, IsName, wildcard_of}
+use Rattle.zone_proto.specs.Names.{Name, Label, name_cmp, caseless_cmp, lower, IsAtOrAbove, IsName, wildcard_of}
 use Rattle.zone_proto.specs.NameLaws.{exact_names}
 use Rattle.zone_proto.specs.Packing.{IsInner, IsPackable, packing, escaped, order_octets}
 use Rattle.zone_proto.proofs.Names.FirstLabels.{starred}

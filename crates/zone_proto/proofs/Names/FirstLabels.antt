@@ -1,4 +1,4 @@
--- Where the first label stands in the packing of a name.
+-- Where the first label is in the packing of a name.
 use Rattle.std.proofs.Common.{◌≡◌, ℕ, zero, suc, ◌+◌, ◌-◌, ◌<◌, ◌≤◌, List, [], ◌∷◌, ◌++◌, length, take, drop, set, refl, sym, ap, ◌∙◌, arith, get_or, ◌⊎◌, inl, inr, Ordering, Less, Equal, Greater}
 use Rattle.std.proofs.lemmas.List.{append_assoc, length-append, get_or-append_right}
 use Rattle.std.proofs.Math.Seq.{take-append_seam, drop-append_seam, get_or-append_seam, set-append_seam}
@@ -9,7 +9,7 @@ use Rattle.zone_proto.specs.Names.{Name, Label, wildcard_of, IsName}
 use Rattle.zone_proto.specs.Packing.{IsInner, IsPackable, packing, name_of, IsPacking}
 use Rattle.zone_proto.proofs.Names.Packings.{is_packing, is_name_of}
 
--- how many octets stand before the first label
+-- how many octets come before the first label
 abbrev pub before_first : Name → ℕ
 before_first n = length (packing (drop 1 n))
 
@@ -63,7 +63,7 @@ stopped s n i d e h le within ended = by (le_cases (before_first n) i le)
     by (inl same) = sym same
     by (inr less) = absurd (inner_after s n (i - 1) d e h (omega (arith, less)) (omega (arith, less, within)) (ended (omega (arith, less))))
 
--- what stands before the first label is the packing of the labels after it
+-- what precedes the first label is the packing of the labels after it
 pub base_packing : (s : List ℕ) (n : Name) → s ≡ packing n → take (before_first n) s ≡ packing (drop 1 n)
 base_packing s [] e = refl
 base_packing s (l ∷ n) e = ap (take (length (packing n))) e ∙ take-append_seam (packing n) (l ++ 0 ∷ [])

@@ -39,7 +39,7 @@ label_written items vs i x y h at low =
     ∙ (λ t. written (map to_ascii_lowercase) (set (map items vs) i (same t)) (i + 1))
     ∙ written_more (map to_ascii_lowercase) (map items vs) i [] l
 
--- octets that are written again, in lower case, in the place of all that were there
+-- octets that are written again, in lower case, in place of all that were there
 pub lowered : (n : ℕ) (xs ws : List ℕ) → length xs ≡ n → ws ≡ map to_ascii_lowercase xs → refill n xs ws ≡ map to_ascii_lowercase xs
 lowered n xs ws h low = take_at ws (drop (length ws) xs) n (omega (arith, ap length low, length-map xs to_ascii_lowercase, h)) ∙ low
 

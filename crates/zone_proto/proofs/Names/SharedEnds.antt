@@ -1,6 +1,6 @@
 -- The labels that two names share at their ends are as many as the labels that end where the octets of both begin alike.
-use Rattle.std.proofs.Common.{◌≡◌, ℕ, zero, suc, ◌+◌, ◌-◌, ◌<◌, ◌≤◌, ◌⊎◌, inl, inr, List, [], ◌∷◌, ◌++◌, length, map, take, drop, get_or, reverse, Bool, true, false, cond, refl, sym, ap, ◌∙◌, arith, subst, Bor}
-use Rattle.std.proofs.lemmas.List.{append_assoc, append-nil, reverse-append, reverse-reverse, length-append, length-reverse, length-drop, take-append-drop, drop_more, drop_all, drop-drop}
+use Rattle.std.proofs.Common.{◌≡◌, ℕ, suc, ◌+◌, ◌-◌, ◌<◌, ◌≤◌, ◌⊎◌, inl, inr, List, [], ◌∷◌, ◌++◌, length, map, take, drop, get_or, reverse, Bool, true, false, cond, refl, sym, ap, ◌∙◌, arith, subst, Bor}
+use Rattle.std.proofs.lemmas.List.{append-nil, reverse-append, reverse-reverse, length-append, length-reverse, length-drop, take-append-drop, drop_more, drop_all, drop-drop}
 use Rattle.std.proofs.Math.Seq.{take-append_seam, drop-append_seam}
 use Rattle.std.proofs.lemmas.Bool.{eqb-true, eqb-false}
 use Rattle.std.proofs.lemmas.Bool.Decides.{nat_tests}
@@ -85,7 +85,7 @@ heads (a ∷ e) [] s t h g = inr (
 )
 heads (a ∷ e) (b ∷ f) s t h g = heads_more a b e f s t (a == b) refl h.0 (heads e f s t h.1 g.1)
 
--- so many labels stand at the front of both lists, and no more
+-- so many labels are at the start of both lists, and no more
 record IsCommonFront (xs ys : List Label) (count : ℕ) : Type 0 where
   within : count ≤ length xs
   same : take count xs ≡ take count ys

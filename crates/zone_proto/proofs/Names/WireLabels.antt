@@ -10,7 +10,7 @@ use Rattle.zone_proto.specs.declared.error.ProtoError.TheVariants.{EmptyLabel, L
 use Rattle.zone_proto.specs.Counting.{counting, counted_name, IsCounting}
 use Rattle.zone_proto.specs.Faults.{label_fault, length_fault, first_of_faults}
 use Rattle.zone_proto.specs.Names.{Name, Label, IsLabel, IsName, wire_form, wire_length}
-use Rattle.zone_proto.specs.Packing.{packing, name_of, IsInner, IsPackable, IsPacking}
+use Rattle.zone_proto.specs.Packing.{packing, name_of, IsPackable, IsPacking}
 use Rattle.zone_proto.specs.Ranges.{IsOctet}
 use Rattle.zone_proto.specs.WireForms.{HaveOctets, IsWireFault, no_labels, no_name, IsWireForm}
 use Rattle.zone_proto.proofs.Names.Countings.{is_counted_name, is_counting}
@@ -187,7 +187,7 @@ written_none octets labels c size = record {
   gives = ap (λ s. packing (counted_name labels) ++ s) (drop_all (length labels) octets (omega (arith, size))) ∙ append-nil (packing (counted_name labels));
 }
 
--- a label and its end are written before what stands there
+-- a label and its end are written before what is there
 over : (octets label : List ℕ) (a k : ℕ) → length label ≡ k → a + k < length octets
     → drop a (set (put_mid a k octets label) (a + k) 0) ≡ label ++ 0 ∷ drop (a + k + 1) octets
 over octets label a k size inside =

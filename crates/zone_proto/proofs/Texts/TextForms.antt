@@ -233,7 +233,7 @@ is_same b k h = grind (arith, nat_tests)
 is_other : (b k : ℕ) → (b == k) ≡ false → b ≢ k
 is_other b k h = grind (arith, nat_tests)
 
--- an octet that no backslash stands before
+-- an octet that no backslash comes before
 plain_spells : (b : ℕ) (s : List ℕ) (m : Mode) (done : Name) (cur : Label) (n : Name) → AllSpell s
     → next_or_none (plain_step (at m done cur) b) (read_on s) ≡ Some n → Spells (b ∷ s) done cur n
 plain_spells b s m done cur n more = by_dot (b == 46) refl

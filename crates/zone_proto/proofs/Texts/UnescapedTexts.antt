@@ -66,7 +66,7 @@ packable_with s l h k = (inner_octets l h.octets, k.packable)
 name_with : (s : List ℕ) (l : Label) → IsUnescapedLabel l → IsPacking s (name_of s) → name_of (with_label s l) ≡ l ∷ name_of s
 name_with s l h k = is_name_of (with_label s l) (l ∷ name_of s) (packable_with s l h k) (packing_with s l k)
 
--- what stands before a label ends with a dot, if there is something
+-- what precedes a label ends with a dot, if there is something
 pub ends_with_dot : (front before : List ℕ) (x : ℕ) → IsFront front → front ≡ before ++ x ∷ [] → front ≡ before ++ 46 ∷ []
 ends_with_dot front before x (inl none) e = absurd (omega (arith, ap length none, ap length e, length-append before (x ∷ [])))
 ends_with_dot front before x (inr (b, f)) e =

@@ -8,7 +8,7 @@ use crate::seq::Seq;
 
 /// The data of an NSEC record: what the owner has, and the next owner (RFC 4034 section 4.1).
 ///
-/// Equal by all parts, names without case.
+/// Equal by all parts, names ignoring case.
 #[derive(PartialEq, Eq, PartialOrd, Ord, Debug, Drop)]
 pub struct NSEC {
     /// The next authoritative name in canonical order; the zone's origin after the last.
@@ -18,7 +18,7 @@ pub struct NSEC {
 }
 
 impl NSEC {
-    /// A copy of these data, all parts alike, the case of letters in names too; `Memory` where none is found.
+    /// A copy of these data, identical in all parts, even in the case of letters in names. Its only error is `Memory`.
     pub fn clone(&self) -> Result<NSEC, ProtoError>
         ensures { IsCopy result self.now }
     {
@@ -49,7 +49,7 @@ pub struct NSEC3 {
 }
 
 impl NSEC3 {
-    /// A copy of these data, all parts alike; `Memory` where none is found.
+    /// A copy of these data, identical in all parts. Its only error is `Memory`.
     pub fn clone(&self) -> Result<NSEC3, ProtoError>
         ensures { IsCopy result self.now }
     {
@@ -80,7 +80,7 @@ pub struct NSEC3PARAM {
 }
 
 impl NSEC3PARAM {
-    /// A copy of these data, all parts alike; `Memory` where none is found.
+    /// A copy of these data, identical in all parts. Its only error is `Memory`.
     pub fn clone(&self) -> Result<NSEC3PARAM, ProtoError>
         ensures { IsCopy result self.now }
     {

@@ -6,7 +6,7 @@ use crate::name::Name;
 
 /// The data of an MX record: a mail exchange of the owner (RFC 1035 section 3.3.9).
 ///
-/// Equal by all parts, names without case.
+/// Equal by all parts, names ignoring case.
 #[derive(PartialEq, Eq, PartialOrd, Ord, Debug, Drop)]
 pub struct MX {
     /// The lower value is preferred.
@@ -16,7 +16,7 @@ pub struct MX {
 }
 
 impl MX {
-    /// A copy of these data, all parts alike, the case of letters in names too; `Memory` where none is found.
+    /// A copy of these data, identical in all parts, even in the case of letters in names. Its only error is `Memory`.
     pub fn clone(&self) -> Result<MX, ProtoError>
         ensures { IsCopy result self.now }
     {

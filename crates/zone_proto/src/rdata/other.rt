@@ -18,7 +18,7 @@ pub struct OtherData {
 }
 
 impl OtherData {
-    /// Data of a type and these octets; none for a type that has its own case in `RData`. Takes no memory.
+    /// Data of a type and these octets; none for a type that has its own case in `RData`. Doesn't allocate.
     pub fn new(record_type: RecordType, octets: Vec<u8>) -> Option<OtherData>
         ensures none { IsNone result ↔ has_own_case record_type.0 ≡ true }
         ensures some { IfSome result (λ d. d.record_type ≡ record_type) }
@@ -47,7 +47,7 @@ impl OtherData {
         self.octets.as_slice()
     }
 
-    /// A copy of these data, type and octets alike; `Memory` where none is found.
+    /// A copy of these data, type and octets alike. Its only error is `Memory`.
     pub fn clone(&self) -> Result<OtherData, ProtoError>
         ensures { IsCopy result self.now }
     {

@@ -6,7 +6,7 @@ use crate::name::Name;
 
 /// The data of an SRV record: where a service is found (RFC 2782).
 ///
-/// Equal by all parts, names without case.
+/// Equal by all parts, names ignoring case.
 #[derive(PartialEq, Eq, PartialOrd, Ord, Debug, Drop)]
 pub struct SRV {
     /// The lower value is tried first.
@@ -20,7 +20,7 @@ pub struct SRV {
 }
 
 impl SRV {
-    /// A copy of these data, all parts alike, the case of letters in names too; `Memory` where none is found.
+    /// A copy of these data, identical in all parts, even in the case of letters in names. Its only error is `Memory`.
     pub fn clone(&self) -> Result<SRV, ProtoError>
         ensures { IsCopy result self.now }
     {

@@ -22,7 +22,7 @@ pub struct DNSKEY {
 }
 
 impl DNSKEY {
-    /// A copy of these data, all parts alike; `Memory` where none is found.
+    /// A copy of these data, identical in all parts. Its only error is `Memory`.
     pub fn clone(&self) -> Result<DNSKEY, ProtoError>
         ensures { IsCopy result self.now }
     {
@@ -37,14 +37,14 @@ impl DNSKEY {
 
 /// The data of an RRSIG record: the signature of a record set (RFC 4034 section 3.1).
 ///
-/// Equal by all parts, names without case.
+/// Equal by all parts, names ignoring case.
 #[derive(PartialEq, Eq, PartialOrd, Ord, Debug, Drop)]
 pub struct RRSIG {
     /// The type of the signed set.
     pub type_covered: RecordType,
     /// The algorithm's number.
     pub algorithm: u8,
-    /// The labels of the owner, without the root and a leading star.
+    /// The labels of the owner, without the root and a leading `*`.
     pub num_labels: u8,
     /// The TTL of the signed set, in seconds.
     pub original_ttl: u32,
@@ -61,7 +61,7 @@ pub struct RRSIG {
 }
 
 impl RRSIG {
-    /// A copy of these data, all parts alike, the case of letters in names too; `Memory` where none is found.
+    /// A copy of these data, identical in all parts, even in the case of letters in names. Its only error is `Memory`.
     pub fn clone(&self) -> Result<RRSIG, ProtoError>
         ensures { IsCopy result self.now }
     {

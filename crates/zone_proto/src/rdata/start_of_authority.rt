@@ -6,7 +6,7 @@ use crate::name::Name;
 
 /// The data of an SOA record: the start of a zone of authority (RFC 1035 section 3.3.13).
 ///
-/// Equal by all parts, names without case.
+/// Equal by all parts, names ignoring case.
 #[derive(PartialEq, Eq, PartialOrd, Ord, Debug, Drop)]
 pub struct SOA {
     /// The server that is the zone's original source.
@@ -26,7 +26,7 @@ pub struct SOA {
 }
 
 impl SOA {
-    /// A copy of these data, all parts alike, the case of letters in names too; `Memory` where none is found.
+    /// A copy of these data, identical in all parts, even in the case of letters in names. Its only error is `Memory`.
     pub fn clone(&self) -> Result<SOA, ProtoError>
         ensures { IsCopy result self.now }
     {

@@ -1,5 +1,5 @@
-use Rattle.std.proofs.Common.{◌≡◌, ◌++◌, drop, length, map}
-use Rattle.zone_proto.specs.Packing.{escaped, packing}
+use Rattle.std.proofs.Common.{◌≡◌, ◌++◌, drop, length}
+use Rattle.zone_proto.specs.Packing.{escaped}
 use Rattle.zone_proto.proofs.escaped.+push_order.Given as goal
 
 abbrev pub decreases-push_order : goal.decreases-push_order

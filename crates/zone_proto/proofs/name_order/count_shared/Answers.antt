@@ -1,4 +1,4 @@
-use Rattle.std.proofs.Common.{◌≡◌, ap, sym, subst, true, false, ◌∙◌, refl}
+use Rattle.std.proofs.Common.{◌≡◌, sym, subst, true}
 use Rattle.zone_proto.specs.Names.{IsAtOrAbove, lower}
 use Rattle.zone_proto.proofs.Names.SharedEnds.{all_left, one_less, left_shares}
 use Rattle.zone_proto.proofs.name_order.count_shared.Goals as goal

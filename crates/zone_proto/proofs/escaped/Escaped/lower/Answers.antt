@@ -1,4 +1,4 @@
-use Rattle.std.proofs.Common.{◌≡◌, map, ap, sym, ◌∙◌, length, arith}
+use Rattle.std.proofs.Common.{◌≡◌, map, ap, sym, ◌∙◌, length}
 use Rattle.std.specs.Char.{to_ascii_lowercase}
 use Rattle.zone_proto.specs.Packing.{order_octets}
 use Rattle.zone_proto.proofs.Names.Escapes.{order_lower}

@@ -1,5 +1,5 @@
 use Rattle.std.proofs.Common.{◌≡◌, [], false, IsTrue, ap, sym, subst, ◌∙◌, length, drop}
-use Rattle.zone_proto.specs.Names.{IsName, wildcard_of}
+use Rattle.zone_proto.specs.Names.{IsName}
 use Rattle.zone_proto.specs.Packing.{order_octets}
 use Rattle.zone_proto.proofs.Names.Escapes.{first_fits, order_starred}
 use Rattle.zone_proto.proofs.escaped.Escaped.make_wildcard.Goals as goal

@@ -1,4 +1,4 @@
-use Rattle.std.proofs.Common.{◌≡◌, ◌∙◌, ◌++◌, List, ℕ, map, ap, sym}
+use Rattle.std.proofs.Common.{◌≡◌, ◌∙◌, ◌++◌, map, ap, sym}
 use Rattle.std.specs.Char.{to_ascii_lowercase}
 use Rattle.zone_proto.specs.Names.{lower}
 use Rattle.zone_proto.specs.Forms.{labels_of}

@@ -1,7 +1,7 @@
-use Rattle.std.proofs.Common.{drop, ap, ◌∙◌}
-use Rattle.std.proofs.lemmas.List.{drop-drop}
+use Rattle.std.proofs.Common.{sym, subst}
+use Rattle.zone_proto.specs.Names.{IsLowerName}
+use Rattle.zone_proto.proofs.Names.NameParts.{last_lower_labels}
 use Rattle.zone_proto.proofs.lower_name.LowerName.ancestor.Goals as goal
 
-pub loop-taken-preserved : goal.loop-taken-preserved
-loop-taken-preserved c =
-    c.shorten.ensures ∙ ap (drop 1) c.loop-taken.invariant ∙ drop-drop 1 c.loop-taken._taken c.args.self.now
+pub invariant_of-result : goal.invariant_of-result
+invariant_of-result c = subst IsLowerName (sym c.in_ok-without_first.ensures.ok) (last_lower_labels c.saturating_sub-taken.result c.self.inside.name c.self.invariant)
