@@ -5,7 +5,8 @@ use Rattle.zone_proto.specs.Names.{Name}
 use Rattle.message_reading.specs.MessageNames.{name_of, name_within}
 use Rattle.message_reading.specs.TypeMaps.{types_within}
 use Rattle.message_reading.specs.Messages.{question_of}
-use Rattle.message_reading.specs.Queries.{query_of, body_of, behind_question, behind_authorities, additionals_of, frame_of, behind_owner, are_options}
+use Rattle.message_reading.specs.Queries.{query_of, body_of, behind_question, behind_authorities, additionals_of, are_options}
+use Rattle.message_reading.specs.Unread.{behind_owner, record_frame_of}
 
 -- the names of RFC 1035 section 4.1.4: F.ISI.ARPA at 20, FOO.F.ISI.ARPA at 40, ARPA at 64, and the root at 92
 message : List ℕ
@@ -101,5 +102,5 @@ query_read : query_of query ≡ Ok (record {
   };
   extension = Some (record { size = 1232; version = 0; dnssec_ok = true });
 })
-unfolding query_of body_of behind_question behind_authorities additionals_of frame_of behind_owner are_options question_of name_of name_within
+unfolding query_of body_of behind_question behind_authorities additionals_of record_frame_of behind_owner are_options question_of name_of name_within
 query_read = refl

@@ -1,4 +1,4 @@
--- A loop that reads a name: the labels so far, and what stands behind the first pointer, if one was met
+-- A loop that reads a name: the labels so far, and what follows the first pointer, if one was met
 use Rattle.std.proofs.Common.{◌≡◌, ℕ, zero, suc, ◌+◌, ◌<◌, ◌≤◌, true, false, cond, eqb, ltb, leb, List, [], ◌∷◌, ◌++◌, length, take, drop, Option, Some, None, refl, sym, ap, subst, ◌∙◌, append_assoc, arith, length-append, Bor}
 use Rattle.std.specs.Prelude.{unwrap_or, option_map}
 use Rattle.std.proofs.lemmas.Bool.{le-ltb, ne_eqb, lt-ltb, lt-leb, le-leb}

@@ -174,7 +174,7 @@ abbrev pub data_by : (t : ℕ) → List ℕ → ℕ → List ℕ → (b : Bool) 
 data_by t message at octets true own = own_data_of t message at octets
 data_by t message at octets false other = other_data_of t message at octets other
 
--- the data of a type, whose octets stand at an offset of a message
+-- the data of a type, whose octets are at an offset of a message
 unfoldable pub data_of : ℕ → List ℕ → ℕ → List ℕ → Option RData
 data_of t message at octets = data_by t message at octets (has_own_case t) refl
 

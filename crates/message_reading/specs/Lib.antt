@@ -5,4 +5,5 @@ pub mod TypeMaps
 pub mod OtherForms
 pub mod DataForms
 pub mod Messages
+pub mod Unread
 pub mod Queries

@@ -12,7 +12,7 @@ leads_back before target = nat_le 12 target && nat_lt target before
 abbrev pub target_of : ℕ → ℕ → ℕ
 target_of high low = (high - 192) * 256 + low
 
--- where the pointer leads of whose two octets this is the first, and what stands after it
+-- where the pointer leads of whose two octets this is the first, and what follows it
 abbrev pub lead : ℕ → ℕ → List ℕ → Option (ℕ × List ℕ)
 lead before high rest =
     octet_of rest >>= λ low.
@@ -22,7 +22,7 @@ lead before high rest =
 abbrev pub label_then : (List ℕ → Option (Name × List ℕ)) → ℕ → List ℕ → Option (Name × List ℕ)
 label_then name count rest = octets_of count rest >>= λ label. name label.1 >>= λ n. Some (label.0 ∷ n.0, n.1)
 
--- the name that a pointer leads to; what stands after it is what stands after the pointer
+-- the name that a pointer leads to; what follows it is what follows the pointer
 abbrev pub pointed : (ℕ → List ℕ → Option (Name × List ℕ)) → List ℕ → ℕ → ℕ → List ℕ → Option (Name × List ℕ)
 pointed name message before high rest =
     lead before high rest >>= λ to. name to.0 (drop to.0 message) >>= λ n. Some (n.0, to.1)
@@ -39,7 +39,7 @@ name_within (suc steps) message before (b ∷ rest) =
     else (if nat_lt b 192 then None
     else pointed (name_within steps message) message before b rest))
 
--- A name has at most 127 labels, so 256 steps let a pointer stand before each label and before the end.
+-- A name has at most 127 labels, so 256 steps let a pointer come before each label and before the end.
 abbrev pub most_steps : ℕ
 most_steps = 256
 
@@ -51,7 +51,7 @@ if_short found = if nat_le (wire_length found.0) 255 then Some found else None
 unfoldable pub name_of : List ℕ → ℕ → List ℕ → Option (Name × List ℕ)
 name_of message at octets = name_within most_steps message at octets >>= if_short
 
--- a name without pointers: nothing stands before the offset 0, so none leads anywhere
+-- a name without pointers: nothing comes before the offset 0, so none leads anywhere
 abbrev pub plain_name_of : List ℕ → Option (Name × List ℕ)
 plain_name_of octets = name_of [] 0 octets
 

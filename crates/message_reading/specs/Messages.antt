@@ -23,7 +23,7 @@ question_fields name octets =
       class.1,
     )
 
--- a question at the front of the last octets of a message (section 4.1.2)
+-- a question at the start of the last octets of a message (section 4.1.2)
 unfoldable pub question_of : List ℕ → List ℕ → Option (Question × List ℕ)
 question_of message octets =
     name_of message (offset_of message octets) octets >>= λ name. question_fields name.0 name.1
@@ -45,7 +45,7 @@ fields_of octets =
       count.1,
     )
 
--- a record at the front of the last octets of a message: owner, fields, and as many octets of data as RDLENGTH says
+-- a record at the start of the last octets of a message: owner, fields, and as many octets of data as RDLENGTH says
 unfoldable pub record_of : List ℕ → List ℕ → Option (Record × List ℕ)
 record_of message octets =
     name_of message (offset_of message octets) octets >>= λ owner.

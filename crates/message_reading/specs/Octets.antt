@@ -1,4 +1,4 @@
--- What octets begin with: a value and the octets after it, or none where they begin with no such value
+-- What octets begin with: a value and the octets after it, or none if they begin with no such value
 use Rattle.std.specs.Prelude.{ℕ, ◌+◌, ◌-◌, ◌*◌, List, [], ◌∷◌, length, take, drop, nat_le, Option, Some, None, if◌then◌else◌}
 
 -- one reading after the other: the second goes on with what the first one found
@@ -36,7 +36,7 @@ alone None = None
 alone (Some (x, [])) = Some x
 alone (Some (x, b ∷ rest)) = None
 
--- the offset of what stands behind a value: octets stood at an offset, and these are left of them
+-- the offset of what follows a value: octets were at an offset, and these are left of them
 abbrev pub past : ℕ → List ℕ → List ℕ → ℕ
 past at octets left = at + (length octets - length left)
 

@@ -1,5 +1,5 @@
--- The data of types without a case of their own: octets as they are, but for the names in them that a sender may have compressed, which
--- stand in wire form, without pointers (RFC 3597 sections 3 and 4)
+-- The data of types without a case of their own: octets as they are, but for the names in them that a sender may have
+-- compressed, which are in wire form, without pointers (RFC 3597 sections 3 and 4)
 use Rattle.std.specs.Prelude.{ℕ, zero, suc, ◌==◌, ◌||◌, Bool, List, [], ◌∷◌, ◌++◌, Option, Some, None, if◌then◌else◌}
 use Rattle.zone_proto.specs.Names.{wire_form}
 use Rattle.message_reading.specs.Octets.{◌>>=◌, octets_of, past}
@@ -17,7 +17,7 @@ is_two_names t = t == 14 || t == 17
 abbrev pub is_numbered_name : ℕ → Bool
 is_numbered_name t = t == 18 || t == 21
 
--- how many octets stand before the names of the data of a type, and how many names follow; none of all other types
+-- how many octets come before the names of the data of a type, and how many names follow; none of all other types
 abbrev pub form_of : ℕ → Option (ℕ × ℕ)
 form_of t =
     if is_name t then Some (0, 1)

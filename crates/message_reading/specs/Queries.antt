@@ -1,46 +1,16 @@
 -- A query as a server reads it, or the first cause for which it is refused
-use Rattle.std.specs.Prelude.{◌≡◌, ℕ, zero, suc, ◌/◌, ◌%◌, ◌==◌, ◌&&◌, ◌||◌, Bool, true, false, List, [], ◌∷◌, Option, Some, None, Result, Ok, Err, nat_lt, min, max, if◌then◌else◌}
+use Rattle.std.specs.Prelude.{◌≡◌, ℕ, zero, suc, ◌/◌, ◌%◌, ◌==◌, ◌&&◌, ◌||◌, Bool, true, false, List, [], ◌∷◌, Option, Some, None, Result, Ok, Err, nat_le, nat_lt, min, max, if◌then◌else◌}
 use Rattle.message_reading.specs.declared.header.Header.{Header}
 use Rattle.message_reading.specs.declared.question.Question.{Question}
 use Rattle.message_reading.specs.declared.query.Query.{Query}
 use Rattle.message_reading.specs.declared.query.Extension.{Extension}
-use Rattle.message_reading.specs.declared.extension.Frame.{Frame}
+use Rattle.message_reading.specs.declared.record_frame.RecordFrame.{RecordFrame}
 use Rattle.message_reading.specs.declared.error.ReadError.{ReadError}
 use Rattle.message_reading.specs.declared.error.ReadError.TheVariants as errors
 use Rattle.message_reading.specs.Octets.{◌>>=◌, octet_of, short_of, long_of, octets_of, alone}
 use Rattle.message_reading.specs.Headers.{header_of, has_bit}
 use Rattle.message_reading.specs.Messages.{question_of}
-
--- What stands behind the owner of a record, which is not read: its labels are passed over in so many steps at most, up to its end or to
--- a pointer.
-unfoldable pub behind_owner : ℕ → List ℕ → Option (List ℕ)
-behind_owner zero octets = None
-behind_owner (suc steps) [] = None
-behind_owner (suc steps) (b ∷ rest) =
-    if b == 0 then Some rest
-    else (if nat_lt b 64 then (octets_of b rest >>= λ label. behind_owner steps label.1)
-    else (if nat_lt b 192 then None
-    else (octet_of rest >>= λ low. Some low.1)))
-
--- the first octet is 0, the wire form of the root
-abbrev pub begins_with_root : List ℕ → Bool
-begins_with_root [] = false
-begins_with_root (b ∷ rest) = b == 0
-
--- What a record says of itself, its data, and what follows it. A name has at most 127 labels, and then its end or a pointer.
-unfoldable pub frame_of : List ℕ → Option (Frame × List ℕ × List ℕ)
-frame_of octets =
-    behind_owner 128 octets >>= λ fields.
-    short_of fields >>= λ t.
-    short_of t.1 >>= λ class.
-    long_of class.1 >>= λ ttl.
-    short_of ttl.1 >>= λ count.
-    octets_of count.0 count.1 >>= λ text.
-    Some (
-      record { is_at_root = begins_with_root octets; record_type = t.0; class = class.0; ttl = ttl.0 },
-      text.0,
-      text.1,
-    )
+use Rattle.message_reading.specs.Unread.{record_frame_of}
 
 -- a code, a length and so many octets: what follows them (RFC 6891 section 6.1.2)
 abbrev pub behind_option : List ℕ → Option (List ℕ)
@@ -62,24 +32,24 @@ are_options (suc steps) (b ∷ rest) = and_then (are_options steps) (behind_opti
 
 -- What an OPT record says (RFC 6891 section 6.1.3): the class is the size that the sender takes, the second octet of the TTL is the
 -- version, and the highest bit of its lower half is DO.
-abbrev pub extension_of : Frame → Extension
+abbrev pub extension_of : RecordFrame → Extension
 extension_of r = record { size = r.class; version = (r.ttl / 65536) % 256; dnssec_ok = has_bit 32768 r.ttl }
 
--- An OPT record stands at the root, is the only one, and its data are options (RFC 6891 sections 6.1.1 and 6.1.2): 65,535 octets hold
--- 16,383 of them at most, and an end.
-abbrev pub if_only : Option Extension → Frame → List ℕ → Option (Option Extension)
-if_only None r octets = if r.is_at_root && are_options 16384 octets then Some (Some (extension_of r)) else None
+-- An OPT record is at the root, is the only one, and its data are options (RFC 6891 sections 6.1.1 and 6.1.2), at most 64:
+-- some twenty are known, and 65,535 octets have room for thousands.
+abbrev pub if_only : Option Extension → RecordFrame → List ℕ → Option (Option Extension)
+if_only None r octets = if r.is_at_root && are_options 65 octets then Some (Some (extension_of r)) else None
 if_only (Some e) r octets = None
 
 -- what EDNS says so far, and one more record with these data
-abbrev pub with_record : Option Extension → Frame → List ℕ → Option (Option Extension)
+abbrev pub with_record : Option Extension → RecordFrame → List ℕ → Option (Option Extension)
 with_record found r octets = if r.record_type == 41 then if_only found r octets else Some found
 
 -- so many additional records, and what EDNS says with them
 unfoldable pub additionals_of : ℕ → Option Extension → List ℕ → Option (Option Extension × List ℕ)
 additionals_of zero found octets = Some (found, octets)
 additionals_of (suc n) found octets =
-    frame_of octets >>= λ r.
+    record_frame_of octets >>= λ r.
     with_record found r.0 r.1 >>= λ said.
     additionals_of n said r.2
 
@@ -87,7 +57,7 @@ additionals_of (suc n) found octets =
 unfoldable pub behind_authorities : ℕ → List ℕ → Option (List ℕ)
 behind_authorities zero octets = Some octets
 behind_authorities (suc n) octets =
-    frame_of octets >>= λ r. if r.0.record_type == 41 then None else behind_authorities n r.2
+    record_frame_of octets >>= λ r. if r.0.record_type == 41 then None else behind_authorities n r.2
 
 -- the query for a zone's changes, IXFR, tells the serial that the sender has in the authority section (RFC 1995 section 3)
 abbrev pub may_have_authorities : Header → Question → Bool
@@ -100,10 +70,20 @@ behind_question header question octets =
     alone (additionals_of header.additionals None left) >>= λ extension.
     Some (record { header = header; question = question; extension = extension })
 
--- one question (RFC 9619 section 4), and no answers
+-- The most records that a section of a query may have. Its additional section has an OPT record and what signs it (TSIG,
+-- RFC 8945, or SIG(0)), and the authority section of a query for IXFR an SOA; 65,535 octets have room for thousands.
+abbrev pub most_records : ℕ
+most_records = 4
+
+-- one question (RFC 9619 section 4), no answers, and few records after them
+abbrev pub has_few : Header → Bool
+has_few header =
+    header.questions == 1 && (header.answers == 0 && (nat_le header.authorities most_records && nat_le header.additionals most_records))
+
+-- the query of a header and of the octets after it
 unfoldable pub body_of : List ℕ → Header → List ℕ → Option Query
 body_of message header octets =
-    (if header.questions == 1 && header.answers == 0 then question_of message octets else None) >>= λ question.
+    (if has_few header then question_of message octets else None) >>= λ question.
     behind_question header question.0 question.1
 
 -- version 0 of EDNS alone is known (RFC 6891 section 6.1.3)

@@ -11,8 +11,8 @@ use crate::start_of_authority::soa_of;
 use std::alloc::Global;
 use zone_proto::{ProtoError, RData, RecordType};
 
-/// The data of a type in octets without pointers, as a zone file, a key or a signature has them; none where the octets are not of
-/// the form of the type (RFC 3597 section 3). `Memory` where none is found.
+/// The data of a type in octets without pointers, as a zone file, a key or a signature has them; none if the octets are
+/// not of the form of the type (RFC 3597 section 3). `Memory` where none is found.
 pub fn plain_data_of(
     alloc: Global,
     record_type: RecordType,
@@ -23,7 +23,7 @@ pub fn plain_data_of(
     data_of(alloc, record_type, &[], 0, octets)
 }
 
-/// The data of a type, whose octets stand at an offset of a message.
+/// The data of a type, whose octets are at an offset of a message.
 pub(crate) fn data_of(
     alloc: Global,
     record_type: RecordType,

@@ -89,7 +89,7 @@ pub(crate) fn nsec3param_of(alloc: Global, octets: &[u8]) -> Result<Option<RData
     })))
 }
 
-/// The flag opt-out, where no other flag is set (RFC 5155 section 3.1.2), and what stands after the flags.
+/// The flag opt-out, where no other flag is set (RFC 5155 section 3.1.2), and what follows the flags.
 fn opt_out_of(octets: &[u8]) -> Option<(bool, &[u8])>
     ensures { option_map (λ x. (x.0, x.1.now)) result ≡ opt_out_of octets.now }
 {
@@ -101,7 +101,7 @@ fn opt_out_of(octets: &[u8]) -> Option<(bool, &[u8])>
     }
 }
 
-/// A hash of one octet at least, and what stands after it.
+/// A hash of one octet at least, and what follows it.
 fn hash_of(octets: &[u8]) -> Option<(&[u8], &[u8])>
     ensures { option_map (λ x. (x.0.now, x.1.now)) result ≡ hash_of octets.now }
 {

@@ -29,7 +29,7 @@ pub struct Header {
     pub questions: u16,
     /// How many records answer.
     pub answers: u16,
-    /// How many records speak of the authority.
+    /// How many records the authority section has.
     pub authorities: u16,
     /// How many further records there are.
     pub additionals: u16,

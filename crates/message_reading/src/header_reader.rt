@@ -5,9 +5,9 @@ ghost use Rattle.message_reading.specs.Headers.{header_of};
 use crate::header::Header;
 use crate::octets::{octet_of, short_of};
 
-/// The header at the front of a message, and what stands after it; none where there are fewer than 12 octets (RFC 1035
-/// section 4.1.1). Takes no memory.
-pub(crate) fn read_header(octets: &[u8]) -> Option<(Header, &[u8])>
+/// The header at the start of a message, and what follows it; none if there are fewer than 12 octets (RFC 1035 section
+/// 4.1.1). Doesn't allocate.
+pub fn read_header(octets: &[u8]) -> Option<(Header, &[u8])>
     ensures { option_map (λ x. (x.0, x.1.now)) result ≡ header_of octets.now }
 {
     let (id, rest) = short_of(octets)?;

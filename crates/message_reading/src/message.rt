@@ -14,7 +14,7 @@ pub struct Message {
     pub questions: Vec<Question>,
     /// What answers the question.
     pub answers: Vec<Record>,
-    /// What speaks of the authority.
+    /// Records about the authority for the name.
     pub authorities: Vec<Record>,
     /// What may help beside the answer.
     pub additionals: Vec<Record>,

@@ -15,9 +15,9 @@ use zone_proto::{DNSClass, ProtoError, Record, RecordType};
 
 /// Reads a message with all its data: header, questions, and the records of its sections (RFC 1035 section 4.1).
 ///
-/// A pointer of a name leads to a prior one: before the octets that it is reached from, and not into the header. Names in data may
-/// have pointers in the types of RFC 1035 and in SRV, RP, AFSDB and RT (RFC 3597 section 4). TTLs are as they stand; one of 2^31
-/// seconds and more counts as 0 (RFC 2181 section 8).
+/// A pointer of a name leads to a prior one: before the octets that it is reached from, and not into the header. Names
+/// in data may have pointers in the types of RFC 1035 and in SRV, RP, AFSDB and RT (RFC 3597 section 4). TTLs are as
+/// they are; one of 2^31 seconds and more counts as 0 (RFC 2181 section 8).
 ///
 /// # Errors
 ///
@@ -36,10 +36,10 @@ pub fn read_message(alloc: Global, message: &[u8]) -> Result<Message, MessageErr
     }
 }
 
-/// Reads the record that the authority section of a query begins with (RFC 1995 section 3), behind the one question of the query;
-/// none where the header counts answers, another number of questions, or no record of that section, or where question and record
-/// aren't of their form. What follows the record is not read, so the rest of the message may have any length. Refused for want of
-/// memory alone.
+/// Reads the record that the authority section of a query begins with (RFC 1995 section 3), behind the one question of
+/// the query; none if the header counts answers, another number of questions, or no record of that section, or where
+/// question and record aren't of their form. What follows the record is not read, so the rest of the message may have
+/// any length. Fails only for lack of memory.
 pub fn read_first_authority(alloc: Global, message: &[u8]) -> Result<Option<Record>, ProtoError>
     ensures { IfOk result (λ first. first ≡ first_authority_of message.now) }
 {
@@ -49,7 +49,7 @@ pub fn read_first_authority(alloc: Global, message: &[u8]) -> Result<Option<Reco
     }
 }
 
-/// The first record of the authority section of a query with this header, and what stands after it.
+/// The first record of the authority section of a query with this header, and what follows it.
 #[tactic(auto, unfolding(crate::specs::Messages::first_authority_behind))]
 fn first_authority_behind(
     alloc: Global,
@@ -71,7 +71,7 @@ fn first_authority_behind(
     }
 }
 
-/// The message of a header, and of what stands after it.
+/// The message of a header, and of what follows it.
 #[tactic(auto, unfolding(crate::specs::Messages::sections_of))]
 fn sections_of(
     alloc: Global,
@@ -103,7 +103,7 @@ fn sections_of(
     }))
 }
 
-/// So many questions at the front of the last octets of a message, and what stands after them.
+/// So many questions at the start of the last octets of a message, and what follows them.
 fn questions_of<'o>(
     alloc: Global,
     message: &'o [u8],
@@ -127,7 +127,7 @@ fn questions_of<'o>(
     Ok(Some((questions, rest)))
 }
 
-/// So many records at the front of the last octets of a message, and what stands after them.
+/// So many records at the start of the last octets of a message, and what follows them.
 fn records_of<'o>(
     alloc: Global,
     message: &'o [u8],
@@ -151,7 +151,7 @@ fn records_of<'o>(
     Ok(Some((records, rest)))
 }
 
-/// The record at the front of the last octets of a message, and what stands after it.
+/// The record at the start of the last octets of a message, and what follows it.
 #[tactic(auto, unfolding(crate::specs::Messages::record_of))]
 fn record_of<'o>(
     alloc: Global,
@@ -194,7 +194,7 @@ struct Fields {
     count: u16,
 }
 
-/// The fields of a record at the front of octets, and what stands after them.
+/// The fields of a record at the start of octets, and what follows them.
 fn fields_of(octets: &[u8]) -> Option<(Fields, &[u8])>
     ensures { option_map (λ x. (x.0, x.1.now)) result ≡ fields_of octets.now }
 {

@@ -9,10 +9,10 @@ use std::alloc::{AllocError, Global};
 pub(crate) type NameOctets = SmallVec<u8, 255>;
 
 /// A label, its length and the end behind it find room in a wire form behind this many octets less the label's.
-const ROOM: usize = 253;
+const WIRE_FORM_LIMIT: usize = 253;
 
-/// The wire form of the name that the octets at an offset of a message begin with, and what stands after it. The octets that are
-/// looked at are at most those of 256 labels and pointers.
+/// The wire form of the name that the octets at an offset of a message begin with, and what follows it. The octets that
+/// are looked at are at most those of 256 labels and pointers.
 pub(crate) fn name_octets<'o>(
     alloc: Global,
     message: &'o [u8],
@@ -39,7 +39,7 @@ pub(crate) fn name_octets<'o>(
             if behind.len() < count {
                 return Ok(None);
             }
-            if text.len() + count > ROOM {
+            if text.len() + count > WIRE_FORM_LIMIT {
                 return Ok(None);
             }
             let (label, next) = behind.split_at(count);
@@ -64,7 +64,7 @@ pub(crate) fn name_octets<'o>(
     Ok(None)
 }
 
-/// Where the pointer leads whose first octet this is, and what stands after it.
+/// Where the pointer leads whose first octet this is, and what follows it.
 fn lead(before: usize, high: u8, rest: &[u8]) -> Option<(usize, &[u8])>
     requires { 192 ≤ high }
     ensures { option_map (λ x. (x.0, x.1.now)) result ≡ lead before high rest.now }

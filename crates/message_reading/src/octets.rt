@@ -1,9 +1,9 @@
-//! What octets begin with.
+//! What octets begin with. Each call doesn't allocate.
 ghost use Rattle.std.specs.Prelude.{◌≡◌, ◌≤◌, length, option_map};
 ghost use Rattle.message_reading.specs.Octets.{alone, octet_of, short_of, long_of, octets_of, counted_of, past, offset_of};
 
-/// An octet, and what stands after it.
-pub(crate) fn octet_of(octets: &[u8]) -> Option<(u8, &[u8])>
+/// The first octet, and what follows it; none if there are no octets.
+pub fn octet_of(octets: &[u8]) -> Option<(u8, &[u8])>
     ensures { option_map (λ x. (x.0, x.1.now)) result ≡ octet_of octets.now }
 {
     match octets {
@@ -12,8 +12,9 @@ pub(crate) fn octet_of(octets: &[u8]) -> Option<(u8, &[u8])>
     }
 }
 
-/// A number of 16 bits, the high octet first, and what stands after it.
-pub(crate) fn short_of(octets: &[u8]) -> Option<(u16, &[u8])>
+/// A number of 16 bits, the high octet first (RFC 1035 section 2.3.2), and what follows it; none if there are fewer
+/// than two octets.
+pub fn short_of(octets: &[u8]) -> Option<(u16, &[u8])>
     ensures { option_map (λ x. (x.0, x.1.now)) result ≡ short_of octets.now }
 {
     match octets {
@@ -22,8 +23,8 @@ pub(crate) fn short_of(octets: &[u8]) -> Option<(u16, &[u8])>
     }
 }
 
-/// A number of 32 bits, the high half first, and what stands after it.
-pub(crate) fn long_of(octets: &[u8]) -> Option<(u32, &[u8])>
+/// A number of 32 bits, the high half first, and what follows it; none if there are fewer than four octets.
+pub fn long_of(octets: &[u8]) -> Option<(u32, &[u8])>
     ensures { option_map (λ x. (x.0, x.1.now)) result ≡ long_of octets.now }
 {
     let (high, rest) = short_of(octets)?;
@@ -41,8 +42,8 @@ pub(crate) fn only_long_of(octets: &[u8]) -> Option<u32>
     }
 }
 
-/// So many octets, and what stands after them.
-pub(crate) fn octets_of(count: usize, octets: &[u8]) -> Option<(&[u8], &[u8])>
+/// The first `count` octets, and what follows them; none if there are fewer.
+pub fn octets_of(count: usize, octets: &[u8]) -> Option<(&[u8], &[u8])>
     ensures { option_map (λ x. (x.0.now, x.1.now)) result ≡ octets_of count octets.now }
 {
     if count <= octets.len() {
@@ -52,7 +53,7 @@ pub(crate) fn octets_of(count: usize, octets: &[u8]) -> Option<(&[u8], &[u8])>
     }
 }
 
-/// The octets that the first one counts, and what stands after them.
+/// The octets that the first one counts, and what follows them.
 pub(crate) fn counted_of(octets: &[u8]) -> Option<(&[u8], &[u8])>
     ensures { option_map (λ x. (x.0.now, x.1.now)) result ≡ counted_of octets.now }
 {
@@ -60,7 +61,7 @@ pub(crate) fn counted_of(octets: &[u8]) -> Option<(&[u8], &[u8])>
     octets_of(usize::from(count), rest)
 }
 
-/// The offset of what is left of octets that stand at an offset of a message.
+/// The offset of what is left of octets that are at an offset of a message.
 pub(crate) fn past(at: usize, octets: &[u8], left: &[u8]) -> usize
     requires { at ≤ 9223372036854775807 }
     ensures { result ≡ past at octets.now left.now }
@@ -68,8 +69,8 @@ pub(crate) fn past(at: usize, octets: &[u8], left: &[u8]) -> usize
     at + octets.len().saturating_sub(left.len())
 }
 
-/// The offset at which the last octets of a message begin.
-pub(crate) fn offset_of(message: &[u8], octets: &[u8]) -> usize
+/// The offset at which the last octets of a message begin, as `name_of` and others are told it.
+pub fn offset_of(message: &[u8], octets: &[u8]) -> usize
     ensures value { result ≡ offset_of message.now octets.now }
     ensures inside { result ≤ length message.now }
 {

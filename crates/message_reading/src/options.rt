@@ -4,12 +4,12 @@ ghost use Rattle.message_reading.specs.Queries.{are_options, behind_option};
 
 use crate::octets::{octets_of, short_of};
 
-/// Whether octets are options, to their end.
+/// Whether octets are options, at most 64, to their end.
 pub(crate) fn are_options(octets: &[u8]) -> bool
-    ensures { result ≡ are_options 16384 octets.now }
+    ensures { result ≡ are_options 65 octets.now }
 {
     let mut rest = octets;
-    for _ in 0..16384usize {
+    for _ in 0..65usize {
         if rest.is_empty() {
             return true;
         }
@@ -21,7 +21,7 @@ pub(crate) fn are_options(octets: &[u8]) -> bool
     false
 }
 
-/// What stands behind an option.
+/// What follows an option.
 fn behind_option(octets: &[u8]) -> Option<&[u8]>
     ensures { option_map (λ x. x.now) result ≡ behind_option octets.now }
 {

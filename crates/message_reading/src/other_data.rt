@@ -31,7 +31,8 @@ pub(crate) fn other_data_of(
     }
 }
 
-/// How many octets stand before the names of the data of a type, and how many names follow; none of a type without pointers.
+/// How many octets come before the names of the data of a type, and how many names follow; none of a type without
+/// pointers.
 fn form_of(record_type: RecordType) -> Option<(usize, usize)>
     ensures { result ≡ form_of record_type.0 }
 {
@@ -65,7 +66,7 @@ fn in_form(
     with_names(alloc, plain, names, message, at, octets, rest)
 }
 
-/// These octets, and then so many names, to the end of what is left of octets that stand at an offset of a message.
+/// These octets, and then so many names, to the end of what is left of octets that are at an offset of a message.
 fn with_names(
     alloc: Global,
     mut plain: Vec<u8>,

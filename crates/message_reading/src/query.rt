@@ -28,8 +28,8 @@ pub struct Query {
 }
 
 impl Query {
-    /// How many octets a datagram that answers may have, where the server sends at most so many: 512 where the query has no OPT
-    /// record (RFC 1035 section 4.2.1), and never fewer (RFC 6891 section 6.2.3). Takes no memory.
+    /// How many octets a datagram that answers may have, where the server sends at most so many: 512 where the query
+    /// has no OPT record (RFC 1035 section 4.2.1), and never fewer (RFC 6891 section 6.2.3). Doesn't allocate.
     pub fn limit(&self, ours: u16) -> u16
         ensures { result ≡ limit_of self.now.extension ours }
     {

@@ -1,6 +1,6 @@
 //! Queries read from a message.
 ghost use Rattle.std.specs.Prelude.{◌≡◌, IfOk};
-ghost use Rattle.message_reading.specs.Queries.{body_of, behind_question, may_have_authorities, query_of, if_version, ReadsQuery};
+ghost use Rattle.message_reading.specs.Queries.{body_of, behind_question, has_few, may_have_authorities, query_of, if_version, ReadsQuery};
 
 use crate::error::ReadError;
 use crate::extension::{additionals_of, behind_authorities};
@@ -14,19 +14,22 @@ use zone_proto::ProtoError;
 /// The type of a query for a zone's changes, IXFR (RFC 1995 section 3).
 const IXFR: u16 = 251;
 
-/// Reads a query: its header, its one question, and what it says by EDNS. Takes memory for the name alone, and none where its
-/// wire form has at most 31 octets.
+/// The most records that a section of a query may have.
+const MOST_RECORDS: u16 = 4;
+
+/// Reads a query: its header, its one question, and what it says with EDNS. Allocates only for the name, and not if its wire
+/// form has at most 31 octets.
 ///
-/// Only a query for IXFR may have records in the authority section. Those and the additional ones are passed over, but for an OPT
-/// record; its options are passed over too.
+/// Only a query for IXFR may have records in the authority section. Those and the additional ones are skipped, except an OPT
+/// record; its options are skipped too. There may be few of either, so that a long query costs no more than those few do.
 ///
 /// # Errors
 ///
-/// The first cause of these: `NoHeader` where there are fewer than 12 octets; `NoQuery` for a response; `NotImplemented` for
-/// another opcode than that of a standard query; `Malformed` for what is not of the form of a query: it has another count of
-/// questions than one, an answer, an OPT record that is a second one, stands in another section or not at the root, or has data
-/// that are no options, an entry that does not end within the message, or octets behind the last one; `BadVersion` for a version
-/// of EDNS other than 0. `Memory` where none is found for the name.
+/// The first cause of these: `NoHeader` if there are fewer than 12 octets; `NoQuery` for a response; `NotImplemented` for an
+/// opcode other than QUERY; `Malformed` if it doesn't have the form of a query: it has a number of questions other than one, an
+/// answer, more than four records in another section, an OPT record that is a second one, is in another section or not at the
+/// root, or has data that aren't options or are more than 64 of them, an entry that doesn't end within the message, or octets
+/// after the last one; `BadVersion` for an EDNS version other than 0. `Memory` if there isn't enough for the name.
 pub fn read_query(alloc: Global, message: &[u8]) -> Result<Query, ReadError>
     ensures { ReadsQuery result (query_of message.now) }
 {
@@ -55,7 +58,7 @@ fn if_version(query: Query) -> Result<Query, ReadError>
     }
 }
 
-/// The query of a header, and of what stands after it.
+/// The query of a header, and of what follows it.
 #[tactic(auto, unfolding(crate::specs::Queries::body_of))]
 fn body_of(
     alloc: Global,
@@ -65,7 +68,7 @@ fn body_of(
 ) -> Result<Option<Query>, ProtoError>
     ensures { IfOk result (λ query. query ≡ body_of message.now header octets.now) }
 {
-    if header.questions != 1 || header.answers != 0 {
+    if !has_few(header) {
         return Ok(None);
     }
     match question_of(alloc, message, octets)? {
@@ -74,14 +77,24 @@ fn body_of(
     }
 }
 
-/// Whether records may stand in the authority section.
+/// Whether a header counts one question, no answers, and few records after them.
+fn has_few(header: Header) -> bool
+    ensures { result ≡ has_few header }
+{
+    header.questions == 1
+        && header.answers == 0
+        && header.authorities <= MOST_RECORDS
+        && header.additionals <= MOST_RECORDS
+}
+
+/// Whether records may be in the authority section.
 fn may_have_authorities(header: Header, question: &Question) -> bool
     ensures { result ≡ may_have_authorities header question.now }
 {
     header.authorities == 0 || question.query_type.0 == IXFR
 }
 
-/// The query of a header and a question, and of what stands after them.
+/// The query of a header and a question, and of what follows them.
 #[tactic(auto, unfolding(crate::specs::Queries::behind_question))]
 fn behind_question(header: Header, question: Question, octets: &[u8]) -> Option<Query>
     ensures { result ≡ behind_question header question octets.now }

@@ -10,7 +10,7 @@ use zone_proto::{DNSClass, Name, ProtoError, RecordType};
 /// A question of a message (RFC 1035 section 4.1.2).
 #[derive(Debug, Drop)]
 pub struct Question {
-    /// The name that is asked for, in the case in which it stands there.
+    /// The name that is asked for, in the case in which it is there.
     pub name: Name,
     /// The type that is asked for.
     pub query_type: RecordType,
@@ -18,9 +18,10 @@ pub struct Question {
     pub query_class: DNSClass,
 }
 
-/// The question at the front of the last octets of a message, and what stands after it.
+/// The question at the start of the last octets of a message (RFC 1035 section 4.1.2), and what follows it; none if it
+/// doesn't end within the octets, or its name is none. Fails only for lack of memory.
 #[tactic(auto, unfolding(crate::specs::Messages::question_of))]
-pub(crate) fn question_of<'o>(
+pub fn question_of<'o>(
     alloc: Global,
     message: &'o [u8],
     octets: &'o [u8],
@@ -35,7 +36,7 @@ pub(crate) fn question_of<'o>(
     }
 }
 
-/// The question of a name, and what stands after it.
+/// The question of a name, and what follows it.
 fn question_fields(name: Name, octets: &[u8]) -> Option<(Question, &[u8])>
     ensures { option_map (λ x. (x.0, x.1.now)) result ≡ question_fields name octets.now }
 {

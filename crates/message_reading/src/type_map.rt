@@ -31,7 +31,7 @@ pub(crate) fn types_of(alloc: Global, octets: &[u8]) -> Result<Option<Seq<Record
     Ok(None)
 }
 
-/// The octets of a block behind its window, and what stands after them.
+/// The octets of a block behind its window, and what follows them.
 fn block_of(octets: &[u8]) -> Option<(&[u8], &[u8])>
     ensures value { option_map (λ x. (x.0.now, x.1.now)) result ≡ block_of octets.now }
     ensures short { IfSome result (λ x. length x.0.now ≤ 32) }

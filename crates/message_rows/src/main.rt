@@ -1,5 +1,5 @@
-//! Reads messages that rows of text write in hex, and writes responses that they mean; tells which of them are read or written
-//! otherwise. Each line of standard input names a file of rows in the folder where the program runs, `data`.
+//! Reads messages that rows of text give in hex, and writes responses that they describe; reports which of them are read or
+//! written differently. Each line of standard input names a file of rows in the current directory, `data`.
 //!
 //! A row is `CALL => ANSWER`; a line without `=>` is a comment, and spaces within hex and answers are passed over. The calls:
 //!

@@ -54,7 +54,7 @@ fn query_of(alloc: Global, hex: &str) -> Result<Query, TextError> {
     }
 }
 
-/// Reads what stands before the query, of a response without records.
+/// Reads what precedes the query, of a response without records.
 fn read_head(alloc: Global, head: &str, query: Query) -> Result<Meant, TextError> {
     let mut words = Words::new(head.as_bytes());
     let limit = words.take_u16()?;

@@ -1,6 +1,6 @@
 //! Messages that are read.
 
-use crate::rows::{ROOMS, STEP, without_spaces};
+use crate::rows::{ATTEMPTS, STEP, without_spaces};
 use crate::text::{message_text, query_text};
 use alloc_failures::Scarcity;
 use line_text::{DataText, read_hex};
@@ -51,7 +51,7 @@ fn data_answer(alloc: Global, words: &str) -> Result<String, AllocError> {
     }
 }
 
-/// Whether octets are read as a query or as a message; none where memory is refused.
+/// Whether octets are read as a query or as a message; none if memory is refused.
 fn is_read(alloc: Global, kind: &str, octets: &[u8]) -> Option<bool> {
     if kind == "query" {
         match read_query(alloc, octets) {
@@ -96,7 +96,7 @@ fn refusals_answer(alloc: Global, words: &str) -> Result<String, AllocError> {
     };
     let octets = octets.as_slice();
     let mut scarce = Scarcity::new(alloc)?;
-    scarce.begin(ROOMS)?;
+    scarce.begin(ATTEMPTS)?;
     let given = scarce.until_given(STEP, || is_read(alloc, kind, octets));
     scarce.end();
     match given {

@@ -5,7 +5,7 @@ use crate::writing::written_answer;
 use std::alloc::{AllocError, Global};
 
 /// How many rooms are tried before a call has to succeed.
-pub const ROOMS: usize = 400;
+pub const ATTEMPTS: usize = 400;
 
 /// How many octets more each room has.
 pub const STEP: usize = 16;

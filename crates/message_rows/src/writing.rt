@@ -2,7 +2,7 @@
 
 use crate::limits::limits_answer;
 use crate::meant::{Meant, read_meant, response_of, sections_of};
-use crate::rows::{ROOMS, STEP};
+use crate::rows::{ATTEMPTS, STEP};
 use alloc_failures::Scarcity;
 use line_text::{HexText, TextError};
 use message_writing::{Response, WriteError, write_response};
@@ -53,7 +53,7 @@ fn scarce_answer(
     limit: u16,
 ) -> Result<String, AllocError> {
     let mut scarce = Scarcity::new(alloc)?;
-    scarce.begin(ROOMS)?;
+    scarce.begin(ATTEMPTS)?;
     let given = scarce.until_given(STEP, || is_written(alloc, response, limit));
     scarce.end();
     match given {
@@ -64,7 +64,7 @@ fn scarce_answer(
     }
 }
 
-/// Whether a response is written; none where memory is refused, and no octets are left.
+/// Whether a response is written; none if memory is refused, and no octets are left.
 fn is_written(alloc: Global, response: &Response<'_, '_>, limit: u16) -> Option<bool> {
     let mut out = Vec::new(alloc);
     match write_response(alloc, &mut out, response, limit) {

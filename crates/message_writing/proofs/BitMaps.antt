@@ -25,7 +25,7 @@ double k = grind arith
 some : (k : ℕ) → 0 < 2 ^ k
 some k = pow_pos k
 
--- what stands above so many bits doesn't tell of them
+-- what is above so many bits doesn't tell of them
 low_bits : (k q c n : ℕ) → set_bits (weights_of k) n (q * 2 ^ k + c) ≡ set_bits (weights_of k) n c
 low_bits zero q c n = refl
 low_bits (suc k) q c n =

@@ -53,7 +53,7 @@ pub then_all : (old mid new : List ℕ) (rs ss : List Record) → AppendsAll str
 then_all old mid new [] ss h k = subst (λ s. AppendsAll strict_record_of s new ss) h k
 then_all old mid new (r ∷ rs) ss (next, a, h) k = (next, a, then_all next mid new rs ss h k)
 
--- what was written stands behind what stood there
+-- what was written comes after what was there
 pub stands_behind : (old new : List ℕ) (rs : List Record) → AppendsAll strict_record_of old new rs → take (length old) new ≡ old
 stands_behind old new rs h =
     let w = behind old new rs h in ap (take (length old)) w.1 ∙ take_at old w.0 (length old) refl

@@ -51,7 +51,7 @@ beside_at out offset whole k k' before before' octets octets' left left' e₁ e�
     subst (λ n. IsBeside out offset whole k' before' octets' n) e₄ (subst (λ s. IsBeside out offset whole k' before' s left) e₃
     (subst (λ h. IsBeside out offset whole k' h octets left) e₂ (subst (λ j. IsBeside out offset whole j before octets left) e₁ b)))
 
--- a label that stands behind its length is the next
+-- a label that comes after its length is the next
 pub record IsNext (l : Label) : Type 0 where
   pub some : 0 < length l
   pub short : length l ≤ 63

@@ -12,7 +12,7 @@ use Rattle.message_writing.proofs.MapWriting.{left_at}
 abbrev AreKept : List ℕ → Type 0
 AreKept = AllByRecursion (λ t. is_passed_over t ≡ false)
 
--- What is left of types tells whether all of them are those of a map.
+-- What is left of types says whether all of them are those of a map.
 pub record AreChecked (ts : List RecordType) (i lowest : ℕ) : Type 0 where
   pub all : IsAscendingFrom lowest (numbers (drop i ts)) → AreKept (numbers (drop i ts)) → AreMapTypes ts
   pub ascend : AreMapTypes ts → IsAscendingFrom lowest (numbers (drop i ts))

@@ -19,7 +19,7 @@ two_a_label (l ∷ n) h = omega (arith, h.0.some, two_a_label n h.1)
 pub few_labels : (n : Name) → IsName n → length n ≤ 127
 few_labels n h = omega (arith, two_a_label n h.labels, h.short)
 
--- ---- what stands at an offset stands there in each message that goes on
+-- ---- what is at an offset is there in each message that goes on
 
 known_inside : (octets : List ℕ) (p : ℕ) (n : Name) → IsKnown octets p n → p < length octets
 known_inside octets p n h =

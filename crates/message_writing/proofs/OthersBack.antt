@@ -15,7 +15,7 @@ use Rattle.message_writing.specs.DataText.{DataReadBack, IsInForm}
 use Rattle.message_writing.proofs.Steps.{bind_some}
 use Rattle.message_writing.proofs.NameSteps.{Found, within_goes_on}
 
--- a name that is read where nothing stands before it is read in each message
+-- a name that is read where nothing comes before it is read in each message
 pub name_anywhere : (m : List ℕ) (at at' : ℕ) (octets : List ℕ) (found : Found) → at ≤ at' → name_of [] at octets ≡ Some found → name_of m at' octets ≡ Some found
 unfolding name_of
 name_anywhere m at at' octets found near e =

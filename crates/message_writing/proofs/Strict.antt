@@ -24,7 +24,7 @@ alone_is (Some (y, b ∷ rest)) n e = absurd cc
 abbrev srv : ℕ → ℕ → ℕ → Name → RData
 srv p w q n = V.SRV (record { priority = p; weight = w; port = q; target = n })
 
--- what stands behind the port, and behind the priority, of octets at an offset
+-- what follows the port, and behind the priority, of octets at an offset
 abbrev with_target : ℕ → List ℕ → ℕ → ℕ → ℕ × List ℕ → Option RData
 with_target at octets p w q = alone (name_of [] (past at octets q.1) q.1) >>= λ n. Some (srv p w q.0 n)
 

@@ -16,7 +16,7 @@ ReadsBack read before written x =
     (message after : List ℕ) → Continues before (written ++ after) message
     → read message (written ++ after) ≡ Some (x, after)
 
--- a value was written behind what stood there
+-- a value was written behind what was there
 pub record Appends {A : Type 0} (read : Reading A) (old new : List ℕ) (x : A) : Type 0 where
   pub written : List ℕ
   pub is : new ≡ old ++ written

@@ -3,7 +3,8 @@ use Rattle.std.specs.Prelude.{◌≡◌, ℕ, zero, suc, ◌+◌, ◌/◌, ◌%�
 use Rattle.zone_proto.specs.Names.{Name}
 use Rattle.message_reading.specs.MessageNames.{name_within}
 
--- The name stands at an offset, and is read in half of the steps that a name may take: so the labels before it find room in the others.
+-- The name is at an offset, and is read in half of the steps that a name may take: so the labels before it find room in
+-- the others.
 pub record StandsAt (octets : List ℕ) (p : ℕ) (n : Name) : Type 0 where
   pub after : List ℕ
   pub stands : name_within 127 octets p (drop p octets) ≡ Some (n, after)

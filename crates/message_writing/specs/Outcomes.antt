@@ -13,7 +13,8 @@ use Rattle.message_writing.specs.Continuing.{AppendsAll}
 use Rattle.message_writing.specs.DataText.{IsWritable}
 use Rattle.message_writing.specs.Responses.{AreHelpful, GoesOver, IsBody, IsSection, IsWritten, all_records, opt_length}
 
--- records at the front of these were written, all of them within so many octets, or up to the first behind which there are more
+-- records at the start of these were written, all of them within so many octets, or up to the first behind which there
+-- are more
 abbrev pub ArePutWithin : ℕ → List ℕ → List ℕ → List Record → Bool → Type 0
 ArePutWithin room old new rs true = AppendsAll strict_record_of old new rs × (length new ≤ room)
 ArePutWithin room old new rs false = (front rest : List Record) × (rs ≡ front ++ rest) × AppendsAll strict_record_of old new front × (room < length new)

@@ -49,7 +49,7 @@ opt_length r = 11 * length (opt_of r)
 
 -- ---- what of it is kept
 
--- Behind these octets the records go over so many octets: those at the front of them that were written do.
+-- Behind these octets the records go over so many octets: those at the start of them that were written do.
 abbrev pub GoesOver : ℕ → List ℕ → List Record → Type 0
 GoesOver room old rs =
     (front rest : List Record) × (over : List ℕ) × (rs ≡ front ++ rest) × AppendsAll strict_record_of old over front × (room < length over)
@@ -126,9 +126,9 @@ parts_for r truncated answers authorities additionals = record {
   additionals = additionals ++ opt_of r;
 }
 
--- Octets are a response within a limit: they are read as the message whose records are those of the response that were kept. What was
--- left out goes over the limit where it is written behind what stands there, the octets of the OPT record counted: it has 11 of them, so
--- its owner is the octet 0, and no pointer to one (RFC 6891 section 6.1.2).
+-- Octets are a response within a limit: they are read as the message whose records are those of the response that were
+-- kept. What was left out goes over the limit where it is written behind what is there, the octets of the OPT record
+-- counted: it has 11 of them, so its owner is the octet 0, and no pointer to one (RFC 6891 section 6.1.2).
 pub record IsWritten (limit : ℕ) (r : Response) (octets : List ℕ) : Type 0 where
   pub answers : List Record
   pub authorities : List Record

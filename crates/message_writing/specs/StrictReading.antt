@@ -15,7 +15,7 @@ may_have_pointers t = t == types.NS || (t == types.CNAME || (t == types.SOA || t
 abbrev pub message_for : ℕ → List ℕ → List ℕ
 message_for t message = if may_have_pointers t then message else []
 
--- a record at the front of the last octets of a message, in whose data pointers stand only where they may
+-- a record at the start of the last octets of a message, in whose data pointers stand only where they may
 unfoldable pub strict_record_of : List ℕ → List ℕ → Option (Record × List ℕ)
 strict_record_of message octets =
     name_of message (offset_of message octets) octets >>= λ owner.

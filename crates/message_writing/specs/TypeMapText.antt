@@ -3,12 +3,12 @@ use Rattle.std.specs.Prelude.{ℕ, zero, suc, ◌+◌, ◌*◌, ◌/◌, ◌%◌
 use Rattle.zone_proto.specs.declared.record_type.RecordType.{RecordType}
 use Rattle.message_reading.specs.TypeMaps.{weights}
 
--- the weight of a bit where the type of its number stands at the front, else 0, and the types that are left
+-- the weight of a bit where the type of its number is at the front, else 0, and the types that are left
 abbrev pub bit_taken : ℕ → ℕ → List ℕ → ℕ × List ℕ
 bit_taken w n [] = (0, [])
 bit_taken w n (t ∷ ts) = if t == n then (w, ts) else (0, t ∷ ts)
 
--- an octet for the types that are numbered from n on, at the front of these, and the types that are left
+-- an octet for the types that are numbered from n on, at the start of these, and the types that are left
 abbrev pub bits_taken : List ℕ → ℕ → List ℕ → ℕ × List ℕ
 bits_taken [] n ts = (0, ts)
 bits_taken (w ∷ ws) n ts =

@@ -6,6 +6,7 @@ ghost use Rattle.message_writing.specs.Checks.{HaveTypeNumbers};
 ghost use Rattle.message_writing.specs.DataText.{AreCuts, AreShort, AreTimers, IsSound, IsWritable, data_text, dnskey_text, fixed_text, long_text, name_text, rrsig_text, short_text, srv_text, timers_text};
 
 use crate::denial_writer::{push_nsec, push_nsec3, push_nsec3param};
+use crate::hints::Hint;
 use crate::name_writer::{Cut, cut_of, push_cut, push_wire};
 use crate::numbers::{push_long, push_short};
 use std::alloc::AllocError;
@@ -25,7 +26,7 @@ const WHOLE: Cut = Cut {
 };
 
 /// Where the names of data are cut that may have pointers: those in the types of RFC 1035, and in no other (RFC 3597 section 4).
-pub(crate) fn data_cuts(out: &[u8], hints: &[u16], rdata: &RData) -> DataCuts
+pub(crate) fn data_cuts(out: &[u8], hints: &[Hint], rdata: &RData) -> DataCuts
     ensures { AreCuts out.now result.first result.second rdata.now }
 {
     match rdata {

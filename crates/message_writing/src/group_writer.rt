@@ -10,7 +10,8 @@ use crate::response::Group;
 use std::alloc::Global;
 use zone_proto::Record;
 
-/// What a message that is being written goes on with: an allocator, where names stand in it, and how many octets it may have.
+/// What a message that is being written goes on with: an allocator, where names are in it, and how many octets it may
+/// have.
 #[derive(Drop)]
 pub(crate) struct Writing {
     pub(crate) alloc: Global,

@@ -1,31 +1,40 @@
 //! Where names stand that a message has already.
 
+use crate::fingerprints::Fingerprint;
 use crate::name_writer::Cut;
 use smallvec::SmallVec;
 use std::alloc::{AllocError, Global};
 use zone_proto::Labels;
 
-/// How many offsets are kept: a name costs a look at each of them for each of its labels.
-const MOST: usize = 16;
+/// How many offsets are kept: for each of its labels, a name costs a look at each of them.
+const MAX_OFFSETS: usize = 16;
 
-/// Offsets of labels that a message has in its question, in owners, and in names in data of the types of RFC 1035. A pointer leads to
+/// Where a name may be.
+#[derive(Clone, Copy, Default, PartialEq, Eq, Debug)]
+pub(crate) struct Hint {
+    pub(crate) offset: u16,
+    /// The fingerprint of the name.
+    pub(crate) fingerprint: Fingerprint,
+}
+
+/// Where labels stand that a message has in its question, in owners, and in names in data of the types of RFC 1035. A pointer leads to
 /// none but these (RFC 3597 section 4).
 #[derive(Drop)]
 pub(crate) struct Hints {
-    offsets: SmallVec<u16, 16>,
+    hints: SmallVec<Hint, 16>,
 }
 
 impl Hints {
-    /// No offset.
+    /// No hints.
     pub(crate) fn new(alloc: Global) -> Hints {
         Hints {
-            offsets: SmallVec::new(alloc),
+            hints: SmallVec::new(alloc),
         }
     }
 
-    /// The offsets.
-    pub(crate) fn as_slice(&self) -> &[u16] {
-        self.offsets.as_slice()
+    /// The hints.
+    pub(crate) fn as_slice(&self) -> &[Hint] {
+        self.hints.as_slice()
     }
 
     /// Keeps the offsets of the labels of an owner that was written at an offset as it is cut. Where there is no room, the last one
@@ -36,23 +45,28 @@ impl Hints {
         cut: Cut,
         owner: Labels<'_>,
     ) -> Result<(), AllocError> {
-        if cut.labels > 0 && self.offsets.len() >= MOST {
-            self.offsets.pop();
+        if cut.labels > 0 && self.hints.len() >= MAX_OFFSETS {
+            self.hints.pop();
         }
         self.note(at, cut, owner)
     }
 
     /// Keeps the offsets of the labels of a name that was written at an offset as it is cut, where there is room.
     pub(crate) fn note(&mut self, at: usize, cut: Cut, name: Labels<'_>) -> Result<(), AllocError> {
+        let mut fingerprint = Fingerprint::of(name.clone());
         let mut left = name;
         let mut here = at;
         for _ in 0..cut.labels {
-            if here >= 16384 || self.offsets.len() >= MOST {
+            if here >= 16384 || self.hints.len() >= MAX_OFFSETS {
                 return Ok(());
             }
             match left.next() {
                 Some(label) => {
-                    self.offsets.push(here as u16)?;
+                    self.hints.push(Hint {
+                        offset: here as u16,
+                        fingerprint,
+                    })?;
+                    fingerprint = fingerprint.without(label);
                     here = here.saturating_add(1).saturating_add(label.len());
                 }
                 None => {}

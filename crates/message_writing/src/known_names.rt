@@ -3,35 +3,31 @@ ghost use Rattle.std.specs.Prelude.{◌≡◌, ◌≤◌, ◌<◌, ◌∷◌, �
 ghost use Rattle.message_writing.specs.KnownNames.{IsKnown, StandsAt};
 ghost use Rattle.message_reading.specs.MessageNames.{lead};
 
+use crate::fingerprints::Fingerprint;
+use crate::hints::Hint;
 use zone_proto::Labels;
 
-/// The first of these offsets at which these labels stand, followed by nothing else; this label is the first of them. The offsets
-/// are hints: each is looked at.
-pub(crate) fn find(out: &[u8], hints: &[u16], first: &[u8], labels: &Labels<'_>) -> Option<u16>
+/// The first of these offsets at which these labels stand, followed by nothing else. The offsets are hints: those with the
+/// fingerprint of the labels are looked at.
+pub(crate) fn find(
+    out: &[u8],
+    hints: &[Hint],
+    fingerprint: Fingerprint,
+    labels: &Labels<'_>,
+) -> Option<u16>
     ensures { IfSome result (λ p. IsKnown out.now p labels.now) }
 {
     for hint in hints {
-        let offset = *hint;
-        if offset >= 12
+        let offset = hint.offset;
+        if hint.fingerprint == fingerprint
+            && offset >= 12
             && offset < 16384
-            && may_stand(out, usize::from(offset), first)
             && stands_at(out, usize::from(offset), labels.clone())
         {
             return Some(offset);
         }
     }
     None
-}
-
-/// Whether a label may stand at an offset: its length does, and its last octet, which tell most labels apart.
-fn may_stand(out: &[u8], offset: usize, label: &[u8]) -> bool {
-    let end = offset.saturating_add(label.len());
-    match (out.get(offset), out.get(end), label.last()) {
-        (Some(count), Some(octet), Some(last)) => {
-            usize::from(*count) == label.len() && *octet == *last
-        }
-        _ => false,
-    }
 }
 
 /// Whether the name at this offset has exactly these labels, their case included; the pointers on the way are followed.
@@ -76,7 +72,7 @@ fn stands_at(out: &[u8], offset: usize, labels: Labels<'_>) -> bool
     false
 }
 
-/// What stands after this label and its length, where octets begin with them.
+/// What follows this label and its length, where octets begin with them.
 fn after_label<'o>(octets: &'o [u8], label: &[u8]) -> Option<&'o [u8]>
     ensures { IfSome result (λ after. octets.now
         ≡ length label.now ∷ (label.now ++ after.now)) }
@@ -89,7 +85,7 @@ fn after_label<'o>(octets: &'o [u8], label: &[u8]) -> Option<&'o [u8]>
     if *front == *label { Some(after) } else { None }
 }
 
-/// Where the pointer leads whose first octet this is, before an offset, and what stands after it.
+/// Where the pointer leads whose first octet this is, before an offset, and what follows it.
 fn lead(before: usize, high: u8, rest: &[u8]) -> Option<(usize, &[u8])>
     requires { 192 ≤ high }
     ensures { option_map (λ x. (x.0, x.1.now)) result ≡ lead before high rest.now }

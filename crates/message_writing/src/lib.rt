@@ -1,5 +1,5 @@
-//! Responses written as DNS messages (RFC 1035 section 4.1), with compression, within a limit of octets; and the data of a record
-//! by themselves.
+//! Responses written as DNS messages (RFC 1035 section 4.1), with compression, within a limit of octets; and the wire form of a
+//! record's data alone.
 //!
 //! What octets say is defined by reading, in message_reading. What is written is said by reading alone: it reads back as what it was
 //! written of, whatever follows it. A call that takes memory answers a `Result`, and where a growth is refused it answers `Memory`.
@@ -9,6 +9,7 @@ mod body_writer;
 mod data_writer;
 mod denial_writer;
 mod error;
+mod fingerprints;
 mod front_writer;
 mod group_writer;
 mod hints;

@@ -3,6 +3,8 @@ ghost use Rattle.std.specs.Prelude.{◌≡◌, ◌≤◌, ◌++◌, ◌∷◌, [
 ghost use Rattle.message_writing.specs.KnownNames.{IsCut, IsShort, cut_text, ending};
 ghost use Rattle.zone_proto.specs.Names.{IsName, wire_form, wire_length};
 
+use crate::fingerprints::Fingerprint;
+use crate::hints::Hint;
 use crate::known_names::find;
 use crate::numbers::{push_label, push_pointer};
 use std::alloc::AllocError;
@@ -15,11 +17,13 @@ pub(crate) struct Cut {
     pub(crate) pointer: Option<u16>,
 }
 
-/// Where a name is cut: before its longest end that stands at one of the hinted offsets.
-pub(crate) fn cut_of(out: &[u8], hints: &[u16], name: Labels<'_>) -> Cut
+/// Where a name is cut: before its longest end that is at one of the hinted offsets. However many labels it has, few ends are
+/// compared label by label: those with the fingerprint of a hint.
+pub(crate) fn cut_of(out: &[u8], hints: &[Hint], name: Labels<'_>) -> Cut
     requires { IsName name }
     ensures { IsCut out.now result.labels result.pointer name.entry }
 {
+    let mut fingerprint = Fingerprint::of(name.clone());
     let mut left = name;
     let mut labels = 0usize;
     loop {
@@ -30,12 +34,13 @@ pub(crate) fn cut_of(out: &[u8], hints: &[u16], name: Labels<'_>) -> Cut
                 pointer: None,
             };
         };
-        if let Some(offset) = find(out, hints, first, &here) {
+        if let Some(offset) = find(out, hints, fingerprint, &here) {
             return Cut {
                 labels,
                 pointer: Some(offset),
             };
         }
+        fingerprint = fingerprint.without(first);
         labels += 1;
     }
 }

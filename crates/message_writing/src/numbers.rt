@@ -42,7 +42,7 @@ pub(crate) fn push_long(out: &mut Vec<u8>, number: u32) -> Result<(), AllocError
     Ok(())
 }
 
-/// Puts two octets in the place of others.
+/// Puts two octets in place of others.
 #[tactic(auto, using(crate::proofs::Placed::two_placed))]
 pub(crate) fn put_octets(out: &mut Vec<u8>, at: usize, first: u8, second: u8)
     requires { at + 2 ≤ length out.old.items }
@@ -54,7 +54,7 @@ pub(crate) fn put_octets(out: &mut Vec<u8>, at: usize, first: u8, second: u8)
     octets[at + 1] = second;
 }
 
-/// Puts a number of 16 bits in the place of two octets.
+/// Puts a number of 16 bits in place of two octets.
 pub(crate) fn put_short(out: &mut Vec<u8>, at: usize, number: u16)
     requires { at + 2 ≤ length out.old.items }
     ensures { out.new.items

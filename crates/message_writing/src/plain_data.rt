@@ -13,8 +13,8 @@ use crate::writable::is_writable;
 use std::alloc::{AllocError, Global};
 use zone_proto::{MX, RData, SOA};
 
-/// Appends the data of a record in wire form to `out`: names stand there in full, without pointers, and in the case that they have
-/// (RFC 3597 section 4). Refused by `Unwritable` for data that no octets are, and by `Memory`.
+/// Appends the data of a record in wire form to `out`: names are there in full, without pointers, and in the case that
+/// they have (RFC 3597 section 4). Refused by `Unwritable` for data that no octets are, and by `Memory`.
 pub fn push_plain_data(alloc: Global, out: &mut Vec<u8>, rdata: &RData) -> Result<(), WriteError>
     ensures ok { OnOk result (out.new.items ≡ out.old.items ++ plain_text rdata.now) }
     ensures err { IfErr result

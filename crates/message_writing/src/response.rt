@@ -3,8 +3,8 @@
 use message_reading::Query;
 use zone_proto::Record;
 
-/// Records that go out together or not at all: those of a set, and the signatures that cover them (RFC 2181 section 5,
-/// RFC 4035 section 3.1.1).
+/// Records that are sent together or not at all: those of a set, and the signatures that cover them (RFC 2181 section
+/// 5, RFC 4035 section 3.1.1).
 #[derive(Clone, Copy, Debug)]
 pub struct Group<'r> {
     /// The records.
@@ -30,7 +30,7 @@ pub struct Response<'g, 'r> {
     pub answers: &'g [Group<'r>],
     /// The authority section.
     pub authorities: &'g [Group<'r>],
-    /// What has to be in the additional section: addresses of a referral's servers that stand in the child (RFC 9471).
+    /// What has to be in the additional section: addresses of a referral's servers that are in the child (RFC 9471).
     pub glue: &'g [Group<'r>],
     /// What goes into the additional section where there is room.
     pub additionals: &'g [Group<'r>],

@@ -18,21 +18,21 @@ use crate::response::Response;
 use message_reading::{Extension, Question};
 use std::alloc::{AllocError, Global};
 
-/// Writes a response as a message of so many octets at most, in place of the octets of `out`.
+/// Writes a response as a message of at most so many octets, in place of the octets of `out`.
 ///
-/// Header, question, the sections, and last an OPT record if and only if the query has one. A group of records is written whole or
-/// not at all. Answers, authorities and glue are written up to the first group that goes over the limit; where there is one, TC is
-/// set and nothing that merely helps is written (RFC 2181 section 9, RFC 9471 section 3.1). Else each group of the other additional
-/// records is written that does not go over, and TC is clear (RFC 4035 section 3.1.1).
+/// Header, question, the sections, and last an OPT record if and only if the query has one. A group of records is written whole
+/// or not at all. Answers, authorities and glue are written up to the first group that exceeds the limit; if there is one, TC
+/// is set and nothing that merely helps is written (RFC 2181 section 9, RFC 9471 section 3.1). Otherwise each group of the
+/// other additional records that doesn't exceed it is written, and TC is clear (RFC 4035 section 3.1.1).
 ///
-/// Names are compressed in owners and in data of the types of RFC 1035, and in no other (RFC 3597 section 4), where the same labels in
-/// the same case stand at one of the sixteen places that are kept.
+/// Names are compressed in owners and in data of the types of RFC 1035, and in no other (RFC 3597 section 4), if the same
+/// labels in the same case are at one of the sixteen places that are remembered.
 ///
 /// # Errors
 ///
-/// `BadCode` where the response code has more than twelve bits; `NoRoom` where header, question and OPT record go over the limit,
-/// which 282 octets never do, as a name has 255 at most (RFC 1035 section 3.1);
-/// `Unwritable` where a record has data that no octets are; `Memory` where none is found. The octets of `out` are gone then.
+/// `BadCode` if the response code has more than twelve bits; `NoRoom` if header, question and OPT record exceed the limit,
+/// which 282 octets never do, as a name has at most 255 (RFC 1035 section 3.1); `Unwritable` if the data of a record have no
+/// wire form; `Memory` if there isn't enough. The octets of `out` are gone then.
 pub fn write_response(
     alloc: Global,
     out: &mut Vec<u8>,
@@ -110,7 +110,7 @@ fn compose(
     Ok(())
 }
 
-/// The offsets of the labels of a question, which stands behind the header.
+/// The offsets of the labels of a question, which comes after the header.
 pub(crate) fn hints_of(alloc: Global, question: &Question) -> Result<Hints, AllocError> {
     let mut hints = Hints::new(alloc);
     let whole = Cut {
@@ -196,7 +196,7 @@ fn low_flags(response: &Response<'_, '_>) -> u8
     (response.code % 16) as u8
 }
 
-/// Puts the header in the place of the first twelve octets.
+/// Puts the header in place of the first twelve octets.
 pub(crate) fn put_header(out: &mut Vec<u8>, response: &Response<'_, '_>, counts: Counts)
     requires long { 12 ≤ length out.old.items }
     requires answers { counts.answers < 65536 }

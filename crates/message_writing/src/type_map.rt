@@ -78,7 +78,8 @@ fn push_window(
     Ok(())
 }
 
-/// The octet of the eight types that are numbered from a number on, where these stand at the front, and the types that are left.
+/// The octet of the eight types that are numbered from a number on, where these are at the front, and the types that
+/// are left.
 fn octet_taken(number: u32, types: &[RecordType]) -> (u8, &[RecordType])
     requires { number < 65536 }
     ensures octet { result.0 ≡ (bits_taken weights number (numbers types.now)).0 }
@@ -98,7 +99,7 @@ fn octet_taken(number: u32, types: &[RecordType]) -> (u8, &[RecordType])
     )
 }
 
-/// The weight of a bit where the type of its number stands at the front, else 0, and the types that are left.
+/// The weight of a bit where the type of its number is at the front, else 0, and the types that are left.
 fn bit_taken(weight: u8, number: u32, types: &[RecordType]) -> (u8, &[RecordType])
     ensures small { result.0 ≤ weight }
     ensures bit { result.0 ≡ (bit_taken weight number (numbers types.now)).0 }

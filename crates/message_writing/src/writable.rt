@@ -12,7 +12,7 @@ use message_reading::plain_data_of;
 use std::alloc::Global;
 use zone_proto::{NSEC, NSEC3, OtherData, ProtoError, RData, RRSIG, RecordType};
 
-/// Whether octets can be these data; `Memory` where none is found to read octets of a type that may have names in them.
+/// Whether octets can be these data. Its only error is `Memory` to read octets of a type that may have names in them.
 pub(crate) fn is_writable(alloc: Global, rdata: &RData) -> Result<bool, ProtoError>
     ensures value { IfOk result (λ b. MatchBool b (IsWritable rdata.now)
         (IsWritable rdata.now → ⊥)) }

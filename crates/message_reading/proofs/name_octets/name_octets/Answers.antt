@@ -4,7 +4,7 @@ use Rattle.std.proofs.lemmas.List.{take_rest, nil_from_length}
 use Rattle.message_reading.proofs.Passing.{one_less}
 use Rattle.message_reading.proofs.ReadingNames.{read_short, unread, unwrapped, way_empty, way_end, way_short, way_long, way_label, way_reserved, way_astray, way_beyond, way_pointer, way_out, way_at}
 use Rattle.message_reading.proofs.name_octets.name_octets.Goals as goal
-use Rattle.message_reading.proofs.name_octets.name_octets.Goals.{then-first-lt64+else-behind-count+else-len-count-gt-ROOM+in_ok-push-2+in_ok-extend_from_slice, else-first-lt64+else-first-lt192+in-Some-lead+else-target-message}
+use Rattle.message_reading.proofs.name_octets.name_octets.Goals.{then-first-lt64+else-behind-count+else-len-count-gt-WIRE_FORM_LIMIT+in_ok-push-2+in_ok-extend_from_slice, else-first-lt64+else-first-lt192+in-Some-lead+else-target-message}
 
 pub returns-in_default : goal.returns-in_default
 returns-in_default c =
@@ -34,14 +34,14 @@ returns-then-behind-count c =
     (way_short m _ _ c.loop.before c.in-Some.first.now c.loop.text.items c.loop.rest.now c.in-Some.behind.now _ c.in-Some.ensures.cases.0
     (omega (arith, c.if-first-eq0.false)) c.if-first-lt64.true (omega (arith, c.if-behind-count.true, c.from-count.ensures)) way)
 
-pub returns-then-len-count-gt-ROOM : goal.returns-then-len-count-gt-ROOM
-returns-then-len-count-gt-ROOM c =
+pub returns-then-len-count-gt-WIRE_FORM_LIMIT : goal.returns-then-len-count-gt-WIRE_FORM_LIMIT
+returns-then-len-count-gt-WIRE_FORM_LIMIT c =
     let m = c.args.message.now in
     let way = way_at m _ _ (suc (256 - (c.loop.counter + 1))) _ _ _ _ _ _ _ _ (sym (one_less 256 c.loop.counter c.loop-test.true)) refl refl refl refl c.loop.invariant in
     sym (read_short m c.args.at c.args.octets.now)
     ∙ way_long m _ _ c.loop.before c.in-Some.first.now c.loop.text.items c.loop.rest.now c.in-Some.behind.now _ c.in-Some.ensures.cases.0
     (omega (arith, c.if-first-eq0.false)) c.if-first-lt64.true (omega (arith, c.if-behind-count.false, c.from-count.ensures))
-    (omega (arith, c.if-len-count-gt-ROOM.true, c.len.ensures.value, c.from-count.ensures)) way
+    (omega (arith, c.if-len-count-gt-WIRE_FORM_LIMIT.true, c.len.ensures.value, c.from-count.ensures)) way
 
 pub returns-then-first-lt192 : goal.returns-then-first-lt192
 returns-then-first-lt192 c =
@@ -75,7 +75,7 @@ loop-preserved c =
     let text = c.loop.text.items in
     let way = way_at m _ _ (suc (256 - (c.loop.counter + 1))) _ _ _ _ _ _ _ _ (sym (one_less 256 c.loop.counter c.loop-test.true)) refl refl refl refl c.loop.invariant in
     elim c.if-first-lt64.branch [
-      | then-first-lt64+else-behind-count+else-len-count-gt-ROOM+in_ok-push-2+in_ok-extend_from_slice w ↦
+      | then-first-lt64+else-behind-count+else-len-count-gt-WIRE_FORM_LIMIT+in_ok-push-2+in_ok-extend_from_slice w ↦
           let label = w.split_at.result.0.now in
           let front = w.split_at.ensures.front ∙ ap (λ n. take n behind) w.from-count.ensures in
           let back = w.split_at.ensures.back ∙ ap (λ n. drop n behind) w.from-count.ensures in
@@ -85,7 +85,7 @@ loop-preserved c =
           (ap (option_map (λ s. s.now)) (sym w.after-is))
           (way_label m _ _ c.loop.before b text c.loop.rest.now behind _ c.in-Some.ensures.cases.0 (omega (arith, c.if-first-eq0.false)) w.if-first-lt64.true
           (omega (arith, w.if-behind-count.false, w.from-count.ensures))
-          (omega (arith, w.if-len-count-gt-ROOM.false, w.len.ensures.value, w.from-count.ensures)) way)
+          (omega (arith, w.if-len-count-gt-WIRE_FORM_LIMIT.false, w.len.ensures.value, w.from-count.ensures)) way)
       | else-first-lt64+else-first-lt192+in-Some-lead+else-target-message w ↦
           let p = w.in-Some-lead.target in
           let next = w.in-Some-lead.next in

@@ -3,4 +3,4 @@ use Rattle.message_reading.specs.Queries.{are_options}
 use Rattle.message_reading.proofs.options.are_options.Given as goal
 
 abbrev pub invariant-loop : goal.invariant-loop
-invariant-loop l = are_options (16384 - l.counter) l.rest ≡ are_options 16384 l.octets
+invariant-loop l = are_options (65 - l.counter) l.rest ≡ are_options 65 l.octets

@@ -4,7 +4,7 @@ use Rattle.zone_proto.specs.declared.record_type.RecordType.{RecordType}
 use Rattle.message_writing.proofs.MapChecks.{AreChecked, checked_none, checked_more, checked_end, all_short, not_ascending, not_kept}
 use Rattle.message_writing.proofs.writable.are_map_types.Goals as goal
 
--- the type that the loop reads where there is none
+-- the type that the loop reads if there is none
 none : RecordType
 none = record { 0 = 0 }
 

@@ -2,7 +2,7 @@ use Rattle.std.proofs.Common.{◌-◌, ap, ◌∙◌, arith}
 use Rattle.std.specs.Prelude.{option_map}
 use Rattle.message_reading.specs.Octets.{octets_of}
 use Rattle.message_reading.proofs.Passing.{owner_empty, owner_end, owner_cut, owner_reserved, owner_half, owner_pointer, owner_label, owner_out}
-use Rattle.message_reading.proofs.extension.behind_owner.Goals as goal
+use Rattle.message_reading.proofs.unread.behind_owner.Goals as goal
 
 pub returns-in_err-first : goal.returns-in_err-first
 returns-in_err-first c =
