@@ -1,0 +1,3 @@
+mod Differing
+pub mod Lengths
+mod CodeExamples

@@ -1,0 +1,4 @@
+mod Passing
+mod AlgorithmNames
+pub mod Authentic
+pub mod SignedLengths
