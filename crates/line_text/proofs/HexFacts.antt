@@ -2,7 +2,7 @@
 use Rattle.std.proofs.Common.{◌≡◌, ℕ, List, [], ◌∷◌, ◌++◌, Option, Some, None, refl, ap, append_assoc, append-nil}
 use Rattle.std.specs.Prelude.{option_map}
 
--- what is read, once these octets stand before what is read of the rest
+-- what is read, once these octets come before what is read of the rest
 abbrev pub after_octets : List ℕ → Option (List ℕ) → Option (List ℕ)
 after_octets octets rest = option_map (λ more. octets ++ more) rest
 

@@ -82,14 +82,14 @@ right_count n wanted r octets h e = let yes : (n == wanted) ≡ true = grind (ar
 pub some_parts : (separator : ℕ) (s : List ℕ) → 1 ≤ length (parts separator s)
 some_parts separator s = omega (arith, length-slice_split (λ b. b == separator) s)
 
--- one octet more, and two, of those that stand at the front
+-- one octet more, and two, of those that are at the front
 pub one_octet_more : (xs : List ℕ) (i x : ℕ) → i < length xs → take (i + 1) (set xs i x) ≡ take i xs ++ x ∷ []
 one_octet_more xs i x h = grind (arith, common_steps)
 
 pub two_octets_more : (xs : List ℕ) (i x y : ℕ) → i + 1 < length xs → take (i + 2) (set (set xs i x) (i + 1) y) ≡ take i xs ++ x ∷ y ∷ []
 two_octets_more xs i x y h = grind (arith, common_steps)
 
--- what stands after the separator
+-- what follows the separator
 pub after_separator : (k : ℕ) (s from : List ℕ) → from ≡ drop k s → take (length from - 1) (drop 1 from) ≡ drop (k + 1) s
 after_separator k s from e =
     let whole : take (length from - 1) (drop 1 from) ≡ drop 1 from = take_all (length from - 1) (drop 1 from) (omega (arith, length-drop 1 from)) in

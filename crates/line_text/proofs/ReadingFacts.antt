@@ -76,7 +76,7 @@ is_name w n form sound = by (read_or_refused w)
         let found : fault_of n ≡ Some e = subst P (one_form w ls n other form) fault in
         absurd (grind arith)
 
--- a word that is refused as a name, for another cause than want of memory
+-- a word that is refused as a name, for another cause than lack of memory
 pub refused_name : (ws us : WordList) (w t : List ℕ) (e : ProtoError) (f : TextError) → ws ≡ w ∷ us → t ≡ w → (f ≡ Memory ↔ (e ≡ proto.Memory)) → ((e ≡ proto.Memory) ⊎ IsTextFault t e) → f ≡ BadText → next_word name_of_word ws ≡ None
 refused_name ws us w t e f words text from (inl m) bad =
     let memory : f ≡ Memory = from.1 m in

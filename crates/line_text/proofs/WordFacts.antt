@@ -8,7 +8,7 @@ use Rattle.std.proofs.lemmas.List.Sums.{prefix_len-le-length, passes_at_first, f
 use Rattle.std.proofs.lemmas.List.Splits.{slice_split-cons_yes, slice_split_none, slice_split_first}
 use Rattle.line_text.specs.Words.{is_blank, words, has_octets}
 
--- the first place that passes, or the length where there is none
+-- the first place that passes, or the length if there is none
 pub place : (p : ℕ → Bool) (s : List ℕ) → unwrap_or (cond (ltb (position_or_len p s) (length s)) (Some (position_or_len p s)) None) (length s) ≡ position_or_len p s
 place p s = by (ltb (position_or_len p s) (length s)) refl
   where

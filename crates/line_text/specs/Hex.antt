@@ -12,7 +12,7 @@ hex_digit = digit_of 16
 abbrev pub hex_octet : ℕ → ℕ → Option ℕ
 hex_octet high low = option_and_then (λ h. option_map (λ l. h * 16 + l) (hex_digit low)) (hex_digit high)
 
--- the octets that hex digits write, two each; none where some octet is no digit, or one digit is left over
+-- the octets that hex digits write, two each; none if some octet is no digit, or one digit is left over
 abbrev pub hex_octets : List ℕ → Option (List ℕ)
 hex_octets [] = Some []
 hex_octets (c ∷ []) = None

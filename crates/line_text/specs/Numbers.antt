@@ -16,6 +16,6 @@ is_numeral base ds = nat_lt 0 (length ds) && list_all (λ c. is_digit c base) ds
 abbrev pub at_most : ℕ → ℕ → Option ℕ
 at_most most n = if nat_le n most then Some n else None
 
--- the number that digits of this base write, leading zeros and all, if it is at most `most`; none where they aren't digits
+-- the number that digits of this base write, leading zeros and all, if it is at most `most`; none if they aren't digits
 abbrev pub number_within : ℕ → ℕ → List ℕ → Option ℕ
 number_within base most ds = if is_numeral base ds then at_most most (digits_value base ds) else None

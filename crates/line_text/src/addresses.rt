@@ -14,8 +14,8 @@ use std::{fmt, str};
 /// How many octets the text of an IPv4 address has at most: four numbers of three digits, and three dots.
 const LONGEST_IPV4: usize = 15;
 
-/// Reads an IPv4 address: four numbers from 0 to 255 with dots between them (RFC 1035 section 3.4.1). None where the word
-/// isn't that. Takes no memory.
+/// Reads an IPv4 address: four numbers from 0 to 255 with dots between them (RFC 1035 section 3.4.1). None if the word
+/// isn't that. Doesn't allocate.
 #[tactic(auto, using(crate::proofs::PartFacts::reading))]
 pub fn read_ipv4(word: &[u8]) -> Option<[u8; 4]>
     ensures { result ≡ ipv4_of_text word.now }
@@ -33,8 +33,8 @@ pub fn read_ipv4(word: &[u8]) -> Option<[u8; 4]>
     }
 }
 
-/// Reads an IPv6 address: eight groups of one to four hex digits with colons between them, none left out (RFC 4291 section
-/// 2.2, its first form). None where the word isn't that. Takes no memory.
+/// Reads an IPv6 address: eight groups of one to four hex digits with colons between them, none left out (RFC 4291
+/// section 2.2, its first form). None if the word isn't that. Doesn't allocate.
 #[tactic(auto, using(crate::proofs::PartFacts::reading))]
 pub fn read_ipv6(word: &[u8]) -> Option<[u8; 16]>
     ensures { result ≡ ipv6_of_text word.now }
@@ -114,7 +114,7 @@ fn put_ipv4(address: &[u8; 4], room: &mut [u8; LONGEST_IPV4]) -> usize
     put_further(*d, room, third)
 }
 
-/// Puts a dot and an octet in decimal digits behind the front of the room, and answers where they end.
+/// Appends a dot and an octet in decimal digits to the front of the room, and answers where they end.
 fn put_further(octet: u8, room: &mut [u8; LONGEST_IPV4], front: usize) -> usize
     requires { front ≤ 11 }
     ensures fits { result ≤ front + 4 }
@@ -124,7 +124,7 @@ fn put_further(octet: u8, room: &mut [u8; LONGEST_IPV4], front: usize) -> usize
     put_octet(octet, room, front + 1)
 }
 
-/// Puts an octet in decimal digits behind the front of the room, and answers where it ends.
+/// Appends an octet in decimal digits to the front of the room, and answers where it ends.
 #[tactic(auto, using(crate::proofs::AddressTexts::ones))]
 fn put_octet(octet: u8, room: &mut [u8; LONGEST_IPV4], front: usize) -> usize
     requires { front ≤ 12 }
@@ -144,7 +144,7 @@ fn put_octet(octet: u8, room: &mut [u8; LONGEST_IPV4], front: usize) -> usize
     }
 }
 
-/// Puts a digit behind the front of the room, and answers where it ends.
+/// Appends a digit to the front of the room, and answers where it ends.
 fn put_digit(digit: u8, room: &mut [u8; LONGEST_IPV4], front: usize) -> usize
     requires digit { digit < 10 }
     requires within { front ≤ 14 }

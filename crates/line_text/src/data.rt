@@ -1,4 +1,4 @@
-//! The data of a record, read by their type and printed. What the data of a type are stands in a file of its family.
+//! The data of a record, read by their type and printed. What the data of a type are is in a file of its family.
 ghost use Rattle.std.specs.Prelude.{◌≡◌, Some, IfOk};
 ghost use Rattle.line_text.specs.Data.{data_text, next_data};
 ghost use Rattle.line_text.specs.Errors.{OnBadText};
@@ -29,8 +29,8 @@ use zone_proto::{RData, RecordType};
 /// standard, and those of a type that `RData` has no case for as one word of hex. Words that follow the data stay.
 ///
 /// # Errors
-/// `BadText` where the words aren't that, and for DNSKEY, NSEC, NSEC3, NSEC3PARAM and RRSIG, whose data aren't read;
-/// `Memory` where none is found. After a refusal the words are of no more use.
+/// `BadText` where the words aren't that, and for DNSKEY, NSEC, NSEC3, NSEC3PARAM and RRSIG, whose data aren't read.
+/// Its only error is `Memory`. After a refusal the words are of no more use.
 #[tactic(auto, using(crate::proofs::ReadingFacts::reading))]
 pub fn read_data(
     alloc: Global,

@@ -7,8 +7,8 @@ use crate::numbers::read_digit;
 use std::alloc::{AllocError, Global};
 use std::fmt;
 
-/// Reads the octets that a word of hex writes: two digits each, in either case, and `-` for none.
-/// Gives None where the word isn't hex.
+/// Reads the octets that a word of hex writes: two digits each, in either case, and `-` for none. Gives None if the
+/// word isn't hex.
 pub fn read_hex(alloc: Global, word: &[u8]) -> Result<Option<Vec<u8>>, AllocError>
     ensures { IfOk result (λ octets. option_map (λ o. o.items) octets ≡ hex_word word.now) }
 {

@@ -11,19 +11,19 @@ ghost use Rattle.line_text.specs.Reading.{name_of_word};
 ghost use Rattle.line_text.specs.Data.{data_text, next_data, IsReadableData};
 ghost use Rattle.line_text.specs.Records.{next_record, record_text, without_class, IsReadable};
 
-/// A word is read as a name exactly if it is of that name's text form (RFC 1035 section 5.1).
+/// A word is read as a name exactly if it has that name's text form (RFC 1035 section 5.1).
 pub fn names_are_read_by_their_form()
     ensures { (w : List ℕ) (n : Name) → (name_of_word w ≡ Some n) ↔ (IsNameText w n × IsName n) }
 {}
 
-/// What is printed of data is read as these data, the case of their names too, if they are of a form that is read.
+/// What is printed of data is read as these data, including the case of their names, if they have a form that is read.
 pub fn printed_data_are_read()
     ensures { (d : RData) → IsReadableData d
         → next_data (type_of d) (words (data_text d)) ≡ Some (d, []) }
 {}
 
-/// What is printed of a record of class IN is read as that record, its TTL and the case of its names too, if its data are
-/// of a form that is read. The word of the class is printed and not read.
+/// What is printed of a record of class IN is read as that record, including its TTL and the case of its names, if its data
+/// have a form that is read. The word of the class is printed and not read.
 pub fn printed_records_are_read()
     ensures { (r : Record) → IsReadable r
         → next_record (without_class (words (record_text r))) ≡ Some (r, []) }

@@ -1,4 +1,4 @@
-//! Records as text: the words of a line, what they are read as (numbers, octets in hex, addresses, names, types, data,
+//! Records as text: the words of a line, what is read from them (numbers, octets in hex, addresses, names, types, data,
 //! records), and how records are printed.
 //!
 //! A line is a list of octets, its words are separated by spaces and tabs, and a reader takes the words that it needs. Words

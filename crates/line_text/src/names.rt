@@ -9,8 +9,8 @@ use std::alloc::Global;
 use std::str;
 use zone_proto::{LowerName, Name, RecordType, RrKey};
 
-/// Reads the next word as a name in its text form (RFC 1035 section 5.1). `BadText` where there is no further word or it
-/// is none, `Memory` where none is found. After a refusal the words are of no more use.
+/// Reads the next word as a name in its text form (RFC 1035 section 5.1). `BadText` where there is no further word or
+/// it is none. Its only error is `Memory`. After a refusal the words are of no more use.
 #[tactic(auto, using(crate::proofs::ReadingFacts::reading))]
 pub fn read_name(alloc: Global, words: &mut Words<'_>) -> Result<Name, TextError>
     ensures ok { IfOk result (λ n. next_name words.old ≡ Some (n, words.new)) }
@@ -26,8 +26,8 @@ pub fn read_name(alloc: Global, words: &mut Words<'_>) -> Result<Name, TextError
     }
 }
 
-/// Reads the next word as a type, by its name or as `TYPE` and its number (RFC 3597 section 5). `BadText` where there is no
-/// further word or it is neither. Takes no memory. After a refusal the words are of no more use.
+/// Reads the next word as a type, by its name or as `TYPE` and its number (RFC 3597 section 5). `BadText` where there
+/// is no further word or it is neither. Doesn't allocate. After a refusal the words are of no more use.
 #[tactic(auto, using(crate::proofs::ReadingFacts::reading))]
 pub fn read_type(words: &mut Words<'_>) -> Result<RecordType, TextError>
     ensures ok { IfOk result (λ t. next_type words.old ≡ Some (t, words.new)) }

@@ -45,7 +45,7 @@ pub(crate) fn read_digit(octet: u8, base: u32) -> Option<u32>
 }
 
 /// Reads a number from 0 to 255 in decimal digits: one or more of them, leading zeros in any count, and no sign. None
-/// where the word isn't that. Takes no memory.
+/// if the word isn't that. Doesn't allocate.
 pub fn read_u8(word: &[u8]) -> Option<u8>
     ensures { result ≡ number_within 10 255 word.now }
 {

@@ -2,7 +2,7 @@
 ghost use Rattle.std.specs.Prelude.{◌≡◌, ◌∷◌};
 ghost use Rattle.line_text.specs.Parts.{parts, parts_left};
 
-/// The part of a text before the first separator, and what stands after that, or None where there is no separator.
+/// The part of a text before the first separator, and what follows that, or None if there is no separator.
 pub(crate) fn part_before(text: &[u8], separator: u8) -> (&[u8], Option<&[u8]>)
     ensures { parts separator text.now ≡ result.0.now ∷ parts_left separator result.1 }
 {

@@ -11,9 +11,9 @@ use std::alloc::Global;
 use std::fmt;
 use zone_proto::{DNSClass, Record, RecordType};
 
-/// Reads the words that are left of a line as a record of class IN: its owner, its TTL in seconds, its type and its data.
-/// `BadText` where they aren't that, `Memory` where none is found. Words that follow the data stay. After a refusal the
-/// words are of no more use.
+/// Reads the words that are left of a line as a record of class IN: its owner, its TTL in seconds, its type and its
+/// data. `BadText` where they aren't that. Its only error is `Memory`. Words that follow the data stay. After a refusal
+/// the words are of no more use.
 #[tactic(auto, using(crate::proofs::ReadingFacts::reading))]
 pub fn read_record(alloc: Global, words: &mut Words<'_>) -> Result<Record, TextError>
     ensures ok { IfOk result (λ r. next_record words.old ≡ Some (r, words.new)) }

@@ -46,7 +46,7 @@ impl<'l> Words<'l> {
         Some(word)
     }
 
-    /// Takes the next word of a line that must have one. `BadText` where there is none.
+    /// Takes the next word of a line that must have one. `BadText` if there is none.
     pub fn take_needed(&mut self) -> Result<&'l [u8], TextError>
         ensures ok { IfOk result (λ word. self.old ≡ word.now ∷ self.new) }
         ensures err { IfErr result (λ e. (e ≡ TextError.BadText) × (self.old ≡ [])) }
@@ -55,7 +55,7 @@ impl<'l> Words<'l> {
     }
 
     /// Takes the next word as a number, as [`read_u16`] reads it. `BadText` where there is no further word or it isn't
-    /// that. Takes no memory.
+    /// that. Doesn't allocate.
     #[tactic(auto, using(crate::proofs::ReadingFacts::reading))]
     pub fn take_u16(&mut self) -> Result<u16, TextError>
         ensures ok { IfOk result (λ n. next_u16 self.old ≡ Some (n, self.new)) }
@@ -96,8 +96,8 @@ impl<'l> Words<'l> {
         read_timer(word).ok_or(TextError::BadText)
     }
 
-    /// Takes a word that may be left out, and tells whether it was there: a line without it is at its end. `BadText` where
-    /// another word is in its place.
+    /// Takes a word that may be left out, and says whether it was there: a line without it is at its end. `BadText`
+    /// where another word is in its place.
     pub fn take_flag(&mut self, flag: &[u8]) -> Result<bool, TextError>
         ensures ok { IfOk result (λ given. next_flag flag.now self.old ≡ Some (given, self.new)) }
         ensures err { IfErr result
@@ -122,7 +122,7 @@ impl<'l> Words<'l> {
     }
 }
 
-/// How many octets of a text stand before its first that is no blank.
+/// How many octets of a text come before its first that is no blank.
 #[tactic(auto, using(crate::proofs::WordFacts::place))]
 fn blank_count(text: &[u8]) -> usize
     ensures { result ≡ position_or_len (λ octet. not (is_blank octet)) text.now }
@@ -132,7 +132,7 @@ fn blank_count(text: &[u8]) -> usize
         .unwrap_or(text.len())
 }
 
-/// How many octets of a text stand before its first blank.
+/// How many octets of a text come before its first blank.
 #[tactic(auto, using(crate::proofs::WordFacts::place))]
 fn word_length(text: &[u8]) -> usize
     ensures { result ≡ position_or_len is_blank text.now }

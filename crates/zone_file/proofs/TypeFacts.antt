@@ -15,11 +15,11 @@ use Rattle.zone_proto.specs.declared.record_type.RecordType.{RecordType}
 use Rattle.zone_proto.proofs.Members.{In, In-Contains, Contains-In}
 use Rattle.zone_proto.proofs.Ordering.Orders.{IsOrder, Side, before, same, after, side, irrefl, asym, number_order}
 use Rattle.zone_scanner.specs.Entries.{WordText}
-use Rattle.zone_file.specs.declared.fault.Reason.TheVariants as reason
-use Rattle.zone_file.specs.declared.fault.Fault.{Fault}
+use Rattle.record_fields.specs.declared.fault.Reason.TheVariants as reason
+use Rattle.record_fields.specs.declared.fault.Fault.{Fault}
 use Rattle.zone_file.specs.Denials.{ascending, types_named, with_type}
-use Rattle.zone_file.specs.Fields.{record_type_named}
-use Rattle.zone_file.specs.Readings.{fault, or_else_fault, ◌>>=◌}
+use Rattle.record_fields.specs.Fields.{record_type_named}
+use Rattle.record_fields.specs.Readings.{fault, or_else_fault, ◌>>=◌}
 
 -- the order of types is that of their numbers
 abbrev pub type_cmp : RecordType → RecordType → Ordering

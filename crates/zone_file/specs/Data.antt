@@ -1,5 +1,5 @@
 -- The data of records, by their types
-use Rattle.std.specs.Prelude.{◌≡◌, ℕ, ℤ, ◌==◌, ◌+◌, List, [], Bool, true, false, Option, Some, None, Result, Ok, Err, length, refl, if◌then◌else◌}
+use Rattle.std.specs.Prelude.{◌≡◌, ℕ, ◌==◌, ◌+◌, List, [], Bool, true, false, Option, Some, None, Result, Ok, Err, length, refl, if◌then◌else◌}
 use Rattle.zone_proto.specs.declared.rdata.start_of_authority.SOA.{SOA as SoaData}
 use Rattle.zone_proto.specs.declared.rdata.mail_exchange.MX.{MX as MxData}
 use Rattle.zone_proto.specs.declared.rdata.service.SRV.{SRV as SrvData}
@@ -8,57 +8,22 @@ use Rattle.zone_proto.specs.declared.rdata.RData.TheVariants as V
 use Rattle.zone_proto.specs.Names.{Name}
 use Rattle.zone_proto.specs.Types as types
 use Rattle.zone_proto.specs.Types.{has_own_case}
-use Rattle.message_reading.specs.DataForms.{plain_data_of}
+use Rattle.message_reading.specs.DataForms.{plain_data_of, signed}
 use Rattle.zone_tokens.specs.Addresses.{ipv4_of_word, ipv6_of_word}
-use Rattle.zone_tokens.specs.Ttls.{timer_of_word}
-use Rattle.zone_file.specs.declared.fault.Reason.TheVariants as reason
-use Rattle.zone_file.specs.Readings.{fault, ◌>>=◌}
+use Rattle.record_fields.specs.declared.fault.Reason.TheVariants as reason
+use Rattle.record_fields.specs.Readings.{fault, ◌>>=◌}
 use Rattle.zone_file.specs.Denials.{next_nsec, next_nsec3, next_nsec3param}
-use Rattle.zone_file.specs.Fields.{Left, Reading, next, next_name, next_u16, next_u32, next_ttl, or_fault}
-use Rattle.zone_file.specs.Keys.{next_dnskey, next_ds, next_key_octets, next_rrsig}
-use Rattle.zone_file.specs.Services.{next_caa, next_hinfo, next_name_octets, next_naptr, next_sshfp, next_tlsa}
-use Rattle.zone_file.specs.Texts.{is_generic, next_generic, next_strings}
-
--- types that zone_proto has no word for, by their numbers
-abbrev pub PTR : ℕ
-PTR = 12
-
-abbrev pub HINFO : ℕ
-HINFO = 13
-
-abbrev pub NAPTR : ℕ
-NAPTR = 35
-
-abbrev pub DNAME : ℕ
-DNAME = 39
-
-abbrev pub SSHFP : ℕ
-SSHFP = 44
-
-abbrev pub TLSA : ℕ
-TLSA = 52
-
-abbrev pub CDS : ℕ
-CDS = 59
-
-abbrev pub CDNSKEY : ℕ
-CDNSKEY = 60
-
-abbrev pub SPF : ℕ
-SPF = 99
-
-abbrev pub CAA : ℕ
-CAA = 257
+use Rattle.record_fields.specs.Fields.{Left, Reading, next, next_name, next_timer, next_u16, next_u32, or_fault}
+use Rattle.zone_file.specs.Keys.{next_dnskey, next_rrsig}
+use Rattle.record_fields.specs.declared.table.Row.{Row}
+use Rattle.record_fields.specs.Rows.{next_row, row_of}
+use Rattle.record_fields.specs.Texts.{is_generic, next_generic}
 
 -- what was read as this
 abbrev pub read_as : {X Y : Type 0} → (X → Y) → Reading X → Reading Y
 read_as f r = r >>= λ x. Ok (f x.0, x.1)
 
--- the seconds of a timer, which are written as a TTL is
-abbrev pub next_timer : Left → Reading ℤ
-next_timer = next timer_of_word reason.Ttl
-
--- SOA: the parts of RFC 1035 section 3.3.13, in its order
+-- SOA: the parts of RFC 1035 section 3.3.13, in its order; timers have 32 bits, and are kept as numbers with a sign
 unfoldable pub next_soa : Name → Left → Reading SoaData
 next_soa origin l = do
   mname ← next_name origin l
@@ -67,8 +32,19 @@ next_soa origin l = do
   refresh ← next_timer serial.1
   retry ← next_timer refresh.1
   expire ← next_timer retry.1
-  minimum ← next_ttl expire.1
-  Ok (record { mname = mname.0; rname = rname.0; serial = serial.0; refresh = refresh.0; retry = retry.0; expire = expire.0; minimum = minimum.0 }, minimum.1)
+  minimum ← next_timer expire.1
+  Ok (
+    record {
+      mname = mname.0;
+      rname = rname.0;
+      serial = serial.0;
+      refresh = signed refresh.0;
+      retry = signed retry.0;
+      expire = signed expire.0;
+      minimum = minimum.0;
+    },
+    minimum.1,
+  )
 
 -- MX: RFC 1035 section 3.3.9
 unfoldable pub next_mx : Name → Left → Reading MxData
@@ -101,23 +77,13 @@ other_data t os = other_unless_own t os (has_own_case t) refl
 abbrev pub next_other : ℕ → Reading (List ℕ) → Reading RData
 next_other t r = r >>= λ os. or_fault (other_data t os.0) reason.Type os.1
 
--- The octets of data of the types without a case of their own, each in the form of the type. SPF is written as TXT is (RFC
--- 4408 section 3.1.1).
+-- the octets of data of a type without a case of its own, by the row that it has in the table
+abbrev pub by_row : Name → Left → Option Row → Reading (List ℕ)
+by_row origin l None = Err (fault l.place reason.OnlyGeneric)
+by_row origin l (Some r) = next_row origin r l
+
 abbrev pub next_own_octets : Name → ℕ → Left → Reading (List ℕ)
-next_own_octets origin t l =
-    if t == types.TXT then next_strings l
-    else (if t == types.DS then next_ds l
-    else (if t == PTR then next_name_octets origin l
-    else (if t == HINFO then next_hinfo l
-    else (if t == NAPTR then next_naptr origin l
-    else (if t == DNAME then next_name_octets origin l
-    else (if t == SSHFP then next_sshfp l
-    else (if t == TLSA then next_tlsa l
-    else (if t == CDS then next_ds l
-    else (if t == CDNSKEY then next_key_octets l
-    else (if t == SPF then next_strings l
-    else (if t == CAA then next_caa l
-    else Err (fault l.place reason.OnlyGeneric))))))))))))
+next_own_octets origin t l = by_row origin l (row_of t)
 
 -- the data of a type in its own form
 abbrev pub next_own : Name → ℕ → Left → Reading RData

@@ -12,10 +12,10 @@ use Rattle.line_text.specs.Numbers.{number_within}
 use Rattle.zone_scanner.specs.declared.place.Place.{Place}
 use Rattle.zone_scanner.specs.Entries.{WordText}
 use Rattle.zone_tokens.specs.Base32.{base32_octets}
-use Rattle.zone_file.specs.declared.fault.Reason.TheVariants as reason
-use Rattle.zone_file.specs.declared.fault.Fault.{Fault}
-use Rattle.zone_file.specs.Readings.{fault, or_else_fault, ◌>>=◌}
-use Rattle.zone_file.specs.Fields.{Left, Reading, left_at, next, next_name, next_u8, next_u16, record_type_named}
+use Rattle.record_fields.specs.declared.fault.Reason.TheVariants as reason
+use Rattle.record_fields.specs.declared.fault.Fault.{Fault}
+use Rattle.record_fields.specs.Readings.{fault, or_else_fault, ◌>>=◌}
+use Rattle.record_fields.specs.Fields.{Left, Reading, left_at, next, next_name, next_u8, next_u16, record_type_named}
 
 -- the types that words name, in their order
 abbrev pub types_named : List WordText → Result (List RecordType) Fault

@@ -1,12 +1,12 @@
--- A fault of an entry, with the word that stands at its place
+-- A fault of an entry, with the word that is at its place
 use Rattle.std.specs.Prelude.{◌≡◌, ℕ, ◌==◌, ◌&&◌, List, [], ◌∷◌, Bool, Option, Some, None, Result, Ok, Err, if◌then◌else◌}
 use Rattle.zone_scanner.specs.declared.place.Place.{Place}
 use Rattle.zone_scanner.specs.declared.fault.EntryFault.{EntryFault}
 use Rattle.zone_scanner.specs.declared.fault.EntryError.{EntryError}
 use Rattle.zone_scanner.specs.declared.fault.EntryError.TheVariants as entries
 use Rattle.zone_scanner.specs.Entries.{WordText}
-use Rattle.zone_file.specs.declared.fault.Reason.TheVariants as reason
-use Rattle.zone_file.specs.declared.fault.Fault.{Fault}
+use Rattle.record_fields.specs.declared.fault.Reason.TheVariants as reason
+use Rattle.record_fields.specs.declared.fault.Fault.{Fault}
 use Rattle.zone_file.specs.declared.error.ZoneFault.{ZoneFault}
 use Rattle.zone_file.specs.declared.error.ZoneError.{ZoneError}
 use Rattle.zone_file.specs.declared.error.ZoneError.TheVariants as errors
@@ -29,7 +29,7 @@ abbrev pub with_word : {X : Type 0} → List WordText → Result X Fault → Res
 with_word ws (Ok x) = Ok x
 with_word ws (Err f) = Err (at_word ws f)
 
--- a text that can't be cut into entries is no zone file for that reason; no word stands there
+-- a text that can't be cut into entries is no zone file for that reason; no word is there
 abbrev pub as_fault : EntryFault → ZoneFault
 as_fault f = record { place = f.place; reason = reason.Entry f.reason; word = None }
 

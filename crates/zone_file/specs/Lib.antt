@@ -1,8 +1,4 @@
-pub mod Readings
-pub mod Fields
-pub mod Texts
 pub mod Keys
-pub mod Services
 pub mod Denials
 pub mod Data
 pub mod Faults

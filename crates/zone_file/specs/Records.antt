@@ -1,4 +1,4 @@
--- The records of a master file (RFC 1035 section 5.1, RFC 2308 section 4)
+-- The records of a zone file (RFC 1035 section 5.1, RFC 2308 section 4)
 use Rattle.std.specs.Prelude.{ℕ, ◌==◌, ◌||◌, List, [], ◌∷◌, Bool, true, false, Option, Some, None, Result, Ok, Err, codes, nat_lt, if◌then◌else◌}
 use Rattle.zone_proto.specs.declared.record.Record.{Record}
 use Rattle.zone_proto.specs.declared.dns_class.DNSClass.{DNSClass}
@@ -13,13 +13,13 @@ use Rattle.zone_scanner.specs.declared.place.Place.{Place}
 use Rattle.zone_scanner.specs.Entries.{EntryWords, WordText}
 use Rattle.zone_tokens.specs.Ttls.{longest, ttl_of_word}
 use Rattle.zone_tokens.specs.Types.{class_named, upper}
-use Rattle.zone_file.specs.declared.fault.Reason.TheVariants as reason
-use Rattle.zone_file.specs.declared.fault.Fault.{Fault}
+use Rattle.record_fields.specs.declared.fault.Reason.TheVariants as reason
+use Rattle.record_fields.specs.declared.fault.Fault.{Fault}
 use Rattle.zone_file.specs.declared.context.Context.{Context}
 use Rattle.zone_file.specs.declared.placed.PlacedRecord.{PlacedRecord}
 use Rattle.zone_file.specs.declared.error.ZoneFault.{ZoneFault}
-use Rattle.zone_file.specs.Readings.{fault, or_else_fault, ◌>>=◌}
-use Rattle.zone_file.specs.Fields.{Left, Reading, left_at, next_any_word, next_name, next_type, next_ttl}
+use Rattle.record_fields.specs.Readings.{fault, or_else_fault, ◌>>=◌}
+use Rattle.record_fields.specs.Fields.{Left, Reading, if_none_left, left_at, next_any_word, next_name, next_type, next_ttl}
 use Rattle.zone_file.specs.Faults.{with_word}
 use Rattle.zone_file.specs.Data.{next_data, data_size}
 
@@ -28,7 +28,7 @@ abbrev pub next_owner : Context → Bool → Place → Left → Reading Name
 next_owner c true p l = or_else_fault c.owner (fault p reason.NoOwner) >>= λ n. Ok (n, l)
 next_owner c false p l = next_name c.origin l
 
--- TTL. A word without quotes that begins with a digit stands in the place of one, and no other word does.
+-- TTL. A word without quotes that begins with a digit stands in place of one, and no other word does.
 abbrev pub begins_with_digit : List ℕ → Bool
 begins_with_digit [] = false
 begins_with_digit (b ∷ s) = is_digit b
@@ -93,11 +93,6 @@ ttl_for c given d = or_else given (or_else (original_ttl_of d) (or_else c.ttl (l
 abbrev pub bounded_ttl : Option ℕ → Place → Result ℕ Fault
 bounded_ttl None p = Err (fault p reason.NoTtl)
 bounded_ttl (Some t) p = if nat_lt longest t then Err (fault p reason.LongTtl) else Ok t
-
--- what was read, if no words are left
-abbrev pub if_none_left : {X : Type 0} → X → List WordText → Result X Fault
-if_none_left x [] = Ok x
-if_none_left x (w ∷ ws) = Err (fault w.place reason.Surplus)
 
 -- data that aren't longer than a record can have
 abbrev pub if_short : RData → Place → Result RData Fault

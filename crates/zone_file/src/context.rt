@@ -5,7 +5,7 @@ use zone_proto::Name;
 /// What an entry takes from the entries before it.
 #[derive(Debug, Drop)]
 pub struct Context {
-    /// The origin, which stands behind names that aren't absolute.
+    /// The origin, which comes after names that aren't absolute.
     pub origin: Name,
     /// The owner of the record before.
     pub owner: Option<Name>,

@@ -1,23 +1,20 @@
 //! The data of a type.
 ghost use Rattle.std.specs.Prelude.{◌≡◌, ◌+◌, ◌<◌, Ok, Some, None, true, false, nat_lt, length, IfOk};
 ghost use Rattle.message_reading.specs.DataForms.{plain_data_of};
-ghost use Rattle.zone_file.specs.declared.fault.Reason.TheVariants as reason;
+ghost use Rattle.record_fields.specs.declared.fault.Reason.TheVariants as reason;
 ghost use Rattle.zone_proto.specs.Data.{same_octets};
-ghost use Rattle.zone_file.specs.Readings.{Gives};
-ghost use Rattle.zone_file.specs.Fields.{Left, or_fault};
-ghost use Rattle.zone_file.specs.Data.{data_size, next_data, next_data_octets, next_mx, next_own, next_own_octets, next_soa, next_srv, other_data};
-ghost use Rattle.zone_file.specs.Texts.{generic, is_generic};
+ghost use Rattle.record_fields.specs.Readings.{Gives};
+ghost use Rattle.record_fields.specs.Fields.{Left, or_fault};
+ghost use Rattle.zone_file.specs.Data.{data_size, next_data, next_data_octets, next_mx, next_other, next_own, next_own_octets, next_soa, next_srv, other_data};
+ghost use Rattle.record_fields.specs.Texts.{generic, is_generic};
 
 use crate::denials::{take_nsec, take_nsec3, take_nsec3param};
-use crate::fault::{ReadError, Reason};
-use crate::fields::{take_ipv4, take_ipv6, take_timer, take_ttl, take_u16, take_u32};
-use crate::keys::{take_dnskey, take_ds, take_key_octets, take_rrsig};
-use crate::names::{take_name, take_name_octets};
-use crate::services::{take_caa, take_hinfo, take_naptr, take_sshfp, take_tlsa};
-use crate::texts::{take_generic, take_strings};
-use crate::types;
-use crate::words::Words;
+use crate::keys::{take_dnskey, take_rrsig};
 use message_reading::plain_data_of;
+use record_fields::{
+    ReadError, Reason, Words, row_of, take_generic, take_ipv4, take_ipv6, take_name, take_row,
+    take_timer, take_u16, take_u32,
+};
 use std::alloc::{AllocError, Global};
 use zone_proto::{MX, Name, OtherData, RData, RecordType, SOA, SRV};
 use zone_scanner::Word;
@@ -100,14 +97,25 @@ fn take_own(
         RecordType::NSEC => Ok(RData::NSEC(take_nsec(alloc, origin, words)?)),
         RecordType::NSEC3 => Ok(RData::NSEC3(take_nsec3(alloc, words)?)),
         RecordType::NSEC3PARAM => Ok(RData::NSEC3PARAM(take_nsec3param(alloc, words)?)),
-        _ => {
-            let octets = take_own_octets(alloc, origin, record_type, words)?;
-            Ok(take_other(words, record_type, octets)?)
-        }
+        _ => Ok(take_by_row(alloc, origin, record_type, words)?),
     }
 }
 
-/// Takes the octets of data of a type without a case of its own, in the form of the type.
+/// Takes the data of a type without a case of its own, by the row that it has in the table.
+fn take_by_row(
+    alloc: Global,
+    origin: &Name,
+    record_type: RecordType,
+    words: &mut Words<'_>,
+) -> Result<RData, ReadError>
+    ensures { Gives (λ d. (d, words.new)) result
+        (next_other record_type.0 (next_own_octets origin.now record_type.0 words.old)) }
+{
+    let octets = take_own_octets(alloc, origin, record_type, words)?;
+    take_other(words, record_type, octets)
+}
+
+/// The octets of such data.
 fn take_own_octets(
     alloc: Global,
     origin: &Name,
@@ -117,20 +125,9 @@ fn take_own_octets(
     ensures { Gives (λ os. (os.items, words.new)) result
         (next_own_octets origin.now record_type.0 words.old) }
 {
-    match record_type {
-        RecordType::TXT => Ok(take_strings(alloc, words)?),
-        RecordType::DS => Ok(take_ds(alloc, words)?),
-        types::PTR => Ok(take_name_octets(alloc, origin, words)?),
-        types::HINFO => Ok(take_hinfo(alloc, words)?),
-        types::NAPTR => Ok(take_naptr(alloc, origin, words)?),
-        types::DNAME => Ok(take_name_octets(alloc, origin, words)?),
-        types::SSHFP => Ok(take_sshfp(alloc, words)?),
-        types::TLSA => Ok(take_tlsa(alloc, words)?),
-        types::CDS => Ok(take_ds(alloc, words)?),
-        types::CDNSKEY => Ok(take_key_octets(alloc, words)?),
-        types::SPF => Ok(take_strings(alloc, words)?),
-        types::CAA => Ok(take_caa(alloc, words)?),
-        _ => Err(words.fault(Reason::OnlyGeneric)),
+    match row_of(record_type.0) {
+        Some(row) => take_row(alloc, origin, row, words),
+        None => Err(words.fault(Reason::OnlyGeneric)),
     }
 }
 
@@ -143,10 +140,10 @@ fn take_soa(alloc: Global, origin: &Name, words: &mut Words<'_>) -> Result<SOA, 
         mname: take_name(alloc, origin, words)?,
         rname: take_name(alloc, origin, words)?,
         serial: take_u32(words)?,
-        refresh: take_timer(words)?,
-        retry: take_timer(words)?,
-        expire: take_timer(words)?,
-        minimum: take_ttl(words)?,
+        refresh: take_timer(words)?.cast_signed(),
+        retry: take_timer(words)?.cast_signed(),
+        expire: take_timer(words)?.cast_signed(),
+        minimum: take_timer(words)?,
     })
 }
 

@@ -1,14 +1,13 @@
 //! Denials: NSEC, NSEC3 and NSEC3PARAM.
 ghost use Rattle.std.specs.Prelude.{◌≡◌, IfOk, option_map};
-ghost use Rattle.zone_file.specs.Readings.{Gives};
-ghost use Rattle.zone_file.specs.Fields.{Left};
+ghost use Rattle.record_fields.specs.Readings.{Gives};
+ghost use Rattle.record_fields.specs.Fields.{Left};
 ghost use Rattle.zone_file.specs.Denials.{ascending, hash_of_word, if_countable, if_hash, next_hash, next_nsec, next_nsec3, next_nsec3param, next_opt_out, next_salt, next_some_types, next_types, opt_out_of_word, salt_of_word, types_named};
 
-use crate::fault::{Fault, ReadError, Reason};
-use crate::fields::{read_record_type, take_u8, take_u16};
-use crate::names::take_name;
-use crate::words::Words;
 use line_text::read_u8;
+use record_fields::{
+    Fault, ReadError, Reason, Words, read_record_type, take_name, take_u8, take_u16,
+};
 use std::alloc::{AllocError, Global};
 use zone_proto::{NSEC, NSEC3, NSEC3PARAM, Name, RecordType, Seq};
 use zone_scanner::Word;

@@ -1,7 +1,7 @@
 //! Why a zone file isn't read, as those who read one are told.
 ghost use Rattle.std.specs.Prelude.{◌≡◌};
 
-use crate::fault::Reason;
+use record_fields::Reason;
 use std::alloc::{AllocError, AllocFailed};
 use std::io::ErrorKind;
 use zone_proto::Seq;
@@ -14,7 +14,7 @@ pub struct ZoneFault {
     pub place: Place,
     /// What is wrong.
     pub reason: Reason,
-    /// The octets of the word that begins there, as they stand in the text, without its quotes; none where the text can't be
+    /// The octets of the word that begins there, as they are in the text, without its quotes; none if the text can't be
     /// cut into words.
     pub word: Option<Seq<u8>>,
 }

@@ -1,14 +1,14 @@
 //! Faults as lines of text.
 
 use crate::error::ZoneFault;
-use crate::fault::Reason;
+use record_fields::Reason;
 use std::fmt;
 
 /// How many octets of a word are shown at most.
 const SHOWN: usize = 40;
 
-/// A fault as a line of text: the name of the file, line and column, what is wrong there, and the word that stands there if that
-/// helps, as `example.zone:12:23: A takes four numbers with dots, not 'www'`.
+/// A fault as a line of text: the name of the file, line and column, what is wrong there, and the word that is there if
+/// that helps, as `example.zone:12:23: an IPv4 address takes four numbers with dots, not 'www'`.
 #[derive(Drop)]
 pub struct FaultText<'f> {
     pub file: &'f str,
@@ -22,7 +22,7 @@ impl fmt::Display for FaultText<'_> {
         write!(f, "{}:{}:{}: ", self.file, place.line, place.column)?;
         write!(f, "{}", fault.reason)?;
         match &fault.word {
-            Some(word) => write!(f, "{}", ToldWord(fault.reason, word.as_slice())),
+            Some(word) => write!(f, "{}", QuotedWord(fault.reason, word.as_slice())),
             None => Ok(()),
         }
     }
@@ -30,9 +30,9 @@ impl fmt::Display for FaultText<'_> {
 
 /// A word as it is told behind a reason.
 #[derive(Drop)]
-struct ToldWord<'w>(Reason, &'w [u8]);
+struct QuotedWord<'w>(Reason, &'w [u8]);
 
-impl fmt::Display for ToldWord<'_> {
+impl fmt::Display for QuotedWord<'_> {
     fn fmt<W: fmt::Write>(&self, f: &mut fmt::Formatter<W>) -> fmt::Result {
         match lead_of(self.0) {
             Some(lead) => write!(f, "{lead}'{}'", ShownWord(self.1)),
@@ -41,7 +41,7 @@ impl fmt::Display for ToldWord<'_> {
     }
 }
 
-/// What stands between a reason and its word. None where the word isn't what is wrong.
+/// What stands between a reason and its word. None if the word isn't what is wrong.
 fn lead_of(reason: Reason) -> Option<&'static str> {
     match reason {
         Reason::Missing => Some(" behind "),
@@ -60,7 +60,7 @@ fn lead_of(reason: Reason) -> Option<&'static str> {
     }
 }
 
-/// A word as it stands in the text, octets that aren't printed by their numbers; of a long one its beginning.
+/// A word as it is in the text, octets that aren't printed by their numbers; of a long one its beginning.
 #[derive(Drop)]
 struct ShownWord<'w>(&'w [u8]);
 

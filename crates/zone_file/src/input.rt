@@ -17,13 +17,13 @@ use zone_proto::Name;
 /// How many octets are read at once.
 const CHUNK: usize = 16_384;
 
-/// Reads the records of a zone file of this origin from an input, up to its end, in the order of its entries. It makes no
-/// difference how many octets a read gives. Of the text no more is kept than what was read at once and the entry in hand, which
-/// has at most 1,048,576 octets; a read that a signal interrupted is made again.
+/// Reads the records of a zone file with this origin from an input, up to its end, in the order of its entries. It makes no
+/// difference how many octets a read returns. No more of the text is kept than what was read at once and the current entry,
+/// which has at most 1,048,576 octets; a read that a signal interrupted is repeated.
 ///
 /// # Errors
 ///
-/// The first fault of the text; `Input` where a read failed; `Memory` where none is found. Octets behind the fault may have been
+/// The first fault of the text; `Input` if a read failed; `Memory` if there isn't enough. Octets after the fault may have been
 /// read.
 pub fn read_zone<R: Read>(
     alloc: Global,

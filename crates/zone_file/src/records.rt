@@ -1,20 +1,17 @@
 //! An entry read as a record or a control entry.
 ghost use Rattle.std.specs.Prelude.{◌≡◌, Some, None, Ok, IfOk, codes};
 ghost use Rattle.zone_proto.specs.Data.{same_octets};
-ghost use Rattle.zone_file.specs.Readings.{Gives};
+ghost use Rattle.record_fields.specs.Readings.{Gives};
 ghost use Rattle.zone_file.specs.Faults.{Answers, at_word, with_word};
-ghost use Rattle.zone_file.specs.Fields.{Left, left_at, next_any_word};
+ghost use Rattle.record_fields.specs.Fields.{Left, left_at, next_any_word};
 ghost use Rattle.zone_file.specs.Records.{read_entry, read_words, read_record, read_control, next_owner, begins_with_digit, begins_with_dollar, is_ttl_word, ttl_and_class, ttl_if_there, class_if_there, class_of_word, if_short, bounded_ttl, last_stated, ttl_for, minimum_of, original_ttl_of, is_control};
 
 use crate::context::Context;
 use crate::data::{is_too_long, take_data};
 use crate::error::ZoneError;
-use crate::fault::{Fault, ReadError, Reason};
-use crate::fields::{take_ttl, take_type};
-use crate::names::take_name;
 use crate::placed::PlacedRecord;
-use crate::told::at_word;
-use crate::words::Words;
+use crate::quoted_word::at_word;
+use record_fields::{Fault, ReadError, Reason, Words, take_name, take_ttl, take_type};
 use std::alloc::{AllocError, Global};
 use zone_proto::{DNSClass, Name, RData, Record};
 use zone_scanner::{Entry, Place, Word};
@@ -28,7 +25,7 @@ const LONGEST_TTL: u32 = 2_147_483_647;
 ///
 /// # Errors
 ///
-/// The first fault of the entry; `Memory` where none is found. The context is of no use then.
+/// The first fault of the entry. Its only error is `Memory`. The context is of no use then.
 pub fn read_entry(
     alloc: Global,
     context: &mut Context,
@@ -203,7 +200,7 @@ fn take_ttl_and_class(alloc: Global, words: &mut Words<'_>) -> Result<Option<u32
     }
 }
 
-/// Takes a TTL, if a word stands in its place.
+/// Takes a TTL, if a word is in its place.
 fn take_ttl_if_there(words: &mut Words<'_>) -> Result<Option<u32>, ReadError>
     ensures { Gives (λ t. (t, words.new)) result (ttl_if_there words.old) }
 {
@@ -220,7 +217,7 @@ fn take_ttl_if_there(words: &mut Words<'_>) -> Result<Option<u32>, ReadError>
     }
 }
 
-/// Whether a word stands in the place of a TTL.
+/// Whether a word stands in place of a TTL.
 fn is_ttl_word(word: &Word) -> bool
     ensures { result ≡ is_ttl_word word.now }
 {
@@ -285,7 +282,7 @@ fn last_stated(context: &Context, given: Option<u32>, rdata: &RData) -> Option<u
     given.or(context.last_ttl).or(minimum_of(rdata))
 }
 
-/// The TTL of a record that begins at a place. A fault where there is none, or one of more than 31 bits.
+/// The TTL of a record that begins at a place. A fault if there is none, or one of more than 31 bits.
 fn bounded_ttl(ttl: Option<u32>, place: Place) -> Result<u32, ReadError>
     ensures { Gives (λ t. t) result (bounded_ttl ttl place) }
 {

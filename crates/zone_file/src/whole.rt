@@ -8,11 +8,11 @@ use crate::zone_reader::ZoneReader;
 use std::alloc::Global;
 use zone_proto::Name;
 
-/// Reads the records of the text of a zone file of this origin, in the order of its entries.
+/// Reads the records of the text of a zone file with this origin, in the order of its entries.
 ///
 /// # Errors
 ///
-/// The first fault of the text; `Memory` where none is found.
+/// The first fault of the text; `Memory` if there isn't enough.
 pub fn read_zone_text(
     alloc: Global,
     origin: Name,
@@ -29,7 +29,7 @@ pub fn read_zone_text(
     Ok(records)
 }
 
-/// Puts the records that end in a piece of the text behind others.
+/// Appends the records that end in a piece of the text to others.
 #[tactic(auto, using(crate::proofs::ZoneFacts::one_more, crate::proofs::ZoneFacts::stops))]
 pub(crate) fn take_records(
     alloc: Global,
@@ -70,7 +70,7 @@ pub(crate) fn take_last(
     Ok(())
 }
 
-/// Puts a record behind others, if there is one.
+/// Appends a record to others, if there is one.
 fn push(records: &mut Vec<PlacedRecord>, given: Option<PlacedRecord>) -> Result<(), ZoneError>
     ensures ok { OnOk result ((others : List Outcome) →
         map Read records.old.items ++ with_record given others

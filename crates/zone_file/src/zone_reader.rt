@@ -31,7 +31,7 @@ impl ZoneReader {
     ghost use Rattle.zone_file.specs.Faults.{as_fault};
     ghost use Rattle.zone_file.specs.Zones.{outcomes_from, zone_of, with_record, Stopped};
 
-    /// At the beginning of a zone file of this origin. Takes no memory.
+    /// At the beginning of a zone file of this origin. Doesn't allocate.
     #[tactic(auto, using(crate::proofs::ZoneFacts::same_outcomes))]
     pub fn new(alloc: Global, origin: Name) -> ZoneReader
         ensures { (text : List ℕ) → outcomes_from text result ≡ zone_of origin text }
@@ -52,8 +52,8 @@ impl ZoneReader {
     ///
     /// # Errors
     ///
-    /// The first fault of the text, if it stands in this piece before the end of an entry, or in that entry; `Memory` where none
-    /// is found. The reader is of no use then: nothing is said of what it makes of further pieces.
+    /// The first fault of the text, if it is in this piece before the end of an entry, or in that entry. Its only error
+    /// is `Memory`. The reader is of no use then: nothing is said of what it makes of further pieces.
     #[tactic(auto, using(crate::proofs::ZoneFacts::readings))]
     pub fn take_record(
         &mut self,
@@ -83,7 +83,7 @@ impl ZoneReader {
     ///
     /// # Errors
     ///
-    /// A fault of the last line, or where the text may not end here; `Memory` where none is found.
+    /// A fault of the last line, or where the text may not end here. Its only error is `Memory`.
     #[tactic(auto, using(crate::proofs::ZoneFacts::readings))]
     pub fn finish(self, alloc: Global) -> Result<Option<PlacedRecord>, ZoneError>
         ensures ok { IfOk result (λ r. outcomes_from [] self ≡ with_record r []) }

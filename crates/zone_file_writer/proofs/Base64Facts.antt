@@ -9,8 +9,11 @@ use Rattle.base64.specs.GeneralPurpose.{decoded_of, engine_symbols}
 use Rattle.base64.proofs.EngineFacts.{decode_of-encode_of}
 use Rattle.base64.proofs.Streams.{decoded_of-ok}
 use Rattle.line_text.proofs.PrintedWords.{and_both}
+use Rattle.zone_proto.specs.Data.{same_octets}
+use Rattle.record_fields.specs.Texts.{generic}
 use Rattle.zone_file_writer.specs.Others.{base64_text}
 use Rattle.zone_file_writer.proofs.Lines.{IsInWord, IsBareText}
+use Rattle.zone_file_writer.proofs.NamesBack.{not_generic}
 use Rattle.zone_file_writer.proofs.WordTexts.{IsHarmless, harmless, harmless_in_word, in_word_append, word_text}
 
 -- the 64 symbols
@@ -77,3 +80,21 @@ bytes (b ∷ m) h (suc i) = bytes m h.1 i
 
 pub base64_back : (m : List ℕ) → AllByRecursion (λ b. b < 256) m → decoded_of standard (base64_text m) ≡ Some m
 base64_back m h = decoded_of-ok standard (base64_text m) m (decode_of-encode_of standard m refl (bytes m h))
+
+-- the signs of padding behind the symbols of octets
+abbrev padding : List ℕ → List ℕ
+padding m = replicate (padding_len (length m)) 61
+
+-- it isn't `\#`
+pub base64_own : (a : ℕ) (m : List ℕ) → AllByRecursion (λ b. b < 256) (a ∷ m) → same_octets (base64_text (a ∷ m)) generic ≡ false
+unfolding encode_symbols
+base64_own a [] h =
+    not_generic (slice_index symbols (a / 4)) (slice_index symbols (a % 4 * 16) ∷ padding (a ∷ [])) (symbol (a / 4) (omega (arith, h.0))).backslash
+base64_own a (b ∷ []) h =
+    not_generic (slice_index symbols (a / 4)) (slice_index symbols (a % 4 * 16 + b / 16) ∷ slice_index symbols (b % 16 * 4) ∷ padding (a ∷ b ∷ []))
+    (symbol (a / 4) (omega (arith, h.0))).backslash
+base64_own a (b ∷ c ∷ m) h =
+    not_generic (slice_index symbols (a / 4))
+    (slice_index symbols (a % 4 * 16 + b / 16) ∷ slice_index symbols (b % 16 * 4 + c / 64) ∷ slice_index symbols (c % 64)
+    ∷ (encode_symbols symbols m ++ padding (a ∷ b ∷ c ∷ m)))
+    (symbol (a / 4) (omega (arith, h.0))).backslash

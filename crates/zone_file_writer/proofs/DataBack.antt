@@ -3,6 +3,7 @@ use Rattle.std.proofs.Common.{◌≡◌, ◌≢◌, ◌≤◌, ◌<◌, ℕ, ◌
 use Rattle.std.specs.Prelude.{nat_le, nat_lt, not, unwrap_or}
 use Rattle.std.specs.Fmt.{decimal}
 use Rattle.std.specs.Cmp.{nat_cmp_is}
+use Rattle.std.specs.Int.{w32, cast_unsigned}
 use Rattle.std.specs.List.{list_all, list_any, AllByRecursion}
 use Rattle.std.specs.Ordering.{match_ordering}
 use Rattle.std.proofs.lemmas.Bool.Decides.{leb_tells, nat_tests}
@@ -39,25 +40,28 @@ use Rattle.line_text.specs.Parts.{joined}
 use Rattle.line_text.proofs.PrintedWords.{and_both}
 use Rattle.line_text.proofs.RoundTrips.{decimal_read, hex_read}
 use Rattle.zone_scanner.specs.declared.place.Place.{Place}
-use Rattle.zone_file.specs.Fields.{Left, Reading, left_at, next_name}
+use Rattle.record_fields.specs.Fields.{Left, Reading, left_at, next_name}
 use Rattle.zone_file.specs.Denials.{next_nsec, next_nsec3, next_nsec3param, salt_of_word, ascending, some_types_at, types_at, types_named, with_type, opt_out_of_word}
 use Rattle.zone_file.specs.Data.{data_size, read_as, next_data, next_other, next_own, next_own_octets, next_soa, next_mx, next_srv}
 use Rattle.zone_file.proofs.DataFacts.{other_made}
 use Rattle.zone_file.specs.Keys.{next_dnskey, next_rrsig}
-use Rattle.zone_file.specs.Texts.{any_hex, generic, next_generic}
-use Rattle.zone_file_writer.specs.Others.{base64_text, hex_digits, octets_words, other_words}
+use Rattle.record_fields.specs.Texts.{any_hex, generic, next_generic}
+use Rattle.zone_file_writer.specs.Others.{base64_text, hex_digits, octets_words}
+use Rattle.zone_file_writer.specs.Rows.{other_words}
 use Rattle.zone_file_writer.specs.Words.{PrintedWord, Bare, further_words, type_word}
 use Rattle.zone_file_writer.specs.Printable.{AreTypesFrom, IsPrintableSoa, IsPrintableKey, IsPrintableSignature, IsPrintableDenial, IsPrintableHashed, IsPrintableParameters, IsPrintableOther, IsPrintableData}
 use Rattle.zone_file_writer.proofs.Lines.{words_from}
 use Rattle.zone_file_writer.proofs.WordTexts.{value_harmless}
 use Rattle.zone_file_writer.proofs.NamesBack.{first_is, first_of_name, name_there, not_generic}
 use Rattle.zone_file_writer.proofs.AddressesBack.{ipv4_back}
-use Rattle.zone_file_writer.proofs.NumbersBack.{u8_back, u16_back, u32_back, algorithm_back, ttl_back, timer_back, type_back, digits_back}
+use Rattle.zone_file_writer.proofs.NumbersBack.{u8_back, u16_back, u32_back, algorithm_back, signed_back, timer_back, type_back, unsigned_small, digits_back}
 use Rattle.zone_file_writer.proofs.DateFacts.{moment_back}
-use Rattle.zone_file_writer.proofs.OthersBack.{IsForm, own, any, behind, decimal_own, left, other_form}
+use Rattle.zone_file_writer.proofs.PlacedWords.{behind, last_from, left}
+use Rattle.zone_file_writer.proofs.OwnFirst.{decimal_own, first_own, digits_first, ipv4_own}
+use Rattle.zone_file_writer.proofs.RowsBack.{IsForm, own, any, other_form}
 use Rattle.zone_file_writer.proofs.Base32Back.{hash_back}
 use Rattle.zone_file_writer.proofs.Base64Facts.{base64_back}
-use Rattle.zone_file_writer.proofs.DataTexts.{last_from, none_left, type_texts, data_words}
+use Rattle.zone_file_writer.proofs.DataTexts.{none_left, type_texts, data_words}
 
 name_data : (make : Name → RData) (origin n : Name) (q p : Place) → IsName n
     → read_as make (next_name origin (left q p (Bare (name_text n) ∷ []))) ≡ Ok (make n, none_left q p (Bare (name_text n) ∷ []))
@@ -71,10 +75,13 @@ soa_read origin d q p h =
       name_there origin d.mname h.mname,
       name_there origin d.rname h.rname,
       u32_back d.serial h.serial,
-      timer_back d.refresh h.refresh,
-      timer_back d.retry h.retry,
-      timer_back d.expire h.expire,
-      ttl_back d.minimum h.minimum,
+      timer_back (cast_unsigned w32 d.refresh) (unsigned_small d.refresh h.refresh),
+      timer_back (cast_unsigned w32 d.retry) (unsigned_small d.retry h.retry),
+      timer_back (cast_unsigned w32 d.expire) (unsigned_small d.expire h.expire),
+      timer_back d.minimum h.minimum,
+      signed_back d.refresh h.refresh,
+      signed_back d.retry h.retry,
+      signed_back d.expire h.expire,
     )
     refl
 
@@ -203,21 +210,6 @@ pub record IsReadAs (d : RData) (r : Reading RData) : Type 0 where
 own_form : (origin : Name) (t : ℕ) (q p : Place) (w : List ℕ) (ws : List PrintedWord) → same_octets w generic ≡ false
     → next_data origin t (left q p (Bare w ∷ ws)) ≡ next_own origin t (left q p (Bare w ∷ ws))
 own_form origin t q p w ws h = rw h refl
-
-first_own : (s t : List ℕ) → 0 < length s → same_octets s generic ≡ false → first_is s 92 ≡ false → same_octets (s ++ t) generic ≡ false
-first_own [] t some h k = absurd (omega arith)
-first_own (b ∷ s) t some h k = not_generic b (s ++ t) k
-
-digits_first : (ds : List ℕ) → AllDigits 10 ds → first_is ds 92 ≡ false
-digits_first [] h = refl
-digits_first (c ∷ cs) h = (value_harmless c h.0).backslash
-
-ipv4_own : (bs : List ℕ) → length bs ≡ 4 → AllByRecursion (λ b. b < 256) bs → same_octets (ipv4_text bs) generic ≡ false
-ipv4_own [] l h = absurd (omega arith)
-ipv4_own (b ∷ []) l h = absurd (omega arith)
-ipv4_own (b ∷ c ∷ bs) l h =
-    let written = decimal_is_IsNumeral b (omega (arith, h.0)) in
-    first_own (decimal b) (46 ∷ joined 46 (map decimal (c ∷ bs))) written.0.0 (decimal_own b (omega (arith, h.0))) (digits_first (decimal b) written.0.1)
 
 -- `\#` is no address
 not_some : (bs : List ℕ) → None ≢ Some bs

@@ -1,6 +1,9 @@
 -- What is printed of data is words of a zone file.
 use Rattle.std.proofs.Common.{◌≡◌, ◌≢◌, ◌≤◌, ◌<◌, ℕ, ◌+◌, List, [], ◌∷◌, ◌++◌, map, length, Bool, true, false, refl, sym, ap, subst, arith, append_assoc, append-nil, codes}
-use Rattle.std.specs.Fmt.{decimal, signed_decimal}
+use Rattle.std.specs.Fmt.{decimal}
+use Rattle.std.specs.Prelude.{ℤ}
+use Rattle.std.specs.Int.{w32, cast_unsigned}
+use Rattle.std.specs.Int.RustNames.{FitsSigned}
 use Rattle.std.specs.List.{AllByRecursion}
 use Rattle.zone_proto.specs.declared.record_type.RecordType.{RecordType}
 use Rattle.zone_proto.specs.declared.rdata.RData.{RData}
@@ -14,23 +17,21 @@ use Rattle.line_text.specs.Denial.{opt_out_flag}
 use Rattle.line_text.specs.Hex.{hex_text}
 use Rattle.line_text.specs.Parts.{joined}
 use Rattle.zone_scanner.specs.declared.place.Place.{Place}
-use Rattle.zone_file.specs.Fields.{Left, left_at}
+use Rattle.record_fields.specs.Fields.{Left, left_at}
 use Rattle.zone_file.specs.Data.{data_size}
 use Rattle.zone_file_writer.specs.Moments.{moment_text}
-use Rattle.zone_file_writer.specs.Others.{base64_text, hex_words, octets_words, other_words}
-use Rattle.zone_file_writer.specs.Printing.{master_data_text}
+use Rattle.zone_file_writer.specs.Others.{base64_text, hex_words, octets_words}
+use Rattle.zone_file_writer.specs.Rows.{other_words}
+use Rattle.zone_file_writer.specs.Printing.{master_data_text, timer_text}
 use Rattle.zone_file_writer.specs.Words.{PrintedWord, Bare, type_word, types_text, words_text}
 use Rattle.zone_file_writer.specs.Printable.{AreTypesFrom, IsPrintableData}
 use Rattle.zone_file_writer.proofs.Lines.{IsBareText, AreWordTexts}
-use Rattle.zone_file_writer.proofs.WordTexts.{backslash_ordinary, decimal_text, digits_are_text, hex_is_text, moment_is_text, address_is_text, ipv4_is_text, name_is_text, timer_text, type_is_text}
-use Rattle.zone_file_writer.proofs.OthersBack.{IsForm, own, any, behind, other_form}
+use Rattle.zone_file_writer.proofs.WordTexts.{backslash_ordinary, decimal_text, digits_are_text, hex_is_text, moment_is_text, address_is_text, ipv4_is_text, name_is_text, type_is_text}
+use Rattle.zone_file_writer.proofs.NumbersBack.{unsigned_small}
+use Rattle.zone_file_writer.proofs.PlacedWords.{behind, last_from}
+use Rattle.zone_file_writer.proofs.RowsBack.{IsForm, own, any, other_form}
 use Rattle.zone_file_writer.proofs.Base32Back.{base32_is_text}
 use Rattle.zone_file_writer.proofs.Base64Facts.{base64_is_text}
-
--- the place of the last of some words
-abbrev pub last_from : Place → Place → List PrintedWord → Place
-last_from q p [] = q
-last_from q p (u ∷ us) = last_from p (behind p u) us
 
 abbrev pub none_left : Place → Place → List PrintedWord → Left
 none_left q p us = left_at (last_from q p us) []
@@ -47,8 +48,8 @@ data_words (V.NS n) = Bare (name_text n) ∷ []
 data_words (V.CNAME n) = Bare (name_text n) ∷ []
 data_words (V.ANAME n) = Bare (name_text n) ∷ []
 data_words (V.SOA d) =
-    Bare (name_text d.mname) ∷ Bare (name_text d.rname) ∷ Bare (decimal d.serial) ∷ Bare (signed_decimal d.refresh)
-    ∷ Bare (signed_decimal d.retry) ∷ Bare (signed_decimal d.expire) ∷ Bare (decimal d.minimum) ∷ []
+    Bare (name_text d.mname) ∷ Bare (name_text d.rname) ∷ Bare (decimal d.serial) ∷ Bare (timer_text d.refresh)
+    ∷ Bare (timer_text d.retry) ∷ Bare (timer_text d.expire) ∷ Bare (decimal d.minimum) ∷ []
 data_words (V.MX d) = Bare (decimal d.preference) ∷ Bare (name_text d.exchange) ∷ []
 data_words (V.SRV d) = Bare (decimal d.priority) ∷ Bare (decimal d.weight) ∷ Bare (decimal d.port) ∷ Bare (name_text d.target) ∷ []
 data_words (V.DNSKEY d) = Bare (decimal d.flags) ∷ Bare (decimal d.protocol) ∷ Bare (decimal d.algorithm) ∷ Bare (base64_text d.public_key) ∷ []
@@ -106,6 +107,9 @@ flag_text : (b : Bool) → IsBareText (decimal (opt_out_flag b))
 flag_text true = decimal_text 1 (omega arith)
 flag_text false = decimal_text 0 (omega arith)
 
+timer_is_text : (z : ℤ) → FitsSigned w32 z → IsBareText (timer_text z)
+timer_is_text z h = let small = unsigned_small z h in decimal_text (cast_unsigned w32 z) (omega arith)
+
 generic_text : IsBareText (codes "\\#")
 generic_text = (backslash_ordinary, (refl, refl, tt))
 
@@ -137,8 +141,8 @@ data_are_texts (V.SOA d) h k = (
     (
       decimal_text d.serial (omega (arith, h.serial)),
       (
-        timer_text d.refresh h.refresh,
-        (timer_text d.retry h.retry, (timer_text d.expire h.expire, (decimal_text d.minimum (omega (arith, h.minimum)), tt))),
+        timer_is_text d.refresh h.refresh,
+        (timer_is_text d.retry h.retry, (timer_is_text d.expire h.expire, (decimal_text d.minimum (omega (arith, h.minimum)), tt))),
       ),
     ),
   ),

@@ -13,7 +13,7 @@ use Rattle.line_text.specs.Parts.{parts, octets_of_parts}
 use Rattle.line_text.specs.Addresses.{group_of_text, group_octets, octets_of_group, ipv6_of_text}
 use Rattle.line_text.proofs.Digits.{within_most}
 use Rattle.line_text.proofs.RoundTrips.{char_value}
-use Rattle.zone_tokens.specs.Addresses.{double_at, full_form, group_count, ipv6_of_word, with_groups, with_zero, with_zeros}
+use Rattle.zone_tokens.specs.Addresses.{double_at, full_form, group_count, groups_of_word, ipv6_of_word, with_groups, with_zero, with_zeros}
 use Rattle.zone_file_writer.specs.Addresses.{address_text, behind_colons, group_text, groups_of, groups_text, longer_run, longest_run, without_run, zeros_in_front}
 
 -- ---- one group
@@ -170,7 +170,7 @@ pub no_run : (gs : List ℕ) → AllByRecursion (λ g. g < 65536) gs → double_
 no_run [] h = refl
 no_run (g ∷ gs) h = no_double (group_text g) (behind_colons gs) (is_group g h.0).lacks (single gs h.1)
 
--- the first two colons side by side stand behind a text without
+-- the first two colons side by side come after a text without
 more_at : ℕ → Option ℕ → Option ℕ
 more_at n o = option_map (λ k. k + n) o
 
@@ -381,7 +381,7 @@ filled_in front back n some l h k =
     ))
 
 run_back : (front back : List ℕ) (n : ℕ) → 1 < n → length front + (n + length back) ≡ 8 → AllByRecursion (λ g. g < 65536) front → AllByRecursion (λ g. g < 65536) back
-    → ipv6_of_word (groups_text front ++ 58 ∷ 58 ∷ groups_text back) ≡ ipv6_of_text (groups_text (front ++ (zeros n ++ back)))
+    → groups_of_word (groups_text front ++ 58 ∷ 58 ∷ groups_text back) ≡ ipv6_of_text (groups_text (front ++ (zeros n ++ back)))
 run_back front back n some l h k =
     let f : List ℕ = groups_text front in
     let b : List ℕ = groups_text back in
@@ -409,11 +409,11 @@ octets_of_groups (b ∷ c ∷ bs) n l h =
     let second : (b * 256 + c) % 256 ≡ c = omega (arith, h.1.0) in
     rw (first, second) (ap (λ (t : List ℕ). b ∷ c ∷ t) (octets_of_groups bs (n - 1) (omega arith) h.1.1))
 
-pub address_back : (bs : List ℕ) → length bs ≡ 16 → AllByRecursion (λ b. b < 256) bs → ipv6_of_word (address_text bs) ≡ Some bs
-address_back bs l h = by (nat_lt (longest_run (groups_of bs)).1 2) refl ∙ full_back (groups_of bs) (group_count_of bs 8 l) (are_groups bs h) ∙ ap (λ (t : List ℕ). Some t) (octets_of_groups bs 8 l h)
+groups_back : (bs : List ℕ) → length bs ≡ 16 → AllByRecursion (λ b. b < 256) bs → groups_of_word (address_text bs) ≡ Some bs
+groups_back bs l h = by (nat_lt (longest_run (groups_of bs)).1 2) refl ∙ full_back (groups_of bs) (group_count_of bs 8 l) (are_groups bs h) ∙ ap (λ (t : List ℕ). Some t) (octets_of_groups bs 8 l h)
   where
     by : (b : Bool) → nat_lt (longest_run (groups_of bs)).1 2 ≡ b
-        → ipv6_of_word (cond b (groups_text (groups_of bs)) (groups_text (take (longest_run (groups_of bs)).0 (groups_of bs)) ++ 58 ∷ 58 ∷ groups_text (drop ((longest_run (groups_of bs)).0 + (longest_run (groups_of bs)).1) (groups_of bs))))
+        → groups_of_word (cond b (groups_text (groups_of bs)) (groups_text (take (longest_run (groups_of bs)).0 (groups_of bs)) ++ 58 ∷ 58 ∷ groups_text (drop ((longest_run (groups_of bs)).0 + (longest_run (groups_of bs)).1) (groups_of bs))))
         ≡ ipv6_of_text (groups_text (groups_of bs))
     by true e =
         let short : nat_lt 39 (length (groups_text (groups_of bs))) ≡ false = not_long (length (groups_text (groups_of bs))) (omega (arith, text_short (groups_of bs) (are_groups bs h), group_count_of bs 8 l)) in
@@ -429,3 +429,6 @@ address_back bs l h = by (nat_lt (longest_run (groups_of bs)).1 2) refl ∙ full
         let first = groups_split front (zeros n ++ back) (subst (λ (t : List ℕ). AllByRecursion (λ g. g < 65536) t) whole (are_groups bs h)) in
         let last = groups_split (zeros n) back first.1 in
         run_back front back n some sizes first.0 last.1 ∙ ap (λ (t : List ℕ). ipv6_of_text (groups_text t)) (sym whole)
+
+pub address_back : (bs : List ℕ) → length bs ≡ 16 → AllByRecursion (λ b. b < 256) bs → ipv6_of_word (address_text bs) ≡ Some bs
+address_back bs l h = rw (groups_back bs l h) refl

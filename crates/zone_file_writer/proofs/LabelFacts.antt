@@ -5,8 +5,6 @@ use Rattle.std.specs.List.{flat_map, AllByRecursion}
 use Rattle.std.proofs.lemmas.Bool.Decides.{leb_tells, nat_tests}
 use Rattle.message_reading.specs.Octets.{counted_of}
 use Rattle.zone_file_writer.specs.Labels.{are_labels, has_octets, is_end, is_name, is_wire_form, labels_of, part_text, parts_text}
-use Rattle.zone_file_writer.specs.Others.{name_words, octets_words}
-use Rattle.zone_file_writer.specs.Words.{words_text}
 use Rattle.zone_proto.specs.Names.{Name, IsLabel, IsName, wire_form, wire_length}
 use Rattle.zone_proto.specs.Text.{label_text, name_text}
 use Rattle.line_text.proofs.PrintedWords.{and_both}
@@ -127,9 +125,6 @@ named os octets h =
 
 -- ---- what is printed of it
 
-pub name_none : (os : List ℕ) → is_wire_form os ≡ false → name_words os ≡ octets_words os
-name_none os h = rw h refl
-
 some_name : (n : Name) → length (wire_form n) ≢ 1 → name_text n ≡ flat_map label_text n
 some_name [] h = absurd (h refl)
 some_name (l ∷ ls) h = refl
@@ -139,9 +134,9 @@ root_name [] h = refl
 root_name (l ∷ []) h = absurd (omega (arith, length-append l (0 ∷ [])))
 root_name (l ∷ m ∷ ls) h = absurd (omega (arith, length-append l (wire_form (m ∷ ls))))
 
-pub name_root : (os : List ℕ) → is_wire_form os ≡ true → length os ≡ 1 → words_text (name_words os) ≡ 46 ∷ []
-name_root os h one = rw h (root_name (labels_of os) (ap length (wire_of os h) ∙ one))
+pub name_root : (os : List ℕ) → is_wire_form os ≡ true → length os ≡ 1 → name_text (labels_of os) ≡ 46 ∷ []
+name_root os h one = root_name (labels_of os) (ap length (wire_of os h) ∙ one)
 
-pub name_labels : (os : List ℕ) → is_wire_form os ≡ true → length os ≢ 1 → words_text (name_words os) ≡ parts_text os
+pub name_labels : (os : List ℕ) → is_wire_form os ≡ true → length os ≢ 1 → name_text (labels_of os) ≡ parts_text os
 name_labels os h more =
-    rw h (some_name (labels_of os) (λ e. more (sym (ap length (wire_of os h)) ∙ e)) ∙ sym (text_is (strings_of os).0 (parts_of os h).2))
+    some_name (labels_of os) (λ e. more (sym (ap length (wire_of os h)) ∙ e)) ∙ sym (text_is (strings_of os).0 (parts_of os h).2)

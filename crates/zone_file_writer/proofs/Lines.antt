@@ -20,7 +20,7 @@ pub record IsOrdinary (b : ℕ) : Type 0 where
   pub closes : (b == 41) ≡ false
   pub quoted : (b == 34) ≡ false
 
--- octets of a word alone, up to its end, where no escape is open; the first of them stands behind a backslash or not
+-- octets of a word alone, up to its end, where no escape is open; the first of them comes after a backslash or not
 abbrev pub IsInWord : Bool → List ℕ → Type 0
 IsInWord false [] = Unit {0}
 IsInWord true [] = ⊥

@@ -12,8 +12,8 @@ use Rattle.zone_proto.specs.TextForm.{three_digits}
 use Rattle.zone_proto.specs.Text.{is_plain, octet_text, label_text, name_text}
 use Rattle.line_text.specs.Reading.{name_of_word, unless_fault}
 use Rattle.line_text.proofs.PrintedRecords.{name_back}
-use Rattle.zone_file.specs.Texts.{generic}
-use Rattle.zone_tokens.specs.Names.{at_sign, checked_if_there, is_absolute, name_alone, name_under, unless}
+use Rattle.record_fields.specs.Texts.{generic}
+use Rattle.zone_tokens.specs.Names.{at_sign, checked_if_there, graphic_name, is_absolute, name_alone, name_under, unless}
 
 -- an octet that is printed first is no `@` and no `$`, and a text goes on behind it
 plain_at : (b : ℕ) → is_plain b ≡ true → nat_eq b 64 ≡ false
@@ -110,8 +110,8 @@ absolute [] h = refl
 absolute (l ∷ ls) h = by_labels l ls h.labels
 
 -- what line_text reads as a name is one by itself
-alone : (w : List ℕ) (n : Name) → name_of_word w ≡ Some n → name_alone w ≡ Ok n
-alone w n h = by (labels_of_text w) h
+graphic : (w : List ℕ) (n : Name) → name_of_word w ≡ Some n → graphic_name w ≡ Ok n
+graphic w n h = by (labels_of_text w) h
   where
     labels : (ls : Name) (f : Option ProtoError) → unless_fault f ls ≡ Some n → unless f ls ≡ Ok n
     labels ls None g = cc
@@ -120,6 +120,9 @@ alone w n h = by (labels_of_text w) h
     by : (o : Option Name) → option_and_then (λ ls. unless_fault (fault_of ls) ls) o ≡ Some n → checked_if_there o ≡ Ok n
     by None g = absurd (cc)
     by (Some ls) g = labels ls (fault_of ls) g
+
+alone : (w : List ℕ) (n : Name) → name_of_word w ≡ Some n → name_alone w ≡ Ok n
+alone w n h = rw (graphic w n h) refl
 
 pub name_there : (origin n : Name) → IsName n → name_under origin (name_text n) ≡ Ok n
 name_there origin n h =

@@ -1,8 +1,11 @@
 -- Printed numbers, types and octets are read back.
-use Rattle.std.proofs.Common.{◌≡◌, ◌<◌, ◌≤◌, ℕ, ◌==◌, List, [], ◌∷◌, ◌++◌, length, Bool, true, false, cond, ◌&&◌, not, ◌*◌, ◌/◌, ◌%◌, ◌+◌, None, Option, Some, refl, ap, ◌∙◌, arith, codes, unwrap_or}
+use Rattle.std.proofs.Common.{◌≡◌, ◌<◌, ◌≤◌, ℕ, ◌==◌, List, [], ◌∷◌, ◌++◌, length, Bool, true, false, cond, ◌&&◌, not, ◌*◌, ◌/◌, ◌%◌, ◌+◌, ◌^◌, None, Option, Some, refl, ap, ◌∙◌, arith, codes, unwrap_or}
 use Rattle.std.specs.Prelude.{ℤ, nat_le, nat_lt}
 use Rattle.std.specs.Char.{digit_value, to_ascii_uppercase}
-use Rattle.std.specs.Fmt.{decimal, signed_decimal}
+use Rattle.std.specs.Fmt.{decimal}
+use Rattle.std.specs.Int.{w32, cast_unsigned}
+use Rattle.std.specs.Int.RustNames.{FitsSigned}
+use Rattle.std.proofs.Math.Facts.{to_z-of_z, Fits-of_z, Fits-lt-pow}
 use Rattle.std.specs.List.{list_all, AllByRecursion}
 use Rattle.std.specs.Str.Parse.{AllDigits}
 use Rattle.std.proofs.lemmas.Bool.Decides.{leb_tells, nat_tests}
@@ -13,12 +16,12 @@ use Rattle.zone_proto.proofs.Texts.TypeTextLaws.{type_text_read}
 use Rattle.line_text.specs.Numbers.{number_within, at_most, digit_of}
 use Rattle.line_text.specs.Hex.{hex_octet, hex_octets}
 use Rattle.zone_tokens.specs.Hex.{hex_text}
-use Rattle.line_text.specs.StartOfAuthority.{IsTimer}
+use Rattle.message_reading.specs.DataForms.{signed}
 use Rattle.line_text.proofs.PrintedWords.{and_both}
 use Rattle.line_text.proofs.RoundTrips.{decimal_read}
 use Rattle.zone_tokens.specs.Ttls.{ttl_of_word, timer_of_word}
 use Rattle.zone_tokens.specs.Types.{algorithm_named, upper, type_named}
-use Rattle.zone_file.specs.Fields.{record_type_named}
+use Rattle.record_fields.specs.Fields.{record_type_named}
 use Rattle.zone_file_writer.specs.Others.{hex_digit, hex_digits}
 use Rattle.zone_file_writer.specs.Words.{further_words, type_word}
 use Rattle.zone_file_writer.specs.Printable.{IsRecordType}
@@ -45,8 +48,19 @@ seconds (b ∷ t) n some small h = rw (h, small_enough n small) refl
 pub ttl_back : (n : ℕ) → n < 2147483648 → ttl_of_word (decimal n) ≡ Some n
 ttl_back n h = seconds (decimal n) n (decimal_is_IsNumeral n (omega arith)).0.0 h (u32_back n (omega arith))
 
-pub timer_back : (z : ℤ) → IsTimer z → timer_of_word (signed_decimal z) ≡ Some z
-timer_back z (n, e, small) = rw (e, ttl_back n (omega arith), small_enough n small) refl
+pub timer_back : (n : ℕ) → n < 4294967296 → timer_of_word (decimal n) ≡ Some n
+timer_back n h = some_digits (decimal n) (decimal_is_IsNumeral n (omega arith)).0.0 (u32_back n h)
+  where
+    some_digits : (t : List ℕ) → 0 < length t → number_within 10 4294967295 t ≡ Some n → timer_of_word t ≡ Some n
+    some_digits [] some k = absurd (omega arith)
+    some_digits (b ∷ t) some k = let yes : nat_le n 4294967295 ≡ true = grind (arith, leb_tells) in rw (k, yes) refl
+
+-- a timer with a sign, as one without
+pub unsigned_small : (z : ℤ) → FitsSigned w32 z → cast_unsigned w32 z < 4294967296
+unsigned_small z h = let small : cast_unsigned w32 z < 2 ^ 32 = Fits-lt-pow (Fits-of_z h) in omega arith
+
+pub signed_back : (z : ℤ) → FitsSigned w32 z → signed (cast_unsigned w32 z) ≡ z
+signed_back z h = to_z-of_z h
 
 -- ---- types
 

@@ -36,7 +36,8 @@ use Rattle.zone_file_writer.proofs.NamesBack.{first_is, first_of_name, name_ther
 use Rattle.zone_file_writer.proofs.NumbersBack.{ttl_back, type_back}
 use Rattle.zone_file_writer.proofs.DataBack.{data_read}
 use Rattle.zone_file_writer.proofs.DataTexts.{data_are_texts, data_words, text_is}
-use Rattle.zone_file_writer.proofs.OthersBack.{behind, left, some_form}
+use Rattle.zone_file_writer.proofs.PlacedWords.{behind, left}
+use Rattle.zone_file_writer.proofs.RowsBack.{some_form}
 
 -- ---- the words of a record of class IN
 

@@ -6,9 +6,9 @@ use Rattle.std.proofs.lemmas.Bool.Decides.{leb_tells, nat_tests}
 use Rattle.message_reading.specs.Octets.{counted_of}
 use Rattle.zone_tokens.specs.Strings.{octets_of_text}
 use Rattle.zone_proto.specs.TextForm.{is_digit}
-use Rattle.zone_file_writer.specs.Others.{octets_words, some_strings, string_word, text_words}
-use Rattle.zone_file_writer.specs.Words.{word_text, words_text}
-use Rattle.line_text.specs.Parts.{joined}
+use Rattle.zone_file_writer.specs.Others.{string_word}
+use Rattle.zone_file_writer.specs.Rows.{all_strings, behind_spaces}
+use Rattle.zone_file_writer.specs.Words.{word_text}
 use Rattle.zone_file_writer.specs.Strings.{escaped, escaped_octet, further_text, quoted_text, string_then, strings_of, strings_within}
 
 -- ---- octets between quotes are read back
@@ -45,7 +45,7 @@ pub text_back : (os : List ℕ) → AllByRecursion (λ b. b < 256) os → octets
 text_back [] h = refl
 text_back (b ∷ os) h = octet_back b (escaped os) h.0 ∙ rw (text_back os h.1) refl
 
--- ---- the string at the front of octets
+-- ---- the string at the start of octets
 
 abbrev pub counted : List ℕ → List ℕ
 counted s = length s ∷ s
@@ -137,29 +137,26 @@ further_none os h = ap (λ (t : List (List ℕ) × List ℕ). flat_map (λ (u : 
 
 -- ---- TXT
 
-spread_quoted : (t : List ℕ) (ss : List (List ℕ)) → joined 32 (t ∷ map word_text (map string_word ss)) ≡ t ++ flat_map (λ (u : List ℕ). 32 ∷ quoted_text u) ss
-spread_quoted t [] = sym (append-nil t)
-spread_quoted t (s ∷ ss) = ap (λ (u : List ℕ). t ++ 32 ∷ u) (spread_quoted (quoted_text s) ss)
+pub spread : (ss : List (List ℕ)) → behind_spaces (map string_word ss) ≡ flat_map (λ (u : List ℕ). 32 ∷ quoted_text u) ss
+spread [] = refl
+spread (s ∷ ss) = ap (λ (u : List ℕ). (32 ∷ quoted_text s) ++ u) (spread ss)
 
-pub spread : (s os : List ℕ) → words_text (string_word s ∷ map string_word (strings_of os).0) ≡ quoted_text s ++ further_text os
-spread s os = spread_quoted (quoted_text s) (strings_of os).0
+some_of : (s : List ℕ) (ss : List (List ℕ)) (rest : List ℕ) → rest ≡ [] → all_strings (s ∷ ss, rest) ≡ Some (map string_word (s ∷ ss))
+some_of s ss [] h = refl
+some_of s ss (o ∷ rest) h = absurd (cc)
 
-some_of : (s : List ℕ) (ss : List (List ℕ)) (os rest : List ℕ) → rest ≡ [] → some_strings os (s ∷ ss, rest) ≡ map string_word (s ∷ ss)
-some_of s ss os [] h = refl
-some_of s ss os (o ∷ rest) h = absurd (cc)
+broken_of : (s : List ℕ) (ss : List (List ℕ)) (rest : List ℕ) → rest ≢ [] → all_strings (s ∷ ss, rest) ≡ None
+broken_of s ss [] h = absurd (h refl)
+broken_of s ss (o ∷ rest) h = refl
 
-broken_of : (s : List ℕ) (ss : List (List ℕ)) (os rest : List ℕ) → rest ≢ [] → some_strings os (s ∷ ss, rest) ≡ octets_words os
-broken_of s ss os [] h = absurd (h refl)
-broken_of s ss os (o ∷ rest) h = refl
+pub text_some : (os s rest : List ℕ) → counted_of os ≡ Some (s, rest) → (strings_of rest).1 ≡ [] → all_strings (strings_of os) ≡ Some (string_word s ∷ map string_word (strings_of rest).0)
+text_some os s rest h k = ap all_strings (one_more os s rest h) ∙ some_of s (strings_of rest).0 (strings_of rest).1 k
 
-pub text_some : (os s rest : List ℕ) → counted_of os ≡ Some (s, rest) → (strings_of rest).1 ≡ [] → text_words os ≡ string_word s ∷ map string_word (strings_of rest).0
-text_some os s rest h k = ap (some_strings os) (one_more os s rest h) ∙ some_of s (strings_of rest).0 os (strings_of rest).1 k
+pub text_broken : (os s rest : List ℕ) → counted_of os ≡ Some (s, rest) → (strings_of rest).1 ≢ [] → all_strings (strings_of os) ≡ None
+text_broken os s rest h k = ap all_strings (one_more os s rest h) ∙ broken_of s (strings_of rest).0 (strings_of rest).1 k
 
-pub text_broken : (os s rest : List ℕ) → counted_of os ≡ Some (s, rest) → (strings_of rest).1 ≢ [] → text_words os ≡ octets_words os
-text_broken os s rest h k = ap (some_strings os) (one_more os s rest h) ∙ broken_of s (strings_of rest).0 os (strings_of rest).1 k
-
-pub text_none : (os : List ℕ) → counted_of os ≡ None → text_words os ≡ octets_words os
-text_none os h = ap (some_strings os) (none os h)
+pub text_none : (os : List ℕ) → counted_of os ≡ None → all_strings (strings_of os) ≡ None
+text_none os h = ap all_strings (none os h)
 
 -- ---- the octets of strings
 

@@ -1,10 +1,10 @@
 -- What is printed of names, numbers and octets are texts of words.
 use Rattle.std.proofs.Common.{◌≡◌, ◌<◌, ◌^◌, ℕ, zero, suc, ◌+◌, ◌*◌, ◌/◌, ◌%◌, nat_lt, length, take, drop, List, [], ◌∷◌, ◌++◌, map, Bool, true, false, cond, ◌&&◌, ◌||◌, ◌==◌, Some, unwrap_or, refl, sym, ap, ◌∙◌, subst, arith, codes}
-use Rattle.std.specs.Prelude.{ℤ, nat_le}
+use Rattle.std.specs.Prelude.{nat_le}
 use Rattle.std.specs.List.{list_all, flat_map, AllByRecursion}
 use Rattle.std.proofs.lemmas.Bool.Decides.{leb_tells, nat_tests}
 use Rattle.std.specs.Char.{digit_char, digit_value, is_ascii_alphanumeric}
-use Rattle.std.specs.Fmt.{decimal, signed_decimal}
+use Rattle.std.specs.Fmt.{decimal}
 use Rattle.std.specs.Str.Parse.{AllDigits}
 use Rattle.std.proofs.lemmas.Fmt.{decimal_is_IsNumeral}
 use Rattle.zone_proto.specs.Names.{Name, Label, IsName, IsLabel}
@@ -15,7 +15,6 @@ use Rattle.zone_proto.specs.TypeText.{Word, word_of, type_words, type_text}
 use Rattle.line_text.specs.Parts.{joined}
 use Rattle.line_text.specs.Hex.{hex_of_octet, hex_text}
 use Rattle.line_text.specs.Addresses.{ipv4_text}
-use Rattle.line_text.specs.StartOfAuthority.{IsTimer}
 use Rattle.line_text.proofs.PrintedWords.{and_both}
 use Rattle.zone_tokens.specs.Addresses.{ipv6_of_word}
 use Rattle.zone_file_writer.specs.Addresses.{address_text, behind_colons, group_text, groups_of, groups_text, longest_run, without_run}
@@ -86,9 +85,6 @@ digits_in_word (c ∷ cs) h = harmless_in_word c cs (value_harmless c h.0) (digi
 pub decimal_text : (n : ℕ) → n < 2 ^ 64 → IsBareText (decimal n)
 decimal_text n h = let written = decimal_is_IsNumeral n h in word_text (decimal n) written.0.0 (digits_in_word (decimal n) written.0.1)
 
-pub timer_text : (z : ℤ) → IsTimer z → IsBareText (signed_decimal z)
-timer_text z (n, e, small) = rw e (decimal_text n (omega arith))
-
 -- ---- names
 
 plain_harmless : (b : ℕ) → is_plain b ≡ true → IsHarmless b
@@ -138,7 +134,7 @@ octets_in_word : (l : Label) → AllByRecursion IsOctet l → IsInWord false (fl
 octets_in_word [] h = tt
 octets_in_word (b ∷ l) h = in_word_append (octet_text b) (flat_map octet_text l) false (octet_in_word b h.0) (octets_in_word l h.1)
 
-dot_harmless : IsHarmless 46
+pub dot_harmless : IsHarmless 46
 dot_harmless = harmless 46 (omega arith) refl refl
 
 labels_in_word : (ls : Name) → AllByRecursion IsLabel ls → IsInWord false (flat_map label_text ls)
@@ -198,11 +194,11 @@ type_is_text t h = listed_word t (type_text t) further_words refl (known_is_text
 
 -- ---- addresses
 
-abbrev AllInWord : List (List ℕ) → Type 0
+abbrev pub AllInWord : List (List ℕ) → Type 0
 AllInWord [] = Unit {0}
 AllInWord (p ∷ ps) = IsInWord false p × AllInWord ps
 
-joined_in_word : (s : ℕ) (ps : List (List ℕ)) → IsHarmless s → AllInWord ps → IsInWord false (joined s ps)
+pub joined_in_word : (s : ℕ) (ps : List (List ℕ)) → IsHarmless s → AllInWord ps → IsInWord false (joined s ps)
 joined_in_word s [] h all = tt
 joined_in_word s (p ∷ []) h all = all.0
 joined_in_word s (p ∷ q ∷ ps) h all = in_word_append p (s ∷ joined s (q ∷ ps)) false all.0 (harmless_in_word s (joined s (q ∷ ps)) h (joined_in_word s (q ∷ ps) h all.1))
@@ -229,7 +225,7 @@ digit_char_harmless d h = by (nat_lt d 10) refl
     by true e = digit_harmless d (grind (arith, leb_tells))
     by false e = harmless (87 + d) (omega arith) (grind (arith, nat_tests, leb_tells)) (grind (arith, nat_tests, leb_tells))
 
-hex_in_word : (b : ℕ) → b < 256 → IsInWord false (hex_of_octet b)
+pub hex_in_word : (b : ℕ) → b < 256 → IsInWord false (hex_of_octet b)
 hex_in_word b h =
     harmless_in_word (digit_char (b / 16)) (digit_char (b % 16) ∷ []) (digit_char_harmless (b / 16) (omega arith))
     (harmless_in_word (digit_char (b % 16)) [] (digit_char_harmless (b % 16) (omega arith)) tt)
@@ -257,7 +253,7 @@ group_in_word g h = by (nat_lt g 16) refl (nat_lt g 256) refl (nat_lt g 4096) re
         (digit_and (g / 256 % 16) (digit_char (g / 16 % 16) ∷ digit_char (g % 16) ∷ []) (omega arith)
         (digit_and (g / 16 % 16) (digit_char (g % 16) ∷ []) (omega arith) (digit_and (g % 16) [] (omega arith) tt)))
 
-colon_harmless : IsHarmless 58
+pub colon_harmless : IsHarmless 58
 colon_harmless = harmless 58 (omega arith) refl refl
 
 colons_in_word : (gs : List ℕ) → AllByRecursion (λ g. g < 65536) gs → IsInWord false (behind_colons gs)
@@ -303,14 +299,14 @@ hexes_in_word : (bs : List ℕ) → AllByRecursion (λ b. b < 256) bs → IsInWo
 hexes_in_word [] h = tt
 hexes_in_word (b ∷ bs) h = in_word_append (hex_of_octet b) (flat_map hex_of_octet bs) false (hex_in_word b h.0) (hexes_in_word bs h.1)
 
-dash_harmless : IsHarmless 45
+pub dash_harmless : IsHarmless 45
 dash_harmless = harmless 45 (omega arith) refl refl
 
 pub hex_is_text : (bs : List ℕ) → AllByRecursion (λ b. b < 256) bs → IsBareText (hex_text bs)
 hex_is_text [] h = harmless_in_word 45 [] dash_harmless tt
 hex_is_text (b ∷ bs) h = word_text (hex_text (b ∷ bs)) (omega arith) (hexes_in_word (b ∷ bs) h)
 
-hex_digit_harmless : (d : ℕ) → d < 16 → IsHarmless (hex_digit d)
+pub hex_digit_harmless : (d : ℕ) → d < 16 → IsHarmless (hex_digit d)
 hex_digit_harmless d h = by (nat_lt d 10) refl
   where
     by : (p : Bool) → nat_lt d 10 ≡ p → IsHarmless (cond p (48 + d) (55 + d))
@@ -405,3 +401,9 @@ tag_in_word [] h = tt
 tag_in_word (b ∷ os) h =
     let both = and_both (is_ascii_alphanumeric b) (list_all is_ascii_alphanumeric os) h in
     harmless_in_word b os (alphanumeric_harmless b both.0) (tag_in_word os both.1)
+
+pub tag_plain : (b : ℕ) (os : List ℕ) → list_all is_ascii_alphanumeric (b ∷ os) ≡ true → (b == 92) ≡ false
+tag_plain b os h = (alphanumeric_harmless b (and_both (is_ascii_alphanumeric b) (list_all is_ascii_alphanumeric os) h).0).backslash
+
+pub dot_is_text : IsBareText (46 ∷ [])
+dot_is_text = harmless_in_word 46 [] dot_harmless tt

@@ -30,7 +30,7 @@ groups_text (g ∷ gs) = group_text g ++ behind_colons gs
 abbrev pub zeros_in_front : List ℕ → ℕ
 zeros_in_front gs = prefix_len (λ g. g == 0) gs
 
--- the first of the longest runs of groups of zero: how many groups stand before it, and how many it has
+-- the first of the longest runs of groups of zero: how many groups come before it, and how many it has
 abbrev pub longer_run : ℕ → ℕ × ℕ → ℕ × ℕ
 longer_run here later = if nat_le later.1 here then (0, here) else (later.0 + 1, later.1)
 

@@ -5,5 +5,6 @@ pub mod Moments
 pub mod Others
 pub mod Printable
 pub mod Printing
+pub mod Rows
 pub mod Strings
 pub mod Words

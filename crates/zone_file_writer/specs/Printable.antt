@@ -1,5 +1,7 @@
 -- Which records are read as they are printed
 use Rattle.std.specs.Prelude.{◌≡◌, ◌≢◌, ◌≤◌, ◌<◌, ℕ, ◌+◌, List, [], ◌∷◌, false, length, Some}
+use Rattle.std.specs.Int.{w32}
+use Rattle.std.specs.Int.RustNames.{FitsSigned}
 use Rattle.std.specs.List.{AllByRecursion}
 use Rattle.zone_proto.specs.declared.record.Record.{Record}
 use Rattle.zone_proto.specs.declared.record_type.RecordType.{RecordType}
@@ -18,9 +20,8 @@ use Rattle.zone_proto.specs.Types.{IN}
 use Rattle.line_text.specs.Addresses.{IsOctets}
 use Rattle.line_text.specs.MailExchange.{IsReadableMx}
 use Rattle.line_text.specs.Service.{IsReadableSrv}
-use Rattle.line_text.specs.StartOfAuthority.{IsTimer}
 use Rattle.message_reading.specs.DataForms.{plain_data_of}
-use Rattle.zone_file.specs.Fields.{is_of_messages}
+use Rattle.record_fields.specs.Fields.{is_of_messages}
 use Rattle.zone_file.specs.Data.{data_size}
 use Rattle.zone_file_writer.specs.Printing.{master_text}
 
@@ -38,15 +39,15 @@ abbrev pub AreTypesFrom : ℕ → List RecordType → Type 0
 AreTypesFrom least [] = Unit {0}
 AreTypesFrom least (t ∷ ts) = (least ≤ t.0) × IsRecordType t × AreTypesFrom (t.0 + 1) ts
 
--- an SOA whose timers aren't below zero and whose minimum is a TTL (RFC 2181 section 8)
+-- an SOA
 pub record IsPrintableSoa (d : SoaData) : Type 0 where
   pub mname : IsName d.mname
   pub rname : IsName d.rname
   pub serial : d.serial < 4294967296
-  pub refresh : IsTimer d.refresh
-  pub retry : IsTimer d.retry
-  pub expire : IsTimer d.expire
-  pub minimum : d.minimum < 2147483648
+  pub refresh : FitsSigned w32 d.refresh
+  pub retry : FitsSigned w32 d.retry
+  pub expire : FitsSigned w32 d.expire
+  pub minimum : d.minimum < 4294967296
 
 -- a DNSKEY with a key
 pub record IsPrintableKey (d : KeyData) : Type 0 where

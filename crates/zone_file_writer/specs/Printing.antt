@@ -1,10 +1,12 @@
--- Records in the form of master files (RFC 1035 section 5.1)
-use Rattle.std.specs.Prelude.{ℕ, ◌++◌, List, [], ◌∷◌}
+-- Records in the form of zone files (RFC 1035 section 5.1)
+use Rattle.std.specs.Prelude.{ℕ, ℤ, ◌++◌, List, [], ◌∷◌}
 use Rattle.std.specs.Fmt.{decimal}
+use Rattle.std.specs.Int.{w32, cast_unsigned}
 use Rattle.std.specs.List.{flat_map}
 use Rattle.zone_proto.specs.declared.record.Record.{Record}
 use Rattle.zone_proto.specs.declared.rdata.RData.{RData}
 use Rattle.zone_proto.specs.declared.rdata.RData.TheVariants as V
+use Rattle.zone_proto.specs.declared.rdata.start_of_authority.SOA.{SOA as SoaData}
 use Rattle.zone_proto.specs.declared.rdata.signing.DNSKEY.{DNSKEY as KeyData}
 use Rattle.zone_proto.specs.declared.rdata.signing.RRSIG.{RRSIG as SignatureData}
 use Rattle.zone_proto.specs.declared.rdata.denial.NSEC.{NSEC as DenialData}
@@ -18,12 +20,21 @@ use Rattle.line_text.specs.Denial.{nsec3_parameters_text, opt_out_flag}
 use Rattle.line_text.specs.Hex.{hex_text}
 use Rattle.line_text.specs.MailExchange.{mx_text}
 use Rattle.line_text.specs.Service.{srv_text}
-use Rattle.line_text.specs.StartOfAuthority.{soa_text}
 use Rattle.line_text.specs.Words.{spaced}
 use Rattle.zone_file_writer.specs.Addresses.{address_text}
 use Rattle.zone_file_writer.specs.Moments.{moment_text}
-use Rattle.zone_file_writer.specs.Others.{base64_text, other_words}
+use Rattle.zone_file_writer.specs.Others.{base64_text}
+use Rattle.zone_file_writer.specs.Rows.{other_words}
 use Rattle.zone_file_writer.specs.Words.{type_word, types_text, words_text}
+
+-- an SOA (RFC 1035 section 3.3.13), its timers as numbers of 32 bits without a sign
+abbrev pub timer_text : ℤ → List ℕ
+timer_text z = decimal (cast_unsigned w32 z)
+
+abbrev pub soa_text : SoaData → List ℕ
+soa_text d = spaced (
+    name_text d.mname ∷ name_text d.rname ∷ decimal d.serial
+    ∷ timer_text d.refresh ∷ timer_text d.retry ∷ timer_text d.expire ∷ decimal d.minimum ∷ [])
 
 -- a DNSKEY (RFC 4034 section 2.2)
 abbrev pub key_text : KeyData → List ℕ

@@ -47,7 +47,7 @@ fn group(high: u8, low: u8) -> u16
     u16::from(high) * 256 + u16::from(low)
 }
 
-/// The first of the longest runs of groups of zero: how many groups stand before it, and how many it has.
+/// The first of the longest runs of groups of zero: how many groups come before it, and how many it has.
 fn longest_run(groups: &[u16]) -> (usize, usize)
     ensures value { result ≡ longest_run groups.now }
     ensures within { result.0 + result.1 ≤ length groups.now }

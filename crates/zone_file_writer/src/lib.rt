@@ -1,16 +1,22 @@
-//! Records printed in the form of master files (RFC 1035 section 5.1), so that `zone_file` reads them as the same records.
+//! Records printed in the form of zone files (RFC 1035 section 5.1), so that `zone_file` reads them back as the same records.
 #![tactic(auto)]
 
 mod addresses;
 mod data;
 mod denial;
+mod fields;
+mod fronts;
+mod hosts;
 mod labels;
 pub mod laws;
 mod moments;
 mod octets;
 mod other;
+mod pairs;
 mod record;
+mod rows;
 mod signing;
+mod start_of_authority;
 mod strings;
 mod types;
 

@@ -1,7 +1,8 @@
-//! Strings of octets, in quotes, and as they stand in data, each behind its length.
-ghost use Rattle.std.specs.Prelude.{◌≡◌, ◌<◌, ◌∷◌, [], length, map, option_map, Some, None, IfSome, IsTrue, ◌↔◌};
+//! Strings of octets, in quotes, and as they are in data, each behind its length.
+ghost use Rattle.std.specs.Prelude.{◌≡◌, ◌+◌, ◌∷◌, [], length, map, option_map, Some, None, IfSome, IsTrue, ◌↔◌};
 ghost use Rattle.message_reading.specs.Octets.{counted_of};
-ghost use Rattle.zone_file_writer.specs.Others.{octets_words, string_word, text_words};
+ghost use Rattle.zone_file_writer.specs.Others.{string_word};
+ghost use Rattle.zone_file_writer.specs.Rows.{all_strings};
 ghost use Rattle.zone_file_writer.specs.Strings.{escaped, escaped_octet, further_text, quoted_text, strings_of};
 
 use std::fmt;
@@ -18,7 +19,7 @@ impl fmt::Display for QuotedText<'_> {
     }
 }
 
-/// Octets as they stand between quotes.
+/// Octets as they are between quotes.
 #[derive(Drop)]
 pub(crate) struct EscapedText<'r>(pub &'r [u8]);
 
@@ -33,8 +34,8 @@ impl fmt::Display for EscapedText<'_> {
     }
 }
 
-/// An octet as it stands between quotes: a quote and a backslash behind a backslash, a printing character of ASCII as itself,
-/// and any other octet as `\` and three digits (RFC 1035 section 5.1).
+/// An octet as it is between quotes: a quote and a backslash behind a backslash, a printing character of ASCII as
+/// itself, and any other octet as `\` and three digits (RFC 1035 section 5.1).
 #[derive(Drop)]
 struct EscapedOctet(u8);
 
@@ -85,13 +86,13 @@ fn are_strings(octets: &[u8]) -> bool
     rest.is_empty()
 }
 
-/// The first of the strings that octets are, and the octets of the others; none where octets aren't strings to their end, one at
-/// least.
+/// The first of the strings that octets are, and the octets of the others; none if octets aren't strings to their end,
+/// one at least.
 #[tactic(auto, using(crate::proofs::StringFacts::text_some, crate::proofs::StringFacts::text_none, crate::proofs::StringFacts::text_broken))]
 pub(crate) fn split_strings(octets: &[u8]) -> Option<(&[u8], &[u8])>
-    ensures some { IfSome result (λ s.
-        text_words octets.now ≡ string_word s.0.now ∷ map string_word (strings_of s.1.now).0) }
-    ensures none { result ≡ None → text_words octets.now ≡ octets_words octets.now }
+    ensures some { IfSome result (λ s. all_strings (strings_of octets.now)
+        ≡ Some (string_word s.0.now ∷ map string_word (strings_of s.1.now).0)) }
+    ensures none { result ≡ None → all_strings (strings_of octets.now) ≡ None }
 {
     let (first, others) = split_string(octets)?;
     if are_strings(others) {
@@ -101,10 +102,11 @@ pub(crate) fn split_strings(octets: &[u8]) -> Option<(&[u8], &[u8])>
     }
 }
 
-/// The string at the front of octets, behind its length, and the octets behind it; none where no whole string is there.
+/// The string at the start of octets, behind its length, and the octets behind it; none if no whole string is there.
 pub(crate) fn split_string(octets: &[u8]) -> Option<(&[u8], &[u8])>
     ensures value { option_map (λ s. (s.0.now, s.1.now)) result ≡ counted_of octets.now }
-    ensures shorter { IfSome result (λ s. length s.1.now < length octets.now) }
+    ensures size { IfSome result
+        (λ s. 1 + length s.0.now + length s.1.now ≡ length octets.now) }
 {
     let (count, rest) = octets.split_first()?;
     let count = usize::from(*count);

@@ -28,7 +28,7 @@ or_first : (a b : Bool) → (a || b) ≡ false → a ≡ false
 or_first true b h = h
 or_first false b h = refl
 
--- what it stands for, what the next one stands behind, and where that stands
+-- what it stands for, what the next one comes after, and where that stands
 record GoesOn (mode : Mode) (b : ℕ) : Type 0 where
   sign : (p : Place) → sign_of mode p b ≡ Octet b
   after : (p : Place) → mode_after mode p b ≡ mode
@@ -104,7 +104,7 @@ module _ (mode : Mode) (o : Option Place) (ind : Bool) (ws : List WordText) wher
   add_none : (x : ℕ) → x ≡ x + 0
   add_none x = omega arith
 
-  -- octets at the front of a text that a word goes on with
+  -- octets at the start of a text that a word goes on with
   word_goes_on : (t more : List ℕ) (c : ℕ) (p : Place) (k n : ℕ) (w : WordText) → c ≤ length t → Going_on t c → n + c ≤ entry_limit
       → events_from (t ++ more) (reader mode (place_along p k) true o n ind ws (Going w))
       ≡ events_from (drop c t ++ more) (reader mode (place_along p (k + c)) true o (n + c) ind ws (Going (longer w (take c t))))

@@ -10,15 +10,15 @@ use Rattle.zone_scanner.specs.declared.signs.Sign.TheVariants.{Blank, LineEnd, O
 use Rattle.zone_scanner.specs.declared.signs.Mode.TheVariants.{Plain}
 use Rattle.zone_scanner.specs.Signs.{Mark, marks_from, end_from, first_place, fault}
 
--- a word of an entry: where it begins, whether it stands in quotes, whether no blank stands between it and the word before, and
--- its octets, with its escapes and without its quotes
+-- a word of an entry: where it begins, whether it is in quotes, whether no blank stands between it and the word before,
+-- and its octets, with its escapes and without its quotes
 pub record WordText : Type 0 where
   pub place : Place
   pub quoted : Bool
   pub joined : Bool
   pub octets : List ℕ
 
--- an entry: whether a blank stands at the beginning of its line, and its words
+-- an entry: whether a blank is at the beginning of its line, and its words
 pub record EntryWords : Type 0 where
   pub indented : Bool
   pub words : List WordText
@@ -185,7 +185,7 @@ words_of_piece (m ∷ ms) =
 abbrev pub words_of_line : List Mark → List WordText
 words_of_line l = flat_map words_of_piece (pieces l)
 
--- a line is indented if a blank stands at its beginning
+-- a line is indented if a blank is at its beginning
 abbrev pub is_blank_sign : Sign → Bool
 is_blank_sign Blank = true
 is_blank_sign LineEnd = false

@@ -78,7 +78,7 @@ sign_of (InQuotes q) p b =
 sign_of (EscapeInQuotes q) p b = escaped_sign p b
 sign_of InComment p b = if b == line_feed then LineEnd else Blank
 
--- and what the next octet stands behind
+-- and what the next octet comes after
 abbrev pub mode_after : Mode → Place → ℕ → Mode
 mode_after Plain p b =
     if b == semicolon then InComment
@@ -93,7 +93,7 @@ mode_after (InQuotes q) p b =
 mode_after (EscapeInQuotes q) p b = InQuotes q
 mode_after InComment p b = if b == line_feed then Plain else InComment
 
--- an octet is one of a word, wherever it stands, and leaves what the next one stands behind as it is
+-- an octet is one of a word, wherever it stands, and leaves what the next one comes after as it is
 abbrev pub goes_on : Mode → ℕ → Bool
 goes_on Plain b =
     not (is_blank b || b == semicolon) && (not (ends_line b) && (not (b == opening) && (not (b == closing)

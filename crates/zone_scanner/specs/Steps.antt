@@ -1,5 +1,5 @@
--- How the program reads a text, octet by octet from the left. No public call speaks of it: what the entries of a text are is
--- said in `Entries`, and a law says that both are the same.
+-- How the program reads a text, octet by octet from the left. No public call is about it: what the entries of a text
+-- are is said in `Entries`, and a law says that both are the same.
 use Rattle.std.specs.Prelude.{◌≡◌, ℕ, List, [], ◌∷◌, ◌++◌, Bool, true, false, Option, Some, None, Result, Ok, Err}
 use Rattle.zone_scanner.specs.declared.place.Place.{Place}
 use Rattle.zone_scanner.specs.declared.fault.EntryFault.{EntryFault}
@@ -20,7 +20,7 @@ pub data Hand : Type 0 where
   Between : Hand
   Going : WordText → Hand
 
--- what was read of a line: whether it is indented, its words that are whole, and where the reader stands behind them
+-- what was read of a line: whether it is indented, its words that are whole, and where the reader comes after them
 pub record LineSoFar : Type 0 where
   pub indented : Bool
   pub words : List WordText

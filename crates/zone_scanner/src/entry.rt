@@ -52,7 +52,7 @@ impl Word {
         self.place
     }
 
-    /// Whether it stands in quotes.
+    /// Whether it is in quotes.
     pub fn is_quoted(&self) -> bool
         ensures { result ≡ self.now.quoted }
     {
@@ -66,7 +66,7 @@ impl Word {
         self.is_joined
     }
 
-    /// Its octets as they stand in the text, with its escapes and without its quotes.
+    /// Its octets as they are in the text, with its escapes and without its quotes.
     pub fn octets(&self) -> &[u8]
         ensures { result.now ≡ self.now.octets }
     {
@@ -97,8 +97,8 @@ impl Entry {
         Entry { is_indented, words }
     }
 
-    /// Whether a blank stands at the beginning of its line: then its first word isn't an owner name, and the owner is that of
-    /// the record before (RFC 1035 section 5.1).
+    /// Whether a blank is at the beginning of its line: then its first word isn't an owner name, and the owner is that
+    /// of the record before (RFC 1035 section 5.1).
     pub fn is_indented(&self) -> bool
         ensures { result ≡ self.now.indented }
     {

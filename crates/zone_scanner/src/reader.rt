@@ -62,7 +62,7 @@ impl Model for EntryReader {
 impl EntryReader {
     ghost use Rattle.zone_scanner.specs.Steps.{start_of_text};
 
-    /// At the beginning of a text. Takes no memory.
+    /// At the beginning of a text. Doesn't allocate.
     #[tactic(auto, using(crate::proofs::EntryLaw::reads_text))]
     pub fn new(alloc: Global) -> EntryReader
         ensures { (text : List ℕ) → events_from text result ≡ events_of text }
@@ -88,8 +88,8 @@ impl EntryReader {
     ///
     /// # Errors
     ///
-    /// The first fault of the text, if it stands in this piece before the end of an entry; `Memory` where no memory is found
-    /// for the words. The reader is of no use then: nothing is said of what it makes of further pieces.
+    /// The first fault of the text, if it is in this piece before the end of an entry; `Memory` where there isn't
+    /// enough memory for the words. The reader is of no use then: nothing is said of what it makes of further pieces.
     pub fn take_entry(
         &mut self,
         alloc: Global,
@@ -125,7 +125,7 @@ impl EntryReader {
     ///
     /// # Errors
     ///
-    /// A fault where the text may not end here; `Memory` where no memory is found for a word.
+    /// A fault where the text may not end here; `Memory` where there isn't enough memory for a word.
     pub fn finish(mut self, alloc: Global) -> Result<Option<Entry>, EntryError>
         ensures ok { IfOk result (λ entry. events_from [] self ≡ with_entry entry []) }
         ensures fault { IfErr result (λ e. (f : EntryFault) → e ≡ EntryError.Fault f →
@@ -161,8 +161,8 @@ impl EntryReader {
         Ok(entry)
     }
 
-    /// Takes the octets at the front of what follows that are octets of one word and nothing else, in one piece, and gives how
-    /// many these are. Refused by `Memory` alone.
+    /// Takes the octets at the start of what follows that are octets of one word and nothing else, in one piece, and
+    /// gives how many these are. Its only error is `Memory`.
     fn take_run(&mut self, alloc: Global, rest: &[u8]) -> Result<usize, EntryError>
         ensures ok { IfOk result (λ n. (more : List ℕ) →
             events_from (rest.now ++ more) self.old

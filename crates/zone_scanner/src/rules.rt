@@ -11,7 +11,7 @@ use crate::signs::Sign;
 /// entry of this size does.
 const ENTRY_LIMIT: u32 = 1_048_576;
 
-/// What is wrong with a sign where it stands in an entry, if something is.
+/// What is wrong with a sign where it is in an entry, if something is.
 pub(crate) fn fault_at(
     sign: Sign,
     place: Place,
@@ -70,7 +70,7 @@ pub(crate) fn open_after(sign: Sign, place: Place, group: Option<Place>) -> Opti
     }
 }
 
-/// How many octets of words and opening quotes the entry has behind a sign that may stand there.
+/// How many octets of words and opening quotes the entry has behind a sign that may be there.
 pub(crate) fn size_after(sign: Sign, group: Option<Place>, size: u32) -> u32
     requires { fault_at sign first_place group size ≡ None }
     ensures { result ≡ size_after sign group size }

@@ -26,7 +26,7 @@ pub(crate) enum Sign {
     Wrong(EntryFault),
 }
 
-/// What stands before an octet and decides what it stands for.
+/// What comes before an octet and decides what it stands for.
 #[derive(Clone, Copy, PartialEq, Eq, Debug)]
 pub(crate) enum Mode {
     /// Nothing that does.
@@ -64,7 +64,7 @@ impl Mode {
         }
     }
 
-    /// What stands before the next octet.
+    /// What comes before the next octet.
     pub(crate) fn after(self, place: Place, octet: u8) -> Mode
         ensures { result ≡ mode_after self place octet }
     {
@@ -89,7 +89,7 @@ impl Mode {
         }
     }
 
-    /// Whether an octet is one of a word, wherever it stands, and the next stands behind the same mode.
+    /// Whether an octet is one of a word, wherever it stands, and the next comes after the same mode.
     fn goes_on(self, octet: u8) -> bool
         ensures { result ≡ goes_on self octet }
     {
@@ -103,7 +103,7 @@ impl Mode {
         }
     }
 
-    /// How many octets at the front of a text go on so, up to a number.
+    /// How many octets at the start of a text go on so, up to a number.
     pub(crate) fn run_length(self, text: &[u8], most: usize) -> usize
         ensures within { result ≤ length text.now }
         ensures most { result ≤ most }
@@ -152,7 +152,7 @@ impl Sign {
     }
 }
 
-/// What an octet outside of quotes and comments stands for, where no backslash stands before it.
+/// What an octet outside of quotes and comments stands for, where no backslash comes before it.
 fn plain_sign(octet: u8) -> Sign
     ensures { result ≡ plain_sign octet }
 {

@@ -1,5 +1,5 @@
 -- A name is read by itself as defined.
-use Rattle.std.proofs.Common.{◌≡◌, ◌⊎◌, inl, inr, ℕ, List, [], ◌∷◌, ◌++◌, Bool, true, false, ◌==◌, not, if◌then◌else◌, nat_lt, length, arith, sym, ap, ◌∙◌, append_assoc, append-nil, Option, Some, None, Ok, Err, Result, refl, subst}
+use Rattle.std.proofs.Common.{◌≡◌, ◌≢◌, ◌⊎◌, inl, inr, ℕ, List, [], ◌∷◌, ◌++◌, Bool, true, false, ◌==◌, not, if◌then◌else◌, nat_lt, length, arith, sym, ap, ◌∙◌, append_assoc, append-nil, Option, Some, None, Ok, Err, Result, refl, subst}
 use Rattle.std.specs.Prelude.{IfOk}
 use Rattle.std.specs.Str.{IsUtf8}
 use Rattle.std.proofs.lemmas.Str.{IsUtf8-from_ascii}
@@ -11,23 +11,23 @@ use Rattle.std.specs.List.{list_all}
 use Rattle.zone_proto.specs.TextForm.{dot, backslash, is_graphic}
 use Rattle.zone_proto.specs.Parse.{Reader, labels_of_text, next_or_none, plain_step, read_on, start, with_octet}
 use Rattle.zone_proto.specs.Faults.{fault_of, IsTextFault, no_labels, no_name}
-use Rattle.zone_proto.specs.Results.{TellsTextFault}
+use Rattle.zone_proto.specs.Results.{ReportsTextFault}
 use Rattle.zone_proto.proofs.Texts.TextForms.{form_read, read_form}
 use Rattle.zone_proto.proofs.Texts.TextFaults.{name_has_no_fault}
 use Rattle.line_text.proofs.Ascii.{name_ascii}
 use Rattle.zone_proto.specs.Data.{same_octets}
 use Rattle.std.proofs.lemmas.Bool.{not-true}
 use Rattle.zone_tokens.proofs.WordTexts.{and_first, and_second}
-use Rattle.zone_tokens.specs.Names.{at_sign, before_origin, is_absolute, is_itself, is_one_label, name_alone, name_under, checked_if_there, checked, unless, Refuses, Reads}
+use Rattle.zone_tokens.specs.Names.{at_sign, before_origin, graphic_name, is_absolute, is_itself, is_one_label, name_alone, name_under, checked_if_there, checked, spelled, unless, unless_spelled, Refuses, Reads}
 
-pub alone_read : (w : List ℕ) (n : Name) → IsNameText w n → IsName n → name_alone w ≡ Ok n
+pub alone_read : (w : List ℕ) (n : Name) → IsNameText w n → IsName n → graphic_name w ≡ Ok n
 alone_read w n form name = rw (form_read w n form) (by (fault_of n) refl)
   where
     by : (f : Option ProtoError) → fault_of n ≡ f → unless f n ≡ Ok n
     by None e = refl
     by (Some g) e = absurd (name_has_no_fault w n g form name (no_name n form e))
 
-refused : (w : List ℕ) (e : ProtoError) → IsTextFault w e → name_alone w ≡ Err e
+refused : (w : List ℕ) (e : ProtoError) → IsTextFault w e → graphic_name w ≡ Err e
 refused w e (no_labels bad is) = by (labels_of_text w) refl
   where
     by : (o : Option Name) → labels_of_text w ≡ o → checked_if_there o ≡ Err e
@@ -43,11 +43,11 @@ told NameTooLong r h = h
 told Hash r h = h
 told Memory r h = tt
 
-pub alone_refused : (w : List ℕ) (e : ProtoError) → (e ≡ Memory) ⊎ IsTextFault w e → Refuses e (name_alone w)
+pub alone_refused : (w : List ℕ) (e : ProtoError) → (e ≡ Memory) ⊎ IsTextFault w e → Refuses e (graphic_name w)
 alone_refused w e (inl m) = rw m tt
-alone_refused w e (inr fault) = told e (name_alone w) (refused w e fault)
+alone_refused w e (inr fault) = told e (graphic_name w) (refused w e fault)
 
-pub alone_not_text : (w : List ℕ) → ¬ (IsUtf8 w) → name_alone w ≡ Err BadText
+pub alone_not_text : (w : List ℕ) → ¬ (IsUtf8 w) → graphic_name w ≡ Err BadText
 alone_not_text w wrong = by (labels_of_text w) refl
   where
     by : (o : Option Name) → labels_of_text w ≡ o → checked_if_there o ≡ Err BadText
@@ -55,13 +55,31 @@ alone_not_text w wrong = by (labels_of_text w) refl
     by (Some ls) h = absurd (wrong (IsUtf8-from_ascii w (name_ascii w ls (read_form w ls h))))
 
 -- what is read of a text that is the word's octets
-pub read_as_text : (w t : List ℕ) (r : Result Name ProtoError) → t ≡ w → IfOk r (IsNameText t) → IfOk r (λ n. IsName n) → TellsTextFault r t → Reads r (name_alone w)
+pub read_as_text : (w t : List ℕ) (r : Result Name ProtoError) → t ≡ w → IfOk r (IsNameText t) → IfOk r (λ n. IsName n) → ReportsTextFault r t → Reads r (graphic_name w)
 read_as_text w t (Ok n) same form name fault = alone_read w n (subst (λ s. IsNameText s n) same form) name
 read_as_text w t (Err e) same form name fault =
     let P : List ℕ → Type 0 = λ s. (e ≡ Memory) ⊎ IsTextFault s e in
     alone_refused w e (subst P same fault)
 
 pub ruleset names = (alone_read, alone_refused, alone_not_text)
+
+-- ---- a name that isn't read as it is
+
+pub read_again : (w : List ℕ) (e : ProtoError) (again : Result Name ProtoError) → e ≡ BadText → Refuses e (graphic_name w) → Reads again (graphic_name (spelled w)) → Reads again (name_alone w)
+read_again w e again is h more = let bad : graphic_name w ≡ Err BadText = subst (λ (x : ProtoError). Refuses x (graphic_name w)) is h in rw bad more
+
+pub read_once : (w : List ℕ) (n : Name) → graphic_name w ≡ Ok n → name_alone w ≡ Ok n
+read_once w n h = rw h refl
+
+pub refused_once : (w : List ℕ) (e : ProtoError) → e ≢ BadText → Refuses e (graphic_name w) → Refuses e (name_alone w)
+refused_once w BadText other h = absurd (other refl)
+refused_once w EmptyLabel other h = rw h refl
+refused_once w LabelTooLong other h = rw h refl
+refused_once w NameTooLong other h = rw h refl
+refused_once w Hash other h = rw h refl
+refused_once w Memory other h = tt
+
+pub ruleset again = (read_again, read_once, refused_once)
 
 -- ---- labels that are a name or not
 
@@ -134,11 +152,28 @@ label_checked origin (b ∷ s) all = by (nat_lt 63 (length (b ∷ s))) refl
         let faultless : fault_of ((b ∷ s) ∷ []) ≡ None = rw (some, h, short h) refl in
         ap (λ (f : Option ProtoError). before_origin origin (unless f ((b ∷ s) ∷ []))) faultless
 
+-- its text is a name's, so no octet of it is spelled otherwise
+label_alone : (w : List ℕ) → is_one_label w ≡ true → unless_spelled w (checked (w ∷ [])) ≡ checked (w ∷ [])
+label_alone [] all = absurd cc
+label_alone (b ∷ s) all = by (nat_lt 63 (length (b ∷ s))) refl
+  where
+    short : nat_lt 63 (length (b ∷ s)) ≡ false → nat_lt 255 (wire_length ((b ∷ s) ∷ [])) ≡ false
+    short h = grind arith
+
+    some : (length (b ∷ s) == 0) ≡ false
+    some = grind arith
+
+    by : (long : Bool) → nat_lt 63 (length (b ∷ s)) ≡ long → unless_spelled (b ∷ s) (checked ((b ∷ s) ∷ [])) ≡ checked ((b ∷ s) ∷ [])
+    by true h = rw (some, h) refl
+    by false h =
+        let faultless : fault_of ((b ∷ s) ∷ []) ≡ None = rw (some, h, short h) refl in
+        rw faultless refl
+
 pub one_label : (origin : Name) (w : List ℕ) (result : Result Name ProtoError) → same_octets w at_sign ≡ false → is_one_label w ≡ true
     → Reads result (checked (w ∷ origin)) → Reads result (name_under origin w)
 one_label origin w result h k r =
     let every : list_all is_itself w ≡ true = every_octet w k in
-    rw (h, one_label_relative w every, one_label_text w k, label_checked origin w k) r
+    rw (h, one_label_relative w every, one_label_text w k, label_alone w k, label_checked origin w k) r
 
 -- ---- a name before the origin
 

@@ -11,7 +11,7 @@ use Rattle.std.proofs.lemmas.Slice.Eq.{bytes_eq-Decides}
 use Rattle.zone_proto.specs.declared.record_type.RecordType.{RecordType}
 use Rattle.zone_proto.specs.TypeText.{Word, number_of, or_else, type_of_text}
 use Rattle.line_text.proofs.Ascii.{type_ascii}
-use Rattle.zone_tokens.specs.Types.{algorithm_words, class_words, class_by_number, first_words, further_type, last_words, second_words, third_words, type_by_number, type_named, class_named, upper, upper_class, upper_type}
+use Rattle.zone_tokens.specs.Types.{algorithm_words, certificate_type_words, class_words, class_by_number, digest_type_words, first_words, further_type, last_words, second_words, third_words, type_by_number, type_named, class_named, upper, upper_class, upper_type}
 
 abbrev small : ℕ → Bool
 small b = nat_lt b 128
@@ -46,7 +46,7 @@ word_ascii (w ∷ ws) t n all h =
         subst P (sym ((bytes_eq-Decides t w.text).0 e)) (ascii_of w.text (and_first (list_all small w.text) (are_small ws) all))
     by false e g more = more g
 
-no_word : (ws : List Word) (t : List ℕ) → are_small ws ≡ true → ¬ (IsUtf8 t) → number_of t ws ≡ None
+pub no_word : (ws : List Word) (t : List ℕ) → are_small ws ≡ true → ¬ (IsUtf8 t) → number_of t ws ≡ None
 no_word ws t all wrong = by (number_of t ws) refl
   where
     by : (o : Option ℕ) → number_of t ws ≡ o → o ≡ None
@@ -80,6 +80,12 @@ class_not_text t wrong = by (number_of t class_words) (no_word class_words t ref
 
 pub algorithm_not_text : (t : List ℕ) → ¬ (IsUtf8 t) → number_of t algorithm_words ≡ None
 algorithm_not_text t wrong = no_word algorithm_words t refl wrong
+
+pub digest_type_not_text : (t : List ℕ) → ¬ (IsUtf8 t) → number_of t digest_type_words ≡ None
+digest_type_not_text t wrong = no_word digest_type_words t refl wrong
+
+pub certificate_type_not_text : (t : List ℕ) → ¬ (IsUtf8 t) → number_of t certificate_type_words ≡ None
+certificate_type_not_text t wrong = no_word certificate_type_words t refl wrong
 
 -- a type that `RecordType` reads, and one that it doesn't
 pub known_type : (t : List ℕ) (r : RecordType) → Some r.0 ≡ type_of_text t → upper_type t ≡ Some r

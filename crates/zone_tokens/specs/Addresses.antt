@@ -1,6 +1,7 @@
--- Addresses as master files write them
+-- Addresses as zone files write them
 use Rattle.std.specs.Prelude.{ℕ, zero, suc, ◌+◌, ◌-◌, ◌++◌, ◌==◌, ◌&&◌, List, [], ◌∷◌, nat_lt, length, take, drop, count_by, sum_by, Option, Some, None, option_map, option_and_then, if◌then◌else◌}
-use Rattle.line_text.specs.Addresses.{ipv4_of_text, ipv6_of_text}
+use Rattle.std.specs.List.{list_any}
+use Rattle.line_text.specs.Addresses.{ipv4_of_text, ipv6_of_text, ipv6_text}
 
 -- the digits of a number below 1000
 abbrev pub width : ℕ → ℕ
@@ -51,6 +52,28 @@ abbrev pub or_full : Option ℕ → List ℕ → Option (List ℕ)
 or_full None w = ipv6_of_text w
 or_full (Some k) w = option_and_then ipv6_of_text (full_form (take k w) (drop (k + 2) w))
 
--- an address, which has at most 39 octets
+-- an address of groups, which has at most 39 octets
+abbrev pub groups_of_word : List ℕ → Option (List ℕ)
+groups_of_word w = if nat_lt 39 (length w) then None else or_full (double_at w) w
+
+-- "x:x:x:x:x:x:d.d.d.d": the four numbers of an IPv4 address stand for the last two groups (RFC 4291 section 2.2). They stand
+-- behind the last colon; the address has at most 45 octets then.
+abbrev pub last_colon : List ℕ → ℕ
+last_colon [] = 0
+last_colon (b ∷ s) = if list_any (λ c. c == 58) s then last_colon s + 1 else (if b == 58 then 1 else 0)
+
+abbrev pub with_numbers : List ℕ → List ℕ → Option (List ℕ)
+with_numbers front back = option_map (λ a. front ++ ipv6_text a) (ipv4_of_word back)
+
+abbrev pub numbers_of_word : List ℕ → Option (List ℕ)
+numbers_of_word w =
+    if nat_lt 45 (length w) then None
+    else option_and_then groups_of_word (with_numbers (take (last_colon w) w) (drop (last_colon w) w))
+
+-- an address, of groups or with four numbers behind them
+abbrev pub or_numbers : List ℕ → Option (List ℕ) → Option (List ℕ)
+or_numbers w (Some a) = Some a
+or_numbers w None = numbers_of_word w
+
 abbrev pub ipv6_of_word : List ℕ → Option (List ℕ)
-ipv6_of_word w = if nat_lt 39 (length w) then None else or_full (double_at w) w
+ipv6_of_word w = or_numbers w (groups_of_word w)

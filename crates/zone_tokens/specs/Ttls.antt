@@ -1,5 +1,5 @@
 -- TTLs and other seconds, with units or without
-use Rattle.std.specs.Prelude.{ℕ, ℤ, ◌+◌, ◌*◌, List, [], ◌∷◌, ◌==◌, Option, Some, None, option_map, option_and_then, pos, if◌then◌else◌}
+use Rattle.std.specs.Prelude.{ℕ, ◌+◌, ◌*◌, List, [], ◌∷◌, ◌==◌, Option, Some, None, option_and_then, if◌then◌else◌}
 use Rattle.std.specs.Char.{to_ascii_lowercase}
 use Rattle.zone_proto.specs.TypeText.{or_else}
 use Rattle.line_text.specs.Numbers.{at_most, digit_of, number_within}
@@ -14,41 +14,46 @@ seconds_of b =
     else (if to_ascii_lowercase b == 115 then Some 1
     else None))))
 
--- a TTL has at most 31 bits (RFC 2181 section 8)
+-- a TTL has at most 31 bits (RFC 2181 section 8), and a timer of an SOA 32 (RFC 1035 section 3.3.13)
 abbrev pub longest : ℕ
 longest = 2147483647
 
--- a number with one digit more
-abbrev pub digit_more : Option ℕ → ℕ → Option ℕ
-digit_more None d = Some d
-digit_more (Some n) d = at_most longest (n * 10 + d)
+abbrev pub longest_timer : ℕ
+longest_timer = 4294967295
+
+-- a number with one digit more, if it is at most this
+abbrev pub digit_more : ℕ → Option ℕ → ℕ → Option ℕ
+digit_more most None d = Some d
+digit_more most (Some n) d = at_most most (n * 10 + d)
 
 -- seconds with a number of units more
-abbrev pub units_more : ℕ → Option ℕ → ℕ → Option ℕ
-units_more total None unit = None
-units_more total (Some n) unit = at_most longest (total + n * unit)
+abbrev pub units_more : ℕ → ℕ → Option ℕ → ℕ → Option ℕ
+units_more most total None unit = None
+units_more most total (Some n) unit = at_most most (total + n * unit)
 
-abbrev pub unit_or_digit : Option ℕ → Option ℕ → Option ℕ → ℕ → (Option ℕ → ℕ → Option ℕ) → Option ℕ
-unit_or_digit (Some d) unit number total more = option_and_then (λ n. more (Some n) total) (digit_more number d)
-unit_or_digit None (Some unit) number total more = option_and_then (λ t. more None t) (units_more total number unit)
-unit_or_digit None None number total more = None
+abbrev pub unit_or_digit : ℕ → Option ℕ → Option ℕ → Option ℕ → ℕ → (Option ℕ → ℕ → Option ℕ) → Option ℕ
+unit_or_digit most (Some d) unit number total more = option_and_then (λ n. more (Some n) total) (digit_more most number d)
+unit_or_digit most None (Some unit) number total more = option_and_then (λ t. more None t) (units_more most total number unit)
+unit_or_digit most None None number total more = None
 
--- Numbers, each with its unit behind it, to the end of the word: the sum of their seconds. `number` is what the digits before
--- this octet write, if some stand there, and `total` the seconds before them.
-abbrev pub in_units : List ℕ → Option ℕ → ℕ → Option ℕ
-in_units [] None total = Some total
-in_units [] (Some n) total = None
-in_units (b ∷ s) number total = unit_or_digit (digit_of 10 b) (seconds_of b) number total (in_units s)
+-- Numbers, each with its unit behind it, to the end of the word: the sum of their seconds, which is at most this. `number` is what
+-- the digits before this octet write, if some are there, and `total` the seconds before them.
+abbrev pub in_units : ℕ → List ℕ → Option ℕ → ℕ → Option ℕ
+in_units most [] None total = Some total
+in_units most [] (Some n) total = None
+in_units most (b ∷ s) number total = unit_or_digit most (digit_of 10 b) (seconds_of b) number total (in_units most s)
 
--- seconds in digits
-abbrev pub in_seconds : List ℕ → Option ℕ
-in_seconds w = option_and_then (at_most longest) (number_within 10 4294967295 w)
+-- seconds: in digits, or numbers with units, as BIND has them (1h30m)
+abbrev pub in_seconds : ℕ → List ℕ → Option ℕ
+in_seconds most w = option_and_then (at_most most) (number_within 10 4294967295 w)
 
--- a TTL: seconds in digits, or numbers with units, as BIND has them (1h30m)
+abbrev pub period_of_word : ℕ → List ℕ → Option ℕ
+period_of_word most [] = None
+period_of_word most (b ∷ s) = or_else (in_seconds most (b ∷ s)) (in_units most (b ∷ s) None 0)
+
+-- a TTL, and the seconds of a timer, which are written as a TTL is
 abbrev pub ttl_of_word : List ℕ → Option ℕ
-ttl_of_word [] = None
-ttl_of_word (b ∷ s) = or_else (in_seconds (b ∷ s)) (in_units (b ∷ s) None 0)
+ttl_of_word = period_of_word longest
 
--- the seconds of a timer of an SOA, which are written as a TTL is
-abbrev pub timer_of_word : List ℕ → Option ℤ
-timer_of_word w = option_map pos (option_and_then (at_most longest) (ttl_of_word w))
+abbrev pub timer_of_word : List ℕ → Option ℕ
+timer_of_word = period_of_word longest_timer

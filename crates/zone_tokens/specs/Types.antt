@@ -165,3 +165,36 @@ algorithm_words =
 
 abbrev pub algorithm_named : List ℕ → Option ℕ
 algorithm_named w = or_else (number_within 10 255 w) (number_of (upper w) algorithm_words)
+
+-- Digests of DS records by their mnemonics (RFC 4034 appendix A.2, RFC 4509, RFC 5933, RFC 6605), or by their numbers
+abbrev pub digest_type_words : List Word
+digest_type_words =
+    record { number = 1; text = codes "SHA-1" }
+    ∷ record { number = 1; text = codes "SHA1" }
+    ∷ record { number = 2; text = codes "SHA-256" }
+    ∷ record { number = 2; text = codes "SHA256" }
+    ∷ record { number = 3; text = codes "GOST" }
+    ∷ record { number = 4; text = codes "SHA-384" }
+    ∷ record { number = 4; text = codes "SHA384" }
+    ∷ []
+
+abbrev pub digest_type_named : List ℕ → Option ℕ
+digest_type_named w = or_else (number_within 10 255 w) (number_of (upper w) digest_type_words)
+
+-- Types of certificates by their mnemonics (RFC 4398 section 2.1), or by their numbers
+abbrev pub certificate_type_words : List Word
+certificate_type_words =
+    record { number = 1; text = codes "PKIX" }
+    ∷ record { number = 2; text = codes "SPKI" }
+    ∷ record { number = 3; text = codes "PGP" }
+    ∷ record { number = 4; text = codes "IPKIX" }
+    ∷ record { number = 5; text = codes "ISPKI" }
+    ∷ record { number = 6; text = codes "IPGP" }
+    ∷ record { number = 7; text = codes "ACPKIX" }
+    ∷ record { number = 8; text = codes "IACPKIX" }
+    ∷ record { number = 253; text = codes "URI" }
+    ∷ record { number = 254; text = codes "OID" }
+    ∷ []
+
+abbrev pub certificate_type_named : List ℕ → Option ℕ
+certificate_type_named w = or_else (number_within 10 65535 w) (number_of (upper w) certificate_type_words)

@@ -1,12 +1,13 @@
 //! Addresses.
-ghost use Rattle.std.specs.Prelude.{◌≡◌, ◌+◌, ◌<◌, ◌≤◌, ◌==◌, Some, None, IfOk, IfSome, OnOk, length, count_by, option_map, option_and_then};
-ghost use Rattle.zone_tokens.specs.Addresses.{double_at, full_form, ipv4_of_word, ipv4_width, unpadded, width, group_count, ipv6_of_word, with_groups, with_zero, with_zeros};
+ghost use Rattle.std.specs.Prelude.{◌≡◌, ◌+◌, ◌<◌, ◌≤◌, ◌==◌, Some, None, IfOk, IfSome, OnOk, length, count_by, option_map, option_and_then, string_bytes};
+ghost use Rattle.line_text.specs.Addresses.{ipv6_text};
+ghost use Rattle.zone_tokens.specs.Addresses.{double_at, full_form, groups_of_word, ipv4_of_word, ipv4_width, last_colon, numbers_of_word, unpadded, width, group_count, ipv6_of_word, with_groups, with_zero, with_zeros};
 
-use line_text::{read_ipv4, read_ipv6};
+use line_text::{HexText, read_ipv4, read_ipv6};
 use std::alloc::{AllocError, Global};
 
-/// Reads an IPv4 address: four numbers from 0 to 255 with dots between them (RFC 1035 section 3.4.1), without leading zeros,
-/// which some programs read as octal. None where the word isn't that.
+/// Reads an IPv4 address: four numbers from 0 to 255 with dots between them (RFC 1035 section 3.4.1), without leading
+/// zeros, which some programs read as octal. None if the word isn't that.
 pub fn read_ipv4_word(word: &[u8]) -> Option<[u8; 4]>
     ensures { result ≡ ipv4_of_word word.now }
 {
@@ -44,10 +45,65 @@ fn width(number: u8) -> usize
     }
 }
 
-/// Reads an IPv6 address: eight groups of hex digits, of which `::` leaves out groups of zeros (RFC 4291 section 2.2). None
-/// where the word is none.
+/// Reads an IPv6 address: eight groups of hex digits, of which `::` leaves out groups of zeros, and in place of the last two of
+/// which the four numbers of an IPv4 address may stand (RFC 4291 section 2.2). None if the word is none.
 pub fn read_ipv6_word(alloc: Global, word: &[u8]) -> Result<Option<[u8; 16]>, AllocError>
     ensures { IfOk result (λ a. a ≡ ipv6_of_word word.now) }
+{
+    match read_groups(alloc, word)? {
+        Some(address) => Ok(Some(address)),
+        None => read_with_numbers(alloc, word),
+    }
+}
+
+/// Reads an address whose last two groups are written as an IPv4 address.
+fn read_with_numbers(alloc: Global, word: &[u8]) -> Result<Option<[u8; 16]>, AllocError>
+    ensures { IfOk result (λ a. a ≡ numbers_of_word word.now) }
+{
+    if word.len() > 45 {
+        return Ok(None);
+    }
+    let (front, back) = word.split_at(last_colon(word));
+    let Some(numbers) = read_ipv4_word(back) else {
+        return Ok(None);
+    };
+    let groups = two_groups(alloc, &numbers)?;
+    let mut text = Vec::from_slice(alloc, front)?;
+    text.extend_from_slice(groups.as_bytes())?;
+    read_groups(alloc, text.as_slice())
+}
+
+/// Two groups of hex for the numbers of an IPv4 address.
+fn two_groups(alloc: Global, numbers: &[u8; 4]) -> Result<String, AllocError>
+    ensures { IfOk result (λ text. string_bytes text ≡ ipv6_text numbers.now) }
+{
+    let [a, b, c, d] = numbers;
+    let (high, low) = ([*a, *b], [*c, *d]);
+    format!(in alloc; "{}:{}", HexText(&high), HexText(&low))
+}
+
+/// How many octets stand up to the last colon, and with it; none if there is no colon.
+fn last_colon(word: &[u8]) -> usize
+    ensures value { result ≡ last_colon word.now }
+    ensures within { result ≤ length word.now }
+{
+    match word {
+        [] => 0,
+        [first, others @ ..] => {
+            if others.contains(&b':') {
+                last_colon(others) + 1
+            } else if *first == b':' {
+                1
+            } else {
+                0
+            }
+        }
+    }
+}
+
+/// Reads an address of groups.
+fn read_groups(alloc: Global, word: &[u8]) -> Result<Option<[u8; 16]>, AllocError>
+    ensures { IfOk result (λ a. a ≡ groups_of_word word.now) }
 {
     if word.len() > 39 {
         return Ok(None);
@@ -112,7 +168,7 @@ fn colon_count(text: &[u8]) -> usize
     text.iter().filter(|octet| **octet == b':').count()
 }
 
-/// Puts groups of 0 behind a text.
+/// Appends groups of 0 to a text.
 #[tactic(auto, using(crate::proofs::ZeroGroups::zeros_more, crate::proofs::ZeroGroups::zeros_none))]
 fn push_zeros(text: &mut Vec<u8>, count: usize) -> Result<(), AllocError>
     ensures { OnOk result (text.new.items ≡ with_zeros count text.old.items) }
@@ -123,7 +179,7 @@ fn push_zeros(text: &mut Vec<u8>, count: usize) -> Result<(), AllocError>
     Ok(())
 }
 
-/// Puts a group of 0 behind a text.
+/// Appends a group of 0 to a text.
 fn push_zero(text: &mut Vec<u8>) -> Result<(), AllocError>
     ensures { OnOk result (text.new.items ≡ with_zero text.old.items) }
 {
@@ -135,7 +191,7 @@ fn push_zero(text: &mut Vec<u8>) -> Result<(), AllocError>
     Ok(())
 }
 
-/// Puts groups behind a text.
+/// Appends groups to a text.
 fn push_groups(text: &mut Vec<u8>, groups: &[u8]) -> Result<(), AllocError>
     ensures { OnOk result (text.new.items ≡ with_groups text.old.items groups.now) }
 {

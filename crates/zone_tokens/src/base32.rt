@@ -7,8 +7,9 @@ ghost use Rattle.zone_tokens.specs.Base32.{base32_octets, five_bits_at, octet_fr
 use std::alloc::{AllocError, Global};
 use zone_proto::base32_dnssec;
 
-/// Reads octets from base32hex without padding, letters in either case (RFC 4648 section 7), as an NSEC3 has its next hash (RFC
-/// 5155 section 3.3). None where the word isn't that, or where bits that are left over behind the last octet aren't zero.
+/// Reads octets from base32hex without padding, letters in either case (RFC 4648 section 7), as an NSEC3 has its next
+/// hash (RFC 5155 section 3.3). None if the word isn't that, or where bits that are left over behind the last octet
+/// aren't zero.
 pub fn read_base32(alloc: Global, word: &[u8]) -> Result<Option<Vec<u8>>, AllocError>
     ensures { IfOk result
         (λ octets. option_map (λ o. o.items) octets ≡ base32_octets word.now) }

@@ -10,7 +10,7 @@ use base64::engine::general_purpose::STANDARD;
 use line_text::read_hex;
 use std::alloc::{AllocError, Global};
 
-/// Reads one octet or more from hex digits, two each, in either case. None where the text isn't that.
+/// Reads one octet or more from hex digits, two each, in either case. None if the text isn't that.
 pub fn read_hex_digits(alloc: Global, text: &[u8]) -> Result<Option<Vec<u8>>, AllocError>
     ensures { IfOk result (λ octets. option_map (λ o. o.items) octets ≡ hex_text text.now) }
 {
@@ -20,14 +20,14 @@ pub fn read_hex_digits(alloc: Global, text: &[u8]) -> Result<Option<Vec<u8>>, Al
     }
 }
 
-/// Reads the salt of an NSEC3: hex digits, or `-` for an empty one (RFC 5155 section 3.3). None where the word is neither.
+/// Reads the salt of an NSEC3: hex digits, or `-` for an empty one (RFC 5155 section 3.3). None if the word is neither.
 pub fn read_salt(alloc: Global, word: &[u8]) -> Result<Option<Vec<u8>>, AllocError>
     ensures { IfOk result (λ octets. option_map (λ o. o.items) octets ≡ hex_word word.now) }
 {
     read_hex(alloc, word)
 }
 
-/// Reads octets from base64 in the standard alphabet, padded (RFC 4648 section 4). None where the text isn't that.
+/// Reads octets from base64 in the standard alphabet, padded (RFC 4648 section 4). None if the text isn't that.
 #[tactic(auto, unfolding(base64::specs::GeneralPurpose::decoded_of))]
 pub fn read_base64(alloc: Global, text: &[u8]) -> Result<Option<Vec<u8>>, AllocError>
     ensures { IfOk result

@@ -1,8 +1,8 @@
-//! The words of master files (RFC 1035 section 5.1), each read by itself: names relative to an origin, TTLs with units,
-//! types, classes and algorithms by word or number, addresses, moments, strings with escapes, hex, base64 and base32hex.
+//! The words of zone files (RFC 1035 section 5.1), each read by itself: names relative to an origin, TTLs with units, types,
+//! classes and algorithms by word or number, addresses, times, strings with escapes, hex, base64 and base32hex.
 //!
-//! A word is its octets as they stand in the text, with its escapes. A call answers None where the word isn't what it reads,
-//! and an error where no memory is found. What stands where in an entry is for the crate above.
+//! A word is its octets as they are in the text, with its escapes. A call answers None if the word isn't what it reads,
+//! and an error where there isn't enough memory. What stands where in an entry is for the crate above.
 #![tactic(auto)]
 
 mod addresses;
@@ -21,5 +21,7 @@ pub use digests::{read_base64, read_hex_digits, read_salt};
 pub use moments::read_moment;
 pub use names::read_name_under;
 pub use strings::{read_octets, read_string};
-pub use ttls::{read_seconds, read_ttl};
-pub use types::{read_algorithm, read_class, read_type_word, to_upper};
+pub use ttls::{read_timer, read_ttl};
+pub use types::{
+    read_algorithm, read_certificate_type, read_class, read_digest_type, read_type_word, to_upper,
+};

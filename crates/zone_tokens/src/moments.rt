@@ -15,8 +15,8 @@ struct Date {
     second: u16,
 }
 
-/// Reads a moment: `YYYYMMDDHHmmSS` in UTC, from 1970 on, or seconds since the beginning of 1970 in digits. The result is in
-/// seconds modulo 2^32 (RFC 4034 section 3.1.5). None where the word is neither.
+/// Reads a moment: `YYYYMMDDHHmmSS` in UTC, from 1970 on, or seconds since the beginning of 1970 in digits. The result
+/// is in seconds modulo 2^32 (RFC 4034 section 3.1.5). None if the word is neither.
 pub fn read_moment(word: &[u8]) -> Option<u32>
     ensures { result ≡ moment_of_word word.now }
 {

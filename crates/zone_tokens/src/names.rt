@@ -1,15 +1,16 @@
-//! Names as master files write them.
+//! Names as zone files write them.
 ghost use Rattle.std.specs.Prelude.{◌≡◌, ◌∷◌, ◌++◌, Some, None, Ok, Err, IfOk, OnOk, IsOkUnless};
 ghost use Rattle.std.specs.List.{list_all};
+ghost use Rattle.zone_proto.specs.TextForm.{three_digits};
 ghost use Rattle.zone_proto.specs.Vectors.{octets_of};
-ghost use Rattle.zone_tokens.specs.Names.{Reads, before_origin, checked, is_absolute, is_itself, is_one_label, name_alone, name_under};
+ghost use Rattle.zone_tokens.specs.Names.{Reads, before_origin, checked, graphic_name, is_absolute, is_itself, is_one_label, name_alone, name_under, spelled, spelled_from};
 
 use std::alloc::{AllocError, Global};
 use std::str;
 use zone_proto::{Labels, Name, ProtoError};
 
 /// Reads a name: the origin for `@`, and the name with the origin behind it where it doesn't end with a dot (RFC 1035 section
-/// 5.1). A dot behind a backslash is an octet of its label.
+/// 5.1). An octet behind a backslash is one of its label, whatever it is.
 ///
 /// # Errors
 ///
@@ -73,7 +74,7 @@ fn label_before(label: &[u8], origin: &Name) -> Result<Name, ProtoError>
     }
 }
 
-/// Reads a name that stands before the origin.
+/// Reads a name that comes before the origin.
 #[tactic(auto, using(crate::proofs::NameFacts::before))]
 fn read_before(alloc: Global, origin: &Name, word: &[u8]) -> Result<Name, ProtoError>
     ensures { Reads result (before_origin origin.now (name_alone word.now)) }
@@ -84,7 +85,7 @@ fn read_before(alloc: Global, origin: &Name, word: &[u8]) -> Result<Name, ProtoE
     }
 }
 
-/// Whether a word ends with a dot that no backslash stands before.
+/// Whether a word ends with a dot that no backslash comes before.
 fn is_absolute(word: &[u8]) -> bool
     ensures { result ≡ is_absolute word.now }
 {
@@ -100,9 +101,51 @@ fn is_absolute(word: &[u8]) -> bool
 }
 
 /// Reads a name by itself.
-#[tactic(auto, using(crate::proofs::NameFacts::names))]
+#[tactic(auto, using(crate::proofs::NameFacts::again))]
 fn read_name(alloc: Global, word: &[u8]) -> Result<Name, ProtoError>
     ensures { Reads result (name_alone word.now) }
+{
+    match read_graphic(alloc, word) {
+        Ok(name) => Ok(name),
+        Err(ProtoError::BadText) => {
+            let spelled = spell(alloc, word)?;
+            read_graphic(alloc, spelled.as_slice())
+        }
+        Err(error) => Err(error),
+    }
+}
+
+/// A copy of a word, in which the octets that aren't graphic and stand behind a backslash are their digits.
+fn spell(alloc: Global, word: &[u8]) -> Result<Vec<u8>, AllocError>
+    ensures { IfOk result (λ text. text.items ≡ spelled word.now) }
+{
+    let mut text = Vec::new(alloc);
+    let mut is_behind = false;
+    for octet in word {
+        if is_behind && !octet.is_ascii_graphic() {
+            push_digits(*octet, &mut text)?;
+        } else {
+            text.push(*octet)?;
+        }
+        is_behind = !is_behind && *octet == b'\\';
+    }
+    Ok(text)
+}
+
+/// Puts the three digits of an octet behind a text.
+fn push_digits(octet: u8, text: &mut Vec<u8>) -> Result<(), AllocError>
+    ensures { OnOk result (text.new.items ≡ text.old.items ++ three_digits octet) }
+{
+    text.push(b'0' + octet / 100)?;
+    text.push(b'0' + octet / 10 % 10)?;
+    text.push(b'0' + octet % 10)?;
+    Ok(())
+}
+
+/// Reads the name of a text of graphic octets.
+#[tactic(auto, using(crate::proofs::NameFacts::names))]
+fn read_graphic(alloc: Global, word: &[u8]) -> Result<Name, ProtoError>
+    ensures { Reads result (graphic_name word.now) }
 {
     let Ok(text) = str::from_utf8(word) else {
         return Err(ProtoError::BadText);
@@ -131,7 +174,7 @@ fn name_of(labels: Vec<Vec<u8>>) -> Result<Name, ProtoError>
     }
 }
 
-/// Puts labels behind others.
+/// Appends labels to others.
 fn push_labels(alloc: Global, out: &mut Vec<Vec<u8>>, labels: Labels<'_>) -> Result<(), AllocError>
     ensures { OnOk result (octets_of out.new.items ≡ octets_of out.old.items ++ labels.entry) }
 {

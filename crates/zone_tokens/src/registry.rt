@@ -1,7 +1,7 @@
 //! The words of types, classes and algorithms in their registries.
 ghost use Rattle.std.specs.Prelude.{◌≡◌, Some, None};
 ghost use Rattle.zone_proto.specs.TypeText.{number_of};
-ghost use Rattle.zone_tokens.specs.Types.{first_words, second_words, third_words, last_words, class_words, algorithm_words};
+ghost use Rattle.zone_tokens.specs.Types.{algorithm_words, certificate_type_words, class_words, digest_type_words, first_words, last_words, second_words, third_words};
 
 /// The type up to 26 that a word names, but for those that `RecordType` reads.
 pub(crate) fn first_type(text: &str) -> Option<u16>
@@ -154,6 +154,41 @@ pub(crate) fn algorithm(text: &str) -> Option<u8>
         "INDIRECT" => Some(252),
         "PRIVATEDNS" => Some(253),
         "PRIVATEOID" => Some(254),
+        _ => None,
+    }
+}
+
+/// The type of a digest that a word names.
+pub(crate) fn digest_type(text: &str) -> Option<u8>
+    ensures { result ≡ number_of text.now digest_type_words }
+{
+    match text {
+        "SHA-1" => Some(1),
+        "SHA1" => Some(1),
+        "SHA-256" => Some(2),
+        "SHA256" => Some(2),
+        "GOST" => Some(3),
+        "SHA-384" => Some(4),
+        "SHA384" => Some(4),
+        _ => None,
+    }
+}
+
+/// The type of a certificate that a word names.
+pub(crate) fn certificate_type(text: &str) -> Option<u16>
+    ensures { result ≡ number_of text.now certificate_type_words }
+{
+    match text {
+        "PKIX" => Some(1),
+        "SPKI" => Some(2),
+        "PGP" => Some(3),
+        "IPKIX" => Some(4),
+        "ISPKI" => Some(5),
+        "IPGP" => Some(6),
+        "ACPKIX" => Some(7),
+        "IACPKIX" => Some(8),
+        "URI" => Some(253),
+        "OID" => Some(254),
         _ => None,
     }
 }

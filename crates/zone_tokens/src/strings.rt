@@ -4,7 +4,7 @@ ghost use Rattle.zone_tokens.specs.Strings.{escape_step, octets_of_text, string_
 
 use std::alloc::{AllocError, Global};
 
-/// What stands before an octet of a string.
+/// What comes before an octet of a string.
 #[derive(Clone, Copy, PartialEq, Eq, Debug)]
 pub(crate) enum Escape {
     /// No escape.
@@ -17,9 +17,9 @@ pub(crate) enum Escape {
     TwoDigits(u16),
 }
 
-/// Reads the octets of a string from its text (RFC 1035 section 5.1): a backslash and three decimal digits are the octet of that
-/// value, a backslash and another octet are that octet, and any other octet is itself. None where the word is no such text: a
-/// backslash is its last octet, or digits behind one are too few or write more than 255.
+/// Reads the octets of a string from its text (RFC 1035 section 5.1): a backslash and three decimal digits are the
+/// octet of that value, a backslash and another octet are that octet, and any other octet is itself. None if the word
+/// is no such text: a backslash is its last octet, or digits behind one are too few or write more than 255.
 pub fn read_octets(alloc: Global, word: &[u8]) -> Result<Option<Vec<u8>>, AllocError>
     ensures { IfOk result (λ octets. option_map (λ o. o.items) octets ≡ octets_of_text word.now) }
 {
@@ -40,7 +40,7 @@ pub fn read_octets(alloc: Global, word: &[u8]) -> Result<Option<Vec<u8>>, AllocE
     }
 }
 
-/// Takes an octet of the text: gives the octet of the string that is whole then, if one is, and what stands before the next.
+/// Takes an octet of the text: gives the octet of the string that is whole then, if one is, and what precedes the next.
 fn escape_step(escape: Escape, octet: u8) -> Option<(Option<u8>, Escape)>
     ensures { result ≡ escape_step escape octet }
 {
@@ -81,8 +81,8 @@ fn escape_step(escape: Escape, octet: u8) -> Option<(Option<u8>, Escape)>
     }
 }
 
-/// Reads a string as data have it: its length in one octet, and its octets (RFC 1035 section 3.3). None where the word is no text
-/// of a string, or has more than 255 octets.
+/// Reads a string as data have it: its length in one octet, and its octets (RFC 1035 section 3.3). None if the word is
+/// no text of a string, or has more than 255 octets.
 pub fn read_string(alloc: Global, word: &[u8]) -> Result<Option<Vec<u8>>, AllocError>
     ensures { IfOk result (λ octets. option_map (λ o. o.items) octets ≡ string_of_word word.now) }
 {

@@ -3,16 +3,16 @@ ghost use Rattle.std.specs.Prelude.{◌≡◌, ◌==◌, Some, None, IfOk, optio
 ghost use Rattle.std.specs.Char.{to_ascii_uppercase};
 ghost use Rattle.std.specs.List.{list_all};
 ghost use Rattle.zone_proto.specs.TypeText.{number_of};
-ghost use Rattle.zone_tokens.specs.Types.{algorithm_named, algorithm_words, class_named, further_type, type_by_number, type_named, upper, upper_class, upper_type};
+ghost use Rattle.zone_tokens.specs.Types.{algorithm_named, algorithm_words, certificate_type_named, certificate_type_words, class_named, digest_type_named, digest_type_words, further_type, type_by_number, type_named, upper, upper_class, upper_type};
 
 use crate::registry;
-use line_text::read_u8;
+use line_text::{read_u8, read_u16};
 use std::alloc::{AllocError, Global};
 use std::str;
 use zone_proto::{DNSClass, RecordType};
 
-/// Reads a type by its word in the registry of types, in any case, or as `TYPE` and its number (RFC 3597 section 5). None where
-/// the word is neither.
+/// Reads a type by its word in the registry of types, in any case, or as `TYPE` and its number (RFC 3597 section 5).
+/// None if the word is neither.
 #[tactic(auto, using(crate::proofs::WordTexts::type_as_is))]
 pub fn read_type_word(alloc: Global, word: &[u8]) -> Result<Option<RecordType>, AllocError>
     ensures { IfOk result (λ t. t ≡ type_named word.now) }
@@ -24,8 +24,8 @@ pub fn read_type_word(alloc: Global, word: &[u8]) -> Result<Option<RecordType>, 
     Ok(type_of(upper.as_slice()))
 }
 
-/// Reads a class by its word, in any case: `IN`, `CH`, `HS`, or `CLASS` and the number of one of these (RFC 3597 section 5).
-/// None where the word is neither.
+/// Reads a class by its word, in any case: `IN`, `CH`, `HS`, or `CLASS` and the number of one of these (RFC 3597
+/// section 5). None if the word is neither.
 #[tactic(auto, using(crate::proofs::WordTexts::class_as_is))]
 pub fn read_class(alloc: Global, word: &[u8]) -> Result<Option<DNSClass>, AllocError>
     ensures { IfOk result (λ c. c ≡ class_named word.now) }
@@ -37,8 +37,8 @@ pub fn read_class(alloc: Global, word: &[u8]) -> Result<Option<DNSClass>, AllocE
     Ok(class_of(upper.as_slice()))
 }
 
-/// Reads an algorithm of DNSSEC by its number, or by its mnemonic in any case, as `RSASHA256` (RFC 4034 sections 2.2, 3.2 and
-/// 5.3). None where the word is neither.
+/// Reads an algorithm of DNSSEC by its number, or by its mnemonic in any case, as `RSASHA256` (RFC 4034 sections 2.2,
+/// 3.2 and 5.3). None if the word is neither.
 pub fn read_algorithm(alloc: Global, word: &[u8]) -> Result<Option<u8>, AllocError>
     ensures { IfOk result (λ a. a ≡ algorithm_named word.now) }
 {
@@ -47,6 +47,30 @@ pub fn read_algorithm(alloc: Global, word: &[u8]) -> Result<Option<u8>, AllocErr
     }
     let upper = to_upper(alloc, word)?;
     Ok(algorithm_of(upper.as_slice()))
+}
+
+/// Reads the type of a digest by its number, or by its mnemonic in any case, as `SHA-256` (RFC 4034 appendix A.2). None if the
+/// word is neither.
+pub fn read_digest_type(alloc: Global, word: &[u8]) -> Result<Option<u8>, AllocError>
+    ensures { IfOk result (λ d. d ≡ digest_type_named word.now) }
+{
+    if let Some(number) = read_u8(word) {
+        return Ok(Some(number));
+    }
+    let upper = to_upper(alloc, word)?;
+    Ok(digest_type_of(upper.as_slice()))
+}
+
+/// Reads the type of a certificate by its number, or by its mnemonic in any case, as `PKIX` (RFC 4398 section 2.1). None if the
+/// word is neither.
+pub fn read_certificate_type(alloc: Global, word: &[u8]) -> Result<Option<u16>, AllocError>
+    ensures { IfOk result (λ c. c ≡ certificate_type_named word.now) }
+{
+    if let Some(number) = read_u16(word) {
+        return Ok(Some(number));
+    }
+    let upper = to_upper(alloc, word)?;
+    Ok(certificate_type_of(upper.as_slice()))
 }
 
 /// A copy of a word in upper case: its letters of ASCII.
@@ -120,6 +144,28 @@ fn algorithm_of(word: &[u8]) -> Option<u8>
 {
     match str::from_utf8(word) {
         Ok(text) => registry::algorithm(text),
+        Err(_) => None,
+    }
+}
+
+/// The type of a digest that a word in upper case names.
+#[tactic(auto, using(crate::proofs::WordTexts::digest_type_not_text))]
+fn digest_type_of(word: &[u8]) -> Option<u8>
+    ensures { result ≡ number_of word.now digest_type_words }
+{
+    match str::from_utf8(word) {
+        Ok(text) => registry::digest_type(text),
+        Err(_) => None,
+    }
+}
+
+/// The type of a certificate that a word in upper case names.
+#[tactic(auto, using(crate::proofs::WordTexts::certificate_type_not_text))]
+fn certificate_type_of(word: &[u8]) -> Option<u16>
+    ensures { result ≡ number_of word.now certificate_type_words }
+{
+    match str::from_utf8(word) {
+        Ok(text) => registry::certificate_type(text),
         Err(_) => None,
     }
 }

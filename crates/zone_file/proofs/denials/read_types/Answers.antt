@@ -1,7 +1,7 @@
 use Rattle.std.proofs.Common.{rules, ◌≡◌, ◌+◌, Some, drop, ◌∷◌, sym, ap, ◌∙◌}
 use Rattle.std.proofs.lemmas.List.{drop_more}
 use Rattle.zone_file.specs.Denials.{types_named}
-use Rattle.zone_file.specs.Fields.{record_type_named}
+use Rattle.record_fields.specs.Fields.{record_type_named}
 use Rattle.zone_file.proofs.TypeFacts.{one_type_more}
 use Rattle.zone_file.proofs.denials.read_types.Goals as goal
 

@@ -1,5 +1,5 @@
 use Rattle.std.proofs.Common.{◌≡◌, ◌++◌, drop, Ok}
-use Rattle.zone_file.specs.Readings.{◌>>=◌}
+use Rattle.record_fields.specs.Readings.{◌>>=◌}
 use Rattle.zone_file.specs.Denials.{types_named}
 use Rattle.zone_file.proofs.denials.read_types.Given as goal
 

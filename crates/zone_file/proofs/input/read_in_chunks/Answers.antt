@@ -8,7 +8,7 @@ use Rattle.zone_file.proofs.input.read_in_chunks.Goals as goal
 
 pub returns-in_err-read_to_end-clause-fault : goal.returns-in_err-read_to_end-clause-fault
 returns-in_err-read_to_end-clause-fault g c =
-    let told : (f : ZoneFault) → c.in_err-read_to_end.field-0.0 ≡ inputs.Fault f → (text : List ℕ) → g.R.Read.remaining c.args.input.now ≡ Some text
+    let quoted_word : (f : ZoneFault) → c.in_err-read_to_end.field-0.0 ≡ inputs.Fault f → (text : List ℕ) → g.R.Read.remaining c.args.input.now ≡ Some text
     → EndsIn f (zone_of c.args.origin text) =
     λ f e. fault_read c.args.origin (g.R.Read.remaining c.args.input.now) c.new-records.result.items c.new-reader.result f c.new-records.ensures.items c.new-reader.ensures
     (c.in_err-read_to_end.ensures.fault f e) in
@@ -16,7 +16,7 @@ returns-in_err-read_to_end-clause-fault g c =
 
 pub returns-in_err-take_last-clause-fault : goal.returns-in_err-take_last-clause-fault
 returns-in_err-take_last-clause-fault g c =
-    let told : (f : ZoneFault) → input_error_of c.in_err-take_last.field-0.0 ≡ inputs.Fault f → (text : List ℕ) → g.R.Read.remaining c.args.input.now ≡ Some text
+    let quoted_word : (f : ZoneFault) → input_error_of c.in_err-take_last.field-0.0 ≡ inputs.Fault f → (text : List ℕ) → g.R.Read.remaining c.args.input.now ≡ Some text
     → EndsIn f (zone_of c.args.origin text) =
     λ f e. last_read c.args.origin (g.R.Read.remaining c.args.input.now) (g.R.Read.remaining c.read_to_end.new.input) c.new-records.result.items c.read_to_end.new.records.items
     c.new-reader.result c.read_to_end.new.reader c.in_err-take_last.field-0.0 f c.new-records.ensures.items c.new-reader.ensures c.in_ok-read_to_end.ensures.ok c.in_ok-read_to_end.ensures.end

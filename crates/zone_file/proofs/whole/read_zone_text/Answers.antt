@@ -7,13 +7,13 @@ use Rattle.zone_file.proofs.whole.read_zone_text.Goals as goal
 
 pub returns-in_err-take_records-clause-fault : goal.returns-in_err-take_records-clause-fault
 returns-in_err-take_records-clause-fault c =
-    let told : (f : ZoneFault) → c.in_err-take_records.field-0.0 ≡ errors.Fault f → EndsIn f (zone_of c.args.origin c.args.text.now) =
+    let quoted_word : (f : ZoneFault) → c.in_err-take_records.field-0.0 ≡ errors.Fault f → EndsIn f (zone_of c.args.origin c.args.text.now) =
     λ f e. piece_ends c.args.origin c.args.text.now c.new-reader.result c.new-records.result.items f c.new-records.ensures.items c.new-reader.ensures (c.in_err-take_records.ensures.fault f e) in
     search rules
 
 pub returns-in_err-take_last-clause-fault : goal.returns-in_err-take_last-clause-fault
 returns-in_err-take_last-clause-fault c =
-    let told : (f : ZoneFault) → c.in_err-take_last.field-0.0 ≡ errors.Fault f → EndsIn f (zone_of c.args.origin c.args.text.now) =
+    let quoted_word : (f : ZoneFault) → c.in_err-take_last.field-0.0 ≡ errors.Fault f → EndsIn f (zone_of c.args.origin c.args.text.now) =
     λ f e. text_ends c.args.origin c.args.text.now c.new-reader.result c.take_records.new.reader c.new-records.result.items c.take_records.new.records.items f c.new-records.ensures.items
     c.new-reader.ensures c.in_ok-take_records.ensures.ok (c.in_err-take_last.ensures.fault f e) in
     search rules

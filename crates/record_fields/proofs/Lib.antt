@@ -1,0 +1,3 @@
+pub mod NameFaults
+pub mod PairFacts
+pub mod RowFacts

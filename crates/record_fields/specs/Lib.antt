@@ -1,0 +1,6 @@
+pub mod Fields
+pub mod Hosts
+pub mod Parts
+pub mod Readings
+pub mod Rows
+pub mod Texts
