@@ -7,9 +7,9 @@ use Rattle.zone_map.specs.Zones.{Sets, owns}
 use Rattle.zone_denial.proofs.Chain.NsecBelow.{above_at}
 use Rattle.zone_denial.proofs.Chain.NsecLists.{lists_all_owned}
 use Rattle.zone_denial.proofs.Chains.Circles.{nsec_circle_is_chain}
-use Rattle.denial_laws.specs.Acceptance.{NameErrorAccepted, StarredErrorAccepted, NoDataAccepted, EmptyAccepted, WildcardNoDataAccepted, WildcardAnswerAccepted, UnsignedDelegationAccepted, DenialAccepted}
-use Rattle.denial_laws.specs.Chains.{IsJudgedInChain}
-use Rattle.denial_laws.specs.Judged.{IsJudged}
+use Rattle.denial_laws.specs.Acceptance.{NameErrorAccepted, WildcardErrorAccepted, NoDataAccepted, EmptyAccepted, WildcardNoDataAccepted, WildcardAnswerAccepted, UnsignedDelegationAccepted, DenialAccepted}
+use Rattle.denial_laws.specs.Chains.{IsInScopeOfChain}
+use Rattle.denial_laws.specs.Scope.{IsInScope}
 use Rattle.denial_laws.specs.Soundness.{NameErrorSound, NoDataSound, IsWithoutData, EmptySound, IsEmptyNonTerminal, WildcardNoDataSound, WildcardAnswerSound, UnsignedDelegationSound, NothingBelowCut}
 use Rattle.denial_laws.specs.Sums.{DenialSummedUp}
 use Rattle.denial_laws.proofs.Chains.Accepted as accepted
@@ -19,7 +19,7 @@ use Rattle.denial_laws.proofs.Chains.Silence as silence
 use Rattle.denial_laws.proofs.Chains.Soundness as sound
 use Rattle.denial_laws.proofs.Chains.Sums as sums
 
-pub in_chain : (origin : Name) (m : Sets) (x : Name) → IsJudged origin m x → IsJudgedInChain origin m x
+pub in_chain : (origin : Name) (m : Sets) (x : Name) → IsInScope origin m x → IsInScopeOfChain origin m x
 in_chain origin m x j = record { zone = nsec_circle_is_chain origin m j.zone; one_kind = j.one_kind; unreferred = j.unreferred; inside = j.inside; uncut = j.uncut; no_dname = j.no_dname }
 
 -- ---- what is so is proved
@@ -27,7 +27,7 @@ in_chain origin m x j = record { zone = nsec_circle_is_chain origin m j.zone; on
 pub name_error_accepted : NameErrorAccepted
 name_error_accepted origin m x j = errors.name_error_accepted origin m x (in_chain origin m x j)
 
-pub starred_error_accepted : StarredErrorAccepted
+pub starred_error_accepted : WildcardErrorAccepted
 starred_error_accepted origin m x j = errors.starred_error_accepted origin m x (in_chain origin m x j)
 
 pub no_data_accepted : NoDataAccepted
@@ -62,7 +62,7 @@ no_data_sound origin m rs x t j = sound.no_data_sound origin m rs x t (in_chain 
 pub empty_sound : EmptySound
 empty_sound origin m rs x j = sound.empty_sound origin m rs x (in_chain origin m x j)
 
-pub empty_without_data : (origin : Name) (m : Sets) (x : Name) → IsJudged origin m x → IsEmptyNonTerminal m x → (t : ℕ) → IsWithoutData origin m x t
+pub empty_without_data : (origin : Name) (m : Sets) (x : Name) → IsInScope origin m x → IsEmptyNonTerminal m x → (t : ℕ) → IsWithoutData origin m x t
 empty_without_data origin m x j = sound.empty_without_data origin m x (in_chain origin m x j)
 
 pub wildcard_no_data_sound : WildcardNoDataSound
@@ -76,7 +76,7 @@ unsigned_delegation_sound origin m rs x h = sound.unsigned_delegation_sound orig
 
 -- ---- where nothing is proved
 
--- a cut is on the circle, whatever stands above it
+-- a cut is on the circle, whatever is above it
 pub nothing_below_cut : NothingBelowCut
 nothing_below_cut origin m rs x c h zone cut = silence.nothing_below_owner origin m rs x c (nsec_circle_is_chain origin m h) zone cut (by (owns m c NSEC) refl)
   where

@@ -10,7 +10,7 @@ use Rattle.zone_denial.proofs.InOrder.{flipped}
 use Rattle.denial_laws.proofs.Tests.{either}
 
 module _ {K : Type 0} {R : K → K → Ordering} (o : IsOrder R) (xs : List K) where
-  -- what the next of a value is: the least of those after it, or where there is none the least of all
+  -- what the next of a value is: the least of those after it, or if there is none the least of all
   data NextIs (x n : K) : Type 0 where
     least_after : In n xs → R x n ≡ Less → ((y : K) → In y xs → R x y ≡ Less → R y n ≡ Less → ⊥) → NextIs x n
     wraps : In n xs → ((y : K) → In y xs → R y n ≡ Less → ⊥) → ((y : K) → In y xs → R x y ≡ Less → ⊥) → NextIs x n

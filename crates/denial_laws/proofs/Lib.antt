@@ -9,9 +9,9 @@ pub mod NothingFound
 pub mod Soundness
 pub mod Silence
 pub mod Sums
-mod JudgedExamples
+mod ScopeExamples
 mod MetPremises
-mod Nsec3JudgedExamples
+mod Nsec3ScopeExamples
 pub mod Circles
 pub mod Chains
 pub mod CircleLaws

@@ -18,7 +18,7 @@ use Rattle.zone_denial.specs.NsecLaws.{IsNsecZone}
 use Rattle.zone_denial.specs.NsecSets.{nsec_set, nsec_set_at}
 use Rattle.zone_denial.proofs.Examples.NsecExamples.{origin, start, public_key, bare, bare_set, linked}
 use Rattle.zone_denial.proofs.Chain.NsecSecured.{secured_is_circle}
-use Rattle.denial_laws.specs.Judged.{IsJudged}
+use Rattle.denial_laws.specs.Scope.{IsInScope}
 use Rattle.zone_denial.proofs.Examples.Nsec3Examples.{b}
 use Rattle.denial_validation.specs.NsecProofs.{DNAME}
 
@@ -100,7 +100,7 @@ linked_is_nsec_zone = record {
 unowned : (n : Name) (t : ℕ) → (t == NSEC) ≡ false → (t == SOA) ≡ false → (t == DNSKEY) ≡ false → owns (linked bare) n t ≡ false
 unowned n t c s k = others n t c ∙ (λ i. is_some (cond (type_apart n origin t SOA s i) (Some start.1) (cond (type_apart n origin t DNSKEY k i) (Some public_key.1) None)))
 
-absent_is_judged : IsJudged origin (linked bare) b
+absent_is_judged : IsInScope origin (linked bare) b
 absent_is_judged = record {
   zone = linked_is_nsec_zone;
   one_kind = λ n. unowned n NSEC3 refl refl refl;

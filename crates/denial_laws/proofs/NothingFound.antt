@@ -17,7 +17,7 @@ use Rattle.zone_map.proofs.Owned.{owner_in}
 use Rattle.zone_map.proofs.Walks.{direct_above, direct_own}
 use Rattle.zone_denial.specs.Authority.{is_below_cut}
 use Rattle.zone_denial.proofs.Chain.NsecBelow.{above_at, comparable}
-use Rattle.denial_laws.specs.Judged.{Unreferred}
+use Rattle.denial_laws.specs.Scope.{Unreferred}
 use Rattle.denial_laws.specs.Soundness.{IsUnflattened}
 
 -- ---- at the name

@@ -1,4 +1,4 @@
--- Records of a denial stand in the sets of a zone, no records prove nothing, and what a set of one record says
+-- Records of a denial are in the sets of a zone, no records prove nothing, and what a set of one record says
 use Rattle.std.proofs.Common.{◌≡◌, ℕ, Bool, true, false, cond, not, ◌&&◌, List, [], ◌∷◌, length, refl, sym, ap, ◌∙◌, subst, inl, inr, arith}
 use Rattle.std.specs.Prelude.{Option, Some, None, Result, Ok, Err, filter, filter_map, flat_map, reverse, option_map}
 use Rattle.std.specs.List.{All, Contains}
@@ -22,7 +22,7 @@ use Rattle.denial_laws.proofs.Nsec3Silence.{only_answers}
 use Rattle.denial_laws.proofs.Silence.{find_none}
 use Rattle.denial_laws.proofs.Tests.{right_false}
 
--- ---- the records of a denial stand in the sets of the zone
+-- ---- the records of a denial are in the sets of the zone
 
 pub denial_stands : {E : Type 0} (m : Sets) (hashed : Name → Result Name E) (wildcard : Bool) (x : Name) (answer : List RRset) → nsec3_denial m hashed wildcard x ≡ Ok answer
     → StandInNsec3Sets m (flat_map (λ (s : RRset). s.records) answer)

@@ -48,7 +48,7 @@ shorter_above x k n u v l = by (sides x k n u v)
     by (inr (inl e)) = absurd (omega (arith, ap length e, l))
     by (inr (inr w)) = absurd (omega (arith, above_shorter n k w, l))
 
--- the next closer name of an encloser at or below the origin stands below the origin
+-- the next closer name of an encloser at or below the origin is below the origin
 pub closer_inside : (origin x b c : Name) → IsAtOrAbove origin b → IsAtOrAbove b x → IsAtOrAbove c x → length c ≡ suc (length b) → IsAbove origin c
 closer_inside origin x b c inside above at longer = shorter_above x origin c (above_through origin b x inside above) at (by (shorter origin b inside))
   where

@@ -13,7 +13,7 @@ use Rattle.zone_proto.specs.Sets.{RRset}
 use Rattle.zone_proto.proofs.Members.{In, In-filter_map, In-from_filter_map, In-flat_map, In-from_flat_map}
 use Rattle.zone_denial.specs.Nsec3Circle.{first_nsec3}
 use Rattle.denial_validation.specs.Nsec3Records.{Nsec3Record, nsec3_data, nsec3_record, read_nsec3, nsec3_records}
-use Rattle.denial_laws.specs.Nsec3Judged.{read_nsec3_sets}
+use Rattle.denial_laws.specs.Nsec3Scope.{read_nsec3_sets}
 
 -- the text of a digest has as many octets as its length says
 pub text_length : (d : List ℕ) → length (base32_text d) ≡ base32_count (length d)

@@ -9,7 +9,7 @@ use Rattle.zone_proto.proofs.Members.{In, In-Contains, Contains-In, In-from_filt
 use Rattle.zone_map.specs.Zones.{Sets, set_at}
 use Rattle.zone_denial.specs.Nsec3Denial.{nsec3_denying_owners, nsec3_denial, result_and_then}
 use Rattle.denial_validation.specs.Nsec3Records.{nsec3_records}
-use Rattle.denial_laws.specs.Nsec3Judged.{read_nsec3_sets, AreNsec3OfZone}
+use Rattle.denial_laws.specs.Nsec3Scope.{read_nsec3_sets, AreNsec3OfZone}
 use Rattle.denial_laws.proofs.Nsec3Readings.{from_read}
 
 pub same_answer : {E : Type 0} (a b : List RRset) → ◌≡◌ {A = Result (List RRset) E} (Ok a) (Ok b) → a ≡ b

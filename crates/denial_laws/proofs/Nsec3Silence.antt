@@ -1,10 +1,11 @@
--- Where neither the name nor an encloser of it is shown, NSEC3 records prove at most an answer of a star; and outside the zone nothing
+-- Where neither the name nor an encloser of it is shown, NSEC3 records prove at most an answer of a wildcard; and
+-- outside the zone nothing
 use Rattle.std.proofs.Common.{◌≡◌, ℕ, Bool, true, false, cond, not, ◌&&◌, List, [], ◌∷◌, refl, sym, ◌∙◌, subst, true≢false, ◌⊎◌, inl, inr}
 use Rattle.std.specs.Prelude.{Option, Some, None, reverse, ◌==◌, if◌then◌else◌}
 use Rattle.std.specs.List.{list_any}
 use Rattle.std.specs.Option.{option_map_or}
 use Rattle.std.proofs.lemmas.Grind.{reverse_onto}
-use Rattle.zone_proto.specs.Names.{Name, is_above, star_under}
+use Rattle.zone_proto.specs.Names.{Name, is_above, wildcard_under}
 use Rattle.zone_proto.specs.Types.{DS}
 use Rattle.zone_proto.proofs.Members.{In, In-from_append}
 use Rattle.zone_proto.proofs.Names.NameTree.{above_test, is_at_or_above_complete}
@@ -32,7 +33,7 @@ In-from_reverse y (x ∷ xs) i = by (In-from_append y (reverse xs) (x ∷ []) (s
 pub same_proof : (p q : Proof) → Some p ≡ Some q → p ≡ q
 same_proof p q e = cc
 
--- ---- where neither the name nor an encloser of it is shown, at most an answer of a star is proved
+-- ---- where neither the name nor an encloser of it is shown, at most an answer of a wildcard is proved
 
 module _ (origin : Name) (hash : Name → Option (List ℕ)) (rs : List Nsec3Record) (x : Name) (unproved : (cover : Nsec3Record → Bool) (rest : Name → Bool) → encloser_and origin hash rs cover x rest ≡ false)
     (untyped : (t : ℕ) → proves_no_data origin hash rs x t ≡ false) (undelegated : shows_unsigned_delegation origin hash rs x ≡ false)
@@ -44,10 +45,10 @@ module _ (origin : Name) (hash : Name → Option (List ℕ)) (rs : List Nsec3Rec
     only_answers t =
         λ i. if is_handed_on origin hash rs x then None
         else (if right_false (t == DS) (proves_opted_out origin hash rs x) out i then Some UnsignedDelegation
-        else (if unproved (λ r. true) (λ e. is_covered origin hash rs (star_under e)) i then Some (NameError (proves_opted_out origin hash rs x))
+        else (if unproved (λ r. true) (λ e. is_covered origin hash rs (wildcard_under e)) i then Some (NameError (proves_opted_out origin hash rs x))
         else (if undelegated i then Some UnsignedDelegation
         else (if untyped t i then Some NoData
-        else (if unproved (λ r. true) (λ e. is_denied origin hash rs (star_under e) t) i then Some (WildcardNoData (proves_opted_out origin hash rs x))
+        else (if unproved (λ r. true) (λ e. is_denied origin hash rs (wildcard_under e) t) i then Some (WildcardNoData (proves_opted_out origin hash rs x))
         else (if out i then Some UnsignedDelegation
         else wildcard_answer origin hash rs x))))))
 

@@ -9,7 +9,7 @@ use Rattle.zone_map.specs.Direct.{direct}
 use Rattle.zone_map.specs.Zones.{Sets, owns, owners}
 use Rattle.zone_denial.specs.Authority.{is_below_cut}
 use Rattle.zone_denial.proofs.Names.LongestAncestors.{above_below}
-use Rattle.denial_laws.specs.Judged.{Unreferred}
+use Rattle.denial_laws.specs.Scope.{Unreferred}
 use Rattle.denial_laws.proofs.NothingFound.{direct_none}
 
 -- nothing is found at what owns nothing, in such a place
@@ -19,7 +19,7 @@ bare_direct origin m y unreferred inside uncut none t = direct_none origin m y u
 pub first_label : (k l : List ℕ) (ks ls : Name) → ◌≡◌ {A = Name} (k ∷ ks) (l ∷ ls) → k ≡ l
 first_label k l ks ls e = cc
 
--- a name above another stands below no cut that the other doesn't
+-- a name above another is below no cut that the other doesn't
 pub above_uncut : (origin : Name) (m : Sets) (n x : Name) → IsAtOrAbove n x → is_below_cut origin m x ≡ false → is_below_cut origin m n ≡ false
 above_uncut origin m n x u uncut = by (is_below_cut origin m n) refl
   where

@@ -52,7 +52,7 @@ module _ (m : Sets) (y : Name) (t : ℕ) (nothing : direct m y t ≡ None) where
       by true = inr (inl refl)
       by false = inr (inl refl)
 
-  -- NS stands there only at an apex
+  -- NS is there only at an apex
   pub own_delegation : (y ≡ [] → ⊥) → (t == DS) ≡ false → owns m y NS ≡ true → owns m y SOA ≡ true
   own_delegation below d k = by (owns m y SOA) refl
     where

@@ -13,7 +13,7 @@ use Rattle.zone_map.specs.Zones.{Sets, set_at}
 use Rattle.zone_denial.specs.NsecCircle.{first_nsec}
 use Rattle.zone_denial.specs.NsecDenial.{denying_owners, nsec_denial}
 use Rattle.denial_validation.specs.NsecRecords.{NsecRecord, nsec_data, nsec_record, read_nsec, nsec_records}
-use Rattle.denial_laws.specs.Judged.{read, denial_records, AreOfZone}
+use Rattle.denial_laws.specs.Scope.{read, denial_records, AreOfZone}
 
 same_value : {A : Type 0} (a b : A) → Some a ≡ Some b → a ≡ b
 same_value a b e = cc

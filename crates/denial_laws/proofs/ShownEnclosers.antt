@@ -1,6 +1,6 @@
--- Names above each other, and above a star
+-- Names above each other, and above a wildcard
 use Rattle.std.proofs.Common.{◌≡◌, drop, sym, ap, ◌⊎◌, inl, inr}
-use Rattle.zone_proto.specs.Names.{Name, IsAtOrAbove, IsAbove, star_under}
+use Rattle.zone_proto.specs.Names.{Name, IsAtOrAbove, IsAbove, wildcard_under}
 use Rattle.zone_proto.proofs.Names.NameTree.{above_is_less}
 use Rattle.zone_proto.proofs.Ordering.Orders.{asym}
 use Rattle.zone_proto.proofs.Names.Tree.{name_order, above_cases}
@@ -14,5 +14,5 @@ same_name a b u v = by (above_cases a b u) (above_cases b a v)
     by (inr w) (inl e) = sym e
     by (inr w) (inr k) = absurd (asym name_order a b (above_is_less a b w) (above_is_less b a k))
 
-pub above_star : (a e : Name) → IsAbove a (star_under e) → IsAtOrAbove a e
+pub above_star : (a e : Name) → IsAbove a (wildcard_under e) → IsAtOrAbove a e
 above_star a e (l, f, q) = (f, ap (drop 1) q)

@@ -10,7 +10,7 @@ use Rattle.zone_proto.proofs.Names.NameTree.{name_eq-Decides, above_test, is_at_
 use Rattle.zone_denial.proofs.Chain.NsecBelow.{above_at}
 use Rattle.denial_validation.specs.declared.proof.Proof.TheVariants.{NameError, UnsignedDelegation, EmptyNonTerminal, NoData, WildcardNoData, WildcardAnswer}
 use Rattle.denial_validation.specs.Judgement.{nsec_proof}
-use Rattle.denial_validation.specs.NsecProofs.{lists, shows_type, is_of_zone, is_wrong_side, may_tell_of, covers, denies_name, denies_type, shows_empty, shown_encloser, star_passes, is_denied, is_bare, denied_and_star, shows_unsigned_delegation, proves_no_data, proves_empty_non_terminal, proves_unsigned_delegation, denied_encloser}
+use Rattle.denial_validation.specs.NsecProofs.{lists, shows_type, is_of_zone, is_wrong_side, may_apply_to, covers, denies_name, denies_type, shows_empty, shown_encloser, wildcard_is, is_denied, is_bare, denied_and_wildcard, shows_unsigned_delegation, proves_no_data, proves_empty_non_terminal, proves_unsigned_delegation, denied_encloser}
 use Rattle.denial_validation.specs.NsecRecords.{NsecRecord}
 use Rattle.denial_laws.specs.Soundness.{NothingOutside}
 
@@ -34,17 +34,17 @@ left_false a b e = ap (λ c. c && b) e
 
 -- ---- records that neither tell of a name nor are the name's prove nothing
 
-module _ (origin : Name) (rs : List NsecRecord) (x : Name) (told : (r : NsecRecord) → In r rs → may_tell_of r x && covers origin r x ≡ false)
+module _ (origin : Name) (rs : List NsecRecord) (x : Name) (call_concludes : (r : NsecRecord) → In r rs → may_apply_to r x && covers origin r x ≡ false)
     (named : (r : NsecRecord) → In r rs → is_of_zone origin r && name_eq r.owner x ≡ false) (below : (r : NsecRecord) → In r rs → is_above origin r.owner && name_eq r.owner x ≡ false)
   where
     undenied : (r : NsecRecord) → In r rs → denies_name origin r x ≡ false
-    undenied r i = left_false (may_tell_of r x && covers origin r x) (not (is_above x r.next)) (told r i)
+    undenied r i = left_false (may_apply_to r x && covers origin r x) (not (is_above x r.next)) (call_concludes r i)
 
-    unstarred : (test : Name → Bool) → denied_and_star origin rs x test ≡ false
-    unstarred test = none_any (λ r. denies_name origin r x && star_passes test r x) rs (λ r i. left_false (denies_name origin r x) (star_passes test r x) (undenied r i))
+    not_wildcard : (test : Name → Bool) → denied_and_wildcard origin rs x test ≡ false
+    not_wildcard test = none_any (λ r. denies_name origin r x && wildcard_is test r x) rs (λ r i. left_false (denies_name origin r x) (wildcard_is test r x) (undenied r i))
 
     unempty : proves_empty_non_terminal origin rs x ≡ false
-    unempty = none_any (λ r. shows_empty origin r x) rs (λ r i. left_false (may_tell_of r x && covers origin r x) (is_above x r.next) (told r i))
+    unempty = none_any (λ r. shows_empty origin r x) rs (λ r i. left_false (may_apply_to r x && covers origin r x) (is_above x r.next) (call_concludes r i))
 
     untyped : (t : ℕ) → proves_no_data origin rs x t ≡ false
     untyped t = none_any (λ r. denies_type origin r x t) rs (λ r i. λ k. named r i k && not (shows_type r t) && not (lists r CNAME) && not (is_wrong_side origin r t))
@@ -57,11 +57,11 @@ module _ (origin : Name) (rs : List NsecRecord) (x : Name) (told : (r : NsecReco
 
     pub silent : (t : ℕ) → nsec_proof origin rs x t ≡ None
     silent t =
-        λ i. if unstarred (is_denied origin rs) i then Some (NameError false)
+        λ i. if not_wildcard (is_denied origin rs) i then Some (NameError false)
         else (if undelegated i then Some UnsignedDelegation
         else (if unempty i then Some EmptyNonTerminal
         else (if untyped t i then Some NoData
-        else (if unstarred (is_bare origin rs t) i then Some (WildcardNoData false)
+        else (if not_wildcard (is_bare origin rs t) i then Some (WildcardNoData false)
         else option_map (λ e. WildcardAnswer (length e) false) (unenclosed i)))))
 
 -- ---- outside
@@ -76,12 +76,12 @@ nothing_outside origin rs x outside = silent origin rs x (λ r i. untold r) (λ 
         by false e = refl
         by true e = absurd (true≢false (sym (is_at_or_above_complete origin x (above_at origin x ((above_test origin x).0 e))) ∙ outside))
 
-    untold : (r : NsecRecord) → may_tell_of r x && covers origin r x ≡ false
-    untold r = by (may_tell_of r x && covers origin r x) refl
+    untold : (r : NsecRecord) → may_apply_to r x && covers origin r x ≡ false
+    untold r = by (may_apply_to r x && covers origin r x) refl
       where
-        by : (b : Bool) → may_tell_of r x && covers origin r x ≡ b → b ≡ false
+        by : (b : Bool) → may_apply_to r x && covers origin r x ≡ b → b ≡ false
         by false e = refl
-        by true e = absurd (true≢false (sym (covers_above origin r x (and_right (may_tell_of r x) (covers origin r x) e)) ∙ not_above))
+        by true e = absurd (true≢false (sym (covers_above origin r x (and_right (may_apply_to r x) (covers origin r x) e)) ∙ not_above))
 
     same : (a : Name → Bool) (o : Name) → a x ≡ false → a o && name_eq o x ≡ false
     same a o e = by (name_eq o x) refl

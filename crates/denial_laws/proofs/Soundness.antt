@@ -2,13 +2,13 @@
 use Rattle.std.proofs.Common.{◌≡◌, ℕ, Bool, true, false, cond, ◌||◌, List, [], ◌∷◌, refl, sym, ap, ◌∙◌, subst, true≢false, inl}
 use Rattle.std.specs.Prelude.{None, option_map, ◌==◌}
 use Rattle.std.specs.Option.{option_or}
-use Rattle.zone_proto.specs.Names.{Name, is_root, is_at_or_above, IsAbove, star_under, is_wildcard}
+use Rattle.zone_proto.specs.Names.{Name, is_root, is_at_or_above, IsAbove, wildcard_under, is_wildcard}
 use Rattle.zone_proto.specs.Types.{ANY}
 use Rattle.zone_proto.proofs.Members.{In, any_from_In, or_right}
 use Rattle.zone_proto.proofs.Names.NameTree.{is_at_or_above_complete}
 use Rattle.zone_map.specs.AnyTypes.{any_type, searched_type}
 use Rattle.zone_map.specs.Direct.{direct}
-use Rattle.zone_map.specs.Wildcards.{exists, found, wildcard, asked_star, asked_star_exists, closest_encloser}
+use Rattle.zone_map.specs.Wildcards.{exists, found, wildcard, asked_wildcard, asked_wildcard_exists, closest_encloser}
 use Rattle.zone_map.specs.Zones.{Sets, owns, types_at, names_of, owns_at_or_below}
 use Rattle.zone_map.proofs.Owned.{name_in, type_in, type_owned}
 use Rattle.zone_denial.proofs.Chain.NsecBelow.{above_at}
@@ -24,20 +24,20 @@ neither false b e = (refl, e)
 pub there_from : (m : Sets) (x : Name) (t : ℕ) → owns m x t ≡ true → owns_at_or_below m x ≡ true
 there_from m x t k = any_from_In (is_at_or_above x) x (names_of m) (name_in m x t k) (is_at_or_above_complete x x ([], refl))
 
-pub present : (origin : Name) (m : Sets) (x : Name) → owns_at_or_below m x || asked_star_exists m x ≡ true → negative_answer origin m x ≡ name_exists
+pub present : (origin : Name) (m : Sets) (x : Name) → owns_at_or_below m x || asked_wildcard_exists m x ≡ true → negative_answer origin m x ≡ name_exists
 present origin m x e = ap (λ b. cond b name_exists (absent origin x)) e
 
 -- a type that isn't ANY, by its test
 pub searched_by : (m : Sets) (x : Name) (t : ℕ) → (t == ANY) ≡ false → searched_type m x t ≡ t
 searched_by m x t e = ap (λ b. cond b (any_type m x) t) e
 
-pub unasked : (m : Sets) (x : Name) → exists m x ≡ true → asked_star m x ≡ None
-unasked m x e = ap (λ b. cond b None (option_map star_under (closest_encloser m x))) (or_right (is_root x || is_wildcard x) (exists m x) e)
+pub unasked : (m : Sets) (x : Name) → exists m x ≡ true → asked_wildcard m x ≡ None
+unasked m x e = ap (λ b. cond b None (option_map wildcard_under (closest_encloser m x))) (or_right (is_root x || is_wildcard x) (exists m x) e)
 
 pub nothing_by : (m : Sets) (signed : Bool) (x : Name) (t : ℕ) → (t == ANY) ≡ false → direct m x t ≡ None → wildcard m signed x t ≡ None → found m signed x (searched_type m x t) ≡ None
 nothing_by m signed x t one d w = ap (found m signed x) (searched_by m x t one) ∙ (λ i. option_or (d i) (w i))
 
--- ---- empty names
+-- ---- empty non-terminals
 
 -- what owns nothing has nothing found at it
 pub unowned : (m : Sets) (y : Name) (u : ℕ) → types_at m y ≡ [] → owns m y u ≡ false

@@ -1,7 +1,7 @@
-pub mod Judged
+pub mod Scope
 pub mod Acceptance
 pub mod Soundness
-pub mod Nsec3Judged
+pub mod Nsec3Scope
 pub mod Nsec3Acceptance
 pub mod Nsec3Soundness
 pub mod Sums

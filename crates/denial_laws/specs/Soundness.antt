@@ -1,10 +1,10 @@
 -- What NSEC records prove of a zone to a validator is so, whichever records of the zone are shown, in whatever order and from however many responses
 use Rattle.std.specs.Prelude.{◌≡◌, ℕ, Bool, List, [], Some, None, IsTrue, IsFalse}
-use Rattle.zone_proto.specs.Names.{Name, is_at_or_above, IsAbove, star_under, is_wildcard}
+use Rattle.zone_proto.specs.Names.{Name, is_at_or_above, IsAbove, wildcard_under, is_wildcard}
 use Rattle.zone_proto.specs.Types.{NS, SOA, DS, ANAME}
 use Rattle.zone_map.specs.AnyTypes.{searched_type}
 use Rattle.zone_map.specs.Direct.{is_address}
-use Rattle.zone_map.specs.Wildcards.{found, asked_star_exists, closest_encloser}
+use Rattle.zone_map.specs.Wildcards.{found, asked_wildcard_exists, closest_encloser}
 use Rattle.zone_map.specs.Zones.{Sets, owns, types_at, owns_at_or_below}
 use Rattle.zone_denial.specs.Authority.{is_below_cut}
 use Rattle.zone_denial.specs.NsecDenial.{nsec_encloser}
@@ -13,7 +13,7 @@ use Rattle.zone_lookup.specs.Replies.{name_exists, nx_domain, negative_answer}
 use Rattle.denial_validation.specs.Judgement.{nsec_proof}
 use Rattle.denial_validation.specs.NsecProofs.{proves_name_error, proves_no_data, proves_empty_non_terminal, proves_wildcard_no_data, proves_wildcard_answer, proves_unsigned_delegation}
 use Rattle.denial_validation.specs.NsecRecords.{NsecRecord}
-use Rattle.denial_laws.specs.Judged.{AreOfZone, IsJudged}
+use Rattle.denial_laws.specs.Scope.{AreOfZone, IsInScope}
 
 -- ---- a name error
 
@@ -23,7 +23,7 @@ pub record IsNoName (origin : Name) (m : Sets) (x : Name) : Type 0 where
   pub nothing : (signed : Bool) (t : ℕ) → found m signed x t ≡ None
 
 abbrev pub NameErrorSound : Type 0
-NameErrorSound = (origin : Name) (m : Sets) (rs : List NsecRecord) (x : Name) → IsJudged origin m x → AreOfZone m rs → IsTrue (proves_name_error origin rs x) → IsNoName origin m x
+NameErrorSound = (origin : Name) (m : Sets) (rs : List NsecRecord) (x : Name) → IsInScope origin m x → AreOfZone m rs → IsTrue (proves_name_error origin rs x) → IsNoName origin m x
 
 -- ---- absent data
 
@@ -37,7 +37,7 @@ abbrev pub IsUnflattened : Sets → Name → ℕ → Type 0
 IsUnflattened m n t = IsTrue (is_address t) → IsFalse (owns m n ANAME)
 
 abbrev pub NoDataSound : Type 0
-NoDataSound = (origin : Name) (m : Sets) (rs : List NsecRecord) (x : Name) (t : ℕ) → IsJudged origin m x → AreOfZone m rs → IsUnflattened m x t
+NoDataSound = (origin : Name) (m : Sets) (rs : List NsecRecord) (x : Name) (t : ℕ) → IsInScope origin m x → AreOfZone m rs → IsUnflattened m x t
     → IsTrue (proves_no_data origin rs x t) → IsWithoutData origin m x t
 
 -- x owns nothing, and a name below it owns a set
@@ -46,18 +46,19 @@ pub record IsEmptyNonTerminal (m : Sets) (x : Name) : Type 0 where
   pub below : (n : Name) × (t : ℕ) × IsAbove x n × IsTrue (owns m n t)
 
 abbrev pub EmptySound : Type 0
-EmptySound = (origin : Name) (m : Sets) (rs : List NsecRecord) (x : Name) → IsJudged origin m x → AreOfZone m rs → IsTrue (proves_empty_non_terminal origin rs x) → IsEmptyNonTerminal m x
+EmptySound = (origin : Name) (m : Sets) (rs : List NsecRecord) (x : Name) → IsInScope origin m x → AreOfZone m rs → IsTrue (proves_empty_non_terminal origin rs x) → IsEmptyNonTerminal m x
 
--- nothing is found for x and a type, and x is there by its wildcard alone: neither x nor a name below it owns a set, and the star that is asked for x exists
-pub record IsWithoutDataByStar (origin : Name) (m : Sets) (x : Name) (t : ℕ) : Type 0 where
+-- nothing is found for x and a type, and x is there by its wildcard alone: neither x nor a name below it owns a set,
+-- and the wildcard at the closest encloser of x exists
+pub record IsWithoutDataByWildcard (origin : Name) (m : Sets) (x : Name) (t : ℕ) : Type 0 where
   pub none : IsWithoutData origin m x t
   pub absent : IsFalse (owns_at_or_below m x)
-  pub star : IsTrue (asked_star_exists m x)
+  pub star : IsTrue (asked_wildcard_exists m x)
 
--- of a name that isn't starred, since a lookup asks no star for one that is
+-- of a name that doesn't begin with `*`, since a lookup asks no wildcard for one that is
 abbrev pub WildcardNoDataSound : Type 0
-WildcardNoDataSound = (origin : Name) (m : Sets) (rs : List NsecRecord) (x : Name) (t : ℕ) → IsJudged origin m x → AreOfZone m rs → IsFalse (is_wildcard x)
-    → IsUnflattened m (star_under (nsec_encloser origin m x)) t → IsTrue (proves_wildcard_no_data origin rs x t) → IsWithoutDataByStar origin m x t
+WildcardNoDataSound = (origin : Name) (m : Sets) (rs : List NsecRecord) (x : Name) (t : ℕ) → IsInScope origin m x → AreOfZone m rs → IsFalse (is_wildcard x)
+    → IsUnflattened m (wildcard_under (nsec_encloser origin m x)) t → IsTrue (proves_wildcard_no_data origin rs x t) → IsWithoutDataByWildcard origin m x t
 
 -- ---- what goes with an answer
 
@@ -67,7 +68,7 @@ pub record IsEnclosedBy (m : Sets) (x e : Name) : Type 0 where
   pub encloser : closest_encloser m x ≡ Some e
 
 abbrev pub WildcardAnswerSound : Type 0
-WildcardAnswerSound = (origin : Name) (m : Sets) (rs : List NsecRecord) (x e : Name) → IsJudged origin m x → AreOfZone m rs → IsTrue (proves_wildcard_answer origin rs x e) → IsEnclosedBy m x e
+WildcardAnswerSound = (origin : Name) (m : Sets) (rs : List NsecRecord) (x e : Name) → IsInScope origin m x → AreOfZone m rs → IsTrue (proves_wildcard_answer origin rs x e) → IsEnclosedBy m x e
 
 -- x is a delegation without DS, strictly below the origin
 pub record IsUnsignedDelegation (origin : Name) (m : Sets) (x : Name) : Type 0 where
@@ -86,7 +87,7 @@ pub record IsSound (origin : Name) (m : Sets) (x : Name) (rs : List NsecRecord) 
   pub error : IsTrue (proves_name_error origin rs x) → IsNoName origin m x
   pub data' : (t : ℕ) → IsUnflattened m x t → IsTrue (proves_no_data origin rs x t) → IsWithoutData origin m x t
   pub empty : IsTrue (proves_empty_non_terminal origin rs x) → IsEmptyNonTerminal m x
-  pub wildcard_data : (t : ℕ) → IsFalse (is_wildcard x) → IsUnflattened m (star_under (nsec_encloser origin m x)) t → IsTrue (proves_wildcard_no_data origin rs x t) → IsWithoutDataByStar origin m x t
+  pub wildcard_data : (t : ℕ) → IsFalse (is_wildcard x) → IsUnflattened m (wildcard_under (nsec_encloser origin m x)) t → IsTrue (proves_wildcard_no_data origin rs x t) → IsWithoutDataByWildcard origin m x t
   pub answer : (e : Name) → IsTrue (proves_wildcard_answer origin rs x e) → IsEnclosedBy m x e
   pub delegation : IsTrue (proves_unsigned_delegation origin rs x) → IsUnsignedDelegation origin m x
 

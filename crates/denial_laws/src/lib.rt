@@ -1,5 +1,5 @@
-//! What a validator makes of the negative answers of a zone: the judgement of `denial_validation`, which knows no zone, laid beside
-//! what a lookup in a zone answers.
+//! What a validator concludes from the negative answers of a zone: the judgement of `denial_validation`, which has no zone,
+//! compared with what a lookup in a zone answers.
 #![tactic(auto)]
 
 pub mod laws;

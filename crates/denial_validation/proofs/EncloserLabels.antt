@@ -1,8 +1,8 @@
--- The ancestors of a name are told apart by how many labels they have
+-- The ancestors of a name are distinguished by how many labels they have
 use Rattle.std.proofs.Common.{◌≡◌, ◌≢◌, ℕ, ◌≤◌, ◌<◌, Bool, true, false, ◌==◌, ◌&&◌, cond, List, [], ◌∷◌, length, find, Option, Some, None, refl, sym, ap, ◌∙◌, arith, ne_eqb, eqb-true}
 use Rattle.std.specs.List.{list_any}
 use Rattle.std.specs.Option.{option_map_or}
-use Rattle.zone_proto.specs.Names.{Name, name_eq, proper_ancestors, star_under, suffixes}
+use Rattle.zone_proto.specs.Names.{Name, name_eq, proper_ancestors, wildcard_under, suffixes}
 use Rattle.zone_proto.proofs.Names.NameTree.{name_eq-Decides}
 use Rattle.zone_proto.proofs.Names.Tree.{name_eq_itself}
 use Rattle.denial_validation.specs.Encloser.{ancestor_of}
@@ -79,5 +79,5 @@ pub answer_by_labels : (apex : Name) (rs : List NsecRecord) (x : Name) (k : ℕ)
     ≡ option_map_or (proves_wildcard_answer apex rs x) (ancestor_of x k) false
 answer_by_labels apex rs x k =
     list_any-with (λ r. denies_name apex r x) (λ r. option_map_or (λ (e : Name). length e == k) (shown_encloser r x) false)
-    (λ a r. option_map_or (λ e. name_eq (star_under a) (star_under e)) (shown_encloser r x) false) (ancestor_of x k)
+    (λ a r. option_map_or (λ e. name_eq (wildcard_under a) (wildcard_under e)) (shown_encloser r x) false) (ancestor_of x k)
     (λ r. counted_above _ k x) rs

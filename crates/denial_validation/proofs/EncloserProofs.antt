@@ -2,7 +2,7 @@
 use Rattle.std.proofs.Common.{◌≡◌, ℕ, ◌==◌, ◌&&◌, not, suc, Bool, true, false, cond, List, [], ◌∷◌, length, Option, Some, None, refl, sym, ap, ◌∙◌, true≢false, ne_eqb, arith}
 use Rattle.std.specs.List.{list_any}
 use Rattle.std.specs.Option.{option_map_or}
-use Rattle.zone_proto.specs.Names.{Name, base_name, wildcard_of, is_above, star_under, suffixes}
+use Rattle.zone_proto.specs.Names.{Name, base_name, wildcard_of, is_above, wildcard_under, suffixes}
 use Rattle.denial_validation.specs.declared.proof.Proof.{Proof}
 use Rattle.denial_validation.specs.declared.proof.Proof.TheVariants.{WildcardAnswer}
 use Rattle.denial_validation.specs.Encloser.{next_closer}
@@ -15,12 +15,12 @@ alone : (b : Bool) → (b && true) ≡ b
 alone true = refl
 alone false = refl
 
--- the star under a next closer name's base is that name with a star for its first label
+-- the wildcard at a next closer name's base is that name with `*` for its first label
 pub base_of_star : (c : Name) → base_name (wildcard_of c) ≡ base_name c
 base_of_star [] = refl
 base_of_star (l ∷ ls) = refl
 
-pub star_of_closer : (x e c : Name) → next_closer x e ≡ Some c → wildcard_of c ≡ star_under (base_name (wildcard_of c))
+pub star_of_closer : (x e c : Name) → next_closer x e ≡ Some c → wildcard_of c ≡ wildcard_under (base_name (wildcard_of c))
 star_of_closer x e [] h = absurd (true≢false (sym (find_passes (λ (s : Name). length s == suc (length e)) (suffixes x) [] h) ∙ ne_eqb 0 (suc (length e)) (λ k. omega (arith, k))))
 star_of_closer x e (l ∷ ls) h = refl
 
@@ -144,8 +144,8 @@ module _ (apex : Name) (hash : Name → Option (List ℕ)) (rs : List Nsec3Recor
     unopted_is true covered zone cover h =
         opted_out_is true (list_any (λ r. covers apex hash r c && r.opt_out) rs) zone refl ∙ list_any-both_none (λ r. covers apex hash r c) (λ r. r.opt_out) rs (sym cover ∙ h)
 
-  -- what is asked of the star, where the proof stands
-  pub star_rest : (star : Name) → Some (base_name star) ≡ proved_encloser apex hash rs x → star ≡ star_under (base_name star) → (test : Name → Bool)
-      → encloser_and apex hash rs (λ r. true) x (λ e. test (star_under e)) ≡ test star
+  -- what is asked of the wildcard, where the proof stands
+  pub star_rest : (star : Name) → Some (base_name star) ≡ proved_encloser apex hash rs x → star ≡ wildcard_under (base_name star) → (test : Name → Bool)
+      → encloser_and apex hash rs (λ r. true) x (λ e. test (wildcard_under e)) ≡ test star
   star_rest star proved is test =
-      with_rest (λ e. test (star_under e)) ∙ ap (λ o. option_map_or (λ e. test (star_under e)) o false) (sym proved) ∙ ap test (sym is)
+      with_rest (λ e. test (wildcard_under e)) ∙ ap (λ o. option_map_or (λ e. test (wildcard_under e)) o false) (sym proved) ∙ ap test (sym is)

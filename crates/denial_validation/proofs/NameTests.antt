@@ -8,13 +8,13 @@ use Rattle.zone_proto.proofs.Ordering.KeyOrder.{equal_of}
 use Rattle.zone_proto.proofs.Names.NameTree.{name_eq-Decides, name_itself, at_or_above_test}
 use Rattle.zone_proto.proofs.Names.Tree.{name_order}
 
--- names are the same where none stands before the other
+-- names are the same where none comes before the other
 pub same_by_order : (a b : Name) → is_eq (name_cmp a b) ≡ name_eq a b
 same_by_order a b =
     both_ways (is_eq (name_cmp a b)) (name_eq a b) (λ h. (name_eq-Decides a b).1 (name_order.exact a b (equal_of (name_cmp a b) h)))
     (λ h. ap is_eq (ap (name_cmp a) (sym ((name_eq-Decides a b).0 h)) ∙ name_itself a))
 
--- a test that tells whether a name is at or above another
+-- a test that says whether a name is at or above another
 pub at_or_above_by : (a n : Name) (t : Bool) → IsTrue t ↔ IsAtOrAbove a n → t ≡ is_at_or_above a n
 at_or_above_by a n t h = both_ways t (is_at_or_above a n) (λ e. (at_or_above_test a n).1 (h.0 e)) (λ e. h.1 ((at_or_above_test a n).0 e))
 

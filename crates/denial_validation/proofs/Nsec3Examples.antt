@@ -5,7 +5,7 @@ use Rattle.zone_proto.specs.declared.rdata.RData.{RData}
 use Rattle.zone_proto.specs.declared.rdata.RData.TheVariants as V
 use Rattle.zone_proto.specs.declared.record.Record.{Record}
 use Rattle.zone_proto.specs.Base32.{base32_text}
-use Rattle.zone_proto.specs.Names.{Label, Name, name_eq, star_under}
+use Rattle.zone_proto.specs.Names.{Label, Name, name_eq, wildcard_under}
 use Rattle.zone_proto.specs.Types.{A, NS, CNAME, SOA, MX, AAAA, DS, RRSIG, DNSKEY, NSEC3PARAM, ANY, IN}
 use Rattle.denial_validation.specs.NsecProofs.{DNAME}
 use Rattle.denial_validation.specs.Nsec3Proofs.{is_covered, proves_name_error, proves_no_data, proves_wildcard_no_data, proves_empty_answer, proves_wildcard_answer, proves_unsigned_delegation}
@@ -74,10 +74,10 @@ first = under (codes "first")
 abbrev table : List (Name × List ℕ)
 table =
     (apex, codes "0p9mhaveqvm6t7vbl5lop2u3t2rp3tom") ∷ (a, codes "35mthgpgcu1qg68fab165klnsnk3dpvl") ∷ (c, codes "4g6p9u5gvfshp30pqecj98b3maqbn1ck")
-    ∷ (ns1, codes "2t7b4g4vsa5smi47k61mv5bv1a22bojr") ∷ (w, codes "k8udemvp1j2f7eg6jebps17vp3n8i58h") ∷ (star_under w, codes "r53bq7cc2uvmubfu5ocmm6pers9tk9en")
+    ∷ (ns1, codes "2t7b4g4vsa5smi47k61mv5bv1a22bojr") ∷ (w, codes "k8udemvp1j2f7eg6jebps17vp3n8i58h") ∷ (wildcard_under w, codes "r53bq7cc2uvmubfu5ocmm6pers9tk9en")
     ∷ (xw, codes "b4um86eghhds6nea196smvmlo4ors995") ∷ (yw, codes "ji6neoaepv8b5o6k4ev33abha8ht9fgc") ∷ (cxw, codes "0va5bpr2ou0vk0lbqeeljri88laipsfh")
-    ∷ (star_under xw, codes "92pqneegtaue7pjatc3l3qnk738c6v5m") ∷ (codes "z" ∷ w, codes "qlu7gtfaeh0ek0c05ksfhdpbcgglbe03")
-    ∷ (star_under cxw, codes "10000000000000000000000000000000") ∷ (xa, codes "11000000000000000000000000000000") ∷ (star_under a, codes "12000000000000000000000000000000")
+    ∷ (wildcard_under xw, codes "92pqneegtaue7pjatc3l3qnk738c6v5m") ∷ (codes "z" ∷ w, codes "qlu7gtfaeh0ek0c05ksfhdpbcgglbe03")
+    ∷ (wildcard_under cxw, codes "10000000000000000000000000000000") ∷ (xa, codes "11000000000000000000000000000000") ∷ (wildcard_under a, codes "12000000000000000000000000000000")
     ∷ (last, codes "u0000000000000000000000000000000") ∷ (first, codes "00000000000000000000000000000001") ∷ []
 
 abbrev hash : Name → Option (List ℕ)
@@ -109,8 +109,8 @@ at_w = says (codes "k8udemvp1j2f7eg6jebps17vp3n8i58h") (codes "kohar7mbb8dc2ce8a
 abbrev at_ns2 : Nsec3Record
 at_ns2 = says (codes "q04jkcevqvmu85r014c7dkba38o0ji5r") (codes "r53bq7cc2uvmubfu5ocmm6pers9tk9en") (A ∷ RRSIG ∷ [])
 
-abbrev at_star : Nsec3Record
-at_star = says (codes "r53bq7cc2uvmubfu5ocmm6pers9tk9en") (codes "t644ebqk9bibcna874givr6joj62mlhv") (MX ∷ RRSIG ∷ [])
+abbrev at_wildcard : Nsec3Record
+at_wildcard = says (codes "r53bq7cc2uvmubfu5ocmm6pers9tk9en") (codes "t644ebqk9bibcna874givr6joj62mlhv") (MX ∷ RRSIG ∷ [])
 
 -- HINFO is type 13
 abbrev at_xx : Nsec3Record
@@ -129,7 +129,7 @@ read = refl
 
 -- ---- the appendix
 
--- B.1, a name error: a record matches x.w, one covers the next closer name c.x.w, and one the star under x.w
+-- B.1, a name error: a record matches x.w, one covers the next closer name c.x.w, and one the wildcard at x.w
 name_error : proves_name_error apex hash (at_apex ∷ at_xw ∷ at_a ∷ []) acxw ≡ true
 name_error = refl
 
@@ -137,7 +137,7 @@ name_error = refl
 no_data : proves_no_data apex hash (at_ns1 ∷ []) ns1 MX ≡ true
 no_data = refl
 
--- B.2.1, no data at a name that owns nothing and stands above x.y.w
+-- B.2.1, no data at a name that owns nothing and is above x.y.w
 empty : proves_no_data apex hash (at_yw ∷ []) yw A ≡ true
 empty = refl
 
@@ -148,12 +148,12 @@ opted_out = refl
 opted_out_ds : proves_empty_answer apex hash (at_a ∷ at_apex ∷ []) c DS ≡ true
 opted_out_ds = refl
 
--- B.4, an answer that the star under w gave: a record covers z.w
+-- B.4, an answer that the wildcard at w gave: a record covers z.w
 wildcard_answer : proves_wildcard_answer apex hash (at_ns2 ∷ []) azw w ≡ true
 wildcard_answer = refl
 
--- B.5, no data by a wildcard: a record matches w, one covers z.w, and one matches the star under w
-wildcard_no_data : proves_wildcard_no_data apex hash (at_w ∷ at_ns2 ∷ at_star ∷ []) azw AAAA ≡ true
+-- B.5, no data by a wildcard: a record matches w, one covers z.w, and one matches the wildcard at w
+wildcard_no_data : proves_wildcard_no_data apex hash (at_w ∷ at_ns2 ∷ at_wildcard ∷ []) azw AAAA ≡ true
 wildcard_no_data = refl
 
 -- B.6, DS at the apex: the zone's own record has no say on it
@@ -172,15 +172,15 @@ star_left_out = refl
 encloser_left_out : proves_name_error apex hash (at_apex ∷ at_a ∷ []) acxw ≡ false
 encloser_left_out = refl
 
-star_alone : proves_empty_answer apex hash (at_star ∷ []) azw AAAA ≡ false
+star_alone : proves_empty_answer apex hash (at_wildcard ∷ []) azw AAAA ≡ false
 star_alone = refl
 
 nothing : proves_name_error apex hash [] acxw ≡ false
 nothing = refl
 
--- ---- the star under the parent of the name in the place of the one under its closest encloser
+-- ---- the wildcard at the parent of the name in place of the one under its closest encloser
 
-parents_star_is_covered : is_covered apex hash (at_apex ∷ at_xw ∷ []) (star_under cxw) ≡ true
+parents_star_is_covered : is_covered apex hash (at_apex ∷ at_xw ∷ []) (wildcard_under cxw) ≡ true
 parents_star_is_covered = refl
 
 parents_star : proves_name_error apex hash (at_apex ∷ at_xw ∷ []) acxw ≡ false
@@ -198,7 +198,7 @@ below_cut = refl
 at_cut : proves_empty_answer apex hash (at_a ∷ []) a A ≡ false
 at_cut = refl
 
--- with A in the place of NS it is the record of a host; with DNAME in its place it has names below it renamed
+-- with A in place of NS it is the record of a host; with DNAME in its place it has names below it renamed
 
 abbrev a_with : List ℕ → Nsec3Record
 a_with types = record at_a { types = types }
@@ -218,13 +218,13 @@ below_apex = refl
 listed : proves_empty_answer apex hash (at_ns1 ∷ []) ns1 A ≡ false
 listed = refl
 
-listed_star : proves_wildcard_no_data apex hash (at_w ∷ at_ns2 ∷ at_star ∷ []) azw MX ≡ false
+listed_star : proves_wildcard_no_data apex hash (at_w ∷ at_ns2 ∷ at_wildcard ∷ []) azw MX ≡ false
 listed_star = refl
 
 alias : proves_empty_answer apex hash (record at_ns1 { types = CNAME ∷ RRSIG ∷ [] } ∷ []) ns1 MX ≡ false
 alias = refl
 
-alias_star : proves_wildcard_no_data apex hash (at_w ∷ at_ns2 ∷ record at_star { types = CNAME ∷ RRSIG ∷ [] } ∷ []) azw AAAA ≡ false
+alias_star : proves_wildcard_no_data apex hash (at_w ∷ at_ns2 ∷ record at_wildcard { types = CNAME ∷ RRSIG ∷ [] } ∷ []) azw AAAA ≡ false
 alias_star = refl
 
 any_type : proves_empty_answer apex hash (at_ns1 ∷ []) ns1 ANY ≡ false
@@ -250,7 +250,7 @@ not_opted_out = refl
 
 -- ---- moved digests
 
--- the next digest stands before that of c.x.w
+-- the next digest comes before that of c.x.w
 next_before : proves_name_error apex hash (record at_apex { next = digest (codes "0r000000000000000000000000000000") } ∷ at_xw ∷ at_a ∷ []) acxw ≡ false
 next_before = refl
 

@@ -6,15 +6,15 @@ use Rattle.zone_proto.specs.declared.record.Record.{Record}
 use Rattle.zone_proto.specs.Names.{Name}
 use Rattle.zone_proto.specs.Types.{A, NS, SOA, MX, DS}
 use Rattle.denial_validation.specs.declared.proof.Proof.TheVariants.{NameError, UnsignedDelegation, NoData, WildcardAnswer}
-use Rattle.denial_validation.specs.Nsec3Parameters.{judged}
+use Rattle.denial_validation.specs.Nsec3Parameters.{concluded}
 use Rattle.denial_validation.specs.Nsec3Proofs.{proves_wildcard_answer}
 use Rattle.denial_validation.specs.NsecProofs.{DNAME}
 use Rattle.denial_validation.proofs.Nsec3SumExamples.{apex, under, host, cut, absent, foreign, below_cut, digest_of, data_of, answer, answer_of, says, circle, proof}
 
 -- ---- records of other zones
 
--- that of a child zone with the same parameters: it stands behind all owners of this zone, so that it would cover all digests before
--- its next one
+-- that of a child zone with the same parameters: it comes after all owners of this zone, so that it would cover all
+-- digests before its next one
 abbrev sub : Name
 sub = under (codes "sub") apex
 
@@ -42,13 +42,13 @@ longer = record { algorithm = 1; opt_out = false; iterations = 5; salt = 7 ∷ [
 longer_next : proof (answer 10 longer ∷ []) absent A ≡ None
 longer_next = refl
 
--- ---- wildcard answers from a star that isn't of the zone
+-- ---- wildcard answers from a wildcard that isn't of the zone
 
 abbrev answers : Name → Name → List Record → Type 0
-answers x e rs = judged digest_of apex x rs false (λ hash read. proves_wildcard_answer apex hash read x e) ≡ true
+answers x e rs = concluded digest_of apex x rs false (λ hash read. proves_wildcard_answer apex hash read x e) ≡ true
 
 abbrev answers_not : Name → Name → List Record → Type 0
-answers_not x e rs = judged digest_of apex x rs false (λ hash read. proves_wildcard_answer apex hash read x e) ≡ false
+answers_not x e rs = concluded digest_of apex x rs false (λ hash read. proves_wildcard_answer apex hash read x e) ≡ false
 
 from_apex : answers absent apex (says false 10 20 (MX ∷ []) ∷ [])
 from_apex = refl
@@ -76,7 +76,7 @@ by_signed_cut = refl
 by_dname : proof (says false 40 50 (DNAME ∷ []) ∷ []) below_cut A ≡ None
 by_dname = refl
 
--- with A in the place of NS it is the record of a host
+-- with A in place of NS it is the record of a host
 by_host : proof (says false 40 50 (A ∷ []) ∷ []) below_cut A ≡ Some (WildcardAnswer 2 false)
 by_host = refl
 

@@ -5,12 +5,12 @@ use Rattle.zone_proto.specs.declared.rdata.RData.TheVariants as V
 use Rattle.zone_proto.specs.declared.rdata.denial.NSEC3.{NSEC3 as Nsec3Data}
 use Rattle.zone_proto.specs.declared.record.Record.{Record}
 use Rattle.zone_proto.specs.HashedOwners.{hashed_owner}
-use Rattle.zone_proto.specs.Names.{Label, Name, name_eq, star_under}
+use Rattle.zone_proto.specs.Names.{Label, Name, name_eq, wildcard_under}
 use Rattle.zone_proto.specs.Types.{A, NS, SOA, MX, DS, IN}
 use Rattle.denial_validation.specs.declared.proof.Proof.{Proof}
 use Rattle.denial_validation.specs.declared.proof.Proof.TheVariants.{NameError, UnsignedDelegation, NoData, WildcardNoData, WildcardAnswer}
 use Rattle.denial_validation.specs.Judgement.{nsec3_proof}
-use Rattle.denial_validation.specs.Nsec3Parameters.{common_parameters, judged}
+use Rattle.denial_validation.specs.Nsec3Parameters.{common_parameters, concluded}
 use Rattle.denial_validation.specs.Nsec3Proofs.{proves_wildcard_answer}
 
 abbrev pub apex : Name
@@ -19,7 +19,7 @@ apex = codes "example" ∷ []
 abbrev pub under : Label → Name → Name
 under label parent = label ∷ parent
 
--- names that are there: a host, a delegation, a name that owns nothing, and the star under it
+-- names that are there: a host, a delegation, a name that owns nothing, and the wildcard at it
 abbrev pub host : Name
 host = under (codes "a") apex
 
@@ -46,11 +46,11 @@ foreign = codes "www" ∷ codes "other" ∷ []
 abbrev pub below_cut : Name
 below_cut = under (codes "x") cut
 
--- their digests in order, and those of the stars that are asked
+-- their digests in order, and those of the wildcards that are asked
 abbrev pub table : List (Name × List ℕ)
 table =
-    (star_under empty, 10 ∷ []) ∷ (foreign, 12 ∷ []) ∷ (absent, 15 ∷ []) ∷ (apex, 20 ∷ []) ∷ (below_absent, 25 ∷ []) ∷ (below_empty, 28 ∷ []) ∷ (host, 30 ∷ [])
-    ∷ (star_under apex, 35 ∷ []) ∷ (cut, 40 ∷ []) ∷ (below_cut, 45 ∷ []) ∷ (empty, 50 ∷ []) ∷ []
+    (wildcard_under empty, 10 ∷ []) ∷ (foreign, 12 ∷ []) ∷ (absent, 15 ∷ []) ∷ (apex, 20 ∷ []) ∷ (below_absent, 25 ∷ []) ∷ (below_empty, 28 ∷ []) ∷ (host, 30 ∷ [])
+    ∷ (wildcard_under apex, 35 ∷ []) ∷ (cut, 40 ∷ []) ∷ (below_cut, 45 ∷ []) ∷ (empty, 50 ∷ []) ∷ []
 
 -- algorithm 1 alone is known
 abbrev pub digest_of : ℕ → List ℕ → Name → ℕ → Option (List ℕ)
@@ -77,7 +77,7 @@ circle opt_out =
     says opt_out 10 20 (MX ∷ []) ∷ says opt_out 20 30 (NS ∷ SOA ∷ []) ∷ says opt_out 30 40 (A ∷ []) ∷ says opt_out 40 50 (NS ∷ []) ∷ says opt_out 50 10 [] ∷ []
 
 abbrev pub proof : List Record → Name → ℕ → Option Proof
-proof rs x t = judged digest_of apex x rs None (λ hash read. nsec3_proof apex hash read x t)
+proof rs x t = concluded digest_of apex x rs None (λ hash read. nsec3_proof apex hash read x t)
 
 -- ---- each case
 
@@ -102,7 +102,7 @@ wildcard_answer = refl
 owned : proof (circle false) host A ≡ None
 owned = refl
 
--- ---- opt-out: where the star is shown to have nothing, this is told, and else that there may be a delegation
+-- ---- opt-out: where the wildcard is shown to have nothing, this is told, and else that there may be a delegation
 
 out_name_error : proof (circle true) absent A ≡ Some (NameError true)
 out_name_error = refl
@@ -121,16 +121,16 @@ out_ds = refl
 out_answer : proof (says true 10 20 (MX ∷ []) ∷ []) absent A ≡ Some (WildcardAnswer 1 true)
 out_answer = refl
 
--- ---- a wildcard's answer without a record of the encloser. One record covers b and, by chance, y.b, so that it proves an answer from
--- either star: the one that is told has b for its next closer name
+-- ---- a wildcard's answer without a record of the encloser. One record covers b and, by chance, y.b, so that it proves
+-- an answer from either wildcard: the one that is told has b for its next closer name
 
 abbrev covering : List Record
 covering = says false 10 30 (MX ∷ []) ∷ []
 
-by_either : judged digest_of apex below_absent covering false (λ hash read. proves_wildcard_answer apex hash read below_absent absent) ≡ true
+by_either : concluded digest_of apex below_absent covering false (λ hash read. proves_wildcard_answer apex hash read below_absent absent) ≡ true
 by_either = refl
 
-by_apex : judged digest_of apex below_absent covering false (λ hash read. proves_wildcard_answer apex hash read below_absent apex) ≡ true
+by_apex : concluded digest_of apex below_absent covering false (λ hash read. proves_wildcard_answer apex hash read below_absent apex) ≡ true
 by_apex = refl
 
 nearest_the_apex : proof covering below_absent A ≡ Some (WildcardAnswer 1 false)

@@ -4,12 +4,12 @@ use Rattle.std.specs.Prelude.{if◌then◌else◌}
 use Rattle.std.specs.Option.{option_map_or}
 use Rattle.zone_proto.specs.declared.rdata.denial.NSEC3.{NSEC3 as Nsec3Data}
 use Rattle.zone_proto.specs.declared.record.Record.{Record}
-use Rattle.zone_proto.specs.Names.{Name, base_name, is_above, is_at_or_above, star_under}
+use Rattle.zone_proto.specs.Names.{Name, base_name, is_above, is_at_or_above, wildcard_under}
 use Rattle.zone_proto.specs.Types.{DS}
 use Rattle.denial_validation.specs.declared.proof.Proof.{Proof}
 use Rattle.denial_validation.specs.declared.proof.Proof.TheVariants.{NameError, UnsignedDelegation, NoData, WildcardNoData}
 use Rattle.denial_validation.specs.Judgement.{nsec3_proof}
-use Rattle.denial_validation.specs.Nsec3Parameters.{common_parameters, digest_by, records_with, judged}
+use Rattle.denial_validation.specs.Nsec3Parameters.{common_parameters, digest_by, records_with, concluded}
 use Rattle.denial_validation.specs.Nsec3Proofs.{denies_type, matches, is_of_unsigned, is_matched, is_denied, is_covered, is_handed_on, shown_encloser, proved_encloser, wildcard_answer, proves_name_error, proves_no_data, proves_wildcard_no_data, proves_opted_out, shows_unsigned_delegation}
 use Rattle.denial_validation.specs.Nsec3Records.{Nsec3Record}
 use Rattle.denial_validation.specs.Nsec3Responses.{Nsec3Response, hash_of, nsec3_response}
@@ -19,7 +19,7 @@ use Rattle.denial_validation.proofs.ListTests.{list_any-both_none}
 -- what is judged by the records of a response is judged by those that were read
 pub judged_is : {H : Type 0} (digest_of : H → ℕ → List ℕ → Name → ℕ → Option (List ℕ)) (apex : Name) (rs : List Record) (x : Name) (hash : H) (response : Nsec3Response H)
     → Some response ≡ nsec3_response digest_of apex rs x hash → {A : Type 0} (nothing : A) (judgement : Name → (Name → Option (List ℕ)) → List Nsec3Record → Name → A)
-    → judgement response.apex (hash_of digest_of response) response.records response.name ≡ judged (digest_of hash) apex x rs nothing (λ digest read. judgement apex digest read x)
+    → judgement response.apex (hash_of digest_of response) response.records response.name ≡ concluded (digest_of hash) apex x rs nothing (λ digest read. judgement apex digest read x)
 judged_is {H} digest_of apex rs x hash response read {A} nothing judgement = by (common_parameters (digest_of hash) apex x rs) read
   where
     by : (common : Option Nsec3Data) → Some response ≡ option_map (λ p. record { apex = apex; name = x; hash = hash; parameters = p; records = records_with apex p rs }) common
@@ -63,14 +63,15 @@ module _ (apex : Name) (hash : Name → Option (List ℕ)) (rs : List Nsec3Recor
   pub with_own : is_matched apex hash rs x ≡ true → (unsigned no_data : Bool) → unsigned ≡ shows_unsigned_delegation apex hash rs x → no_data ≡ proves_no_data apex hash rs x t
       → nsec3_proof apex hash rs x t ≡ (if unsigned then Some UnsignedDelegation else (if no_data then Some NoData else wildcard_answer apex hash rs x))
   with_own matched unsigned no_data cut own =
-      let error = matched_none apex hash rs x (λ r. true) (λ e. is_covered apex hash rs (star_under e)) matched in
-      let wildcard = matched_none apex hash rs x (λ r. true) (λ e. is_denied apex hash rs (star_under e) t) matched in
+      let error = matched_none apex hash rs x (λ r. true) (λ e. is_covered apex hash rs (wildcard_under e)) matched in
+      let wildcard = matched_none apex hash rs x (λ r. true) (λ e. is_denied apex hash rs (wildcard_under e) t) matched in
       let kept = matched_none apex hash rs x (λ r. r.opt_out) (λ e. true) matched in
       (λ i. first_of (here i) (t == DS) (error i) (sym cut i) (sym own i) (wildcard i) (kept i) (wildcard_answer apex hash rs x))
       ∙ ap (λ b. if b then Some UnsignedDelegation else (if unsigned then Some UnsignedDelegation else (if no_data then Some NoData else wildcard_answer apex hash rs x))) (never (t == DS))
 
-  -- where the closest encloser is proved it is what the star shows, or what opt-out leaves out, or a wildcard's answer
-  pub with_star : (star : Name) → Some (base_name star) ≡ proved_encloser apex hash rs x → star ≡ star_under (base_name star)
+  -- where the closest encloser is proved it is what the wildcard shows, or what opt-out leaves out, or a wildcard's
+  -- answer
+  pub with_star : (star : Name) → Some (base_name star) ≡ proved_encloser apex hash rs x → star ≡ wildcard_under (base_name star)
       → (covered denied opted_out : Bool) → covered ≡ is_covered apex hash rs star → denied ≡ is_denied apex hash rs star t → opted_out ≡ proves_opted_out apex hash rs x
       → nsec3_proof apex hash rs x t
       ≡ first_of false (t == DS) covered false false denied opted_out (wildcard_answer apex hash rs x)
@@ -84,8 +85,8 @@ module _ (apex : Name) (hash : Name → Option (List ℕ)) (rs : List Nsec3Recor
   pub without_proof : is_matched apex hash rs x ≡ false → proved_encloser apex hash rs x ≡ None → proves_opted_out apex hash rs x ≡ false
       → nsec3_proof apex hash rs x t ≡ wildcard_answer apex hash rs x
   without_proof unmatched unproved kept =
-      let error = with_rest apex hash rs x (λ e. is_covered apex hash rs (star_under e)) ∙ ap (λ o. option_map_or (λ e. is_covered apex hash rs (star_under e)) o false) unproved in
-      let wildcard = with_rest apex hash rs x (λ e. is_denied apex hash rs (star_under e) t) ∙ ap (λ o. option_map_or (λ e. is_denied apex hash rs (star_under e) t) o false) unproved in
+      let error = with_rest apex hash rs x (λ e. is_covered apex hash rs (wildcard_under e)) ∙ ap (λ o. option_map_or (λ e. is_covered apex hash rs (wildcard_under e)) o false) unproved in
+      let wildcard = with_rest apex hash rs x (λ e. is_denied apex hash rs (wildcard_under e) t) ∙ ap (λ o. option_map_or (λ e. is_denied apex hash rs (wildcard_under e) t) o false) unproved in
       (λ i. first_of (here i) (t == DS) (error i) (cut_none unmatched i) (own_none unmatched i) (wildcard i) (kept i) (wildcard_answer apex hash rs x))
       ∙ ap (λ b. if b then Some UnsignedDelegation else wildcard_answer apex hash rs x) (never (t == DS))
 

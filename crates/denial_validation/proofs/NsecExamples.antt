@@ -4,7 +4,7 @@ use Rattle.std.specs.Prelude.{codes, Some, None}
 use Rattle.zone_proto.specs.declared.rdata.RData.{RData}
 use Rattle.zone_proto.specs.declared.rdata.RData.TheVariants as V
 use Rattle.zone_proto.specs.declared.record.Record.{Record}
-use Rattle.zone_proto.specs.Names.{Label, Name, star_under}
+use Rattle.zone_proto.specs.Names.{Label, Name, wildcard_under}
 use Rattle.zone_proto.specs.Types.{A, NS, SOA, MX, AAAA, DS, RRSIG, NSEC, DNSKEY, IN}
 use Rattle.denial_validation.specs.declared.proof.Proof.TheVariants.{NameError, UnsignedDelegation, EmptyNonTerminal, NoData, WildcardNoData, WildcardAnswer}
 use Rattle.denial_validation.specs.Judgement.{nsec_proof}
@@ -52,10 +52,10 @@ abbrev pub at_ns1 : NsecRecord
 at_ns1 = says ns1 (under (codes "ns2")) (A ∷ RRSIG ∷ NSEC ∷ [])
 
 abbrev pub at_ns2 : NsecRecord
-at_ns2 = says (under (codes "ns2")) (star_under w) (A ∷ RRSIG ∷ NSEC ∷ [])
+at_ns2 = says (under (codes "ns2")) (wildcard_under w) (A ∷ RRSIG ∷ NSEC ∷ [])
 
-abbrev pub at_star : NsecRecord
-at_star = says (star_under w) (codes "x" ∷ w) (MX ∷ RRSIG ∷ NSEC ∷ [])
+abbrev pub at_wildcard : NsecRecord
+at_wildcard = says (wildcard_under w) (codes "x" ∷ w) (MX ∷ RRSIG ∷ NSEC ∷ [])
 
 abbrev pub at_xw : NsecRecord
 at_xw = says (codes "x" ∷ w) (codes "x" ∷ codes "y" ∷ w) (MX ∷ RRSIG ∷ NSEC ∷ [])
@@ -80,7 +80,7 @@ read = refl
 
 -- ---- the appendix
 
--- B.2, a name error: one record denies the name, the other the star under the apex
+-- B.2, a name error: one record denies the name, the other the wildcard at the apex
 name_error : nsec_proof apex (at_b ∷ at_apex ∷ []) ml A ≡ Some (NameError false)
 name_error = refl
 
@@ -104,7 +104,7 @@ wildcard_answer : nsec_proof apex (at_xyw ∷ []) azw MX ≡ Some (WildcardAnswe
 wildcard_answer = refl
 
 -- B.7, no data by a wildcard
-wildcard_no_data : nsec_proof apex (at_xyw ∷ at_star ∷ []) azw AAAA ≡ Some (WildcardNoData false)
+wildcard_no_data : nsec_proof apex (at_xyw ∷ at_wildcard ∷ []) azw AAAA ≡ Some (WildcardNoData false)
 wildcard_no_data = refl
 
 -- B.8, DS at the apex: the zone's own record has no say on it, and the parent is to be asked
@@ -121,14 +121,14 @@ apex_no_data = refl
 host_no_ds : nsec_proof apex (at_ns1 ∷ []) ns1 DS ≡ Some NoData
 host_no_ds = refl
 
--- names that own nothing, and stand above *.w and x.y.w
+-- names that own nothing, and are above *.w and x.y.w
 empty : nsec_proof apex (at_ns2 ∷ []) w A ≡ Some EmptyNonTerminal
 empty = refl
 
 empty_below : nsec_proof apex (at_xw ∷ []) (codes "y" ∷ w) A ≡ Some EmptyNonTerminal
 empty_below = refl
 
--- a name below a host: the record of the host denies it, and the star under the host
+-- a name below a host: the record of the host denies it, and the wildcard at the host
 below_host : nsec_proof apex (at_ns1 ∷ []) (codes "a" ∷ ns1) A ≡ Some (NameError false)
 below_host = refl
 
@@ -142,8 +142,9 @@ after_last = refl
 alone : nsec_proof apex (says apex apex (SOA ∷ RRSIG ∷ NSEC ∷ []) ∷ []) ml A ≡ Some (NameError false)
 alone = refl
 
--- of one with a star that owns nothing and stands above x.*, one record denies the name, the other shows that the star is empty
-empty_star : nsec_proof apex (says (codes "x" ∷ star_under apex) apex (A ∷ RRSIG ∷ NSEC ∷ []) ∷ says apex (codes "x" ∷ star_under apex) (SOA ∷ RRSIG ∷ NSEC ∷ []) ∷ []) ml A ≡ Some (WildcardNoData false)
+-- of one with a wildcard that owns nothing and is above x.*, one record denies the name, the other shows that the
+-- wildcard is empty
+empty_star : nsec_proof apex (says (codes "x" ∷ wildcard_under apex) apex (A ∷ RRSIG ∷ NSEC ∷ []) ∷ says apex (codes "x" ∷ wildcard_under apex) (SOA ∷ RRSIG ∷ NSEC ∷ []) ∷ []) ml A ≡ Some (WildcardNoData false)
 empty_star = refl
 
 -- the root's own record denies DS of the root, which has no parent

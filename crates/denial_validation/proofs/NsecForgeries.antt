@@ -1,13 +1,13 @@
 -- What NSEC records don't prove: those of the zone of RFC 4035 appendix A where they aren't in place, and some that are turned a little; computed from the definitions
 use Rattle.std.proofs.Common.{◌≡◌, true, false, [], ◌∷◌, refl}
 use Rattle.std.specs.Prelude.{codes, Some, None}
-use Rattle.zone_proto.specs.Names.{Name, star_under}
+use Rattle.zone_proto.specs.Names.{Name, wildcard_under}
 use Rattle.zone_proto.specs.Types.{A, NS, CNAME, SOA, MX, AAAA, DS, RRSIG, NSEC, ANY}
 use Rattle.denial_validation.specs.declared.proof.Proof.TheVariants.{NameError, EmptyNonTerminal, WildcardAnswer}
 use Rattle.denial_validation.specs.Judgement.{nsec_proof}
 use Rattle.denial_validation.specs.NsecProofs.{DNAME, denies_name, proves_name_error, proves_no_data, proves_wildcard_no_data, proves_wildcard_answer, proves_unsigned_delegation}
 use Rattle.denial_validation.specs.NsecRecords.{NsecRecord}
-use Rattle.denial_validation.proofs.NsecExamples.{apex, under, b, ml, ns1, w, azw, says, at_apex, at_a, at_b, at_ns1, at_ns2, at_star, at_xyw, at_xx}
+use Rattle.denial_validation.proofs.NsecExamples.{apex, under, b, ml, ns1, w, azw, says, at_apex, at_a, at_b, at_ns1, at_ns2, at_wildcard, at_xyw, at_xx}
 
 -- ---- the parent's record at a zone cut, used below the cut and for types that the child has (RFC 6840 section 4.1)
 
@@ -26,7 +26,7 @@ at_cut = refl
 at_signed_cut : nsec_proof apex (at_a ∷ []) (under (codes "a")) A ≡ None
 at_signed_cut = refl
 
--- with A in the place of NS it is the record of a host, and denies what is below
+-- with A in place of NS it is the record of a host, and denies what is below
 below_host : nsec_proof apex (says b ns1 (A ∷ RRSIG ∷ NSEC ∷ []) ∷ []) mcb A ≡ Some (NameError false)
 below_host = refl
 
@@ -39,12 +39,12 @@ below_child = refl
 below_dname : nsec_proof apex (says b ns1 (DNAME ∷ RRSIG ∷ NSEC ∷ []) ∷ at_apex ∷ []) mcb A ≡ None
 below_dname = refl
 
--- ---- an alias, which would answer for the type (RFC 6840 section 4.3), at the name and at the star
+-- ---- an alias, which would answer for the type (RFC 6840 section 4.3), at the name and at the wildcard
 
 alias : nsec_proof apex (says ns1 (under (codes "ns2")) (CNAME ∷ RRSIG ∷ NSEC ∷ []) ∷ []) ns1 MX ≡ None
 alias = refl
 
-alias_star : proves_wildcard_no_data apex (at_xyw ∷ says (star_under w) (codes "x" ∷ w) (CNAME ∷ RRSIG ∷ NSEC ∷ []) ∷ []) azw AAAA ≡ false
+alias_star : proves_wildcard_no_data apex (at_xyw ∷ says (wildcard_under w) (codes "x" ∷ w) (CNAME ∷ RRSIG ∷ NSEC ∷ []) ∷ []) azw AAAA ≡ false
 alias_star = refl
 
 -- ---- a type that is there, one that each signed name has (RFC 4035 section 5.4), and any type
@@ -52,7 +52,7 @@ alias_star = refl
 listed : nsec_proof apex (at_ns1 ∷ []) ns1 A ≡ None
 listed = refl
 
-listed_star : nsec_proof apex (at_xyw ∷ at_star ∷ []) azw MX ≡ Some (WildcardAnswer 2 false)
+listed_star : nsec_proof apex (at_xyw ∷ at_wildcard ∷ []) azw MX ≡ Some (WildcardAnswer 2 false)
 listed_star = refl
 
 unlisted_signature : nsec_proof apex (says ns1 (under (codes "ns2")) (A ∷ []) ∷ []) ns1 RRSIG ≡ None
@@ -65,27 +65,28 @@ any_type = refl
 other_owner : nsec_proof apex (at_ns2 ∷ []) ns1 MX ≡ None
 other_owner = refl
 
--- ---- the star under the parent of the name, or under the apex, in the place of the one under its closest encloser w, which is there
+-- ---- the wildcard at the parent of the name, or under the apex, in place of the one under its closest encloser w,
+-- which is there
 
-parents_star_is_denied : denies_name apex at_xyw (star_under (codes "z" ∷ w)) ≡ true
+parents_star_is_denied : denies_name apex at_xyw (wildcard_under (codes "z" ∷ w)) ≡ true
 parents_star_is_denied = refl
 
 parents_star : proves_name_error apex (at_xyw ∷ []) azw ≡ false
 parents_star = refl
 
-apex_star_is_denied : denies_name apex at_apex (star_under apex) ≡ true
+apex_star_is_denied : denies_name apex at_apex (wildcard_under apex) ≡ true
 apex_star_is_denied = refl
 
 apex_star : proves_name_error apex (at_xyw ∷ at_apex ∷ []) azw ≡ false
 apex_star = refl
 
--- an answer that is said to be made from the star under the apex
+-- an answer that is said to be made from the wildcard at the apex
 other_encloser : proves_wildcard_answer apex (at_xyw ∷ at_apex ∷ []) azw apex ≡ false
 other_encloser = refl
 
 -- ---- a moved next name
 
--- it stands before the name
+-- it comes before the name
 next_before : nsec_proof apex (says b (under (codes "mk")) (NS ∷ RRSIG ∷ NSEC ∷ []) ∷ at_apex ∷ []) ml A ≡ None
 next_before = refl
 
@@ -93,7 +94,7 @@ next_before = refl
 next_is_name : nsec_proof apex (says b ml (NS ∷ RRSIG ∷ NSEC ∷ []) ∷ at_apex ∷ []) ml A ≡ None
 next_is_name = refl
 
--- it stands below the name, which is there then
+-- it is below the name, which is there then
 next_below : nsec_proof apex (says b (codes "x" ∷ ml) (NS ∷ RRSIG ∷ NSEC ∷ []) ∷ at_apex ∷ []) ml A ≡ Some EmptyNonTerminal
 next_below = refl
 
@@ -117,16 +118,16 @@ other_first = refl
 
 -- ---- one record alone
 
--- that of the star
+-- that of the wildcard
 star_alone : nsec_proof apex (at_apex ∷ []) ml A ≡ None
 star_alone = refl
 
--- that of the name: a star may answer
+-- that of the name: a wildcard may answer
 name_alone : nsec_proof apex (at_b ∷ []) ml A ≡ Some (WildcardAnswer 1 false)
 name_alone = refl
 
--- that of the star, which shows no more than the star's types
-types_alone : nsec_proof apex (at_star ∷ []) azw AAAA ≡ None
+-- that of the wildcard, which shows no more than the wildcard's types
+types_alone : nsec_proof apex (at_wildcard ∷ []) azw AAAA ≡ None
 types_alone = refl
 
 nothing : nsec_proof apex [] ml A ≡ None
@@ -153,7 +154,7 @@ other_apex = refl
 
 -- ---- records of other zones. Each is genuine, and its own zone may have it signed by a key that a validator trusts
 
--- one whose owner stands before the zone and whose next name is the apex would deny all names of the zone
+-- one whose owner comes before the zone and whose next name is the apex would deny all names of the zone
 foreign : nsec_proof (codes "victim" ∷ []) (says (codes "a" ∷ codes "aaa" ∷ []) (codes "victim" ∷ []) (A ∷ RRSIG ∷ NSEC ∷ []) ∷ []) (codes "www" ∷ codes "victim" ∷ []) A ≡ None
 foreign = refl
 

@@ -59,10 +59,10 @@ module _ (digest_of : ℕ → List ℕ → Name → ℕ → Option (List ℕ)) w
       abbrev pub is_other_known : Nsec3Data → Bool
       is_other_known p = list_any (is_other p) (nsec3_datas apex rs)
 
-      -- the parameters of all records that it knows; none where these have not all the same (RFC 5155 section 8.2)
+      -- the parameters of all records that it knows; none if these have not all the same (RFC 5155 section 8.2)
       abbrev pub common_parameters : Option Nsec3Data
       common_parameters = option_and_then (λ p. cond (is_other_known p) None (Some p)) (find is_known (nsec3_datas apex rs))
 
       -- what a judgement gives, by the hash with these parameters and by the records that have them; without such parameters, nothing
-      abbrev pub judged : {A : Type 0} → (nothing : A) → ((Name → Option (List ℕ)) → List Nsec3Record → A) → A
-      judged nothing judgement = option_map_or (λ p. judgement (digest_by p) (records_with apex p rs)) common_parameters nothing
+      abbrev pub concluded : {A : Type 0} → (nothing : A) → ((Name → Option (List ℕ)) → List Nsec3Record → A) → A
+      concluded nothing judgement = option_map_or (λ p. judgement (digest_by p) (records_with apex p rs)) common_parameters nothing

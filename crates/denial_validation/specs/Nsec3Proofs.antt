@@ -5,7 +5,7 @@ use Rattle.std.specs.Prelude.{ℕ, Bool, true, false, ◌&&◌, ◌||◌, not, c
 use Rattle.std.specs.List.{list_any}
 use Rattle.std.specs.Option.{option_map_or}
 use Rattle.zone_proto.specs.HashedOwners.{hashed_owner}
-use Rattle.zone_proto.specs.Names.{Name, base_name, name_cmp, name_eq, is_above, is_at_or_above, is_root, proper_ancestors, star_under, suffixes}
+use Rattle.zone_proto.specs.Names.{Name, base_name, name_cmp, name_eq, is_above, is_at_or_above, is_root, proper_ancestors, wildcard_under, suffixes}
 use Rattle.zone_proto.specs.Order.{is_before, is_upto}
 use Rattle.zone_proto.specs.Types.{NS, CNAME, SOA, DS, ANY}
 use Rattle.denial_validation.specs.declared.proof.Proof.{Proof}
@@ -66,8 +66,8 @@ module _ (apex : Name) (hash : Name → Option (List ℕ)) where
   abbrev pub matches : Nsec3Record → Name → Bool
   matches r x = has_owner r (owner_of x)
 
-  -- the record covers x: the digest of x falls between that of the owner and the next one (RFC 5155 section 1.3). Owners stand in
-  -- the order of their digests
+  -- the record covers x: the digest of x falls between that of the owner and the next one (RFC 5155 section 1.3).
+  -- Owners are in the order of their digests
   abbrev pub covers : Nsec3Record → Name → Bool
   covers r x = covers_owner apex r (owner_of x)
 
@@ -118,9 +118,9 @@ module _ (apex : Name) (hash : Name → Option (List ℕ)) where
     abbrev pub proved_encloser : Name → Option Name
     proved_encloser x = cond (encloser_and (λ r. true) x (λ e. true)) (shown_encloser x) None
 
-    -- a name error: the closest encloser proof, and the star under the encloser is covered (RFC 5155 section 8.4)
+    -- a name error: the closest encloser proof, and the wildcard at the encloser is covered (RFC 5155 section 8.4)
     abbrev pub proves_name_error : Name → Bool
-    proves_name_error x = encloser_and (λ r. true) x (λ e. is_covered (star_under e))
+    proves_name_error x = encloser_and (λ r. true) x (λ e. is_covered (wildcard_under e))
 
     -- no data at a name of the zone that has a record (RFC 5155 section 8.5, and 8.6 first sentence)
     abbrev pub proves_no_data : Name → ℕ → Bool
@@ -131,22 +131,23 @@ module _ (apex : Name) (hash : Name → Option (List ℕ)) where
     abbrev pub proves_opted_out : Name → Bool
     proves_opted_out x = encloser_and (λ r. r.opt_out) x (λ e. true)
 
-    -- no data by a wildcard: the closest encloser proof, and a record matches the star under the encloser and denies the type (RFC 5155
-    -- section 8.7)
+    -- no data by a wildcard: the closest encloser proof, and a record matches the wildcard at the encloser and denies
+    -- the type (RFC 5155 section 8.7)
     abbrev pub proves_wildcard_no_data : Name → ℕ → Bool
-    proves_wildcard_no_data x t = encloser_and (λ r. true) x (λ e. is_denied (star_under e) t)
+    proves_wildcard_no_data x t = encloser_and (λ r. true) x (λ e. is_denied (wildcard_under e) t)
 
     -- any of the three: an answer without data that is no error
     abbrev pub proves_empty_answer : Name → ℕ → Bool
     proves_empty_answer x t = proves_no_data x t || proves_opted_out x || proves_wildcard_no_data x t
 
-    -- an answer that was made from the star under e, a proper ancestor that isn't above the apex: the name next closer to e is covered,
-    -- so that no name closer to x exists (RFC 5155 section 8.8)
+    -- an answer that was made from the wildcard at e, a proper ancestor that isn't above the apex: the name next closer
+    -- to e is covered, so that no name closer to x exists (RFC 5155 section 8.8)
     abbrev pub proves_wildcard_answer : Name → Name → Bool
     proves_wildcard_answer x e = is_at_or_above apex e && is_above e x && option_map_or is_covered (next_closer x e) false
 
-    -- of x and its ancestors, below the apex, the shortest that a record covers. It is the next closer name of the encloser from whose
-    -- star an answer may have been made: where the records are of one zone, those closer to x don't exist
+    -- of x and its ancestors, below the apex, the shortest that a record covers. It is the next closer name of the
+    -- encloser from whose wildcard an answer may have been made: where the records are of one zone, those closer to x
+    -- don't exist
     abbrev pub covered_closer : Name → Option Name
     covered_closer x = find is_covered (reverse (filter (is_above apex) (suffixes x)))
 

@@ -3,7 +3,7 @@
 use Rattle.std.specs.Prelude.{ℕ, Bool, false, ◌&&◌, ◌||◌, not, cond, List, ◌==◌, Option, find, option_and_then}
 use Rattle.std.specs.List.{list_any}
 use Rattle.std.specs.Option.{option_map_or}
-use Rattle.zone_proto.specs.Names.{Name, name_cmp, name_eq, is_above, is_at_or_above, is_root, proper_ancestors, star_under}
+use Rattle.zone_proto.specs.Names.{Name, name_cmp, name_eq, is_above, is_at_or_above, is_root, proper_ancestors, wildcard_under}
 use Rattle.zone_proto.specs.Order.{is_before}
 use Rattle.zone_proto.specs.Types.{NS, CNAME, SOA, DS, RRSIG, NSEC, ANY}
 use Rattle.denial_validation.specs.NsecRecords.{NsecRecord}
@@ -29,36 +29,36 @@ abbrev pub is_ancestor_delegation : NsecRecord → Bool
 is_ancestor_delegation r = lists r NS && not (lists r SOA)
 
 -- it may tell of x: an ancestor delegation and a DNAME tell nothing of the names below them (RFC 6840 section 4.1)
-abbrev pub may_tell_of : NsecRecord → Name → Bool
-may_tell_of r x = not (is_above r.owner x && (is_ancestor_delegation r || lists r DNAME))
+abbrev pub may_apply_to : NsecRecord → Name → Bool
+may_apply_to r x = not (is_above r.owner x && (is_ancestor_delegation r || lists r DNAME))
 
 -- the closest encloser of x that the record shows: the longest proper ancestor of x at or below which its owner or its next
 -- name stands, so that it exists (RFC 4592 section 3.3.1)
 abbrev pub shown_encloser : NsecRecord → Name → Option Name
 shown_encloser r x = find (λ a. is_at_or_above a r.owner || is_at_or_above a r.next) (proper_ancestors x)
 
--- the star under this encloser passes a test: the star that would answer in the place of x (RFC 4592 section 3.3.1)
-abbrev pub star_passes : (Name → Bool) → NsecRecord → Name → Bool
-star_passes test r x = option_map_or (λ e. test (star_under e)) (shown_encloser r x) false
+-- the wildcard at this encloser passes a test: the wildcard that would answer in place of x (RFC 4592 section 3.3.1)
+abbrev pub wildcard_is : (Name → Bool) → NsecRecord → Name → Bool
+wildcard_is test r x = option_map_or (λ e. test (wildcard_under e)) (shown_encloser r x) false
 
 module _ (apex : Name) where
   -- it is of the zone: its owner is the apex or below it
   abbrev pub is_of_zone : NsecRecord → Bool
   is_of_zone r = is_at_or_above apex r.owner
 
-  -- x, a name below the apex, would stand after the owner and before the next name (RFC 4035 section 5.4). The next name of the
-  -- last record is the apex, and every name after its owner stands before that (RFC 4034 section 4.1.1)
+  -- x, a name below the apex, would come after the owner and before the next name (RFC 4035 section 5.4). The next name
+  -- of the last record is the apex, and every name after its owner comes before that (RFC 4034 section 4.1.1)
   abbrev pub covers : NsecRecord → Name → Bool
   covers r x = is_of_zone r && is_above apex x && is_before name_cmp r.owner x && (is_before name_cmp x r.next || name_eq r.next apex)
 
-  -- x doesn't exist: no set stands there (RFC 4035 section 5.4), and nothing below it, for else the next name would stand there
-  -- (RFC 4592 section 2.2.2)
+  -- x doesn't exist: no set is there (RFC 4035 section 5.4), and nothing below it, for else the next name would be
+  -- there (RFC 4592 section 2.2.2)
   abbrev pub denies_name : NsecRecord → Name → Bool
-  denies_name r x = may_tell_of r x && covers r x && not (is_above x r.next)
+  denies_name r x = may_apply_to r x && covers r x && not (is_above x r.next)
 
-  -- x is an empty non-terminal: no set stands there, but the next name stands below it (RFC 4592 section 2.2.2)
+  -- x is an empty non-terminal: no set is there, but the next name is below it (RFC 4592 section 2.2.2)
   abbrev pub shows_empty : NsecRecord → Name → Bool
-  shows_empty r x = may_tell_of r x && covers r x && is_above x r.next
+  shows_empty r x = may_apply_to r x && covers r x && is_above x r.next
 
   -- it is that of the apex of a zone, as SOA tells, or of this one
   abbrev pub is_of_apex : NsecRecord → Bool
@@ -90,13 +90,15 @@ module _ (apex : Name) (rs : List NsecRecord) where
   abbrev pub is_bare : ℕ → Name → Bool
   is_bare t x = list_any (λ r. denies_type apex r x t || shows_empty apex r x) rs
 
-  -- a record denies x, and the star that would answer in its place, under the closest encloser that this record shows, passes a test
-  abbrev pub denied_and_star : Name → (Name → Bool) → Bool
-  denied_and_star x test = list_any (λ r. denies_name apex r x && star_passes test r x) rs
+  -- a record denies x, and the wildcard that would answer in its place, under the closest encloser that this record
+  -- shows, passes a test
+  abbrev pub denied_and_wildcard : Name → (Name → Bool) → Bool
+  denied_and_wildcard x test = list_any (λ r. denies_name apex r x && wildcard_is test r x) rs
 
-  -- a name error: x doesn't exist, and nor does the star that would answer in its place (RFC 4035 sections 3.1.3.2 and 5.4)
+  -- a name error: x doesn't exist, and nor does the wildcard that would answer in its place (RFC 4035 sections 3.1.3.2
+  -- and 5.4)
   abbrev pub proves_name_error : Name → Bool
-  proves_name_error x = denied_and_star x is_denied
+  proves_name_error x = denied_and_wildcard x is_denied
 
   -- no data at a name that owns sets (RFC 4035 sections 3.1.3.1 and 5.4)
   abbrev pub proves_no_data : Name → ℕ → Bool
@@ -106,19 +108,19 @@ module _ (apex : Name) (rs : List NsecRecord) where
   abbrev pub proves_empty_non_terminal : Name → Bool
   proves_empty_non_terminal x = list_any (λ r. shows_empty apex r x) rs
 
-  -- no data by a wildcard: x doesn't exist, and the star that answers in its place owns no set of type t, or none at all
-  -- (RFC 4035 sections 3.1.3.4 and 5.4)
+  -- no data by a wildcard: x doesn't exist, and the wildcard that answers in its place owns no set of type t, or none
+  -- at all (RFC 4035 sections 3.1.3.4 and 5.4)
   abbrev pub proves_wildcard_no_data : Name → ℕ → Bool
-  proves_wildcard_no_data x t = denied_and_star x (is_bare t)
+  proves_wildcard_no_data x t = denied_and_wildcard x (is_bare t)
 
   -- any of the three: an answer without data that is no error
   abbrev pub proves_empty_answer : Name → ℕ → Bool
   proves_empty_answer x t = proves_no_data x t || proves_empty_non_terminal x || proves_wildcard_no_data x t
 
-  -- an answer that was made from the star under e: x doesn't exist, and e is its closest encloser (RFC 4035 sections 3.1.3.3
-  -- and 5.3.4)
+  -- an answer that was made from the wildcard at e: x doesn't exist, and e is its closest encloser (RFC 4035 sections
+  -- 3.1.3.3 and 5.3.4)
   abbrev pub proves_wildcard_answer : Name → Name → Bool
-  proves_wildcard_answer x e = denied_and_star x (name_eq (star_under e))
+  proves_wildcard_answer x e = denied_and_wildcard x (name_eq (wildcard_under e))
 
   -- the closest encloser of x that the first record shows which denies x
   abbrev pub denied_encloser : Name → Option Name

@@ -1,6 +1,6 @@
 // Names as the records of a denial and a question have them, compared without memory.
 ghost use Rattle.std.specs.Prelude.{◌≡◌, ◌∷◌};
-ghost use Rattle.zone_proto.specs.Names.{lower, name_cmp, name_eq, is_above, is_at_or_above, is_root, star_under};
+ghost use Rattle.zone_proto.specs.Names.{lower, name_cmp, name_eq, is_above, is_at_or_above, is_root, wildcard_under};
 ghost use Rattle.zone_proto.specs.Order.{is_before, is_upto};
 ghost use Rattle.denial_validation.specs.Nsec3Proofs.{goes_over};
 
@@ -51,9 +51,9 @@ impl<'n> AskedName<'n> {
         }
     }
 
-    /// The star under it (RFC 4592 section 2.1.1).
-    pub(crate) fn star_under(base: Labels<'n>) -> AskedName<'n>
-        ensures { result ≡ star_under (lower base.entry) }
+    /// The wildcard at it (RFC 4592 section 2.1.1).
+    pub(crate) fn wildcard_under(base: Labels<'n>) -> AskedName<'n>
+        ensures { result ≡ wildcard_under (lower base.entry) }
     {
         AskedName {
             labels: PrependedLabels::with_first(b"*", base),
@@ -83,14 +83,14 @@ impl<'n> AskedName<'n> {
         self.compare(other).is_eq()
     }
 
-    /// Whether this name stands before the other.
+    /// Whether this name comes before the other.
     pub(crate) fn is_before(&self, other: &AskedName<'_>) -> bool
         ensures { result ≡ is_before name_cmp self.now other.now }
     {
         self.compare(other).is_lt()
     }
 
-    /// Whether this name is the other or stands before it.
+    /// Whether this name is the other or comes before it.
     fn is_upto(&self, other: &AskedName<'_>) -> bool
         ensures { result ≡ is_upto name_cmp self.now other.now }
     {

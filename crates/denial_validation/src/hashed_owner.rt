@@ -26,7 +26,7 @@ impl<'z> Model for HashedOwner<'z> {
 }
 
 impl<'z> HashedOwner<'z> {
-    /// The owner for a digest. Refused only for want of memory.
+    /// The owner for a digest. Fails only for lack of memory.
     pub(crate) fn of(apex: &'z LowerName, digest: &[u8]) -> Result<HashedOwner<'z>, ProtoError>
         ensures ok { IfOk result (λ o. o ≡ hashed_owner apex.now digest.now) }
         ensures err { IsOkUnless result ProtoError.Memory }
@@ -35,7 +35,7 @@ impl<'z> HashedOwner<'z> {
         Ok(HashedOwner { label, apex })
     }
 
-    /// A copy. Refused only for want of memory.
+    /// A copy. Fails only for lack of memory.
     pub(crate) fn clone(&self) -> Result<HashedOwner<'z>, ProtoError>
         ensures { IsCopy result self.now }
     {

@@ -1,8 +1,9 @@
 //! What NSEC records prove (RFC 4035 section 5.4).
 //!
-//! Each call is told the apex of the zone, which is the name that signed the records, and is lent the records of a response;
-//! those of other types than NSEC, and those whose owner is no name of the zone, prove nothing. It takes no memory. The signatures are taken as checked, each under the
-//! owner itself: a record that was made from a wildcard proves nothing (RFC 4035 section 5.4).
+//! Each call is told the apex of the zone, which is the name that signed the records, and is lent the records of a
+//! response; those of other types than NSEC, and those whose owner is no name of the zone, prove nothing. It doesn't
+//! allocate. The signatures are taken as checked, each under the owner itself: a record that was made from a wildcard
+//! proves nothing (RFC 4035 section 5.4).
 //!
 //! A call looks at each record once. Only where a record denies the name are all asked once more, of the wildcard that would
 //! answer in the name's place. Of the records of one zone one alone denies a name; where records contradict one another, the
@@ -11,7 +12,7 @@ ghost use Rattle.std.specs.Prelude.{◌≡◌, ◌==◌, ◌&&◌, false, length
 ghost use Rattle.std.specs.Option.{option_map_or};
 ghost use Rattle.denial_validation.specs.Encloser.{ancestor_of};
 ghost use Rattle.denial_validation.specs.Judgement.{nsec_proof};
-ghost use Rattle.denial_validation.specs.NsecProofs.{denies_name, is_denied, is_bare, star_passes, shown_encloser, denied_encloser, proves_name_error, proves_no_data, proves_empty_non_terminal, proves_wildcard_no_data, proves_wildcard_answer, proves_unsigned_delegation};
+ghost use Rattle.denial_validation.specs.NsecProofs.{denies_name, is_denied, is_bare, wildcard_is, shown_encloser, denied_encloser, proves_name_error, proves_no_data, proves_empty_non_terminal, proves_wildcard_no_data, proves_wildcard_answer, proves_unsigned_delegation};
 ghost use Rattle.denial_validation.specs.NsecRecords.{lent_nsec};
 
 use crate::asked_name::AskedName;
@@ -20,7 +21,7 @@ use crate::nsec_records::NsecRecords;
 use crate::proof::Proof;
 use zone_proto::{LowerName, Record, RecordType};
 
-/// What the records prove of `name` and a type: the first case of [`Proof`] that holds, and nothing where none does.
+/// What the records prove about `name` and a type: the first case of [`Proof`] that holds, or nothing if none does.
 pub fn proof(
     apex: &LowerName,
     records: &[&Record],
@@ -54,7 +55,7 @@ pub fn proves_name_error(apex: &LowerName, records: &[&Record], name: &LowerName
     ensures { result ≡ proves_name_error apex.now (lent_nsec records.now) name.now }
 {
     let apex = AskedName::of(apex);
-    NsecRecords::among(records).any(|nsec| denies_with_star(&apex, records, &nsec, name))
+    NsecRecords::among(records).any(|nsec| denies_with_wildcard(&apex, records, &nsec, name))
 }
 
 /// Whether the records prove that `name` exists, and owns neither a set of the type nor an alias (RFC 4035 sections 3.1.3.1 and
@@ -76,7 +77,7 @@ pub fn proves_no_data(
     NsecRecords::among(records).any(|nsec| nsec.denies_type(&apex, &asked, record_type))
 }
 
-/// Whether the records prove that `name` owns no set at all, and stands above names that do (RFC 4592 section 2.2.2).
+/// Whether the records prove that `name` owns no set at all, and is above names that do (RFC 4592 section 2.2.2).
 pub fn proves_empty_non_terminal(apex: &LowerName, records: &[&Record], name: &LowerName) -> bool
     ensures { result ≡ proves_empty_non_terminal apex.now (lent_nsec records.now) name.now }
 {
@@ -97,7 +98,7 @@ pub fn proves_wildcard_no_data(
         ≡ proves_wildcard_no_data apex.now (lent_nsec records.now) name.now record_type.0 }
 {
     let apex = AskedName::of(apex);
-    NsecRecords::among(records).any(|nsec| denies_with_bare_star(
+    NsecRecords::among(records).any(|nsec| denies_with_bare_wildcard(
         &apex,
         records,
         &nsec,
@@ -106,9 +107,9 @@ pub fn proves_wildcard_no_data(
     ))
 }
 
-/// Whether the records prove that an answer to `name` was rightly made from the wildcard under its ancestor with
-/// `encloser_labels` labels: that `name` doesn't exist, and that this ancestor is its closest encloser (RFC 4035 sections
-/// 3.1.3.3 and 5.3.4).
+/// Whether the records prove that an answer to `name` was rightly made from the wildcard at its ancestor with
+/// `encloser_labels` labels: that `name` doesn't exist, and that this ancestor is its closest encloser (RFC 4035
+/// sections 3.1.3.3 and 5.3.4).
 ///
 /// `encloser_labels` is what the labels field of the answer's RRSIG record says (RFC 4034 section 3.1.3).
 pub fn proves_wildcard_answer(
@@ -138,39 +139,39 @@ pub fn proves_unsigned_delegation(apex: &LowerName, records: &[&Record], name: &
     NsecRecords::among(records).any(|nsec| nsec.shows_unsigned_delegation(&apex, &asked))
 }
 
-/// Whether `nsec` denies a name, and a record the star under the closest encloser that `nsec` shows.
-fn denies_with_star(
+/// Whether `nsec` denies a name, and a record the wildcard at the closest encloser that `nsec` shows.
+fn denies_with_wildcard(
     apex: &AskedName<'_>,
     records: &[&Record],
     nsec: &LentNsec<'_>,
     name: &LowerName,
 ) -> bool
     ensures { result ≡ denies_name apex.now nsec.now name.now
-        && star_passes (is_denied apex.now (lent_nsec records.now)) nsec.now name.now }
+        && wildcard_is (is_denied apex.now (lent_nsec records.now)) nsec.now name.now }
 {
-    nsec.denies_name(apex, &AskedName::of(name)) && star_is_denied(apex, records, nsec, name)
+    nsec.denies_name(apex, &AskedName::of(name)) && wildcard_is_denied(apex, records, nsec, name)
 }
 
-/// Whether a record denies this star.
-fn star_is_denied(
+/// Whether a record denies this wildcard.
+fn wildcard_is_denied(
     apex: &AskedName<'_>,
     records: &[&Record],
     nsec: &LentNsec<'_>,
     name: &LowerName,
 ) -> bool
-    ensures { result ≡ star_passes (is_denied apex.now (lent_nsec records.now)) nsec.now name.now }
+    ensures { result ≡ wildcard_is (is_denied apex.now (lent_nsec records.now)) nsec.now name.now }
 {
     match nsec.shown_encloser(name) {
         Some(encloser) => {
-            let star = AskedName::star_under(encloser);
+            let star = AskedName::wildcard_under(encloser);
             NsecRecords::among(records).any(|other| other.denies_name(apex, &star))
         }
         None => false,
     }
 }
 
-/// Whether `nsec` denies a name, and a record shows that this star has no set of the type, or none at all.
-fn denies_with_bare_star(
+/// Whether `nsec` denies a name, and a record shows that this wildcard has no set of the type, or none at all.
+fn denies_with_bare_wildcard(
     apex: &AskedName<'_>,
     records: &[&Record],
     nsec: &LentNsec<'_>,
@@ -178,14 +179,14 @@ fn denies_with_bare_star(
     record_type: RecordType,
 ) -> bool
     ensures { result ≡ denies_name apex.now nsec.now name.now
-        && star_passes (is_bare apex.now (lent_nsec records.now) record_type.0) nsec.now name.now }
+        && wildcard_is (is_bare apex.now (lent_nsec records.now) record_type.0) nsec.now name.now }
 {
     nsec.denies_name(apex, &AskedName::of(name))
-        && star_is_bare(apex, records, nsec, name, record_type)
+        && wildcard_is_bare(apex, records, nsec, name, record_type)
 }
 
-/// Whether a record shows that this star has no set of the type, or none at all.
-fn star_is_bare(
+/// Whether a record shows that this wildcard has no set of the type, or none at all.
+fn wildcard_is_bare(
     apex: &AskedName<'_>,
     records: &[&Record],
     nsec: &LentNsec<'_>,
@@ -193,11 +194,11 @@ fn star_is_bare(
     record_type: RecordType,
 ) -> bool
     ensures { result
-        ≡ star_passes (is_bare apex.now (lent_nsec records.now) record_type.0) nsec.now name.now }
+        ≡ wildcard_is (is_bare apex.now (lent_nsec records.now) record_type.0) nsec.now name.now }
 {
     match nsec.shown_encloser(name) {
         Some(encloser) => {
-            let star = AskedName::star_under(encloser);
+            let star = AskedName::wildcard_under(encloser);
             NsecRecords::among(records).any(|other| {
                 other.denies_type(apex, &star, record_type) || other.shows_empty(apex, &star)
             })

@@ -11,15 +11,15 @@
 //! iterations and salt, else they prove nothing (section 8.2). A further name of which `hash` has no digest is one that no
 //! record matches or covers.
 //!
-//! Digests and their texts take memory: each call is refused by `Memory`, and by nothing else. It hashes the name, and others
-//! only where it needs them: the ancestors from the longest on up to the closest encloser, each once, and the wildcard under
-//! that. What a digest costs grows with the iterations that the records name, up to 65535; a validator should look at these
-//! first (RFC 9276 section 3.2).
+//! Digests and their texts take memory: each call is refused by `Memory`, and by nothing else. It hashes the name, and
+//! others only where it needs them: the ancestors from the longest on up to the closest encloser, each once, and the
+//! wildcard at that. What a digest costs grows with the iterations that the records name, up to 65535; a validator
+//! should look at these first (RFC 9276 section 3.2).
 ghost use Rattle.std.specs.Prelude.{◌≡◌, None, false, IfOk, IsOkUnless};
 ghost use Rattle.std.specs.Option.{option_map_or};
 ghost use Rattle.denial_validation.specs.Encloser.{ancestor_of};
 ghost use Rattle.denial_validation.specs.Judgement.{nsec3_proof};
-ghost use Rattle.denial_validation.specs.Nsec3Parameters.{judged};
+ghost use Rattle.denial_validation.specs.Nsec3Parameters.{concluded};
 ghost use Rattle.denial_validation.specs.Nsec3Proofs.{proves_name_error, proves_no_data, proves_wildcard_no_data, proves_wildcard_answer, proves_unsigned_delegation};
 ghost use Rattle.denial_validation.specs.Nsec3Responses.{lent_records};
 
@@ -27,25 +27,25 @@ use crate::nsec3_response::Nsec3Response;
 use crate::proof::Proof;
 use zone_proto::{LowerName, Nsec3Hash, ProtoError, Record, RecordType};
 
-/// What the records prove of `name` and a type: the first case of [`Proof`] that holds, and nothing where none does. Refused by
-/// `Memory` alone.
+/// What the records prove about `name` and a type: the first case of [`Proof`] that holds, or nothing if none does. The only
+/// error is `Memory`.
 ///
 /// # Zone cuts
 ///
-/// Of a name below a zone cut or a DNAME of which the records show the record, nothing is told (RFC 6840 section 4.1). Where they
-/// show none of an ancestor, a cut there isn't excluded.
+/// Nothing is concluded about a name below a zone cut or a DNAME whose record is among the records (RFC 6840 section 4.1). If
+/// they have no record of an ancestor, a zone cut there isn't excluded.
 ///
 /// # Opt-out
 ///
-/// A delegation that opt-out may have left out is told first of DS, and of another type after no data by a wildcard, since under
-/// opt-out nearly every denial shows that there may be one. The empty non-terminal is never told: such a name has a record, which
-/// denies each type.
+/// A delegation that opt-out may have left out takes precedence for DS, and for another type comes after no data from a
+/// wildcard, since under opt-out nearly every denial shows that there may be one. The empty non-terminal is never returned:
+/// such a name has a record, which denies each type.
 ///
 /// # Wildcard answers
 ///
-/// A wildcard answer is told where nothing else is proved, with the encloser that is nearest to the apex of those from whose
-/// wildcard the answer may have been made. For this all ancestors below the apex are hashed; and once more, with the apex, where
-/// a record is of a zone cut or a DNAME.
+/// A wildcard answer is returned if nothing else is proved, with the encloser nearest to the apex among those from whose
+/// wildcard the answer may have been made. For this all ancestors below the apex are hashed; and once more, with the apex, if a
+/// record belongs to a zone cut or a DNAME.
 pub fn proof<H: Nsec3Hash>(
     apex: &LowerName,
     records: &[&Record],
@@ -54,7 +54,7 @@ pub fn proof<H: Nsec3Hash>(
     hash: &H,
 ) -> Result<Option<Proof>, ProtoError>
     ensures ok { IfOk result (λ proof. proof
-        ≡ judged (H.digest_of hash.now) apex.now name.now (lent_records records.now) None
+        ≡ concluded (H.digest_of hash.now) apex.now name.now (lent_records records.now) None
         (λ digest rs. nsec3_proof apex.now digest rs name.now record_type.0)) }
     ensures err { IsOkUnless result ProtoError.Memory }
 {
@@ -65,7 +65,7 @@ pub fn proof<H: Nsec3Hash>(
 }
 
 /// Whether the records prove a name error: by a closest encloser proof that `name` doesn't exist, and that nor does the
-/// wildcard under the encloser (RFC 5155 section 8.4). Refused by `Memory` alone.
+/// wildcard at the encloser (RFC 5155 section 8.4). Its only error is `Memory`.
 pub fn proves_name_error<H: Nsec3Hash>(
     apex: &LowerName,
     records: &[&Record],
@@ -73,7 +73,7 @@ pub fn proves_name_error<H: Nsec3Hash>(
     hash: &H,
 ) -> Result<bool, ProtoError>
     ensures ok { IfOk result (λ proved. proved
-        ≡ judged (H.digest_of hash.now) apex.now name.now (lent_records records.now) false
+        ≡ concluded (H.digest_of hash.now) apex.now name.now (lent_records records.now) false
         (λ digest rs. proves_name_error apex.now digest rs name.now)) }
     ensures err { IsOkUnless result ProtoError.Memory }
 {
@@ -83,8 +83,8 @@ pub fn proves_name_error<H: Nsec3Hash>(
     }
 }
 
-/// Whether the records prove that `name` owns neither a set of the type nor an alias, or no set at all, by the name's own
-/// record (RFC 5155 sections 8.5 and 8.6). Refused by `Memory` alone.
+/// Whether the records prove that `name` owns neither a set of the type nor an alias, or no set at all, by the name's
+/// own record (RFC 5155 sections 8.5 and 8.6). Its only error is `Memory`.
 ///
 /// Of a zone cut the parent's record denies DS alone (RFC 6840 section 4.1), and the child's all but DS (RFC 4035 section 5.2).
 /// So no record denies DS of the apex. ANY is denied only of a name without sets. Only the name is hashed.
@@ -96,7 +96,7 @@ pub fn proves_no_data<H: Nsec3Hash>(
     hash: &H,
 ) -> Result<bool, ProtoError>
     ensures ok { IfOk result (λ proved. proved
-        ≡ judged (H.digest_of hash.now) apex.now name.now (lent_records records.now) false
+        ≡ concluded (H.digest_of hash.now) apex.now name.now (lent_records records.now) false
         (λ digest rs. proves_no_data apex.now digest rs name.now record_type.0)) }
     ensures err { IsOkUnless result ProtoError.Memory }
 {
@@ -106,8 +106,8 @@ pub fn proves_no_data<H: Nsec3Hash>(
     }
 }
 
-/// Whether the records prove that `name` doesn't exist, and that the wildcard under its closest encloser owns neither a set of
-/// the type nor an alias, or no set at all (RFC 5155 section 8.7). Refused by `Memory` alone.
+/// Whether the records prove that `name` doesn't exist, and that the wildcard at its closest encloser owns neither a
+/// set of the type nor an alias, or no set at all (RFC 5155 section 8.7). Its only error is `Memory`.
 pub fn proves_wildcard_no_data<H: Nsec3Hash>(
     apex: &LowerName,
     records: &[&Record],
@@ -116,7 +116,7 @@ pub fn proves_wildcard_no_data<H: Nsec3Hash>(
     hash: &H,
 ) -> Result<bool, ProtoError>
     ensures ok { IfOk result (λ proved. proved
-        ≡ judged (H.digest_of hash.now) apex.now name.now (lent_records records.now) false
+        ≡ concluded (H.digest_of hash.now) apex.now name.now (lent_records records.now) false
         (λ digest rs. proves_wildcard_no_data apex.now digest rs name.now record_type.0)) }
     ensures err { IsOkUnless result ProtoError.Memory }
 {
@@ -126,12 +126,13 @@ pub fn proves_wildcard_no_data<H: Nsec3Hash>(
     }
 }
 
-/// Whether the records prove that an answer to `name` was rightly made from the wildcard under its ancestor with
-/// `encloser_labels` labels, the apex or a name below it: that no name closer to `name` exists (RFC 5155 section 8.8). Refused by
-/// `Memory` alone.
+/// Whether the records prove that an answer to `name` was rightly made from the wildcard at its ancestor with
+/// `encloser_labels` labels, the apex or a name below it: that no name closer to `name` exists (RFC 5155 section 8.8).
+/// Its only error is `Memory`.
 ///
-/// Whether a zone cut stands at or above that ancestor isn't told: a signed answer from below it wouldn't be of this zone.
-/// `encloser_labels` is what the labels field of the answer's RRSIG record says (RFC 4034 section 3.1.3). Two names are hashed.
+/// Whether a zone cut is at or above that ancestor isn't told: a signed answer from below it wouldn't be of this zone.
+/// `encloser_labels` is what the labels field of the answer's RRSIG record says (RFC 4034 section 3.1.3). Two names are
+/// hashed.
 pub fn proves_wildcard_answer<H: Nsec3Hash>(
     apex: &LowerName,
     records: &[&Record],
@@ -140,7 +141,7 @@ pub fn proves_wildcard_answer<H: Nsec3Hash>(
     hash: &H,
 ) -> Result<bool, ProtoError>
     ensures ok { IfOk result (λ proved. proved
-        ≡ judged (H.digest_of hash.now) apex.now name.now (lent_records records.now) false
+        ≡ concluded (H.digest_of hash.now) apex.now name.now (lent_records records.now) false
         (λ digest rs. option_map_or (proves_wildcard_answer apex.now digest rs name.now)
         (ancestor_of name.now encloser_labels) false)) }
     ensures err { IsOkUnless result ProtoError.Memory }
@@ -151,8 +152,9 @@ pub fn proves_wildcard_answer<H: Nsec3Hash>(
     }
 }
 
-/// Whether the records prove that `name`, below the apex, is a zone cut of which the parent has no DS, or that it may be one which
-/// opt-out left out (RFC 5155 sections 8.6 and 8.9): what a referral to an unsigned child needs. Refused by `Memory` alone.
+/// Whether the records prove that `name`, below the apex, is a zone cut of which the parent has no DS, or that it may
+/// be one which opt-out left out (RFC 5155 sections 8.6 and 8.9): what a referral to an unsigned child needs. Its only
+/// error is `Memory`.
 pub fn proves_unsigned_delegation<H: Nsec3Hash>(
     apex: &LowerName,
     records: &[&Record],
@@ -160,7 +162,7 @@ pub fn proves_unsigned_delegation<H: Nsec3Hash>(
     hash: &H,
 ) -> Result<bool, ProtoError>
     ensures ok { IfOk result (λ proved. proved
-        ≡ judged (H.digest_of hash.now) apex.now name.now (lent_records records.now) false
+        ≡ concluded (H.digest_of hash.now) apex.now name.now (lent_records records.now) false
         (λ digest rs. proves_unsigned_delegation apex.now digest rs name.now)) }
     ensures err { IsOkUnless result ProtoError.Memory }
 {

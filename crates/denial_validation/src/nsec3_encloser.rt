@@ -1,7 +1,7 @@
 // The closest encloser proof (RFC 5155 section 8.3).
 ghost use Rattle.std.specs.Prelude.{◌≡◌, ◌&&◌, false, true, Some, option_map, IfOk, IfSome, IsOkUnless, MatchOption};
 ghost use Rattle.std.specs.Option.{option_map_or, option_or};
-ghost use Rattle.zone_proto.specs.Names.{base_name, star_under};
+ghost use Rattle.zone_proto.specs.Names.{base_name, wildcard_under};
 ghost use Rattle.denial_validation.specs.Encloser.{next_closer};
 ghost use Rattle.denial_validation.specs.Nsec3Responses.{owner_in, is_matched_in, is_encloser_in, is_covered_in, shown_here, proved_here, opted_out_here, answer_in};
 
@@ -36,19 +36,19 @@ pub(crate) struct EncloserWalk<'q> {
 /// The closest encloser of a name that the records prove.
 #[derive(Drop)]
 pub(crate) struct ProvedEncloser {
-    /// The star under it.
+    /// The wildcard at it.
     pub star: LowerName,
     /// Whether the next closer name is covered by a record with the flag Opt-Out.
     pub opted_out: bool,
 }
 
 impl<'q, 'r, H: Nsec3Hash> Nsec3Response<'q, 'r, H> {
-    /// The closest encloser of the name that the records prove, if they do. Refused only for want of memory.
+    /// The closest encloser of the name that the records prove, if they do. Fails only for lack of memory.
     pub(crate) fn proved_encloser(&self) -> Result<Option<ProvedEncloser>, ProtoError>
         ensures proved { IfOk result (λ proved. option_map (λ p. base_name p.star) proved
             ≡ proved_here H.digest_of self.now) }
         ensures star { IfOk result
-            (λ proved. IfSome proved (λ p. p.star ≡ star_under (base_name p.star))) }
+            (λ proved. IfSome proved (λ p. p.star ≡ wildcard_under (base_name p.star))) }
         ensures opted_out { IfOk result (λ proved. option_map_or (λ p. p.opted_out) proved false
             ≡ opted_out_here H.digest_of self.now) }
         ensures err { IsOkUnless result ProtoError.Memory }
@@ -63,7 +63,7 @@ impl<'q, 'r, H: Nsec3Hash> Nsec3Response<'q, 'r, H> {
         }
     }
 
-    /// What the encloser that they show proves, if anything. Refused only for want of memory.
+    /// What the encloser that they show proves, if anything. Fails only for lack of memory.
     fn proof_of(&self, encloser: ShownEncloser<'_>) -> Result<Option<ProvedEncloser>, ProtoError>
         requires unmatched { is_matched_in H.digest_of self.now self.now.name ≡ false }
         requires shown { shown_here H.digest_of self.now ≡ Some (base_name encloser.next_closer) }
@@ -77,7 +77,7 @@ impl<'q, 'r, H: Nsec3Hash> Nsec3Response<'q, 'r, H> {
         ensures proved { IfOk result (λ proved. option_map (λ p. base_name p.star) proved
             ≡ proved_here H.digest_of self.now) }
         ensures star { IfOk result
-            (λ proved. IfSome proved (λ p. p.star ≡ star_under (base_name p.star))) }
+            (λ proved. IfSome proved (λ p. p.star ≡ wildcard_under (base_name p.star))) }
         ensures opted_out { IfOk result (λ proved. option_map_or (λ p. p.opted_out) proved false
             ≡ opted_out_here H.digest_of self.now) }
         ensures err { IsOkUnless result ProtoError.Memory }
@@ -89,7 +89,7 @@ impl<'q, 'r, H: Nsec3Hash> Nsec3Response<'q, 'r, H> {
         }
     }
 
-    /// What an encloser proves whose proof stands. Refused only for want of memory.
+    /// What an encloser proves whose proof stands. Fails only for lack of memory.
     pub(crate) fn standing(&self, encloser: ShownEncloser<'_>) -> Result<ProvedEncloser, ProtoError>
         requires unmatched { is_matched_in H.digest_of self.now self.now.name ≡ false }
         requires shown { shown_here H.digest_of self.now ≡ Some (base_name encloser.next_closer) }
@@ -103,7 +103,7 @@ impl<'q, 'r, H: Nsec3Hash> Nsec3Response<'q, 'r, H> {
             ≡ proved_here H.digest_of self.now) }
         ensures encloser { IfOk result
             (λ p. base_name p.star ≡ base_name encloser.entry.next_closer) }
-        ensures star { IfOk result (λ p. p.star ≡ star_under (base_name p.star)) }
+        ensures star { IfOk result (λ p. p.star ≡ wildcard_under (base_name p.star)) }
         ensures opted_out { IfOk result (λ p. p.opted_out
             ≡ opted_out_here H.digest_of self.now) }
         ensures err { IsOkUnless result ProtoError.Memory }
@@ -115,8 +115,8 @@ impl<'q, 'r, H: Nsec3Hash> Nsec3Response<'q, 'r, H> {
         })
     }
 
-    /// The walk from the name up: its ancestors are hashed from the longest on, each once, up to the first that a record matches,
-    /// which is the encloser, or else up to the apex. Refused only for want of memory.
+    /// The walk from the name up: its ancestors are hashed from the longest on, each once, up to the first that a
+    /// record matches, which is the encloser, or else up to the apex. Fails only for lack of memory.
     pub(crate) fn encloser_walk(&self) -> Result<EncloserWalk<'q>, ProtoError>
         ensures shown { IfOk result (λ walk. option_map (λ e. base_name e.next_closer) walk.shown
             ≡ shown_here H.digest_of self.now) }

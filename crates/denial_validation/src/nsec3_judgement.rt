@@ -1,7 +1,7 @@
 // What NSEC3 records prove of a name.
 ghost use Rattle.std.specs.Prelude.{◌≡◌, ◌==◌, ◌&&◌, Some, false, true, IfOk, IsOkUnless};
 ghost use Rattle.std.specs.Option.{option_or};
-ghost use Rattle.zone_proto.specs.Names.{base_name, star_under};
+ghost use Rattle.zone_proto.specs.Names.{base_name, wildcard_under};
 ghost use Rattle.zone_proto.specs.Types.{DS};
 ghost use Rattle.denial_validation.specs.Encloser.{next_closer};
 ghost use Rattle.denial_validation.specs.Nsec3Proofs.{proves_name_error, proves_no_data, proves_wildcard_no_data, shows_unsigned_delegation, proves_unsigned_delegation};
@@ -13,7 +13,7 @@ use crate::proof::Proof;
 use zone_proto::{Nsec3Hash, ProtoError, RecordType};
 
 impl<'q, 'r, H: Nsec3Hash> Nsec3Response<'q, 'r, H> {
-    /// Whether they prove a name error. Refused only for want of memory.
+    /// Whether they prove a name error. Fails only for lack of memory.
     pub(crate) fn proves_name_error(&self) -> Result<bool, ProtoError>
         ensures ok { IfOk result (λ proved. proved
             ≡ proves_name_error self.now.apex (hash_of H.digest_of self.now) self.now.records
@@ -38,8 +38,8 @@ impl<'q, 'r, H: Nsec3Hash> Nsec3Response<'q, 'r, H> {
         self.is_in_zone() && self.denies_type(self.name(), Some(self.own()), record_type)
     }
 
-    /// Whether they prove that the wildcard that answers in the name's place owns no set of the type. Refused only for want of
-    /// memory.
+    /// Whether they prove that the wildcard that answers in the name's place owns no set of the type. Fails only for
+    /// lack of memory.
     pub(crate) fn proves_wildcard_no_data(
         &self,
         record_type: RecordType,
@@ -58,7 +58,7 @@ impl<'q, 'r, H: Nsec3Hash> Nsec3Response<'q, 'r, H> {
         }
     }
 
-    /// Whether they prove a zone cut without DS. Refused only for want of memory.
+    /// Whether they prove a zone cut without DS. Fails only for lack of memory.
     pub(crate) fn proves_unsigned_delegation(&self) -> Result<bool, ProtoError>
         ensures ok { IfOk result (λ proved. proved
             ≡ proves_unsigned_delegation self.now.apex (hash_of H.digest_of self.now)
@@ -83,7 +83,7 @@ impl<'q, 'r, H: Nsec3Hash> Nsec3Response<'q, 'r, H> {
         self.is_below_apex(self.name()) && self.is_unsigned(Some(self.own()))
     }
 
-    /// What they prove. Refused only for want of memory.
+    /// What they prove. Fails only for lack of memory.
     pub(crate) fn proof(&self, record_type: RecordType) -> Result<Option<Proof>, ProtoError>
         ensures ok { IfOk result (λ proof. proof ≡ proof_here H.digest_of self.now record_type.0) }
         ensures err { IsOkUnless result ProtoError.Memory }
@@ -101,7 +101,7 @@ impl<'q, 'r, H: Nsec3Hash> Nsec3Response<'q, 'r, H> {
         }
     }
 
-    /// What they prove where one matches the name. Refused only for want of memory.
+    /// What they prove where one matches the name. Fails only for lack of memory.
     fn proof_by_own(&self, record_type: RecordType) -> Result<Option<Proof>, ProtoError>
         requires here { is_handed_on_here H.digest_of self.now ≡ false }
         requires matched { is_matched_in H.digest_of self.now self.now.name ≡ true }
@@ -117,7 +117,7 @@ impl<'q, 'r, H: Nsec3Hash> Nsec3Response<'q, 'r, H> {
         self.wildcard_answer()
     }
 
-    /// What they prove where none matches the name and they show an encloser. Refused only for want of memory.
+    /// What they prove where none matches the name and they show an encloser. Fails only for lack of memory.
     fn proof_by_encloser(
         &self,
         encloser: ShownEncloser<'_>,
@@ -142,7 +142,7 @@ impl<'q, 'r, H: Nsec3Hash> Nsec3Response<'q, 'r, H> {
     {
         if encloser.stands() {
             let proved = self.standing(encloser)?;
-            return self.proof_by_star(proved, answer, record_type);
+            return self.proof_by_wildcard(proved, answer, record_type);
         }
         let mut above = encloser.next_closer;
         above.shorten();
@@ -150,8 +150,8 @@ impl<'q, 'r, H: Nsec3Hash> Nsec3Response<'q, 'r, H> {
         self.wildcard_answer_above(above, answer)
     }
 
-    /// What they prove where they prove the closest encloser. Refused only for want of memory.
-    fn proof_by_star(
+    /// What they prove where they prove the closest encloser. Fails only for lack of memory.
+    fn proof_by_wildcard(
         &self,
         encloser: ProvedEncloser,
         answer: Option<Proof>,
@@ -159,7 +159,7 @@ impl<'q, 'r, H: Nsec3Hash> Nsec3Response<'q, 'r, H> {
     ) -> Result<Option<Proof>, ProtoError>
         requires here { is_handed_on_here H.digest_of self.now ≡ false }
         requires proved { Some (base_name encloser.star) ≡ proved_here H.digest_of self.now }
-        requires star { encloser.star ≡ star_under (base_name encloser.star) }
+        requires star { encloser.star ≡ wildcard_under (base_name encloser.star) }
         requires opted_out { encloser.opted_out ≡ opted_out_here H.digest_of self.now }
         requires answer { option_or
             (answer_in H.digest_of self.now (base_name (base_name encloser.star))) answer

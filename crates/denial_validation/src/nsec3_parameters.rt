@@ -62,7 +62,7 @@ pub(crate) fn has_parameters(apex: &LowerName, parameters: &NSEC3, lent: &Record
     }
 }
 
-/// The hashed owner of a name by these parameters, if the hash has a digest of it. Refused only for want of memory.
+/// The hashed owner of a name by these parameters, if the hash has a digest of it. Fails only for lack of memory.
 pub(crate) fn hashed_owner<'z, H: Nsec3Hash>(
     apex: &'z LowerName,
     parameters: &NSEC3,
@@ -79,7 +79,7 @@ pub(crate) fn hashed_owner<'z, H: Nsec3Hash>(
     }
 }
 
-/// The digest of a name by these parameters, if the hash has one. Refused only for want of memory.
+/// The digest of a name by these parameters, if the hash has one. Fails only for lack of memory.
 fn digest<H: Nsec3Hash>(
     parameters: &NSEC3,
     name: &LowerName,
@@ -109,8 +109,8 @@ pub(crate) struct KnownParameters<'z, 'r> {
     pub owner: HashedOwner<'z>,
 }
 
-/// The parameters of all records whose algorithm the hash knows, where these have the same, with the hashed owner of the name
-/// by them (RFC 5155 sections 8.1 and 8.2). Refused only for want of memory.
+/// The parameters of all records whose algorithm the hash knows, where these have the same, with the hashed owner of
+/// the name by them (RFC 5155 sections 8.1 and 8.2). Fails only for lack of memory.
 pub(crate) fn common_parameters<'z, 'r, H: Nsec3Hash>(
     apex: &'z LowerName,
     records: &[&'r Record],
@@ -134,7 +134,7 @@ pub(crate) fn common_parameters<'z, 'r, H: Nsec3Hash>(
     }
 }
 
-/// Those of the first record whose algorithm the hash knows. Refused only for want of memory.
+/// Those of the first record whose algorithm the hash knows. Fails only for lack of memory.
 fn first_known<'z, 'r, H: Nsec3Hash>(
     apex: &'z LowerName,
     records: &[&'r Record],
@@ -159,7 +159,8 @@ fn first_known<'z, 'r, H: Nsec3Hash>(
     Ok(None)
 }
 
-/// Those of one record, if it is an NSEC3 record of the zone and the hash knows its algorithm. Refused only for want of memory.
+/// Those of one record, if it is an NSEC3 record of the zone and the hash knows its algorithm. Fails only for lack of
+/// memory.
 fn known_parameters<'z, 'r, H: Nsec3Hash>(
     apex: &'z LowerName,
     lent: &'r Record,
@@ -184,7 +185,7 @@ fn known_parameters<'z, 'r, H: Nsec3Hash>(
     }
 }
 
-/// Whether a record whose algorithm the hash knows has other parameters. Refused only for want of memory.
+/// Whether a record whose algorithm the hash knows has other parameters. Fails only for lack of memory.
 fn is_other_known<H: Nsec3Hash>(
     apex: &LowerName,
     records: &[&Record],
@@ -205,7 +206,7 @@ fn is_other_known<H: Nsec3Hash>(
     Ok(false)
 }
 
-/// Whether this record is one. Refused only for want of memory.
+/// Whether this record is one. Fails only for lack of memory.
 fn has_other_known<H: Nsec3Hash>(
     apex: &LowerName,
     lent: &Record,

@@ -6,8 +6,8 @@ use crate::nsec3_response::Nsec3Response;
 use zone_proto::{Nsec3Hash, ProtoError};
 
 impl<'q, 'r, H: Nsec3Hash> Nsec3Response<'q, 'r, H> {
-    /// Whether the records show that the name is below a zone cut or a DNAME. Only where one of them is of such a name are the
-    /// ancestors hashed, up to the apex. Refused only for want of memory.
+    /// Whether the records show that the name is below a zone cut or a DNAME. Only where one of them is of such a name
+    /// are the ancestors hashed, up to the apex. Fails only for lack of memory.
     pub(crate) fn is_handed_on(&self) -> Result<bool, ProtoError>
         ensures ok { IfOk result (λ below. below ≡ is_handed_on_here H.digest_of self.now) }
         ensures err { IsOkUnless result ProtoError.Memory }

@@ -45,8 +45,8 @@ impl<'q, 'r, H: Nsec3Hash> Model for Nsec3Response<'q, 'r, H> {
 }
 
 impl<'q, 'r, H: Nsec3Hash> Nsec3Response<'q, 'r, H> {
-    /// What the records of a response are to a name; nothing where those that the hash knows have no parameters in common.
-    /// Refused only for want of memory.
+    /// What the records of a response are to a name; nothing where those that the hash knows have no parameters in
+    /// common. Fails only for lack of memory.
     pub(crate) fn read(
         apex: &'q LowerName,
         records: &'q [&'r Record],
@@ -70,7 +70,7 @@ impl<'q, 'r, H: Nsec3Hash> Nsec3Response<'q, 'r, H> {
         }
     }
 
-    /// The hashed owner of a name, if the hash has a digest of it. Refused only for want of memory.
+    /// The hashed owner of a name, if the hash has a digest of it. Fails only for lack of memory.
     pub(crate) fn owner_of(&self, name: &LowerName) -> Result<Option<HashedOwner<'q>>, ProtoError>
         ensures ok { IfOk result (λ owner. owner ≡ owner_in H.digest_of self.now name.now) }
         ensures err { IsOkUnless result ProtoError.Memory }
@@ -175,7 +175,7 @@ impl<'q, 'r, H: Nsec3Hash> Nsec3Response<'q, 'r, H> {
             .any(|nsec3| nsec3.has_owner(hashed) && nsec3.is_of_unsigned())
     }
 
-    /// Whether a record covers the name with this hashed owner. Refused only for want of memory.
+    /// Whether a record covers the name with this hashed owner. Fails only for lack of memory.
     pub(crate) fn is_covered(&self, hashed: Option<&HashedOwner<'_>>) -> Result<bool, ProtoError>
         ensures ok { IfOk result (λ covered. covered
             ≡ list_any (λ r. covers_owner self.now.apex r (option_copied hashed.entry))
@@ -190,7 +190,7 @@ impl<'q, 'r, H: Nsec3Hash> Nsec3Response<'q, 'r, H> {
         Ok(false)
     }
 
-    /// Whether a record covers it whose flag Opt-Out is set. Refused only for want of memory.
+    /// Whether a record covers it whose flag Opt-Out is set. Fails only for lack of memory.
     pub(crate) fn is_opted_out(&self, hashed: Option<&HashedOwner<'_>>) -> Result<bool, ProtoError>
         ensures ok { IfOk result (λ out. out
             ≡ list_any (λ r. covers_owner self.now.apex r (option_copied hashed.entry) && r.opt_out)
@@ -205,7 +205,7 @@ impl<'q, 'r, H: Nsec3Hash> Nsec3Response<'q, 'r, H> {
         Ok(false)
     }
 
-    /// Whether this record covers it. Refused only for want of memory.
+    /// Whether this record covers it. Fails only for lack of memory.
     fn covers_owner(
         &self,
         nsec3: &LentNsec3<'_>,

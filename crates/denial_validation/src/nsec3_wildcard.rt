@@ -13,8 +13,8 @@ use crate::proof::Proof;
 use zone_proto::{LowerName, Nsec3Hash, ProtoError};
 
 impl<'q, 'r, H: Nsec3Hash> Nsec3Response<'q, 'r, H> {
-    /// Whether the records prove an answer that was made from the star under the name's ancestor with so many labels. Refused
-    /// only for want of memory.
+    /// Whether the records prove an answer that was made from the wildcard at the name's ancestor with so many labels.
+    /// Fails only for lack of memory.
     pub(crate) fn proves_wildcard_answer(&self, encloser_labels: usize) -> Result<bool, ProtoError>
         ensures ok { IfOk result (λ proved. proved
             ≡ option_map_or (proves_wildcard_answer self.now.apex (hash_of H.digest_of self.now)
@@ -33,7 +33,7 @@ impl<'q, 'r, H: Nsec3Hash> Nsec3Response<'q, 'r, H> {
         }
     }
 
-    /// The wildcard answer that they may prove of the name. Refused only for want of memory.
+    /// The wildcard answer that they may prove of the name. Fails only for lack of memory.
     pub(crate) fn wildcard_answer(&self) -> Result<Option<Proof>, ProtoError>
         ensures ok { IfOk result (λ proof. proof ≡ answer_in H.digest_of self.now self.now.name) }
         ensures err { IsOkUnless result ProtoError.Memory }
@@ -42,8 +42,8 @@ impl<'q, 'r, H: Nsec3Hash> Nsec3Response<'q, 'r, H> {
         self.wildcard_answer_above(self.name().base_name()?, answer)
     }
 
-    /// The wildcard answer that they may prove of an ancestor, or else the one by an encloser below it. Refused only for want of
-    /// memory.
+    /// The wildcard answer that they may prove of an ancestor, or else the one by an encloser below it. Fails only for
+    /// lack of memory.
     pub(crate) fn wildcard_answer_above(
         &self,
         ancestor: LowerName,
@@ -64,8 +64,8 @@ impl<'q, 'r, H: Nsec3Hash> Nsec3Response<'q, 'r, H> {
         Ok(answer)
     }
 
-    /// The wildcard answer by the parent of a name, where the name is below the apex and a record covers it; else the one by an
-    /// encloser below. It is told the hashed owner of the name. Refused only for want of memory.
+    /// The wildcard answer by the parent of a name, where the name is below the apex and a record covers it; else the
+    /// one by an encloser below. It is told the hashed owner of the name. Fails only for lack of memory.
     pub(crate) fn answer_with(
         &self,
         name: &LowerName,
@@ -91,8 +91,8 @@ impl<'q, 'r, H: Nsec3Hash> Nsec3Response<'q, 'r, H> {
         }))
     }
 
-    /// The wildcard answer by an encloser, where the name under it, which has this hashed owner, is covered; else the one by an
-    /// encloser below. Refused only for want of memory.
+    /// The wildcard answer by an encloser, where the name under it, which has this hashed owner, is covered; else the
+    /// one by an encloser below. Fails only for lack of memory.
     pub(crate) fn nearest_answer(
         &self,
         covered: bool,
@@ -115,7 +115,7 @@ impl<'q, 'r, H: Nsec3Hash> Nsec3Response<'q, 'r, H> {
         }
     }
 
-    /// Whether a record covers a name. Refused only for want of memory.
+    /// Whether a record covers a name. Fails only for lack of memory.
     fn covers(&self, name: &LowerName) -> Result<bool, ProtoError>
         ensures ok { IfOk result
             (λ covered. covered ≡ is_covered_in H.digest_of self.now name.now) }
@@ -126,8 +126,8 @@ impl<'q, 'r, H: Nsec3Hash> Nsec3Response<'q, 'r, H> {
     }
 }
 
-/// The ancestor of a name, or the name, that is one label longer than the ancestor with so many labels. Refused only for want
-/// of memory.
+/// The ancestor of a name, or the name, that is one label longer than the ancestor with so many labels. Fails only for
+/// lack of memory.
 fn next_closer(name: &LowerName, encloser_labels: usize) -> Result<LowerName, ProtoError>
     requires { encloser_labels < length name.now }
     ensures { IsCopy result (drop (length name.now - suc encloser_labels) name.now) }

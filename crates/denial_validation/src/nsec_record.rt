@@ -3,7 +3,7 @@ ghost use Rattle.std.specs.Prelude.{◌≡◌, ◌==◌, ◌||◌, option_map};
 ghost use Rattle.std.specs.List.{list_any};
 ghost use Rattle.zone_proto.specs.declared.record_type.RecordType.{RecordType};
 ghost use Rattle.zone_proto.specs.Names.{lower, is_at_or_above};
-ghost use Rattle.denial_validation.specs.NsecProofs.{lists, shows_type, is_ancestor_delegation, may_tell_of, is_of_zone, covers, denies_name, shows_empty, is_of_apex, is_wrong_side, denies_type, shown_encloser, shows_unsigned_delegation};
+ghost use Rattle.denial_validation.specs.NsecProofs.{lists, shows_type, is_ancestor_delegation, may_apply_to, is_of_zone, covers, denies_name, shows_empty, is_of_apex, is_wrong_side, denies_type, shown_encloser, shows_unsigned_delegation};
 ghost use Rattle.denial_validation.specs.NsecRecords.{read_nsec};
 
 use crate::asked_name::AskedName;
@@ -75,8 +75,8 @@ impl<'r> LentNsec<'r> {
 
     /// Whether it may tell of a name: an ancestor delegation and a DNAME tell nothing of the names below them (RFC 6840
     /// section 4.1).
-    fn may_tell_of(&self, name: &AskedName<'_>) -> bool
-        ensures { result ≡ may_tell_of self.now name.now }
+    fn may_apply_to(&self, name: &AskedName<'_>) -> bool
+        ensures { result ≡ may_apply_to self.now name.now }
     {
         !(self.owner.is_above(name) && (self.is_ancestor_delegation() || self.lists(DNAME)))
     }
@@ -102,14 +102,14 @@ impl<'r> LentNsec<'r> {
     pub(crate) fn denies_name(&self, apex: &AskedName<'_>, name: &AskedName<'_>) -> bool
         ensures { result ≡ denies_name apex.now self.now name.now }
     {
-        self.may_tell_of(name) && self.covers(apex, name) && !name.is_above(&self.next)
+        self.may_apply_to(name) && self.covers(apex, name) && !name.is_above(&self.next)
     }
 
     /// Whether it shows that a name is an empty non-terminal (RFC 4592 section 2.2.2).
     pub(crate) fn shows_empty(&self, apex: &AskedName<'_>, name: &AskedName<'_>) -> bool
         ensures { result ≡ shows_empty apex.now self.now name.now }
     {
-        self.may_tell_of(name) && self.covers(apex, name) && name.is_above(&self.next)
+        self.may_apply_to(name) && self.covers(apex, name) && name.is_above(&self.next)
     }
 
     /// Whether it is that of the apex of a zone, of this or of another.
@@ -175,7 +175,7 @@ impl<'r> LentNsec<'r> {
         None
     }
 
-    /// Whether its owner or its next name stands at or below a name.
+    /// Whether its owner or its next name is at or below a name.
     fn shows_below(&self, ancestor: &Labels<'_>) -> bool
         ensures { result ≡ is_at_or_above (lower ancestor.now) self.now.owner
             || is_at_or_above (lower ancestor.now) self.now.next }

@@ -15,11 +15,11 @@ pub enum Proof {
         /// Whether opt-out may have left out what is there.
         opted_out: bool,
     },
-    /// The name is a zone cut below the apex, and the parent has no DS of it, so that the child isn't signed by the parent's word
-    /// (RFC 4035 section 5.2, RFC 5155 section 8.9). By NSEC3 records with the flag Opt-Out: if the name is there, it is such a
-    /// cut, or stands above such ones and owns nothing.
+    /// The name is a zone cut below the apex, and the parent has no DS of it, so that the child isn't signed by the
+    /// parent's word (RFC 4035 section 5.2, RFC 5155 section 8.9). By NSEC3 records with the flag Opt-Out: if the name
+    /// is there, it is such a cut, or is above such ones and owns nothing.
     UnsignedDelegation,
-    /// The name owns no set of any type, and stands above names that do (RFC 4592 section 2.2.2).
+    /// The name owns no set of any type, and is above names that do (RFC 4592 section 2.2.2).
     EmptyNonTerminal,
     /// The name owns no set of the type, and no alias either (RFC 4035 section 3.1.3.1, RFC 5155 sections 8.5 and 8.6).
     NoData,
@@ -29,8 +29,8 @@ pub enum Proof {
         /// Whether opt-out may have left out what is there.
         opted_out: bool,
     },
-    /// The name doesn't exist, so that an answer that was made from the wildcard under its closest encloser is right (RFC 4035
-    /// section 3.1.3.3, RFC 5155 section 8.8).
+    /// The name doesn't exist, so that an answer that was made from the wildcard at its closest encloser is right (RFC
+    /// 4035 section 3.1.3.3, RFC 5155 section 8.8).
     WildcardAnswer {
         /// How many labels the closest encloser has. The RRSIG record of such an answer has this number in its labels field
         /// (RFC 4034 section 3.1.3).

@@ -1,4 +1,4 @@
--- Ascending lists, and what stands at their ends
+-- Ascending lists, and what is at their ends
 use Rattle.std.proofs.Common.{◌≡◌, Bool, true, false, cond, List, [], ◌∷◌, ◌++◌, refl, sym, ap, ◌∙◌, subst, ◌⊎◌, inl, inr, Ordering, Less}
 use Rattle.std.specs.Prelude.{filter}
 use Rattle.std.specs.List.{AllByRecursion}
@@ -21,7 +21,7 @@ pub Ascends-front : {K : Type 0} (R : K → K → Ordering) (xs ys : List K) →
 Ascends-front R [] ys a = tt
 Ascends-front R (x ∷ xs) ys a = (λ y i. a.0 y (In-append_left y xs ys i), Ascends-front R xs ys a.1)
 
--- the elements of the end stand after those of the front
+-- the elements of the end come after those of the front
 pub Ascends-apart : {K : Type 0} (R : K → K → Ordering) (xs ys : List K) → Ascends R (xs ++ ys) → (x y : K) → In x xs → In y ys → R x y ≡ Less
 Ascends-apart R [] ys a x y i j = absurd i
 Ascends-apart R (w ∷ xs) ys a x y (inl e) j = ap (λ v. R v y) (sym e) ∙ a.0 y (In-append_right y xs ys j)

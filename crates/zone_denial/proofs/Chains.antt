@@ -13,5 +13,6 @@ pub mod Nsec3Owners
 pub mod Nsec3Covers
 pub mod Nsec3Encloses
 pub mod Nsec3Star
+pub mod Nsec3Denies
 pub mod Nsec3Lists
 pub mod Nsec3AskedStar

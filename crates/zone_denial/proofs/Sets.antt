@@ -1,4 +1,4 @@
--- The sets of denial that a zone gets, or that stand in it
+-- The sets of denial that a zone gets, or that are in it
 pub mod CircleKeys
 pub mod CircleSets
 pub mod CirclesMade

@@ -54,7 +54,7 @@ is_delegation origin m n = is_above origin n && (owns m n NS && not (owns m n SO
 abbrev pub is_insecure_delegation : Name → Sets → Name → Bool
 is_insecure_delegation origin m n = is_delegation origin m n && not (owns m n DS)
 
--- a DNAME stands above n, so that what n owns is never answered (RFC 6672 section 2.4)
+-- a DNAME is above n, so that what n owns is never answered (RFC 6672 section 2.4)
 abbrev pub is_below_dname : Sets → Name → Bool
 is_below_dname m n = list_any (λ a. is_above a n) (owners m DNAME)
 
@@ -66,19 +66,20 @@ has_signature m n =
     list_any (λ e. name_eq n e.0.name && (not (e.0.record_type.0 == NSEC3) && ((e.0.record_type.0 == RRSIG) || not (length e.1.signatures == 0)))) m
 
 -- the types of which a list tells at a delegation: of others the parent has no say there, so that those of glue may be listed or not, and RRSIG too (RFC 4035 section 2.3, RFC 5155 section 7.1, RFC 6840 sections 4.1 and 4.3)
-abbrev pub is_told_at_delegation : ℕ → Bool
-is_told_at_delegation t = (t == NS) || ((t == CNAME) || ((t == SOA) || (t == DS)))
+abbrev pub is_stated_at_delegation : ℕ → Bool
+is_stated_at_delegation t = (t == NS) || ((t == CNAME) || ((t == SOA) || (t == DS)))
 
--- a list of n tells whether t stands there
-abbrev pub tells : Name → Sets → Name → ℕ → Bool
-tells origin m n t = not (is_delegation origin m n) || is_told_at_delegation t
+-- a list of n says whether t is there
+abbrev pub is_stated : Name → Sets → Name → ℕ → Bool
+is_stated origin m n t = not (is_delegation origin m n) || is_stated_at_delegation t
 
--- a list of types is right for n (RFC 4034 section 4.1.2, RFC 5155 section 3.2.1)
+-- a list of types is right for n (RFC 4034 section 4.1.2, RFC 5155 section 3.2.1), NSEC and NSEC3 aside
 pub record IsRightList (origin : Name) (m : Sets) (n : Name) (types : List ℕ) : Type 0 where
-  -- at a delegation it tells of four types whether they stand there
-  pub at_delegation : IsTrue (is_delegation origin m n) → (t : ℕ) → IsTrue (is_told_at_delegation t) → Contains types t ↔ IsTrue (owns m n t)
-  -- at any other name it has exactly the types that stand there, and RRSIG where something is signed; elsewhere RRSIG is free
-  pub exact : IsFalse (is_delegation origin m n) → (t : ℕ) → t ≢ RRSIG → t ≢ NSEC3 → Contains types t ↔ IsTrue (owns m n t)
+  -- at a delegation it tells of four types whether they are there
+  pub at_delegation : IsTrue (is_delegation origin m n) → (t : ℕ) → IsTrue (is_stated_at_delegation t) → Contains types t ↔ IsTrue (owns m n t)
+  -- at any other name it has exactly the types that are there, and RRSIG where something is signed; elsewhere RRSIG is
+  -- free
+  pub exact : IsFalse (is_delegation origin m n) → (t : ℕ) → t ≢ RRSIG → t ≢ NSEC → t ≢ NSEC3 → Contains types t ↔ IsTrue (owns m n t)
   pub signed : IsFalse (is_delegation origin m n) → IsTrue (has_signature m n) → Contains types RRSIG
 
 -- ---- the chain of NSEC sets
@@ -87,13 +88,15 @@ pub record IsRightList (origin : Name) (m : Sets) (n : Name) (types : List ℕ) 
 abbrev pub next_owner : Name → Sets → Name → Name
 next_owner origin m n = unwrap_or (least name_cmp (filter (is_before name_cmp n) (owners m NSEC))) origin
 
--- the NSEC set of n: a single record, with the next owner and the right types, NSEC3 where that stands there
+-- the NSEC set of n: a single record, with the next owner and the right types; NSEC is among them, though at a
+-- delegation it needn't be, and NSEC3 where n owns it
 pub record IsInNsecChain (origin : Name) (m : Sets) (n : Name) (s : RRset) : Type 0 where
   pub single : length s.records ≡ 1
   pub next : next_of s ≡ Some (next_owner origin m n)
   pub types : List ℕ
   pub listed : types_of s ≡ Some types
   pub right : IsRightList origin m n types
+  pub own : IsFalse (is_delegation origin m n) → Contains types NSEC
   pub hashed : Contains types NSEC3 ↔ IsTrue (owns m n NSEC3)
 
 -- the NSEC sets of a zone are a chain (RFC 4035 section 2.3)
@@ -112,13 +115,17 @@ pub record IsNsecChain (origin : Name) (m : Sets) : Type 0 where
 abbrev pub may_be_left_out : Name → Sets → Bool → Name → Bool
 may_be_left_out origin m opt_out n = is_below_dname m n || (opt_out && is_insecure_delegation origin m n)
 
-module _ (origin : Name) (m : Sets) (hash : Name → Option (List ℕ)) (parameters : Nsec3Parameters) (names : List Name) where
+-- m are the sets of a zone without those of other chains, `beside` all that may be there too
+module _ (origin : Name) (beside m : Sets) (hash : Name → Option (List ℕ)) (parameters : Nsec3Parameters) (names : List Name) where
   -- the NSEC3 set of a name of this digest: a single record, with the parameters and the flag Opt-Out of the chain, the next of the digests of its names, and the right types
   pub record IsInNsec3Chain (n : Name) (d : List ℕ) (s : RRset) : Type 0 where
     pub single : length s.records ≡ 1
     pub types : List ℕ
     pub says : first_nsec3 s.records ≡ Some (nsec3_data parameters (next_digest (digests hash names) d) types)
     pub right : IsRightList origin m n types
+    -- NSEC is listed where n owns it among m; else at most where n owns it beside, as while one kind of chain takes the
+    -- place of the other (RFC 5155 sections 10.4 and 10.5): BIND doesn't list it then. At a delegation it is free
+    pub nsec : IsFalse (is_delegation origin m n) → (IsTrue (owns m n NSEC) → Contains types NSEC) × (Contains types NSEC → IsTrue (owns m n NSEC) ⊎ IsTrue (owns beside n NSEC))
     -- NSEC3 never, whose owner is no name of the zone, and of a name that owns nothing else nothing (RFC 5155 section 7.1)
     pub no_hashed : Contains types NSEC3 → ⊥
     pub empty : IsFalse (owns_besides m NSEC3 n) → types ≡ []
@@ -126,7 +133,6 @@ module _ (origin : Name) (m : Sets) (hash : Name → Option (List ℕ)) (paramet
   -- the NSEC3 sets of a zone are a chain through these names (RFC 5155 section 7.1)
   pub record IsNsec3Chain : Type 0 where
     pub zone : IsZone m
-    pub below_root : origin ≢ []
     -- it begins at the origin, goes with a name through those between, and each is at or above one that the zone is authoritative for
     pub begins : Contains names origin
     pub between : (n a : Name) → Contains names n → IsAtOrAbove origin a → IsAtOrAbove a n → Contains names a

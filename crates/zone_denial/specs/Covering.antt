@@ -4,7 +4,7 @@ use Rattle.std.specs.Option.{option_or}
 use Rattle.std.specs.declared.cmp.Ordering.{Ordering}
 use Rattle.zone_proto.specs.Order.{is_before, is_upto, least}
 
--- the next of some values after x: the least of those that stand after it, and after the last one the least of all
+-- the next of some values after x: the least of those that come after it, and after the last one the least of all
 abbrev pub next_around : {K : Type 0} → (K → K → Ordering) → List K → K → K
 next_around cmp xs x = unwrap_or (option_or (least cmp (filter (is_before cmp x) xs)) (least cmp xs)) x
 

@@ -20,7 +20,7 @@ pub mod HashedOrder
 pub mod RepeatedDigests
 pub mod Nsec3Zones
 pub mod Nsec3Laws
-pub mod StarLaws
+pub mod WildcardLaws
 pub mod Nsec3Lent
 pub mod StandingSets
 pub mod Chains

@@ -42,12 +42,13 @@ nsec3_data parameters next types = record {
 
 -- ---- what it has to say
 
--- types, with RRSIG where there is one
+-- types, with RRSIG if there is one
 abbrev pub with_rrsig : List ℕ → List ℕ
 with_rrsig [] = []
 with_rrsig (t ∷ ts) = in_order nat_cmp (RRSIG ∷ t ∷ ts)
 
--- what the NSEC3 set of n lists: the types that n owns, NSEC3 aside, and RRSIG where it owns one, so nothing for an empty name; at the origin NSEC3PARAM and RRSIG always (RFC 5155 sections 3.1.8 and 7.1)
+-- what the NSEC3 set of n lists: the types that n owns, NSEC3 aside, and RRSIG where it owns one, so nothing for an
+-- empty non-terminal; at the origin NSEC3PARAM and RRSIG always (RFC 5155 sections 3.1.8 and 7.1)
 abbrev pub nsec3_types : Name → Sets → Name → List ℕ
 nsec3_types origin m n =
     let own = filter (λ t. not (t == NSEC3)) (types_at m n) in

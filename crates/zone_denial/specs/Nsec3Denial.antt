@@ -2,7 +2,7 @@
 use Rattle.std.specs.Prelude.{suc, Bool, ◌&&◌, not, cond, List, [], ◌∷◌, ◌++◌, length, ◌==◌, Option, Some, None, filter, filter_map, find, option_to_list, Result, Ok, Err}
 use Rattle.std.specs.List.{list_any}
 use Rattle.std.specs.Option.{option_map_or, option_or}
-use Rattle.zone_proto.specs.Names.{Name, name_cmp, name_eq, is_root, suffixes, proper_ancestors, star_under}
+use Rattle.zone_proto.specs.Names.{Name, name_cmp, name_eq, is_root, suffixes, proper_ancestors, wildcard_under}
 use Rattle.zone_proto.specs.Order.{is_before, greatest}
 use Rattle.zone_proto.specs.Sets.{RRset}
 use Rattle.zone_proto.specs.Types.{NSEC3}
@@ -65,15 +65,16 @@ module _ {E : Type 0} (m : Sets) (hashed : Name → Result Name E) where
   abbrev pub encloser_of : Name → Result (Option Name) E
   encloser_of q = find_tested has_match (filter (λ a. not (is_root a)) (proper_ancestors q))
 
-  -- the owner of what matches the star under a, or else of what covers it
-  abbrev pub star_part : Name → Result (List Name) E
-  star_part a = result_and_then (λ h. Ok (option_to_list (option_or (match_owner m h) (cover_owner m h)))) (hashed (star_under a))
+  -- the owner of what matches the wildcard at a, or else of what covers it
+  abbrev pub wildcard_part : Name → Result (List Name) E
+  wildcard_part a = result_and_then (λ h. Ok (option_to_list (option_or (match_owner m h) (cover_owner m h)))) (hashed (wildcard_under a))
 
-  -- with an encloser: where a wildcard answered, what covers the next closer name (RFC 5155 section 7.2.6); else what matches the encloser, what covers the next closer name, and the star's part (sections 7.2.2 to 7.2.5)
+  -- with an encloser: where a wildcard answered, what covers the next closer name (RFC 5155 section 7.2.6); else what
+  -- matches the encloser, what covers the next closer name, and the wildcard's part (sections 7.2.2 to 7.2.5)
   abbrev pub enclosed : Bool → Name → Option Name → Result (List Name) E
   enclosed wildcard q None = Ok []
   enclosed wildcard q (Some a) =
-      result_and_then (λ closer. cond wildcard (Ok closer) (result_and_then (λ encloser. result_and_then (λ star. Ok (encloser ++ closer ++ star)) (star_part a)) (match_of a)))
+      result_and_then (λ closer. cond wildcard (Ok closer) (result_and_then (λ encloser. result_and_then (λ star. Ok (encloser ++ closer ++ star)) (wildcard_part a)) (match_of a)))
       (option_map_or cover_of (next_closer q a) (Ok []))
 
   -- the owners of the sets that deny, ascending, each once: the name's own, unless a wildcard answered; else those with an encloser

@@ -15,7 +15,8 @@ is_unsigned_delegation m n = list_all (λ t. (t == NS) || (t == NSEC3)) (types_a
 abbrev pub counted_names : Name → Sets → Bool → List Name
 counted_names origin m opt_out = filter (λ n. not (opt_out && (not (name_eq n origin) && is_unsigned_delegation m n))) (authoritative_names origin m NSEC3)
 
--- these with their ancestors strictly below the origin, empty names too, and the origin; ascending, each once (RFC 5155 section 7.1)
+-- these with their ancestors strictly below the origin, empty non-terminals too, and the origin; ascending, each once
+-- (RFC 5155 section 7.1)
 abbrev pub nsec3_names : Name → Sets → Bool → List Name
 nsec3_names origin m opt_out = in_order name_cmp (origin ∷ flat_map (λ n. n ∷ filter (is_above origin) (proper_ancestors n)) (counted_names origin m opt_out))
 

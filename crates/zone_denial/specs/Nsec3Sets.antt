@@ -72,7 +72,8 @@ module _ (origin : Name) (m : Sets) (hash : Name → Option (List ℕ)) (paramet
   abbrev pub nsec3_sets_at : Name → ℕ → Option RRset
   nsec3_sets_at n t = cond (t == NSEC3) (nsec3_set_at n) (cond ((t == NSEC3PARAM) && name_eq n origin) (Some announced_set) None)
 
-  -- a map in which they stand in the place of the NSEC3 sets that were there, signatures aside, and in which each name owns the same other types as before, NSEC3PARAM at the origin aside
+  -- a map in which they stand in place of the NSEC3 sets that were there, signatures aside, and in which each name owns
+  -- the same other types as before, NSEC3PARAM at the origin aside
   pub record HasNsec3Sets (after : Sets) : Type 0 where
     pub others : (n : Name) (t : ℕ) → (t == NSEC3) ≡ false → (t == NSEC3PARAM) && name_eq n origin ≡ false → owns after n t ≡ owns m n t
     pub denials : (n : Name) → option_map (λ (s : RRset). s.records) (set_at after n NSEC3) ≡ option_map (λ (s : RRset). s.records) (nsec3_set_at n)

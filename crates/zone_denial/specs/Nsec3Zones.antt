@@ -2,7 +2,7 @@
 use Rattle.std.specs.Prelude.{◌≡◌, ◌≢◌, ℕ, ◌⊎◌, Bool, List, [], length, Option, Some}
 use Rattle.std.specs.List.{AllByRecursion, Contains}
 use Rattle.zone_proto.specs.declared.rdata.denial.NSEC3PARAM.{NSEC3PARAM as Nsec3Parameters}
-use Rattle.zone_proto.specs.Names.{Name, IsAtOrAbove, star_under}
+use Rattle.zone_proto.specs.Names.{Name, IsAtOrAbove, wildcard_under}
 use Rattle.zone_proto.specs.Ranges.{IsOctet}
 use Rattle.zone_map.specs.Zones.{Sets, IsZone}
 use Rattle.zone_denial.specs.Nsec3Circle.{IsNsec3Circle}
@@ -20,7 +20,7 @@ pub record IsNsec3Zone (origin : Name) (m : Sets) (hash : Name → Option (List 
   pub below_root : origin ≢ []
 
 -- a hash tells names apart: it answers for each of them, by digests that differ and are of one length
-pub record TellsApart (IsNamed : Name → Type 0) (hash : Name → Option (List ℕ)) : Type 0 where
+pub record HasDistinctDigests (IsNamed : Name → Type 0) (hash : Name → Option (List ℕ)) : Type 0 where
   pub digest : Name → List ℕ
   pub answers : (n : Name) → IsNamed n → hash n ≡ Some (digest n)
   pub apart : (n k : Name) → IsNamed n → IsNamed k → digest n ≡ digest k → n ≡ k
@@ -28,9 +28,10 @@ pub record TellsApart (IsNamed : Name → Type 0) (hash : Name → Option (List 
   pub octets : (n : Name) → IsNamed n → AllByRecursion IsOctet (digest n)
 
 module _ (names : List Name) (x : Name) where
-  -- the names that are hashed for a denial of x by names that have NSEC3 sets: x and its ancestors up to its closest encloser, and the star under that
+  -- the names that are hashed for a denial of x by names that have NSEC3 sets: x and its ancestors up to its closest
+  -- encloser, and the wildcard at that
   abbrev pub IsAskedOn : Name → Type 0
-  IsAskedOn n = (a : Name) × (encloser_on names x ≡ Some a) × ((IsAtOrAbove n x × IsAtOrAbove a n) ⊎ (n ≡ star_under a))
+  IsAskedOn n = (a : Name) × (encloser_on names x ≡ Some a) × ((IsAtOrAbove n x × IsAtOrAbove a n) ⊎ (n ≡ wildcard_under a))
 
   -- with these names: a denial of x asks of the hash that it tells these apart
   abbrev pub IsHashedOn : Name → Type 0

@@ -2,14 +2,14 @@
 use Rattle.std.specs.Prelude.{◌≡◌, IfSome, Bool, false, ◌&&◌, ◌||◌, cond, List, [], ◌∷◌, Option, Some, None, filter, filter_map, find, unwrap_or, option_and_then, option_to_list}
 use Rattle.std.specs.List.{list_any}
 use Rattle.std.specs.Option.{option_map_or}
-use Rattle.zone_proto.specs.Names.{Name, lower, name_eq, name_cmp, is_above, is_at_or_above, proper_ancestors, star_under}
+use Rattle.zone_proto.specs.Names.{Name, lower, name_eq, name_cmp, is_above, is_at_or_above, proper_ancestors, wildcard_under}
 use Rattle.zone_proto.specs.Order.{is_upto, is_before, greatest}
 use Rattle.zone_proto.specs.Sets.{RRset}
 use Rattle.zone_proto.specs.Types.{NSEC}
 use Rattle.zone_map.specs.Zones.{Sets, set_at, owns, owners}
 use Rattle.zone_denial.specs.NsecCircle.{next_of}
 
--- the next name n of an owner o stands after x, or goes back to o or before it, as that of the last owner does
+-- the next name n of an owner o comes after x, or goes back to o or before it, as that of the last owner does
 abbrev pub goes_past : Name → Name → Name → Bool
 goes_past o x n = is_before name_cmp x n || is_upto name_cmp n o
 
@@ -51,9 +51,10 @@ owns_nsec_at_or_below m a = list_any (is_at_or_above a) (owners m NSEC)
 abbrev pub nsec_encloser : Name → Sets → Name → Name
 nsec_encloser origin m x = unwrap_or (find (λ a. is_at_or_above origin a && owns_nsec_at_or_below m a) (proper_ancestors x)) origin
 
--- the name that a denial of x proves something of besides x: below the origin the star under the closest encloser of x; of the origin there is none, and of a name outside the zone it is the origin
+-- the name that a denial of x proves something of besides x: below the origin the wildcard at the closest encloser of
+-- x; of the origin there is none, and of a name outside the zone it is the origin
 abbrev pub proved_beside : Name → Sets → Name → Option Name
-proved_beside origin m x = cond (is_above origin x) (Some (star_under (nsec_encloser origin m x))) (cond (name_eq x origin) None (Some origin))
+proved_beside origin m x = cond (is_above origin x) (Some (wildcard_under (nsec_encloser origin m x))) (cond (name_eq x origin) None (Some origin))
 
 -- the owners of the sets that deny: x itself if it owns NSEC; else the closest owner of what is proved beside x, and then that of x (RFC 4035 sections 3.1.3.1 and 3.1.3.2)
 abbrev pub denying_owners : Name → Sets → Name → List Name

@@ -1,7 +1,7 @@
 -- What the circle of NSEC sets promises to who reads a negative answer
 use Rattle.std.specs.Prelude.{◌≡◌, ℕ, Bool, false, ◌⊎◌, List, [], ◌∷◌, ◌++◌, Some, None, IsTrue, IsFalse}
 use Rattle.std.specs.List.{Contains}
-use Rattle.zone_proto.specs.Names.{Name, name_cmp, lower, is_above, is_at_or_above, star_under}
+use Rattle.zone_proto.specs.Names.{Name, name_cmp, lower, is_above, is_at_or_above, wildcard_under}
 use Rattle.zone_proto.specs.Sets.{RRset}
 use Rattle.zone_proto.specs.Types.{NSEC, RRSIG}
 use Rattle.zone_map.specs.AnyTypes.{searched_type}
@@ -52,12 +52,14 @@ SecuredIsCircle = (origin : Name) (m after : Sets) (ttl serial : ℕ) → IsZone
 abbrev pub DenialFindsOrCovers : Type 0
 DenialFindsOrCovers = (origin : Name) (m : Sets) → IsNsecZone origin m → (x : Name) → IsTrue (is_at_or_above origin x) → FindsOrCovers m x (nsec_denial origin m x)
 
--- where a name of the zone has no NSEC set, its denial has that of the star under its closest encloser, or covers the star (RFC 4035 section 3.1.3.2)
-abbrev pub DenialProvesStar : Type 0
-DenialProvesStar = (origin : Name) (m : Sets) → IsNsecZone origin m → (x : Name) → IsTrue (is_at_or_above origin x) → IsFalse (owns m x NSEC)
-    → HasOwnOrCover m (star_under (nsec_encloser origin m x)) (nsec_denial origin m x)
+-- where a name of the zone has no NSEC set, its denial has that of the wildcard at its closest encloser, or covers the
+-- wildcard (RFC 4035 section 3.1.3.2)
+abbrev pub DenialProvesWildcard : Type 0
+DenialProvesWildcard = (origin : Name) (m : Sets) → IsNsecZone origin m → (x : Name) → IsTrue (is_at_or_above origin x) → IsFalse (owns m x NSEC)
+    → HasOwnOrCover m (wildcard_under (nsec_encloser origin m x)) (nsec_denial origin m x)
 
--- what x owns is in the list of its NSEC set; and where it has no such set and is a name of the zone, it stands below a zone cut
+-- what x owns is in the list of its NSEC set; and where it has no such set and is a name of the zone, it is below a
+-- zone cut
 pub record IsListed (origin : Name) (m : Sets) (x : Name) (t : ℕ) : Type 0 where
   pub on : (s : RRset) (types : List ℕ) → set_at m x NSEC ≡ Some s → types_of s ≡ Some types → Contains types t
   pub off : IsFalse (owns m x NSEC) → IsTrue (is_at_or_above origin x) → IsTrue (is_below_cut origin m x)
@@ -78,7 +80,8 @@ abbrev pub NoNextBelowAbsent : Type 0
 NoNextBelowAbsent = (origin : Name) (m : Sets) → IsNsecZone origin m → (x : Name) → IsTrue (is_at_or_above origin x) → owns_at_or_below m x ≡ false
     → (n : Name) × LastCovers (nsec_denial origin m x) x n × IsFalse (is_at_or_above x n)
 
--- where a name of the zone is empty, has an owner below it and no zone cut above it, the denial covers the name, and its next name stands below it (RFC 4592 section 2.2.2)
+-- where a name of the zone is empty, has an owner below it and no zone cut above it, the denial covers the name, and
+-- its next name is below it (RFC 4592 section 2.2.2)
 abbrev pub NextBelowEmpty : Type 0
 NextBelowEmpty = (origin : Name) (m : Sets) → IsNsecZone origin m → (x : Name) → IsTrue (is_at_or_above origin x) → types_at m x ≡ [] → owns_at_or_below m x ≡ Bool.true → IsFalse (is_below_cut origin m x)
     → (n : Name) × LastCovers (nsec_denial origin m x) x n × IsTrue (is_above x n)

@@ -35,7 +35,7 @@ module _ (origin : Name) (ks : List RrKey) (ttl serial : ℕ) where
     pub named : All (λ e. Contains (key_names ks) e.0.name) entries
     pub all : (n : Name) → Contains (key_names ks) n → Contains (names_of entries) n
 
--- the name of the first key, or the origin where there is none
+-- the name of the first key, or the origin if there is none
 abbrev pub first_name : Name → List RrKey → Name
 first_name origin [] = origin
 first_name origin (k ∷ ks) = k.name

@@ -28,7 +28,8 @@ module _ (origin : Name) (m : Sets) (ttl serial : ℕ) where
   abbrev pub nsec_set_at : Name → ℕ → Option RRset
   nsec_set_at n t = cond ((t == NSEC) && is_authoritative origin m NSEC n) (Some (nsec_set n)) None
 
-  -- a map in which they stand in the place of the NSEC sets that were there, signatures aside, and in which each name owns the same other types as before
+  -- a map in which they stand in place of the NSEC sets that were there, signatures aside, and in which each name owns
+  -- the same other types as before
   pub record HasNsecSets (after : Sets) : Type 0 where
     pub others : (n : Name) (t : ℕ) → (t == NSEC) ≡ Bool.false → owns after n t ≡ owns m n t
     pub denials : (n : Name) → option_map (λ (s : RRset). s.records) (set_at after n NSEC) ≡ option_map (λ (s : RRset). s.records) (nsec_set_at n NSEC)

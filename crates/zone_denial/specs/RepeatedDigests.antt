@@ -13,6 +13,6 @@ RepeatsDigest hs i = (0 < i) × ((h : HeldName) → (slice_index_or hs (i - 1) h
 abbrev pub EndsWith : Sets → RrKey → Type 0
 EndsWith es k = (others : Sets) × (s : RRset) × (es ≡ others ++ (k, s) ∷ [])
 
--- sets behind which another was put, or in the place of the last of which, where that has its key
+-- sets behind which another was put, or in place of the last of which, where that has its key
 abbrev pub IsPutBehind : Sets → RrKey × RRset → Sets → Type 0
 IsPutBehind es e after = (after ≡ es ++ e ∷ []) ⊎ ((others : Sets) × (s : RRset) × (es ≡ others ++ (e.0, s) ∷ []) × (after ≡ others ++ e ∷ []))

@@ -1,4 +1,4 @@
--- The sets of denial that stand in a zone, as they would be made now
+-- The sets of denial that are in a zone, as they would be made now
 use Rattle.std.specs.Prelude.{ℕ, ◌==◌, map, filter}
 use Rattle.zone_proto.specs.declared.rr_key.RrKey.{RrKey}
 use Rattle.zone_proto.specs.Sets.{RRset}

@@ -12,8 +12,8 @@ ghost use Rattle.zone_denial.specs.OwnersRead.{owners_read, GrewByAtMost};
 use zone_map::{Reads, RecordMap};
 use zone_proto::{LowerName, Name, ProtoError, RData, RecordSet, RecordType, RrKey};
 
-/// The NSEC set whose owner is the greatest of those that aren't after `name` and whose next name, as the first record says
-/// it, stands after `name`, or isn't after the owner. Refused by `Memory` alone.
+/// The NSEC set whose owner is the greatest of those that aren't after `name` and whose next name, as the first record
+/// says it, comes after `name`, or isn't after the owner. Its only error is `Memory`.
 ///
 /// Where the NSEC sets are a circle, it is the one that covers a name without such a set (RFC 4034 section 4).
 pub fn closest_nsec<'m>(
@@ -27,8 +27,8 @@ pub fn closest_nsec<'m>(
     closest_nsec_knowing(records, name, None, &mut Reads::new())
 }
 
-/// The same, where the NSEC set of some owner is at hand, which isn't looked up then. No more owners are read, and counted, than
-/// [`closest_nsec_counted`] reads: none where the key before the name's place has the set.
+/// The same, where the NSEC set of some owner is at hand, which isn't looked up then. No more owners are read, and
+/// counted, than [`closest_nsec_counted`] reads: none if the key before the name's place has the set.
 pub(crate) fn closest_nsec_knowing<'m>(
     records: &'m RecordMap,
     name: &LowerName,
@@ -60,8 +60,9 @@ pub(crate) fn are_many(records: &RecordMap) -> bool
     records.denial_owners(RecordType::NSEC).size_hint().0 >= records.len() / 8
 }
 
-/// The set that [`closest_nsec`] gives, found by the owners of NSEC sets alone, which are read from `name` back and counted:
-/// those down to the closest one, or all of them where there is none. Refused by `Memory` alone, which has counted no more.
+/// The set that [`closest_nsec`] gives, found by the owners of NSEC sets alone, which are read from `name` back and
+/// counted: those down to the closest one, or all of them if there is none. Its only error is `Memory`, which has
+/// counted no more.
 pub fn closest_nsec_counted<'m>(
     records: &'m RecordMap,
     name: &LowerName,
@@ -152,7 +153,7 @@ fn says_past(set: &RecordSet, owner: &LowerName, name: &LowerName) -> Result<boo
     }
 }
 
-/// Whether the next name of an owner stands after `name`, or isn't after the owner.
+/// Whether the next name of an owner comes after `name`, or isn't after the owner.
 fn goes_past(owner: &LowerName, name: &LowerName, next: &LowerName) -> bool
     ensures { result ≡ goes_past owner.now name.now next.now }
 {

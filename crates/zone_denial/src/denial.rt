@@ -1,6 +1,6 @@
 //! The NSEC sets that answer a query for a denial.
 ghost use Rattle.std.specs.Prelude.{◌≡◌, ◌||◌, IfOk, IsOkUnless, option_copied, option_and_then};
-ghost use Rattle.zone_proto.specs.Names.{name_eq, IsAbove, star_under};
+ghost use Rattle.zone_proto.specs.Names.{name_eq, IsAbove, wildcard_under};
 ghost use Rattle.zone_proto.specs.Results.{IsCopy};
 ghost use Rattle.zone_proto.specs.Types.{NSEC};
 ghost use Rattle.zone_map.specs.Zones.{set_at};
@@ -21,10 +21,10 @@ pub enum NsecDenial<'m> {
 }
 
 /// The NSEC sets that answer a query for a denial of `name` in the zone of `origin` (RFC 4035 sections 3.1.3.1 and
-/// 3.1.3.2): the name's own, or else the closest ones of the star under its closest encloser and of itself. The closest
-/// encloser is the longest proper ancestor, not above the origin, that owns NSEC or has such a name below it, or else the
-/// origin (RFC 4592 section 3.3.1). Of a name outside the zone the origin stands in the place of the star, and of the origin
-/// nothing does. Refused by `Memory` alone.
+/// 3.1.3.2): the name's own, or else the closest ones of the wildcard at its closest encloser and of itself. The
+/// closest encloser is the longest proper ancestor, not above the origin, that owns NSEC or has such a name below it,
+/// or else the origin (RFC 4592 section 3.3.1). Of a name outside the zone the origin stands in place of the wildcard,
+/// and of the origin nothing does. Its only error is `Memory`.
 pub fn nsec_denial<'m>(
     records: &'m RecordMap,
     origin: &LowerName,
@@ -55,8 +55,8 @@ fn own_nsec<'m>(records: &'m RecordMap, key: &RrKey) -> Option<&'m RecordSet>
     records.get(key)
 }
 
-/// The set closest to what is proved beside a name: the star under its closest encloser, or the origin of a name outside the
-/// zone; none of the origin. The set closest to the name itself is at hand.
+/// The set closest to what is proved beside a name: the wildcard at its closest encloser, or the origin of a name
+/// outside the zone; none of the origin. The set closest to the name itself is at hand.
 fn closest_beside<'m>(
     records: &'m RecordMap,
     origin: &LowerName,
@@ -76,18 +76,18 @@ fn closest_beside<'m>(
     if !origin.zone_of(&name) {
         return closest_nsec_knowing(records, origin, closest, &mut Reads::new());
     }
-    let star = enclosed_star(records, origin, name)?;
+    let star = enclosed_wildcard(records, origin, name)?;
     closest_nsec_knowing(records, &star, closest, &mut Reads::new())
 }
 
-/// The star under the closest encloser of a name below the origin. Refused by `Memory` alone.
-fn enclosed_star(
+/// The wildcard at the closest encloser of a name below the origin. Its only error is `Memory`.
+fn enclosed_wildcard(
     records: &RecordMap,
     origin: &LowerName,
     name: LowerName,
 ) -> Result<LowerName, ProtoError>
     requires { IsAbove origin.now name }
-    ensures { IsCopy result (star_under (nsec_encloser origin.now records.now «name»)) }
+    ensures { IsCopy result (wildcard_under (nsec_encloser origin.now records.now «name»)) }
 {
     let mut next_closer = name;
     let mut above = next_closer.base_name()?;

@@ -99,7 +99,7 @@ pub(crate) fn hashed_names<'n, 'z, H: Nsec3Hash>(
     Ok(held)
 }
 
-/// A name with its digest. Refused by `Hash` where there is none, and by `Memory`.
+/// A name with its digest. Refused by `Hash` if there is none, and by `Memory`.
 fn hash_name<'n, 'z, H: Nsec3Hash>(
     name: &'n Nsec3Name<'z>,
     hash: &H,

@@ -1,11 +1,12 @@
-//! How a zone denies what it doesn't hold: the names that it is authoritative for (RFC 4035 section 2.3), the NSEC sets that
-//! link them in a circle (RFC 4034 section 4), or the NSEC3 sets that link their digests (RFC 5155), and the sets that answer
-//! a query for a denial. It is the ground of `zone_store`, whose users need nothing of it.
+//! How a zone denies what it doesn't have: the names that it is authoritative for (RFC 4035 section 2.3), the NSEC sets that
+//! link them in a chain (RFC 4034 section 4), or the NSEC3 sets that link their digests (RFC 5155), and the sets that answer a
+//! query for a denial. `zone_store` is built on it; its users need nothing of it.
 //!
 //! Contracts see a zone as the list of its sets by name and type. A call that is refused changes nothing.
 #![tactic(auto)]
 
-mod authoritative_keys;
+pub mod authoritative_keys;
+pub mod chain_sets;
 pub mod closest;
 pub mod denial;
 mod hashed_names;
@@ -20,5 +21,6 @@ mod nsec3_standing;
 pub mod nsec_sets;
 mod nsec_standing;
 mod only_data;
-mod owner_order;
+pub mod owner_order;
 mod type_list;
+pub mod type_word;

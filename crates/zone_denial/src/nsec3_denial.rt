@@ -26,17 +26,18 @@ struct Encloser<'m> {
 ///
 /// - No data (sections 7.2.3 and 7.2.4): the set that matches the queried name alone.
 /// - Wildcard answer (section 7.2.6): the set that covers the next closer name.
-/// - Name error and wildcard no data (sections 7.2.2 and 7.2.5): the set that matches the closest encloser, the one that covers
-///   the next closer name, and the one that matches the star under the encloser or, where none does, covers it.
+/// - Name error and wildcard no data (sections 7.2.2 and 7.2.5): the set that matches the closest encloser, the one
+///   that covers the next closer name, and the one that matches the wildcard at the encloser or, where none does,
+///   covers it.
 ///
 /// The closest encloser is the nearest ancestor, the root aside, that a set matches; without one there is no set. The type
 /// isn't read.
 ///
 /// # Errors
 ///
-/// Names are hashed one after the other, each once, and only where the answer needs it: the queried name, its ancestors from
-/// the longest on up to the encloser, and the star. Refused as the first of them is that has no hashed owner, as
-/// [`Nsec3QueryInfo::hashed_owner_name`] says, and by `Memory`.
+/// Names are hashed one after the other, each once, and only where the answer needs it: the queried name, its ancestors
+/// from the longest on up to the encloser, and the wildcard. Refused as the first of them is that has no hashed owner,
+/// as [`Nsec3QueryInfo::hashed_owner_name`] says, and by `Memory`.
 pub fn nsec3_denial<'m, H: Nsec3Hash>(
     records: &'m RecordMap,
     origin: &LowerName,
@@ -170,15 +171,15 @@ fn enclosed<'m, H: Nsec3Hash>(
         // Wildcard answer.
         return in_owner_order(alloc, closer, None, None);
     }
-    // Name error or wildcard no data, told apart by whether a set matches the star.
-    let star_owner = star_owner(hashing, next_closer, closer_owner)?;
-    let star = matching_or_covering(records, &star_owner)?;
+    // Name error or wildcard no data, distinguished by whether a set matches the wildcard.
+    let wildcard_owner = wildcard_owner(hashing, next_closer, closer_owner)?;
+    let star = matching_or_covering(records, &wildcard_owner)?;
     in_owner_order(alloc, Some(set), closer, star)
 }
 
-/// The hashed owner of the star under the encloser, which is the next closer name with a star for its first label. Where that
-/// has a star there, as in a query for a star, its own hashed owner is at hand.
-fn star_owner<H: Nsec3Hash>(
+/// The hashed owner of the wildcard at the encloser, which is the next closer name with `*` for its first label. Where
+/// that has `*` there, as in a query for a wildcard, its own hashed owner is at hand.
+fn wildcard_owner<H: Nsec3Hash>(
     hashing: &Hashing<'_, H>,
     next_closer: LowerName,
     closer_owner: LowerName,

@@ -74,8 +74,8 @@ pub(crate) fn matching<'m, H: Nsec3Hash>(
     })
 }
 
-/// The set that matches the name of which this is the hashed owner, or else the one that covers it: that of the greatest owner
-/// that isn't after it, or of the greatest of all where each is after it. Refused by `Memory` alone.
+/// The set that matches the name of which this is the hashed owner, or else the one that covers it: that of the
+/// greatest owner that isn't after it, or of the greatest of all where each is after it. Its only error is `Memory`.
 pub(crate) fn matching_or_covering<'m>(
     records: &'m RecordMap,
     hashed: &LowerName,
@@ -95,8 +95,8 @@ pub(crate) fn matching_or_covering<'m>(
     }
 }
 
-/// The set that covers the name of which this is the hashed owner (RFC 5155 section 1.3): that of the greatest owner before it,
-/// or of the greatest of all where none is before. Refused by `Memory` alone.
+/// The set that covers the name of which this is the hashed owner (RFC 5155 section 1.3): that of the greatest owner
+/// before it, or of the greatest of all where none is before. Its only error is `Memory`.
 pub(crate) fn covering<'m>(
     records: &'m RecordMap,
     hashed: &LowerName,
@@ -114,7 +114,7 @@ pub(crate) fn covering<'m>(
     }
 }
 
-/// The NSEC3 set of an owner. Refused by `Memory` alone.
+/// The NSEC3 set of an owner. Its only error is `Memory`.
 fn own_set<'m>(
     records: &'m RecordMap,
     owner: &LowerName,
@@ -126,8 +126,8 @@ fn own_set<'m>(
     Ok(records.get(&key))
 }
 
-/// The owner of the set that covers the name of which this is the hashed owner. It counts one read, or none where there is no
-/// such owner.
+/// The owner of the set that covers the name of which this is the hashed owner. It counts one read, or none if there is
+/// no such owner.
 fn cover_owner<'m>(
     records: &'m RecordMap,
     hashed: &LowerName,

@@ -19,7 +19,7 @@ pub(crate) struct Nsec3Name<'a> {
     pub(crate) types: Seq<RecordType>,
 }
 
-/// A name that stands in a zone is lent, and an empty one has to be made.
+/// A name that is in a zone is lent, and an empty one has to be made.
 #[derive(Drop)]
 enum NodeName<'a> {
     Lent(&'a LowerName),
@@ -46,7 +46,7 @@ impl<'a> Nsec3Name<'a> {
         }
     }
 
-    /// An empty name, which owns nothing.
+    /// An empty non-terminal, which owns nothing.
     fn empty(name: LowerName) -> Nsec3Name<'a>
         ensures { node_of result ≡ («name», []) }
     {
@@ -58,9 +58,10 @@ impl<'a> Nsec3Name<'a> {
     }
 }
 
-/// The names that get an NSEC3 set in the zone of this origin, in order, each with the types that its set lists (RFC 5155
-/// section 7.1): the origin, the names that the zone is authoritative for, and the empty names between. With `opt_out` a
-/// name that owns NS alone gets none. NSEC3 sets that stand in the zone count for nothing. Refused by `Memory` alone.
+/// The names that get an NSEC3 set in the zone of this origin, in order, each with the types that its set lists (RFC
+/// 5155 section 7.1): the origin, the names that the zone is authoritative for, and the empty non-terminals between.
+/// With `opt_out` a name that owns NS alone gets none. NSEC3 sets that are in the zone count for nothing. Its only
+/// error is `Memory`.
 pub(crate) fn nsec3_names<'a>(
     records: &'a RecordMap,
     origin: &'a LowerName,
@@ -104,8 +105,8 @@ fn are_of_ns(keys: &[&RrKey]) -> bool
     keys.iter().all(|key| key.record_type == RecordType::NS)
 }
 
-/// Puts the ancestors of a name that aren't at or above the last one that was counted behind the names, from the highest
-/// down. They are new, since the names below each stand together, and empty. Refused by `Memory` alone.
+/// Puts the ancestors of a name that aren't at or above the last one that was counted behind the names, from the
+/// highest down. They are new, since the names below each stand together, and empty. Its only error is `Memory`.
 fn push_new_ancestors<'a>(
     names: &mut Vec<Nsec3Name<'a>>,
     last: &LowerName,

@@ -9,7 +9,7 @@ ghost use Rattle.zone_proto.specs.Data.{type_of};
 ghost use Rattle.zone_proto.specs.Keys.{key as key_at};
 ghost use Rattle.zone_proto.specs.Names.{Name, lower};
 ghost use Rattle.zone_proto.specs.Ranges.{IsOctet};
-ghost use Rattle.zone_proto.specs.Results.{IsCopy, TellsFaultOrMemory};
+ghost use Rattle.zone_proto.specs.Results.{IsCopy, ReportsFaultOrMemory};
 ghost use Rattle.zone_proto.specs.Sets.{empty_set};
 ghost use Rattle.zone_proto.specs.Types.{IN, NSEC3 as nsec3_type, NSEC3PARAM as nsec3param_type};
 ghost use Rattle.zone_map.specs.Standing.{standing_at};
@@ -33,11 +33,11 @@ use zone_proto::{
 /// The sets that a zone gets when it is denied by NSEC3: the NSEC3 sets of its names, which form a circle in the order of their
 /// digests (RFC 5155 section 7.1), and the origin's NSEC3PARAM set, into which the parameters are inserted (RFC 5155 section 4).
 ///
-/// `records` are the sets of the zone, and `origin` is its name. `hash` gives the digests, by `parameters`, which are those of
-/// all NSEC3 records; of their flags only opt-out is used, by which names that own NS alone get no set. `ttl` is the
-/// TTL of all records, in seconds, and `serial` the serial of the sets. The answer holds the new sets alone. No set is made,
-/// and the answer is none, where those that stand in the zone are already these, serials and signatures of the NSEC3 sets
-/// aside, and no two names have one owner.
+/// `records` are the sets of the zone, and `origin` is its name. `hash` gives the digests, by `parameters`, which are
+/// those of all NSEC3 records; of their flags only opt-out is used, by which names that own NS alone get no set. `ttl`
+/// is the TTL of all records, in seconds, and `serial` the serial of the sets. The answer holds the new sets alone. No
+/// set is made, and the answer is none, where those that are in the zone are already these, serials and signatures of
+/// the NSEC3 sets aside, and no two names have one owner.
 ///
 /// # Errors
 ///
@@ -97,8 +97,8 @@ pub fn nsec3_sets<H: Nsec3Hash>(
     }
 }
 
-/// The NSEC3 sets of these names, which form a circle, and the origin's NSEC3PARAM set; or none, where those that stand in the
-/// zone are these. A refusal other than `Memory` says that an owner is too long.
+/// The NSEC3 sets of these names, which form a circle, and the origin's NSEC3PARAM set; or none, where those that are
+/// in the zone are these. A refusal other than `Memory` says that an owner is too long.
 fn sets_of_circle(
     held: &[HashedName<'_, '_>],
     records: &RecordMap,
@@ -167,7 +167,7 @@ fn with_circle(
     NewSets::from_entries(origin.alloc(), entries)
 }
 
-/// Puts an entry behind others, in the place of the last one where that has its key. Refused by `Memory` alone.
+/// Appends an entry to others, in place of the last one where that has its key. Its only error is `Memory`.
 fn put_behind(
     entries: &mut Vec<(RrKey, RecordSet)>,
     entry: (RrKey, RecordSet),
@@ -233,8 +233,8 @@ fn same_digest(one: &HashedName<'_, '_>, other: &HashedName<'_, '_>) -> bool
     one.digest == other.digest
 }
 
-/// The entry of a record: a copy of the set before, or else a new set of the record's owner and type, into which the record is
-/// inserted. Refused by `Memory` alone.
+/// The entry of a record: a copy of the set before, or else a new set of the record's owner and type, into which the
+/// record is inserted. Its only error is `Memory`.
 fn entry_with(
     before: Option<&RecordSet>,
     new: Record,
@@ -260,7 +260,7 @@ fn entry_with(
     Ok((key, set))
 }
 
-/// A copy of a set; without one a set of this owner and type that has no records. Refused by `Memory` alone.
+/// A copy of a set; without one a set of this owner and type that has no records. Its only error is `Memory`.
 fn copy_or_empty(
     set: Option<&RecordSet>,
     owner: &Name,
@@ -276,7 +276,7 @@ fn copy_or_empty(
     }
 }
 
-/// The name that comes next: the one that stands after this one, and after the last one the first.
+/// The name that comes next: the one that comes after this one, and after the last one the first.
 pub(crate) fn next_name<'h, 'n, 'z>(
     held: &'h [HashedName<'n, 'z>],
     i: usize,
@@ -301,7 +301,7 @@ fn nsec3_record(
 ) -> Result<Record, ProtoError>
     ensures ok { IfOk result
         (λ r. r ≡ linked_record origin.now parameters.now ttl name.now next.now.digest) }
-    ensures refusal { TellsFaultOrMemory result (hashed_owner origin.now name.now.digest) }
+    ensures refusal { ReportsFaultOrMemory result (hashed_owner origin.now name.now.digest) }
     ensures digest { OnOk result (AllByRecursion IsOctet name.now.digest) }
     ensures lower { OnOk result (lower origin.now ≡ origin.now) }
 {
@@ -318,9 +318,9 @@ fn nsec3_record(
 }
 
 /// The owner of the NSEC3 set of a name with this digest (RFC 5155 section 3). Refused where that is no name, and by `Memory`.
-pub(crate) fn hashed_owner(digest: &[u8], origin: &LowerName) -> Result<LowerName, ProtoError>
+pub fn hashed_owner(digest: &[u8], origin: &LowerName) -> Result<LowerName, ProtoError>
     ensures ok { IfOk result (λ n. n ≡ hashed_owner origin.now digest.now) }
-    ensures refusal { TellsFaultOrMemory result (hashed_owner origin.now digest.now) }
+    ensures refusal { ReportsFaultOrMemory result (hashed_owner origin.now digest.now) }
     ensures digest { AllByRecursion IsOctet digest.now }
     ensures lower { OnOk result (lower origin.now ≡ origin.now) }
 {
@@ -328,7 +328,7 @@ pub(crate) fn hashed_owner(digest: &[u8], origin: &LowerName) -> Result<LowerNam
     origin.prepend_label(label.as_bytes())
 }
 
-/// The entry of the origin's NSEC3PARAM set, with these parameters inserted. Refused by `Memory` alone.
+/// The entry of the origin's NSEC3PARAM set, with these parameters inserted. Its only error is `Memory`.
 fn announced(
     records: &RecordMap,
     origin: &LowerName,
@@ -351,7 +351,7 @@ fn announced(
     entry_with(records.get(&key), record, serial)
 }
 
-/// The record that announces the parameters, which stands at the origin (RFC 5155 section 4). Refused by `Memory` alone.
+/// The record that announces the parameters, which is at the origin (RFC 5155 section 4). Its only error is `Memory`.
 pub(crate) fn announcement(
     origin: &LowerName,
     parameters: &NSEC3PARAM,

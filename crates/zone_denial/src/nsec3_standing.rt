@@ -1,4 +1,4 @@
-//! Whether the NSEC3 sets that stand in a zone, and its NSEC3PARAM set, are those that it would get.
+//! Whether the NSEC3 sets that are in a zone, and its NSEC3PARAM set, are those that it would get.
 ghost use Rattle.std.specs.Prelude.{◌≡◌, ℕ, ◌==◌, cond, map, None, Some, true, IfOk, IsTrue, IsOkUnless};
 ghost use Rattle.std.specs.List.{AllByRecursion};
 ghost use Rattle.std.specs.List.Sorted.{IsStrictlySortedBy};
@@ -25,9 +25,9 @@ use zone_proto::{
     Seq,
 };
 
-/// Whether the NSEC3 sets that stand in the zone are those of these names, which form a circle, serials and signatures aside:
-/// one for each in order, and no other. They aren't where two names have one owner. It stops at the first difference. Refused
-/// by `Memory` alone.
+/// Whether the NSEC3 sets that are in the zone are those of these names, which form a circle, serials and signatures
+/// aside: one for each in order, and no other. They aren't where two names have one owner. It stops at the first
+/// difference. Its only error is `Memory`.
 pub(crate) fn nsec3_sets_stand(
     records: &RecordMap,
     held: &[HashedName<'_, '_>],
@@ -61,7 +61,8 @@ pub(crate) fn nsec3_sets_stand(
     Ok(passed == held.len())
 }
 
-/// Whether a set is the NSEC3 set of a name with this next one, serial and signatures aside. Refused by `Memory` alone.
+/// Whether a set is the NSEC3 set of a name with this next one, serial and signatures aside. Its only error is
+/// `Memory`.
 fn is_set_of_name(
     set: &RecordSet,
     name: &HashedName<'_, '_>,
@@ -155,8 +156,8 @@ fn has_types(data: &NSEC3, types: &Seq<RecordType>) -> bool
     data.types == *types
 }
 
-/// Whether the origin's NSEC3PARAM set already tells these parameters, so that they aren't taken into it. Refused by `Memory`
-/// alone.
+/// Whether the origin's NSEC3PARAM set already tells these parameters, so that they aren't taken into it. Its only
+/// error is `Memory`.
 pub(crate) fn is_announced(
     records: &RecordMap,
     origin: &LowerName,

@@ -21,10 +21,11 @@ use zone_proto::{
 
 /// The NSEC sets of the zone with this origin, one for each name that the zone is authoritative for (RFC 4035 section 2.3).
 ///
-/// The set of a name has one record, with the next of these names in canonical order, after the last one the origin, and with
-/// the types that the name owns, NSEC and RRSIG among them (RFC 4034 section 4). Its TTL is `ttl`, in seconds, and its serial
-/// `serial`. No set is made, and the answer is none, where those that stand in the zone are already these, serials and
-/// signatures aside, and no name owns a set of type RRSIG; else they count for nothing. Refused by `Memory` alone.
+/// The set of a name has one record, with the next of these names in canonical order, after the last one the origin,
+/// and with the types that the name owns, NSEC and RRSIG among them (RFC 4034 section 4). Its TTL is `ttl`, in seconds,
+/// and its serial `serial`. No set is made, and the answer is none, where those that are in the zone are already these,
+/// serials and signatures aside, and no name owns a set of type RRSIG; else they count for nothing. Its only error is
+/// `Memory`.
 pub fn nsec_sets(
     records: &RecordMap,
     origin: &LowerName,
@@ -77,7 +78,7 @@ fn nsec_entries(
     Ok(entries)
 }
 
-/// The name of the first key, or the origin where there is none.
+/// The name of the first key, or the origin if there is none.
 pub(crate) fn first_name<'a>(keys: &[&'a RrKey], origin: &'a LowerName) -> &'a LowerName
     ensures { result.now ≡ first_name origin.now (map (λ k. k.now) keys.now) }
 {

@@ -1,4 +1,4 @@
-//! Whether the NSEC sets that stand in a zone are those that it would get.
+//! Whether the NSEC sets that are in a zone are those that it would get.
 ghost use Rattle.std.specs.Prelude.{◌≡◌, ℕ, map, IsTrue};
 ghost use Rattle.std.specs.List.Sorted.{IsStrictlySortedBy};
 ghost use Rattle.std.specs.Ordering.{nat_cmp};
@@ -18,8 +18,8 @@ use crate::only_data::only_data;
 use zone_map::RecordMap;
 use zone_proto::{LowerName, NSEC, RData, RecordSet, RecordType, RrKey};
 
-/// Whether the NSEC sets that stand in the zone are those that these keys give, serials and signatures aside: one for each
-/// name in order, and no other. It stops at the first difference. Takes no memory.
+/// Whether the NSEC sets that are in the zone are those that these keys give, serials and signatures aside: one for
+/// each name in order, and no other. It stops at the first difference. Doesn't allocate.
 pub(crate) fn nsec_sets_stand(
     records: &RecordMap,
     keys: &[&RrKey],

@@ -8,8 +8,8 @@ ghost use Rattle.zone_denial.specs.TypeLists.{joined, in_order};
 use std::alloc::Global;
 use zone_proto::{ProtoError, RecordSet};
 
-/// At most three sets in the canonical order of their owners, of each owner one. Refused by `Memory` alone.
-pub(crate) fn in_owner_order<'m>(
+/// At most three sets in the canonical order of their owners (RFC 4034 section 6.1), of each owner one. Its only error is `Memory`.
+pub fn in_owner_order<'m>(
     alloc: Global,
     first: Option<&'m RecordSet>,
     second: Option<&'m RecordSet>,

@@ -7,8 +7,9 @@ ghost use Rattle.zone_denial.specs.TypeLists.{joined};
 
 use zone_proto::{ProtoError, RecordType, RrKey, Seq};
 
-/// The types of keys that ascend, RRSIG and one more, each once (RFC 4034 section 4.1.2). They are put together in `room`, of
-/// which nothing is left: so lists that are made one after the other take no memory each. Refused by `Memory` alone.
+/// The types of keys that ascend, RRSIG and one more, each once (RFC 4034 section 4.1.2). They are put together in
+/// `room`, of which nothing is left: so lists that are made one after the other take no memory each. Its only error is
+/// `Memory`.
 pub(crate) fn type_list(
     room: &mut Vec<RecordType>,
     keys: &[&RrKey],
@@ -23,7 +24,7 @@ pub(crate) fn type_list(
     Seq::from_slice(*room.allocator(), room.as_slice())
 }
 
-/// The types of keys that ascend, and RRSIG, each once, put together in the same way. Refused by `Memory` alone.
+/// The types of keys that ascend, and RRSIG, each once, put together in the same way. Its only error is `Memory`.
 pub(crate) fn signed_types(
     room: &mut Vec<RecordType>,
     keys: &[&RrKey],
@@ -36,7 +37,7 @@ pub(crate) fn signed_types(
     Seq::from_slice(*room.allocator(), room.as_slice())
 }
 
-/// Puts the types of keys that ascend, and RRSIG, each once, in the place of what a list has. Refused by `Memory` alone.
+/// Puts the types of keys that ascend, and RRSIG, each once, in place of what a list has. Its only error is `Memory`.
 fn fill_signed(types: &mut Vec<RecordType>, keys: &[&RrKey]) -> Result<(), ProtoError>
     ensures ok { OnOk result
         (map (λ t. t.0) types.new.items

@@ -6,13 +6,13 @@ use Rattle.zone_proto.specs.Base32.{base32_text}
 use Rattle.zone_proto.specs.Faults.{fault_of}
 use Rattle.zone_proto.specs.HashedOwners.{hashed_owner, name_or_fault, owner_or_refusal}
 use Rattle.zone_proto.specs.Names.{Name, lower_label}
-use Rattle.zone_proto.specs.Results.{TellsFaultOrMemory}
+use Rattle.zone_proto.specs.Results.{ReportsFaultOrMemory}
 use Rattle.zone_proto.proofs.Ordering.Base32Facts.{lower_text}
 
 -- the name that is made is the owner
 pub made_owner : (zone : Name) (digest : Option (List ℕ)) (d label : List ℕ) (result : Result Name ProtoError)
     → digest ≡ Some d → label ≡ base32_text d
-    → IfOk result (λ n. n ≡ lower_label label ∷ zone) → TellsFaultOrMemory result (label ∷ zone)
+    → IfOk result (λ n. n ≡ lower_label label ∷ zone) → ReportsFaultOrMemory result (label ∷ zone)
     → IfOk result (λ owner. owner_or_refusal zone digest ≡ Ok owner)
 made_owner zone digest d label (Ok n) e t is no_fault =
     let fault : fault_of (hashed_owner zone d) ≡ None = ap (λ (l : List ℕ). fault_of (l ∷ zone)) (sym t) ∙ no_fault in
@@ -20,10 +20,10 @@ made_owner zone digest d label (Ok n) e t is no_fault =
     ap (owner_or_refusal zone) e ∙ ap (name_or_fault (hashed_owner zone d)) fault ∙ ap Ok (sym name)
 made_owner zone digest d label (Err f) e t is fault = tt
 
--- a refusal is the fault of the owner, or want of memory
+-- a refusal is the fault of the owner, or lack of memory
 pub refused_owner : (zone : Name) (digest : Option (List ℕ)) (d label : List ℕ) (result : Result Name ProtoError)
     → digest ≡ Some d → label ≡ base32_text d
-    → TellsFaultOrMemory result (label ∷ zone)
+    → ReportsFaultOrMemory result (label ∷ zone)
     → IfErr result (λ f. (f ≡ Memory) ⊎ (owner_or_refusal zone digest ≡ Err f))
 refused_owner zone digest d label (Ok n) e t no_fault = tt
 refused_owner zone digest d label (Err f) e t (inl memory) = inl memory

@@ -10,14 +10,15 @@ use Rattle.zone_handler.specs.declared.lookup_records_iter.LookupRecordsIter.{Lo
 use Rattle.zone_handler.specs.declared.lookup_records_iter.LookupRecordsIter.TheVariants as I
 use Rattle.zone_handler.specs.Sets.{set_records, sets_records}
 
--- what a section of an answer lists: nothing; one set; several sets, which are stored from the last to the first; or records as they stand
+-- what a section of an answer lists: nothing; one set; several sets, which are stored from the last to the first; or
+-- records as they are
 abbrev pub records_in : LookupRecords → List Record
 records_in L.Empty = []
 records_in (L.Records options set) = set_records options set
 records_in (L.ManyRecords options sets) = sets_records options (reverse sets.items)
 records_in (L.Section records) = records.items
 
--- the sets that it keeps, in the order in which it lists their records; records as they stand are of no set
+-- the sets that it keeps, in the order in which it lists their records; records as they are are of no set
 abbrev pub sets_in : LookupRecords → List RRset
 sets_in L.Empty = []
 sets_in (L.Records options set) = set ∷ []

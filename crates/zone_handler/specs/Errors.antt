@@ -10,7 +10,7 @@ use Rattle.zone_handler.specs.declared.net_error.NoRecords.{NoRecords}
 use Rattle.zone_handler.specs.declared.lookup_error.LookupError.{LookupError}
 use Rattle.zone_handler.specs.declared.lookup_error.LookupError.TheVariants as L
 
--- want of memory stays that; any other refusal of the data is an error of the net
+-- lack of memory stays that; any other refusal of the data is an error of the net
 abbrev pub error_of_proto : ProtoError → LookupError
 error_of_proto P.Memory = L.Memory
 error_of_proto e = L.NetError (N.Proto e)

@@ -48,7 +48,7 @@ impl AuthLookup {
         }
     }
 
-    /// Lends the records that answer the question, in order. Takes no memory.
+    /// Lends the records that answer the question, in order. Doesn't allocate.
     pub fn iter(&self) -> AuthLookupIter<'_>
         ensures { left_of result ≡ records_of self.now }
     {

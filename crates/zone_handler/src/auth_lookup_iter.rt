@@ -7,7 +7,7 @@ use crate::lookup_records_iter::LookupRecordsIter;
 use std::slice;
 use zone_proto::Record;
 
-/// Lends the records of an answer, and takes no memory. The default is empty.
+/// Lends the records of an answer, and doesn't allocate. The default is empty.
 #[derive(Drop)]
 pub enum AuthLookupIter<'r> {
     /// No records.

@@ -27,8 +27,8 @@ impl Model for AxfrRecords {
 }
 
 impl AxfrRecords {
-    /// The records of `sets` in their order, each set's with its signatures (RRSIG records) after them if `dnssec_ok`, but
-    /// none of type SOA. The type of a record decides, so the signatures of an SOA set stay. Takes no memory.
+    /// The records of `sets` in their order, each set's with its signatures (RRSIG records) after them if `dnssec_ok`,
+    /// but none of type SOA. The type of a record decides, so the signatures of an SOA set stay. Doesn't allocate.
     pub fn new(dnssec_ok: bool, sets: Vec<RecordSet>) -> AxfrRecords
         ensures { result ≡ axfr_records dnssec_ok sets.items }
     {
@@ -37,7 +37,7 @@ impl AxfrRecords {
         }
     }
 
-    /// These records in their order, but none of type SOA (RFC 5936 section 2.2). Takes no memory.
+    /// These records in their order, but none of type SOA (RFC 5936 section 2.2). Doesn't allocate.
     pub fn of_records(records: Vec<Record>) -> AxfrRecords
         ensures { result ≡ without_soa records.items }
     {
@@ -54,7 +54,7 @@ impl<'r> IntoIterator for &'r AxfrRecords {
 
     ghost into_iter_gives = { λ s it. it ≡ s.now };
 
-    /// Lends the records in order. Takes no memory.
+    /// Lends the records in order. Doesn't allocate.
     fn into_iter(self) -> AxfrRecordsIter<'r> {
         AxfrRecordsIter::new(self.records.iter())
     }

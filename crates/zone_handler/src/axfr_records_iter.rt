@@ -8,7 +8,7 @@ use crate::lookup_records_iter::LookupRecordsIter;
 use std::marker::Model;
 use zone_proto::{Record, RecordType};
 
-/// Lends the records of sets without those of type SOA, and takes no memory.
+/// Lends the records of sets without those of type SOA, and doesn't allocate.
 #[derive(Drop)]
 pub struct AxfrRecordsIter<'r> {
     records: LookupRecordsIter<'r>,

@@ -115,8 +115,8 @@ pub trait ZoneHandler {
     /// answer is whether the zone was changed, or the response code that refuses the update, and what it takes to sign the
     /// response.
     ///
-    /// A refusal by `NotImp` (RFC 2136 section 2.2) leaves the handler as it was. Unless a handler does updates, it refuses
-    /// each one so, for which it takes no memory.
+    /// A refusal by `NotImp` (RFC 2136 section 2.2) leaves the handler as it was. Unless a handler does updates, it
+    /// refuses each one so, for which it doesn't allocate.
     fn update(
         &mut self,
         request: &Request,
@@ -133,8 +133,8 @@ pub trait ZoneHandler {
     /// the moment in seconds since 1970.
     ///
     /// `Continue` hands the answer, or the refusal that says why there is none, on to the next handler of a chain,
-    /// `Break` makes it final, and `Skip` says that this handler has none. A query of type AXFR isn't a lookup, and each
-    /// handler breaks it off with the same error, for which it takes no memory.
+    /// `Break` makes it final, and `Skip` says that this handler has none. A query of type AXFR isn't a lookup, and
+    /// each handler breaks it off with the same error, for which it doesn't allocate.
     fn lookup(
         &self,
         name: &LowerName,
@@ -149,8 +149,8 @@ pub trait ZoneHandler {
     /// What becomes of `last_result`, which the handlers before this one in a chain gave for `name`, `record_type`,
     /// `request_info` and `lookup_options`; and what it takes to sign the response.
     ///
-    /// Any handler may hand `last_result` on as it is. One that has no say in what others answer always does, for which it
-    /// takes no memory.
+    /// Any handler may hand `last_result` on as it is. One that has no say in what others answer always does, for which
+    /// it doesn't allocate.
     fn consult(
         &self,
         name: &LowerName,
@@ -196,10 +196,11 @@ pub trait ZoneHandler {
         ensures { hashed_denial_gives self.now info.entry lookup_options result };
 
     /// The whole zone, as `request` asks for it (AXFR, RFC 5936), with `lookup_options` and `now` as in
-    /// [`ZoneHandler::lookup`]; and what it takes to sign the response. None where this handler leaves the request to another.
+    /// [`ZoneHandler::lookup`]; and what it takes to sign the response. None if this handler leaves the request to
+    /// another.
     ///
-    /// Unless a handler transfers its zone, it refuses each request so by `NotImp` (RFC 1035 section 4.1.1), for which it
-    /// takes no memory.
+    /// Unless a handler transfers its zone, it refuses each request so by `NotImp` (RFC 1035 section 4.1.1), for which
+    /// it doesn't allocate.
     fn zone_transfer(
         &self,
         request: &Request,

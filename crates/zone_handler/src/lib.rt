@@ -1,5 +1,5 @@
-//! What a server asks of a zone and what it is answered: the handler's trait, the control flow of a chain of handlers,
-//! the options of a client, errors, and answers and transfers that lend their records in order.
+//! What a server asks a zone and what it gets: the handler's trait, the control flow of a chain of handlers, the options of a
+//! client, errors, and answers and transfers that lend their records in order.
 //!
 //! No call of this crate takes memory but those that hash a name: answers keep what they are handed, and reading them lends
 //! it. Contracts see an answer as the list of records that it gives a reader.

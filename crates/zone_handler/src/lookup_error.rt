@@ -127,7 +127,7 @@ impl From<ProtoError> for LookupError {
 
     ghost from_gives = { λ refusal e. e ≡ error_of_proto refusal };
 
-    /// `Memory` for want of memory, and any other refusal as the [`NetError`] of it.
+    /// `Memory` for lack of memory, and any other refusal as the [`NetError`] of it.
     fn from(refusal: ProtoError) -> LookupError {
         match refusal {
             ProtoError::Memory => LookupError::Memory,

@@ -22,7 +22,7 @@ pub enum LookupRecords {
     },
     /// Several record sets, stored from the last to the first: make it by [`LookupRecords::many`].
     ManyRecords(LookupOptions, Vec<RecordSet>),
-    /// Records as they stand.
+    /// Records as they are.
     Section(Vec<Record>),
 }
 
@@ -48,8 +48,8 @@ impl LookupRecords {
         }
     }
 
-    /// The records of several sets in the order handed in, each with its signatures if `lookup_options` ask for DNSSEC. The
-    /// list is kept as `ManyRecords`, whatever its length, and reversed in place.
+    /// The records of several sets in the order passed in, each with its signatures if `lookup_options` ask for DNSSEC.
+    /// The list is kept as `ManyRecords`, whatever its length, and reversed in place.
     pub fn many(lookup_options: LookupOptions, mut sets: Vec<RecordSet>) -> LookupRecords
         ensures records { records_in result ≡ sets_records lookup_options sets.items }
         ensures sets { sets_in result ≡ sets.items }
@@ -59,7 +59,7 @@ impl LookupRecords {
         LookupRecords::ManyRecords(lookup_options, sets)
     }
 
-    /// Lends the records in order. Takes no memory.
+    /// Lends the records in order. Doesn't allocate.
     pub fn iter(&self) -> LookupRecordsIter<'_>
         ensures { left_in result ≡ records_in self.now }
     {
@@ -79,7 +79,7 @@ impl LookupRecords {
         }
     }
 
-    /// Whether `iter` gives no record. Takes no memory.
+    /// Whether `iter` gives no record. Doesn't allocate.
     pub fn was_empty(&self) -> bool
         ensures { IsTrue result ↔ (records_in self.now ≡ []) }
     {

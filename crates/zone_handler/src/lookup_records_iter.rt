@@ -7,7 +7,7 @@ use crate::sets_iter::SetsIter;
 use std::slice;
 use zone_proto::{Record, RrsetRecords};
 
-/// Lends the records of one section of an answer, and takes no memory. The default is empty.
+/// Lends the records of one section of an answer, and doesn't allocate. The default is empty.
 #[derive(Drop)]
 pub enum LookupRecordsIter<'r> {
     /// No records.
@@ -16,7 +16,7 @@ pub enum LookupRecordsIter<'r> {
     RecordsIter(RrsetRecords<'r>),
     /// The records of several sets.
     ManyRecordsIter(SetsIter<'r>),
-    /// Records as they stand.
+    /// Records as they are.
     SliceIter(slice::Iter<'r, Record>),
 }
 

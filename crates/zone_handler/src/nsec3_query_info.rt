@@ -1,7 +1,7 @@
 //! What an NSEC3 denial is asked for (RFC 5155 section 7.2).
 ghost use Rattle.std.specs.Prelude.{◌≡◌, ◌⊎◌, Some, None, Ok, Err, IfOk, IfErr};
 ghost use Rattle.zone_proto.specs.HashedOwners.{owner_or_refusal};
-ghost use Rattle.zone_handler.specs.Hashing.{digest_for, star_owner_or_refusal};
+ghost use Rattle.zone_handler.specs.Hashing.{digest_for, wildcard_owner_or_refusal};
 
 use zone_proto::{LowerName, Nsec3Hash, ProtoError, RecordType, base32_dnssec};
 
@@ -63,10 +63,10 @@ impl Nsec3QueryInfo<'_> {
         zone.prepend_label(label.as_bytes())
     }
 
-    /// The owner of the NSEC3 set of the star under `encloser`, the name with `*` before its labels (RFC 4592 section 2.1.1), in
-    /// the zone of origin `zone`: of the wildcard that a name error denies (RFC 5155 section 7.2.2).
+    /// The owner of the NSEC3 set of the wildcard at `encloser`, the name with `*` before its labels (RFC 4592 section
+    /// 2.1.1), in the zone of origin `zone`: of the wildcard that a name error denies (RFC 5155 section 7.2.2).
     ///
-    /// Refused by `NameTooLong` where the star has more than 255 octets in wire form, and by `Memory`; then as
+    /// Refused by `NameTooLong` where the wildcard has more than 255 octets in wire form, and by `Memory`; then as
     /// [`Nsec3QueryInfo::hashed_owner_name`] refuses.
     pub fn hashed_star_name<H: Nsec3Hash>(
         &self,
@@ -75,11 +75,12 @@ impl Nsec3QueryInfo<'_> {
         zone: &LowerName,
     ) -> Result<LowerName, ProtoError>
         ensures ok { IfOk result
-            (λ owner. star_owner_or_refusal (H.digest_of hash.now) self.now encloser.now zone.now
+            (λ owner. wildcard_owner_or_refusal (H.digest_of hash.now) self.now encloser.now
+            zone.now
             ≡ Ok owner) }
         ensures err { IfErr result
             (λ e. (e ≡ ProtoError.Memory)
-            ⊎ (star_owner_or_refusal (H.digest_of hash.now) self.now encloser.now zone.now
+            ⊎ (wildcard_owner_or_refusal (H.digest_of hash.now) self.now encloser.now zone.now
             ≡ Err e)) }
     {
         let star = encloser.prepend_label(b"*")?;

@@ -13,8 +13,8 @@ pub struct Request {
 }
 
 impl Request {
-    /// What a handler is told of this request: its only question, since a query has one (RFC 9619 section 4). Refused by
-    /// `BadQueryCount`, with the number of questions, for none and for several. Takes no memory.
+    /// What a handler is told of this request: its only question, since a query has one (RFC 9619 section 4). Refused
+    /// by `BadQueryCount`, with the number of questions, for none and for several. Doesn't allocate.
     pub fn request_info(&self) -> Result<RequestInfo<'_>, LookupError>
         ensures one { IsOk result ↔ (length self.now.queries.items ≡ 1) }
         ensures ok { IfOk result (λ info. self.now.queries.items ≡ info.query.now ∷ []) }

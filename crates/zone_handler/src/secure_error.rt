@@ -5,7 +5,7 @@
 pub enum SecureError {
     /// The moment is past the year 9999 (253402300799 seconds since 1970).
     TimeOutOfRange,
-    /// The zone is denied by NSEC3, and a CNAME stands at its origin, beside which no NSEC3PARAM may stand.
+    /// The zone is denied by NSEC3, and a CNAME is at its origin, beside which no NSEC3PARAM may stand.
     CnameAtOrigin,
     /// The hash of the zone has no digest of a name.
     Hash,

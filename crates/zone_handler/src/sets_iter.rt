@@ -7,7 +7,7 @@ use crate::lookup_options::LookupOptions;
 use std::marker::Model;
 use zone_proto::{Record, RecordSet, RrsetRecords};
 
-/// Lends the records of several sets, one set after the other, and takes no memory.
+/// Lends the records of several sets, one set after the other, and doesn't allocate.
 #[derive(Drop)]
 pub struct SetsIter<'r> {
     options: LookupOptions,
@@ -28,7 +28,7 @@ impl<'r> Model for SetsIter<'r> {
 
 impl<'r> SetsIter<'r> {
     /// The records of `sets`, which stand from the last to the first, with signatures if `options` ask for DNSSEC; None
-    /// where there is no set.
+    /// if there is no set.
     pub(crate) fn new(options: LookupOptions, sets: &'r [RecordSet]) -> Option<SetsIter<'r>>
         ensures none { IsNone result ↔ (sets.now ≡ []) }
         ensures records { IfSome result (λ it. it ≡ sets_records options (reverse sets.now)) }

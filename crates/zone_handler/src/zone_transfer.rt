@@ -19,7 +19,7 @@ pub struct ZoneTransfer {
 }
 
 impl ZoneTransfer {
-    /// Lends the records of the three parts, one part after the other. Takes no memory.
+    /// Lends the records of the three parts, one part after the other. Doesn't allocate.
     pub fn iter(&self) -> ZoneTransferIter<'_>
         ensures { result ≡ transfer_records self.now }
     {

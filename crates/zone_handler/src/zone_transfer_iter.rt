@@ -8,7 +8,7 @@ use crate::lookup_records_iter::LookupRecordsIter;
 use std::marker::Model;
 use zone_proto::Record;
 
-/// Lends the records of a transfer, and takes no memory.
+/// Lends the records of a transfer, and doesn't allocate.
 #[derive(Drop)]
 pub struct ZoneTransferIter<'r> {
     start: LookupRecordsIter<'r>,

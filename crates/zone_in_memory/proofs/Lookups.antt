@@ -10,10 +10,10 @@ use Rattle.zone_handler.specs.declared.control_flow.LookupControlFlow.TheVariant
 use Rattle.zone_handler.specs.declared.lookup_error.LookupError.{LookupError}
 use Rattle.zone_handler.specs.declared.lookup_options.LookupOptions.{LookupOptions}
 use Rattle.zone_map.specs.Zones.{Sets, owns, owns_at_or_below}
-use Rattle.zone_map.specs.Wildcards.{exists, asked_star_exists, found}
+use Rattle.zone_map.specs.Wildcards.{exists, asked_wildcard_exists, found}
 use Rattle.zone_map.specs.AnyTypes.{searched_type}
 use Rattle.zone_lookup.specs.Flattening.{last_set, beside}
-use Rattle.zone_lookup.specs.FoundSets.{exists_or_star}
+use Rattle.zone_lookup.specs.FoundSets.{exists_or_wildcard}
 use Rattle.zone_lookup.specs.Replies.{negative_answer, is_present, Reply, answered, negative, answer_sets, answer_section, IsAnswer, IsReplyFor, SaysAnswer}
 use Rattle.zone_in_memory.specs.Lookup.{error_of, Says, SaysOrMemory, IsAnswered}
 use Rattle.zone_map.proofs.AnyTypes.{found_owned, searched_owned}
@@ -26,13 +26,13 @@ module _ (sign : RRset → List Record) (m : Sets) (n : Name) (t : ℕ) (options
   owned_is_answered origin step h (inr r) = inr r
   owned_is_answered origin step h (inl (r, is, says)) = by (found m options.dnssec_ok n (searched_type m n t)) (found_owned m options.dnssec_ok n (searched_type m n t) (searched_owned m n t h)) is
     where
-      told : (r q : Reply) → r ≡ q → Says options r step → Says options q step
-      told r q e s = subst (λ x. Says options x step) e s
+      call_concludes : (r q : Reply) → r ≡ q → Says options r step → Says options q step
+      call_concludes r q e s = subst (λ x. Says options x step) e s
 
       by : (o : Option RRset) → is_some o ≡ true → MatchOption o (r ≡ negative (negative_answer origin m n)) (λ s. IsAnswer sign m options.dnssec_ok n (searched_type m n t) s r) → IsAnswered step
       by None k i = absurd (true≢false (sym k))
       by (Some s) k i =
-          let a = told r (answered (answer_section sign m options.dnssec_ok n (searched_type m n t) s i.more) (beside (searched_type m n t) (last_set (answer_sets m options.dnssec_ok n (searched_type m n t) s)) i.more)) i.sections says in
+          let a = call_concludes r (answered (answer_section sign m options.dnssec_ok n (searched_type m n t) s i.more) (beside (searched_type m n t) (last_set (answer_sets m options.dnssec_ok n (searched_type m n t) s)) i.more)) i.sections says in
           inl (a.0, a.1)
 
   -- a found set is answered
@@ -54,21 +54,21 @@ either false false h = refl
 either false true h = cc
 either true c h = cc
 
--- a name is there where it, or the star that is asked for it, exists
-pub existing_is_present : (m : Sets) (n : Name) → exists_or_star m n ≡ true → is_present m n ≡ true
+-- a name is there where it, or the wildcard at its closest encloser, exists
+pub existing_is_present : (m : Sets) (n : Name) → exists_or_wildcard m n ≡ true → is_present m n ≡ true
 existing_is_present m n h = by (exists m n) refl (owns_at_or_below m n) refl
   where
     by : (b : Bool) → exists m n ≡ b → (o : Bool) → owns_at_or_below m n ≡ o → is_present m n ≡ true
-    by b e true o = ap (λ x. x || asked_star_exists m n) o
+    by b e true o = ap (λ x. x || asked_wildcard_exists m n) o
     by true e false o = absurd (true≢false (sym (owned_where_existing n m e) ∙ o))
-    by false e false o = ap (λ x. x || asked_star_exists m n) o ∙ ap (λ x. x || asked_star_exists m n) (sym e) ∙ h
+    by false e false o = ap (λ x. x || asked_wildcard_exists m n) o ∙ ap (λ x. x || asked_wildcard_exists m n) (sym e) ∙ h
 
--- and where neither does, no such star exists
-pub no_star_exists : (m : Sets) (n : Name) → exists_or_star m n ≡ false → asked_star_exists m n ≡ false
-no_star_exists m n h = either (exists m n) (asked_star_exists m n) h
+-- and where neither does, no such wildcard exists
+pub no_star_exists : (m : Sets) (n : Name) → exists_or_wildcard m n ≡ false → asked_wildcard_exists m n ≡ false
+no_star_exists m n h = either (exists m n) (asked_wildcard_exists m n) h
 
 -- without one, a name is there where it, or a name below it, owns a set
-pub present_by_owned : (m : Sets) (n : Name) → asked_star_exists m n ≡ false → is_present m n ≡ owns_at_or_below m n
+pub present_by_owned : (m : Sets) (n : Name) → asked_wildcard_exists m n ≡ false → is_present m n ≡ owns_at_or_below m n
 present_by_owned m n h = ap (λ x. owns_at_or_below m n || x) h ∙ alone (owns_at_or_below m n)
   where
     alone : (b : Bool) → b || false ≡ b

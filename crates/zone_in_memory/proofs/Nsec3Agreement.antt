@@ -18,22 +18,22 @@ use Rattle.zone_handler.specs.Hashing.{digest_for}
 use Rattle.zone_map.specs.AnyTypes.{searched_type}
 use Rattle.zone_map.specs.Zones.{Sets}
 use Rattle.zone_denial.specs.Nsec3Denial.{nsec3_denial}
-use Rattle.zone_denial.specs.Nsec3Laws.{FindsOrEncloses, ProvesStar}
+use Rattle.zone_denial.specs.Nsec3Laws.{FindsOrEncloses, ProvesWildcard}
 use Rattle.zone_denial.specs.Nsec3Lent.{hashed_for, query_denial}
-use Rattle.zone_denial.specs.Nsec3Zones.{IsCircleName, IsHashed, IsNsec3Zone, TellsApart}
-use Rattle.zone_denial.specs.StarLaws.{OwnsNone, Nsec3StarIsDenied}
-use Rattle.zone_denial.proofs.Hashed.Nsec3AskedStar.{absent_star_is_denied}
+use Rattle.zone_denial.specs.Nsec3Zones.{IsCircleName, IsHashed, IsNsec3Zone, HasDistinctDigests}
+use Rattle.zone_denial.specs.WildcardLaws.{OwnsNone, Nsec3DeniesWildcard}
+use Rattle.zone_denial.proofs.Hashed.Nsec3AskedStar.{absent_wildcard_is_denied}
 use Rattle.zone_denial.proofs.Hashed.Nsec3Encloses.{finds_or_encloses}
 use Rattle.zone_denial.proofs.Hashed.Nsec3Star.{proves_star}
 use Rattle.zone_denial.proofs.Hashed.Nsec3Lists.{lists_all_owned, denials_agree}
 use Rattle.zone_lookup.specs.Replies.{name_exists, nx_domain, IsReplyFor}
-use Rattle.denial_laws.specs.Nsec3Acceptance.{IsNsec3Accepted, IsAskedStarAccepted}
-use Rattle.denial_laws.specs.Nsec3Judged.{read_nsec3_sets}
+use Rattle.denial_laws.specs.Nsec3Acceptance.{IsNsec3Accepted, IsAskedWildcardAccepted}
+use Rattle.denial_laws.specs.Nsec3Scope.{read_nsec3_sets}
 use Rattle.denial_laws.proofs.Nsec3CircleLaws.{nsec3_denial_accepted, nsec3_wildcard_answer_accepted}
 use Rattle.zone_in_memory.specs.Lookup.{SaysOrMemory, IsNameError}
 use Rattle.zone_in_memory.specs.AnsweredSets.{AnswersSetsOrMemory}
 use Rattle.zone_in_memory.specs.Handlers.{Zone}
-use Rattle.zone_in_memory.specs.Nsec3Answers.{HasNsec3Proof, HasNsec3StarProof, HasAcceptedNsec3Records, HasAskedStarProof, AgreesWithNsec3Circle}
+use Rattle.zone_in_memory.specs.Nsec3Answers.{HasNsec3Proof, HasNsec3WildcardProof, HasAcceptedNsec3Records, HasAskedWildcardProof, AgreesWithNsec3Circle}
 use Rattle.zone_in_memory.specs.Nsec3Steps.{IsNsec3Answer}
 use Rattle.zone_in_memory.proofs.CircleAgreement.{of_step, of_name_error, name_absent}
 
@@ -49,13 +49,13 @@ module _ (origin : Name) (m : Sets) (hash : Name → Option (List ℕ)) (paramet
         owned = λ ne h. lists_all_owned origin m hash parameters circle n t ne h;
       }
 
-  -- where it answers by a name error, the denial says that there is no star, without opt-out
+  -- where it answers by a name error, the denial says that there is no wildcard, without opt-out
   pub nsec3_absent_star_agrees : (sign : RRset → List Record) (options : LookupOptions) (n : Name) (t : ℕ) (step : LookupControlFlow AuthLookup LookupError) → IsFalse parameters.opt_out → OwnsNone m NSEC
-      → TellsApart (IsHashed origin m parameters.opt_out n) hash → IsFalse (is_wildcard n) → SaysOrMemory options (IsReplyFor sign origin m options.dnssec_ok n (searched_type m n t)) step → IsNameError step
-      → Nsec3StarIsDenied origin m hash parameters.opt_out n
+      → HasDistinctDigests (IsHashed origin m parameters.opt_out n) hash → IsFalse (is_wildcard n) → SaysOrMemory options (IsReplyFor sign origin m options.dnssec_ok n (searched_type m n t)) step → IsNameError step
+      → Nsec3DeniesWildcard origin m hash parameters.opt_out n
   nsec3_absent_star_agrees sign options n t step all_in none apart plain says e =
       let absent = of_name_error sign origin m options n t step says e in
-      absent_star_is_denied origin m hash parameters circle all_in none n absent.inside apart plain absent.unowned absent.no_star
+      absent_wildcard_is_denied origin m hash parameters circle all_in none n absent.inside apart plain absent.unowned absent.no_star
 
   -- nor does the step that breaks a query for a transfer off deny anything
   pub nsec3_transfer_agrees : (n : Name) (t : ℕ) (result : Result AuthLookup LookupError) → AgreesWithNsec3Circle origin m hash parameters.opt_out n t (Break result)
@@ -89,16 +89,16 @@ module _ {S H : Type 0} (digest_of : H → ℕ → List ℕ → Name → ℕ →
 
   pub nsec3_answer_proves : (step : LookupControlFlow AuthLookup LookupError) → IsNsec3Answer digest_of zone query options step
       → (parameters : Nsec3Parameters) → IsNsec3Zone zone.origin zone.inner.records hash parameters → query.has_wildcard_match ≡ false → IsTrue (is_at_or_above zone.origin x)
-      → TellsApart (IsHashed zone.origin zone.inner.records parameters.opt_out x) hash → HasNsec3Proof zone.origin zone.inner.records hash parameters.opt_out x step
+      → HasDistinctDigests (IsHashed zone.origin zone.inner.records parameters.opt_out x) hash → HasNsec3Proof zone.origin zone.inner.records hash parameters.opt_out x step
   nsec3_answer_proves step is parameters circle plain inside apart =
       answers (FindsOrEncloses zone.origin zone.inner.records hash parameters.opt_out x) false plain (finds_or_encloses zone.origin zone.inner.records hash parameters circle x inside apart) step is
 
   pub nsec3_star_proves : (step : LookupControlFlow AuthLookup LookupError) → IsNsec3Answer digest_of zone query options step
       → (parameters : Nsec3Parameters) → IsNsec3Zone zone.origin zone.inner.records hash parameters → query.has_wildcard_match ≡ false → IsTrue (is_at_or_above zone.origin x)
-      → TellsApart (IsHashed zone.origin zone.inner.records parameters.opt_out x) hash → (IsCircleName zone.origin zone.inner.records parameters.opt_out x → ⊥)
-      → HasNsec3StarProof zone.origin zone.inner.records hash parameters.opt_out x step
+      → HasDistinctDigests (IsHashed zone.origin zone.inner.records parameters.opt_out x) hash → (IsCircleName zone.origin zone.inner.records parameters.opt_out x → ⊥)
+      → HasNsec3WildcardProof zone.origin zone.inner.records hash parameters.opt_out x step
   nsec3_star_proves step is parameters circle plain inside apart off =
-      answers (ProvesStar zone.origin zone.inner.records hash parameters.opt_out x) false plain (proves_star zone.origin zone.inner.records hash parameters circle x inside apart off) step is
+      answers (ProvesWildcard zone.origin zone.inner.records hash parameters.opt_out x) false plain (proves_star zone.origin zone.inner.records hash parameters circle x inside apart off) step is
 
   -- a validator accepts their records
   pub nsec3_answer_accepted : (step : LookupControlFlow AuthLookup LookupError) → IsNsec3Answer digest_of zone query options step → query.has_wildcard_match ≡ false
@@ -114,10 +114,10 @@ module _ {S H : Type 0} (digest_of : H → ℕ → List ℕ → Name → ℕ →
   denied_sets sets wildcard is denial = ap (λ w. nsec3_denial zone.inner.records (hashed_for zone.origin (digest_of zone.hash) query) w x) (sym is) ∙ denial
 
   pub nsec3_asked_star_proves : (step : LookupControlFlow AuthLookup LookupError) → IsNsec3Answer digest_of zone query options step → query.has_wildcard_match ≡ true
-      → HasAskedStarProof digest_of zone query step
+      → HasAskedWildcardProof digest_of zone query step
   nsec3_asked_star_proves step (inl (sets, denial, (s, is, has, kept))) wildcard parameters judged t e =
       let law = nsec3_wildcard_answer_accepted zone.origin zone.inner.records hash parameters x judged sets (denied_sets sets true wildcard denial) in
       let section : s ≡ t = cc in
-      subst (λ sets. IsAskedStarAccepted zone.origin zone.inner.records hash parameters.opt_out x (read_nsec3_sets sets)) (sym has ∙ ap sets_in section) law
+      subst (λ sets. IsAskedWildcardAccepted zone.origin zone.inner.records hash parameters.opt_out x (read_nsec3_sets sets)) (sym has ∙ ap sets_in section) law
   nsec3_asked_star_proves step (inr (inl (refusal, denial, is))) wildcard parameters judged t e = absurd cc
   nsec3_asked_star_proves step (inr (inr is)) wildcard parameters judged t e = absurd cc

@@ -22,7 +22,7 @@ use Rattle.zone_map.proofs.Delegations.{found_above}
 use Rattle.zone_denial.specs.Nsec3Circle.{digests, next_digest}
 use Rattle.zone_denial.specs.Nsec3Denial.{closest_encloser, cover_owner, result_and_then, has_match, cover_of, encloser_of, enclosed, next_closer, nsec3_denial}
 use Rattle.zone_denial.specs.Nsec3Names.{nsec3_names}
-use Rattle.zone_denial.specs.Nsec3Zones.{IsNsec3Zone, IsCircleName, IsHashed, TellsApart}
+use Rattle.zone_denial.specs.Nsec3Zones.{IsNsec3Zone, IsCircleName, IsHashed, HasDistinctDigests}
 use Rattle.zone_denial.specs.TypeLists.{in_order}
 use Rattle.zone_denial.proofs.InOrder.{In-in_order}
 use Rattle.zone_denial.proofs.Chain.NsecBelow.{above_at, comparable}
@@ -37,7 +37,7 @@ use Rattle.zone_in_memory.specs.Nsec3Steps.{IsNsec3Answer}
 use Rattle.zone_in_memory.proofs.Nsec3Agreement.{answers}
 
 module _ {origin : Name} {m : Sets} {hash : Name → Option (List ℕ)} {parameters : Nsec3Parameters} {x : Name} (zone : IsNsec3Zone origin m hash parameters)
-    (apart : TellsApart (IsHashed origin m parameters.opt_out x) hash) (below : IsAbove origin x)
+    (apart : HasDistinctDigests (IsHashed origin m parameters.opt_out x) hash) (below : IsAbove origin x)
   where
     abbrev names : List Name
     names = nsec3_names origin m parameters.opt_out
@@ -116,7 +116,7 @@ module _ {origin : Name} {m : Sets} {hash : Name → Option (List ℕ)} {paramet
         longer : Name → Bool
         longer s = length s == suc (length a)
 
-        -- the next closer name stands at or below the encloser
+        -- the next closer name is at or below the encloser
         below_it : (c : Name) → IsAtOrAbove c x → length c ≡ suc (length a) → IsAtOrAbove a c
         below_it c (g, q) h = at (comparable above.0 g a c (sym above.1 ∙ q))
           where

@@ -55,7 +55,7 @@ module _ (digest_of : ℕ → List ℕ → Name → ℕ → Option (List ℕ)) (
         by None = refl
         by (Some s) = refl
 
-    -- and the parameters stand at the origin
+    -- and the parameters are at the origin
     pub nsec3_announced : with_nsec3_sets digest_of origin m p origin NSEC3PARAM ≡ Some announced
     nsec3_announced = ap (λ b. chosen false b origin NSEC3PARAM) ((name_eq-Decides origin origin).1 refl)
 

@@ -23,7 +23,7 @@ use Rattle.zone_map.specs.Zones.{Sets, set_at, owns, IsZone}
 use Rattle.zone_denial.specs.Authority.{owns_besides}
 use Rattle.zone_denial.specs.NsecLaws.{IsNsecZone}
 use Rattle.zone_denial.specs.Nsec3Sets.{HasNsec3Sets}
-use Rattle.zone_denial.specs.Nsec3Zones.{hash_with, IsCircleName, IsNsec3Zone, TellsApart}
+use Rattle.zone_denial.specs.Nsec3Zones.{hash_with, IsCircleName, IsNsec3Zone, HasDistinctDigests}
 use Rattle.zone_denial.proofs.Names.AuthoritativeNames.{same_besides}
 use Rattle.zone_denial.proofs.Chain.NsecSecured.{secured_is_circle}
 use Rattle.zone_denial.proofs.Hashed.Nsec3Secured.{secured_is_nsec3_circle}
@@ -127,7 +127,7 @@ module _ {S : Type 0} (signature_of : S → SignedPart → ℕ → ℕ → Optio
           announced = owned-signed (Some (nsec3_kind p)) h origin NSEC3PARAM ∙ ap is_some (nsec3_announced digest_of origin before p);
         }
 
-    IsNsec3Zone-secured : IsZone after → origin ≢ [] → TellsApart (IsCircleName origin before p.opt_out) (hash_with digest_of p) → IsNsec3Zone origin after (hash_with digest_of p) p
+    IsNsec3Zone-secured : IsZone after → origin ≢ [] → HasDistinctDigests (IsCircleName origin before p.opt_out) (hash_with digest_of p) → IsNsec3Zone origin after (hash_with digest_of p) p
     IsNsec3Zone-secured fresh below_root apart =
         secured_is_nsec3_circle origin before after (hash_with digest_of p) p (minimum before origin) (serial before origin) below_root fresh HasNsec3Sets-secured apart
 

@@ -51,7 +51,7 @@ all_in P x [] a i = absurd i
 all_in P x (y ∷ xs) a (inl e) = subst P e a.0
 all_in P x (y ∷ xs) a (inr i) = all_in P x xs a.1 i
 
--- a key that stands after another isn't that one
+-- a key that comes after another isn't that one
 below : (j k : RrKey) → key_cmp j k ≡ Less → j ≡ k → ⊥
 below j k h e =
     let same : key_cmp j k ≡ Equal = ap (λ q. key_cmp q k) e ∙ tied_itself key_cmp_total k in
@@ -175,7 +175,7 @@ named k s r there i = same_lower r.name s.owner (in_all (λ (q : Record). same_n
 typed_so : (k : RrKey) (s : RRset) (r : Record) → IsStoredAt k.name k.record_type.0 s → In r s.records → type_of r.rdata ≡ k.record_type.0
 typed_so k s r there i = in_all (λ (q : Record). type_of q.rdata ≡ s.record_type) r s.records there.set.types i ∙ there.record_type
 
--- equal records of two sets tell that these stand under one key
+-- equal records of two sets tell that these are under one key
 keys_tell : (e f : RrKey × RRset) (r q : Record) → IsStoredAt e.0.name e.0.record_type.0 e.1 → IsStoredAt f.0.name f.0.record_type.0 f.1 → In r e.1.records → In q f.1.records → same_record r q ≡ true → e.0 ≡ f.0
 keys_tell e f r q there here i j h =
     let names : lower r.name ≡ lower q.name = same_lower r.name q.name (and_left (same_name r.name q.name) ((r.dns_class.0 == q.dns_class.0) && same_data r.rdata q.rdata) h) in

@@ -17,16 +17,16 @@ use Rattle.zone_map.specs.AnyTypes.{searched_type}
 use Rattle.zone_map.specs.Wildcards.{found}
 use Rattle.zone_map.specs.Zones.{Sets}
 use Rattle.zone_denial.specs.Nsec3Lent.{hashed_for, query_denial}
-use Rattle.zone_denial.specs.Nsec3Zones.{IsNsec3Zone, IsHashed, TellsApart, hash_with}
+use Rattle.zone_denial.specs.Nsec3Zones.{IsNsec3Zone, IsHashed, HasDistinctDigests, hash_with}
 use Rattle.zone_denial.specs.NsecLaws.{IsNsecZone}
 use Rattle.zone_denial.proofs.Names.LongestAncestors.{above_below}
 use Rattle.zone_denial.proofs.Hashed.Nsec3Encloses.{finds_or_encloses}
 use Rattle.zone_denial.proofs.Chain.NsecBelow.{above_at}
 use Rattle.zone_lookup.specs.Replies.{NegativeAnswer, name_exists, nx_domain, negative_answer, negative, IsAnswer, IsReplyFor}
 use Rattle.denial_validation.specs.Judgement.{nsec3_proof}
-use Rattle.denial_laws.specs.Judged.{read, denial_records, IsJudged}
-use Rattle.denial_laws.specs.Nsec3Calls.{told}
-use Rattle.denial_laws.specs.Nsec3Judged.{read_nsec3_sets, IsNsec3Judged}
+use Rattle.denial_laws.specs.Scope.{read, denial_records, IsInScope}
+use Rattle.denial_laws.specs.Nsec3Calls.{call_concludes}
+use Rattle.denial_laws.specs.Nsec3Scope.{read_nsec3_sets, IsInNsec3Scope}
 use Rattle.denial_laws.specs.Nsec3Soundness.{IsOptOutSound, Nsec3NothingProved}
 use Rattle.denial_laws.specs.Soundness.{IsWithoutData, IsTopmostCut, NothingProved}
 use Rattle.denial_laws.proofs.CircleLaws.{nothing_below_cut, name_error_sound, no_data_sound, empty_sound, empty_without_data, wildcard_no_data_sound}
@@ -81,19 +81,19 @@ module _ {S H : Type 0} (digest_of : H → ℕ → List ℕ → Name → ℕ →
     same_hash : digest_for (digest_of zone.hash) query ≡ hash_with (digest_of zone.hash) parameters
     same_hash = λ i n. digest_of zone.hash (by.algorithm i) (by.salt i) n (by.iterations i)
 
-    found_in : IsNsec3Zone zone.origin zone.inner.records hash parameters → TellsApart (IsHashed zone.origin zone.inner.records parameters.opt_out x) hash → (sets : List RRset)
+    found_in : IsNsec3Zone zone.origin zone.inner.records hash parameters → HasDistinctDigests (IsHashed zone.origin zone.inner.records parameters.opt_out x) hash → (sets : List RRset)
         → query_denial (digest_of zone.hash) zone.origin zone.inner.records query ≡ Ok sets → (t : ℕ)
-        → told (digest_of zone.hash) zone.origin (flat_map (λ (set : RRset). set.records) sets) x t ≡ nsec3_proof zone.origin hash (read_nsec3_sets sets) x t
+        → call_concludes (digest_of zone.hash) zone.origin (flat_map (λ (set : RRset). set.records) sets) x t ≡ nsec3_proof zone.origin hash (read_nsec3_sets sets) x t
     found_in circle apart sets denial t =
         nsec3_parameters_found zone.origin zone.inner.records (digest_of zone.hash) parameters (flat_map (λ (set : RRset). set.records) sets) x t
-        (subst (λ k. IsNsec3Zone zone.origin zone.inner.records k parameters) same_hash circle) (subst (TellsApart (IsHashed zone.origin zone.inner.records parameters.opt_out x)) same_hash apart)
+        (subst (λ k. IsNsec3Zone zone.origin zone.inner.records k parameters) same_hash circle) (subst (HasDistinctDigests (IsHashed zone.origin zone.inner.records parameters.opt_out x)) same_hash apart)
         (denial_stands zone.inner.records (hashed_for zone.origin (digest_of zone.hash) query) query.has_wildcard_match x sets denial)
         ∙ ap (λ k. nsec3_proof zone.origin k (read_nsec3_sets sets) x t) (sym same_hash)
 
   pub nsec3_finds_parameters : (step : LookupControlFlow AuthLookup LookupError) → IsNsec3Answer digest_of zone query options step → HasFoundParameters digest_of zone query step
   nsec3_finds_parameters step (inl (sets, denial, (s, is, has, kept))) parameters by circle apart k e t =
       let section : s ≡ k = cc in
-      subst (λ sets. told (digest_of zone.hash) zone.origin (flat_map (λ (set : RRset). set.records) sets) x t ≡ nsec3_proof zone.origin hash (read_nsec3_sets sets) x t) (sym has ∙ ap sets_in section)
+      subst (λ sets. call_concludes (digest_of zone.hash) zone.origin (flat_map (λ (set : RRset). set.records) sets) x t ≡ nsec3_proof zone.origin hash (read_nsec3_sets sets) x t) (sym has ∙ ap sets_in section)
       (found_in parameters by circle apart sets denial t)
   nsec3_finds_parameters step (inr (inl (refusal, denial, is))) parameters by circle apart k e t = absurd cc
   nsec3_finds_parameters step (inr (inr is)) parameters by circle apart k e t = absurd cc
@@ -127,7 +127,7 @@ module _ (sign : RRset → List Record) (origin : Name) (m : Sets) (options : Lo
     exists_without : IsWithoutData origin m n t → DeniesOrMemory name_exists step
     exists_without w = denied name_exists (w.nothing options.dnssec_ok) w.there
 
-    pub proofs_agree : IsJudged origin m n → AgreesWithProofs origin m n t step
+    pub proofs_agree : IsInScope origin m n → AgreesWithProofs origin m n t step
     proofs_agree j = record {
       error = λ rs of_zone p. let e = name_error_sound origin m rs n j of_zone p in denied nx_domain (e.nothing options.dnssec_ok (searched_type m n t)) e.denied;
       empty = λ rs of_zone p. exists_without (empty_without_data origin m n j (empty_sound origin m rs n j of_zone p) t);
@@ -135,7 +135,7 @@ module _ (sign : RRset → List Record) (origin : Name) (m : Sets) (options : Lo
       wildcard_data = λ rs of_zone plain flat p. exists_without (wildcard_no_data_sound origin m rs n t j of_zone plain flat p).none;
     }
 
-    pub nsec3_proofs_agree : (hash : Name → Option (List ℕ)) (parameters : Nsec3Parameters) → IsNsec3Judged origin m hash parameters n → AgreesWithNsec3Proofs origin m hash parameters.opt_out n t step
+    pub nsec3_proofs_agree : (hash : Name → Option (List ℕ)) (parameters : Nsec3Parameters) → IsInNsec3Scope origin m hash parameters n → AgreesWithNsec3Proofs origin m hash parameters.opt_out n t step
     nsec3_proofs_agree hash parameters j = record {
       error = λ rs of_zone p. let e = nsec3_name_error_sound origin m hash parameters rs n j of_zone p in denied nx_domain (e.nothing options.dnssec_ok (searched_type m n t)) e.denied;
       data' = λ rs of_zone flat p. exists_without (nsec3_no_data_sound origin m hash parameters rs n t j of_zone flat p);

@@ -1,4 +1,4 @@
--- A zone made of record sets that are handed in by their keys
+-- A zone made of record sets that are passed in by their keys
 use Rattle.std.specs.Prelude.{ℕ, Bool, ◌&&◌, ◌==◌, if◌then◌else◌, List, [], ◌∷◌, Option, Some, None, Result, Ok, Err}
 use Rattle.std.specs.List.{list_all}
 use Rattle.std.specs.Map.{values_of}
@@ -32,6 +32,6 @@ abbrev pub made_with : Name → Sets → Option SoaData → Result Sets ZoneErro
 made_with origin m None = Err (MissingSoa origin)
 made_with origin m (Some a) = if list_all is_own_key m then inserted_sets origin a.serial [] (values_of m) else Err KeyMismatch
 
--- the map that a zone of an origin has, made of the sets handed in, or the first refusal
+-- the map that a zone of an origin has, made of the sets passed in, or the first refusal
 abbrev pub made : Name → Sets → Result Sets ZoneError
 made origin m = made_with origin m (soa m (lower origin))

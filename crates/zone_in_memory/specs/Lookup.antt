@@ -36,7 +36,9 @@ Says options (answered answers more) step = (a : AuthLookup) × (step ≡ Contin
 abbrev pub SaysOrMemory : LookupOptions → (Reply → Type 0) → LookupControlFlow AuthLookup LookupError → Type 0
 SaysOrMemory options IsTheReply step = ((r : Reply) × IsTheReply r × Says options r step) ⊎ (step ≡ Continue (Err error.Memory))
 
--- how a lookup in a zone may answer: a query for the whole zone is broken off, and never for want of memory; any other is answered by its reply, in which a set that the answer makes has the signatures of the zone's signers, or by want of memory
+-- how a lookup in a zone may answer: a query for the whole zone is broken off, and never for lack of memory; any other
+-- is answered by its reply, in which a set that the answer makes has the signatures of the zone's signers, or by lack
+-- of memory
 abbrev pub IsLookup : {S H : Type 0} → (S → SignedPart → ℕ → ℕ → Option RRSIG) → Zone S H → Name → ℕ → LookupOptions → ℕ → LookupControlFlow AuthLookup LookupError → Type 0
 IsLookup signature_of zone n t options now step =
     MatchBool (t == AXFR) (IsNoLookup step)

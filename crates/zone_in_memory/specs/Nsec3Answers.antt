@@ -18,10 +18,10 @@ use Rattle.zone_handler.specs.Answers.{sets_in}
 use Rattle.zone_handler.specs.Hashing.{digest_for}
 use Rattle.zone_map.specs.Zones.{Sets, owns}
 use Rattle.zone_denial.specs.Nsec3Denial.{closest_encloser, next_closer}
-use Rattle.zone_denial.specs.Nsec3Laws.{types3_of, IsSetOf, CoversName, FindsOrEncloses, ProvesStar, IsNsec3Listed}
-use Rattle.zone_denial.specs.Nsec3Zones.{IsNsec3Zone, IsCircleName, IsHashed, TellsApart}
-use Rattle.denial_laws.specs.Nsec3Acceptance.{IsNsec3Accepted, IsAskedStarAccepted}
-use Rattle.denial_laws.specs.Nsec3Judged.{read_nsec3_sets, IsNsec3Judged}
+use Rattle.zone_denial.specs.Nsec3Laws.{types3_of, IsSetOf, CoversName, FindsOrEncloses, ProvesWildcard, IsNsec3Listed}
+use Rattle.zone_denial.specs.Nsec3Zones.{IsNsec3Zone, IsCircleName, IsHashed, HasDistinctDigests}
+use Rattle.denial_laws.specs.Nsec3Acceptance.{IsNsec3Accepted, IsAskedWildcardAccepted}
+use Rattle.denial_laws.specs.Nsec3Scope.{read_nsec3_sets, IsInNsec3Scope}
 use Rattle.zone_in_memory.specs.AnsweredSets.{AnswersSetsOrMemory}
 use Rattle.zone_in_memory.specs.Handlers.{Zone}
 
@@ -30,9 +30,10 @@ module _ (origin : Name) (m : Sets) (hash : Name → Option (List ℕ)) (opt_out
   abbrev pub HasNsec3Proof : LookupControlFlow AuthLookup LookupError → Type 0
   HasNsec3Proof step = AnswersSetsOrMemory (FindsOrEncloses origin m hash opt_out n) step
 
-  -- an answer that has the NSEC3 set of the star under the closest encloser of n, or one that covers the star; or no memory
-  abbrev pub HasNsec3StarProof : LookupControlFlow AuthLookup LookupError → Type 0
-  HasNsec3StarProof step = AnswersSetsOrMemory (ProvesStar origin m hash opt_out n) step
+  -- an answer that has the NSEC3 set of the wildcard at the closest encloser of n, or one that covers the wildcard; or
+  -- no memory
+  abbrev pub HasNsec3WildcardProof : LookupControlFlow AuthLookup LookupError → Type 0
+  HasNsec3WildcardProof step = AnswersSetsOrMemory (ProvesWildcard origin m hash opt_out n) step
 
   -- sets have one that covers the next closer name of n, which is one label longer than the closest encloser (RFC 5155 section 1.3)
   pub record CoversNextCloser (sets : List RRset) : Type 0 where
@@ -44,7 +45,9 @@ module _ (origin : Name) (m : Sets) (hash : Name → Option (List ℕ)) (opt_out
     pub covers : CoversName origin m hash cover closer
     pub has_cover : Contains sets cover
 
-  -- how a lookup of n and t agrees with a circle of NSEC3 sets: a name that is denied isn't on it; a type that is denied of a name on it isn't in the list of that name, RRSIG aside; and what is owned, NSEC3 aside, is listed, or stands below a zone cut, or is an unsigned delegation that opt-out leaves out
+  -- how a lookup of n and t agrees with a circle of NSEC3 sets: a name that is denied isn't on it; a type that is
+  -- denied of a name on it isn't in the list of that name, RRSIG aside; and what is owned, NSEC3 aside, is listed, or
+  -- is below a zone cut, or is an unsigned delegation that opt-out leaves out
   pub record AgreesWithNsec3Circle (t : ℕ) (step : LookupControlFlow AuthLookup LookupError) : Type 0 where
     pub name : step ≡ Continue (Err (error.ResponseCode code.NXDomain)) → IsCircleName origin m opt_out n → ⊥
     pub type' : step ≡ Continue (Err error.NameExists) → IsCircleName origin m opt_out n → (s : RRset) (types : List ℕ) → IsSetOf origin m hash n s → types3_of s ≡ Some types → Contains types t → t ≡ RRSIG
@@ -57,17 +60,18 @@ module _ {S H : Type 0} (digest_of : H → ℕ → List ℕ → Name → ℕ →
 
   -- an answer of whose records a validator makes what the zone has of the name, or no memory
   abbrev pub HasAcceptedNsec3Records : Type 0
-  HasAcceptedNsec3Records = (parameters : Nsec3Parameters) → IsNsec3Judged zone.origin zone.inner.records hash parameters query.qname.now
+  HasAcceptedNsec3Records = (parameters : Nsec3Parameters) → IsInNsec3Scope zone.origin zone.inner.records hash parameters query.qname.now
       → AnswersSetsOrMemory (λ sets. IsNsec3Accepted zone.origin zone.inner.records hash parameters.opt_out query.qname.now (read_nsec3_sets sets)) step
 
-  -- the records of the answer that is given, if one is, prove that the star that is asked for the name may answer, and what they prove is so
-  abbrev pub HasAskedStarProof : Type 0
-  HasAskedStarProof = (parameters : Nsec3Parameters) → IsNsec3Judged zone.origin zone.inner.records hash parameters query.qname.now
-      → (s : LookupRecords) → step ≡ Continue (Ok (answer.Records s None)) → IsAskedStarAccepted zone.origin zone.inner.records hash parameters.opt_out query.qname.now (read_nsec3_sets (sets_in s))
+  -- the records of the answer that is given, if one is, prove that the wildcard at the closest encloser of the name may
+  -- answer, and what they prove is so
+  abbrev pub HasAskedWildcardProof : Type 0
+  HasAskedWildcardProof = (parameters : Nsec3Parameters) → IsInNsec3Scope zone.origin zone.inner.records hash parameters query.qname.now
+      → (s : LookupRecords) → step ≡ Continue (Ok (answer.Records s None)) → IsAskedWildcardAccepted zone.origin zone.inner.records hash parameters.opt_out query.qname.now (read_nsec3_sets (sets_in s))
 
   -- below the origin of a zone whose NSEC3 sets are a circle by a hash that tells names apart: an answer, also where a wildcard answered for the name; its sets cover the next closer name, unless the name is on the circle; or no memory
   abbrev pub HasNextCloser : Type 0
   HasNextCloser = (parameters : Nsec3Parameters) → IsNsec3Zone zone.origin zone.inner.records hash parameters
-      → TellsApart (IsHashed zone.origin zone.inner.records parameters.opt_out query.qname.now) hash → IsTrue (is_above zone.origin query.qname.now)
+      → HasDistinctDigests (IsHashed zone.origin zone.inner.records parameters.opt_out query.qname.now) hash → IsTrue (is_above zone.origin query.qname.now)
       → AnswersSetsOrMemory (λ sets. (IsCircleName zone.origin zone.inner.records parameters.opt_out query.qname.now → ⊥)
       → CoversNextCloser zone.origin zone.inner.records hash parameters.opt_out query.qname.now sets) step

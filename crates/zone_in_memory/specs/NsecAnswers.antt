@@ -2,7 +2,7 @@
 use Rattle.std.specs.Prelude.{◌≡◌, ◌⊎◌, ℕ, List, [], Some, None, Ok, Err, MatchOption, IsTrue, IsFalse}
 use Rattle.std.specs.List.{Contains}
 use Rattle.zone_proto.specs.declared.response_code.ResponseCode.TheVariants as code
-use Rattle.zone_proto.specs.Names.{Name, is_above, is_at_or_above, star_under}
+use Rattle.zone_proto.specs.Names.{Name, is_above, is_at_or_above, wildcard_under}
 use Rattle.zone_proto.specs.Sets.{RRset}
 use Rattle.zone_proto.specs.Types.{NSEC, RRSIG}
 use Rattle.zone_handler.specs.declared.auth_lookup.AuthLookup.{AuthLookup}
@@ -21,7 +21,7 @@ use Rattle.zone_denial.specs.NsecCircle.{types_of}
 use Rattle.zone_denial.specs.NsecDenial.{nsec_encloser, nsec_denial}
 use Rattle.zone_denial.specs.NsecLaws.{LastCovers, FindsOrCovers, HasOwnOrCover, IsListed}
 use Rattle.denial_laws.specs.Acceptance.{IsAccepted}
-use Rattle.denial_laws.specs.Judged.{read}
+use Rattle.denial_laws.specs.Scope.{read}
 use Rattle.zone_in_memory.specs.AnsweredSets.{AnswersSetsOrMemory}
 use Rattle.zone_in_memory.specs.Handlers.{Zone}
 
@@ -35,7 +35,9 @@ abbrev pub IsNsecAnswer : {S H : Type 0} → Zone S H → Name → LookupOptions
 IsNsecAnswer zone n options step =
     ((s : LookupRecords) × (step ≡ Continue (Ok (answer.Records s None))) × IsDenialSection zone.origin zone.inner.records options n s) ⊎ (step ≡ Continue (Err error.Memory))
 
--- what the sets of an answer say of n, where the NSEC sets are a circle and n is a name of the zone: its own set is found, or the last set covers it; where neither it nor a name below it owns a set, no name at or below it comes next; and where it is an empty name with no zone cut above it, a name below it does
+-- what the sets of an answer say of n, where the NSEC sets are a circle and n is a name of the zone: its own set is
+-- found, or the last set covers it; where neither it nor a name below it owns a set, no name at or below it comes next;
+-- and where it is an empty non-terminal with no zone cut above it, a name below it does
 pub record IsNsecProof (origin : Name) (m : Sets) (n : Name) (sets : List RRset) : Type 0 where
   pub covered : FindsOrCovers m n sets
   pub absent : IsFalse (owns_at_or_below m n) → (next : Name) × LastCovers sets n next × IsFalse (is_at_or_above n next)
@@ -45,15 +47,18 @@ pub record IsNsecProof (origin : Name) (m : Sets) (n : Name) (sets : List RRset)
 abbrev pub HasNsecProof : Name → Sets → Name → LookupControlFlow AuthLookup LookupError → Type 0
 HasNsecProof origin m n step = AnswersSetsOrMemory (IsNsecProof origin m n) step
 
--- an answer that has the NSEC set of the star under the closest encloser of n, where that star has one, and else a set that covers the star; or no memory
-abbrev pub HasStarProof : Name → Sets → Name → LookupControlFlow AuthLookup LookupError → Type 0
-HasStarProof origin m n step = AnswersSetsOrMemory (HasOwnOrCover m (star_under (nsec_encloser origin m n))) step
+-- an answer that has the NSEC set of the wildcard at the closest encloser of n, where that wildcard has one, and else a
+-- set that covers the wildcard; or no memory
+abbrev pub HasWildcardProof : Name → Sets → Name → LookupControlFlow AuthLookup LookupError → Type 0
+HasWildcardProof origin m n step = AnswersSetsOrMemory (HasOwnOrCover m (wildcard_under (nsec_encloser origin m n))) step
 
 -- an answer of whose records a validator makes what the zone has of n, or no memory
 abbrev pub HasAcceptedRecords : Name → Sets → Name → LookupControlFlow AuthLookup LookupError → Type 0
 HasAcceptedRecords origin m n step = AnswersSetsOrMemory (λ sets. IsAccepted origin m n (read sets)) step
 
--- how a lookup of n and t agrees with a circle of NSEC sets: a name that is denied isn't on it, and no name at or below that one comes next in its denial; a type that is denied isn't in the list of the name, RRSIG aside; and what is owned is listed, or stands below a zone cut
+-- how a lookup of n and t agrees with a circle of NSEC sets: a name that is denied isn't on it, and no name at or below
+-- that one comes next in its denial; a type that is denied isn't in the list of the name, RRSIG aside; and what is
+-- owned is listed, or is below a zone cut
 pub record AgreesWithCircle (origin : Name) (m : Sets) (n : Name) (t : ℕ) (step : LookupControlFlow AuthLookup LookupError) : Type 0 where
   pub name : step ≡ Continue (Err (error.ResponseCode code.NXDomain))
       → IsFalse (owns m n NSEC) × ((next : Name) × LastCovers (nsec_denial origin m n) n next × IsFalse (is_at_or_above n next))

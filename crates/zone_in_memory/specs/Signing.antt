@@ -17,7 +17,7 @@ use Rattle.zone_handler.specs.declared.secure_error.SecureError.TheVariants as s
 use Rattle.zone_map.specs.Upserts.{upserted, CnamesStandAlone}
 use Rattle.zone_denial.specs.Authority.{owns_besides}
 use Rattle.zone_denial.specs.NsecLaws.{IsNsecZone}
-use Rattle.zone_denial.specs.Nsec3Zones.{hash_with, IsCircleName, IsNsec3Zone, TellsApart}
+use Rattle.zone_denial.specs.Nsec3Zones.{hash_with, IsCircleName, IsNsec3Zone, HasDistinctDigests}
 use Rattle.zone_signing.specs.Secured.{IsSecured, KeepsRecords}
 use Rattle.zone_signing.specs.Signatures.{last_moment}
 use Rattle.zone_lookup.specs.Securing.{denied_by, nsec3_kind, denial_fault, to_be_signed}
@@ -34,7 +34,7 @@ module _ {S H : Type 0} where
   pub record IsToBeHashed (digest_of : H → ℕ → List ℕ → Name → ℕ → Option (List ℕ)) (zone : Zone S H) (parameters : Nsec3Parameters) : Type 0 where
     pub made : denied_by zone.kind zone.inner.signers ≡ Some (nsec3_kind parameters)
     pub below_root : zone.origin ≢ []
-    pub apart : TellsApart (IsCircleName zone.origin zone.inner.records parameters.opt_out) (hash_with (digest_of zone.hash) parameters)
+    pub apart : HasDistinctDigests (IsCircleName zone.origin zone.inner.records parameters.opt_out) (hash_with (digest_of zone.hash) parameters)
 
   -- a signer's key as a record (RFC 4034 section 2): at the zone's origin, of class IN, with the zone's minimum as its TTL
   abbrev pub key_record : Zone S H → DNSKEY → Record
@@ -49,14 +49,19 @@ module _ {S H : Type 0} where
     };
   }
 
-  -- of the zone before, a signer, the answer, and the zone after: what the signer's key is decides, and where the signer has none, or no memory is found, the zone is as it was; CNAMEs that stood alone still do
+  -- of the zone before, a signer, the answer, and the zone after: what the signer's key is decides, and where the
+  -- signer has none, or there isn't enough memory, the zone is as it was; CNAMEs that were alone still do
   pub record IsKeyAdded {A : Type 0} (key_of : S → Option DNSKEY) (old : Zone S H) (signer : S) (result : Result A KeyError) (new : Zone S H) : Type 0 where
     pub ok : OnOk result ((key : DNSKEY) × (key_of signer ≡ Some key) × (new ≡ with_key old signer key))
     pub cnames : CnamesStandAlone old.inner.records → CnamesStandAlone new.inner.records
     pub err : IfErr result (λ error. (error ≡ key_error.Memory) ⊎ ((error ≡ key_error.NoKey) × (key_of signer ≡ None)))
     pub same : OnErr result (new ≡ old)
 
-  -- of the zone before, the moment, the answer, and the zone after: its sets are secured, so that denials and signatures aside the records are as before and the SOA has the next serial; where NSEC or NSEC3 is to deny, its denial sets are a closed circle through exactly the names that they are to have; all else of the zone stays; a moment past the year 9999 is refused, then what keeps a zone from getting NSEC3 sets, and else there may be no memory; after a refusal the zone is as it was; CNAMEs that stood alone still do
+  -- of the zone before, the moment, the answer, and the zone after: its sets are secured, so that denials and
+  -- signatures aside the records are as before and the SOA has the next serial; where NSEC or NSEC3 is to deny, its
+  -- denial sets are a closed circle through exactly the names that they are to have; all else of the zone stays; a
+  -- moment past the year 9999 is refused, then what keeps a zone from getting NSEC3 sets, and else there may be no
+  -- memory; after a refusal the zone is as it was; CNAMEs that were alone still do
   pub record IsSecuring {A : Type 0} (signature_of : S → SignedPart → ℕ → ℕ → Option RRSIG) (digest_of : H → ℕ → List ℕ → Name → ℕ → Option (List ℕ)) (old : Zone S H) (now : ℕ) (result : Result A SecureError) (new : Zone S H) : Type 0 where
     pub secured : OnOk result (IsSecured signature_of now old.origin old.inner.signers (to_be_signed (digest_of old.hash) old.origin old.inner.records old.kind old.inner.signers) new.inner.records)
     pub records : OnOk result (KeepsRecords old.origin (to_be_signed (digest_of old.hash) old.origin old.inner.records old.kind old.inner.signers) new.inner.records)

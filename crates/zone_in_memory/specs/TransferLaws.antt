@@ -15,7 +15,7 @@ use Rattle.zone_map.specs.Direct.{is_delegated}
 use Rattle.zone_map.specs.Zones.{Sets, set_at, owns, IsZone}
 use Rattle.zone_in_memory.specs.Transfers.{plain, IsTransfer}
 
--- the zone has this SOA set: it stands at the origin, which is no alias, and nothing above the origin is a cut
+-- the zone has this SOA set: it is at the origin, which is no alias, and nothing above the origin is a cut
 pub record HasSoa (m : Sets) (origin : Name) (s : RRset) : Type 0 where
   pub stored : set_at m origin SOA ≡ Some s
   pub no_alias : owns m origin CNAME ≡ false
@@ -33,6 +33,6 @@ HasEachRecord = (sign : LookupOptions → RRset → List Record) (origin : Name)
     → IsZone m → IsTransfer sign origin m options t
     → (r : Record) → Contains t.records r ↔ ((n : Name) × (u : ℕ) × (s : RRset) × (set_at m n u ≡ Some s) × Contains (set_records options s) r × (type_of r.rdata ≢ SOA))
 
--- and stands there once: no two of them are equal, where no signatures are asked for
+-- and is there once: no two of them are equal, where no signatures are asked for
 abbrev pub HasNoneTwice : Type 0
 HasNoneTwice = (sign : LookupOptions → RRset → List Record) (origin : Name) (m : Sets) (t : ZoneTransfer) → IsZone m → IsTransfer sign origin m plain t → IsDistinct same_record t.records

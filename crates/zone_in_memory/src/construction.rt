@@ -1,4 +1,4 @@
-//! A zone's record sets, made of sets that are handed in by their keys.
+//! A zone's record sets, made of sets that are passed in by their keys.
 ghost use Rattle.std.specs.Prelude.{◌≡◌, ◌⊎◌, [], true, Some, Ok, Err, IfOk, IfErr, IsErr, IsOkUnless, is_some, option_copied};
 ghost use Rattle.std.specs.BTreeMap.{values};
 ghost use Rattle.std.specs.List.{list_all};
@@ -17,8 +17,7 @@ use zone_lookup::start_of_authority::first_soa;
 use zone_map::RecordMap;
 use zone_proto::{DNSClass, LowerName, Name, ProtoError, RecordSet, RrKey, SOA};
 
-/// The map of a zone of `origin`, whose SOA stands under the key `apex`, made of sets by their keys; or the first
-/// refusal.
+/// The map of a zone of `origin`, whose SOA is under the key `apex`, made of sets by their keys; or the first refusal.
 pub(crate) fn make(
     origin: &Name,
     apex: &RrKey,

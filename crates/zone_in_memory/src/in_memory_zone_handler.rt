@@ -9,7 +9,7 @@ ghost use Rattle.zone_map.specs.AnyTypes.{searched_type};
 ghost use Rattle.zone_in_memory.specs.Construction.{made};
 ghost use Rattle.zone_signing.specs.Signatures.{answer_signatures};
 ghost use Rattle.zone_map.specs.Upserts.{CnamesStandAlone};
-ghost use Rattle.zone_map.specs.Wildcards.{asked_star_exists};
+ghost use Rattle.zone_map.specs.Wildcards.{asked_wildcard_exists};
 ghost use Rattle.zone_map.specs.Zones.{IsZone};
 
 mod changes;
@@ -39,7 +39,7 @@ const CLASS: DNSClass = DNSClass::IN;
 ///
 /// `S` is what signs its record sets, and `H` hashes the names of NSEC3 denials.
 pub struct InMemoryZoneHandler<S: Signer, H: Nsec3Hash> {
-    // The key of the zone's SOA, whose name is the origin: a look-up of the serial then needs no key of its own.
+    // The key of the zone's SOA, whose name is the origin: a lookup of the serial then needs no key of its own.
     apex: RrKey,
     class: DNSClass,
     zone_type: ZoneType,
@@ -84,7 +84,7 @@ impl<S: Signer, H: Nsec3Hash> Model for InMemoryZoneHandler<S, H> {
 }
 
 impl<S: Signer, H: Nsec3Hash> InMemoryZoneHandler<S, H> {
-    /// A zone without records and signers, of class IN. This takes no memory.
+    /// A zone without records and signers, of class IN. This doesn't allocate.
     ///
     /// `origin` is the name at its top, `zone_type` what the server is to it, `axfr_policy` who may transfer it,
     /// `nx_proof_kind` how it denies once it is signed, and `hash` what its NSEC3 denials are hashed by.
@@ -122,9 +122,9 @@ impl<S: Signer, H: Nsec3Hash> InMemoryZoneHandler<S, H> {
     /// A zone made of record sets by their keys, without signers, of class IN.
     ///
     /// The records of the sets are inserted in the order of the keys and without their signatures, each with the serial
-    /// of the SOA that is handed in; a set without records adds nothing. Refused, in this order: `MissingSoa` where no
-    /// set stands under the origin and SOA whose first record is SOA data; `KeyMismatch` where a key isn't its set's
-    /// own owner name, in lower case, and type; `Refused`, with the set's owner and type, for the first set of which a
+    /// of the SOA that is passed in; a set without records adds nothing. Refused, in this order: `MissingSoa` where no
+    /// set is under the origin and SOA whose first record is SOA data; `KeyMismatch` where a key isn't its set's own
+    /// owner name, in lower case, and type; `Refused`, with the set's owner and type, for the first set of which a
     /// record isn't taken, as [`InMemoryZoneHandler::upsert`] says. `Memory` may come instead of any of these.
     pub fn new(
         origin: Name,
@@ -268,9 +268,9 @@ impl<S: Signer, H: Nsec3Hash> InMemoryZoneHandler<S, H> {
         Ok(record_type)
     }
 
-    /// The negative answer for a name that has no star which exists. Refused by `Memory` alone.
+    /// The negative answer for a name that has no wildcard which exists. Its only error is `Memory`.
     fn negative_answer(&self, name: &LowerName) -> Result<LookupError, LookupError>
-        requires no_star { asked_star_exists self.now.inner.records name.now ≡ false }
+        requires no_star { asked_wildcard_exists self.now.inner.records name.now ≡ false }
         ensures answer { IfOk result
             (λ error. error
             ≡ error_of (negative_answer self.now.origin self.now.inner.records name.now)) }

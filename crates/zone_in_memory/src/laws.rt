@@ -10,7 +10,7 @@ ghost use Rattle.zone_proto.specs.Names.{Name, IsName, IsLowerName, name_cmp, lo
 ghost use Rattle.zone_proto.specs.Order.{is_upto};
 ghost use Rattle.zone_proto.specs.Sets.{RRset};
 ghost use Rattle.zone_map.specs.Direct.{is_delegated_for, nearest_delegation};
-ghost use Rattle.zone_map.specs.SearchLaws.{StarIsOfClosestEncloser, ChainIsLongestFront, ChainHasAtMost8};
+ghost use Rattle.zone_map.specs.SearchLaws.{WildcardIsOfClosestEncloser, ChainIsLongestFront, ChainHasAtMost8};
 ghost use Rattle.zone_map.specs.Upserts.{upserted};
 ghost use Rattle.zone_map.specs.Zones.{Sets, set_at, owns, names_of, owners, types_at, put, without, IsStoredAt, IsZone};
 ghost use Rattle.zone_in_memory.specs.CircleLaws.{UntakenKeepsCircle, RefusedKeyKeepsCircle, RefusedSecuringKeepsCircle};
@@ -21,8 +21,8 @@ pub use denial_laws::laws::{
     name_errors_are_accepted, name_errors_are_sound, nothing_is_proved_elsewhere,
     nsec3_absences_are_sound, nsec3_absent_data_are_sound, nsec3_denials_are_accepted,
     nsec3_name_errors_are_sound, nsec3_nothing_is_proved_elsewhere,
-    nsec3_starred_errors_are_accepted, nsec3_unsigned_delegations_are_sound,
-    nsec3_wildcard_answers_are_accepted, nsec3_wildcard_answers_are_sound,
+    nsec3_unsigned_delegations_are_sound, nsec3_wildcard_answers_are_accepted,
+    nsec3_wildcard_answers_are_sound, nsec3_wildcard_errors_are_accepted,
     unsigned_delegations_are_accepted, unsigned_delegations_are_sound,
     wildcard_answers_are_accepted, wildcard_answers_are_sound,
 };
@@ -31,8 +31,8 @@ pub use zone_lookup::laws::{
 };
 use zone_proto::{Nsec3Hash, Signer};
 
-/// A zone may have no sets, and its sets stay those of a zone when a set is put under its own owner and type, when one is
-/// taken out, and when a record is inserted.
+/// A zone may have no sets, and its sets remain those of a zone when a set is put under its own owner and type, when one is
+/// removed, and when a record is inserted.
 pub fn zones_stay_zones()
     ensures empty { IsZone [] }
     ensures put { (m : Sets) (n : Name) (t : ℕ) (s : RRset) → IsZone m → IsStoredAt n t s
@@ -42,7 +42,7 @@ pub fn zones_stay_zones()
         → IsName (lower r.name) → upserted m class r serial ≡ Some after → IsZone after }
 {}
 
-/// In a zone an owner is a name in lower case, and each record of a set is of the type that the set stands under.
+/// In a zone an owner is a name in lower case, and each record of a set has the type of the set's key.
 pub fn sets_stand_under_their_own()
     ensures owners { (m : Sets) (n : Name) (t : ℕ) → IsZone m → IsTrue (owns m n t)
         → IsLowerName n }
@@ -50,8 +50,8 @@ pub fn sets_stand_under_their_own()
         → All (λ (r : Record). type_of r.rdata ≡ t) s.records }
 {}
 
-/// In a zone the types of a name, the owners of a type and the names ascend. The first two have each but once; a name
-/// stands among the names as often as it owns a set.
+/// In a zone the types of a name, the owners of a type and the names ascend. The first two have each only once; a name occurs
+/// among the names as often as it owns a set.
 pub fn lists_ascend()
     ensures types { (m : Sets) (n : Name) → IsZone m → IsStrictlySortedBy nat_cmp (types_at m n) }
     ensures owners { (m : Sets) (t : ℕ) → IsZone m → IsStrictlySortedBy name_cmp (owners m t) }
@@ -68,8 +68,8 @@ pub fn lists_have_what_is_owned()
         → Contains (names_of m) n ↔ ((t : ℕ) × IsTrue (owns m n t)) }
 {}
 
-/// The nearest delegation of a query is the longest name at or above its own that is one (RFC 1034 section 4.3.2): every
-/// longer one isn't, and where there is none, no name at or above is one.
+/// The nearest delegation of a query is the longest name at or above its own that is one (RFC 1034 section 4.3.2): no longer
+/// one is, and if there is none, no name at or above is one.
 pub fn nearest_delegation_is_the_longest()
     ensures above { (m : Sets) (n a : Name) (t : ℕ) → nearest_delegation m n t ≡ Some a
         → IsAtOrAbove a n }
@@ -81,30 +81,30 @@ pub fn nearest_delegation_is_the_longest()
         → IsAtOrAbove b n → is_delegated_for m n t b ≡ false }
 {}
 
-/// The star that is asked for a name is the one under its closest encloser, the longest of the name's proper ancestors that
-/// exists (RFC 4592 section 3.3.1). None is asked for a name that begins with `*`, for one that exists, and where none of the
-/// ancestors exists; for each other name but the root one is.
-pub fn star_is_of_closest_encloser()
-    ensures { StarIsOfClosestEncloser }
+/// The wildcard that is asked for a name is the one at its closest encloser, the longest of the name's proper ancestors that
+/// exists (RFC 4592 section 3.3.1). None is asked for a name that begins with `*`, for one that exists, and if none of the
+/// ancestors exists; for every other name except the root one is.
+pub fn wildcard_is_of_closest_encloser()
+    ensures { WildcardIsOfClosestEncloser }
 {}
 
-/// However far the sets along CNAME targets are followed, the chain from a name and its set is the longest front of them
-/// that has at most 8 sets and no name twice (RFC 1034 section 3.6.2).
+/// However far the sets along CNAME targets are followed, the chain from a name and its set is the longest prefix of them that
+/// has at most 8 sets and no name twice (RFC 1034 section 3.6.2).
 pub fn chain_is_longest_front()
     ensures front { ChainIsLongestFront }
     ensures at_most { ChainHasAtMost8 }
 {}
 
-/// The transfer of a zone begins and ends with its SOA record, where it has one that a lookup finds, and has between the two
-/// every record of the zone that isn't an SOA, and no other (RFC 5936 section 2.2). Without signatures it has none twice.
+/// The transfer of a zone begins and ends with its SOA record, if it has one that a lookup finds, and has between the two every
+/// record of the zone that isn't an SOA, and no other (RFC 5936 section 2.2). Without signatures it has none twice.
 pub fn transfers_have_each_record()
     ensures ends { BeginsAndEndsWithSoa }
     ensures each { HasEachRecord }
     ensures once { HasNoneTwice }
 {}
 
-/// In a zone whose NSEC sets are a closed circle with the origin on it they stay one after an insertion that is answered by
-/// false, and after one that is refused, as where a signer isn't added or the zone isn't secured.
+/// In a zone whose NSEC sets are a closed chain with the origin on it they remain one after an insertion that returns false,
+/// and after one that is refused, as when a signer isn't added or the zone isn't secured.
 pub fn refused_writes_keep_the_circle<S: Signer, H: Nsec3Hash>()
     ensures insertion { UntakenKeepsCircle S H }
     ensures key { RefusedKeyKeepsCircle S H }

@@ -79,7 +79,7 @@ impl<S: Signer, H: Nsec3Hash> InMemoryZoneHandler<S, H> {
     }
 }
 
-/// The section of a negative answer, which has no records; or want of memory, if it is that.
+/// The section of a negative answer, which has no records; or lack of memory, if it is that.
 fn no_records(error: LookupError) -> Result<LookupRecords, LookupError>
     ensures ok { IfOk result
         (λ section. (section ≡ LookupRecords.Empty) × (error ≢ LookupError.Memory)) }

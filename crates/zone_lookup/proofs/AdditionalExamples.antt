@@ -108,7 +108,8 @@ at_300 = record (leads a h) { ttl = 300 }
 abbrev hosted : Sets
 hosted = (key a ANAME, at_300) ∷ (key b CNAME, set_with b CNAME (V.CNAME a)) ∷ (key h A, set_with h A address) ∷ []
 
--- the owner of the ANAME set has the address with the lesser TTL, and the ANAME set stands first among the additional sets
+-- the owner of the ANAME set has the address with the lesser TTL, and the ANAME set comes first among the additional
+-- sets
 flattened_alone : IsReply unsigned apex hosted false a A (answered (one_set (record (set_with a A address) { serial = 0 })) (at_300 ∷ set_with h A address ∷ []))
 flattened_alone = record { more = set_with h A address ∷ []; found = (h ∷ [], (refl, refl, tt), refl); sections = refl }
 

@@ -113,7 +113,7 @@ module _ (old new : List (RrKey × ℕ)) (k : RrKey) (place : ℕ) (put : (q : R
   pub still_placed : (sets : List RRset) → HavePlaces sets old → HavePlaces sets new
   still_placed sets a = all_kept (drop 16 sets) a
 
-  -- a set whose key is put among the places may stand last
+  -- a set whose key is put among the places may come last
   pub one_more_placed : (sets : List RRset) (s : RRset) → 16 ≤ length sets → k ≡ set_key s → HavePlaces sets old → HavePlaces (sets ++ s ∷ []) new
   one_more_placed sets s h e a =
       subst (AllByRecursion (λ x. IsSome (lookup (key_eq (set_key x)) new))) (sym (drop-append-le 16 sets (s ∷ []) h)) (pushed (drop 16 sets) (still_placed sets a))

@@ -96,7 +96,7 @@ module _ (sign : RRset → List Record) (t : ℕ) (s : RRset) (more : List RRset
   pub none_beside : last_set more ≡ None → beside t (Some s) more ≡ more
   none_beside h = nothing_beside (no_last more h)
 
-  -- any other is flattened, and stands first among the additional sets
+  -- any other is flattened, and comes first among the additional sets
   pub is_flattened : (l : RRset) → last_set more ≡ Some l → stands_for_addresses t s ≡ true → alone sign t s (last_set more) ≡ flattened sign s t l
   is_flattened l e h = ap (alone sign t s) e ∙ ap (λ b. cond b (flattened sign s t l) s) h
 

@@ -4,58 +4,60 @@ use Rattle.std.specs.Prelude.{codes, Some, None}
 use Rattle.zone_proto.specs.declared.rdata.RData.TheVariants as V
 use Rattle.zone_proto.specs.declared.record.Record.{Record}
 use Rattle.zone_proto.specs.Keys.{key}
-use Rattle.zone_proto.specs.Names.{Name, star_label, star_under}
+use Rattle.zone_proto.specs.Names.{Name, asterisk_label, wildcard_under}
 use Rattle.zone_proto.specs.Sets.{RRset}
 use Rattle.zone_proto.specs.Types.{A, NS, CNAME, MX, TXT, SRV, NSEC, ANY, IN}
 use Rattle.zone_map.specs.Zones.{Sets}
-use Rattle.zone_map.specs.Wildcards.{asked_star, found}
+use Rattle.zone_map.specs.Wildcards.{asked_wildcard, found}
 use Rattle.zone_map.specs.Chains.{chain, chain_searches}
 use Rattle.zone_map.specs.AnyTypes.{any_type}
 use Rattle.zone_lookup.specs.Replies.{negative_answer, IsReply, one_set, answered, negative, name_exists, nx_domain}
 use Rattle.zone_lookup.proofs.Examples.{apex, at_apex, record_with, set_with, server, unsigned}
 
--- ---- a star under the apex, one under b, and a star at a cut (RFC 4592)
+-- ---- a wildcard at the apex, one under b, and a wildcard at a cut (RFC 4592)
 
 abbrev address : ℕ → Record
-address last = record_with (star_under apex) (V.A (192 ∷ 0 ∷ 2 ∷ last ∷ []))
+address last = record_with (wildcard_under apex) (V.A (192 ∷ 0 ∷ 2 ∷ last ∷ []))
 
 abbrev in_b : List ℕ → Name
 in_b label = label ∷ at_apex (codes "b")
 
--- its owner is spelled in capitals, its records have a TTL of their own, and it has two signatures, of which the star owns one
-abbrev star_set : RRset
-star_set = record {
-  owner = star_label ∷ codes "EXAMPLE" ∷ codes "COM" ∷ [];
+-- its owner is spelled in capitals, its records have a TTL of their own, and it has two signatures, of which the
+-- wildcard owns one
+abbrev wildcard_set : RRset
+wildcard_set = record {
+  owner = asterisk_label ∷ codes "EXAMPLE" ∷ codes "COM" ∷ [];
   record_type = A;
   class = IN;
   ttl = 300;
   serial = 7;
   records = address 1 ∷ [];
-  signatures = record_with (star_label ∷ codes "EXAMPLE" ∷ codes "COM" ∷ []) server ∷ record_with apex server ∷ [];
+  signatures = record_with (asterisk_label ∷ codes "EXAMPLE" ∷ codes "COM" ∷ []) server ∷ record_with apex server ∷ [];
 }
 
 abbrev star_in_b : RRset
-star_in_b = set_with (star_under (at_apex (codes "b"))) A (V.A (192 ∷ 0 ∷ 2 ∷ 2 ∷ []))
+star_in_b = set_with (wildcard_under (at_apex (codes "b"))) A (V.A (192 ∷ 0 ∷ 2 ∷ 2 ∷ []))
 
 abbrev star_at_cut : RRset
-star_at_cut = set_with (star_under (at_apex (codes "n"))) NS server
+star_at_cut = set_with (wildcard_under (at_apex (codes "n"))) NS server
 
 abbrev stars : Sets
 stars =
-    (key (star_under apex) A, star_set)
-    ∷ (key (star_under (at_apex (codes "b"))) A, star_in_b)
-    ∷ (key (star_under (at_apex (codes "n"))) NS, star_at_cut)
+    (key (wildcard_under apex) A, wildcard_set)
+    ∷ (key (wildcard_under (at_apex (codes "b"))) A, star_in_b)
+    ∷ (key (wildcard_under (at_apex (codes "n"))) NS, star_at_cut)
     ∷ []
 
--- the star under the closest encloser answers
+-- the wildcard at the closest encloser answers
 encloser_star : found stars false (in_b (codes "a")) A ≡ Some (record { owner = in_b (codes "a"); record_type = A; class = IN; ttl = 60; serial = 0; records = record_with (in_b (codes "a")) (V.A (192 ∷ 0 ∷ 2 ∷ 2 ∷ [])) ∷ []; signatures = [] })
 encloser_star = refl
 
--- a star may answer for a name of several labels
-star_above : asked_star stars (codes "x" ∷ codes "y" ∷ at_apex (codes "c")) ≡ Some (star_under apex)
+-- a wildcard may answer for a name of several labels
+star_above : asked_wildcard stars (codes "x" ∷ codes "y" ∷ at_apex (codes "c")) ≡ Some (wildcard_under apex)
 star_above = refl
 
--- it doesn't where its type isn't there, and no star farther up is asked; but the name is then answered for as one that is there (RFC 4592 section 2.2.1)
+-- it doesn't where its type isn't there, and no wildcard farther up is asked; but the name is then answered for as one
+-- that is there (RFC 4592 section 2.2.1)
 type_of_no_star : found stars false (in_b (codes "a")) TXT ≡ None
 type_of_no_star = refl
 
@@ -64,7 +66,7 @@ starred_but_typeless = refl
 
 -- nor does it answer for a name that exists, or below one
 abbrev text_in_b : Sets
-text_in_b = (key (star_under apex) A, star_set) ∷ (key (in_b (codes "x")) TXT, set_with (in_b (codes "x")) TXT server) ∷ []
+text_in_b = (key (wildcard_under apex) A, wildcard_set) ∷ (key (in_b (codes "x")) TXT, set_with (in_b (codes "x")) TXT server) ∷ []
 
 beside_text : found text_in_b false (in_b (codes "x")) A ≡ None
 beside_text = refl
@@ -78,21 +80,21 @@ below_empty_name = refl
 denied_below_empty_name : negative_answer apex text_in_b (in_b (codes "y")) ≡ nx_domain
 denied_below_empty_name = refl
 
--- a name that owns NSEC alone doesn't exist, and where none does, no star is asked
+-- a name that owns NSEC alone doesn't exist, and where none does, no wildcard is asked
 abbrev nsec_in_b : Sets
 nsec_in_b = (key (at_apex (codes "b")) NSEC, set_with (at_apex (codes "b")) NSEC server) ∷ []
 
-no_name_exists : asked_star nsec_in_b (in_b (codes "y")) ≡ None
+no_name_exists : asked_wildcard nsec_in_b (in_b (codes "y")) ≡ None
 no_name_exists = refl
 
-passed_over : asked_star ((key (star_under apex) A, star_set) ∷ nsec_in_b) (in_b (codes "y")) ≡ Some (star_under apex)
+passed_over : asked_wildcard ((key (wildcard_under apex) A, wildcard_set) ∷ nsec_in_b) (in_b (codes "y")) ≡ Some (wildcard_under apex)
 passed_over = refl
 
--- outside the zone too a star that exists comes before the refusal
-star_outside : negative_answer apex ((key (star_under (drop 1 apex)) TXT, set_with (star_under (drop 1 apex)) TXT server) ∷ []) (codes "net" ∷ drop 1 apex) ≡ name_exists
+-- outside the zone too a wildcard that exists comes before the refusal
+star_outside : negative_answer apex ((key (wildcard_under (drop 1 apex)) TXT, set_with (wildcard_under (drop 1 apex)) TXT server) ∷ []) (codes "net" ∷ drop 1 apex) ≡ name_exists
 star_outside = refl
 
--- the queried name owns the records, with the set's TTL, and the signature that the star owned
+-- the queried name owns the records, with the set's TTL, and the signature that the wildcard owned
 renamed_with_signatures : found stars true (at_apex (codes "q")) A ≡ Some (record {
   owner = at_apex (codes "q");
   record_type = A;
@@ -104,19 +106,19 @@ renamed_with_signatures : found stars true (at_apex (codes "q")) A ≡ Some (rec
 })
 renamed_with_signatures = refl
 
--- a star's own set is found as it stands, and a name that begins with `*` has no other star
-star_itself : found stars false (star_under apex) A ≡ Some star_set
+-- a wildcard's own set is found as it is, and a name that begins with `*` has no other wildcard
+star_itself : found stars false (wildcard_under apex) A ≡ Some wildcard_set
 star_itself = refl
 
-starred_name : found stars false (star_under (at_apex (codes "c"))) A ≡ None
+starred_name : found stars false (wildcard_under (at_apex (codes "c"))) A ≡ None
 starred_name = refl
 
--- a referral that a star gives is renamed too
+-- a referral that a wildcard gives is renamed too
 renamed_referral : found stars false (codes "x" ∷ at_apex (codes "n")) A ≡ Some (record (set_with (codes "x" ∷ at_apex (codes "n")) NS server) { serial = 0 })
 renamed_referral = refl
 
--- the star under the root is the last
-root_star : asked_star ((key (star_under []) A, star_set) ∷ []) (at_apex (codes "q")) ≡ Some (star_under [])
+-- the wildcard at the root is the last
+root_star : asked_wildcard ((key (wildcard_under []) A, wildcard_set) ∷ []) (at_apex (codes "q")) ≡ Some (wildcard_under [])
 root_star = refl
 
 -- ---- aliases (RFC 1034 section 3.6.2)

@@ -10,7 +10,7 @@ pub IsZone-after : {A E : Type 0} (result : Result A E) (before after : Sets) �
 IsZone-after (Ok a) before after zone fresh same = fresh
 IsZone-after (Err e) before after zone fresh same = subst IsZone (sym same) zone
 
--- where no CNAME stands at the origin, the only faults of a zone's denials are those of its names
+-- where no CNAME is at the origin, the only faults of a zone's denials are those of its names
 pub fault_without_cname : (e : SecureError) (owned : Bool) (fault : Option SecureError) → owned ≡ false → (e ≡ error.Memory) ⊎ (fault ≡ Some e)
     → (e ≡ error.Memory) ⊎ (cond owned (Some error.CnameAtOrigin) fault ≡ Some e)
 fault_without_cname e owned fault none (inl memory) = inl memory

@@ -17,7 +17,7 @@ use Rattle.zone_proto.proofs.Members.{In, In-filter_map, In-map, any_from_In}
 use Rattle.zone_proto.proofs.Names.NameTree.{name_eq-Decides}
 use Rattle.zone_map.specs.Zones.{Sets, set_at, owns, IsZone}
 use Rattle.zone_map.specs.Direct.{direct, referral, nearest_delegation, exact, least_owned, types_for}
-use Rattle.zone_map.specs.Wildcards.{found, wildcard, asked_star, renamed}
+use Rattle.zone_map.specs.Wildcards.{found, wildcard, asked_wildcard, renamed}
 use Rattle.zone_map.specs.Chains.{alias_target, first_target}
 use Rattle.zone_lookup.specs.Additionals.{followed, first_data, next_name, run_target, names_host, run_types, leads_to, alias_sets}
 use Rattle.zone_map.proofs.Owned.{has_entry}
@@ -66,7 +66,7 @@ module _ (m : Sets) where
       by : (direct m n t ≡ Some s) ⊎ (wildcard m signed n t ≡ Some s) → IsStoredData m (first_data s.records)
       by (inl r) = direct_stored n t s r
       by (inr r) =
-          let a = from_and_then (λ star. option_map (renamed signed star n) (direct m star t)) (asked_star m n) s r in
+          let a = from_and_then (λ star. option_map (renamed signed star n) (direct m star t)) (asked_wildcard m n) s r in
           let b = from_map (renamed signed a.0 n) (direct m a.0 t) s a.2 in
           let c = direct_stored a.0 t b.0 b.1 in
           (c.0, c.1, c.2, c.3, c.4 ∙ kept n b.0.ttl b.0.records ∙ ap (λ (x : RRset). first_data x.records) b.2)

@@ -38,6 +38,7 @@ flattened sign aname t last = record (unsigned_flattened aname t last) { signatu
 abbrev pub alone : (RRset → List Record) → ℕ → RRset → Option RRset → RRset
 alone sign t s last = option_map_or (λ l. cond (stands_for_addresses t s) (flattened sign s t l) s) last s
 
--- the additional section of an answer that ends with a set: where something was found along its targets, an ANAME set stands first
+-- the additional section of an answer that ends with a set: where something was found along its targets, an ANAME set
+-- comes first
 abbrev pub beside : ℕ → Option RRset → List RRset → List RRset
 beside t terminal more = option_map_or (λ s. cond (stands_for_addresses t s && not (length more == 0)) (s ∷ more) more) terminal more

@@ -11,7 +11,7 @@ use Rattle.zone_handler.specs.declared.lookup_records.LookupRecords.{LookupRecor
 use Rattle.zone_handler.specs.declared.lookup_records.LookupRecords.TheVariants as section
 use Rattle.zone_handler.specs.Answers.{KeepsMany}
 use Rattle.zone_map.specs.Zones.{Sets, owns_at_or_below}
-use Rattle.zone_map.specs.Wildcards.{asked_star_exists, found}
+use Rattle.zone_map.specs.Wildcards.{asked_wildcard_exists, found}
 use Rattle.zone_map.specs.Chains.{chain}
 use Rattle.zone_map.specs.AnyTypes.{searched_type}
 use Rattle.zone_lookup.specs.Additionals.{next_name, AreAdditionals}
@@ -27,9 +27,10 @@ pub data NegativeAnswer : Type 0 where
 abbrev pub absent : Name → Name → NegativeAnswer
 absent origin n = cond (is_at_or_above origin n) nx_domain refused
 
--- a name is present if it or a name below it owns a set, wherever it stands, or if the star that is asked for it exists, which gives it all types that it has (RFC 4592 section 2.2.1)
+-- a name is present if it or a name below it owns a set, wherever it stands, or if the wildcard at its closest encloser
+-- exists, which gives it all types that it has (RFC 4592 section 2.2.1)
 abbrev pub is_present : Sets → Name → Bool
-is_present m n = owns_at_or_below m n || asked_star_exists m n
+is_present m n = owns_at_or_below m n || asked_wildcard_exists m n
 
 abbrev pub negative_answer : Name → Sets → Name → NegativeAnswer
 negative_answer origin m n = cond (is_present m n) name_exists (absent origin n)

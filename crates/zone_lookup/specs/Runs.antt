@@ -2,7 +2,8 @@
 use Rattle.std.specs.Prelude.{◌≡◌, ℕ, zero, suc, Bool, cond, List, [], ◌∷◌, ◌++◌, Option, Some, None, MatchOption, IsTrue, IsFalse}
 use Rattle.std.specs.List.{list_any}
 
--- the names that a run searches, given those that were seen: none where no name is next or the next one was seen; else the next one, and then, with that name seen too, the names from where it leads
+-- the names that a run searches, given those that were seen: none if no name is next or the next one was seen; else the
+-- next one, and then, with that name seen too, the names from where it leads
 module _ {N : Type 0} (same : N → N → Bool) (next : N → Option N) where
   abbrev pub AreSearched : List N → Option N → List N → Type 0
   AreSearched seen p [] = MatchOption p (Unit {0}) (λ n. IsTrue (list_any (same n) seen))

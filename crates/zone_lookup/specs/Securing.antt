@@ -24,16 +24,18 @@ denied_by kind (signer ∷ signers) = kind
 abbrev pub nsec3_kind : Nsec3Parameters → NxProofKind
 nsec3_kind p = kind.Nsec3 p.algorithm p.salt p.iterations p.opt_out
 
--- the record sets of a zone by name and type, and the NSEC sets of its circle in the place of those that it has, with its minimum as their TTL, and with its serial
+-- the record sets of a zone by name and type, and the NSEC sets of its circle in place of those that it has, with its
+-- minimum as their TTL, and with its serial
 abbrev pub with_nsec_sets : Name → Sets → SetsBy
 with_nsec_sets origin m n t = cond (t == NSEC) (nsec_set_at origin m (minimum m origin) (serial m origin) n t) (set_at m n t)
 
 module _ (digest_of : ℕ → List ℕ → Name → ℕ → Option (List ℕ)) (origin : Name) (m : Sets) where
-  -- the NSEC3 sets of these parameters and the NSEC3PARAM set, in the place of those that the zone has
+  -- the NSEC3 sets of these parameters and the NSEC3PARAM set, in place of those that the zone has
   abbrev pub with_nsec3_sets : Nsec3Parameters → SetsBy
   with_nsec3_sets p n t = option_or (nsec3_sets_at origin m (hash_with digest_of p) p (minimum m origin) (serial m origin) n t) (cond (t == NSEC3) None (set_at m n t))
 
-  -- a zone's record sets by name and type, and denials of a kind in the place of those that it has, with the zone's minimum as their TTL, and with its serial
+  -- a zone's record sets by name and type, and denials of a kind in place of those that it has, with the zone's minimum
+  -- as their TTL, and with its serial
   abbrev pub with_denials : Option NxProofKind → SetsBy
   with_denials None n t = set_at m n t
   with_denials (Some kind.Nsec) n t = with_nsec_sets origin m n t

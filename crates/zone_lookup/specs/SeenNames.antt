@@ -3,6 +3,6 @@ use Rattle.std.specs.Prelude.{◌≡◌, List}
 use Rattle.std.specs.List.{list_any}
 use Rattle.zone_proto.specs.Names.{Name, name_eq}
 
--- the same names stand in two lists
+-- the same names are in two lists
 abbrev pub AreSameNames : List Name → List Name → Type 0
 AreSameNames ns ms = (n : Name) → list_any (name_eq n) ns ≡ list_any (name_eq n) ms

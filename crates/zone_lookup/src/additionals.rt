@@ -21,15 +21,16 @@ use zone_proto::{LowerName, Name, ProtoError, RData, RecordSet, RecordType, Sign
 
 impl<S: Signer> InnerInMemory<S> {
     /// The sets that a client is likely to ask for next (RFC 1034 section 3.7): those found along first targets, from
-    /// `next_name` on. None where nothing is found.
+    /// `next_name` on. None if nothing is found.
     ///
     /// For an original query of ANAME, NS, MX or SRV a run searches A, and then another one AAAA. For any other type one
     /// run searches that type, and doesn't come back to `original_name`. A run follows the first record of each set that
     /// [`InnerInMemory::inner_lookup`] finds: that of a CNAME, and that of an ANAME where the run searches A, AAAA or
     /// ANAME. It ends at a name that it has searched, or that has no set. An equal set is listed once.
     ///
-    /// Each name that is searched adds one to `searches`: for each run at most one more than there are CNAME and ANAME sets
-    /// in the zone, also where memory is refused on the way. `_search_type` isn't read. Refused by `Memory` alone.
+    /// Each name that is searched adds one to `searches`: for each run at most one more than there are CNAME and ANAME
+    /// sets in the zone, also where memory is refused on the way. `_search_type` isn't read. Its only error is
+    /// `Memory`.
     pub fn additional_search(
         &self,
         original_name: &LowerName,
@@ -139,8 +140,8 @@ fn names_host(record_type: RecordType) -> bool
         || record_type == RecordType::SRV
 }
 
-/// Where a set leads a run that searches a type: the target of an alias, whatever is searched (RFC 1034 section 3.6.2), and that
-/// of an ANAME where addresses are. Refused by `Memory` alone.
+/// Where a set leads a run that searches a type: the target of an alias, whatever is searched (RFC 1034 section 3.6.2),
+/// and that of an ANAME where addresses are. Its only error is `Memory`.
 pub fn run_target(set: &RecordSet, search_type: RecordType) -> Result<Option<LowerName>, ProtoError>
     ensures target { IfOk result (λ target. target ≡ run_target search_type.0 set.now) }
     ensures err { IsOkUnless result ProtoError.Memory }
@@ -151,8 +152,8 @@ pub fn run_target(set: &RecordSet, search_type: RecordType) -> Result<Option<Low
     }
 }
 
-/// The name that the first record of a set leads to when a type is asked for: that of an ANAME for addresses and for ANAME, and
-/// those of NS, MX and SRV for their own type. Refused by `Memory` alone.
+/// The name that the first record of a set leads to when a type is asked for: that of an ANAME for addresses and for
+/// ANAME, and those of NS, MX and SRV for their own type. Its only error is `Memory`.
 pub fn next_name(set: &RecordSet, record_type: RecordType) -> Result<Option<LowerName>, ProtoError>
     ensures target { IfOk result (λ target. target ≡ next_name record_type.0 set.now) }
     ensures err { IsOkUnless result ProtoError.Memory }

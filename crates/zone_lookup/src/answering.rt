@@ -23,9 +23,9 @@ impl<S: Signer> InnerInMemory<S> {
     /// unless aliases are asked for, and else the set alone, which is flattened if it is an ANAME set and addresses are asked
     /// for; with the additional sets.
     ///
-    /// Sets come with their signatures where `lookup_options` ask for DNSSEC. A set that is flattened is then signed by each
-    /// signer in order, unless the moment `now`, in seconds since 1970, is past the year 9999. Each name that is searched
-    /// adds one to `searches`. Refused by `Memory` alone, of a signer too.
+    /// Sets come with their signatures where `lookup_options` ask for DNSSEC. A set that is flattened is then signed by
+    /// each signer in order, unless the moment `now`, in seconds since 1970, is past the year 9999. Each name that is
+    /// searched adds one to `searches`. Its only error is `Memory`, of a signer too.
     pub fn answer(
         &self,
         name: &LowerName,

@@ -21,7 +21,7 @@ impl<S: Signer> InnerInMemory<S> {
     /// already, and with the eighth set.
     ///
     /// The sets that are found are lent or made as `inner_lookup` says. Each target that is searched adds one to
-    /// `searches`, at most 7. Refused by `Memory` alone.
+    /// `searches`, at most 7. Its only error is `Memory`.
     pub fn chase_cnames<'z>(
         &'z self,
         name: &LowerName,
@@ -75,7 +75,7 @@ impl<S: Signer> InnerInMemory<S> {
     }
 }
 
-/// The target of a set whose first record is a CNAME; None for any other set. Refused by `Memory` alone.
+/// The target of a set whose first record is a CNAME; None for any other set. Its only error is `Memory`.
 pub fn cname_target(set: &RecordSet) -> Result<Option<LowerName>, ProtoError>
     ensures target { IfOk result (λ target. target ≡ cname_target set.now) }
     ensures err { IsOkUnless result ProtoError.Memory }

@@ -8,10 +8,10 @@ use zone_map::direct::is_address;
 use zone_proto::{ProtoError, RecordSet, RecordType, Signer};
 use zone_signing::signatures::{LAST_MOMENT, sign_set};
 
-/// An ANAME set flattened for a type by the last additional set: the addresses of that set, under the owner of the ANAME set,
-/// with the lesser one of both TTLs; none where the last set is of another type. Where `lookup_options` ask for DNSSEC each
-/// signer in order signs it (RFC 4034 section 3), unless the moment `now`, in seconds since 1970, is past the year 9999.
-/// Refused by `Memory` alone, of a signer too.
+/// An ANAME set flattened for a type by the last additional set: the addresses of that set, under the owner of the
+/// ANAME set, with the lesser one of both TTLs; none if the last set is of another type. Where `lookup_options` ask for
+/// DNSSEC each signer in order signs it (RFC 4034 section 3), unless the moment `now`, in seconds since 1970, is past
+/// the year 9999. Its only error is `Memory`, of a signer too.
 pub fn flattened<S: Signer>(
     aname: &RecordSet,
     record_type: RecordType,

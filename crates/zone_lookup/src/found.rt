@@ -25,7 +25,7 @@ impl<'z> Found<'z> {
         }
     }
 
-    /// The set itself: a lent one is copied, a made one is handed out. Refused by `Memory` alone.
+    /// The set itself: a lent one is copied, a made one is handed out. Its only error is `Memory`.
     pub fn into_set(self) -> Result<RecordSet, LookupError>
         ensures ok { IfOk result (λ set. set ≡ found_set self.entry) }
         ensures err { IsOkUnless result LookupError.Memory }
@@ -43,7 +43,7 @@ impl<'z> Found<'z> {
 pub enum Outcome<'z> {
     /// The set that was found.
     Found(Found<'z>),
-    /// No set, though the name exists, or the star that is asked for it does.
+    /// No set, though the name exists, or the wildcard at its closest encloser does.
     NoData,
     /// No set, where neither is so.
     NoName,

@@ -13,7 +13,7 @@ ghost use Rattle.zone_proto.specs.declared.error.ProtoError.{ProtoError};
 ghost use Rattle.zone_handler.specs.Errors.{error_of_proto};
 ghost use Rattle.zone_lookup.specs.FoundSets.{found_set, lent_set, IsOutcome};
 ghost use Rattle.zone_map.specs.Direct.{direct};
-ghost use Rattle.zone_map.specs.Wildcards.{asked_star, exists, found};
+ghost use Rattle.zone_map.specs.Wildcards.{asked_wildcard, exists, found};
 ghost use Rattle.zone_map.specs.Counts.{one_more, counted_more, one_more_if};
 ghost use Rattle.zone_map.specs.Upserts.{upserted, CnamesStandAlone};
 ghost use Rattle.zone_map.specs.Zones.{set_at, has_key_from, owns_at_or_below, put, without, IsStoredAt, IsZone};
@@ -74,11 +74,11 @@ impl<S: Signer> InnerInMemory<S> {
 
     /// Takes a record into the set of its owner name and type, or makes that set.
     ///
-    /// `serial` is the zone's serial, which the set keeps when it takes the record, and `dns_class` the
-    /// zone's class. The answer is whether the record was taken. It isn't taken if it is of another class; if its
-    /// owner owns a type that may not stand beside the record's, one of the two being CNAME and neither NSEC or NSEC3
-    /// (RFC 1034 section 3.6.2); or if the set refuses it, as [`RecordSet::insert`] says. A record that isn't taken
-    /// changes nothing, and so does a refusal, by `Memory` alone.
+    /// `serial` is the zone's serial, which the set keeps when it takes the record, and `dns_class` the zone's class.
+    /// The answer is whether the record was taken. It isn't taken if it is of another class; if its owner owns a type
+    /// that may not are beside the record's, one of the two being CNAME and neither NSEC or NSEC3 (RFC 1034 section
+    /// 3.6.2); or if the set refuses it, as [`RecordSet::insert`] says. A record that isn't taken changes nothing, and
+    /// so does a refusal, by `Memory` alone.
     pub fn upsert(
         &mut self,
         record: Record,
@@ -110,19 +110,19 @@ impl<S: Signer> InnerInMemory<S> {
     ///   the set of the least type that the name owns of the type that is asked for, CNAME and, for addresses, ANAME. A
     ///   query for DS at a cut asks the parent's side, so the cut itself gives no referral for it (RFC 4035 section
     ///   3.1.4.1). Where the nearest name that owns NS owns SOA too, it is an apex, and there is no referral.
-    /// - Else, for a name that is neither the root nor begins with `*` nor exists, the direct set of the star under the
-    ///   closest encloser, the longest of its proper ancestors that exists, under the queried name (RFC 4592 section
-    ///   3.3.1): of class IN and serial 0, with each record's TTL that of the set, and with signatures only where
-    ///   `lookup_options` ask for DNSSEC; of these the queried name owns those that the star owned. No other star is
-    ///   asked. A name exists where it, or a name below it, owns a set of a type other than NSEC and NSEC3 (RFC 4592
-    ///   section 2.2.2); where none does, no star is asked.
+    /// - Else, for a name that is neither the root nor begins with `*` nor exists, the direct set of the wildcard at
+    ///   the closest encloser, the longest of its proper ancestors that exists, under the queried name (RFC 4592
+    ///   section 3.3.1): of class IN and serial 0, with each record's TTL that of the set, and with signatures only
+    ///   where `lookup_options` ask for DNSSEC; of these the queried name owns those that the wildcard owned. No other
+    ///   wildcard is asked. A name exists where it, or a name below it, owns a set of a type other than NSEC and NSEC3
+    ///   (RFC 4592 section 2.2.2); where none does, no wildcard is asked.
     ///
     /// A direct set is lent out of the zone with its signatures, whatever the options say. The call adds one to
-    /// `searches`, whether it asks a star or not.
+    /// `searches`, whether it asks a wildcard or not.
     ///
     /// # Errors
     ///
-    /// Refused by `Memory` alone.
+    /// Its only error is `Memory`.
     pub fn inner_lookup(
         &self,
         name: &LowerName,
@@ -144,7 +144,7 @@ impl<S: Signer> InnerInMemory<S> {
     }
 
     /// The type that is searched for a query of ANY (RFC 8482 section 4.1): the least of A, CNAME, MX and AAAA that the
-    /// name owns, else the least type that it owns, else A. Refused by `Memory` alone.
+    /// name owns, else the least type that it owns, else A. Its only error is `Memory`.
     pub fn replace_any(&self, name: &LowerName) -> Result<RecordType, LookupError>
         ensures chosen { IfOk result (λ chosen. chosen.0 ≡ any_type self.now.records name.now) }
         ensures err { IsOkUnless result LookupError.Memory }
@@ -153,9 +153,9 @@ impl<S: Signer> InnerInMemory<S> {
         Ok(self.records.any_type(&least))
     }
 
-    /// The NSEC set whose owner is the greatest, in canonical order (RFC 4034 section 6.1), of those that aren't after `name`
-    /// and whose next name, as the first record says it, stands after `name`, or isn't after the owner; if there is one.
-    /// Refused by `Memory` alone.
+    /// The NSEC set whose owner is the greatest, in canonical order (RFC 4034 section 6.1), of those that aren't after
+    /// `name` and whose next name, as the first record says it, comes after `name`, or isn't after the owner; if there
+    /// is one. Its only error is `Memory`.
     ///
     /// In a zone that was secured by NSEC it covers each name of the zone that has no such set of its own.
     pub fn closest_nsec(&self, name: &LowerName) -> Result<Option<&RecordSet>, LookupError>
@@ -194,20 +194,20 @@ impl<S: Signer> InnerInMemory<S> {
     /// answered it, by the parameters of `info` and by `hash`, in the order of their owners, each once (RFC 5155 section 7.2).
     /// So it is in any zone, whether its NSEC3 sets are a circle or not.
     ///
-    /// - The set that matches a name stands at its hashed owner. The one that covers it is that of the greatest owner before
-    ///   this one, or else of the greatest of all.
+    /// - The set that matches a name is at its hashed owner. The one that covers it is that of the greatest owner
+    ///   before this one, or else of the greatest of all.
     /// - Where a set matches the queried name, it is the answer alone, unless `info` tells of a wildcard.
     /// - Else the closest encloser is the nearest proper ancestor of the queried name that a set matches, the root aside.
     ///   Without one there is no set. The next closer name is the one a label longer towards the queried name.
-    /// - Where a wildcard answered, the set that covers the next closer name is the answer. Else it is the set that matches the
-    ///   closest encloser, the one that covers the next closer name, and the one that matches the star under the closest
-    ///   encloser or, where none does, covers it. The type of the query isn't read.
+    /// - Where a wildcard answered, the set that covers the next closer name is the answer. Else it is the set that
+    ///   matches the closest encloser, the one that covers the next closer name, and the one that matches the wildcard
+    ///   at the closest encloser or, where none does, covers it. The type of the query isn't read.
     ///
     /// # Errors
     ///
-    /// Names are hashed in this order, each once and only where the answer needs it: the queried name, its ancestors from the
-    /// nearest on until one has a match, the closest encloser, and the star. The first that is refused refuses the call, as
-    /// [`Nsec3QueryInfo::hashed_owner_name`] says; so does want of memory.
+    /// Names are hashed in this order, each once and only where the answer needs it: the queried name, its ancestors
+    /// from the nearest on until one has a match, the closest encloser, and the wildcard. The first that is refused
+    /// refuses the call, as [`Nsec3QueryInfo::hashed_owner_name`] says; so does lack of memory.
     pub fn proof<H: Nsec3Hash>(
         &self,
         info: Nsec3QueryInfo<'_>,
@@ -230,17 +230,17 @@ impl<S: Signer> InnerInMemory<S> {
         }
     }
 
-    /// The owners of the sets of a type of denial, NSEC or NSEC3, in canonical order (RFC 4034 section 6.1), each once; none for
-    /// other types. They are lent out of an index that the zone keeps. Takes no memory.
+    /// The owners of the sets of a type of denial, NSEC or NSEC3, in canonical order (RFC 4034 section 6.1), each once;
+    /// none for other types. They are lent out of an index that the zone keeps. Doesn't allocate.
     pub fn denial_owners(&self, record_type: RecordType) -> DenialOwners<'_>
         ensures { result ≡ denial_owners self.now.records record_type.0 }
     {
         self.records.denial_owners(record_type)
     }
 
-    /// Whether `name`, or a name below it, owns a set, so that it is there, though perhaps as an empty non-terminal (RFC 4592
-    /// section 2.2.2). One key is read at most, the first at or after [`RrKey::first_of`] of the name, and adds one to `reads`:
-    /// the names below a name stand together. Refused by `Memory` alone, which reads none.
+    /// Whether `name`, or a name below it, owns a set, so that it is there, though perhaps as an empty non-terminal
+    /// (RFC 4592 section 2.2.2). One key is read at most, the first at or after [`RrKey::first_of`] of the name, and
+    /// adds one to `reads`: the names below a name stand together. Its only error is `Memory`, which reads none.
     pub fn owns_at_or_below(&self, name: &LowerName, reads: &mut Reads) -> Result<bool, LookupError>
         ensures answer { IfOk result (λ owns. owns ≡ owns_at_or_below self.now.records name.now) }
         ensures counted { OnOk result
@@ -274,7 +274,7 @@ impl<S: Signer> InnerInMemory<S> {
         &self.records
     }
 
-    /// The set that stands under `key`; None where none does.
+    /// The set that is under `key`; None if none does.
     pub fn get(&self, key: &RrKey) -> Option<&RecordSet>
         ensures { option_copied result
             ≡ set_at self.now.records key.now.name key.now.record_type.0 }
@@ -286,8 +286,8 @@ impl<S: Signer> InnerInMemory<S> {
 /// What `zone_in_memory` makes a zone of, and `zone_response` a response: no user of a zone needs it.
 #[doc(hidden)]
 impl<S: Signer> InnerInMemory<S> {
-    /// These record sets, each of which has records and stands under its own name, in lower case, and type; and no signers. What
-    /// is put in later takes its memory from `alloc`; this takes none.
+    /// These record sets, each of which has records and is under its own name, in lower case, and type; and no signers.
+    /// What is put in later takes its memory from `alloc`; this takes none.
     pub fn with_records(alloc: Global, records: RecordMap) -> Self
         requires { IsZone records }
         ensures { result ≡ record { records = records; signers = [] } }
@@ -298,9 +298,9 @@ impl<S: Signer> InnerInMemory<S> {
         }
     }
 
-    /// What [`InnerInMemory::inner_lookup`] finds; and of a name for which there is no set, whether it exists, or the star that is
-    /// asked for it does. The walk up the name that looks for a zone cut sees this on its way. The call adds one to `searches`.
-    /// Refused by `Memory` alone.
+    /// What [`InnerInMemory::inner_lookup`] finds; and of a name for which there is no set, whether it exists, or the
+    /// wildcard at its closest encloser does. The walk up the name that looks for a zone cut sees this on its way. The
+    /// call adds one to `searches`. Its only error is `Memory`.
     pub fn find(
         &self,
         name: &LowerName,
@@ -330,8 +330,8 @@ impl<S: Signer> InnerInMemory<S> {
         }
     }
 
-    /// What the star gives that is asked for a name without a direct set, which has `*` in the place of the first label of
-    /// `next_closer`. Refused by `Memory` alone.
+    /// What the wildcard gives that is asked for a name without a direct set, which has `*` in place of the first label
+    /// of `next_closer`. Its only error is `Memory`.
     fn synthesized(
         &self,
         name: &LowerName,
@@ -340,7 +340,7 @@ impl<S: Signer> InnerInMemory<S> {
         next_closer: LowerName,
     ) -> Result<Outcome<'_>, LookupError>
         requires none { direct self.now.records name.now record_type.0 ≡ None }
-        requires star { asked_star self.now.records name.now ≡ Some (wildcard_of next_closer) }
+        requires star { asked_wildcard self.now.records name.now ≡ Some (wildcard_of next_closer) }
         ensures outcome { IfOk result
             (λ outcome. IsOutcome self.now.records lookup_options.dnssec_ok name.now record_type.0
             outcome) }
@@ -350,13 +350,13 @@ impl<S: Signer> InnerInMemory<S> {
         let made = wildcard::wildcard(&self.records, name, record_type, signed, next_closer)?;
         match made.set {
             Some(set) => Ok(Outcome::Found(Found::Made(set))),
-            None if made.star_exists => Ok(Outcome::NoData),
+            None if made.wildcard_exists => Ok(Outcome::NoData),
             None => Ok(Outcome::NoName),
         }
     }
 
-    /// Whether the name of `least`, its least key, that of type 0, exists: whether it, or a name below it, owns a set of a type
-    /// other than NSEC and NSEC3 (RFC 4592 section 2.2.2). Takes no memory.
+    /// Whether the name of `least`, its least key, that of type 0, exists: whether it, or a name below it, owns a set
+    /// of a type other than NSEC and NSEC3 (RFC 4592 section 2.2.2). Doesn't allocate.
     pub fn exists(&self, least: &RrKey) -> bool
         requires { least.now.record_type.0 ≡ 0 }
         ensures { result ≡ exists self.now.records least.now.name }
@@ -364,8 +364,8 @@ impl<S: Signer> InnerInMemory<S> {
         self.records.exists(least)
     }
 
-    /// The NSEC sets that deny `name` in the zone of `origin`, lent out of the zone; see [`denial::nsec_denial`]. Refused by
-    /// `Memory` alone.
+    /// The NSEC sets that deny `name` in the zone of `origin`, lent out of the zone; see [`denial::nsec_denial`]. Its
+    /// only error is `Memory`.
     pub fn nsec_denial(
         &self,
         origin: &LowerName,
@@ -380,10 +380,10 @@ impl<S: Signer> InnerInMemory<S> {
         Ok(denial::nsec_denial(&self.records, origin, name)?)
     }
 
-    /// Stores `set` under `key`, which is its own name, in lower case, and type, and gives the set that stood there. The set
-    /// has records.
+    /// Stores `set` under `key`, which is its own name, in lower case, and type, and gives the set that was there. The
+    /// set has records.
     ///
-    /// Refused for want of memory alone, which hands the set back and leaves the zone as it was.
+    /// Fails only for lack of memory, which hands the set back and leaves the zone as it was.
     pub fn put(&mut self, key: RrKey, set: RecordSet) -> Result<Option<RecordSet>, RecordSet>
         requires { IsStoredAt key.name key.record_type.0 set }
         ensures before { IfOk result
@@ -398,7 +398,7 @@ impl<S: Signer> InnerInMemory<S> {
         self.records.put(key, set)
     }
 
-    /// Takes the set out that stands under `key`, and gives it; None where none does. This takes no memory.
+    /// Takes the set out that is under `key`, and gives it; None if none does. This doesn't allocate.
     pub fn remove(&mut self, key: &RrKey) -> Option<RecordSet>
         ensures before { result ≡ set_at self.old.records key.now.name key.now.record_type.0 }
         ensures removed { self.new ≡ record self.old {
@@ -408,7 +408,7 @@ impl<S: Signer> InnerInMemory<S> {
         self.records.remove(key)
     }
 
-    /// Takes all sets out; the signers stay. This takes no memory.
+    /// Takes all sets out; the signers stay. This doesn't allocate.
     pub fn clear(&mut self)
         ensures { self.new ≡ record self.old { records = [] } }
     {
@@ -417,8 +417,8 @@ impl<S: Signer> InnerInMemory<S> {
 
     /// Inserts `key`, the record of the key of `signer`, and puts the signer behind the others.
     ///
-    /// The record is inserted as [`InnerInMemory::upsert`] says, with the zone's `serial` and class `dns_class`. Where it
-    /// isn't taken the signer is added all the same. Refused by `Memory` alone, which leaves the zone as it was.
+    /// The record is inserted as [`InnerInMemory::upsert`] says, with the zone's `serial` and class `dns_class`. Where
+    /// it isn't taken the signer is added all the same. Its only error is `Memory`, which leaves the zone as it was.
     pub fn add_signer(
         &mut self,
         signer: S,

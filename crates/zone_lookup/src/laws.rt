@@ -3,15 +3,15 @@
 ghost use Rattle.zone_lookup.specs.AdditionalLaws.{OneRun, NoNameTwice, RunIsLongestFront, RunIsShort, SearchesAreFew, OneList};
 ghost use Rattle.zone_lookup.specs.ReplyLaws.{NegativeIsNotFound, NegativeByName};
 
-/// A query gets a negative answer only where nothing is found for it, and that of its name: so what holds where nothing is
-/// found, as that the answer agrees with a circle of denials, holds of each negative reply.
+/// A query gets a negative answer only if nothing is found for it, and then that of its name: so what holds if nothing is
+/// found, such as that the answer agrees with a chain of denials, holds for each negative reply.
 pub fn negative_is_not_found()
     ensures found { NegativeIsNotFound }
     ensures by_name { NegativeByName }
 {}
 
-/// A run of an additional search searches exactly one list of names: no name twice, and none that was seen before. They are
-/// at most one more than the zone has CNAME and ANAME sets.
+/// A run of an additional search searches exactly one list of names: no name twice, and none that was seen before. They are at
+/// most one more than the zone has CNAME and ANAME sets.
 pub fn runs_end()
     ensures one { OneRun }
     ensures distinct { NoNameTwice }
@@ -19,8 +19,8 @@ pub fn runs_end()
     ensures together { SearchesAreFew }
 {}
 
-/// However far the first targets from a name on are followed, a run searches the longest front of them in which no name
-/// comes twice and none was seen before the run began.
+/// However far the first targets from a name on are followed, a run searches the longest prefix of them in which no name is
+/// repeated and none was seen before the run began.
 pub fn run_is_longest_front()
     ensures { RunIsLongestFront }
 {}

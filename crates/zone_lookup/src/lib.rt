@@ -1,7 +1,7 @@
 //! What is answered from the record sets of a zone: what a search finds, lent or made, chains of aliases (RFC 1034 section
-//! 3.6.2), additional records (section 3.7), ANAME, and the answer by a found set; and the sets and signers themselves, with
-//! what changes them. It is the ground of `zone_store`, which hands on what its users need of it. The module `laws` has laws
-//! of the definitions.
+//! 3.6.2), additional records (section 3.7), ANAME, and the answer for a found set; and the sets and signers themselves, with
+//! what changes them. `zone_store` is built on it, and re-exports what its users need. The module `laws` has laws of the
+//! definitions.
 //!
 //! Contracts see it as the list of its sets by name and type, and its signers. An insertion that answers false, and any call
 //! that is refused, changes nothing.

@@ -18,7 +18,7 @@ use std::marker::Model;
 use zone_proto::{LowerName, ProtoError, RecordSet, RrKey};
 
 // So many sets are compared one by one: for few that is quickest.
-const FEW: usize = 16;
+const LIST_LIMIT: usize = 16;
 
 /// Found sets in the order in which they came, an equal one once.
 pub(crate) struct ListedSets<'z> {
@@ -49,7 +49,7 @@ impl<'z> Model for ListedSets<'z> {
 }
 
 impl<'z> ListedSets<'z> {
-    /// No sets. Takes no memory.
+    /// No sets. Doesn't allocate.
     pub(crate) fn new(alloc: Global) -> ListedSets<'z>
         ensures { result ≡ [] }
     {
@@ -59,13 +59,13 @@ impl<'z> ListedSets<'z> {
         }
     }
 
-    /// Puts a set behind those that are listed, unless an equal one is. Refused for want of memory alone.
+    /// Puts a set behind those that are listed, unless an equal one is. Fails only for lack of memory.
     pub(crate) fn list_new(&mut self, found: Found<'z>) -> Result<(), ProtoError>
         ensures listed { OnOk result
             (self.new ≡ with_new same_set self.old (found_set found.entry)) }
         ensures err { IsOkUnless result ProtoError.Memory }
     {
-        if self.sets.len() < FEW {
+        if self.sets.len() < LIST_LIMIT {
             if is_among(self.sets.as_slice(), found.set()) {
                 return Ok(());
             }
@@ -88,7 +88,7 @@ impl<'z> ListedSets<'z> {
     }
 }
 
-/// The owner of a set, in lower case, and its type. Refused for want of memory alone.
+/// The owner of a set, in lower case, and its type. Fails only for lack of memory.
 fn key_of(set: &RecordSet) -> Result<RrKey, ProtoError>
     ensures { IsCopy result (set_key set.now) }
 {
@@ -96,7 +96,7 @@ fn key_of(set: &RecordSet) -> Result<RrKey, ProtoError>
     Ok(RrKey::new(name, set.record_type()))
 }
 
-/// Notes the place of a set. Refused for want of memory alone.
+/// Notes the place of a set. Fails only for lack of memory.
 fn put_place(
     places: &mut BTreeMap<RrKey, usize>,
     key: RrKey,
@@ -127,7 +127,7 @@ fn is_listed(
 {
     match places.get(key) {
         Some(place) => is_among_from(sets, *place, set),
-        None => is_among(&sets[..FEW], set),
+        None => is_among(&sets[..LIST_LIMIT], set),
     }
 }
 

@@ -10,7 +10,7 @@ use std::marker::Model;
 use zone_proto::{LowerName, ProtoError};
 
 // So many names are kept as they come: to ask few one by one is quickest.
-const FEW: usize = 16;
+const LIST_LIMIT: usize = 16;
 
 /// The names that a run has searched. Nearly all runs have few; to ask many takes as long as to look one up in order.
 pub(crate) struct SeenNames {
@@ -35,7 +35,7 @@ impl Model for SeenNames {
 }
 
 impl SeenNames {
-    /// These names. Takes no memory.
+    /// These names. Doesn't allocate.
     pub(crate) fn new(names: Vec<LowerName>) -> SeenNames
         ensures { result ≡ names.items }
     {
@@ -50,12 +50,12 @@ impl SeenNames {
         self.few.contains(name) || self.others.contains(name)
     }
 
-    /// Puts a name among them. Refused for want of memory alone.
+    /// Puts a name among them. Fails only for lack of memory.
     pub(crate) fn push(&mut self, name: LowerName) -> Result<(), ProtoError>
         ensures ok { OnOk result (AreSameNames self.new (self.old ++ name ∷ [])) }
         ensures err { IsOkUnless result ProtoError.Memory }
     {
-        if self.few.len() < FEW {
+        if self.few.len() < LIST_LIMIT {
             return push(&mut self.few, name);
         }
         self.others.insert(name)?;

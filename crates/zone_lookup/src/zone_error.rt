@@ -8,7 +8,7 @@ pub enum ZoneError {
     /// The zone of this origin has no SOA.
     #[error("SOA record must be present: {0}")]
     MissingSoa(Name),
-    /// A set stands under a key that isn't its own name and type.
+    /// A set is under a key that isn't its own name and type.
     #[error("key doesn't match its set")]
     KeyMismatch,
     /// A record of the set of this name and type isn't taken into the zone of this origin.

@@ -18,7 +18,7 @@ pub advanced : (next : Option (Bor RrKey)) (left others : List RrKey) → MatchO
 advanced None left others h = sym h.0
 advanced (Some k) left others h = sym h
 
--- a key that stands before another is none of those from there on
+-- a key that comes before another is none of those from there on
 pub passed : (first k q : RrKey) (others : List RrKey) → is_upto key_cmp k first ≡ false → is_upto key_cmp k q ≡ true → list_any (key_eq q) (first ∷ others) ≡ list_any (key_eq q) others
 passed first k q others before from = by (key_eq q first) refl
   where

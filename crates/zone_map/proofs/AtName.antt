@@ -1,4 +1,4 @@
--- What stands at a name, as one pass over its entries finds it
+-- What is at a name, as one pass over its entries finds it
 use Rattle.std.proofs.Common.{◌≡◌, ◌==◌, ◌||◌, eq-eqb, eqb-true, arith, ℕ, ◌<◌, map, Bool, true, false, cond, List, [], ◌∷◌, refl, sym, ap, ◌∙◌, subst, true≢false}
 use Rattle.std.specs.Prelude.{Option, Some, None, find, is_some, option_and_then, option_map}
 use Rattle.std.specs.Cmp.{both_ways}
@@ -25,7 +25,7 @@ use Rattle.zone_map.proofs.Owned.{type_in, type_owned}
 abbrev pub first_set : (ℕ → Bool) → Name → Sets → Option RRset
 first_set p n m = option_map (λ e. e.1) (find (λ e. p e.0.record_type.0) (front n m))
 
--- ---- what a look-up finds under the type that is found first
+-- ---- what a lookup finds under the type that is found first
 
 found_passes : (p : ℕ → Bool) (ts : List ℕ) (u : ℕ) → find p ts ≡ Some u → p u ≡ true
 found_passes p [] u h = cc

@@ -10,7 +10,7 @@ use Rattle.zone_proto.specs.Sets.{RRset}
 use Rattle.zone_proto.proofs.Ordering.KeyOrder.{key_same}
 use Rattle.zone_map.specs.Zones.{Sets, IsStoredAt, AreStored, IsZone}
 
--- sets that stand under their own keys make the sets of a zone
+-- sets that are under their own keys make the sets of a zone
 pub IsZone-last : (es m : Sets) → AreStored es → IsStrictlySortedBy key_cmp (keys_of m) → ((q : RrKey) → lookup (key_eq q) m ≡ update_all key_eq (λ _. None) es q) → IsZone m
 IsZone-last es m h sorted u = record { ordered = sorted; stored = λ n t s e. by (key n t) s e }
   where
@@ -20,6 +20,6 @@ IsZone-last es m h sorted u = record { ordered = sorted; stored = λ n t s e. by
         let one = IfSome-update_all key_eq P q (λ _. None) es tt (λ k d lt same. subst (λ (x : RrKey). IsStoredAt x.name x.record_type.0 (get_or es k d).1) (key_same _ q same) (h k d lt)) in
         subst (λ (o : Option RRset). IfSome o P) (sym (u q) ∙ e) one
 
--- where each entry is found by its key, each set of a zone stands under its key
+-- where each entry is found by its key, each set of a zone is under its key
 pub AreStored-zone : (es : Sets) → IsZone es → All (λ e. lookup (key_eq e.0) es ≡ Some e.1) es → AreStored es
 AreStored-zone es zone found k d lt = let e = get_or es k d in zone.stored e.0.name e.0.record_type.0 e.1 (found k d lt)

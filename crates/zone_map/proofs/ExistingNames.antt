@@ -1,5 +1,5 @@
 -- Which names exist: what the entries from a name's least key on say, and what isn't delegated below the closest encloser
-use Rattle.std.proofs.Common.{◌≡◌, ℕ, ◌&&◌, ◌||◌, not, Bool, true, false, cond, [], ◌∷◌, drop, refl, sym, ap, ◌∙◌, subst, true≢false, Ordering, Less, Equal, Greater}
+use Rattle.std.proofs.Common.{◌≡◌, ℕ, ◌&&◌, ◌||◌, not, Bool, true, false, cond, [], ◌∷◌, drop, refl, sym, ap, ◌∙◌, true≢false, Ordering, Less, Equal, Greater}
 use Rattle.std.specs.Prelude.{Option, Some, None, find, option_map, unwrap_or, ◌==◌}
 use Rattle.std.specs.Ordering.{is_le}
 use Rattle.std.specs.List.Sorted.{IsStrictlySortedBy}
@@ -8,16 +8,16 @@ use Rattle.std.specs.Option.{option_or}
 use Rattle.std.proofs.lemmas.Map.Keys.{sorted_head, sorted_tail}
 use Rattle.zone_proto.specs.declared.rr_key.RrKey.{RrKey}
 use Rattle.zone_proto.specs.Keys.{key, key_cmp}
-use Rattle.zone_proto.specs.Names.{Name, name_cmp, name_eq, label_eq, IsAtOrAbove, is_at_or_above, is_root, suffixes, star_label, star_under}
+use Rattle.zone_proto.specs.Names.{Name, name_cmp, name_eq, label_eq, is_at_or_above, is_root, suffixes, asterisk_label, wildcard_under}
 use Rattle.zone_proto.specs.Sets.{RRset}
 use Rattle.zone_proto.specs.Types.{NS, SOA, DS}
 use Rattle.zone_proto.proofs.Members.{any_from_In, In-map}
-use Rattle.zone_proto.proofs.Names.NameTree.{is_at_or_above_sound, is_at_or_above_complete}
+use Rattle.zone_proto.proofs.Names.NameTree.{is_at_or_above_complete}
 use Rattle.zone_map.specs.Zones.{Sets, owns, owns_at_or_below}
 use Rattle.zone_map.specs.Upserts.{is_denial_type}
 use Rattle.zone_map.specs.Direct.{is_delegated, referral_at, referral, exact, direct}
 use Rattle.zone_map.specs.Walks.{referral_above, own_referral}
-use Rattle.zone_map.specs.Wildcards.{exists, asked_star}
+use Rattle.zone_map.specs.Wildcards.{exists, asked_wildcard}
 use Rattle.zone_map.proofs.Owned.{has_entry}
 use Rattle.zone_map.proofs.Neighbours.{from_key, at_or_after, earlier, before_not_below, none_below}
 use Rattle.zone_map.proofs.Walks.{referral_split}
@@ -76,36 +76,6 @@ exists_is_front n (e ∷ m) s = by (name_cmp n e.0.name) refl (exists_is_front n
         ∙ ih
         ∙ ap (λ b. shown_below n (cond b (e ∷ from_key (key n 0) m) (from_key (key n 0) m))) (sym (earlier n e h))
 
--- ---- a loop over these entries
-
-pub whole_exists : (least : RrKey) (m es : Sets) → least.record_type.0 ≡ 0 → IsStrictlySortedBy key_cmp (keys_of es) → es ≡ m → shown_below least.name (from_key least m) ≡ exists m least.name
-whole_exists least m es type_zero sorted same =
-    ap (λ t. shown_below least.name (from_key (key least.name t) m)) type_zero
-    ∙ sym (exists_is_front least.name m (subst (λ (x : Sets). IsStrictlySortedBy key_cmp (keys_of x)) same sorted))
-
-module _ (n : Name) (s t : Sets) (e : RrKey × RRset) (is : s ≡ e ∷ t) (whole : Bool) (left : shown_below n s ≡ whole) where
-  read : cond (is_at_or_above n e.0.name) (not (is_denial_type e.0.record_type.0) || shown_below n t) false ≡ whole
-  read = ap (shown_below n) (sym is) ∙ left
-
-  of_below : IsAtOrAbove n e.0.name → not (is_denial_type e.0.record_type.0) || shown_below n t ≡ whole
-  of_below u = ap (λ b. cond b (not (is_denial_type e.0.record_type.0) || shown_below n t) false) (sym (is_at_or_above_complete n e.0.name u)) ∙ read
-
-  pub denial_passed : IsAtOrAbove n e.0.name → is_denial_type e.0.record_type.0 ≡ true → shown_below n t ≡ whole
-  denial_passed u d = ap (λ b. not b || shown_below n t) (sym d) ∙ of_below u
-
-  pub shown_there : IsAtOrAbove n e.0.name → is_denial_type e.0.record_type.0 ≡ false → true ≡ whole
-  shown_there u d = ap (λ b. not b || shown_below n t) (sym d) ∙ of_below u
-
-  pub none_shown : (IsAtOrAbove n e.0.name → ⊥) → false ≡ whole
-  none_shown u = by (is_at_or_above n e.0.name) refl
-    where
-      by : (b : Bool) → is_at_or_above n e.0.name ≡ b → false ≡ whole
-      by true g = absurd (u (is_at_or_above_sound n e.0.name g))
-      by false g = ap (λ b. cond b (not (is_denial_type e.0.record_type.0) || shown_below n t) false) (sym g) ∙ read
-
-pub none_left : (n : Name) (s : Sets) (whole : Bool) → s ≡ [] → shown_below n s ≡ whole → false ≡ whole
-none_left n s whole e h = ap (shown_below n) (sym e) ∙ h
-
 -- ---- above a name that doesn't exist, and up to its closest encloser, nothing is delegated
 
 pub undelegated : (m : Sets) (a : Name) → exists m a ≡ false → is_delegated m a ≡ false
@@ -139,23 +109,24 @@ first_none : (o p : Option RRset) → option_or o p ≡ None → o ≡ None
 first_none None p h = refl
 first_none (Some s) p h = absurd cc
 
--- what the names above the star that is asked say of the referral, where nothing is found at the name itself
-pub star_unreferred : (m : Sets) (n s : Name) (t : ℕ) → direct m n t ≡ None → asked_star m n ≡ Some s → referral_above m (drop 1 s) ≡ None
+-- what the names above the wildcard at the closest encloser say of the referral, where nothing is found at the name
+-- itself
+pub star_unreferred : (m : Sets) (n s : Name) (t : ℕ) → direct m n t ≡ None → asked_wildcard m n ≡ Some s → referral_above m (drop 1 s) ≡ None
 star_unreferred m [] s t none is = absurd cc
-star_unreferred m (l ∷ n) s t none is = by (label_eq l star_label) (exists m (l ∷ n)) refl is
+star_unreferred m (l ∷ n) s t none is = by (label_eq l asterisk_label) (exists m (l ∷ n)) refl is
   where
     above : exists m (l ∷ n) ≡ false → referral_above m n ≡ None
     above h =
         sym (referral_split m (l ∷ n) t ∙ ap (λ o. unwrap_or o (referral_above m n)) (unsaid m (l ∷ n) t h))
         ∙ first_none (referral m (l ∷ n) t) (exact m (l ∷ n) t) none
 
-    of : exists m (l ∷ n) ≡ false → (o : Option Name) → find (exists m) (suffixes n) ≡ o → option_map star_under o ≡ Some s → referral_above m (drop 1 s) ≡ None
+    of : exists m (l ∷ n) ≡ false → (o : Option Name) → find (exists m) (suffixes n) ≡ o → option_map wildcard_under o ≡ Some s → referral_above m (drop 1 s) ≡ None
     of h None f g = absurd cc
     of h (Some e) f g =
-        let same : star_under e ≡ s = cc in
+        let same : wildcard_under e ≡ s = cc in
         ap (λ x. referral_above m (drop 1 x)) (sym same) ∙ sym (above_encloser m n e f) ∙ above h
 
-    by : (b x : Bool) → exists m (l ∷ n) ≡ x → cond (b || x) None (option_map star_under (find (exists m) (suffixes n))) ≡ Some s → referral_above m (drop 1 s) ≡ None
+    by : (b x : Bool) → exists m (l ∷ n) ≡ x → cond (b || x) None (option_map wildcard_under (find (exists m) (suffixes n))) ≡ Some s → referral_above m (drop 1 s) ≡ None
     by true x h g = absurd cc
     by false true h g = absurd cc
     by false false h g = of h (find (exists m) (suffixes n)) refl g

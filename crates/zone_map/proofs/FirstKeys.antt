@@ -1,4 +1,4 @@
--- The first key from a name's least key on mostly tells whether the name exists
+-- The first key from a name's least key on mostly says whether the name exists
 use Rattle.std.proofs.Common.{◌≡◌, ◌&&◌, ◌||◌, not, Bool, true, false, cond, [], ◌∷◌, refl, sym, ap, ◌∙◌}
 use Rattle.std.specs.Prelude.{Option, Some, None, find}
 use Rattle.std.specs.List.Sorted.{IsStrictlySortedBy}

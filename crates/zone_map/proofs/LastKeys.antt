@@ -1,4 +1,5 @@
--- The last owner of a type that isn't after a name stands in the last key that isn't after the name and the type, where that is of the type
+-- The last owner of a type that isn't after a name is in the last key that isn't after the name and the type, where
+-- that is of the type
 use Rattle.std.proofs.Common.{◌≡◌, ◌==◌, eqb-true, eq-eqb, Bool, not, true, false, cond, [], ◌∷◌, ◌++◌, refl, sym, ap, ◌∙◌, Ordering, Less, Equal, Greater}
 use Rattle.std.specs.Prelude.{Some, None, filter, filter_map}
 use Rattle.std.specs.BTreeMap.Range.{range_contains}

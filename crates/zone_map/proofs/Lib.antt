@@ -13,6 +13,8 @@ pub mod CnamesAlone
 pub mod LastKeys
 pub mod Lists
 pub mod OwnersKept
+pub mod OtherOwners
+pub mod OwnerIndexes
 pub mod OwnersBelow
 pub mod Delegations
 pub mod Wildcards

@@ -1,4 +1,4 @@
--- The lists of a zone's names and types: their order, and what stands in them
+-- The lists of a zone's names and types: their order, and what is in them
 use Rattle.std.proofs.Common.{◌≡◌, ℕ, zero, suc, ◌<◌, ◌==◌, Bool, true, false, cond, List, [], ◌∷◌, length, refl, sym, ap, ◌∙◌, arith, get_or, inl, inr, eqb-true, Ordering, Less, Equal, Greater}
 use Rattle.std.specs.Prelude.{Some, None}
 use Rattle.std.specs.List.{All, AllPairs, AllByRecursion, Contains, cons_option}
@@ -91,7 +91,7 @@ names_ascend (e ∷ m) s =
     AllPairs-cons (λ a b. is_upto name_cmp a b ≡ true) e.0.name (names_of m) (names_above e.0 m (sorted_head key_cmp e.0 (keys_of m) s))
     (names_ascend m (sorted_tail key_cmp e.0 (keys_of m) s))
 
--- ---- what stands in the lists
+-- ---- what is in the lists
 
 contains_from_In : {A : Type 0} (x : A) (xs : List A) → In x xs → Contains xs x
 contains_from_In x [] i = absurd i

@@ -2,7 +2,7 @@
 use Rattle.std.proofs.Common.{Bor, ◌≡◌, ℕ, ◌||◌, not, Bool, true, false, cond, [], ◌∷◌, drop, refl, sym, ap, ◌∙◌}
 use Rattle.std.specs.Prelude.{Option, Some, None, find, option_copied, option_map}
 use Rattle.std.specs.Option.{option_map_or}
-use Rattle.zone_proto.specs.Names.{Name, is_root, suffixes, wildcard_of, is_wildcard, star_under}
+use Rattle.zone_proto.specs.Names.{Name, is_root, suffixes, wildcard_of, is_wildcard, wildcard_under}
 use Rattle.zone_proto.specs.Sets.{RRset}
 use Rattle.zone_map.specs.Zones.{Sets}
 use Rattle.zone_map.specs.declared.direct.Direct.{Direct}
@@ -10,7 +10,7 @@ use Rattle.zone_map.specs.declared.direct.Direct.TheVariants as found
 use Rattle.zone_map.specs.declared.direct.Missing.{Missing}
 use Rattle.zone_map.specs.Direct.{is_delegated, referral_at, exact}
 use Rattle.zone_map.specs.Walks.{referral_above, own_referral, IsChild, FindsAbove, FindsDirect}
-use Rattle.zone_map.specs.Wildcards.{exists, asked_star}
+use Rattle.zone_map.specs.Wildcards.{exists, asked_wildcard}
 use Rattle.zone_map.proofs.ExistingNames.{undelegated, unsaid}
 use Rattle.zone_map.proofs.Neighbours.{not_false, not_true}
 use Rattle.zone_map.proofs.Walks.{direct_above}
@@ -49,13 +49,13 @@ module _ (m : Sets) where
   pub delegated_exists : (n : Name) (t : ℕ) (r : Option RRset) → own_referral m n t ≡ Some r → true ≡ exists m n
   delegated_exists n t r e = sym (said_exists n t r e (exists m n) refl)
 
-  -- ---- the star that is asked
+  -- ---- the wildcard at the closest encloser
 
-  pub unasked : (n : Name) → not (is_root n || is_wildcard n || exists m n) ≡ false → None ≡ asked_star m n
+  pub unasked : (n : Name) → not (is_root n || is_wildcard n || exists m n) ≡ false → None ≡ asked_wildcard m n
   unasked [] h = refl
-  unasked (l ∷ n) h = sym (ap (λ b. cond b None (option_map star_under (find (exists m) (suffixes n)))) (not_false (is_wildcard (l ∷ n) || exists m (l ∷ n)) h))
+  unasked (l ∷ n) h = sym (ap (λ b. cond b None (option_map wildcard_under (find (exists m) (suffixes n)))) (not_false (is_wildcard (l ∷ n) || exists m (l ∷ n)) h))
 
-  -- a star is asked for names alone that don't exist
+  -- a wildcard is asked for names alone that don't exist
   pub absent_where_asked : (n : Name) → not (is_root n || is_wildcard n || exists m n) ≡ true → exists m n ≡ false
   absent_where_asked n h = by (is_root n) (is_wildcard n) (exists m n) h
     where
@@ -66,13 +66,13 @@ module _ (m : Sets) where
       by false false false h = refl
 
   pub asked_of_nearest : (n : Name) (o : Option Name) → not (is_root n || is_wildcard n || exists m n) ≡ true → find (exists m) (suffixes (drop 1 n)) ≡ o
-      → asked_star m n ≡ option_map star_under o
+      → asked_wildcard m n ≡ option_map wildcard_under o
   asked_of_nearest [] o h f = cc
   asked_of_nearest (l ∷ n) o h f =
-      ap (λ b. cond b None (option_map star_under (find (exists m) (suffixes n)))) (not_true (is_wildcard (l ∷ n) || exists m (l ∷ n)) h)
-      ∙ ap (option_map star_under) f
+      ap (λ b. cond b None (option_map wildcard_under (find (exists m) (suffixes n)))) (not_true (is_wildcard (l ∷ n) || exists m (l ∷ n)) h)
+      ∙ ap (option_map wildcard_under) f
 
-  pub delegated_asks_none : (n : Name) (t : ℕ) (r : Option RRset) → own_referral m n t ≡ Some r → None ≡ asked_star m n
+  pub delegated_asks_none : (n : Name) (t : ℕ) (r : Option RRset) → own_referral m n t ≡ Some r → None ≡ asked_wildcard m n
   delegated_asks_none n t r e = unasked n (ap (λ b. not (is_root n || is_wildcard n || b)) (said_exists n t r e (exists m n) refl) ∙ always (is_root n) (is_wildcard n))
     where
       always : (b c : Bool) → not (b || c || true) ≡ false
@@ -80,9 +80,9 @@ module _ (m : Sets) where
       always false true = refl
       always false false = refl
 
--- `*` in the place of the first label of the next closer name is the star that is asked
+-- `*` in place of the first label of the next closer name is the wildcard at the closest encloser
 pub star_of_nearest : (m : Sets) (n e closer : Name) → not (is_root n || is_wildcard n || exists m n) ≡ true → find (exists m) (suffixes (drop 1 n)) ≡ Some e → IsChild closer e
-    → Some (wildcard_of closer) ≡ asked_star m n
+    → Some (wildcard_of closer) ≡ asked_wildcard m n
 star_of_nearest m n e closer h f (l, is) = ap (λ x. Some (wildcard_of x)) is ∙ sym (asked_of_nearest m n (Some e) h f)
 
 -- ---- what a walk finds

@@ -21,7 +21,7 @@ use Rattle.zone_proto.proofs.Names.Tree.{name_order, above_cases, together}
 use Rattle.zone_map.specs.Counts.{one_more}
 use Rattle.zone_map.specs.Zones.{Sets, has_key_from, types_at, owns_at_or_below}
 
--- the entries that stand at or after a key
+-- the entries that are at or after a key
 abbrev pub from_key : RrKey → Sets → Sets
 from_key k m = entries_between key_cmp (Included k) Unbounded m
 
@@ -64,7 +64,7 @@ zero_first : (t : ℕ) → is_le (nat_cmp 0 t) ≡ true
 zero_first zero = refl
 zero_first (suc t) = ap is_le (sym (nat_cmp_is 0 (suc t) Less (omega arith)))
 
--- an entry stands at or after the least key of a name that isn't after its own
+-- an entry is at or after the least key of a name that isn't after its own
 pub at_or_after : (n : Name) (e : RrKey × RRset) → is_le (name_cmp n e.0.name) ≡ true → range_contains key_cmp (Included (key n 0)) Unbounded e.0 ≡ true
 at_or_after n e h = by (name_cmp n e.0.name) h
   where
@@ -110,7 +110,7 @@ apart n e h = by (name_eq n e.0.name) refl
         absurd (true≢false (ap is_gt (sym h) ∙ ap is_gt (ap (name_cmp n) (sym same) ∙ tied_itself name_order.total n)))
     by false g = refl
 
--- no entry of a map in order is of a name that stands before the first
+-- no entry of a map in order is of a name that comes before the first
 none_later : (n : Name) (e : RrKey × RRset) (m : Sets) → name_cmp n e.0.name ≡ Less → AllByRecursion (λ k. key_cmp e.0 k ≡ Less) (keys_of m) → entries_of n m ≡ []
 none_later n e [] h a = refl
 none_later n e (f ∷ m) h a =
@@ -151,14 +151,14 @@ types_of_entries n (e ∷ m) = by (name_eq n e.0.name) (types_of_entries n m)
 pub front_is_types : (n : Name) (m : Sets) → IsStrictlySortedBy key_cmp (keys_of m) → front_types n (from_key (key n 0) m) ≡ types_at m n
 front_is_types n m s = ap (map (λ (d : RrKey × RRset). d.0.record_type.0)) (front_is_whole_name n m s) ∙ types_of_entries n m
 
--- ---- the first entry from a name's least key on tells whether the name or a name below it owns a set
+-- ---- the first entry from a name's least key on says whether the name or a name below it owns a set
 
 -- whether the first entry is of the name or of a name below it
 abbrev pub first_is_below : Name → Sets → Bool
 first_is_below n [] = false
 first_is_below n (e ∷ m) = is_at_or_above n e.0.name
 
--- a name that stands before n isn't below it
+-- a name that comes before n isn't below it
 pub before_not_below : (n : Name) (e : RrKey × RRset) → name_cmp n e.0.name ≡ Greater → is_at_or_above n e.0.name ≡ false
 before_not_below n e h = by (is_at_or_above n e.0.name) refl
   where

@@ -13,7 +13,7 @@ use Rattle.zone_proto.proofs.Members.{In, any_from_In, In-filter_map, In-from_fi
 use Rattle.zone_proto.proofs.Names.NameTree.{name_eq-Decides}
 use Rattle.zone_map.specs.Zones.{Sets, set_at, owns, names_of, owners, types_at, IsStoredAt, IsZone}
 
--- an entry of an owned key stands in the map
+-- an entry of an owned key is in the map
 pub has_entry : (m : Sets) (n : Name) (t : ℕ) → owns m n t ≡ true → (s : RRset) × In (key n t, s) m
 has_entry [] n t h = absurd (true≢false (sym h))
 has_entry ((k, s) ∷ m) n t h = by (key_eq (key n t) k) refl (λ g. has_entry m n t g) h
@@ -76,7 +76,7 @@ name_owned m n i =
     let r = In-from_map (λ (d : RrKey × RRset). d.0.name) n m i in
     (r.0.0.record_type.0, entry_owned m n r.0.0.record_type.0 r.0 r.1 (λ j. key (r.2 j) r.0.0.record_type.0))
 
--- a set that a look-up finds is stored as it is to be
+-- a set that a lookup finds is stored as it is to be
 pub found_stored : (m : Sets) (n : Name) (t : ℕ) (r : Option (Bor RRset)) → option_copied r ≡ set_at m n t → IsZone m → IfSome r (λ s. IsStoredAt n t s.now)
 found_stored m n t None e i = tt
 found_stored m n t (Some s) e i = i.stored n t s.now (sym e)

@@ -1,4 +1,4 @@
--- Whether an owner stands at or below a name: the first one that isn't before the name tells
+-- Whether an owner is at or below a name: the first one that isn't before the name tells
 use Rattle.std.proofs.Common.{◌≡◌, ◌↔◌, ◌&&◌, ◌||◌, Bool, true, false, cond, List, [], ◌∷◌, refl, sym, ap, ◌∙◌, true≢false, subst, ◌⊎◌, inl, inr, ℕ, Less, IsTrue}
 use Rattle.std.specs.Prelude.{filter}
 use Rattle.std.specs.BTreeMap.Range.{range_contains}
@@ -26,7 +26,7 @@ abbrev pub first_is_below : Name → List Name → Bool
 first_is_below n [] = false
 first_is_below n (o ∷ os) = is_at_or_above n o
 
--- a name that stands before n isn't below it
+-- a name that comes before n isn't below it
 before_not_below : (n o : Name) → is_upto name_cmp n o ≡ false → is_at_or_above n o ≡ false
 before_not_below n o h = by (is_at_or_above n o) refl
   where

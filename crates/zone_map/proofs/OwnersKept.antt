@@ -146,9 +146,6 @@ owners_of_keys (d ∷ m) (f ∷ n) t e =
     let rest : keys_of n ≡ keys_of m = cc in
     λ i. cons_option (owner_of t (first i)) (owners_of_keys m n t rest i)
 
-pub index_of_keys : (m n : Sets) (listed : Owners) → keys_of n ≡ keys_of m → listed ≡ owners_of m → listed ≡ owners_of n
-index_of_keys m n listed e h = h ∙ (λ i. record { nsec = sym (owners_of_keys m n NSEC e) i; nsec3 = sym (owners_of_keys m n NSEC3 e) i })
-
 -- the owners of a type, collected in their order
 pub collected : (m : Sets) (t : ℕ) (names : List Name) (made : BTreeSet Name) → names ≡ owners m t → IsStrictlySortedBy key_cmp (keys_of m) → IsFromIterResult name_cmp names made → made.keys ≡ owners m t
 collected m t names made is s from =
@@ -157,7 +154,7 @@ collected m t names made is s from =
 
 -- ---- both lists of the index
 
-differs : (t u : ℕ) → (t == u) ≡ false → (u == t) ≡ false
+pub differs : (t u : ℕ) → (t == u) ≡ false → (u == t) ≡ false
 differs t u h = nat_eq_equiv.symm u t ∙ h
 
 pub nsec_put : (m : Sets) (k : RrKey) (v : RRset) (listed : Owners) (names : List Name) → k.record_type.0 ≡ NSEC → IsStrictlySortedBy key_cmp (keys_of m) → listed ≡ owners_of m

@@ -1,4 +1,4 @@
--- Sets are parted by whether others stand under their keys
+-- Sets are parted by whether others are under their keys
 use Rattle.std.proofs.Common.{◌≡◌, Bool, true, false, cond, List, [], ◌∷◌, ◌++◌, length, refl, sym, ap, ◌∙◌, subst, append_assoc, arith}
 use Rattle.std.specs.Prelude.{not, ◌||◌, filter}
 use Rattle.std.specs.BTreeMap.{BTreeMap, IsFromIterResult}

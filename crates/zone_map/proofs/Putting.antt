@@ -32,7 +32,7 @@ nothing k = None
 
 -- ---- sets that are exchanged
 
--- where nothing stands under a key, nothing is set there
+-- where nothing is under a key, nothing is set there
 pub set_value_absent : (test : RrKey → Bool) (m : Sets) (v : RRset) → lookup test m ≡ None → set_value test m v ≡ m
 set_value_absent test [] v absent = refl
 set_value_absent test (e ∷ m) v absent = by (test e.0) absent (λ h. set_value_absent test m v h)
@@ -54,7 +54,7 @@ pub with_before-push : (m : Sets) (log : Sets) (k : RrKey) (s : RRset) → with_
 with_before-push m [] k s = refl
 with_before-push m (e ∷ log) k s = ap (λ (n : Sets). set_value (key_eq e.0) n e.1) (with_before-push m log k s)
 
--- one more set that is exchanged, with what stood there behind what is to be undone, changes nothing of what comes out
+-- one more set that is exchanged, with what was there behind what is to be undone, changes nothing of what comes out
 pub undone_more : (m n : Sets) (log more : Sets) (k : RrKey) (s stood : RRset) → n ≡ set_value (key_eq k) m s → lookup (key_eq k) m ≡ Some stood → more ≡ log ++ (k, stood) ∷ []
     → with_before n more ≡ with_before m log
 undone_more m n log more k s stood is found pushed =
@@ -89,7 +89,7 @@ or_updated : (b : Bool) (v : RRset) (x o : Option RRset) → cond b (Some v) (op
 or_updated true v x o = refl
 or_updated false v x o = refl
 
--- and so with many: the one that came last, else the one that stood there
+-- and so with many: the one that came last, else the one that was there
 found_exchanged : (es m : Sets) (f : RrKey → Option RRset) (o : Option RRset) (q : RrKey) → is_some (lookup (key_eq q) m) ≡ true → lookup (key_eq q) m ≡ option_or (f q) o
     → lookup (key_eq q) (with_exchanged m es) ≡ option_or (update_all key_eq f es q) o
 found_exchanged [] m f o q there h = h

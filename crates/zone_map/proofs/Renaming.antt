@@ -1,4 +1,4 @@
--- A signature of a star's set under the queried name
+-- A signature of a wildcard's set under the queried name
 use Rattle.std.proofs.Common.{◌≡◌, Bool, true, false, cond, refl}
 use Rattle.zone_proto.specs.declared.record.Record.{Record}
 use Rattle.zone_proto.specs.Names.{Name, same_name}

@@ -35,7 +35,7 @@ keys_of-standing (e ∷ es) (f ∷ fs) (same, here, rest) = ap (λ k. k ∷ keys
 keys_of-standing [] (f ∷ fs) stand = absurd stand
 keys_of-standing (e ∷ es) [] stand = absurd stand
 
--- what is found under a key was found there, and stands there if that stood there
+-- what is found under a key was found there, and is there if that was there
 found_standing : (n : Name) (t : ℕ) (es fs : Sets) (s : RRset) → StandAs es fs → set_at fs n t ≡ Some s
     → (before : RRset) × (set_at es n t ≡ Some before) × (IsStoredAt n t before → IsStoredAt n t s)
 found_standing n t [] [] s stand h = absurd cc
@@ -97,7 +97,7 @@ IsZone-stepped_under apex es = IsZone-standing es (stepped_under apex es) (Stand
 pub keys_renewed : (apex : RrKey) (es : Sets) (made : List (List Record)) → keys_of (stepped_under apex (with_signatures es made)) ≡ keys_of es
 keys_renewed apex es made = keys_of-standing (with_signatures es made) (stepped_under apex (with_signatures es made)) (StandAs-stepped_under apex (with_signatures es made)) ∙ keys_of-standing es (with_signatures es made) (StandAs-with_signatures es made)
 
--- where no set stands under `apex`, none is stepped
+-- where no set is under `apex`, none is stepped
 pub stepped_none : (apex : RrKey) (es : Sets) → lookup (key_eq apex) es ≡ None → stepped_under apex es ≡ es
 stepped_none apex [] h = refl
 stepped_none apex (e ∷ es) h = by (key_eq apex e.0) h (stepped_none apex es)
@@ -107,7 +107,7 @@ stepped_none apex (e ∷ es) h = by (key_eq apex e.0) h (stepped_none apex es)
     by true g i = absurd cc
     by false g i = ap (λ (rest : Sets). e ∷ rest) (i g)
 
--- else the set there is, and no other, as no key stands twice
+-- else the set there is, and no other, as no key appears twice
 pub stepped_one : (apex : RrKey) (es : Sets) (s : RRset) → IsStrictlySortedBy key_cmp (keys_of es) → lookup (key_eq apex) es ≡ Some s → set_value (key_eq apex) es (stepped s) ≡ stepped_under apex es
 stepped_one apex [] s sorted h = refl
 stepped_one apex (e ∷ es) s sorted h = by (key_eq apex e.0) refl h (λ g. stepped_one apex es s (sorted_tail key_cmp e.0 (keys_of es) sorted) g)
@@ -122,7 +122,7 @@ stepped_one apex (e ∷ es) s sorted h = by (key_eq apex e.0) refl h (λ g. step
         ∙ ap (λ (rest : Sets). (e.0, stepped e.1) ∷ rest) (sym (stepped_none apex es (lookup-none (key_eq apex) es others)))
     by false k g i = ap (λ (rest : Sets). e ∷ rest) (i g)
 
--- what stands in a list behind a part stays there when the part is exchanged
+-- what is in a list behind a part stays there when the part is exchanged
 behind_exchanged : (own part rest given : List Record) (start : ℕ) → drop start given ≡ part ++ rest → length part ≡ length own
     → drop (start + length own) (take start given ++ own ++ drop (start + length own) given) ≡ rest
 behind_exchanged own part rest given start is same = by (nat_le (start + length own) (length given)) refl
@@ -142,7 +142,7 @@ behind_exchanged own part rest given start is same = by (nat_le (start + length 
         let all : length (take start given ++ own ++ drop (start + length own) given) ≤ start + length own = simp (length-append, length-take, length-drop) (omega (arith, long)) in
         drop_all (start + length own) _ all ∙ sym (nil_from_length rest nothing)
 
--- a set that is handed a part in exchange for what it has gets its signatures, and what stands behind the part is left
+-- a set that is handed a part in exchange for what it has gets its signatures, and what follows the part is left
 pub part_exchanged : (s after : RRset) (signatures part rest given given_after : List Record) (start next : ℕ) → drop start given ≡ part ++ rest → IsHanded s signatures None part
     → (length s.signatures ≤ length (drop start given) → after ≡ record s { signatures = take (length s.signatures) (drop start given) })
     → (length s.signatures ≤ length (drop start given) → given_after ≡ take start given ++ s.signatures ++ drop (start + length s.signatures) given)

@@ -34,7 +34,7 @@ above_put b (e ∷ m) k v h a = by (key_cmp k e.0) (above_put b m k v h a.1)
     by Equal i = a
     by Greater i = (a.0, i)
 
-sorted_put : (m : Sets) (k : RrKey) (v : RRset) → IsStrictlySortedBy key_cmp (keys_of m) → IsStrictlySortedBy key_cmp (keys_of (insert_entry key_cmp m k v))
+pub sorted_put : (m : Sets) (k : RrKey) (v : RRset) → IsStrictlySortedBy key_cmp (keys_of m) → IsStrictlySortedBy key_cmp (keys_of (insert_entry key_cmp m k v))
 unfolding IsStrictlySortedBy
 sorted_put [] k v s = (tt, tt)
 sorted_put (e ∷ m) k v s = by (key_cmp k e.0) refl (sorted_put m k v s.1)
@@ -63,7 +63,7 @@ sorted_without k (e ∷ m) s = by (key_eq k e.0) (sorted_without k m s.1)
     by true i = s.1
     by false i = (above_without e.0 k m s.0, i)
 
--- ---- what a look-up finds where a set was put
+-- ---- what a lookup finds where a set was put
 
 put_found : (m : Sets) (k : RrKey) (v : RRset) → lookup (key_eq k) (insert_entry key_cmp m k v) ≡ Some v
 put_found [] k v = ap (λ b. cond b (Some v) None) (key_itself k)

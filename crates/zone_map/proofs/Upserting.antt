@@ -84,7 +84,7 @@ module _ (s : RRset) (r : Record) (serial : ℕ) (w : RRset) where
   of_data (V.ANAME a) e = of_replaced e
   of_data d e = of_other (stores s.records d) e
 
--- a set that took a record may stand under the record's name and type
+-- a set that took a record may be under the record's name and type
 pub inserted_stored : (s : RRset) (r : Record) (serial : ℕ) (w : RRset) → IsName (lower r.name) → lower s.owner ≡ lower r.name → s.record_type ≡ type_of r.rdata → IsSet s.owner s.record_type s.records
     → inserted s r serial ≡ Some w → IsStoredAt (lower r.name) (type_of r.rdata) w
 inserted_stored s r serial w named o k i e =
@@ -106,7 +106,7 @@ IsSet-empty owner t =
       single = λ _. omega arith;
     }
 
--- the set that takes a record may stand there, records aside
+-- the set that takes a record may be there, records aside
 takes_there : (m : Sets) (r : Record) (serial : ℕ) → IsZone m
     → (lower (set_for m r serial).owner ≡ lower r.name) × ((set_for m r serial).record_type ≡ type_of r.rdata) × IsSet (set_for m r serial).owner (set_for m r serial).record_type (set_for m r serial).records
 takes_there m r serial zone = by (set_at m (lower r.name) (type_of r.rdata)) refl

@@ -9,7 +9,7 @@ use Rattle.zone_proto.specs.Types.{A, CNAME, MX, AAAA, ANY}
 use Rattle.zone_map.specs.Zones.{Sets, types_at}
 use Rattle.zone_map.specs.Direct.{least_owned}
 
--- the types that are commonly asked for, which stand before all others (RFC 8482 section 4.3)
+-- the types that are commonly asked for, which come before all others (RFC 8482 section 4.3)
 abbrev pub preferred_types : List ℕ
 preferred_types = A ∷ CNAME ∷ MX ∷ AAAA ∷ []
 

@@ -34,7 +34,7 @@ links_from m signed t (suc k) (Some n) = option_map_or (λ s. (n, s) ∷ links_f
 abbrev pub links : Sets → Bool → Name → RRset → ℕ → ℕ → List (Name × RRset)
 links m signed n s t k = (n, s) ∷ links_from m signed t k (cname_target s)
 
--- no name stands twice
+-- no name appears twice
 abbrev pub are_distinct : List Name → Bool
 are_distinct [] = true
 are_distinct (n ∷ ns) = not (list_any (name_eq n) ns) && are_distinct ns

@@ -5,7 +5,7 @@ use Rattle.std.specs.Map.{keys_of, lookup, set_value}
 use Rattle.std.specs.Option.{option_or, unwrap_or}
 use Rattle.zone_proto.specs.declared.rr_key.RrKey.{RrKey}
 use Rattle.zone_proto.specs.Keys.{key_cmp, key_eq}
-use Rattle.zone_map.specs.DenialOwners.{Owners, owners_of}
+use Rattle.zone_map.specs.DenialOwners.{Listed, listed_of}
 use Rattle.zone_map.specs.Upserts.{is_denial_type}
 use Rattle.zone_map.specs.Zones.{Sets, without, IsZone}
 
@@ -33,21 +33,21 @@ abbrev pub without_added : Sets → Option (List RrKey) → Sets
 without_added m (Some keys) = without_all m keys
 without_added m None = without_denials m
 
--- sets that others were put into: under each key is the one that was put there, else the one that stood there
+-- sets that others were put into: under each key is the one that was put there, else the one that was there
 pub record ArePut (had more after : Sets) : Type 0 where
   pub was_ordered : IsStrictlySortedBy key_cmp (keys_of more)
   pub ordered : IsStrictlySortedBy key_cmp (keys_of after)
   pub found : (k : RrKey) → lookup (key_eq k) after ≡ option_or (lookup (key_eq k) more) (lookup (key_eq k) had)
 
 -- what stood there before sets were put in: those in whose place others came, each under its key; the keys under which none
--- stood, which aren't named where sets of denial alone came and none stood; and the owners of the sets of denial, if others came
+-- stood, which aren't named where sets of denial alone came and none stood; and the owners of the sets, if others came
 pub record Before : Type 0 where
   pub exchanged : Sets
   pub added : Option (List RrKey)
-  pub owners : Option Owners
+  pub owners : Option Listed
 
 -- with it, the sets that a zone has after others were put there are again those that it had
 pub record Restores (before : Before) (after had : Sets) : Type 0 where
   pub zone : IsZone had
   pub sets : with_before (without_added after before.added) before.exchanged ≡ had
-  pub index : unwrap_or before.owners (owners_of after) ≡ owners_of had
+  pub index : unwrap_or before.owners (listed_of after) ≡ listed_of had

@@ -1,4 +1,4 @@
--- The sets of one type that stand in a zone, and their serials
+-- The sets of one type that are in a zone, and their serials
 use Rattle.std.specs.Prelude.{ℕ, ◌==◌, cond, if◌then◌else◌, [], map, Option, None, option_map}
 use Rattle.zone_proto.specs.declared.rr_key.RrKey.{RrKey}
 use Rattle.zone_proto.specs.Names.{Name}
@@ -9,7 +9,7 @@ use Rattle.zone_map.specs.Zones.{Sets, set_at}
 abbrev pub renumbered : ℕ → RRset → RRset
 renumbered serial s = record s { serial = serial; signatures = [] }
 
--- the sets of a type that stand in a zone, each so, by name and type
+-- the sets of a type that are in a zone, each so, by name and type
 abbrev pub standing_at : Sets → ℕ → ℕ → Name → ℕ → Option RRset
 standing_at m denials serial n t = cond (t == denials) (option_map (renumbered serial) (set_at m n t)) None
 

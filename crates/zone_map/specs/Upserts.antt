@@ -9,7 +9,7 @@ use Rattle.zone_proto.specs.Types.{CNAME, NSEC, NSEC3}
 use Rattle.zone_proto.specs.Sets.{RRset, inserted, empty_set}
 use Rattle.zone_map.specs.Zones.{Sets, set_at, owns, types_at, put}
 
--- the types of denial, which may stand beside a CNAME (RFC 4034 section 4, RFC 4035 section 2.5)
+-- the types of denial, which may be beside a CNAME (RFC 4034 section 4, RFC 4035 section 2.5)
 abbrev pub is_denial_type : ℕ → Bool
 is_denial_type t = (t == NSEC) || (t == NSEC3)
 
@@ -25,7 +25,7 @@ clashes m n t = list_any (clash t) (types_at m n)
 abbrev pub set_for : Sets → Record → ℕ → RRset
 set_for m r serial = unwrap_or (set_at m (lower r.name) (type_of r.rdata)) (empty_set r.name (type_of r.rdata) serial)
 
--- the map once a record is inserted, or none where the set doesn't take it
+-- the map once a record is inserted, or none if the set doesn't take it
 abbrev pub with_record : Sets → Record → ℕ → Option Sets
 with_record m r serial = option_map (put m (lower r.name) (type_of r.rdata)) (inserted (set_for m r serial) r serial)
 
@@ -33,7 +33,7 @@ with_record m r serial = option_map (put m (lower r.name) (type_of r.rdata)) (in
 abbrev pub upserted : Sets → ℕ → Record → ℕ → Option Sets
 upserted m class r serial = cond ((r.dns_class.0 == class) && not (clashes m (lower r.name) (type_of r.rdata))) (with_record m r serial) None
 
--- the map once records are inserted one after the other, or none where one of them isn't taken
+-- the map once records are inserted one after the other, or none if one of them isn't taken
 abbrev pub all_upserted : Sets → ℕ → List Record → ℕ → Option Sets
 all_upserted m class [] serial = Some m
 all_upserted m class (r ∷ rs) serial = option_and_then (λ n. all_upserted n class rs serial) (upserted m class r serial)

@@ -13,7 +13,7 @@ use Rattle.zone_map.specs.declared.direct.Direct.TheVariants as found
 use Rattle.zone_map.specs.declared.direct.Missing.{Missing}
 use Rattle.zone_map.specs.Zones.{Sets}
 use Rattle.zone_map.specs.Direct.{is_delegated, is_delegated_for, referral_at, direct}
-use Rattle.zone_map.specs.Wildcards.{exists, asked_star}
+use Rattle.zone_map.specs.Wildcards.{exists, asked_wildcard}
 
 -- the referral that the names from a up give
 abbrev pub referral_above : Sets → Name → Option RRset
@@ -23,7 +23,8 @@ referral_above m a = referral_at m (find (is_delegated m) (suffixes a))
 abbrev pub own_referral : Sets → Name → ℕ → Option (Option RRset)
 own_referral m n t = cond (is_delegated_for m n t n) (Some (referral_at m (Some n))) None
 
--- the first key that stands at or after the first one that a name may have: it tells whether the name, or a name below it, owns a set
+-- the first key that is at or after the first one that a name may have: it says whether the name, or a name below it,
+-- owns a set
 abbrev pub first_key_from : Sets → Name → Option RrKey
 first_key_from m n = find (is_upto key_cmp (first_key n)) (keys_of m)
 
@@ -32,15 +33,16 @@ abbrev pub IsChild : Name → Name → Type 0
 IsChild c n = (l : Label) × (c ≡ l ∷ n)
 
 -- what a name tells, as a walk has it: nothing, the NS set at a cut, or that there is no referral
-abbrev pub told_by : Delegation → Option (Option RRset)
-told_by delegation.Nothing = None
-told_by (delegation.Cut s) = Some (Some s.now)
-told_by delegation.Apex = Some None
+abbrev pub referral_seen : Delegation → Option (Option RRset)
+referral_seen delegation.Nothing = None
+referral_seen (delegation.Cut s) = Some (Some s.now)
+referral_seen delegation.Apex = Some None
 
--- what a walk has seen of n where it finds nothing: whether n exists, and the next closer name in which the star that is asked has `*` in the place of the first label
+-- what a walk has seen of n where it finds nothing: whether n exists, and the next closer name in which the wildcard at
+-- the closest encloser has `*` in place of the first label
 pub record IsMissing (m : Sets) (n : Name) (missing : Missing) : Type 0 where
   pub known : missing.exists ≡ exists m n
-  pub star : option_map wildcard_of missing.next_closer ≡ asked_star m n
+  pub star : option_map wildcard_of missing.next_closer ≡ asked_wildcard m n
 
 -- a walk finds the direct set for n and t; or none, and what it has seen
 abbrev pub FindsDirect : Sets → Name → ℕ → Direct → Type 0

@@ -38,11 +38,11 @@ types_at m n = filter_map (λ e. cond (name_eq n e.0.name) (Some e.0.record_type
 abbrev pub owns_at_or_below : Sets → Name → Bool
 owns_at_or_below m n = list_any (is_at_or_above n) (names_of m)
 
--- a key stands at or after the first one that a name may have
+-- a key is at or after the first one that a name may have
 abbrev pub has_key_from : Sets → Name → Bool
 has_key_from m n = list_any (is_upto key_cmp (first_key n)) (keys_of m)
 
--- the map with a set put under its name and type, in the place of the one that stood there
+-- the map with a set put under its name and type, in place of the one that was there
 abbrev pub put : Sets → Name → ℕ → RRset → Sets
 put m n t s = insert_entry key_cmp m (key n t) s
 
@@ -54,7 +54,8 @@ without m n t = remove_entry (key_eq (key n t)) m
 abbrev pub last_at : Sets → Name → ℕ → Option RRset
 last_at entries n t = update_all key_eq (λ _. None) entries (key n t)
 
--- a set stands under its own owner name, in lower case, and type; that is a name, and the set has a record, and its records are those of one set
+-- a set is under its own owner name, in lower case, and type; that is a name, and the set has a record, and its records
+-- are those of one set
 pub record IsStoredAt (n : Name) (t : ℕ) (s : RRset) : Type 0 where
   pub named : IsName n
   pub owner : lower s.owner ≡ n
@@ -66,7 +67,7 @@ pub record IsStoredAt (n : Name) (t : ℕ) (s : RRset) : Type 0 where
 abbrev pub AreStored : Sets → Type 0
 AreStored entries = All (λ e. IsStoredAt e.0.name e.0.record_type.0 e.1) entries
 
--- the sets of a zone: their keys ascend, so that none stands twice, and each set stands under its own
+-- the sets of a zone: their keys ascend, so that none appears twice, and each set is under its own
 pub record IsZone (m : Sets) : Type 0 where
   pub ordered : IsStrictlySortedBy key_cmp (keys_of m)
   pub stored : (n : Name) (t : ℕ) (s : RRset) → set_at m n t ≡ Some s → IsStoredAt n t s

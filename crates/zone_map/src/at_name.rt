@@ -1,4 +1,4 @@
-//! What stands at one name, seen in one walk of the map: the sets of a name stand together in it, the least type first.
+//! What is at one name, seen in one walk of the map: the sets of a name stand together in it, the least type first.
 ghost use Rattle.std.specs.Prelude.{◌≡◌, ℕ, ◌<◌, ◌≤◌, ◌==◌, ◌||◌, false, None, option_copied};
 ghost use Rattle.std.specs.Option.{option_or};
 ghost use Rattle.zone_proto.specs.Types.{NS, SOA};
@@ -11,7 +11,7 @@ use crate::direct::is_address;
 use crate::record_map::{RecordMap, is_denial_type};
 use zone_proto::{RecordSet, RecordType, RrKey};
 
-/// What a search for a type needs of what stands at a name.
+/// What a search for a type needs of what is at a name.
 #[derive(Clone, Copy, Drop)]
 pub(crate) struct AtName<'m> {
     /// The set of the least type that answers for the one that is searched for.
@@ -24,7 +24,7 @@ pub(crate) struct AtName<'m> {
     pub(crate) first: Option<&'m RrKey>,
 }
 
-/// What stands at the name of its least key, that of type 0, for a query of `record_type`.
+/// What is at the name of its least key, that of type 0, for a query of `record_type`.
 pub(crate) fn at_name<'m>(
     records: &'m RecordMap,
     least: &RrKey,

@@ -1,5 +1,5 @@
 //! The index of the owners of sets of denial.
-ghost use Rattle.std.specs.Prelude.{◌≡◌, [], true, IfOk, OnOk, OnErr, IsOkUnless, option_map};
+ghost use Rattle.std.specs.Prelude.{◌≡◌, [], IfOk, OnOk, OnErr, IsOkUnless, option_map};
 ghost use Rattle.std.specs.BTreeMap.{insert_entry};
 ghost use Rattle.std.specs.BTreeSet.{insert_key, IsFromIterResult};
 ghost use Rattle.std.specs.List.Sorted.{IsStrictlySortedBy};
@@ -8,7 +8,7 @@ ghost use Rattle.zone_proto.specs.Keys.{key_cmp, key_eq};
 ghost use Rattle.zone_proto.specs.Names.{name_cmp};
 ghost use Rattle.zone_proto.specs.Sets.{RRset};
 ghost use Rattle.zone_proto.specs.Types.{NSEC, NSEC3};
-ghost use Rattle.zone_map.specs.DenialOwners.{owners_of, indexed_owners};
+ghost use Rattle.zone_map.specs.DenialOwners.{owners_of, indexed_owners, none_deny};
 ghost use Rattle.zone_map.specs.Zones.{Sets, owners, IsZone};
 
 use std::alloc::{AllocError, Global};
@@ -33,7 +33,7 @@ impl Model for DenialIndex {
 }
 
 impl DenialIndex {
-    /// No owners. Takes no memory.
+    /// No owners. Doesn't allocate.
     pub(crate) fn new(alloc: Global) -> DenialIndex
         ensures { result ≡ owners_of [] }
     {
@@ -43,7 +43,7 @@ impl DenialIndex {
         }
     }
 
-    /// The owners in a map. Refused for want of memory alone.
+    /// The owners in a map. Fails only for lack of memory.
     pub(crate) fn of_map(
         alloc: Global,
         sets: &BTreeMap<RrKey, RecordSet>,
@@ -58,7 +58,7 @@ impl DenialIndex {
         })
     }
 
-    /// Takes in the owner of a key that is put into the map. Refused for want of memory alone, which changes nothing.
+    /// Takes in the owner of a key that is put into the map. Fails only for lack of memory, which changes nothing.
     pub(crate) fn insert(&mut self, key: &RrKey) -> Result<(), ProtoError>
         ensures ok { OnOk result
             ((m : Sets) (set : RRset) → IsZone m → self.old ≡ owners_of m
@@ -75,7 +75,7 @@ impl DenialIndex {
         }
     }
 
-    /// Takes out the owner of a key that is taken out of the map. Takes no memory.
+    /// Takes out the owner of a key that is taken out of the map. Doesn't allocate.
     pub(crate) fn remove(&mut self, key: &RrKey)
         ensures { (m : Sets) → self.old ≡ owners_of m
             → self.new ≡ owners_of (remove_entry (key_eq key.now) m) }
@@ -87,7 +87,7 @@ impl DenialIndex {
         }
     }
 
-    /// Takes all owners out. Takes no memory.
+    /// Takes all owners out. Doesn't allocate.
     pub(crate) fn clear(&mut self)
         ensures { self.new ≡ owners_of [] }
     {
@@ -95,10 +95,9 @@ impl DenialIndex {
         self.nsec3.clear();
     }
 
-    /// Whether there are none. Takes no memory.
+    /// Whether there are none. Doesn't allocate.
     pub(crate) fn is_empty(&self) -> bool
-        ensures nsec { result ≡ true → self.now.nsec ≡ [] }
-        ensures nsec3 { result ≡ true → self.now.nsec3 ≡ [] }
+        ensures { result ≡ none_deny self.now }
     {
         self.nsec.is_empty() && self.nsec3.is_empty()
     }
@@ -140,14 +139,20 @@ fn listed_owners(
 }
 
 /// These names, each once, in canonical order.
-fn collect_names(alloc: Global, names: Vec<LowerName>) -> Result<BTreeSet<LowerName>, AllocError>
+pub(crate) fn collect_names(
+    alloc: Global,
+    names: Vec<LowerName>,
+) -> Result<BTreeSet<LowerName>, AllocError>
     ensures { IfOk result (λ made. IsFromIterResult name_cmp names.items made) }
 {
     names.into_iter().collect(alloc)
 }
 
 /// Puts an owner among others.
-fn insert_owner(owners: &mut BTreeSet<LowerName>, owner: &LowerName) -> Result<(), ProtoError>
+pub(crate) fn insert_owner(
+    owners: &mut BTreeSet<LowerName>,
+    owner: &LowerName,
+) -> Result<(), ProtoError>
     ensures ok { OnOk result (owners.new.keys ≡ insert_key name_cmp owners.old.keys owner.now) }
     ensures err { IsOkUnless result ProtoError.Memory }
     ensures same { OnErr result (owners.new.keys ≡ owners.old.keys) }

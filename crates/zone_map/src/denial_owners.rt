@@ -10,8 +10,8 @@ use std::collections::btree_set::{Iter, Range};
 use std::marker::Model;
 use zone_proto::LowerName;
 
-/// Lends the owners of the sets of one type of denial, NSEC or NSEC3, in canonical order (RFC 4034 section 6.1), each once.
-/// Takes no memory.
+/// Lends the owners of the sets of one type of denial, NSEC or NSEC3, in canonical order (RFC 4034 section 6.1), each
+/// once. Doesn't allocate.
 #[derive(Drop)]
 pub struct DenialOwners<'m> {
     /// None for a type that isn't one of denial.
@@ -95,7 +95,7 @@ impl<'m> LastOwners<'m> {
         LastOwners { left }
     }
 
-    /// Takes the last owner of those that are left, if there is one, and counts it. Takes no memory.
+    /// Takes the last owner of those that are left, if there is one, and counts it. Doesn't allocate.
     pub fn read_last(&mut self, reads: &mut Reads) -> Option<&'m LowerName>
         ensures last { TakesLast deref self.old result self.new }
         ensures counted { reads.new ≡ one_more_if (is_some result) reads.old }

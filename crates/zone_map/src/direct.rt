@@ -5,7 +5,7 @@ ghost use Rattle.zone_proto.specs.Names.{is_root, suffixes, is_wildcard};
 ghost use Rattle.zone_proto.specs.Types.{NS, SOA};
 ghost use Rattle.zone_map.specs.Zones.{Sets, set_at, owns, IsZone};
 ghost use Rattle.zone_map.specs.Direct.{is_address, direct};
-ghost use Rattle.zone_map.specs.Walks.{referral_above, own_referral, first_key_from, told_by, IsChild, FindsAbove, FindsDirect};
+ghost use Rattle.zone_map.specs.Walks.{referral_above, own_referral, first_key_from, referral_seen, IsChild, FindsAbove, FindsDirect};
 ghost use Rattle.zone_map.specs.Wildcards.{exists};
 
 use crate::at_name::{AtName, at_name};
@@ -27,14 +27,14 @@ pub struct Missing {
     /// Whether the name exists: whether it, or a name below it, owns a set of a type other than those of denial (RFC 4592
     /// section 2.2.2).
     pub exists: bool,
-    /// Where a star is asked for the name, the next closer name: that one label longer than the closest encloser, in the place of
-    /// whose first label the star has `*`.
+    /// Where a wildcard is asked for the name, the next closer name: that one label longer than the closest encloser,
+    /// in place of whose first label the wildcard has `*`.
     pub next_closer: Option<LowerName>,
 }
 
-/// What a star has for a query.
+/// What a wildcard has for a query.
 #[derive(Clone, Copy, Drop)]
-pub(crate) struct AtStar<'m> {
+pub(crate) struct AtWildcard<'m> {
     /// Its direct set.
     pub(crate) set: Option<&'m RecordSet>,
     /// Whether it exists.
@@ -52,10 +52,10 @@ pub(crate) enum Delegation<'m> {
     Apex,
 }
 
-/// What the key's name has for a query of the key's type: the referral at the nearest zone cut (RFC 1034 section 4.2.1),
-/// else the exact set, the one of the least type that answers. Where it has none, the same walk up the name has seen whether
-/// the name exists, and which star is asked for it (RFC 4592 section 3.3.1). Memory is taken for the name of that star alone:
-/// refused by `Memory`.
+/// What the key's name has for a query of the key's type: the referral at the nearest zone cut (RFC 1034 section
+/// 4.2.1), else the exact set, the one of the least type that answers. Where it has none, the same walk up the name has
+/// seen whether the name exists, and which wildcard is asked for it (RFC 4592 section 3.3.1). Memory is taken for the
+/// name of that wildcard alone: refused by `Memory`.
 pub fn find(records: &RecordMap, key: RrKey) -> Result<Direct<'_>, ProtoError>
     ensures found { IfOk result
         (λ found. FindsDirect records.now key.name key.record_type.0 found) }
@@ -77,12 +77,12 @@ pub fn find(records: &RecordMap, key: RrKey) -> Result<Direct<'_>, ProtoError>
     }
 }
 
-/// What a query of `record_type` finds at a star, by its least key, above which no name gives a referral.
-pub(crate) fn at_star<'m>(
+/// What a query of `record_type` finds at a wildcard, by its least key, above which no name gives a referral.
+pub(crate) fn at_wildcard<'m>(
     records: &'m RecordMap,
     least: &RrKey,
     record_type: RecordType,
-) -> AtStar<'m>
+) -> AtWildcard<'m>
     requires least { least.now.record_type.0 ≡ 0 }
     requires unreferred { referral_above records.now (drop 1 least.now.name) ≡ None }
     ensures set { option_copied result.set ≡ direct records.now least.now.name record_type.0 }
@@ -95,7 +95,7 @@ pub(crate) fn at_star<'m>(
         Delegation::Apex => here.exact,
         Delegation::Nothing => here.exact,
     };
-    AtStar { set, exists }
+    AtWildcard { set, exists }
 }
 
 /// Whether a type is one of addresses, A or AAAA, for which an ANAME answers.
@@ -120,11 +120,11 @@ fn found_at_apex(exact: Option<&RecordSet>) -> Direct<'_>
     }
 }
 
-/// What a name says itself of the referral for a query of a type, where `here` is what stands there.
+/// What a name says itself of the referral for a query of a type, where `here` is what is there.
 fn own_referral<'m>(here: AtName<'m>, name: &LowerName, record_type: RecordType) -> Delegation<'m>
     ensures { (m : Sets) → option_copied here.entry.ns ≡ set_at m name.now NS
         → here.entry.owns_soa ≡ owns m name.now SOA
-        → told_by result ≡ own_referral m name.now record_type.0 }
+        → referral_seen result ≡ own_referral m name.now record_type.0 }
 {
     if name.is_root() {
         return Delegation::Nothing;
@@ -173,7 +173,7 @@ fn cut_above<'m>(
     ensures err { IsOkUnless result ProtoError.Memory }
 {
     let exists = here.exists(records, &least);
-    if asks_star(&least.name, exists) {
+    if asks_wildcard(&least.name, exists) {
         return cut_above_absent(records, least.name);
     }
     let mut above = least;
@@ -187,7 +187,7 @@ fn cut_above<'m>(
     ))
 }
 
-/// The same for a name for which a star is asked, if an ancestor of it exists.
+/// The same for a name for which a wildcard is asked, if an ancestor of it exists.
 fn cut_above_absent(records: &RecordMap, name: LowerName) -> Result<Direct<'_>, ProtoError>
     requires asked { not (is_root name || is_wildcard name || exists records.now name) ≡ true }
     ensures found { IfOk result (λ found. FindsAbove records.now name found) }
@@ -220,15 +220,15 @@ fn referred_or<'m>(referral: Option<&'m RecordSet>, missing: Missing) -> Direct<
     }
 }
 
-/// Whether a star is asked for a name, if an ancestor of it exists.
-fn asks_star(name: &LowerName, exists: bool) -> bool
+/// Whether a wildcard is asked for a name, if an ancestor of it exists.
+fn asks_wildcard(name: &LowerName, exists: bool) -> bool
     ensures { result ≡ not (is_root name.now || is_wildcard name.now || exists) }
 {
     !name.is_root() && !name.is_wildcard() && !exists
 }
 
-/// What stands at the nearest of the names from the key's own up that exists, to which the name is shortened. With it the other
-/// name is, which is one label longer.
+/// What is at the nearest of the names from the key's own up that exists, to which the name is shortened. With it the
+/// other name is, which is one label longer.
 fn nearest_existing<'m>(
     records: &'m RecordMap,
     key: &mut RrKey,
@@ -259,7 +259,7 @@ fn nearest_existing<'m>(
     }
 }
 
-/// The referral that the names from the key's own up give, where `here` stands at this one.
+/// The referral that the names from the key's own up give, where `here` is at this one.
 fn referral_from<'m>(
     records: &'m RecordMap,
     key: &mut RrKey,

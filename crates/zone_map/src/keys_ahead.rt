@@ -14,7 +14,7 @@ use std::collections::btree_map::Keys;
 use std::marker::Model;
 use zone_proto::{RecordSet, RrKey};
 
-/// The keys of a map that are left in a pass over them beside other keys, which ascend as they do. Takes no memory.
+/// The keys of a map that are left in a pass over them beside other keys, which ascend as they do. Doesn't allocate.
 #[derive(Drop)]
 pub struct KeysAhead<'m> {
     /// None behind the last one.
@@ -46,7 +46,8 @@ impl<'m> KeysAhead<'m> {
         KeysAhead { first, others }
     }
 
-    /// Whether `key` is one of those that are left. Those before it are passed, and those behind it stay. Takes no memory.
+    /// Whether `key` is one of those that are left. Those before it are passed, and those behind it stay. Doesn't
+    /// allocate.
     pub fn has(&mut self, key: &RrKey) -> bool
         ensures answer { result ≡ list_any (key_eq key.now) self.old }
         ensures later { (q : Key) → key_cmp key.now q ≡ Less
@@ -60,7 +61,7 @@ impl<'m> KeysAhead<'m> {
     }
 }
 
-/// The first of these keys that doesn't stand before another key. Those before it are passed.
+/// The first of these keys that doesn't come before another key. Those before it are passed.
 fn first_not_before<'m>(
     mut first: Option<&'m RrKey>,
     others: &mut Keys<'m, RrKey, RecordSet>,

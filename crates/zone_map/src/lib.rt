@@ -1,6 +1,6 @@
-//! The record sets of a zone in one ordered map: how records are taken into it, and what a search finds among its sets: the
-//! referral at a zone cut (RFC 1034 section 4.2.1), the set of a name, that of a wildcard (RFC 4592), and the type
-//! that is chosen for ANY (RFC 8482). It is the ground of `zone_store`, whose users need nothing of it.
+//! The record sets of a zone in one ordered map: how records are inserted, and what a search finds: the referral at a zone cut
+//! (RFC 1034 section 4.2.1), the set of a name, that of a wildcard (RFC 4592), and the type that is chosen for ANY (RFC 8482).
+//! `zone_store` is built on it; its users need nothing of it.
 //!
 //! Contracts see the map as the list of its sets by name and type, in the order of names. An insertion that answers false
 //! or is refused leaves it as it was.
@@ -13,6 +13,7 @@ mod denial_owners;
 pub mod direct;
 mod keys_ahead;
 mod new_sets;
+mod owner_index;
 mod record_map;
 pub mod wildcard;
 

@@ -30,7 +30,7 @@ impl Model for NewSets {
 }
 
 impl NewSets {
-    /// No sets. Takes no memory.
+    /// No sets. Doesn't allocate.
     pub fn new(alloc: Global) -> NewSets
         ensures { result ≡ [] }
     {
@@ -39,7 +39,7 @@ impl NewSets {
         }
     }
 
-    /// These sets by their keys, of which the last stays where some have one key. Refused for want of memory alone.
+    /// These sets by their keys, of which the last stays where some have one key. Fails only for lack of memory.
     pub fn from_entries(
         alloc: Global,
         entries: Vec<(RrKey, RecordSet)>,
@@ -53,14 +53,15 @@ impl NewSets {
         Ok(NewSets { sets })
     }
 
-    /// The keys, for a pass beside other keys that ascend too, which tells which of those are among them. Takes no memory.
+    /// The keys, for a pass beside other keys that ascend too, which tells which of those are among them. Doesn't
+    /// allocate.
     pub fn keys_ahead(&self) -> KeysAhead<'_>
         ensures { result ≡ keys_of self.now }
     {
         KeysAhead::new(&self.sets)
     }
 
-    /// Whether there are no sets. Takes no memory.
+    /// Whether there are no sets. Doesn't allocate.
     pub fn is_empty(&self) -> bool
         ensures { IsTrue result ↔ (self.now ≡ []) }
     {

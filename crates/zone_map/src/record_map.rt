@@ -1,5 +1,5 @@
-//! The record sets of a zone in canonical order, and the index of their denials.
-ghost use Rattle.std.specs.Prelude.{◌≡◌, ℕ, ◌<◌, [], true, false, IfOk, IfErr, OnOk, OnErr, IfSome, IsOkUnless, None, Some, unwrap_or, option_copied};
+//! The record sets of a zone in canonical order, and the index of their owners.
+ghost use Rattle.std.specs.Prelude.{◌≡◌, ℕ, ◌+◌, ◌<◌, ◌≤◌, [], true, false, IfOk, IfErr, OnOk, OnErr, IfSome, IsOkUnless, None, Some, unwrap_or, option_copied};
 ghost use Rattle.zone_proto.specs.Keys.{key as key_at};
 ghost use Rattle.zone_proto.specs.Names.{lower, IsName};
 ghost use Rattle.zone_proto.specs.Data.{type_of};
@@ -19,18 +19,19 @@ mod renewal;
 mod serials;
 
 use crate::counter::Reads;
-use crate::denial_index::DenialIndex;
+use crate::owner_index::OwnerIndex;
 pub use puts::Replaced;
 use std::alloc::Global;
 use std::collections::BTreeMap;
 use std::marker::Model;
 use zone_proto::{DNSClass, LowerName, ProtoError, Record, RecordSet, RecordType, RrKey};
 
-/// The record sets of a zone by their keys, and an index of the owners of its sets of denial.
+/// The record sets of a zone by their keys, and an index of the owners of its sets of denial and, if it has any, of the owners of its
+/// other sets.
 #[derive(Drop)]
 pub struct RecordMap {
     sets: BTreeMap<RrKey, RecordSet>,
-    denials: DenialIndex,
+    index: OwnerIndex,
 }
 
 impl Model for RecordMap {
@@ -41,13 +42,13 @@ impl Model for RecordMap {
 
     ghost view = { λ m. m.sets.entries };
 
-    ghost invariant = { λ m. IsIndexed m.sets.entries m.denials };
+    ghost invariant = { λ m. IsIndexed m.sets.entries m.index };
 }
 
 /// What a name's first keys say of a record that is to be inserted there.
 #[derive(Clone, Copy, Drop)]
 struct Standing {
-    /// Whether the name owns a type that may not stand beside the record's.
+    /// Whether the name owns a type that may not are beside the record's.
     clashes: bool,
     /// Whether the name may own the record's type: a key that wasn't read may have it.
     may_be_there: bool,
@@ -60,12 +61,12 @@ impl RecordMap {
     {
         RecordMap {
             sets: BTreeMap::new(alloc),
-            denials: DenialIndex::new(alloc),
+            index: OwnerIndex::new(alloc),
         }
     }
 
-    /// The map itself, whose entries stand in the order of their keys: names in canonical order (RFC 4034 section 6.1), and of
-    /// one name the types in order.
+    /// The map itself, whose entries are in the order of their keys: names in canonical order (RFC 4034 section 6.1),
+    /// and of one name the types in order.
     pub fn as_map(&self) -> &BTreeMap<RrKey, RecordSet>
         ensures entries { result.now.entries ≡ self.now }
         ensures zone { IsZone self.now }
@@ -84,7 +85,7 @@ impl RecordMap {
 }
 
 impl RecordMap {
-    /// Stores a set under its own key, in lower case, and gives the one that stood there. Refused for want of memory alone,
+    /// Stores a set under its own key, in lower case, and gives the one that was there. Fails only for lack of memory,
     /// which hands the set back and leaves the map as it was.
     pub fn put(&mut self, key: RrKey, set: RecordSet) -> Result<Option<RecordSet>, RecordSet>
         requires { IsStoredAt key.name key.record_type.0 set }
@@ -94,42 +95,43 @@ impl RecordMap {
         ensures refused { IfErr result (λ refused. refused ≡ set) }
         ensures same { OnErr result (self.new ≡ self.old) }
     {
-        // Its place in the index comes first: to give that back takes no memory.
-        let Ok(()) = self.denials.insert(&key) else {
+        // Its place in the index comes first: to give that back doesn't allocate.
+        let Ok(()) = self.index.insert(&key, &self.sets) else {
             return Err(set);
         };
         match self.sets.insert(key, set) {
             Ok(before) => Ok(before),
             Err(failed) => {
                 let (key, set) = failed.value;
-                self.denials.remove(&key);
+                self.index.remove(key, &self.sets);
                 Err(set)
             }
         }
     }
 
-    /// Takes the set out that stands under a key, and gives it. This takes no memory.
+    /// Takes the set out that is under a key, and gives it. This doesn't allocate.
     pub fn remove(&mut self, key: &RrKey) -> Option<RecordSet>
         ensures before { result ≡ set_at self.old key.now.name key.now.record_type.0 }
         ensures removed { self.new ≡ without self.old key.now.name key.now.record_type.0 }
     {
-        self.denials.remove(key);
-        self.sets.remove(key)
+        let (key, set) = self.sets.remove_entry(key)?;
+        self.index.remove(key, &self.sets);
+        Some(set)
     }
 
-    /// Takes all sets out. This takes no memory.
+    /// Takes all sets out. This doesn't allocate.
     pub fn clear(&mut self)
         ensures { self.new ≡ [] }
     {
-        self.denials.clear();
+        self.index.clear();
         self.sets.clear();
     }
 }
 
 impl RecordMap {
-    /// Whether a name, or a name below it, owns a set, so that it is there, though perhaps as an empty non-terminal (RFC 4592
-    /// section 2.2.2). It reads one key, the first from the name's first key on, where there is one, and counts it. Refused by
-    /// `Memory` alone.
+    /// Whether a name, or a name below it, owns a set, so that it is there, though perhaps as an empty non-terminal
+    /// (RFC 4592 section 2.2.2). It reads one key, the first from the name's first key on, if there is one, and counts
+    /// it. Its only error is `Memory`.
     pub fn owns_at_or_below(&self, name: &LowerName, reads: &mut Reads) -> Result<bool, ProtoError>
         ensures answer { IfOk result (λ owned. owned ≡ owns_at_or_below self.now name.now) }
         ensures counted { OnOk result
@@ -158,21 +160,27 @@ impl RecordMap {
     }
 
     /// Whether the name of its least key, that of type 0, or a name below it, owns a set of a type other than those of denial,
-    /// so that it exists (RFC 4592 section 2.2.2). Descendants stand together, so one key is read, and the next only after one
-    /// of a type of denial.
+    /// so that it exists (RFC 4592 section 2.2.2).
     pub fn exists(&self, least: &RrKey) -> bool
         requires { least.now.record_type.0 ≡ 0 }
         ensures { result ≡ exists self.now least.now.name }
     {
-        for (key, _) in self.sets.range(least..) {
-            if !least.name.zone_of(&key.name) {
-                break;
-            }
-            if !is_denial_type(key.record_type) {
-                return true;
-            }
+        self.exists_counted(least, &mut Reads::new())
+    }
+
+    /// The answer of [`RecordMap::exists`]. At most one key or one owner of the index is read, however many names below this one own
+    /// sets of denial alone: that adds at most one to `reads`.
+    pub fn exists_counted(&self, least: &RrKey, reads: &mut Reads) -> bool
+        requires { least.now.record_type.0 ≡ 0 }
+        ensures answer { result ≡ exists self.now least.now.name }
+        ensures counted { reads.new ≤ reads.old + 1 }
+    {
+        if self.index.is_without_denials() {
+            // Each key is that of a set that counts.
+            return self.owns_from(least, reads);
         }
-        false
+        reads.add_one();
+        self.index.owns_other_at_or_below(&least.name)
     }
 
     /// The type that is searched for a query of ANY (RFC 8482 section 4.1) at the name of its least key, that of type 0: the
@@ -198,10 +206,10 @@ impl RecordMap {
 
     /// Takes a record into the set of its owner name and type, or makes that set, which keeps `serial`.
     ///
-    /// The answer is whether the record was taken. It isn't taken if it is of another class than `dns_class`; if its owner owns
-    /// a type that may not stand beside the record's, one of the two being CNAME and neither NSEC or NSEC3 (RFC 1034 section
-    /// 3.6.2); or if the set refuses it, as [`RecordSet::insert`] says. A record that isn't taken changes nothing, and so does
-    /// a refusal, by `Memory` alone.
+    /// The answer is whether the record was taken. It isn't taken if it is of another class than `dns_class`; if its
+    /// owner owns a type that may not are beside the record's, one of the two being CNAME and neither NSEC or NSEC3
+    /// (RFC 1034 section 3.6.2); or if the set refuses it, as [`RecordSet::insert`] says. A record that isn't taken
+    /// changes nothing, and so does a refusal, by `Memory` alone.
     pub fn upsert(
         &mut self,
         record: Record,
@@ -230,8 +238,8 @@ impl RecordMap {
         }
     }
 
-    /// What stands at the name of its least key, that of type 0, for a record of a type. However many types the name owns, it
-    /// reads six keys at most: of types up to CNAME there are as many, and beside a CNAME three may stand.
+    /// What is at the name of its least key, that of type 0, for a record of a type. However many types the name owns,
+    /// it reads six keys at most: of types up to CNAME there are as many, and beside a CNAME three may stand.
     fn standing_at(&self, least: &RrKey, record_type: RecordType) -> Standing
         requires { least.now.record_type.0 ≡ 0 }
         ensures clashes { result.clashes ≡ clashes self.now least.now.name record_type.0 }
@@ -258,7 +266,7 @@ impl RecordMap {
         }
     }
 
-    /// Takes a record into the set under its key, or makes that set where there is none.
+    /// Takes a record into the set under its key, or makes that set if there is none.
     fn insert_into(&mut self, key: RrKey, record: Record, serial: u32) -> Result<bool, ProtoError>
         requires own_key { key ≡ key_at (lower «record».name) (type_of «record».rdata) }
         requires named { IsName (lower «record».name) }
@@ -270,7 +278,7 @@ impl RecordMap {
         }
     }
 
-    /// Makes the set of a record under its key, where there is none.
+    /// Makes the set of a record under its key, if there is none.
     fn insert_new(&mut self, key: RrKey, record: Record, serial: u32) -> Result<bool, ProtoError>
         requires own_key { key ≡ key_at (lower «record».name) (type_of «record».rdata) }
         requires named { IsName (lower «record».name) }
@@ -314,7 +322,7 @@ fn none_clashes_after(record_type: RecordType, seen: RecordType) -> bool
     record_type != RecordType::CNAME && seen >= RecordType::CNAME
 }
 
-/// Whether a type is one of denial, which may stand beside a CNAME.
+/// Whether a type is one of denial, which may be beside a CNAME.
 pub(crate) fn is_denial_type(record_type: RecordType) -> bool
     ensures { result ≡ is_denial_type record_type.0 }
 {

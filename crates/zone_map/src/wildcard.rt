@@ -2,9 +2,9 @@
 ghost use Rattle.std.specs.Prelude.{◌≡◌, IfOk, IsOkUnless, None, Some};
 ghost use Rattle.zone_proto.specs.Names.{wildcard_of};
 ghost use Rattle.zone_map.specs.Direct.{direct};
-ghost use Rattle.zone_map.specs.Wildcards.{asked_star, asked_star_exists, renamed, renamed_signature, wildcard};
+ghost use Rattle.zone_map.specs.Wildcards.{asked_wildcard, asked_wildcard_exists, renamed, renamed_signature, wildcard};
 
-use crate::direct::at_star;
+use crate::direct::at_wildcard;
 use crate::record_map::RecordMap;
 use zone_proto::{LowerName, Name, ProtoError, Record, RecordSet, RecordType, RrKey};
 
@@ -13,14 +13,14 @@ use zone_proto::{LowerName, Name, ProtoError, Record, RecordSet, RecordType, RrK
 pub struct Synthesis {
     /// The set that it gives the name.
     pub set: Option<RecordSet>,
-    /// Whether the star that is asked for the name exists.
-    pub star_exists: bool,
+    /// Whether the wildcard at the closest encloser of the name exists.
+    pub wildcard_exists: bool,
 }
 
-/// What a wildcard makes of a query for a name without a direct set (RFC 4592 section 3.3.1): the direct set of the star under
-/// the closest encloser, the longest of the name's proper ancestors that exists, under the name, with signatures only if
-/// `signed`. The star has `*` in the place of the first label of `next_closer`, as the search for a direct set has seen it.
-/// Refused by `Memory` alone.
+/// What a wildcard makes of a query for a name without a direct set (RFC 4592 section 3.3.1): the direct set of the
+/// wildcard at the closest encloser, the longest of the name's proper ancestors that exists, under the name, with
+/// signatures only if `signed`. The wildcard has `*` in place of the first label of `next_closer`, as the search for a
+/// direct set has seen it. Its only error is `Memory`.
 pub fn wildcard(
     records: &RecordMap,
     name: &LowerName,
@@ -29,27 +29,27 @@ pub fn wildcard(
     next_closer: LowerName,
 ) -> Result<Synthesis, ProtoError>
     requires none { direct records.now name.now record_type.0 ≡ None }
-    requires star { asked_star records.now name.now ≡ Some (wildcard_of next_closer) }
+    requires star { asked_wildcard records.now name.now ≡ Some (wildcard_of next_closer) }
     ensures set { IfOk result
         (λ synthesis. synthesis.set ≡ wildcard records.now signed name.now record_type.0) }
     ensures exists { IfOk result
-        (λ synthesis. synthesis.star_exists ≡ asked_star_exists records.now name.now) }
+        (λ synthesis. synthesis.wildcard_exists ≡ asked_wildcard_exists records.now name.now) }
     ensures err { IsOkUnless result ProtoError.Memory }
 {
     let star = RrKey::new(next_closer.into_wildcard(), RecordType(0));
-    let here = at_star(records, &star, record_type);
+    let here = at_wildcard(records, &star, record_type);
     let set = match here.set {
         Some(set) => Some(renamed(set, &Name::from(star.name), name, signed)?),
         None => None,
     };
     Ok(Synthesis {
         set,
-        star_exists: here.exists,
+        wildcard_exists: here.exists,
     })
 }
 
-/// The set of a star under the queried name, which is of class IN and serial 0, each record with the set's TTL. Its signatures come
-/// along only if `signed`: one that the star owns is the name's then. Refused by `Memory` alone.
+/// The set of a wildcard at the queried name, which is of class IN and serial 0, each record with the set's TTL. Its
+/// signatures come along only if `signed`: one that the wildcard owns is the name's then. Its only error is `Memory`.
 pub fn renamed(
     set: &RecordSet,
     star: &Name,
@@ -69,7 +69,7 @@ pub fn renamed(
     Ok(made)
 }
 
-/// A signature of a star's set under the queried name: one that the star owns is the name's.
+/// A signature of a wildcard's set under the queried name: one that the wildcard owns is the name's.
 fn renamed_signature(rrsig: &Record, star: &Name, name: &LowerName) -> Result<Record, ProtoError>
     ensures made { IfOk result (λ made. made ≡ renamed_signature star.now name.now rrsig.now) }
     ensures err { IsOkUnless result ProtoError.Memory }

@@ -71,6 +71,6 @@ absent_after = refl
 gone_after : secured_at sign 1000 origin (7 ∷ []) (unsigned_at (Some A) zone []) host A ≡ None
 gone_after = refl
 
--- without denials what is signed is what stands there
+-- without denials what is signed is what is there
 nothing_new : (m : Sets) (n : Name) (t : ℕ) → unsigned_at None m [] n t ≡ set_at m n t
 nothing_new m n t = refl

@@ -44,15 +44,15 @@ abbrev pub kept_at : ℕ → ℕ → Sets → SetsBy
 kept_at denials serial zone n t = option_or (standing_at zone denials serial n t) (if stays (Some denials) t then set_at zone n t else None)
 
 module _ {S : Type 0} (signature_of : S → SignedPart → ℕ → ℕ → Option RRSIG) (now : ℕ) where
-  -- a set with the signatures of those signers that sign, in their order, in the place of the ones that it has
+  -- a set with the signatures of those signers that sign, in their order, in place of the ones that it has
   abbrev pub signed : List S → RRset → RRset
   signed signers s = record s { signatures = signatures signature_of now signers s }
 
-  -- a set under its key: the zone's SOA, which stands under `apex`, first gets the next serial; then the set is signed
+  -- a set under its key: the zone's SOA, which is under `apex`, first gets the next serial; then the set is signed
   abbrev pub secured_set : RrKey → List S → RrKey → RRset → RRset
   secured_set apex signers k s = signed signers (if key_eq apex k then stepped s else s)
 
-  -- what stands at a name and a type of the zone of this origin once it is secured, of what is to be signed there
+  -- what is at a name and a type of the zone of this origin once it is secured, of what is to be signed there
   abbrev pub secured_at : Name → List S → SetsBy → SetsBy
   secured_at origin signers sets n t = option_map (secured_set (key origin SOA) signers (key n t)) (sets n t)
 

@@ -12,7 +12,8 @@ abbrev pub last_moment : ℕ
 last_moment = 253402300799
 
 module _ {S : Type 0} (signature_of : S → SignedPart → ℕ → ℕ → Option RRSIG) (now : ℕ) where
-  -- a signer's signature of a set at a moment as a record, of the set's owner and TTL and of class IN; none where it doesn't sign
+  -- a signer's signature of a set at a moment as a record, of the set's owner and TTL and of class IN; none if it
+  -- doesn't sign
   abbrev pub signature : RRset → S → Option Record
   signature s signer = option_map (λ r. record_of s (V.RRSIG r)) (signature_of signer (signed_part s) IN now)
 
@@ -20,6 +21,6 @@ module _ {S : Type 0} (signature_of : S → SignedPart → ℕ → ℕ → Optio
   abbrev pub signatures : List S → RRset → List Record
   signatures signers s = filter_map (signature s) signers
 
-  -- the same for a set that an answer makes: none where DNSSEC isn't asked for, nor past that moment
+  -- the same for a set that an answer makes: none if DNSSEC isn't asked for, nor past that moment
   abbrev pub answer_signatures : Bool → List S → RRset → List Record
   answer_signatures signed signers s = cond (signed && nat_le now last_moment) (signatures signers s) []

@@ -1,4 +1,4 @@
-//! The record sets of a zone as they are once it is secured, where its denials stay as they stand.
+//! The record sets of a zone as they are once it is secured, where its denials stay as they are.
 ghost use Rattle.std.specs.Prelude.{◌≡◌, IsTrue, OnOk, OnErr, IsOkUnless};
 ghost use Rattle.zone_proto.specs.Types.{SOA};
 ghost use Rattle.zone_map.specs.Upserts.{is_denial_type};
@@ -9,12 +9,12 @@ use crate::securing::sign_all;
 use zone_map::RecordMap;
 use zone_proto::{ProtoError, RecordType, RrKey, Signer};
 
-/// Secures the record sets of a zone whose SOA stands under `apex`, at the moment `now`, in seconds since 1970, and whose
+/// Secures the record sets of a zone whose SOA is under `apex`, at the moment `now`, in seconds since 1970, and whose
 /// denials are already those that it gets.
 ///
-/// The sets of the type `denials`, NSEC or NSEC3, get the serial `serial`, the SOA gets the next serial, modulo 2^32, and each
-/// set is signed by each signer in order; one that declines is passed over. All else is as before: no set is made or copied.
-/// Refused for want of memory alone, a signer's too, which leaves the zone as it was.
+/// The sets of the type `denials`, NSEC or NSEC3, get the serial `serial`, the SOA gets the next serial, modulo 2^32,
+/// and each set is signed by each signer in order; one that declines is passed over. All else is as before: no set is
+/// made or copied. Fails only for lack of memory, a signer's too, which leaves the zone as it was.
 pub fn secure_kept<S: Signer>(
     zone: &mut RecordMap,
     denials: RecordType,

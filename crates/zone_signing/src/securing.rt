@@ -18,12 +18,12 @@ use zone_proto::{ProtoError, RecordSet, RecordType, RrKey, Rrsigs, Signer};
 /// of more than 32 the C library takes each piece from the system and gives it back, which takes longer than to use it.
 const MOST_EXCHANGED: usize = 131_072;
 
-/// Secures the record sets of a zone whose SOA stands under `apex`, at the moment `now`, in seconds since 1970.
+/// Secures the record sets of a zone whose SOA is under `apex`, at the moment `now`, in seconds since 1970.
 ///
-/// The sets of `zone` stay, those of the type `denials` excepted, and those of `new_denials` come in the place of others.
-/// The SOA gets the next serial, modulo 2^32, and each set is signed by each signer in order; one that declines is passed
-/// over. All else is as before: the order of records, TTLs and serials among it. Refused for want of memory alone, a
-/// signer's too, which leaves the zone as it was.
+/// The sets of `zone` stay, those of the type `denials` excepted, and those of `new_denials` come in place of others.
+/// The SOA gets the next serial, modulo 2^32, and each set is signed by each signer in order; one that declines is
+/// passed over. All else is as before: the order of records, TTLs and serials among it. Fails only for lack of memory,
+/// a signer's too, which leaves the zone as it was.
 pub fn secure<S: Signer>(
     zone: &mut RecordMap,
     denials: Option<RecordType>,
@@ -58,7 +58,7 @@ pub fn secure<S: Signer>(
     }
 }
 
-/// Steps the serial of the zone whose SOA stands under `apex`, and signs all sets. All signatures are made before the first
+/// Steps the serial of the zone whose SOA is under `apex`, and signs all sets. All signatures are made before the first
 /// one is put in, so that a refusal leaves the zone as it was.
 pub(crate) fn sign_all<S: Signer>(
     zone: &mut RecordMap,
@@ -80,8 +80,8 @@ pub(crate) fn sign_all<S: Signer>(
     Ok(())
 }
 
-/// The signatures of all sets in the order of their keys: for each set a list, or none if it has as many signatures as it
-/// gets. What such sets get stands in the one list beside, so that it takes no memory for each.
+/// The signatures of all sets in the order of their keys: for each set a list, or none if it has as many signatures as
+/// it gets. What such sets get is in the one list beside, so that it doesn't allocate for each.
 fn all_signatures<S: Signer>(
     zone: &RecordMap,
     apex: &RrKey,
@@ -197,7 +197,7 @@ fn list_gone(
     Ok(keys)
 }
 
-/// Whether no set of the old denials stands in the zone.
+/// Whether no set of the old denials is in the zone.
 fn has_none(zone: &RecordMap, denials: Option<RecordType>) -> bool
     ensures { IsTrue result → IfSome (option_map (λ d. d.0) denials) (λ t. owners zone.now t ≡ []) }
 {

@@ -7,9 +7,9 @@ use zone_proto::{DNSClass, ProtoError, RData, Record, RecordSet, Rrsigs, Signer}
 /// The last second of the year 9999, in seconds since 1970: no signature is made past it.
 pub const LAST_MOMENT: u64 = 253402300799;
 
-/// Signs a set by each signer in order, at the moment `now`, in seconds since 1970 (RFC 4034 section 3); one that declines is
-/// passed over, and signatures that the set has go. Refused by `Memory` alone, of a signer too, which leaves the set as it
-/// was.
+/// Signs a set by each signer in order, at the moment `now`, in seconds since 1970 (RFC 4034 section 3); one that
+/// declines is passed over, and signatures that the set has go. Its only error is `Memory`, of a signer too, which
+/// leaves the set as it was.
 pub fn sign_set<S: Signer>(set: &mut RecordSet, signers: &[S], now: u64) -> Result<(), ProtoError>
     ensures ok { OnOk result
         (set.new
@@ -23,9 +23,9 @@ pub fn sign_set<S: Signer>(set: &mut RecordSet, signers: &[S], now: u64) -> Resu
     Ok(())
 }
 
-/// Puts the signatures of a set by each signer in order, at the moment `now`, in seconds since 1970 (RFC 4034 section 3),
-/// behind those that were made; a signer that declines is passed over. Those that the set has are never signed. Refused by
-/// `Memory` alone, of a signer too.
+/// Puts the signatures of a set by each signer in order, at the moment `now`, in seconds since 1970 (RFC 4034 section
+/// 3), behind those that were made; a signer that declines is passed over. Those that the set has are never signed. Its
+/// only error is `Memory`, of a signer too.
 pub(crate) fn add_signatures<S: Signer>(
     made: &mut Rrsigs,
     set: &RecordSet,

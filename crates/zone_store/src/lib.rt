@@ -1,5 +1,5 @@
-//! The zone of an authoritative DNS server, in memory: what a program that serves zones depends on. It stands on the crates
-//! below it, hands on what a user needs of them, and has no code of its own.
+//! The zone of an authoritative DNS server, in memory: what a program that serves zones depends on. It is built on the crates
+//! below it, re-exports what a user needs of them, and has no code of its own.
 //!
 //! - [`InMemoryZoneHandler`] is a zone. It is made by `empty` or `new`, changed by `upsert`, `put_set`, `remove_set` and
 //!   `clear`, and signed by `add_zone_signing_key` and `secure_zone` (RFC 4035 section 2). It answers `search` and `lookup`
@@ -11,8 +11,8 @@
 //!   [`Counter`] counts what is searched ([`Searches`]) and what is read ([`Reads`]).
 //! - [`program`] has the command language of `zonectl` over any reader and writer, with the signer and the hash of its
 //!   demonstrations.
-//! - [`laws`] has laws of the definitions: contracts of functions that do nothing. What the contracts of all these calls cite
-//!   stands under `specs` here too.
+//! - [`laws`] has laws of the definitions: contracts of functions that do nothing. What the contracts of all these
+//!   calls cite is under `specs` here too.
 //!
 //! Names, records, sets, signers and hashes are those of `zone_proto`. An insertion that answers false, and any call that is
 //! refused, leaves the zone as it was.

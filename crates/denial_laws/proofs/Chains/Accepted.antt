@@ -1,4 +1,4 @@
--- All that a validator makes of the denial of a judged name by NSEC
+-- All that a validator makes of the denial of a name in scope by NSEC
 use Rattle.std.proofs.Common.{◌≡◌, ℕ, Bool, true, false, ◌||◌, List, refl}
 use Rattle.std.specs.Prelude.{None}
 use Rattle.zone_proto.specs.Types.{NSEC}
@@ -10,7 +10,7 @@ use Rattle.zone_lookup.specs.Replies.{name_exists, negative_answer}
 use Rattle.denial_validation.specs.NsecProofs.{proves_no_data, proves_empty_non_terminal, proves_wildcard_no_data, proves_empty_answer}
 use Rattle.denial_validation.specs.NsecRecords.{NsecRecord}
 use Rattle.denial_laws.specs.Chains.{ChainDenialAccepted}
-use Rattle.denial_laws.specs.Judged.{denial_records, IsJudgedType}
+use Rattle.denial_laws.specs.Scope.{denial_records, IsTypeInScope}
 use Rattle.denial_laws.proofs.Chains.EmptyAnswers.{no_data_accepted, empty_accepted, wildcard_no_data_accepted, unsigned_delegation_accepted}
 use Rattle.denial_laws.proofs.Chains.NameErrors.{name_error_accepted, wildcard_answer_accepted}
 use Rattle.denial_laws.proofs.Readings.{denial_of_zone}
@@ -30,7 +30,7 @@ denial_accepted origin m x j = record {
     rs : List NsecRecord
     rs = denial_records origin m x
 
-    empty_answer : (signed : Bool) (t : ℕ) → IsJudgedType origin m x t → found m signed x (searched_type m x t) ≡ None → negative_answer origin m x ≡ name_exists
+    empty_answer : (signed : Bool) (t : ℕ) → IsTypeInScope origin m x t → found m signed x (searched_type m x t) ≡ None → negative_answer origin m x ≡ name_exists
         → (a : Bool) → owns m x NSEC ≡ a → (b : Bool) → owns_at_or_below m x ≡ b → proves_empty_answer origin rs x t ≡ true
     empty_answer signed t deniable nothing e true on b u =
         or_left (proves_no_data origin rs x t || proves_empty_non_terminal origin rs x) (proves_wildcard_no_data origin rs x t)

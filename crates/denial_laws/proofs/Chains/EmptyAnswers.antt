@@ -2,7 +2,7 @@
 use Rattle.std.proofs.Common.{◌≡◌, Bool, true, false, not, ◌&&◌, ◌||◌, [], ◌∷◌, refl, sym, ap, ◌∙◌, subst, true≢false, ◌⊎◌, inl, inr, ℕ}
 use Rattle.std.specs.Prelude.{Option, Some, None, option_map, option_and_then, IsTrue, IsFalse}
 use Rattle.std.specs.List.{Contains, list_any}
-use Rattle.zone_proto.specs.Names.{Name, is_above, IsAbove, star_under}
+use Rattle.zone_proto.specs.Names.{Name, is_above, IsAbove, wildcard_under}
 use Rattle.zone_proto.specs.Sets.{RRset}
 use Rattle.zone_proto.specs.Types.{NS, SOA, DS, NSEC}
 use Rattle.zone_proto.proofs.Members.{In, In-Contains, any_from_In, or_left, or_right}
@@ -10,7 +10,7 @@ use Rattle.zone_proto.proofs.Names.NameTree.{above_test, is_at_or_above_sound}
 use Rattle.zone_proto.proofs.Names.Tree.{name_eq_itself, above_cases}
 use Rattle.zone_map.specs.AnyTypes.{searched_type}
 use Rattle.zone_map.specs.Direct.{direct}
-use Rattle.zone_map.specs.Wildcards.{found, renamed, wildcard, asked_star}
+use Rattle.zone_map.specs.Wildcards.{found, renamed, wildcard, asked_wildcard}
 use Rattle.zone_map.specs.Zones.{Sets, owns, owns_at_or_below}
 use Rattle.zone_map.proofs.Owned.{set_of}
 use Rattle.zone_denial.specs.NsecDenial.{nsec_encloser, nsec_denial}
@@ -22,8 +22,8 @@ use Rattle.zone_denial.proofs.Chains.NsecStar.{proves_star}
 use Rattle.denial_validation.specs.NsecProofs.{denies_type, shows_empty, shows_unsigned_delegation, proves_no_data, proves_wildcard_no_data, proves_unsigned_delegation}
 use Rattle.zone_lookup.specs.Replies.{name_exists, negative_answer}
 use Rattle.denial_validation.specs.NsecRecords.{NsecRecord}
-use Rattle.denial_laws.specs.Chains.{ChainEmptyAccepted, IsJudgedInChain}
-use Rattle.denial_laws.specs.Judged.{denial_records, IsJudgedType}
+use Rattle.denial_laws.specs.Chains.{ChainEmptyAccepted, IsInScopeOfChain}
+use Rattle.denial_laws.specs.Scope.{denial_records, IsTypeInScope}
 use Rattle.denial_laws.proofs.Chains.NameErrors.{over, denied_with, star_spanned}
 use Rattle.denial_laws.proofs.Chains.OwnTypes.{type_denied}
 use Rattle.denial_laws.proofs.Chains.Readings.{record_at, shown, told_listed, told_unlisted}
@@ -42,14 +42,14 @@ module _ (origin : Name) (m : Sets) (h : IsNsecChain origin m) (x : Name) (on : 
       let s = set_of m x NSEC on in
       shown origin m h x x s.0 (subst (λ sets. Contains sets s.0) (own_denial m h.zone origin x s.0 s.1) (In-Contains s.0 (s.0 ∷ []) (inl refl))) s.1
 
-pub no_data_accepted : (origin : Name) (m : Sets) (signed : Bool) (x : Name) (t : ℕ) → IsJudgedInChain origin m x → IsJudgedType origin m x t → IsTrue (owns m x NSEC)
+pub no_data_accepted : (origin : Name) (m : Sets) (signed : Bool) (x : Name) (t : ℕ) → IsInScopeOfChain origin m x → IsTypeInScope origin m x t → IsTrue (owns m x NSEC)
     → found m signed x (searched_type m x t) ≡ None → IsTrue (proves_no_data origin (denial_records origin m x) x t)
 no_data_accepted origin m signed x t j deniable on nothing =
     any_from_In (λ r. denies_type origin r x t) (record_at origin m j.zone x) (denial_records origin m x) (own_shown origin m j.zone x on)
     (type_denied origin m j.zone j.unreferred x j.inside t (ap (direct m x) (sym (searched_itself m x t deniable.one_type)) ∙ (neither (direct m x (searched_type m x t)) (wildcard m signed x (searched_type m x t)) nothing).0) on
     deniable.no_signature deniable.one_type (λ d. (deniable.no_apex d).0))
 
-pub unsigned_delegation_accepted : (origin : Name) (m : Sets) (x : Name) → IsJudgedInChain origin m x → IsTrue (owns m x NS) → IsFalse (owns m x DS) → IsFalse (owns m x SOA)
+pub unsigned_delegation_accepted : (origin : Name) (m : Sets) (x : Name) → IsInScopeOfChain origin m x → IsTrue (owns m x NS) → IsFalse (owns m x DS) → IsFalse (owns m x SOA)
     → IsTrue (proves_unsigned_delegation origin (denial_records origin m x) x)
 unsigned_delegation_accepted origin m x j ns ds soa =
     any_from_In (λ r. shows_unsigned_delegation origin r x) r (denial_records origin m x) (own_shown origin m j.zone x on)
@@ -76,9 +76,9 @@ empty_accepted origin m x j off some =
         let r = next_below_empty origin m j.zone x j.inside (empty_off origin m x j off) some j.uncut (undnamed origin m x j) in
         (spanned origin m j.zone x x (below_origin origin m x j off) (cover_from_last (nsec_denial origin m x) x r.0 r.1).0).0
 
--- ---- by that of the star
+-- ---- by that of the wildcard
 
-pub wildcard_no_data_accepted : (origin : Name) (m : Sets) (signed : Bool) (x : Name) (t : ℕ) → IsJudgedInChain origin m x → IsJudgedType origin m x t → IsFalse (owns_at_or_below m x)
+pub wildcard_no_data_accepted : (origin : Name) (m : Sets) (signed : Bool) (x : Name) (t : ℕ) → IsInScopeOfChain origin m x → IsTypeInScope origin m x t → IsFalse (owns_at_or_below m x)
     → found m signed x (searched_type m x t) ≡ None → negative_answer origin m x ≡ name_exists → IsTrue (proves_wildcard_no_data origin (denial_records origin m x) x t)
 wildcard_no_data_accepted origin m signed x t j deniable none nothing e =
     denied_with origin m x j none (λ w. list_any (λ r. denies_type origin r w t || shows_empty origin r w) (denial_records origin m x)) (by (owns m star NSEC) refl)
@@ -87,20 +87,20 @@ wildcard_no_data_accepted origin m signed x t j deniable none nothing e =
     h = j.zone
 
     star : Name
-    star = star_under (nsec_encloser origin m x)
+    star = wildcard_under (nsec_encloser origin m x)
 
     up : IsAbove origin x
     up = over origin m x j none
 
-    there : (asked_star m x ≡ Some star) × (owns_at_or_below m star ≡ true)
+    there : (asked_wildcard m x ≡ Some star) × (owns_at_or_below m star ≡ true)
     there = star_there origin m x j up (exists_means origin m x none e)
 
     lost : (o : Option RRset) → option_map (renamed signed star x) o ≡ None → o ≡ None
     lost None e = refl
     lost (Some s) e = absurd cc
 
-    at_star : direct m star t ≡ None
-    at_star =
+    at_wildcard : direct m star t ≡ None
+    at_wildcard =
         lost (direct m star t)
         (sym (ap (option_and_then (λ s. option_map (renamed signed s x) (direct m s t))) there.0)
         ∙ (neither (direct m x t) (wildcard m signed x t) (ap (found m signed x) (sym (searched_itself m x t deniable.one_type)) ∙ nothing)).1)
@@ -113,7 +113,7 @@ wildcard_no_data_accepted origin m signed x t j deniable none nothing e =
     by true on =
         let s = set_of m star NSEC on in
         passes (record_at origin m h star) (shown origin m h x star s.0 ((proves_star origin m h x j.inside (off_circle m x none)).on s.0 s.1) s.1)
-        (or_left (denies_type origin (record_at origin m h star) star t) (shows_empty origin (record_at origin m h star) star) (type_denied origin m h j.unreferred star (judged_star origin m x j up).inside t at_star on deniable.no_signature deniable.one_type (λ d. (deniable.no_apex d).1)))
+        (or_left (denies_type origin (record_at origin m h star) star t) (shows_empty origin (record_at origin m h star) star) (type_denied origin m h j.unreferred star (judged_star origin m x j up).inside t at_wildcard on deniable.no_signature deniable.one_type (λ d. (deniable.no_apex d).1)))
     by false off =
         let s = star_spanned origin m x j none off in
         passes (record_at origin m h s.owner) s.among

@@ -22,7 +22,7 @@ upto_through a b c h k = by (upto_cases name_order b c k)
     by (inl e) = ap (is_upto name_cmp a) (sym e) ∙ h
     by (inr e) = upto_before name_order a c (before_from_upto name_order a b c h e)
 
--- a name stands after an owner and before its next name, or after the last owner, whose next name is the origin
+-- a name comes after an owner and before its next name, or after the last owner, whose next name is the origin
 pub record IsBetween (origin : Name) (m : Sets) (x o : Name) : Type 0 where
   pub on_chain : owns m o NSEC ≡ true
   pub after_owner : name_cmp o x ≡ Less

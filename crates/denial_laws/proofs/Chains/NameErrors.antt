@@ -3,16 +3,16 @@ use Rattle.std.specs.Prelude.{IsTrue, IsFalse, Some}
 use Rattle.std.proofs.Common.{◌≡◌, Bool, true, false, cond, not, ◌&&◌, ◌||◌, List, refl, sym, ap, ◌∙◌, true≢false, ◌⊎◌, inl, inr, Less}
 use Rattle.std.specs.List.{list_any}
 use Rattle.std.specs.Option.{option_map_or}
-use Rattle.zone_proto.specs.Names.{Name, name_cmp, name_eq, is_above, is_at_or_above, IsAbove, star_under, is_wildcard}
+use Rattle.zone_proto.specs.Names.{Name, name_cmp, name_eq, is_above, is_at_or_above, IsAbove, wildcard_under, is_wildcard}
 use Rattle.zone_proto.specs.Order.{is_before}
 use Rattle.zone_proto.specs.Types.{NSEC}
 use Rattle.zone_proto.proofs.Members.{In, In-from_any, any_from_In, and_left, and_right, not_true}
 use Rattle.zone_proto.proofs.Names.NameTree.{name_eq-Decides}
 use Rattle.zone_proto.proofs.Ordering.Orders.{less_test}
-use Rattle.zone_map.specs.Wildcards.{asked_star_exists, asked_star}
-use Rattle.zone_map.specs.SearchLaws.{StarIsOfClosestEncloser}
+use Rattle.zone_map.specs.Wildcards.{asked_wildcard_exists, asked_wildcard}
+use Rattle.zone_map.specs.SearchLaws.{WildcardIsOfClosestEncloser}
 use Rattle.zone_map.specs.Zones.{Sets, owns, owns_at_or_below}
-use Rattle.zone_map.proofs.Wildcards.{star_is_of_closest_encloser}
+use Rattle.zone_map.proofs.Wildcards.{wildcard_is_of_closest_encloser}
 use Rattle.zone_denial.specs.NsecDenial.{nsec_encloser, nsec_denial}
 use Rattle.zone_denial.specs.Chains.{IsNsecChain, next_owner}
 use Rattle.zone_denial.proofs.Chain.NsecLists.{off_circle}
@@ -20,10 +20,10 @@ use Rattle.zone_denial.proofs.Chains.NsecAskedStar.{exists_is}
 use Rattle.zone_denial.proofs.Chains.NsecBelow.{no_next_below}
 use Rattle.zone_denial.proofs.Chains.NsecStar.{proves_star}
 use Rattle.zone_lookup.specs.Replies.{name_exists, nx_domain, refused, negative_answer}
-use Rattle.denial_validation.specs.NsecProofs.{may_tell_of, covers, denies_name, shown_encloser, denied_and_star, proves_name_error, proves_wildcard_answer}
+use Rattle.denial_validation.specs.NsecProofs.{may_apply_to, covers, denies_name, shown_encloser, denied_and_wildcard, proves_name_error, proves_wildcard_answer}
 use Rattle.denial_validation.specs.NsecRecords.{NsecRecord}
-use Rattle.denial_laws.specs.Chains.{ChainStarredErrorAccepted, IsJudgedInChain}
-use Rattle.denial_laws.specs.Judged.{denial_records, AreOfZone}
+use Rattle.denial_laws.specs.Chains.{ChainWildcardErrorAccepted, IsInScopeOfChain}
+use Rattle.denial_laws.specs.Scope.{denial_records, AreOfZone}
 use Rattle.denial_laws.proofs.Chains.Gaps.{IsBetween}
 use Rattle.denial_laws.proofs.Chains.Readings.{record_at, of_owner}
 use Rattle.denial_laws.proofs.Chains.ShownEnclosers.{judged_star, shown_is}
@@ -34,7 +34,7 @@ use Rattle.denial_laws.proofs.Speaking.{cover_from_last}
 
 -- ---- what is denied is proved
 
-module _ (origin : Name) (m : Sets) (x : Name) (j : IsJudgedInChain origin m x) (none : owns_at_or_below m x ≡ false) where
+module _ (origin : Name) (m : Sets) (x : Name) (j : IsInScopeOfChain origin m x) (none : owns_at_or_below m x ≡ false) where
   abbrev h : IsNsecChain origin m
   h = j.zone
 
@@ -47,33 +47,33 @@ module _ (origin : Name) (m : Sets) (x : Name) (j : IsJudgedInChain origin m x) 
       let r = no_next_below origin m h x j.inside none in
       (spanned origin m h x x over (cover_from_last (nsec_denial origin m x) x r.0 r.1).0).0
 
-  -- with what its star passes
-  pub denied_with : (test : Name → Bool) → test (star_under (nsec_encloser origin m x)) ≡ true → denied_and_star origin (denial_records origin m x) x test ≡ true
+  -- with what its wildcard passes
+  pub denied_with : (test : Name → Bool) → test (wildcard_under (nsec_encloser origin m x)) ≡ true → denied_and_wildcard origin (denial_records origin m x) x test ≡ true
   denied_with test t =
-      any_from_In (λ r. denies_name origin r x && option_map_or (λ a. test (star_under a)) (shown_encloser r x) false) (record_at origin m h s.owner) (denial_records origin m x) s.among
-      (λ i. denied origin m x j s.owner s.between none i && (ap (λ p. option_map_or (λ a. test (star_under a)) p false) (shown_is origin m x j over s.owner s.between) ∙ t) i)
+      any_from_In (λ r. denies_name origin r x && option_map_or (λ a. test (wildcard_under a)) (shown_encloser r x) false) (record_at origin m h s.owner) (denial_records origin m x) s.among
+      (λ i. denied origin m x j s.owner s.between none i && (ap (λ p. option_map_or (λ a. test (wildcard_under a)) p false) (shown_is origin m x j over s.owner s.between) ∙ t) i)
 
-  -- a record of the denial behind whose owner the star stands, where the star isn't in the chain
-  pub star_spanned : owns m (star_under (nsec_encloser origin m x)) NSEC ≡ false → IsSpanned origin m j.zone x (star_under (nsec_encloser origin m x))
+  -- a record of the denial behind whose owner the wildcard stands, where the wildcard isn't in the chain
+  pub star_spanned : owns m (wildcard_under (nsec_encloser origin m x)) NSEC ≡ false → IsSpanned origin m j.zone x (wildcard_under (nsec_encloser origin m x))
   star_spanned off =
-      (spanned origin m h x (star_under (nsec_encloser origin m x)) (below_origin origin m (star_under (nsec_encloser origin m x)) (judged_star origin m x j over) off)
+      (spanned origin m h x (wildcard_under (nsec_encloser origin m x)) (below_origin origin m (wildcard_under (nsec_encloser origin m x)) (judged_star origin m x j over) off)
       ((proves_star origin m h x j.inside (off_circle m x none)).off off)).0
 
-  pub error_proved : owns_at_or_below m (star_under (nsec_encloser origin m x)) ≡ false → proves_name_error origin (denial_records origin m x) x ≡ true
+  pub error_proved : owns_at_or_below m (wildcard_under (nsec_encloser origin m x)) ≡ false → proves_name_error origin (denial_records origin m x) x ≡ true
   error_proved starless =
       denied_with (λ w. list_any (λ r. denies_name origin r w) (denial_records origin m x))
       (any_from_In (λ r. denies_name origin r star) (record_at origin m h t.owner) (denial_records origin m x) t.among (denied origin m star (judged_star origin m x j over) t.owner t.between starless))
     where
       star : Name
-      star = star_under (nsec_encloser origin m x)
+      star = wildcard_under (nsec_encloser origin m x)
 
-      t : IsSpanned origin m j.zone x (star_under (nsec_encloser origin m x))
+      t : IsSpanned origin m j.zone x (wildcard_under (nsec_encloser origin m x))
       t = star_spanned (off_circle m star starless)
 
-pub starred_error_accepted : ChainStarredErrorAccepted
+pub starred_error_accepted : ChainWildcardErrorAccepted
 starred_error_accepted origin m x j starless e = error_proved origin m x j (error_means origin m x e).0 starless
 
-pub name_error_accepted : (origin : Name) (m : Sets) (x : Name) → IsJudgedInChain origin m x → IsFalse (is_wildcard x) → negative_answer origin m x ≡ nx_domain
+pub name_error_accepted : (origin : Name) (m : Sets) (x : Name) → IsInScopeOfChain origin m x → IsFalse (is_wildcard x) → negative_answer origin m x ≡ nx_domain
     → IsTrue (proves_name_error origin (denial_records origin m x) x)
 name_error_accepted origin m x j plain e =
     let r = error_means origin m x e in
@@ -99,7 +99,7 @@ covers_between origin m h y o k c = record {
     by true e q = inl (less_test (name_cmp y n) e)
     by false e q = inr ((name_eq-Decides n origin).0 q)
 
-module _ (origin : Name) (m : Sets) (y : Name) (j : IsJudgedInChain origin m y) (o : Name) (k : owns m o NSEC ≡ true) (d : denies_name origin (record_at origin m j.zone o) y ≡ true) where
+module _ (origin : Name) (m : Sets) (y : Name) (j : IsInScopeOfChain origin m y) (o : Name) (k : owns m o NSEC ≡ true) (d : denies_name origin (record_at origin m j.zone o) y ≡ true) where
   abbrev n : Name
   n = next_owner origin m o
 
@@ -107,7 +107,7 @@ module _ (origin : Name) (m : Sets) (y : Name) (j : IsJudgedInChain origin m y) 
   r = record_at origin m j.zone o
 
   covered : covers origin r y ≡ true
-  covered = and_right (may_tell_of r y) (covers origin r y) (and_left (may_tell_of r y && covers origin r y) (not (is_above y n)) d)
+  covered = and_right (may_apply_to r y) (covers origin r y) (and_left (may_apply_to r y && covers origin r y) (not (is_above y n)) d)
 
   pub between_denied : IsBetween origin m y o
   between_denied = covers_between origin m j.zone y o k covered
@@ -121,22 +121,22 @@ module _ (origin : Name) (m : Sets) (y : Name) (j : IsJudgedInChain origin m y) 
       by true e =
           absurd
           (true≢false
-          (sym (and_right (may_tell_of r y && covers origin r y) (is_above y n) (empty origin m y j o between_denied e))
-          ∙ not_true (is_above y n) (and_right (may_tell_of r y && covers origin r y) (not (is_above y n)) d)))
+          (sym (and_right (may_apply_to r y && covers origin r y) (is_above y n) (empty origin m y j o between_denied e))
+          ∙ not_true (is_above y n) (and_right (may_apply_to r y && covers origin r y) (not (is_above y n)) d)))
 
-pub error_denied : (origin : Name) (m : Sets) (rs : List NsecRecord) (x : Name) → IsJudgedInChain origin m x → AreOfZone m rs → proves_name_error origin rs x ≡ true → negative_answer origin m x ≡ nx_domain
+pub error_denied : (origin : Name) (m : Sets) (rs : List NsecRecord) (x : Name) → IsInScopeOfChain origin m x → AreOfZone m rs → proves_name_error origin rs x ≡ true → negative_answer origin m x ≡ nx_domain
 error_denied origin m rs x j zone p = by (In-from_any (λ r. denies_name origin r x && option_map_or source (shown_encloser r x) false) rs p)
   where
     h : IsNsecChain origin m
     h = j.zone
 
     star : Name
-    star = star_under (nsec_encloser origin m x)
+    star = wildcard_under (nsec_encloser origin m x)
 
     source : Name → Bool
-    source e = list_any (λ r. denies_name origin r (star_under e)) rs
+    source e = list_any (λ r. denies_name origin r (wildcard_under e)) rs
 
-    answered : owns_at_or_below m x ≡ false → asked_star_exists m x ≡ false → negative_answer origin m x ≡ nx_domain
+    answered : owns_at_or_below m x ≡ false → asked_wildcard_exists m x ≡ false → negative_answer origin m x ≡ nx_domain
     answered a b = λ i. cond (a i || b i) name_exists (cond (j.inside i) nx_domain refused)
 
     by : (r : NsecRecord) × In r rs × (denies_name origin r x && option_map_or source (shown_encloser r x) false ≡ true) → negative_answer origin m x ≡ nx_domain
@@ -165,15 +165,15 @@ error_denied origin m rs x j zone p = by (In-from_any (λ r. denies_name origin 
                 let u = of_owner origin m h rs zone t.0 t.1 in
                 nothing_there origin m star (judged_star origin m x j up) u.0 u.1 (ap (λ v. denies_name origin v star) (sym u.2) ∙ t.2)
 
--- ---- an answer from a star
+-- ---- an answer from a wildcard
 
-pub wildcard_answer_accepted : (origin : Name) (m : Sets) (x e : Name) → IsJudgedInChain origin m x → asked_star m x ≡ Some (star_under e)
+pub wildcard_answer_accepted : (origin : Name) (m : Sets) (x e : Name) → IsInScopeOfChain origin m x → asked_wildcard m x ≡ Some (wildcard_under e)
     → IsTrue (proves_wildcard_answer origin (denial_records origin m x) x e)
 wildcard_answer_accepted origin m x e j a = by (owns_at_or_below m x) refl
   where
-    law : StarIsOfClosestEncloser
-    law = star_is_of_closest_encloser
+    law : WildcardIsOfClosestEncloser
+    law = wildcard_is_of_closest_encloser
 
-    by : (b : Bool) → owns_at_or_below m x ≡ b → denied_and_star origin (denial_records origin m x) x (name_eq (star_under e)) ≡ true
-    by false none = denied_with origin m x j none (name_eq (star_under e)) ((name_eq-Decides (star_under e) (star_under (nsec_encloser origin m x))).1 (asked_only origin m x j (over origin m x j none) (star_under e) a).0)
-    by true some = absurd (true≢false (sym (exists_is origin m j.zone j.one_kind x ∙ some) ∙ law.absent m x (star_under e) a))
+    by : (b : Bool) → owns_at_or_below m x ≡ b → denied_and_wildcard origin (denial_records origin m x) x (name_eq (wildcard_under e)) ≡ true
+    by false none = denied_with origin m x j none (name_eq (wildcard_under e)) ((name_eq-Decides (wildcard_under e) (wildcard_under (nsec_encloser origin m x))).1 (asked_only origin m x j (over origin m x j none) (wildcard_under e) a).0)
+    by true some = absurd (true≢false (sym (exists_is origin m j.zone j.one_kind x ∙ some) ∙ law.absent m x (wildcard_under e) a))

@@ -19,14 +19,14 @@ use Rattle.zone_map.specs.Zones.{Sets, set_at}
 use Rattle.zone_map.proofs.Owned.{owner_in}
 use Rattle.zone_denial.specs.Nsec3Circle.{nsec3_data as data_of, next_digest, digests}
 use Rattle.zone_denial.specs.Chains.{IsInNsec3Chain, IsNsec3Chain}
-use Rattle.zone_denial.specs.Nsec3Zones.{IsHashedOn, TellsApart, hash_with}
+use Rattle.zone_denial.specs.Nsec3Zones.{IsHashedOn, HasDistinctDigests, hash_with}
 use Rattle.zone_denial.proofs.Chains.Nsec3Owners.{owner, named_hashed, set_of_named, name_of_owner, digest_in, name_of_digest}
 use Rattle.zone_denial.proofs.Hashed.Nsec3Owners.{octets_order}
 use Rattle.denial_validation.specs.declared.proof.Proof.{Proof}
 use Rattle.denial_validation.specs.Judgement.{nsec3_proof}
 use Rattle.denial_validation.specs.Nsec3Parameters.{same_parameters, is_of_zone, zone_data, has_parameters, records_with, nsec3_datas, digest_by, is_known, is_other, is_other_known, common_parameters}
 use Rattle.denial_validation.specs.Nsec3Records.{Nsec3Record, nsec3_data, nsec3_record, read_nsec3, nsec3_records}
-use Rattle.denial_laws.specs.Nsec3Calls.{StandInNsec3Sets, told}
+use Rattle.denial_laws.specs.Nsec3Calls.{StandInNsec3Sets, call_concludes}
 use Rattle.denial_laws.specs.Nsec3Chains.{Nsec3ChainParametersFound}
 use Rattle.denial_laws.proofs.Circles.{next_among}
 use Rattle.denial_laws.proofs.Chains.Nsec3Proved.{self_hashed}
@@ -35,8 +35,8 @@ use Rattle.denial_laws.proofs.Nsec3Silence.{nsec3_nothing_outside}
 use Rattle.denial_laws.proofs.Nsec3Calls.{nothing_by_none, single_is}
 use Rattle.denial_laws.proofs.Tests.{refuted}
 
-module _ {origin : Name} {m : Sets} (digest_of : ℕ → List ℕ → Name → ℕ → Option (List ℕ)) {parameters : Nsec3Parameters} {names : List Name} {x : Name} (zone : IsNsec3Chain origin m (hash_with digest_of parameters) parameters names)
-    (apart : TellsApart (IsHashedOn names x) (hash_with digest_of parameters))
+module _ {origin : Name} {beside m : Sets} (digest_of : ℕ → List ℕ → Name → ℕ → Option (List ℕ)) {parameters : Nsec3Parameters} {names : List Name} {x : Name} (zone : IsNsec3Chain origin beside m (hash_with digest_of parameters) parameters names)
+    (apart : HasDistinctDigests (IsHashedOn names x) (hash_with digest_of parameters))
   where
     abbrev hash : Name → Option (List ℕ)
     hash = hash_with digest_of parameters
@@ -58,7 +58,7 @@ module _ {origin : Name} {m : Sets} (digest_of : ℕ → List ℕ → Name → �
           counts = ap (option_and_then counted) one.0 ∙ ap (λ b. cond b (Some a) None) (ap (λ o. is_of_zone origin o next) one.1 ∙ (λ i. eq-eqb (length (base32_text (apart.digest n))) (base32_count (length next)) size i && name_eq_itself origin i));
         }
       where
-        own : (s : RRset) × (set_at m (owner zone apart n) NSEC3 ≡ Some s) × IsInNsec3Chain origin m hash parameters names n (apart.digest n) s
+        own : (s : RRset) × (set_at m (owner zone apart n) NSEC3 ≡ Some s) × IsInNsec3Chain origin beside m hash parameters names n (apart.digest n) s
         own = set_of_named zone apart n i
 
         next : List ℕ
@@ -191,7 +191,7 @@ module _ {origin : Name} {m : Sets} (digest_of : ℕ → List ℕ → Name → �
         by (inr z) more = absurd (filled (data_of parameters z.next z.types) (nsec3_datas origin qs) (sym (ap (λ o. cons_option o (nsec3_datas origin qs)) z.counts) ∙ e))
 
 pub nsec3_parameters_found : Nsec3ChainParametersFound
-nsec3_parameters_found origin m digest_of parameters names rs x t zone apart stand = by (is_at_or_above origin x) refl
+nsec3_parameters_found origin beside m digest_of parameters names rs x t zone apart stand = by (is_at_or_above origin x) refl
   where
     hash : Name → Option (List ℕ)
     hash = hash_with digest_of parameters
@@ -203,10 +203,10 @@ nsec3_parameters_found origin m digest_of parameters names rs x t zone apart sta
     outside e None = refl
     outside e (Some p) = nsec3_nothing_outside origin (digest_by digest_of p) (records_with origin p rs) x e t
 
-    inside : is_some (hash x) ≡ true → told digest_of origin rs x t ≡ judgement hash (nsec3_records rs)
+    inside : is_some (hash x) ≡ true → call_concludes digest_of origin rs x t ≡ judgement hash (nsec3_records rs)
     inside known = of (common digest_of zone apart rs stand known)
       where
-        of : (nsec3_datas origin rs ≡ []) ⊎ ((p : Nsec3Data) × In p (nsec3_datas origin rs) × (common_parameters digest_of origin x rs ≡ Some p)) → told digest_of origin rs x t ≡ judgement hash (nsec3_records rs)
+        of : (nsec3_datas origin rs ≡ []) ⊎ ((p : Nsec3Data) × In p (nsec3_datas origin rs) × (common_parameters digest_of origin x rs ≡ Some p)) → call_concludes digest_of origin rs x t ≡ judgement hash (nsec3_records rs)
         of (inl e) =
             ap (λ ds. option_map_or (λ p. judgement (digest_by digest_of p) (records_with origin p rs)) (option_and_then (λ p. cond (is_other_known digest_of origin x rs p) None (Some p)) (find (is_known digest_of origin x) ds)) None) e
             ∙ sym (ap (judgement hash) (none_read digest_of zone apart rs (kinds digest_of zone apart rs stand) e) ∙ nothing_by_none origin hash x t)
@@ -216,6 +216,6 @@ nsec3_parameters_found origin m digest_of parameters names rs x t zone apart sta
             ∙ ap (judgement (digest_by digest_of p)) (kept digest_of zone apart p u rs (kinds digest_of zone apart rs stand))
             ∙ ap (λ q. judgement (digest_by digest_of q) (nsec3_records rs)) u.2
 
-    by : (b : Bool) → is_at_or_above origin x ≡ b → told digest_of origin rs x t ≡ judgement hash (nsec3_records rs)
+    by : (b : Bool) → is_at_or_above origin x ≡ b → call_concludes digest_of origin rs x t ≡ judgement hash (nsec3_records rs)
     by false e = outside e (common_parameters digest_of origin x rs) ∙ sym (nsec3_nothing_outside origin hash (nsec3_records rs) x e t)
     by true e = inside (ap is_some (apart.answers x (self_hashed names origin zone.begins x (is_at_or_above_sound origin x e))))

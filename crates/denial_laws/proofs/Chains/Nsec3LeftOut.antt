@@ -1,21 +1,22 @@
--- What a proof by NSEC3 records that a name isn't there says under opt-out: what is there is left out, or stands below a cut
+-- What a proof by NSEC3 records that a name isn't there says under opt-out: what is there is left out, or is below a
+-- cut
 use Rattle.std.proofs.Common.{◌≡◌, ◌≢◌, ℕ, Bool, true, false, not, ◌||◌, List, refl, sym, ◌∙◌, ◌⊎◌, inl, inr, eqb-true}
 use Rattle.std.specs.Prelude.{Option, ◌==◌}
 use Rattle.std.specs.List.{Contains}
 use Rattle.zone_proto.specs.declared.rdata.denial.NSEC3PARAM.{NSEC3PARAM as Nsec3Parameters}
-use Rattle.zone_proto.specs.Names.{Name, IsAtOrAbove, IsAbove, star_under}
+use Rattle.zone_proto.specs.Names.{Name, IsAtOrAbove, IsAbove, wildcard_under}
 use Rattle.zone_proto.specs.Types.{NSEC3}
 use Rattle.zone_proto.proofs.Members.{In, Contains-In}
 use Rattle.zone_proto.proofs.Names.NameTree.{is_at_or_above_complete}
 use Rattle.zone_map.specs.Zones.{Sets, owns}
 use Rattle.zone_denial.specs.Authority.{is_below_cut}
 use Rattle.zone_denial.specs.Chains.{may_be_left_out, IsNsec3Chain}
-use Rattle.zone_denial.specs.Nsec3Zones.{IsHashedOn, TellsApart}
+use Rattle.zone_denial.specs.Nsec3Zones.{IsHashedOn, HasDistinctDigests}
 use Rattle.zone_denial.proofs.Names.AuthoritativeNames.{authoritative_from, besides_from}
 use Rattle.zone_denial.proofs.Chain.NsecBelow.{above_at, above_through}
 use Rattle.denial_validation.specs.Nsec3Proofs.{is_covered, is_denied, proves_name_error, proves_opted_out, proves_wildcard_no_data}
 use Rattle.denial_validation.specs.Nsec3Records.{Nsec3Record}
-use Rattle.denial_laws.specs.Nsec3Judged.{AreNsec3OfZone}
+use Rattle.denial_laws.specs.Nsec3Scope.{AreNsec3OfZone}
 use Rattle.denial_laws.specs.Nsec3Chains.{IsLeftOutOn, Nsec3ChainOptOutSound}
 use Rattle.denial_laws.specs.Nsec3Soundness.{proves_absence}
 use Rattle.denial_laws.proofs.Chains.Nsec3Proved.{ancestor_named, uncovered, closer_covered, closer_below, proved_off}
@@ -23,7 +24,7 @@ use Rattle.denial_laws.proofs.Nsec3Proved.{IsProved, parts}
 use Rattle.denial_laws.proofs.Chains.Nsec3Readings.{record_of, of_name}
 use Rattle.denial_laws.proofs.Chains.Nsec3Soundness.{nsec3_unsigned_delegation_sound}
 
-module _ {origin : Name} {m : Sets} {hash : Name → Option (List ℕ)} {parameters : Nsec3Parameters} {names : List Name} {x : Name} (zone : IsNsec3Chain origin m hash parameters names) (apart : TellsApart (IsHashedOn names x) hash)
+module _ {origin : Name} {beside m : Sets} {hash : Name → Option (List ℕ)} {parameters : Nsec3Parameters} {names : List Name} {x : Name} (zone : IsNsec3Chain origin beside m hash parameters names) (apart : HasDistinctDigests (IsHashedOn names x) hash)
     (rs : List Nsec3Record) (of_zone : AreNsec3OfZone m rs) (cover : Nsec3Record → Bool) (rest : Name → Bool) (p : IsProved origin hash rs cover x rest)
   where
     of_names : (r : Nsec3Record) → In r rs → (n : Name) × In n names × (r ≡ record_of zone apart n)
@@ -63,20 +64,20 @@ module _ {origin : Name} {m : Sets} {hash : Name → Option (List ℕ)} {paramet
     is_left_out : IsLeftOutOn origin m parameters.opt_out names x
     is_left_out = record { off = λ i. proved_off zone apart rs of_names cover rest p (Contains-In x names i); left_out = left }
 
-pub nsec3_absence_sound : (origin : Name) (m : Sets) (hash : Name → Option (List ℕ)) (parameters : Nsec3Parameters) (names : List Name) (rs : List Nsec3Record) (x : Name) (t : ℕ) → IsNsec3Chain origin m hash parameters names
-    → TellsApart (IsHashedOn names x) hash → AreNsec3OfZone m rs → proves_absence origin hash rs x t ≡ true → IsLeftOutOn origin m parameters.opt_out names x
-nsec3_absence_sound origin m hash parameters names rs x t zone apart of_zone p = by (proves_name_error origin hash rs x) refl (proves_opted_out origin hash rs x) refl
+pub nsec3_absence_sound : (origin : Name) (beside m : Sets) (hash : Name → Option (List ℕ)) (parameters : Nsec3Parameters) (names : List Name) (rs : List Nsec3Record) (x : Name) (t : ℕ) → IsNsec3Chain origin beside m hash parameters names
+    → HasDistinctDigests (IsHashedOn names x) hash → AreNsec3OfZone m rs → proves_absence origin hash rs x t ≡ true → IsLeftOutOn origin m parameters.opt_out names x
+nsec3_absence_sound origin beside m hash parameters names rs x t zone apart of_zone p = by (proves_name_error origin hash rs x) refl (proves_opted_out origin hash rs x) refl
   where
     by : (a : Bool) → proves_name_error origin hash rs x ≡ a → (b : Bool) → proves_opted_out origin hash rs x ≡ b → IsLeftOutOn origin m parameters.opt_out names x
     by true e b f =
-        is_left_out zone apart rs of_zone (λ r. true) (λ e. is_covered origin hash rs (star_under e)) (parts origin hash rs (λ r. true) x (λ e. is_covered origin hash rs (star_under e)) e)
+        is_left_out zone apart rs of_zone (λ r. true) (λ e. is_covered origin hash rs (wildcard_under e)) (parts origin hash rs (λ r. true) x (λ e. is_covered origin hash rs (wildcard_under e)) e)
     by false e true f = is_left_out zone apart rs of_zone (λ r. r.opt_out) (λ e. true) (parts origin hash rs (λ r. r.opt_out) x (λ e. true) f)
     by false e false f =
-        is_left_out zone apart rs of_zone (λ r. true) (λ e. is_denied origin hash rs (star_under e) t)
-        (parts origin hash rs (λ r. true) x (λ e. is_denied origin hash rs (star_under e) t) ((λ i. sym e i || sym f i || proves_wildcard_no_data origin hash rs x t) ∙ p))
+        is_left_out zone apart rs of_zone (λ r. true) (λ e. is_denied origin hash rs (wildcard_under e) t)
+        (parts origin hash rs (λ r. true) x (λ e. is_denied origin hash rs (wildcard_under e) t) ((λ i. sym e i || sym f i || proves_wildcard_no_data origin hash rs x t) ∙ p))
 
 pub nsec3_opt_out_sound : Nsec3ChainOptOutSound
-nsec3_opt_out_sound origin m hash parameters names rs x zone apart of_zone = record {
-  absence = λ t. nsec3_absence_sound origin m hash parameters names rs x t zone apart of_zone;
-  delegation = nsec3_unsigned_delegation_sound origin m hash parameters names rs x zone apart of_zone;
+nsec3_opt_out_sound origin beside m hash parameters names rs x zone apart of_zone = record {
+  absence = λ t. nsec3_absence_sound origin beside m hash parameters names rs x t zone apart of_zone;
+  delegation = nsec3_unsigned_delegation_sound origin beside m hash parameters names rs x zone apart of_zone;
 }

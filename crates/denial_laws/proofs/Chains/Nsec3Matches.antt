@@ -13,7 +13,7 @@ use Rattle.zone_map.specs.Zones.{Sets}
 use Rattle.zone_denial.specs.Covering.{covers as goes_around}
 use Rattle.zone_denial.specs.Nsec3Circle.{digests, next_digest}
 use Rattle.zone_denial.specs.Chains.{IsNsec3Chain}
-use Rattle.zone_denial.specs.Nsec3Zones.{IsHashedOn, TellsApart}
+use Rattle.zone_denial.specs.Nsec3Zones.{IsHashedOn, HasDistinctDigests}
 use Rattle.zone_denial.proofs.Chains.Nsec3Owners.{owner, named_hashed, owners_as_digests, digest_in, name_of_digest}
 use Rattle.zone_denial.proofs.Hashed.Nsec3Owners.{octets_order, same_by_owner}
 use Rattle.denial_validation.specs.Nsec3Proofs.{owner_of, matches, covers, goes_over, is_matched, is_covered}
@@ -21,7 +21,7 @@ use Rattle.denial_validation.specs.Nsec3Records.{Nsec3Record}
 use Rattle.denial_laws.proofs.Circles.{next_among, never_covered}
 use Rattle.denial_laws.proofs.Chains.Nsec3Readings.{record_of}
 
-module _ {origin : Name} {m : Sets} {hash : Name → Option (List ℕ)} {parameters : Nsec3Parameters} {names : List Name} {x : Name} (zone : IsNsec3Chain origin m hash parameters names) (apart : TellsApart (IsHashedOn names x) hash) where
+module _ {origin : Name} {beside m : Sets} {hash : Name → Option (List ℕ)} {parameters : Nsec3Parameters} {names : List Name} {x : Name} (zone : IsNsec3Chain origin beside m hash parameters names) (apart : HasDistinctDigests (IsHashedOn names x) hash) where
   abbrev Hashed : Name → Type 0
   Hashed n = IsHashedOn names x n
 

@@ -1,34 +1,32 @@
 -- A name error is answered exactly where a validator of NSEC3 records accepts one
 use Rattle.std.proofs.Common.{◌≡◌, ℕ, Bool, true, false, cond, ◌||◌, List, refl, sym, ap, ◌∙◌, subst, true≢false, ◌⊎◌, inl, inr, arith}
-use Rattle.std.specs.Prelude.{Option, Ok}
+use Rattle.std.specs.Prelude.{Option}
 use Rattle.zone_proto.specs.declared.rdata.denial.NSEC3PARAM.{NSEC3PARAM as Nsec3Parameters}
-use Rattle.zone_proto.specs.HashedOwners.{owner_or_refusal}
-use Rattle.zone_proto.specs.Names.{Name, is_at_or_above, IsAtOrAbove, IsAbove, star_under}
+use Rattle.zone_proto.specs.Names.{Name, is_at_or_above, IsAtOrAbove, IsAbove, wildcard_under}
 use Rattle.zone_proto.specs.Sets.{RRset}
 use Rattle.zone_proto.proofs.Members.{In, any_from_In, and_right}
 use Rattle.zone_proto.proofs.Names.NameTree.{is_at_or_above_sound}
 use Rattle.zone_proto.proofs.Names.Tree.{above_cases}
-use Rattle.zone_map.specs.Wildcards.{asked_star_exists}
+use Rattle.zone_map.specs.Wildcards.{asked_wildcard_exists}
 use Rattle.zone_map.specs.Zones.{Sets}
-use Rattle.zone_denial.specs.Nsec3Denial.{nsec3_denial}
+use Rattle.zone_denial.specs.Nsec3Laws.{Denies}
 use Rattle.zone_denial.proofs.Names.LongestAncestors.{above_shorter, IsLongestAbove, longest_is}
 use Rattle.zone_denial.proofs.Chains.Nsec3Names.{is_named, named_in, in_named, origin_in, IsEnclosed, enclosed_off}
-use Rattle.zone_denial.proofs.Chains.Nsec3Encloses.{star_hashed}
+use Rattle.zone_denial.proofs.Chains.Nsec3Encloses.{wildcard_hashed}
 use Rattle.zone_denial.proofs.Chain.NsecBelow.{above_at, comparable}
 use Rattle.zone_lookup.specs.Replies.{name_exists, nx_domain, refused, negative_answer}
 use Rattle.denial_validation.specs.Nsec3Proofs.{covers, is_matched, is_covered, proves_name_error}
 use Rattle.denial_validation.specs.Nsec3Records.{Nsec3Record}
-use Rattle.denial_laws.specs.Nsec3Judged.{read_nsec3_sets, AreNsec3OfZone}
-use Rattle.denial_laws.specs.Nsec3Chains.{IsNsec3JudgedInChain}
+use Rattle.denial_laws.specs.Nsec3Scope.{read_nsec3_sets, AreNsec3OfZone}
+use Rattle.denial_laws.specs.Nsec3Chains.{IsInNsec3ScopeOfChain}
 use Rattle.denial_laws.proofs.Chains.Nsec3Judging.{there_is, no_star, none_longer, encloser_proved}
 use Rattle.denial_laws.proofs.Chains.Nsec3Matches.{covers_is, off_where_covered}
 use Rattle.denial_laws.proofs.Chains.Nsec3Proved.{ancestor_named, uncovered, closer_covered, closer_below, proved_off}
 use Rattle.denial_laws.proofs.Nsec3Proved.{IsProved, parts}
 use Rattle.denial_laws.proofs.Chains.Nsec3Readings.{record_of, of_name}
 use Rattle.denial_laws.proofs.Chains.Nsec3Shown.{IsShown, enclosing_shown}
-use Rattle.denial_laws.proofs.Nsec3Shown.{nsec3_denial_of_zone}
 
-module _ {origin : Name} {m : Sets} {hash : Name → Option (List ℕ)} {parameters : Nsec3Parameters} {names : List Name} {x : Name} (j : IsNsec3JudgedInChain origin m hash parameters names x) where
+module _ {origin : Name} {beside m : Sets} {hash : Name → Option (List ℕ)} {parameters : Nsec3Parameters} {names : List Name} {x : Name} (j : IsInNsec3ScopeOfChain origin beside m hash parameters names x) where
   abbrev on_chain : Name → Bool
   on_chain = is_named names
 
@@ -55,7 +53,7 @@ module _ {origin : Name} {m : Sets} {hash : Name → Option (List ℕ)} {paramet
         by (inl e) = absurd (named_from x off (subst (λ n. In n names) e (origin_in names origin j.zone.begins)))
         by (inr u) = u
 
-    module _ (answer : List RRset) (given : nsec3_denial m (λ n. owner_or_refusal origin (hash n)) false x ≡ Ok answer) where
+    module _ (answer : List RRset) (of_zone : AreNsec3OfZone m (read_nsec3_sets answer)) (given : Denies origin m hash names x answer) where
       abbrev pub a : Name
       a = enclosed.0
 
@@ -66,16 +64,16 @@ module _ {origin : Name} {m : Sets} {hash : Name → Option (List ℕ)} {paramet
       rs = read_nsec3_sets answer
 
       pub of_names : (r : Nsec3Record) → In r (read_nsec3_sets answer) → (n : Name) × In n names × (r ≡ record_of j.zone j.apart n)
-      of_names = of_name j.zone j.apart rs (nsec3_denial_of_zone m (λ n. owner_or_refusal origin (hash n)) false x answer given)
+      of_names = of_name j.zone j.apart rs of_zone
 
       pub enclosing : IsShown j.zone j.apart enclosed.0 enclosed.1 (read_nsec3_sets answer)
       enclosing = enclosing_shown j.zone j.apart (named_from x off) a c enclosed.2 answer given
 
-      pub error_proved : is_named names (star_under enclosed.0) ≡ false → proves_name_error origin hash (read_nsec3_sets answer) x ≡ true
+      pub error_proved : is_named names (wildcard_under enclosed.0) ≡ false → proves_name_error origin hash (read_nsec3_sets answer) x ≡ true
       error_proved none =
-          let k = enclosing.star_off (named_from (star_under a) none) in
-          encloser_proved j a c enclosed.2 rs of_names over off enclosing (λ b. is_covered origin hash rs (star_under b))
-          (any_from_In (λ r. covers origin hash r (star_under a)) (record_of j.zone j.apart k.0) rs k.2 (covers_is j.zone j.apart k.0 (star_under a) k.1.on (star_hashed j.zone j.apart a c enclosed.2) ∙ k.1.covered))
+          let k = enclosing.star_off (named_from (wildcard_under a) none) in
+          encloser_proved j a c enclosed.2 rs of_names over off enclosing (λ b. is_covered origin hash rs (wildcard_under b))
+          (any_from_In (λ r. covers origin hash r (wildcard_under a)) (record_of j.zone j.apart k.0) rs k.2 (covers_is j.zone j.apart k.0 (wildcard_under a) k.1.on (wildcard_hashed j.zone j.apart a c enclosed.2) ∙ k.1.covered))
 
   -- ---- what any records of the zone prove
 
@@ -127,28 +125,28 @@ module _ {origin : Name} {m : Sets} {hash : Name → Option (List ℕ)} {paramet
           by (inl q) = longer_one (above_cases a p.encloser q)
           by (inr q) = shorter_one (above_cases p.encloser a q)
 
-    -- with the star of its encloser covered, there is no such name
+    -- with the wildcard of its encloser covered, there is no such name
     sound : proves_name_error origin hash rs x ≡ true → negative_answer origin m x ≡ nx_domain
     sound e = λ i. cond ((there_is j ∙ away) i || gone i) name_exists (cond (j.inside i) nx_domain refused)
       where
-        p : IsProved origin hash rs (λ r. true) x (λ b. is_covered origin hash rs (star_under b))
-        p = parts origin hash rs (λ r. true) x (λ b. is_covered origin hash rs (star_under b)) e
+        p : IsProved origin hash rs (λ r. true) x (λ b. is_covered origin hash rs (wildcard_under b))
+        p = parts origin hash rs (λ r. true) x (λ b. is_covered origin hash rs (wildcard_under b)) e
 
         away : on_chain x ≡ false
-        away = proved_away (λ r. true) (λ b. is_covered origin hash rs (star_under b)) p
+        away = proved_away (λ r. true) (λ b. is_covered origin hash rs (wildcard_under b)) p
 
         n : (a : Name) × (k : Name) × IsEnclosed names x a k
         n = enclosed away
 
-        star_away : on_chain (star_under n.0) ≡ false
+        star_away : on_chain (wildcard_under n.0) ≡ false
         star_away =
-            unnamed_from (star_under n.0)
-            (off_where_covered j.zone j.apart rs of_names (star_under n.0) (star_hashed j.zone j.apart n.0 n.1 n.2)
-            (ap (λ a. is_covered origin hash rs (star_under a)) (sym (one (λ r. true) (λ b. is_covered origin hash rs (star_under b)) p n.0 n.1 n.2)) ∙ p.passes))
+            unnamed_from (wildcard_under n.0)
+            (off_where_covered j.zone j.apart rs of_names (wildcard_under n.0) (wildcard_hashed j.zone j.apart n.0 n.1 n.2)
+            (ap (λ a. is_covered origin hash rs (wildcard_under a)) (sym (one (λ r. true) (λ b. is_covered origin hash rs (wildcard_under b)) p n.0 n.1 n.2)) ∙ p.passes))
 
-        gone : asked_star_exists m x ≡ false
+        gone : asked_wildcard_exists m x ≡ false
         gone = no_star j n.0 n.2.is_encloser p.up star_away
 
-pub nsec3_error_denied : (origin : Name) (m : Sets) (hash : Name → Option (List ℕ)) (parameters : Nsec3Parameters) (names : List Name) (rs : List Nsec3Record) (x : Name) → IsNsec3JudgedInChain origin m hash parameters names x
+pub nsec3_error_denied : (origin : Name) (beside m : Sets) (hash : Name → Option (List ℕ)) (parameters : Nsec3Parameters) (names : List Name) (rs : List Nsec3Record) (x : Name) → IsInNsec3ScopeOfChain origin beside m hash parameters names x
     → AreNsec3OfZone m rs → proves_name_error origin hash rs x ≡ true → negative_answer origin m x ≡ nx_domain
-nsec3_error_denied origin m hash parameters names rs x j of_zone p = sound j rs (of_name j.zone j.apart rs of_zone) p
+nsec3_error_denied origin beside m hash parameters names rs x j of_zone p = sound j rs (of_name j.zone j.apart rs of_zone) p

@@ -9,7 +9,7 @@ use Rattle.zone_proto.proofs.Names.NameTree.{is_at_or_above_sound, name_eq-Decid
 use Rattle.zone_proto.proofs.Names.Tree.{above_cases}
 use Rattle.zone_map.specs.Zones.{Sets}
 use Rattle.zone_denial.specs.Chains.{IsNsec3Chain}
-use Rattle.zone_denial.specs.Nsec3Zones.{IsHashedOn, TellsApart}
+use Rattle.zone_denial.specs.Nsec3Zones.{IsHashedOn, HasDistinctDigests}
 use Rattle.zone_denial.proofs.Names.LongestAncestors.{longest_above}
 use Rattle.zone_denial.proofs.Chains.Nsec3Names.{is_named, in_named, origin_in}
 use Rattle.zone_denial.proofs.Chain.NsecBelow.{above_at}
@@ -22,7 +22,7 @@ use Rattle.denial_laws.proofs.Nsec3Proved.{closer_inside, IsProved}
 -- ---- names of the chain
 
 -- a name below the origin that is at or above one of the chain is one
-pub ancestor_named : {origin : Name} {m : Sets} {hash : Name → Option (List ℕ)} {parameters : Nsec3Parameters} {names : List Name} → IsNsec3Chain origin m hash parameters names
+pub ancestor_named : {origin : Name} {beside m : Sets} {hash : Name → Option (List ℕ)} {parameters : Nsec3Parameters} {names : List Name} → IsNsec3Chain origin beside m hash parameters names
     → (y b : Name) → In b names → IsAtOrAbove y b → IsAbove origin y → In y names
 ancestor_named {origin} {names = names} zone y b i u w = Contains-In y names (zone.between b y (In-Contains b names i) (above_at origin y w) u)
 
@@ -36,7 +36,7 @@ self_hashed names origin begins x u = by (above_cases origin x u)
         let a = longest_above (is_named names) x origin w (in_named names origin (origin_in names origin begins)) in
         inr (a.0, a.1.found, inl (([], refl), above_at a.0 x a.1.above))
 
-module _ {origin : Name} {m : Sets} {hash : Name → Option (List ℕ)} {parameters : Nsec3Parameters} {names : List Name} {x : Name} (zone : IsNsec3Chain origin m hash parameters names) (apart : TellsApart (IsHashedOn names x) hash)
+module _ {origin : Name} {beside m : Sets} {hash : Name → Option (List ℕ)} {parameters : Nsec3Parameters} {names : List Name} {x : Name} (zone : IsNsec3Chain origin beside m hash parameters names) (apart : HasDistinctDigests (IsHashedOn names x) hash)
     (rs : List Nsec3Record) (of_names : (r : Nsec3Record) → In r rs → (n : Name) × In n (names) × (r ≡ record_of zone apart n)) where
   -- what is covered isn't in the chain
   pub uncovered : (c : Name) → is_covered origin hash rs c ≡ true → In c names → ⊥

@@ -14,14 +14,14 @@ use Rattle.zone_map.proofs.Owned.{owner_in}
 use Rattle.zone_denial.specs.Chains.{IsNsec3Chain}
 use Rattle.zone_denial.specs.Nsec3Circle.{nsec3_data as data_of, next_digest, digests}
 use Rattle.zone_denial.specs.Nsec3Laws.{types3_of}
-use Rattle.zone_denial.specs.Nsec3Zones.{IsHashedOn, TellsApart}
+use Rattle.zone_denial.specs.Nsec3Zones.{IsHashedOn, HasDistinctDigests}
 use Rattle.zone_denial.proofs.Chain.NsecSecured.{numbers_back}
 use Rattle.zone_denial.proofs.Chains.Nsec3Owners.{owner, set_of_named, name_of_owner}
 use Rattle.denial_validation.specs.Nsec3Records.{Nsec3Record, nsec3_records}
-use Rattle.denial_laws.specs.Nsec3Judged.{read_nsec3_sets, AreNsec3OfZone}
+use Rattle.denial_laws.specs.Nsec3Scope.{read_nsec3_sets, AreNsec3OfZone}
 use Rattle.denial_laws.proofs.Nsec3Readings.{read_single, read_from}
 
-module _ {origin : Name} {m : Sets} {hash : Name → Option (List ℕ)} {parameters : Nsec3Parameters} {names : List Name} {x : Name} (zone : IsNsec3Chain origin m hash parameters names) (apart : TellsApart (IsHashedOn names x) hash) where
+module _ {origin : Name} {beside m : Sets} {hash : Name → Option (List ℕ)} {parameters : Nsec3Parameters} {names : List Name} {x : Name} (zone : IsNsec3Chain origin beside m hash parameters names) (apart : HasDistinctDigests (IsHashedOn names x) hash) where
   -- the types that the set of a name lists
   abbrev pub listed_types : Name → List ℕ
   listed_types n = unwrap_or (option_and_then types3_of (set_at m (owner zone apart n) NSEC3)) []

@@ -1,127 +1,118 @@
--- What the denial of a name by NSEC3 shows to a validator: the name's own record; or those of its closest encloser, of what covers the
+-- What the sets that deny a name by NSEC3 show to a validator: the name's own record; or those of its closest encloser, of what covers the
 -- next closer name, and of the star under the encloser or of what covers that star
-use Rattle.std.proofs.Common.{◌≡◌, ℕ, Bool, true, false, cond, ◌&&◌, List, [], ◌∷◌, ◌++◌, refl, sym, ap, ◌∙◌, subst, inl, inr}
-use Rattle.std.specs.Prelude.{Option, Some, None, Result, Ok, filter_map, option_to_list}
+use Rattle.std.proofs.Common.{◌≡◌, ℕ, true, List, sym, ap, ◌∙◌, subst, inl, inr}
+use Rattle.std.specs.Prelude.{Option, Some, option_map}
 use Rattle.std.specs.List.{Contains}
-use Rattle.std.specs.Option.{option_or, option_map_or}
-use Rattle.zone_proto.specs.declared.error.ProtoError.{ProtoError}
 use Rattle.zone_proto.specs.declared.rdata.denial.NSEC3PARAM.{NSEC3PARAM as Nsec3Parameters}
-use Rattle.zone_proto.specs.HashedOwners.{hashed_owner, owner_or_refusal}
-use Rattle.zone_proto.specs.Names.{Name, name_cmp, star_under}
+use Rattle.zone_proto.specs.HashedOwners.{hashed_owner}
+use Rattle.zone_proto.specs.Names.{Name, octets_cmp, wildcard_under}
 use Rattle.zone_proto.specs.Sets.{RRset}
 use Rattle.zone_proto.specs.Types.{NSEC3}
-use Rattle.zone_proto.proofs.Members.{In, In-Contains, In-filter_map}
-use Rattle.zone_map.specs.Zones.{Sets, set_at, owns}
-use Rattle.zone_denial.specs.Nsec3Denial.{match_of, cover_of, cover_owner, encloser_of, enclosed, star_part, nsec3_denying_owners, nsec3_denial, result_and_then}
+use Rattle.zone_proto.proofs.Members.{In, In-Contains, Contains-In}
+use Rattle.zone_map.specs.Zones.{Sets, set_at}
 use Rattle.zone_denial.specs.Chains.{IsNsec3Chain}
-use Rattle.zone_denial.specs.Nsec3Zones.{IsHashedOn, TellsApart}
-use Rattle.zone_denial.specs.TypeLists.{in_order}
-use Rattle.zone_denial.proofs.Chains.Nsec3Covers.{IsCover, has_cover}
-use Rattle.zone_denial.proofs.Chains.Nsec3Names.{is_named, named_in, IsEnclosed}
-use Rattle.zone_denial.proofs.Chains.Nsec3Encloses.{encloser_is, cover_is, star_hashed, star_owners, star_answered, answer_on, IsEnclosing, answer_off}
-use Rattle.zone_denial.proofs.Chains.Nsec3Owners.{owner, is_owner, named_owns, owns_as_named}
+use Rattle.zone_denial.specs.Covering.{covers}
+use Rattle.zone_denial.specs.Nsec3Circle.{digests, next_digest}
+use Rattle.zone_denial.specs.Nsec3Denial.{next_closer}
+use Rattle.zone_denial.specs.Nsec3Laws.{next_digest_of, HasSetOf, HasCoverOf, CoversCloser, Denies}
+use Rattle.zone_denial.specs.Nsec3Zones.{IsHashedOn, HasDistinctDigests}
+use Rattle.zone_denial.proofs.Chains.Nsec3Covers.{IsCover}
+use Rattle.zone_denial.proofs.Chains.Nsec3Encloses.{wildcard_hashed}
+use Rattle.zone_denial.proofs.Chains.Nsec3Names.{IsEnclosed}
+use Rattle.zone_denial.proofs.Chains.Nsec3Owners.{named_hashed, set_of_named}
 use Rattle.denial_validation.specs.Nsec3Records.{Nsec3Record}
-use Rattle.denial_laws.specs.Nsec3Judged.{read_nsec3_sets}
+use Rattle.denial_laws.specs.Nsec3Scope.{read_nsec3_sets}
 use Rattle.denial_laws.proofs.Chains.Nsec3Readings.{record_of, shown}
-use Rattle.denial_laws.proofs.Nsec3Shown.{same_answer}
 
-module _ {origin : Name} {m : Sets} {hash : Name → Option (List ℕ)} {parameters : Nsec3Parameters} {names : List Name} {x : Name} (zone : IsNsec3Chain origin m hash parameters names) (apart : TellsApart (IsHashedOn names x) hash) where
-  abbrev hashed : Name → Result Name ProtoError
-  hashed n = owner_or_refusal origin (hash n)
+same_set : (s r : RRset) → Some s ≡ Some r → s ≡ r
+same_set s r e = cc
 
-  -- in the chain its own record is shown
-  pub own_shown : In x names → (answer : List RRset) → nsec3_denial m hashed false x ≡ Ok answer → In (record_of zone apart x) (read_nsec3_sets answer)
-  own_shown i answer e =
-      let r = answer_on zone apart (enclosed m hashed false x) (star_part m hashed) (λ a. refl) i in
-      let same : r.0 ∷ [] ≡ answer = same_answer (r.0 ∷ []) answer (sym r.2 ∙ e) in
-      shown zone apart answer x i (λ s q. subst (λ sets. Contains sets s) same (In-Contains s (r.0 ∷ []) (inl (same_set r.0 s (sym (set_is r.0 r.1) ∙ q)))))
+same_name : (a b : Name) → Some a ≡ Some b → a ≡ b
+same_name a b e = cc
+
+same_octets : (a b : List ℕ) → Some a ≡ Some b → a ≡ b
+same_octets a b e = cc
+
+module _ {origin : Name} {beside m : Sets} {hash : Name → Option (List ℕ)} {parameters : Nsec3Parameters} {names : List Name} {x : Name} (zone : IsNsec3Chain origin beside m hash parameters names) (apart : HasDistinctDigests (IsHashedOn names x) hash) where
+  -- the set of k, a name of the chain, covers c
+  pub record IsCovering (c k : Name) : Type 0 where
+    pub on : In k names
+    pub covered : covers octets_cmp (apart.digest k) (next_digest (digests hash names) (apart.digest k)) (apart.digest c) ≡ true
+
+  pub is_covering : (c k : Name) → IsCover zone apart c k → IsCovering c k
+  is_covering c k cover = record { on = cover.on; covered = cover.covered }
+
+  same_digest : (n : Name) (d : List ℕ) → IsHashedOn names x n → hash n ≡ Some d → d ≡ apart.digest n
+  same_digest n d h e = same_octets d (apart.digest n) (sym e ∙ apart.answers n h)
+
+  -- a set that an answer has shows the record of its name
+  set_shown : (n : Name) → In n names → (answer : List RRset) → HasSetOf origin m hash n answer → In (record_of zone apart n) (read_nsec3_sets answer)
+  set_shown n i answer (s, (d, h, q), c) =
+      shown zone apart answer n i
+      (λ r e. subst (Contains answer) (same_set s r (sym q ∙ ap (λ d. set_at m (hashed_owner origin d) NSEC3) (same_digest n d (named_hashed zone apart n i) h) ∙ e)) c)
+
+  covering_shown : (c : Name) → IsHashedOn names x c → (answer : List RRset) → HasCoverOf origin m hash names c answer → (k : Name) × IsCovering c k × In (record_of zone apart k) (read_nsec3_sets answer)
+  covering_shown c hashed answer h = (
+    h.name,
+    record { on = i; covered = (λ j. covers octets_cmp (sym own j) (sym next_is j) (sym asked j)) ∙ h.covers.covered },
+    set_shown h.name i answer (h.set, (h.covers.owner, h.own, h.covers.stands), h.among),
+  )
     where
-      same_set : (s r : RRset) → Some s ≡ Some r → s ≡ r
-      same_set s r e = cc
+      i : In h.name names
+      i = Contains-In h.name names h.on
 
-      set_is : (s : RRset) → (d : List ℕ) × (hash x ≡ Some d) × (set_at m (hashed_owner origin d) NSEC3 ≡ Some s) → set_at m (owner zone apart x) NSEC3 ≡ Some s
-      set_is s (d, h, q) = ap (λ d. set_at m (hashed_owner origin d) NSEC3) (same_digest (apart.digest x) d (sym (apart.answers x (inl (In-Contains x names i))) ∙ h)) ∙ q
-        where
-          same_digest : (d e : List ℕ) → Some d ≡ Some e → d ≡ e
-          same_digest d e h = cc
+      own : h.covers.owner ≡ apart.digest h.name
+      own = same_digest h.name h.covers.owner (named_hashed zone apart h.name i) h.own
+
+      asked : h.covers.digest ≡ apart.digest c
+      asked = same_digest c h.covers.digest hashed h.covers.hashed
+
+      next_is : h.covers.next ≡ next_digest (digests hash names) (apart.digest h.name)
+      next_is =
+          let k = set_of_named zone apart h.name i in
+          let same : h.set ≡ k.0 = same_set h.set k.0 (sym h.covers.stands ∙ ap (λ d. set_at m (hashed_owner origin d) NSEC3) own ∙ k.1) in
+          same_octets h.covers.next (next_digest (digests hash names) (apart.digest h.name)) (sym h.covers.said ∙ ap next_digest_of same ∙ ap (λ a. option_map (λ a. a.next_hashed_owner_name) a) k.2.says)
+
+  -- in the chain the name's own record is shown
+  pub own_shown : In x names → (answer : List RRset) → Denies origin m hash names x answer → In (record_of zone apart x) (read_nsec3_sets answer)
+  own_shown i answer d = set_shown x i answer (d.on (In-Contains x names i))
 
   -- off it: of the encloser a and the next closer name c
   pub record IsShown (a c : Name) (rs : List Nsec3Record) : Type 0 where
     pub encloser : In (record_of zone apart a) rs
     pub cover : Name
-    pub is_cover : IsCover zone apart c cover
+    pub is_cover : IsCovering c cover
     pub has_cover : In (record_of zone apart cover) rs
-    pub star_on : In (star_under a) names → In (record_of zone apart (star_under a)) rs
-    pub star_off : (In (star_under a) names → ⊥) → (k : Name) × IsCover zone apart (star_under a) k × In (record_of zone apart k) rs
+    pub star_on : In (wildcard_under a) names → In (record_of zone apart (wildcard_under a)) rs
+    pub star_off : (In (wildcard_under a) names → ⊥) → (k : Name) × IsCovering (wildcard_under a) k × In (record_of zone apart k) rs
 
-  pub enclosing_shown : (In x names → ⊥) → (a c : Name) → IsEnclosed names x a c → (answer : List RRset) → nsec3_denial m hashed false x ≡ Ok answer → IsShown a c (read_nsec3_sets answer)
-  enclosing_shown off a c e answer given =
+  -- what covers the next closer name
+  closer_is : (a c : Name) → IsEnclosed names x a c → (answer : List RRset) → CoversCloser origin m hash names x answer → (k : Name) × IsCovering c k × In (record_of zone apart k) (read_nsec3_sets answer)
+  closer_is a c e answer h =
+      covering_shown c (inr (a, e.is_encloser, inl (e.closer_at, e.closer_below))) answer
+      (subst (λ n. HasCoverOf origin m hash names n answer)
+      (same_name h.closer c (sym h.is_closer ∙ ap (next_closer x) (same_name h.encloser a (sym h.is_encloser ∙ e.is_encloser)) ∙ e.is_closer)) h.cover)
+
+  pub enclosing_shown : (In x names → ⊥) → (a c : Name) → IsEnclosed names x a c → (answer : List RRset) → Denies origin m hash names x answer → IsShown a c (read_nsec3_sets answer)
+  enclosing_shown off a c e answer d =
+      let h = d.off (λ i. off (Contains-In x names i)) in
+      let same = same_name h.covers.encloser a (sym h.covers.is_encloser ∙ e.is_encloser) in
+      let k = closer_is a c e answer h.covers in
       record {
-        encloser = there a e.on (inl refl);
-        cover = r.1.cover;
-        is_cover = r.1.is_cover;
-        has_cover = there r.1.cover r.1.is_cover.on (inr (inl refl));
-        star_on = λ i. there star i (inr (inr (subst (In (owner zone apart star)) (sym (owners_are true (named_owns zone apart star i))) (inl refl))));
+        encloser = set_shown a e.on answer (subst (λ n. HasSetOf origin m hash n answer) same h.matches);
+        cover = k.0;
+        is_cover = k.1;
+        has_cover = k.2;
+        star_on = λ i.
+            set_shown (wildcard_under a) i answer
+            (subst (λ n. HasSetOf origin m hash (wildcard_under n) answer) same (h.star_on (subst (λ n. Contains names (wildcard_under n)) (sym same) (In-Contains (wildcard_under a) names i))));
         star_off = λ away.
-            let k = has_cover zone apart star h away in
-            (k.0, k.1, there k.0 k.1.on (inr (inr (subst (In (owner zone apart k.0)) (sym (owners_are false (owns_as_named zone apart star h ∙ unnamed away (is_named names star) refl) ∙ ap option_to_list k.1.is_cover)) (inl refl)))));
+            covering_shown (wildcard_under a) (wildcard_hashed zone apart a c e) answer
+            (subst (λ n. HasCoverOf origin m hash names (wildcard_under n) answer) same
+            (h.star_off (λ i. away (Contains-In (wildcard_under a) names (subst (λ n. Contains names (wildcard_under n)) same i)))));
       }
-    where
-      star : Name
-      star = star_under a
-
-      h : IsHashedOn names x (star_under a)
-      h = star_hashed zone apart a c e
-
-      r : (answer : List RRset) × IsEnclosing zone apart (enclosed m hashed false x) (star_part m hashed) (λ a. refl) a c (star_owners zone apart a) answer
-      r = answer_off zone apart (enclosed m hashed false x) (star_part m hashed) (λ a. refl) off a c e (star_owners zone apart a) (star_answered zone apart a (star_hashed zone apart a c e))
-
-      same : r.0 ≡ answer
-      same = same_answer r.0 answer (sym r.1.given ∙ given)
-
-      there : (n : Name) → In n names → In (owner zone apart n) (owner zone apart a ∷ owner zone apart r.1.cover ∷ star_owners zone apart a) → In (record_of zone apart n) (read_nsec3_sets answer)
-      there n i j = shown zone apart answer n i (λ s q. subst (λ sets. Contains sets s) same (r.1.has (owner zone apart n) j s q))
-
-      owners_are : (b : Bool) → owns m (owner zone apart star) NSEC3 ≡ b
-          → star_owners zone apart a ≡ option_to_list (option_or (cond b (Some (owner zone apart star)) None) (cover_owner m (owner zone apart star)))
-      owners_are b q = ap (λ b. option_to_list (option_or (cond b (Some (owner zone apart star)) None) (cover_owner m (owner zone apart star)))) q
-
-      unnamed : (In star names → ⊥) → (b : Bool) → is_named names star ≡ b → is_named names star ≡ false
-      unnamed away true q = absurd (away (named_in names star q))
-      unnamed away false q = q
 
   -- and where a wildcard answered, what covers the next closer name
-  pub closer_shown : (a c : Name) → IsEnclosed names x a c → (answer : List RRset) → nsec3_denial m hashed true x ≡ Ok answer
-      → (k : Name) × IsCover zone apart c k × In (record_of zone apart k) (read_nsec3_sets answer)
-  closer_shown a c e answer given =
-      (cover.0, cover.1, shown zone apart answer cover.0 cover.1.on (λ s q. subst (λ sets. Contains sets s) (same_answer (filter_map (λ o. set_at m o NSEC3) owners) answer (sym (ap with_sets owners_are) ∙ given)) (In-Contains s (filter_map (λ o. set_at m o NSEC3) owners) (In-filter_map (λ o. set_at m o NSEC3) (owner zone apart cover.0) s owners (inl refl) q))))
-    where
-      closer_hashed : IsHashedOn names x c
-      closer_hashed = inr (a, e.is_encloser, inl (e.closer_at, e.closer_below))
-
-      cover : (k : Name) × IsCover zone apart c k
-      cover = has_cover zone apart c closer_hashed e.off
-
-      owners : List Name
-      owners = owner zone apart cover.0 ∷ []
-
-      with_sets : Result (List Name) ProtoError → Result (List RRset) ProtoError
-      with_sets = result_and_then (λ owners. Ok (filter_map (λ o. set_at m o NSEC3) owners))
-
-      of_encloser : Result (List Name) ProtoError
-      of_encloser = result_and_then (λ encloser. result_and_then (λ owners. Ok (in_order name_cmp owners)) (enclosed m hashed true x encloser)) (encloser_of m hashed x)
-
-      passed : (b : Bool) (own : Name) → cond (b && false) (Ok (own ∷ [])) of_encloser ≡ of_encloser
-      passed true own = refl
-      passed false own = refl
-
-      owners_are : nsec3_denying_owners m hashed true x ≡ Ok (owner zone apart cover.0 ∷ [])
-      owners_are =
-          ap (result_and_then (λ own. cond (owns m own NSEC3 && false) (Ok (own ∷ [])) of_encloser)) (is_owner zone apart x (inr (a, e.is_encloser, inl (([], refl), e.above))))
-          ∙ passed (owns m (owner zone apart x) NSEC3) (owner zone apart x)
-          ∙ ap (result_and_then (λ encloser. result_and_then (λ owners. Ok (in_order name_cmp owners)) (enclosed m hashed true x encloser))) (encloser_is zone apart a c e)
-          ∙ ap
-          (λ o. result_and_then (λ owners. Ok (in_order name_cmp owners))
-          (result_and_then (λ closer. cond true (Ok closer) (result_and_then (λ encloser. result_and_then (λ star. Ok (encloser ++ closer ++ star)) (star_part m hashed a)) (match_of m hashed a))) (option_map_or (cover_of m hashed) o (Ok [])))) e.is_closer
-          ∙ ap (λ r. result_and_then (λ owners. Ok (in_order name_cmp owners)) (result_and_then (λ closer. cond true (Ok closer) (result_and_then (λ encloser. result_and_then (λ star. Ok (encloser ++ closer ++ star)) (star_part m hashed a)) (match_of m hashed a))) r))
-          (cover_is zone apart c cover.0 closer_hashed cover.1)
+  pub closer_shown : (In x names → ⊥) → (a c : Name) → IsEnclosed names x a c → (answer : List RRset) → ((Contains names x → ⊥) → CoversCloser origin m hash names x answer)
+      → (k : Name) × IsCovering c k × In (record_of zone apart k) (read_nsec3_sets answer)
+  closer_shown off a c e answer h = closer_is a c e answer (h (λ i. off (Contains-In x names i)))

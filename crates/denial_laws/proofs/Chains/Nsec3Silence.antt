@@ -1,10 +1,10 @@
--- Below a zone cut that is a name of a chain of NSEC3 sets, the records of the chain prove nothing but what a star below the cut may have answered
+-- Below a zone cut that is a name of a chain of NSEC3 sets, the records of the chain prove nothing but what a wildcard
+-- below the cut may have answered
 use Rattle.std.proofs.Common.{◌≡◌, ◌≤◌, ℕ, Bool, true, false, cond, not, ◌&&◌, ◌||◌, List, [], ◌++◌, length, refl, sym, ap, ◌∙◌, subst, true≢false, ◌⊎◌, inl, inr, arith}
 use Rattle.std.specs.Prelude.{Option, Some, None, filter, reverse, option_map}
 use Rattle.std.specs.List.{list_any, Contains}
 use Rattle.std.proofs.lemmas.List.{length-append}
 use Rattle.zone_proto.specs.declared.rdata.denial.NSEC3PARAM.{NSEC3PARAM as Nsec3Parameters}
-use Rattle.zone_proto.specs.HashedOwners.{owner_or_refusal}
 use Rattle.zone_proto.specs.Names.{Name, base_name, is_above, is_at_or_above, suffixes, IsAtOrAbove, IsAbove, proper_ancestors}
 use Rattle.zone_proto.specs.Types.{NS, SOA, NSEC3}
 use Rattle.zone_proto.proofs.Members.{In, In-Contains, Contains-In, In-from_filter, In-from_any, any_from_In, and_left, and_right, not_true}
@@ -15,7 +15,7 @@ use Rattle.zone_map.proofs.Owned.{owner_in}
 use Rattle.zone_denial.specs.Authority.{is_below_cut, is_authoritative, owns_besides}
 use Rattle.zone_denial.specs.Nsec3Denial.{encloser_on}
 use Rattle.zone_denial.specs.Chains.{IsNsec3Chain}
-use Rattle.zone_denial.specs.Nsec3Zones.{IsHashedOn, TellsApart}
+use Rattle.zone_denial.specs.Nsec3Zones.{IsHashedOn, HasDistinctDigests}
 use Rattle.zone_denial.proofs.Names.LongestAncestors.{above_below, above_shorter, IsLongestAbove, longest_above, others_above}
 use Rattle.zone_denial.proofs.Chains.Nsec3Names.{is_named, named_in, in_named, origin_in, IsEnclosed, enclosed_off}
 use Rattle.zone_denial.proofs.Chain.NsecBelow.{above_at, comparable}
@@ -25,7 +25,7 @@ use Rattle.denial_validation.specs.Judgement.{nsec3_proof}
 use Rattle.denial_validation.specs.NsecProofs.{DNAME}
 use Rattle.denial_validation.specs.Nsec3Proofs.{lists, is_of_encloser, is_of_unsigned, denies_type, matches, is_matched, is_covered, is_opted_out, is_denied, is_handing_on, is_handed_on, encloser_and, covered_closer, wildcard_answer}
 use Rattle.denial_validation.specs.Nsec3Records.{Nsec3Record}
-use Rattle.denial_laws.specs.Nsec3Judged.{read_nsec3_sets, AreNsec3OfZone}
+use Rattle.denial_laws.specs.Nsec3Scope.{read_nsec3_sets, AreNsec3OfZone}
 use Rattle.denial_laws.specs.Nsec3Chains.{Nsec3ChainNothingBelowCut, Nsec3ChainOwnNothingBelowCut, Nsec3ChainAnswersBelowCut}
 use Rattle.denial_laws.specs.Nsec3Soundness.{IsAnswerBelow}
 use Rattle.denial_laws.specs.Soundness.{IsTopmostCut}
@@ -35,13 +35,12 @@ use Rattle.denial_laws.proofs.Chains.Nsec3Proved.{ancestor_named, uncovered, mat
 use Rattle.denial_laws.proofs.Nsec3Proved.{sides, IsProved, parts}
 use Rattle.denial_laws.proofs.Chains.Nsec3Readings.{record_of, of_name}
 use Rattle.denial_laws.proofs.Chains.Nsec3Shown.{enclosing_shown}
-use Rattle.denial_laws.proofs.Nsec3Shown.{nsec3_denial_of_zone}
 use Rattle.denial_laws.proofs.Nsec3Silence.{In-from_reverse, same_proof, only_answers}
 use Rattle.denial_laws.proofs.Tests.{refuted, right_false, find_some}
 
 -- ---- below a zone cut
 
-module _ {origin : Name} {m : Sets} {hash : Name → Option (List ℕ)} {parameters : Nsec3Parameters} {names : List Name} {x : Name} (zone : IsNsec3Chain origin m hash parameters names) (apart : TellsApart (IsHashedOn names x) hash)
+module _ {origin : Name} {beside m : Sets} {hash : Name → Option (List ℕ)} {parameters : Nsec3Parameters} {names : List Name} {x : Name} (zone : IsNsec3Chain origin beside m hash parameters names) (apart : HasDistinctDigests (IsHashedOn names x) hash)
     (rs : List Nsec3Record) (of_zone : AreNsec3OfZone m rs) (c : Name) (cut : IsTopmostCut origin m x c) (counts : Contains names c)
   where
     of_names : (r : Nsec3Record) → In r rs → (n : Name) × In n names × (r ≡ record_of zone apart n)
@@ -164,7 +163,7 @@ module _ {origin : Name} {m : Sets} {hash : Name → Option (List ℕ)} {paramet
             any_from_In (λ r. matches origin hash r c && not (is_of_encloser r)) r.0 rs r.1
             (λ i. r.2 i && not ((ap is_of_encloser (match_on c (above_at origin c cut.below) (above_at c x cut.above) r.0 r.1 r.2).1 ∙ hands_on) i))
 
-    -- what a star may have answered is below the cut
+    -- what a wildcard may have answered is below the cut
     answer_below : (p : Proof) → wildcard_answer origin hash rs x ≡ Some p → IsAnswerBelow c p
     answer_below p e = by (covered_closer origin hash rs x) refl e
       where
@@ -199,19 +198,16 @@ module _ {origin : Name} {m : Sets} {hash : Name → Option (List ℕ)} {paramet
             more (l, f, g) = let size : length (base_name n) ≡ length (f ++ c) = ap (λ (n : Name). length (base_name n)) g in omega (arith, size, length-append f c)
 
 pub nsec3_nothing_below_cut : Nsec3ChainNothingBelowCut
-nsec3_nothing_below_cut origin m hash parameters names rs x c zone apart of_zone cut counts shown t =
+nsec3_nothing_below_cut origin beside m hash parameters names rs x c zone apart of_zone cut counts shown t =
     below_only zone apart rs of_zone c cut counts t ∙ ap (λ b. cond b None (wildcard_answer origin hash rs x)) (handed zone apart rs of_zone c cut counts shown)
 
 -- its own denial has the record of the cut, which is its closest encloser
 pub nsec3_own_nothing_below_cut : Nsec3ChainOwnNothingBelowCut
-nsec3_own_nothing_below_cut origin m hash parameters names x c zone apart cut counts answer given =
-    nsec3_nothing_below_cut origin m hash parameters names rs x c zone apart of_zone cut counts (matched_by zone apart rs c (on zone apart rs of_zone c cut counts) shown)
+nsec3_own_nothing_below_cut origin beside m hash parameters names x c zone apart cut counts answer of_zone given =
+    nsec3_nothing_below_cut origin beside m hash parameters names rs x c zone apart of_zone cut counts (matched_by zone apart rs c (on zone apart rs of_zone c cut counts) shown)
   where
     rs : List Nsec3Record
     rs = read_nsec3_sets answer
-
-    of_zone : AreNsec3OfZone m rs
-    of_zone = nsec3_denial_of_zone m (λ n. owner_or_refusal origin (hash n)) false x answer given
 
     off : In x names → ⊥
     off = none_below zone apart rs of_zone c cut counts x cut.above
@@ -229,7 +225,7 @@ nsec3_own_nothing_below_cut origin m hash parameters names x c zone apart cut co
     shown = subst (λ a. In (record_of zone apart a) rs) same (enclosing_shown zone apart off n.0 n.1 n.2 answer given).encloser
 
 pub nsec3_answers_below_cut : Nsec3ChainAnswersBelowCut
-nsec3_answers_below_cut origin m hash parameters names rs x c zone apart of_zone cut counts t p e = by (is_handed_on origin hash rs x) (sym (below_only zone apart rs of_zone c cut counts t) ∙ e)
+nsec3_answers_below_cut origin beside m hash parameters names rs x c zone apart of_zone cut counts t p e = by (is_handed_on origin hash rs x) (sym (below_only zone apart rs of_zone c cut counts t) ∙ e)
   where
     by : (b : Bool) → cond b None (wildcard_answer origin hash rs x) ≡ Some p → IsAnswerBelow c p
     by true q = absurd cc

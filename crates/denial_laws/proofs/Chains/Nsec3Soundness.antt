@@ -6,38 +6,38 @@ use Rattle.std.specs.Option.{option_map_or, option_or}
 use Rattle.zone_proto.specs.declared.rdata.denial.NSEC3PARAM.{NSEC3PARAM as Nsec3Parameters}
 use Rattle.zone_proto.specs.HashedOwners.{hashed_owner}
 use Rattle.zone_proto.specs.Base32.{base32_count, base32_text}
-use Rattle.zone_proto.specs.Names.{Name, star_label, name_eq, is_root, is_above, is_at_or_above, IsAtOrAbove, IsAbove, star_under, is_wildcard}
+use Rattle.zone_proto.specs.Names.{Name, asterisk_label, name_eq, is_root, is_above, is_at_or_above, IsAtOrAbove, IsAbove, wildcard_under, is_wildcard}
 use Rattle.zone_proto.specs.Types.{NS, CNAME, SOA, DS, RRSIG, NSEC, NSEC3, ANY, ANAME}
 use Rattle.zone_proto.proofs.Members.{In, In-Contains, Contains-In, In-from_any, any_from_In, and_left, and_right, not_true, or_left, or_right}
 use Rattle.zone_proto.proofs.Names.NameTree.{above_test, is_at_or_above_sound, is_at_or_above_complete}
 use Rattle.zone_proto.proofs.Names.Tree.{above_cases}
 use Rattle.zone_map.specs.AnyTypes.{searched_type}
 use Rattle.zone_map.specs.Direct.{direct}
-use Rattle.zone_map.specs.Wildcards.{exists, renamed, wildcard, asked_star, asked_star_exists, closest_encloser as found_encloser}
+use Rattle.zone_map.specs.Wildcards.{exists, renamed, wildcard, asked_wildcard, asked_wildcard_exists, closest_encloser as found_encloser}
 use Rattle.zone_map.specs.Zones.{Sets, owns, types_at, owns_at_or_below}
 use Rattle.zone_map.proofs.Delegations.{found_above}
 use Rattle.zone_map.proofs.Owned.{type_owned}
 use Rattle.zone_denial.specs.Authority.{is_below_cut, is_authoritative, owns_besides}
-use Rattle.zone_denial.specs.Chains.{is_delegation, is_told_at_delegation, tells, IsNsec3Chain}
-use Rattle.zone_denial.specs.Nsec3Zones.{IsHashedOn, TellsApart}
+use Rattle.zone_denial.specs.Chains.{is_delegation, is_stated_at_delegation, is_stated, IsNsec3Chain}
+use Rattle.zone_denial.specs.Nsec3Zones.{IsHashedOn, HasDistinctDigests}
 use Rattle.zone_denial.proofs.Names.AuthoritativeNames.{from_besides}
 use Rattle.zone_denial.proofs.Names.ExistingAncestors.{exists_from, unowned_absent}
 use Rattle.zone_denial.proofs.Names.LongestAncestors.{above_below, above_shorter, IsLongestAbove, longest_above, others_above}
 use Rattle.zone_denial.proofs.Chains.NsecLists.{delegation_owns, not_delegation}
 use Rattle.zone_denial.proofs.Chains.Nsec3AskedStar.{proved_star_is_asked}
 use Rattle.zone_denial.proofs.Chains.Nsec3Names.{is_named, named_in, in_named, IsEnclosed}
-use Rattle.zone_denial.proofs.Chains.Nsec3Encloses.{star_hashed}
+use Rattle.zone_denial.proofs.Chains.Nsec3Encloses.{wildcard_hashed}
 use Rattle.zone_denial.proofs.Chain.NsecAskedStar.{other_type}
 use Rattle.zone_denial.proofs.Chain.NsecBelow.{above_at, above_through, comparable}
 use Rattle.zone_lookup.specs.Replies.{nx_domain, negative_answer}
 use Rattle.denial_validation.specs.Encloser.{next_closer}
 use Rattle.denial_validation.specs.Nsec3Proofs.{lists, lists_none, is_of_unsigned, is_wrong_side, denies_type, matches, covers, is_covered, is_opted_out, is_denied, proves_name_error, proves_no_data, proves_wildcard_no_data, proves_wildcard_answer, proves_opted_out, shows_unsigned_delegation, proves_unsigned_delegation}
 use Rattle.denial_validation.specs.Nsec3Records.{Nsec3Record}
-use Rattle.denial_laws.specs.Judged.{Unreferred}
-use Rattle.denial_laws.specs.Nsec3Judged.{AreNsec3OfZone}
-use Rattle.denial_laws.specs.Nsec3Chains.{IsNsec3JudgedInChain, Nsec3ChainUnsignedDelegationSound, Nsec3ChainRecordsSound}
-use Rattle.denial_laws.specs.Nsec3Soundness.{ShowsEmpty, IsStarUnflattenedOn, IsAbsentBelow}
-use Rattle.denial_laws.specs.Soundness.{IsNoName, IsWithoutData, IsWithoutDataByStar, IsUnflattened, IsEmptyNonTerminal, IsUnsignedDelegation}
+use Rattle.denial_laws.specs.Scope.{Unreferred}
+use Rattle.denial_laws.specs.Nsec3Scope.{AreNsec3OfZone}
+use Rattle.denial_laws.specs.Nsec3Chains.{IsInNsec3ScopeOfChain, Nsec3ChainUnsignedDelegationSound, Nsec3ChainRecordsSound}
+use Rattle.denial_laws.specs.Nsec3Soundness.{ShowsEmpty, IsWildcardUnflattenedOn, IsAbsentBelow}
+use Rattle.denial_laws.specs.Soundness.{IsNoName, IsWithoutData, IsWithoutDataByWildcard, IsUnflattened, IsEmptyNonTerminal, IsUnsignedDelegation}
 use Rattle.denial_laws.proofs.NameErrors.{error_means}
 use Rattle.denial_laws.proofs.NothingFound.{direct_none}
 use Rattle.denial_laws.proofs.Chains.Nsec3Judging.{owned_listed, signature_listed, told_listed, told_owned, undnamed, exists_is, there_is, plain_x, star_in, star_uncut, star_plain, asked_only}
@@ -52,17 +52,17 @@ use Rattle.denial_laws.proofs.Soundness.{there_from, present, searched_by, unask
 
 -- ---- what a record says of its name
 
-module _ {origin : Name} {m : Sets} {hash : Name → Option (List ℕ)} {parameters : Nsec3Parameters} {names : List Name} {x : Name} (zone : IsNsec3Chain origin m hash parameters names) (apart : TellsApart (IsHashedOn names x) hash)
+module _ {origin : Name} {beside m : Sets} {hash : Name → Option (List ℕ)} {parameters : Nsec3Parameters} {names : List Name} {x : Name} (zone : IsNsec3Chain origin beside m hash parameters names) (apart : HasDistinctDigests (IsHashedOn names x) hash)
     (y : Name) (on : In y names) where
   abbrev r : Nsec3Record
   r = record_of zone apart y
 
-  told_absent : (u : ℕ) → is_told_at_delegation u ≡ true → lists r u ≡ false → owns m y u ≡ false
+  told_absent : (u : ℕ) → is_stated_at_delegation u ≡ true → lists r u ≡ false → owns m y u ≡ false
   told_absent u k e = refuted (owns m y u) (λ o. true≢false (sym (told_listed zone apart y on u k o) ∙ e))
 
   -- where it owns no NSEC3 set itself
   module _ (unhashed : owns m y NSEC3 ≡ false) where
-    not_owned_at : (u : ℕ) → u ≢ RRSIG → tells origin m y u ≡ true → lists r u ≡ false → owns m y u ≡ false
+    not_owned_at : (u : ℕ) → u ≢ RRSIG → is_stated origin m y u ≡ true → lists r u ≡ false → owns m y u ≡ false
     not_owned_at u a k e = by (u == NSEC3) refl
       where
         by : (b : Bool) → (u == NSEC3) ≡ b → owns m y u ≡ false
@@ -80,8 +80,8 @@ module _ {origin : Name} {m : Sets} {hash : Name → Option (List ℕ)} {paramet
       undelegated : is_delegation origin m y ≡ false
       undelegated = not_delegation origin m y (λ d. true≢false (sym (delegation_owns origin m y d).0 ∙ told_absent NS refl (unlisted_all NS)))
 
-      tells_all : (u : ℕ) → tells origin m y u ≡ true
-      tells_all u = ap (λ b. not b || is_told_at_delegation u) undelegated
+      tells_all : (u : ℕ) → is_stated origin m y u ≡ true
+      tells_all u = ap (λ b. not b || is_stated_at_delegation u) undelegated
 
       pub owns_nothing : (u : ℕ) → owns m y u ≡ false
       owns_nothing u = by (u == RRSIG) refl
@@ -118,12 +118,12 @@ module _ {origin : Name} {m : Sets} {hash : Name → Option (List ℕ)} {paramet
           by false q = absurd (true≢false (sym (λ i. told_listed zone apart y on NS refl k i && not (q i)) ∙ delegation))
 
       -- so its list tells of the type
-      tells_it : tells origin m y t ≡ true
+      tells_it : is_stated origin m y t ≡ true
       tells_it = by (is_delegation origin m y) refl (t == DS) refl
         where
-          by : (d : Bool) → is_delegation origin m y ≡ d → (b : Bool) → (t == DS) ≡ b → not d || is_told_at_delegation t ≡ true
+          by : (d : Bool) → is_delegation origin m y ≡ d → (b : Bool) → (t == DS) ≡ b → not d || is_stated_at_delegation t ≡ true
           by false e b q = refl
-          by true e true q = ap is_told_at_delegation (eqb-true t DS q)
+          by true e true q = ap is_stated_at_delegation (eqb-true t DS q)
           by true e false q = let o = delegation_owns origin m y e in absurd (true≢false (sym (ns_beside_soa q o.0) ∙ o.1))
 
       -- and what isn't listed isn't owned
@@ -144,7 +144,7 @@ module _ {origin : Name} {m : Sets} {hash : Name → Option (List ℕ)} {paramet
               signature : t ≡ RRSIG
               signature = eqb-true t RRSIG q
 
-      -- nothing is found there for what is searched for the type, here or in the place of another name
+      -- nothing is found there for what is searched for the type, here or in place of another name
       pub nothing_searched : (z : Name) → direct m y (searched_type m z t) ≡ None
       nothing_searched z = by (lists_none r) refl
         where
@@ -161,14 +161,14 @@ module _ {origin : Name} {m : Sets} {hash : Name → Option (List ℕ)} {paramet
 
 -- ---- absent data
 
-pub nsec3_no_data_sound : (origin : Name) (m : Sets) (hash : Name → Option (List ℕ)) (parameters : Nsec3Parameters) (names : List Name) (rs : List Nsec3Record) (x : Name) (t : ℕ) → IsNsec3JudgedInChain origin m hash parameters names x
+pub nsec3_no_data_sound : (origin : Name) (beside m : Sets) (hash : Name → Option (List ℕ)) (parameters : Nsec3Parameters) (names : List Name) (rs : List Nsec3Record) (x : Name) (t : ℕ) → IsInNsec3ScopeOfChain origin beside m hash parameters names x
     → AreNsec3OfZone m rs → IsUnflattened m x t → proves_no_data origin hash rs x t ≡ true → IsWithoutData origin m x t
-nsec3_no_data_sound origin m hash parameters names rs x t j of_zone flat p =
+nsec3_no_data_sound origin beside m hash parameters names rs x t j of_zone flat p =
     record {
       nothing = λ signed i.
           option_or (nothing_searched j.zone j.apart x own.0 j.no_hashed_owner j.unreferred j.inside j.uncut t denies flat x i)
           (ap (option_and_then (λ s. option_map (renamed signed s x) (direct m s (searched_type m x t)))) (unasked m x (exists_is j x (is_at_or_above_sound origin x j.inside) j.uncut (plain_x j) ∙ on)) i);
-      there = present origin m x (or_left (owns_at_or_below m x) (asked_star_exists m x) (there_is j ∙ on));
+      there = present origin m x (or_left (owns_at_or_below m x) (asked_wildcard_exists m x) (there_is j ∙ on));
     }
   where
     one' : (r : Nsec3Record) × In r rs × (matches origin hash r x && denies_type origin r x t ≡ true)
@@ -185,9 +185,9 @@ nsec3_no_data_sound origin m hash parameters names rs x t j of_zone flat p =
     on : is_named names x ≡ true
     on = in_named names x own.0
 
-pub nsec3_empty_sound : (origin : Name) (m : Sets) (hash : Name → Option (List ℕ)) (parameters : Nsec3Parameters) (names : List Name) (rs : List Nsec3Record) (x : Name) → IsNsec3JudgedInChain origin m hash parameters names x
+pub nsec3_empty_sound : (origin : Name) (beside m : Sets) (hash : Name → Option (List ℕ)) (parameters : Nsec3Parameters) (names : List Name) (rs : List Nsec3Record) (x : Name) → IsInNsec3ScopeOfChain origin beside m hash parameters names x
     → AreNsec3OfZone m rs → ShowsEmpty origin hash rs x → IsEmptyNonTerminal m x
-nsec3_empty_sound origin m hash parameters names rs x j of_zone (r, c, matched, none) = record { empty = nothing_at j.zone j.apart x own.0 j.no_hashed_owner bare; below = of (above_cases x k.0 k.2) }
+nsec3_empty_sound origin beside m hash parameters names rs x j of_zone (r, c, matched, none) = record { empty = nothing_at j.zone j.apart x own.0 j.no_hashed_owner bare; below = of (above_cases x k.0 k.2) }
   where
     own : In x names × (r ≡ record_of j.zone j.apart x)
     own = matching j.zone j.apart rs (of_name j.zone j.apart rs of_zone) x (self_hashed names origin j.zone.begins x (is_at_or_above_sound origin x j.inside)) r (Contains-In r rs c) matched
@@ -211,33 +211,33 @@ nsec3_empty_sound origin m hash parameters names rs x j of_zone (r, c, matched, 
 -- ---- by a wildcard
 
 -- a star owns no NSEC3 set: the text of a digest has more octets than its label, or none
-star_unhashed : (origin : Name) (m : Sets) (hash : Name → Option (List ℕ)) (parameters : Nsec3Parameters) (names : List Name) → IsNsec3Chain origin m hash parameters names → (a : Name) → owns m (star_under a) NSEC3 ≡ false
-star_unhashed origin m hash parameters names zone a = by (owns m (star_under a) NSEC3) refl
+star_unhashed : (origin : Name) (beside m : Sets) (hash : Name → Option (List ℕ)) (parameters : Nsec3Parameters) (names : List Name) → IsNsec3Chain origin beside m hash parameters names → (a : Name) → owns m (wildcard_under a) NSEC3 ≡ false
+star_unhashed origin beside m hash parameters names zone a = by (owns m (wildcard_under a) NSEC3) refl
   where
-    by : (b : Bool) → owns m (star_under a) NSEC3 ≡ b → b ≡ false
+    by : (b : Bool) → owns m (wildcard_under a) NSEC3 ≡ b → b ≡ false
     by false e = refl
-    by true e = of (zone.no_other (star_under a) e)
+    by true e = of (zone.no_other (wildcard_under a) e)
       where
-        of : (n : Name) × (d : List ℕ) × Contains names n × (hash n ≡ Some d) × (star_under a ≡ hashed_owner origin d) → true ≡ false
+        of : (n : Name) × (d : List ℕ) × Contains names n × (hash n ≡ Some d) × (wildcard_under a ≡ hashed_owner origin d) → true ≡ false
         of (n, d, i, h, q) =
             let size : base32_count (length d) ≡ 1 =
-            sym (text_length d) ∙ ap length (sym (first_label star_label (base32_text d) a origin q)) in
+            sym (text_length d) ∙ ap length (sym (first_label asterisk_label (base32_text d) a origin q)) in
             absurd (omega (arith, size))
 
-pub nsec3_wildcard_no_data_sound : (origin : Name) (m : Sets) (hash : Name → Option (List ℕ)) (parameters : Nsec3Parameters) (names : List Name) (rs : List Nsec3Record) (x : Name) (t : ℕ) → IsNsec3JudgedInChain origin m hash parameters names x
-    → AreNsec3OfZone m rs → is_wildcard x ≡ false → IsStarUnflattenedOn m names x t → proves_wildcard_no_data origin hash rs x t ≡ true → IsWithoutDataByStar origin m x t
-nsec3_wildcard_no_data_sound origin m hash parameters names rs x t j of_zone plain flat p =
+pub nsec3_wildcard_no_data_sound : (origin : Name) (beside m : Sets) (hash : Name → Option (List ℕ)) (parameters : Nsec3Parameters) (names : List Name) (rs : List Nsec3Record) (x : Name) (t : ℕ) → IsInNsec3ScopeOfChain origin beside m hash parameters names x
+    → AreNsec3OfZone m rs → is_wildcard x ≡ false → IsWildcardUnflattenedOn m names x t → proves_wildcard_no_data origin hash rs x t ≡ true → IsWithoutDataByWildcard origin m x t
+nsec3_wildcard_no_data_sound origin beside m hash parameters names rs x t j of_zone plain flat p =
     record {
       none = record {
         nothing = λ signed i. option_or (bare_x i) ((ap (option_and_then (λ s. option_map (renamed signed s x) (direct m s (searched_type m x t)))) asked ∙ ap (option_map (renamed signed star x)) bare_star) i);
-        there = present origin m x (or_right (owns_at_or_below m x) (asked_star_exists m x) star_exists);
+        there = present origin m x (or_right (owns_at_or_below m x) (asked_wildcard_exists m x) wildcard_exists);
       };
       absent = none;
-      star = star_exists;
+      star = wildcard_exists;
     }
   where
     test : Name → Bool
-    test e = is_denied origin hash rs (star_under e) t
+    test e = is_denied origin hash rs (wildcard_under e) t
 
     q : IsProved origin hash rs (λ r. true) x test
     q = parts origin hash rs (λ r. true) x test p
@@ -252,7 +252,7 @@ nsec3_wildcard_no_data_sound origin m hash parameters names rs x t j of_zone pla
     n = enclosed j away
 
     star : Name
-    star = star_under n.0
+    star = wildcard_under n.0
 
     inside : IsAtOrAbove origin star
     inside = star_in j n.0 n.2.is_encloser q.up
@@ -268,11 +268,11 @@ nsec3_wildcard_no_data_sound origin m hash parameters names rs x t j of_zone pla
 
     own : In star names × (denying.0 ≡ record_of j.zone j.apart star)
     own =
-        matching j.zone j.apart rs of_names star (star_hashed j.zone j.apart n.0 n.1 n.2) denying.0 denying.1 (and_left (matches origin hash denying.0 star) (denies_type origin denying.0 star t) denying.2)
+        matching j.zone j.apart rs of_names star (wildcard_hashed j.zone j.apart n.0 n.1 n.2) denying.0 denying.1 (and_left (matches origin hash denying.0 star) (denies_type origin denying.0 star t) denying.2)
 
     bare_star : direct m star (searched_type m x t) ≡ None
     bare_star =
-        nothing_searched j.zone j.apart star own.0 (star_unhashed origin m hash parameters names j.zone n.0) j.unreferred (is_at_or_above_complete origin star inside) uncut t
+        nothing_searched j.zone j.apart star own.0 (star_unhashed origin beside m hash parameters names j.zone n.0) j.unreferred (is_at_or_above_complete origin star inside) uncut t
         (ap (λ r. denies_type origin r star t) (sym own.1) ∙ and_right (matches origin hash denying.0 star) (denies_type origin denying.0 star t) denying.2) (flat n.0 n.2.is_encloser) x
 
     none : owns_at_or_below m x ≡ false
@@ -288,23 +288,23 @@ nsec3_wildcard_no_data_sound origin m hash parameters names rs x t j of_zone pla
     bare_x : direct m x (searched_type m x t) ≡ None
     bare_x = bare_direct origin m x j.unreferred j.inside j.uncut unowned (searched_type m x t)
 
-    asked : asked_star m x ≡ Some star
-    asked = proved_star_is_asked origin m hash parameters names j.zone j.all_in j.one_kind x ((above_test origin x).1 q.up) j.uncut (plain_x j) plain (unowned_absent m x none) n.0 n.2.is_encloser
+    asked : asked_wildcard m x ≡ Some star
+    asked = proved_star_is_asked origin beside m hash parameters names j.zone j.all_in j.one_kind x ((above_test origin x).1 q.up) j.uncut (plain_x j) plain (unowned_absent m x none) n.0 n.2.is_encloser
 
-    star_exists : asked_star_exists m x ≡ true
-    star_exists = ap (λ a. option_map_or (exists m) a false) asked ∙ exists_is j star inside uncut (star_plain j n.0 n.2.is_encloser q.up) ∙ in_named names star own.0
+    wildcard_exists : asked_wildcard_exists m x ≡ true
+    wildcard_exists = ap (λ a. option_map_or (exists m) a false) asked ∙ exists_is j star inside uncut (star_plain j n.0 n.2.is_encloser q.up) ∙ in_named names star own.0
 
 -- ---- a name error
 
-pub nsec3_name_error_sound : (origin : Name) (m : Sets) (hash : Name → Option (List ℕ)) (parameters : Nsec3Parameters) (names : List Name) (rs : List Nsec3Record) (x : Name) → IsNsec3JudgedInChain origin m hash parameters names x
+pub nsec3_name_error_sound : (origin : Name) (beside m : Sets) (hash : Name → Option (List ℕ)) (parameters : Nsec3Parameters) (names : List Name) (rs : List Nsec3Record) (x : Name) → IsInNsec3ScopeOfChain origin beside m hash parameters names x
     → AreNsec3OfZone m rs → proves_name_error origin hash rs x ≡ true → IsNoName origin m x
-nsec3_name_error_sound origin m hash parameters names rs x j of_zone p =
+nsec3_name_error_sound origin beside m hash parameters names rs x j of_zone p =
     record { denied = denied; nothing = λ signed t i. option_or (bare_direct origin m x j.unreferred j.inside j.uncut unowned t i) (starless signed t i) }
   where
     denied : negative_answer origin m x ≡ nx_domain
-    denied = nsec3_error_denied origin m hash parameters names rs x j of_zone p
+    denied = nsec3_error_denied origin beside m hash parameters names rs x j of_zone p
 
-    gone : (owns_at_or_below m x ≡ false) × (asked_star_exists m x ≡ false)
+    gone : (owns_at_or_below m x ≡ false) × (asked_wildcard_exists m x ≡ false)
     gone = error_means origin m x denied
 
     off : is_named names x ≡ false
@@ -317,24 +317,24 @@ nsec3_name_error_sound origin m hash parameters names rs x j of_zone p =
     up = over j off
 
     star : Name
-    star = star_under n.0
+    star = wildcard_under n.0
 
     unowned : (u : ℕ) → owns m x u ≡ false
     unowned u = refuted (owns m x u) (λ k. true≢false (sym (there_from m x u k) ∙ gone.0))
 
-    -- a star that doesn't exist owns nothing
+    -- a wildcard that doesn't exist owns nothing
     bare : exists m star ≡ false → (u : ℕ) → owns m star u ≡ false
     bare none u = by (u == NSEC3) refl
       where
         by : (b : Bool) → (u == NSEC3) ≡ b → owns m star u ≡ false
-        by true q = ap (owns m star) (eqb-true u NSEC3 q) ∙ star_unhashed origin m hash parameters names j.zone n.0
+        by true q = ap (owns m star) (eqb-true u NSEC3 q) ∙ star_unhashed origin beside m hash parameters names j.zone n.0
         by false q = refuted (owns m star u) (λ k. true≢false (sym (exists_from m star star u k (λ i. other_type m star u NSEC j.one_kind k i || q i) ([], refl)) ∙ none))
 
     -- so is the one that is asked, if one is
     starless : (signed : Bool) (t : ℕ) → wildcard m signed x t ≡ None
-    starless signed t = by (asked_star m x) refl
+    starless signed t = by (asked_wildcard m x) refl
       where
-        by : (o : Option Name) → asked_star m x ≡ o → option_and_then (λ s. option_map (renamed signed s x) (direct m s t)) o ≡ None
+        by : (o : Option Name) → asked_wildcard m x ≡ o → option_and_then (λ s. option_map (renamed signed s x) (direct m s t)) o ≡ None
         by None e = refl
         by (Some w) e =
             ap (option_map (renamed signed w x))
@@ -345,9 +345,9 @@ nsec3_name_error_sound origin m hash parameters names rs x j of_zone p =
             same : w ≡ star
             same = (asked_only j n.0 n.2.is_encloser up w e).0
 
--- ---- an answer of a star
+-- ---- an answer of a wildcard
 
-module _ {origin : Name} {m : Sets} {hash : Name → Option (List ℕ)} {parameters : Nsec3Parameters} {names : List Name} {x : Name} (j : IsNsec3JudgedInChain origin m hash parameters names x) (rs : List Nsec3Record) (of_zone : AreNsec3OfZone m rs) (e : Name)
+module _ {origin : Name} {beside m : Sets} {hash : Name → Option (List ℕ)} {parameters : Nsec3Parameters} {names : List Name} {x : Name} (j : IsInNsec3ScopeOfChain origin beside m hash parameters names x) (rs : List Nsec3Record) (of_zone : AreNsec3OfZone m rs) (e : Name)
     (inside : IsAtOrAbove origin e) (above : IsAbove e x) (c : Name) (at : IsAtOrAbove c x) (longer : length c ≡ suc (length e)) (covered : is_covered origin hash rs c ≡ true) where
   below : IsAbove origin c
   below = closer_inside origin x e c inside (above_at e x above) at longer
@@ -390,9 +390,9 @@ module _ {origin : Name} {m : Sets} {hash : Name → Option (List ℕ)} {paramet
   absent_below : IsAbsentBelow origin m x e
   absent_below = record { inside = inside; absent = there_is j ∙ none_on x at; none_closer = none_closer; encloser = encloser_found }
 
-pub nsec3_wildcard_answer_sound : (origin : Name) (m : Sets) (hash : Name → Option (List ℕ)) (parameters : Nsec3Parameters) (names : List Name) (rs : List Nsec3Record) (x e : Name) → IsNsec3JudgedInChain origin m hash parameters names x
+pub nsec3_wildcard_answer_sound : (origin : Name) (beside m : Sets) (hash : Name → Option (List ℕ)) (parameters : Nsec3Parameters) (names : List Name) (rs : List Nsec3Record) (x e : Name) → IsInNsec3ScopeOfChain origin beside m hash parameters names x
     → AreNsec3OfZone m rs → proves_wildcard_answer origin hash rs x e ≡ true → IsAbsentBelow origin m x e
-nsec3_wildcard_answer_sound origin m hash parameters names rs x e j of_zone p =
+nsec3_wildcard_answer_sound origin beside m hash parameters names rs x e j of_zone p =
     by (next_closer x e) refl (and_right (is_at_or_above origin e && is_above e x) (option_map_or (is_covered origin hash rs) (next_closer x e) false) p)
   where
     first : is_at_or_above origin e && is_above e x ≡ true
@@ -408,7 +408,7 @@ nsec3_wildcard_answer_sound origin m hash parameters names rs x e j of_zone p =
 -- ---- an unsigned delegation
 
 pub nsec3_unsigned_delegation_sound : Nsec3ChainUnsignedDelegationSound
-nsec3_unsigned_delegation_sound origin m hash parameters names rs x zone apart of_zone p =
+nsec3_unsigned_delegation_sound origin beside m hash parameters names rs x zone apart of_zone p =
     record {
       below = below;
       delegated = told_owned zone apart x own.0 NS refl (and_left (lists v NS) (not (lists v DS)) two);
@@ -436,8 +436,8 @@ nsec3_unsigned_delegation_sound origin m hash parameters names rs x zone apart o
 
 -- ---- without opt-out no record has the flag
 
-module _ {origin : Name} {m : Sets} {hash : Name → Option (List ℕ)} {parameters : Nsec3Parameters} {names : List Name} {x : Name} (zone : IsNsec3Chain origin m hash parameters names) (all_in : parameters.opt_out ≡ false)
-    (apart : TellsApart (IsHashedOn names x) hash) (rs : List Nsec3Record) (of_zone : AreNsec3OfZone m rs)
+module _ {origin : Name} {beside m : Sets} {hash : Name → Option (List ℕ)} {parameters : Nsec3Parameters} {names : List Name} {x : Name} (zone : IsNsec3Chain origin beside m hash parameters names) (all_in : parameters.opt_out ≡ false)
+    (apart : HasDistinctDigests (IsHashedOn names x) hash) (rs : List Nsec3Record) (of_zone : AreNsec3OfZone m rs)
   where
     flag : (r : Nsec3Record) → In r rs → r.opt_out ≡ false
     flag r i = ap (λ (r : Nsec3Record). r.opt_out) (of_name zone apart rs of_zone r i).2 ∙ all_in
@@ -454,22 +454,22 @@ module _ {origin : Name} {m : Sets} {hash : Name → Option (List ℕ)} {paramet
         (λ e. let c = (parts origin hash rs (λ r. r.opt_out) x (λ e. true) e).covering in
         true≢false (sym (and_right (covers origin hash c.0 (parts origin hash rs (λ r. r.opt_out) x (λ e. true) e).closer) c.0.opt_out c.2) ∙ flag c.0 c.1))
 
-pub nsec3_all_in_sound : (origin : Name) (m : Sets) (hash : Name → Option (List ℕ)) (parameters : Nsec3Parameters) (names : List Name) (rs : List Nsec3Record) (x : Name) → IsNsec3Chain origin m hash parameters names
-    → parameters.opt_out ≡ false → TellsApart (IsHashedOn names x) hash → AreNsec3OfZone m rs → proves_unsigned_delegation origin hash rs x ≡ true → IsUnsignedDelegation origin m x
-nsec3_all_in_sound origin m hash parameters names rs x zone all_in apart of_zone p = by (shows_unsigned_delegation origin hash rs x) refl
+pub nsec3_all_in_sound : (origin : Name) (beside m : Sets) (hash : Name → Option (List ℕ)) (parameters : Nsec3Parameters) (names : List Name) (rs : List Nsec3Record) (x : Name) → IsNsec3Chain origin beside m hash parameters names
+    → parameters.opt_out ≡ false → HasDistinctDigests (IsHashedOn names x) hash → AreNsec3OfZone m rs → proves_unsigned_delegation origin hash rs x ≡ true → IsUnsignedDelegation origin m x
+nsec3_all_in_sound origin beside m hash parameters names rs x zone all_in apart of_zone p = by (shows_unsigned_delegation origin hash rs x) refl
   where
     by : (b : Bool) → shows_unsigned_delegation origin hash rs x ≡ b → IsUnsignedDelegation origin m x
-    by true e = nsec3_unsigned_delegation_sound origin m hash parameters names rs x zone apart of_zone e
+    by true e = nsec3_unsigned_delegation_sound origin beside m hash parameters names rs x zone apart of_zone e
     by false e = absurd (true≢false (sym (ap (λ b. b || proves_opted_out origin hash rs x) (sym e) ∙ p) ∙ not_opted_out zone all_in apart rs of_zone))
 
 -- ---- all of it
 
 pub nsec3_records_sound : Nsec3ChainRecordsSound
-nsec3_records_sound origin m hash parameters names rs x j of_zone = record {
-  error = nsec3_name_error_sound origin m hash parameters names rs x j of_zone;
-  data' = λ t. nsec3_no_data_sound origin m hash parameters names rs x t j of_zone;
-  empty = nsec3_empty_sound origin m hash parameters names rs x j of_zone;
-  wildcard_data = λ t. nsec3_wildcard_no_data_sound origin m hash parameters names rs x t j of_zone;
-  answer = λ e. nsec3_wildcard_answer_sound origin m hash parameters names rs x e j of_zone;
-  delegation = nsec3_all_in_sound origin m hash parameters names rs x j.zone j.all_in j.apart of_zone;
+nsec3_records_sound origin beside m hash parameters names rs x j of_zone = record {
+  error = nsec3_name_error_sound origin beside m hash parameters names rs x j of_zone;
+  data' = λ t. nsec3_no_data_sound origin beside m hash parameters names rs x t j of_zone;
+  empty = nsec3_empty_sound origin beside m hash parameters names rs x j of_zone;
+  wildcard_data = λ t. nsec3_wildcard_no_data_sound origin beside m hash parameters names rs x t j of_zone;
+  answer = λ e. nsec3_wildcard_answer_sound origin beside m hash parameters names rs x e j of_zone;
+  delegation = nsec3_all_in_sound origin beside m hash parameters names rs x j.zone j.all_in j.apart of_zone;
 }

@@ -1,23 +1,24 @@
 -- What a validator sums up of a name's own denial by NSEC3 is the case that the zone has
 use Rattle.std.proofs.Common.{◌≡◌, ℕ, suc, Bool, true, false, cond, not, ◌&&◌, ◌||◌, List, [], ◌∷◌, ◌++◌, length, drop, refl, sym, ap, ◌∙◌, subst, true≢false, ◌⊎◌, inl, inr, arith, eqb-true}
-use Rattle.std.specs.Prelude.{Option, Some, None, Ok, ◌==◌}
+use Rattle.std.specs.Prelude.{Option, Some, None, ◌==◌}
+use Rattle.std.specs.List.{Contains}
 use Rattle.std.specs.Option.{option_map_or, option_or}
 use Rattle.std.proofs.lemmas.List.{length-append}
 use Rattle.zone_proto.specs.declared.rdata.denial.NSEC3PARAM.{NSEC3PARAM as Nsec3Parameters}
-use Rattle.zone_proto.specs.HashedOwners.{owner_or_refusal}
-use Rattle.zone_proto.specs.Names.{Name, is_above, is_at_or_above, suffixes, IsAtOrAbove, IsAbove, proper_ancestors, star_under}
+use Rattle.zone_proto.specs.Names.{Name, is_above, is_at_or_above, suffixes, IsAtOrAbove, IsAbove, proper_ancestors, wildcard_under}
 use Rattle.zone_proto.specs.Sets.{RRset}
 use Rattle.zone_proto.specs.Types.{NS, DS}
 use Rattle.zone_proto.proofs.Members.{In, In-Contains, In-from_any, and_left, and_right, not_true, or_left}
 use Rattle.zone_proto.proofs.Names.NameTree.{above_test, at_or_above_from_suffix, is_at_or_above_sound}
 use Rattle.zone_proto.proofs.Names.Tree.{above_cases}
 use Rattle.zone_map.specs.AnyTypes.{searched_type}
-use Rattle.zone_map.specs.SearchLaws.{StarIsOfClosestEncloser}
-use Rattle.zone_map.specs.Wildcards.{found, asked_star, asked_star_exists}
+use Rattle.zone_map.specs.SearchLaws.{WildcardIsOfClosestEncloser}
+use Rattle.zone_map.specs.Wildcards.{found, asked_wildcard, asked_wildcard_exists}
 use Rattle.zone_map.specs.Zones.{Sets, owns, owns_at_or_below}
 use Rattle.zone_map.proofs.Delegations.{found_above}
-use Rattle.zone_map.proofs.Wildcards.{star_is_of_closest_encloser}
-use Rattle.zone_denial.specs.Nsec3Denial.{encloser_on, nsec3_denial}
+use Rattle.zone_map.proofs.Wildcards.{wildcard_is_of_closest_encloser}
+use Rattle.zone_denial.specs.Nsec3Denial.{encloser_on}
+use Rattle.zone_denial.specs.Nsec3Laws.{CoversCloser, Denies}
 use Rattle.zone_denial.specs.Nsec3Zones.{IsHashedOn}
 use Rattle.zone_denial.proofs.Names.LongestAncestors.{above_below, above_shorter}
 use Rattle.zone_denial.proofs.Chains.Nsec3Names.{is_named, named_in, in_named, origin_in, IsEnclosed}
@@ -30,8 +31,8 @@ use Rattle.denial_validation.specs.Judgement.{nsec3_proof}
 use Rattle.denial_validation.specs.Nsec3Proofs.{is_of_encloser, denies_type, matches, is_covered, is_opted_out, is_denied, is_handing_on, is_handed_on, proves_name_error, proves_no_data, proves_opted_out, proves_wildcard_no_data, proves_wildcard_answer, shows_unsigned_delegation, wildcard_answer}
 use Rattle.denial_validation.specs.Nsec3Records.{Nsec3Record}
 use Rattle.denial_validation.proofs.WildcardAnswers.{answers_end, answers_on}
-use Rattle.denial_laws.specs.Nsec3Judged.{read_nsec3_sets, AreNsec3OfZone}
-use Rattle.denial_laws.specs.Nsec3Chains.{IsNsec3JudgedInChain}
+use Rattle.denial_laws.specs.Nsec3Scope.{read_nsec3_sets, AreNsec3OfZone}
+use Rattle.denial_laws.specs.Nsec3Chains.{IsInNsec3ScopeOfChain}
 use Rattle.denial_laws.specs.Soundness.{IsUnflattened}
 use Rattle.denial_laws.specs.Sums.{is_unsigned, AreAnswersSummedUp, IsNsec3SummedUpOn}
 use Rattle.denial_laws.proofs.Chains.Nsec3EmptyAnswers.{error_accepted, no_data, wildcard_no_data, delegation_accepted, wildcard_accepted, asked_star_proved, nsec3_starred_error_accepted}
@@ -41,14 +42,13 @@ use Rattle.denial_laws.proofs.Chains.Nsec3Proved.{ancestor_named, self_hashed, u
 use Rattle.denial_laws.proofs.Nsec3Proved.{sides}
 use Rattle.denial_laws.proofs.Nsec3Sums.{kept, steps}
 use Rattle.denial_laws.proofs.Chains.Nsec3Readings.{record_of, of_name}
-use Rattle.denial_laws.proofs.Nsec3Shown.{nsec3_denial_of_zone}
 use Rattle.denial_laws.proofs.Chains.Nsec3Soundness.{no_flag, not_opted_out, nsec3_unsigned_delegation_sound, nsec3_wildcard_no_data_sound}
 use Rattle.denial_laws.proofs.OwnTypes.{neither}
 use Rattle.denial_laws.proofs.Soundness.{there_from, present}
 use Rattle.denial_laws.proofs.Sums.{cut_of, not_cut}
 use Rattle.denial_laws.proofs.Tests.{refuted, right_false}
 
-module _ {origin : Name} {m : Sets} {hash : Name → Option (List ℕ)} {parameters : Nsec3Parameters} {names : List Name} {x : Name} (j : IsNsec3JudgedInChain origin m hash parameters names x) (rs : List Nsec3Record) (of_zone : AreNsec3OfZone m rs) where
+module _ {origin : Name} {beside m : Sets} {hash : Name → Option (List ℕ)} {parameters : Nsec3Parameters} {names : List Name} {x : Name} (j : IsInNsec3ScopeOfChain origin beside m hash parameters names x) (rs : List Nsec3Record) (of_zone : AreNsec3OfZone m rs) where
   of_names : (r : Nsec3Record) → In r rs → (n : Name) × In n names × (r ≡ record_of j.zone j.apart n)
   of_names = of_name j.zone j.apart rs of_zone
 
@@ -58,7 +58,7 @@ module _ {origin : Name} {m : Sets} {hash : Name → Option (List ℕ)} {paramet
   -- ---- what isn't proved
 
   no_error : negative_answer origin m x ≡ name_exists → proves_name_error origin hash rs x ≡ false
-  no_error e = refuted (proves_name_error origin hash rs x) (λ p. differ (sym e ∙ nsec3_error_denied origin m hash parameters names rs x j of_zone p))
+  no_error e = refuted (proves_name_error origin hash rs x) (λ p. differ (sym e ∙ nsec3_error_denied origin beside m hash parameters names rs x j of_zone p))
     where
       differ : name_exists ≡ nx_domain → ⊥
       differ q = cc
@@ -69,7 +69,7 @@ module _ {origin : Name} {m : Sets} {hash : Name → Option (List ℕ)} {paramet
   no_delegation : is_unsigned m x ≡ false → shows_unsigned_delegation origin hash rs x ≡ false
   no_delegation e =
       refuted (shows_unsigned_delegation origin hash rs x)
-      (λ p. let d = nsec3_unsigned_delegation_sound origin m hash parameters names rs x j.zone j.apart of_zone p in
+      (λ p. let d = nsec3_unsigned_delegation_sound origin beside m hash parameters names rs x j.zone j.apart of_zone p in
       true≢false (sym (λ i. d.delegated i && not (d.unsigned i) && not (d.no_apex i)) ∙ e))
 
   unmatched_data : (t : ℕ) → is_named names x ≡ false → proves_no_data origin hash rs x t ≡ false
@@ -126,20 +126,20 @@ module _ {origin : Name} {m : Sets} {hash : Name → Option (List ℕ)} {paramet
           own : In a names × (r.0 ≡ record_of j.zone j.apart a)
           own = matching j.zone j.apart rs of_names a (ancestor_hashed a u v) r.0 r.1 (and_left (matches origin hash r.0 a) (not (is_of_encloser r.0)) r.2)
 
-  -- ---- where a star is asked
+  -- ---- where a wildcard is asked
 
-  module _ (e : Name) (asked : asked_star m x ≡ Some (star_under e)) (covers_closer : proves_wildcard_answer origin hash rs x e ≡ true) where
-    law : StarIsOfClosestEncloser
-    law = star_is_of_closest_encloser
+  module _ (e : Name) (asked : asked_wildcard m x ≡ Some (wildcard_under e)) (covers_closer : proves_wildcard_answer origin hash rs x e ≡ true) where
+    law : WildcardIsOfClosestEncloser
+    law = wildcard_is_of_closest_encloser
 
     away : is_named names x ≡ false
-    away = sym (exists_is j x inside j.uncut (plain_x j)) ∙ law.absent m x (star_under e) asked
+    away = sym (exists_is j x inside j.uncut (plain_x j)) ∙ law.absent m x (wildcard_under e) asked
 
     n : (a : Name) × (c : Name) × IsEnclosed names x a c
     n = enclosed j away
 
     same : e ≡ n.0
-    same = ap (drop 1) (asked_only j n.0 n.2.is_encloser (over j away) (star_under e) asked).0
+    same = ap (drop 1) (asked_only j n.0 n.2.is_encloser (over j away) (wildcard_under e) asked).0
 
     on : In e names
     on = subst (λ a. In a names) (sym same) n.2.on
@@ -211,18 +211,18 @@ module _ {origin : Name} {m : Sets} {hash : Name → Option (List ℕ)} {paramet
         ∙ ap (λ b. Some (WildcardAnswer (length e) b)) (no_flag j.zone j.all_in j.apart rs of_zone (closer.0 ∷ e))
 
     -- and no data by the wildcard isn't proved where something is found
-    not_bare : (signed : Bool) (t : ℕ) → IsUnflattened m (star_under e) t → (found m signed x (searched_type m x t) ≡ None → ⊥) → proves_wildcard_no_data origin hash rs x t ≡ false
+    not_bare : (signed : Bool) (t : ℕ) → IsUnflattened m (wildcard_under e) t → (found m signed x (searched_type m x t) ≡ None → ⊥) → proves_wildcard_no_data origin hash rs x t ≡ false
     not_bare signed t flat some =
         refuted (proves_wildcard_no_data origin hash rs x t)
-        (λ p. some ((nsec3_wildcard_no_data_sound origin m hash parameters names rs x t j of_zone (law.plain m x (star_under e) asked) of_chain p).none.nothing signed))
+        (λ p. some ((nsec3_wildcard_no_data_sound origin beside m hash parameters names rs x t j of_zone (law.plain m x (wildcard_under e) asked) of_chain p).none.nothing signed))
       where
         same_value : (a b : Name) → Some a ≡ Some b → a ≡ b
         same_value a b q = cc
 
-        of_chain : (a : Name) → encloser_on names x ≡ Some a → IsUnflattened m (star_under a) t
-        of_chain a is = subst (λ b. IsUnflattened m (star_under b) t) (same ∙ same_value n.0 a (sym n.2.is_encloser ∙ is)) flat
+        of_chain : (a : Name) → encloser_on names x ≡ Some a → IsUnflattened m (wildcard_under a) t
+        of_chain a is = subst (λ b. IsUnflattened m (wildcard_under b) t) (same ∙ same_value n.0 a (sym n.2.is_encloser ∙ is)) flat
 
-    summed_up : (signed : Bool) (t : ℕ) → negative_answer origin m x ≡ name_exists → IsUnflattened m (star_under e) t → (found m signed x (searched_type m x t) ≡ None → ⊥)
+    summed_up : (signed : Bool) (t : ℕ) → negative_answer origin m x ≡ name_exists → IsUnflattened m (wildcard_under e) t → (found m signed x (searched_type m x t) ≡ None → ⊥)
         → nsec3_proof origin hash rs x t ≡ Some (WildcardAnswer (length e) false)
     summed_up signed t there flat some i =
         steps (not_handed i) (right_false (t == DS) (proves_opted_out origin hash rs x) none_out i) (no_error there i) (none_out i) (no_delegation (not_cut m x (gone NS)) i) (unmatched_data t away i)
@@ -233,50 +233,47 @@ module _ {origin : Name} {m : Sets} {hash : Name → Option (List ℕ)} {paramet
 
 -- ---- the denial of a name
 
-pub nsec3_wildcard_summed_up : (origin : Name) (m : Sets) (hash : Name → Option (List ℕ)) (parameters : Nsec3Parameters) (names : List Name) (x : Name) → IsNsec3JudgedInChain origin m hash parameters names x
-    → (answer : List RRset) → nsec3_denial m (λ n. owner_or_refusal origin (hash n)) true x ≡ Ok answer → AreAnswersSummedUp origin m hash x (read_nsec3_sets answer)
-nsec3_wildcard_summed_up origin m hash parameters names x j answer given signed t e asked there flat some =
-    summed_up j (read_nsec3_sets answer) (nsec3_denial_of_zone m (λ n. owner_or_refusal origin (hash n)) true x answer given) e asked
+pub nsec3_wildcard_summed_up : (origin : Name) (beside m : Sets) (hash : Name → Option (List ℕ)) (parameters : Nsec3Parameters) (names : List Name) (x : Name) → IsInNsec3ScopeOfChain origin beside m hash parameters names x
+    → (answer : List RRset) → AreNsec3OfZone m (read_nsec3_sets answer) → ((Contains names x → ⊥) → CoversCloser origin m hash names x answer) → AreAnswersSummedUp origin m hash x (read_nsec3_sets answer)
+nsec3_wildcard_summed_up origin beside m hash parameters names x j answer of_zone given signed t e asked there flat some =
+    summed_up j (read_nsec3_sets answer) of_zone e asked
     (asked_star_proved j answer given e asked) signed t there flat some
 
-pub nsec3_denial_summed_up : (origin : Name) (m : Sets) (hash : Name → Option (List ℕ)) (parameters : Nsec3Parameters) (names : List Name) (x : Name) → IsNsec3JudgedInChain origin m hash parameters names x
-    → (answer : List RRset) → nsec3_denial m (λ n. owner_or_refusal origin (hash n)) false x ≡ Ok answer → IsNsec3SummedUpOn origin m hash names x (read_nsec3_sets answer)
-nsec3_denial_summed_up origin m hash parameters names x j answer given = record {
+pub nsec3_denial_summed_up : (origin : Name) (beside m : Sets) (hash : Name → Option (List ℕ)) (parameters : Nsec3Parameters) (names : List Name) (x : Name) → IsInNsec3ScopeOfChain origin beside m hash parameters names x
+    → (answer : List RRset) → AreNsec3OfZone m (read_nsec3_sets answer) → Denies origin m hash names x answer → IsNsec3SummedUpOn origin beside m hash names x (read_nsec3_sets answer)
+nsec3_denial_summed_up origin beside m hash parameters names x j answer of_zone given = record {
   error = λ t plain e i.
-      steps (not_handed j rs of_zone i) (none_first t i) (error_accepted j answer given plain e i) (none_out j rs of_zone i) (shows_unsigned_delegation origin hash rs x) (proves_no_data origin hash rs x t)
+      steps (not_handed j rs of_zone i) (none_first t i) (error_accepted j answer of_zone given plain e i) (none_out j rs of_zone i) (shows_unsigned_delegation origin hash rs x) (proves_no_data origin hash rs x t)
       (proves_wildcard_no_data origin hash rs x t) (wildcard_answer origin hash rs x);
-  starred_error = λ t a is starless e i.
-      steps (not_handed j rs of_zone i) (none_first t i) (nsec3_starred_error_accepted origin m hash parameters names x a j is starless e answer given i) (none_out j rs of_zone i) (shows_unsigned_delegation origin hash rs x)
+  wildcard_error = λ t a is starless e i.
+      steps (not_handed j rs of_zone i) (none_first t i) (nsec3_starred_error_accepted origin beside m hash parameters names x a j is starless e answer of_zone given i) (none_out j rs of_zone i) (shows_unsigned_delegation origin hash rs x)
       (proves_no_data origin hash rs x t) (proves_wildcard_no_data origin hash rs x t) (wildcard_answer origin hash rs x);
   delegation = λ t e i.
       steps (not_handed j rs of_zone i) (none_first t i) (no_error j rs of_zone (is_present (there_from m x NS (cut_of m x e).0)) i) (none_out j rs of_zone i) (delegated e i) (proves_no_data origin hash rs x t)
       (proves_wildcard_no_data origin hash rs x t) (wildcard_answer origin hash rs x);
   data' = λ signed t type' some cut nothing i.
       steps (not_handed j rs of_zone i) (none_first t i) (no_error j rs of_zone (is_present some) i) (none_out j rs of_zone i) (no_delegation j rs of_zone cut i)
-      (no_data j answer given signed t type' nothing (sym (there_is j) ∙ some) i) (proves_wildcard_no_data origin hash rs x t) (wildcard_answer origin hash rs x);
+      (no_data j answer of_zone given signed t type' nothing (sym (there_is j) ∙ some) i) (proves_wildcard_no_data origin hash rs x t) (wildcard_answer origin hash rs x);
   wildcard_data = λ signed t type' none e nothing i.
       steps (not_handed j rs of_zone i) (none_first t i) (no_error j rs of_zone e i) (none_out j rs of_zone i) (no_delegation j rs of_zone (not_cut m x (gone none NS)) i)
-      (unmatched_data j rs of_zone t (sym (there_is j) ∙ none) i) (wildcard_no_data j answer given signed t type' nothing e none i) (wildcard_answer origin hash rs x);
-  answer = λ signed t e asked. summed_up j rs of_zone e asked (wildcard_accepted j answer given e asked) signed t;
+      (unmatched_data j rs of_zone t (sym (there_is j) ∙ none) i) (wildcard_no_data j answer of_zone given signed t type' nothing e none i) (wildcard_answer origin hash rs x);
+  answer = λ signed t e asked. summed_up j rs of_zone e asked (wildcard_accepted j answer of_zone given e asked) signed t;
 }
   where
     rs : List Nsec3Record
     rs = read_nsec3_sets answer
 
-    of_zone : AreNsec3OfZone m rs
-    of_zone = nsec3_denial_of_zone m (λ n. owner_or_refusal origin (hash n)) false x answer given
-
     none_first : (t : ℕ) → (t == DS) && proves_opted_out origin hash rs x ≡ false
     none_first t = right_false (t == DS) (proves_opted_out origin hash rs x) (none_out j rs of_zone)
 
     is_present : owns_at_or_below m x ≡ true → negative_answer origin m x ≡ name_exists
-    is_present e = present origin m x (or_left (owns_at_or_below m x) (asked_star_exists m x) e)
+    is_present e = present origin m x (or_left (owns_at_or_below m x) (asked_wildcard_exists m x) e)
 
     gone : owns_at_or_below m x ≡ false → (u : ℕ) → owns m x u ≡ false
     gone none u = refuted (owns m x u) (λ k. true≢false (sym (there_from m x u k) ∙ none))
 
     delegated : is_unsigned m x ≡ true → shows_unsigned_delegation origin hash rs x ≡ true
-    delegated e = by (shows_unsigned_delegation origin hash rs x) (let c = cut_of m x e in delegation_accepted j answer given c.0 c.1 c.2)
+    delegated e = by (shows_unsigned_delegation origin hash rs x) (let c = cut_of m x e in delegation_accepted j answer of_zone given c.0 c.1 c.2)
       where
         by : (b : Bool) → b || proves_opted_out origin hash rs x ≡ true → b ≡ true
         by true p = refl

@@ -9,11 +9,11 @@ use Rattle.zone_proto.proofs.Names.NameTree.{is_at_or_above_sound}
 use Rattle.zone_proto.proofs.Names.Tree.{name_eq_itself}
 use Rattle.zone_map.specs.Direct.{direct}
 use Rattle.zone_map.specs.Zones.{Sets, owns}
-use Rattle.zone_denial.specs.Chains.{is_delegation, is_told_at_delegation, tells, IsNsecChain}
+use Rattle.zone_denial.specs.Chains.{is_delegation, is_stated_at_delegation, is_stated, IsNsecChain}
 use Rattle.zone_denial.proofs.Chains.NsecLists.{delegation_owns}
 use Rattle.denial_validation.specs.NsecProofs.{lists, shows_type, is_ancestor_delegation, is_wrong_side, denies_type}
 use Rattle.denial_validation.specs.NsecRecords.{NsecRecord}
-use Rattle.denial_laws.specs.Judged.{Unreferred, is_parents_ds}
+use Rattle.denial_laws.specs.Scope.{Unreferred, is_parents_ds}
 use Rattle.denial_laws.proofs.Chains.Readings.{record_at, unlisted, told_listed, told_owned, told_unlisted}
 use Rattle.denial_laws.proofs.OwnTypes.{differs, own_type, own_alias, own_delegation}
 
@@ -27,12 +27,12 @@ module _ (origin : Name) (m : Sets) (h : IsNsecChain origin m) (y : Name) (insid
     r = record_at origin m h y
 
     -- a delegation, of which no list tells all, is asked for DS alone
-    tells_it : tells origin m y t ≡ true
+    tells_it : is_stated origin m y t ≡ true
     tells_it = by (is_delegation origin m y) refl (t == DS) refl
       where
-        by : (d : Bool) → is_delegation origin m y ≡ d → (b : Bool) → (t == DS) ≡ b → not d || is_told_at_delegation t ≡ true
+        by : (d : Bool) → is_delegation origin m y ≡ d → (b : Bool) → (t == DS) ≡ b → not d || is_stated_at_delegation t ≡ true
         by false e b q = refl
-        by true e true q = ap is_told_at_delegation (eqb-true t DS q)
+        by true e true q = ap is_stated_at_delegation (eqb-true t DS q)
         by true e false q = let o = delegation_owns origin m y e in absurd (true≢false (sym (beside_soa q o.0) ∙ o.1))
 
     not_nsec : t ≢ NSEC
@@ -65,7 +65,7 @@ module _ (origin : Name) (m : Sets) (h : IsNsecChain origin m) (y : Name) (insid
 
 -- so does one for which nothing is found
 module _ (origin : Name) (m : Sets) (h : IsNsecChain origin m) (unreferred : Unreferred origin m) (y : Name) (inside : is_at_or_above origin y ≡ true) (t : ℕ) (nothing : direct m y t ≡ None) where
-  -- NS stands there beside SOA alone, at the root too
+  -- NS is there beside SOA alone, at the root too
   beside_soa : (t == DS) ≡ false → owns m y NS ≡ true → owns m y SOA ≡ true
   beside_soa d k = by (is_root y) refl
     where

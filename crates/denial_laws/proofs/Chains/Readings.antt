@@ -9,13 +9,13 @@ use Rattle.zone_proto.proofs.Members.{In, In-Contains, Contains-In, In-from_any,
 use Rattle.zone_proto.proofs.Names.Tree.{name_order}
 use Rattle.zone_proto.proofs.Ordering.KeyOrder.{equal_of}
 use Rattle.zone_map.specs.Zones.{Sets, set_at, owns}
-use Rattle.zone_denial.specs.Chains.{is_delegation, is_told_at_delegation, tells, IsNsecChain, next_owner}
+use Rattle.zone_denial.specs.Chains.{is_delegation, is_stated_at_delegation, is_stated, IsNsecChain, next_owner}
 use Rattle.zone_denial.specs.NsecCircle.{types_of}
 use Rattle.zone_denial.specs.NsecDenial.{nsec_denial}
 use Rattle.zone_denial.proofs.Chains.NsecLists.{listed_types, types_are, list_exact}
 use Rattle.denial_validation.specs.NsecProofs.{lists}
 use Rattle.denial_validation.specs.NsecRecords.{NsecRecord, nsec_records}
-use Rattle.denial_laws.specs.Judged.{denial_records, AreOfZone}
+use Rattle.denial_laws.specs.Scope.{denial_records, AreOfZone}
 use Rattle.denial_laws.proofs.Readings.{read_single, read_from}
 
 module _ (origin : Name) (m : Sets) (h : IsNsecChain origin m) where
@@ -54,24 +54,24 @@ module _ (origin : Name) (m : Sets) (h : IsNsecChain origin m) where
 
   -- ---- what is listed, if the list tells of it
 
-  pub told : (o : Name) (t : ℕ) → is_told_at_delegation t ≡ true → tells origin m o t ≡ true
-  told o t k = or_right (not (is_delegation origin m o)) (is_told_at_delegation t) k
+  pub call_concludes : (o : Name) (t : ℕ) → is_stated_at_delegation t ≡ true → is_stated origin m o t ≡ true
+  call_concludes o t k = or_right (not (is_delegation origin m o)) (is_stated_at_delegation t) k
 
-  not_signature : (t : ℕ) → is_told_at_delegation t ≡ true → t ≢ RRSIG
-  not_signature t k e = true≢false (sym k ∙ ap is_told_at_delegation e)
+  not_signature : (t : ℕ) → is_stated_at_delegation t ≡ true → t ≢ RRSIG
+  not_signature t k e = true≢false (sym k ∙ ap is_stated_at_delegation e)
 
-  pub tells_all : (o : Name) (t : ℕ) → is_delegation origin m o ≡ false → tells origin m o t ≡ true
-  tells_all o t d = ap (λ b. not b || is_told_at_delegation t) d
+  pub tells_all : (o : Name) (t : ℕ) → is_delegation origin m o ≡ false → is_stated origin m o t ≡ true
+  tells_all o t d = ap (λ b. not b || is_stated_at_delegation t) d
 
-  pub listed_owned : (o : Name) (t : ℕ) → owns m o NSEC ≡ true → t ≢ RRSIG → tells origin m o t ≡ true → lists (record_at o) t ≡ true → owns m o t ≡ true
+  pub listed_owned : (o : Name) (t : ℕ) → owns m o NSEC ≡ true → t ≢ RRSIG → is_stated origin m o t ≡ true → lists (record_at o) t ≡ true → owns m o t ≡ true
   listed_owned o t on a k e =
       let r = In-from_any (λ u. u == t) (listed_types m o) e in
       (list_exact origin m h o on t a k).0 (In-Contains t (listed_types m o) (subst (λ u. In u (listed_types m o)) (eqb-true r.0 t r.2) r.1))
 
-  pub owned_listed : (o : Name) (t : ℕ) → owns m o NSEC ≡ true → t ≢ RRSIG → tells origin m o t ≡ true → owns m o t ≡ true → lists (record_at o) t ≡ true
+  pub owned_listed : (o : Name) (t : ℕ) → owns m o NSEC ≡ true → t ≢ RRSIG → is_stated origin m o t ≡ true → owns m o t ≡ true → lists (record_at o) t ≡ true
   owned_listed o t on a k owned = any_from_In (λ u. u == t) t (listed_types m o) (Contains-In t (listed_types m o) ((list_exact origin m h o on t a k).1 owned)) (eq-eqb t t refl)
 
-  pub unlisted : (o : Name) (t : ℕ) → owns m o NSEC ≡ true → t ≢ RRSIG → tells origin m o t ≡ true → owns m o t ≡ false → lists (record_at o) t ≡ false
+  pub unlisted : (o : Name) (t : ℕ) → owns m o NSEC ≡ true → t ≢ RRSIG → is_stated origin m o t ≡ true → owns m o t ≡ false → lists (record_at o) t ≡ false
   unlisted o t on a k none = by (lists (record_at o) t) refl
     where
       by : (c : Bool) → lists (record_at o) t ≡ c → c ≡ false
@@ -80,11 +80,11 @@ module _ (origin : Name) (m : Sets) (h : IsNsecChain origin m) where
 
   -- of the four types of which each list tells
 
-  pub told_listed : (o : Name) (t : ℕ) → is_told_at_delegation t ≡ true → owns m o NSEC ≡ true → owns m o t ≡ true → lists (record_at o) t ≡ true
-  told_listed o t k on = owned_listed o t on (not_signature t k) (told o t k)
+  pub told_listed : (o : Name) (t : ℕ) → is_stated_at_delegation t ≡ true → owns m o NSEC ≡ true → owns m o t ≡ true → lists (record_at o) t ≡ true
+  told_listed o t k on = owned_listed o t on (not_signature t k) (call_concludes o t k)
 
-  pub told_owned : (o : Name) (t : ℕ) → is_told_at_delegation t ≡ true → owns m o NSEC ≡ true → lists (record_at o) t ≡ true → owns m o t ≡ true
-  told_owned o t k on = listed_owned o t on (not_signature t k) (told o t k)
+  pub told_owned : (o : Name) (t : ℕ) → is_stated_at_delegation t ≡ true → owns m o NSEC ≡ true → lists (record_at o) t ≡ true → owns m o t ≡ true
+  told_owned o t k on = listed_owned o t on (not_signature t k) (call_concludes o t k)
 
-  pub told_unlisted : (o : Name) (t : ℕ) → is_told_at_delegation t ≡ true → owns m o NSEC ≡ true → owns m o t ≡ false → lists (record_at o) t ≡ false
-  told_unlisted o t k on = unlisted o t on (not_signature t k) (told o t k)
+  pub told_unlisted : (o : Name) (t : ℕ) → is_stated_at_delegation t ≡ true → owns m o NSEC ≡ true → owns m o t ≡ false → lists (record_at o) t ≡ false
+  told_unlisted o t k on = unlisted o t on (not_signature t k) (call_concludes o t k)

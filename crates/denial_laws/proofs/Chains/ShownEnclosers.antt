@@ -1,7 +1,7 @@
 -- The closest encloser that a record shows of a name that it denies is the one that the denial has
 use Rattle.std.proofs.Common.{◌≡◌, Bool, true, false, ◌&&◌, ◌||◌, [], ◌∷◌, refl, sym, ap, ◌∙◌, subst, ◌⊎◌, inl, inr}
 use Rattle.std.specs.Prelude.{Some, unwrap_or}
-use Rattle.zone_proto.specs.Names.{Name, star_label, is_above, is_at_or_above, IsAtOrAbove, IsAbove, star_under}
+use Rattle.zone_proto.specs.Names.{Name, asterisk_label, is_above, is_at_or_above, IsAtOrAbove, IsAbove, wildcard_under}
 use Rattle.zone_proto.specs.Types.{NS, NSEC}
 use Rattle.zone_proto.proofs.Members.{In-from_any, any_from_In, none_passes, and_left, and_right, or_left, or_right}
 use Rattle.zone_proto.proofs.Names.NameTree.{above_test, is_at_or_above_sound, is_at_or_above_complete}
@@ -15,11 +15,11 @@ use Rattle.zone_denial.proofs.Chain.NsecBelow.{above_through}
 use Rattle.zone_denial.proofs.Chains.NsecLinks.{next_owned}
 use Rattle.denial_laws.proofs.ShownEnclosers.{same_name, above_star}
 use Rattle.denial_validation.specs.NsecProofs.{shown_encloser}
-use Rattle.denial_laws.specs.Chains.{IsJudgedInChain}
+use Rattle.denial_laws.specs.Chains.{IsInScopeOfChain}
 use Rattle.denial_laws.proofs.Chains.Gaps.{IsBetween, owner_near}
 use Rattle.denial_laws.proofs.Chains.Readings.{record_at}
 
-module _ (origin : Name) (m : Sets) (x : Name) (j : IsJudgedInChain origin m x) (over : IsAbove origin x) where
+module _ (origin : Name) (m : Sets) (x : Name) (j : IsInScopeOfChain origin m x) (over : IsAbove origin x) where
   abbrev h : IsNsecChain origin m
   h = j.zone
 
@@ -46,28 +46,28 @@ module _ (origin : Name) (m : Sets) (x : Name) (j : IsJudgedInChain origin m x) 
   encloser_in : IsAtOrAbove origin (nsec_encloser origin m x)
   encloser_in = others_above encloses x e origin longest over origin_encloses
 
-  -- the star under it is judged as x is
-  pub judged_star : IsJudgedInChain origin m (star_under (nsec_encloser origin m x))
+  -- the wildcard at it is judged as x is
+  pub judged_star : IsInScopeOfChain origin m (wildcard_under (nsec_encloser origin m x))
   judged_star = record {
     zone = j.zone;
     one_kind = j.one_kind;
     unreferred = j.unreferred;
-    inside = is_at_or_above_complete origin (star_under e) (above_through origin e (star_under e) encloser_in (star_label ∷ [], refl));
-    uncut = uncut (is_below_cut origin m (star_under e)) refl;
+    inside = is_at_or_above_complete origin (wildcard_under e) (above_through origin e (wildcard_under e) encloser_in (asterisk_label ∷ [], refl));
+    uncut = uncut (is_below_cut origin m (wildcard_under e)) refl;
     no_dname = λ a u. j.no_dname a (above_x a u);
   }
     where
-      above_x : (a : Name) → IsAbove a (star_under (nsec_encloser origin m x)) → IsAbove a x
+      above_x : (a : Name) → IsAbove a (wildcard_under (nsec_encloser origin m x)) → IsAbove a x
       above_x a u = above_above a e x (above_star a e u) encloser_above
 
-      uncut : (b : Bool) → is_below_cut origin m (star_under (nsec_encloser origin m x)) ≡ b → b ≡ false
+      uncut : (b : Bool) → is_below_cut origin m (wildcard_under (nsec_encloser origin m x)) ≡ b → b ≡ false
       uncut false q = refl
       uncut true q =
-          let r = In-from_any (λ a. is_above origin a && is_above a (star_under e)) (owners m NS) q in
-          let u = above_x r.0 ((above_test r.0 (star_under e)).0 (and_right (is_above origin r.0) (is_above r.0 (star_under e)) r.2)) in
-          absurd (none_passes (λ a. is_above origin a && is_above a x) r.0 (owners m NS) j.uncut r.1 (λ i. and_left (is_above origin r.0) (is_above r.0 (star_under e)) r.2 i && (above_test r.0 x).1 u i))
+          let r = In-from_any (λ a. is_above origin a && is_above a (wildcard_under e)) (owners m NS) q in
+          let u = above_x r.0 ((above_test r.0 (wildcard_under e)).0 (and_right (is_above origin r.0) (is_above r.0 (wildcard_under e)) r.2)) in
+          absurd (none_passes (λ a. is_above origin a && is_above a x) r.0 (owners m NS) j.uncut r.1 (λ i. and_left (is_above origin r.0) (is_above r.0 (wildcard_under e)) r.2 i && (above_test r.0 x).1 u i))
 
-  -- of a record that x stands behind
+  -- of a record that x comes after
   module _ (o : Name) (b : IsBetween origin m x o) where
     abbrev n : Name
     n = next_owner origin m o

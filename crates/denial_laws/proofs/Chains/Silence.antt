@@ -13,10 +13,10 @@ use Rattle.zone_denial.specs.Authority.{is_below_cut, owns_besides}
 use Rattle.zone_denial.specs.Chains.{is_below_dname, next_owner, IsNsecChain}
 use Rattle.zone_denial.proofs.Chain.NsecBelow.{above_at}
 use Rattle.zone_denial.proofs.Chains.NsecLists.{lists_all_owned}
-use Rattle.denial_validation.specs.NsecProofs.{DNAME, lists, is_of_zone, may_tell_of, covers}
+use Rattle.denial_validation.specs.NsecProofs.{DNAME, lists, is_of_zone, may_apply_to, covers}
 use Rattle.denial_validation.specs.NsecRecords.{NsecRecord}
 use Rattle.denial_laws.specs.Chains.{ChainNothingBelowCut}
-use Rattle.denial_laws.specs.Judged.{AreOfZone}
+use Rattle.denial_laws.specs.Scope.{AreOfZone}
 use Rattle.denial_laws.specs.Soundness.{IsTopmostCut, NothingProved}
 use Rattle.denial_laws.proofs.Chains.Gaps.{IsBetween, gap}
 use Rattle.denial_laws.proofs.Chains.NameErrors.{covers_between}
@@ -31,7 +31,7 @@ nothing_below_owner origin m rs x c h zone cut on =
     Owned : NsecRecord → Type 0
     Owned r = (o : Name) × (owns m o NSEC ≡ true) × (r ≡ record_at origin m h o)
 
-    -- no owner stands below the cut
+    -- no owner is below the cut
     none_below : (o : Name) → owns m o NSEC ≡ true → IsAbove c o → ⊥
     none_below o k w =
         none_passes (λ a. is_above origin a && is_above a o) c (owners m NS) uncut (owner_in m c NS cut.delegated) (λ i. (above_test origin c).1 cut.below i && (above_test c o).1 w i)
@@ -50,13 +50,13 @@ nothing_below_owner origin m rs x c h zone cut on =
                 (sym (and_right (owns_besides m NSEC o) (not (is_below_cut origin m o)) (and_right (is_at_or_above origin o) (owns_besides m NSEC o && not (is_below_cut origin m o)) whole)) ∙ ap not e))
 
     -- what covers the name is the record of the cut, which tells nothing of it
-    untold : (r : NsecRecord) → Owned r → may_tell_of r x && covers origin r x ≡ false
-    untold r (o, k, q) = ap (λ v. may_tell_of v x && covers origin v x) q ∙ by (covers origin v x) refl
+    untold : (r : NsecRecord) → Owned r → may_apply_to r x && covers origin r x ≡ false
+    untold r (o, k, q) = ap (λ v. may_apply_to v x && covers origin v x) q ∙ by (covers origin v x) refl
       where
         v : NsecRecord
         v = record_at origin m h o
 
-        of_cut : c ≡ o → may_tell_of v x ≡ false
+        of_cut : c ≡ o → may_apply_to v x ≡ false
         of_cut e =
             λ i. not ((ap (λ n. is_above n x) (sym e) ∙ (above_test c x).1 cut.above) i
             && ((told_listed origin m h o NS refl k (ap (λ n. owns m n NS) (sym e) ∙ cut.delegated) i
@@ -81,9 +81,9 @@ nothing_below_owner origin m rs x c h zone cut on =
         none true = refl
         none false = refl
 
-        by : (b : Bool) → covers origin v x ≡ b → may_tell_of v x && covers origin v x ≡ false
-        by false e = ap (λ b. may_tell_of v x && b) e ∙ none (may_tell_of v x)
-        by true e = left_false (may_tell_of v x) (covers origin v x) (of_cut (is_cut (covers_between origin m h x o k e)))
+        by : (b : Bool) → covers origin v x ≡ b → may_apply_to v x && covers origin v x ≡ false
+        by false e = ap (λ b. may_apply_to v x && b) e ∙ none (may_apply_to v x)
+        by true e = left_false (may_apply_to v x) (covers origin v x) (of_cut (is_cut (covers_between origin m h x o k e)))
 
     -- no record is the name's
     other : (o : Name) → owns m o NSEC ≡ true → name_eq o x ≡ false
@@ -103,7 +103,7 @@ nothing_below_owner origin m rs x c h zone cut on =
     unbelow : (r : NsecRecord) → Owned r → is_above origin r.owner && name_eq r.owner x ≡ false
     unbelow r (o, k, q) = right_false (is_above origin r.owner) (name_eq r.owner x) (ap (λ v. name_eq v.owner x) q ∙ other o k)
 
--- as it is where no DNAME stands above it
+-- as it is where no DNAME is above it
 pub nothing_below_cut : ChainNothingBelowCut
 nothing_below_cut origin m rs x c h zone cut plain = nothing_below_owner origin m rs x c h zone cut (by (owns m c NSEC) refl)
   where

@@ -1,4 +1,4 @@
--- What the record of an owner says of a judged name that stands between the owner and its next name
+-- What the record of an owner says of a name in scope that stands between the owner and its next name
 use Rattle.std.proofs.Common.{◌≡◌, ℕ, Bool, true, false, not, ◌&&◌, ◌||◌, List, [], ◌∷◌, refl, sym, ap, ◌∙◌, subst, arith, true≢false, ◌⊎◌, inl, inr, Less, is_lt}
 use Rattle.std.specs.Prelude.{Some, is_some}
 use Rattle.zone_proto.specs.Names.{Name, name_cmp, name_eq, lower, is_above, IsAtOrAbove, IsAbove}
@@ -20,10 +20,10 @@ use Rattle.zone_denial.proofs.Chain.NsecLists.{owner_elsewhere}
 use Rattle.zone_denial.proofs.Chains.NsecBelow.{next_below_empty}
 use Rattle.zone_denial.proofs.Chains.NsecLinks.{owner_inside, next_owned}
 use Rattle.zone_denial.proofs.Chains.NsecLists.{lists_all_owned, delegation_below, delegation_owns, not_delegation}
-use Rattle.denial_validation.specs.NsecProofs.{DNAME, lists, is_ancestor_delegation, may_tell_of, covers as tells_past, denies_name, shows_empty}
+use Rattle.denial_validation.specs.NsecProofs.{DNAME, lists, is_ancestor_delegation, may_apply_to, covers as tells_past, denies_name, shows_empty}
 use Rattle.denial_validation.specs.NsecRecords.{NsecRecord}
-use Rattle.denial_laws.specs.Judged.{denial_records}
-use Rattle.denial_laws.specs.Chains.{IsJudgedInChain}
+use Rattle.denial_laws.specs.Scope.{denial_records}
+use Rattle.denial_laws.specs.Chains.{IsInScopeOfChain}
 use Rattle.denial_laws.proofs.Chains.Gaps.{IsBetween, between_from_covers, owner_below, off_chain}
 use Rattle.denial_laws.proofs.Chains.Readings.{record_at, shown, tells_all, unlisted, told_listed, told_owned}
 use Rattle.denial_laws.proofs.Chains.Stars.{undnamed}
@@ -36,7 +36,7 @@ pub record IsSpanned (origin : Name) (m : Sets) (h : IsNsecChain origin m) (x y 
   pub among : In (record_at origin m h owner) (denial_records origin m x)
 
 module _ (origin : Name) (m : Sets) (h : IsNsecChain origin m) where
-  -- a set of a denial that covers a name is that of an owner that the name stands behind
+  -- a set of a denial that covers a name is that of an owner that the name comes after
   pub spanned : (x y : Name) → IsAbove origin y → (c : HasCover (nsec_denial origin m x) y) → (s : IsSpanned origin m h x y) × (next_owner origin m s.owner ≡ c.next)
   spanned x y u c =
       let k = In-from_filter_map (λ o. set_at m o NSEC) c.set (denying_owners origin m x) (Contains-In c.set (nsec_denial origin m x) c.among) in
@@ -53,7 +53,7 @@ module _ (origin : Name) (m : Sets) (h : IsNsecChain origin m) where
       same_value : (a b : Name) → Some a ≡ Some b → a ≡ b
       same_value a b e = cc
 
-module _ (origin : Name) (m : Sets) (y : Name) (j : IsJudgedInChain origin m y) where
+module _ (origin : Name) (m : Sets) (y : Name) (j : IsInScopeOfChain origin m y) where
   abbrev h : IsNsecChain origin m
   h = j.zone
 
@@ -84,7 +84,7 @@ module _ (origin : Name) (m : Sets) (y : Name) (j : IsJudgedInChain origin m y) 
       by [] e = refl
       by (t ∷ ts) e = absurd (true≢false (sym (owner_on_chain t (type_owned m y t (subst (In t) (sym e) (inl refl)))) ∙ off))
 
-  -- with a set at or below it, an owner stands below it
+  -- with a set at or below it, an owner is below it
   pub some_below : owns m y NSEC ≡ false → owns_at_or_below m y ≡ true → (w : Name) × (owns m w NSEC ≡ true) × IsAbove y w
   some_below off some =
       let r = next_below_empty origin m h y j.inside (empty_off off) some j.uncut (undnamed origin m y j) in
@@ -110,8 +110,8 @@ module _ (origin : Name) (m : Sets) (y : Name) (j : IsJudgedInChain origin m y) 
       by (inr w) = no_cut_at o u ns w
 
   -- what is between has a record that tells of it: it isn't that of a cut or of a DNAME above
-  tells : (o : Name) → owns m o NSEC ≡ true → may_tell_of (record_at origin m h o) y ≡ true
-  tells o k = by (is_above o y) refl
+  is_stated : (o : Name) → owns m o NSEC ≡ true → may_apply_to (record_at origin m h o) y ≡ true
+  is_stated o k = by (is_above o y) refl
     where
       r : NsecRecord
       r = record_at origin m h o
@@ -141,7 +141,7 @@ module _ (origin : Name) (m : Sets) (y : Name) (j : IsJudgedInChain origin m y) 
 
     -- where nothing is owned at or below it, it is denied
     pub denied : owns_at_or_below m y ≡ false → denies_name origin (record_at origin m h o) y ≡ true
-    denied none = three (may_tell_of (record_at origin m h o) y) (tells_past origin (record_at origin m h o) y) (not (is_above y n)) (tells o b.on_chain) covers_it (ap not (by (is_above y n) refl))
+    denied none = three (may_apply_to (record_at origin m h o) y) (tells_past origin (record_at origin m h o) y) (not (is_above y n)) (is_stated o b.on_chain) covers_it (ap not (by (is_above y n) refl))
       where
         by : (b : Bool) → is_above y n ≡ b → b ≡ false
         by true e = absurd (true≢false (sym (is_at_or_above_complete y n (above_at y n ((above_test y n).0 e))) ∙ owner_elsewhere m y n NSEC none (next_owned origin m h o)))
@@ -149,7 +149,7 @@ module _ (origin : Name) (m : Sets) (y : Name) (j : IsJudgedInChain origin m y) 
 
     -- and else it is an empty non-terminal
     pub empty : owns_at_or_below m y ≡ true → shows_empty origin (record_at origin m h o) y ≡ true
-    empty some = three (may_tell_of (record_at origin m h o) y) (tells_past origin (record_at origin m h o) y) (is_above y n) (tells o b.on_chain) covers_it (by (above_cases y n r.1))
+    empty some = three (may_apply_to (record_at origin m h o) y) (tells_past origin (record_at origin m h o) y) (is_above y n) (is_stated o b.on_chain) covers_it (by (above_cases y n r.1))
       where
         r : (name_cmp y n ≡ Less) × IsAtOrAbove y n
         r =

@@ -1,24 +1,24 @@
 -- What a validator sums up of a name's own denial by NSEC is the case that the zone has
 use Rattle.std.proofs.Common.{◌≡◌, ℕ, Bool, true, false, not, ◌&&◌, List, drop, sym, ap, ◌∙◌, subst, true≢false}
 use Rattle.std.specs.Prelude.{Some, None, find, option_and_then}
-use Rattle.zone_proto.specs.Names.{Name, name_eq, is_at_or_above, IsAbove, star_under}
+use Rattle.zone_proto.specs.Names.{Name, name_eq, is_at_or_above, IsAbove, wildcard_under}
 use Rattle.zone_proto.specs.Types.{NS, NSEC}
 use Rattle.zone_proto.proofs.Members.{In, In-from_any, any_from_In, and_left, or_left}
 use Rattle.zone_proto.proofs.Names.NameTree.{is_at_or_above_complete}
 use Rattle.zone_map.specs.AnyTypes.{searched_type}
-use Rattle.zone_map.specs.SearchLaws.{StarIsOfClosestEncloser}
-use Rattle.zone_map.specs.Wildcards.{found, asked_star, asked_star_exists}
+use Rattle.zone_map.specs.SearchLaws.{WildcardIsOfClosestEncloser}
+use Rattle.zone_map.specs.Wildcards.{found, asked_wildcard, asked_wildcard_exists}
 use Rattle.zone_map.specs.Zones.{Sets, owns, names_of, owns_at_or_below}
 use Rattle.zone_map.proofs.Owned.{name_in}
-use Rattle.zone_map.proofs.Wildcards.{star_is_of_closest_encloser}
+use Rattle.zone_map.proofs.Wildcards.{wildcard_is_of_closest_encloser}
 use Rattle.zone_denial.specs.NsecDenial.{nsec_encloser}
 use Rattle.zone_denial.proofs.Chain.NsecBelow.{above_at}
 use Rattle.zone_denial.proofs.Chains.NsecAskedStar.{exists_is}
 use Rattle.zone_lookup.specs.Replies.{name_exists, nx_domain, negative_answer}
-use Rattle.denial_validation.specs.NsecProofs.{denies_name, star_passes, shown_encloser, proves_name_error, proves_no_data, proves_empty_non_terminal, proves_wildcard_no_data, proves_unsigned_delegation, denied_encloser}
+use Rattle.denial_validation.specs.NsecProofs.{denies_name, wildcard_is, shown_encloser, proves_name_error, proves_no_data, proves_empty_non_terminal, proves_wildcard_no_data, proves_unsigned_delegation, denied_encloser}
 use Rattle.denial_validation.specs.NsecRecords.{NsecRecord}
-use Rattle.denial_laws.specs.Judged.{denial_records, AreOfZone}
-use Rattle.denial_laws.specs.Chains.{IsJudgedInChain}
+use Rattle.denial_laws.specs.Scope.{denial_records, AreOfZone}
+use Rattle.denial_laws.specs.Chains.{IsInScopeOfChain}
 use Rattle.denial_laws.specs.Soundness.{IsUnflattened}
 use Rattle.denial_laws.specs.Sums.{is_unsigned, IsSummedUp}
 use Rattle.denial_laws.proofs.Chains.EmptyAnswers.{no_data_accepted, empty_accepted, wildcard_no_data_accepted, unsigned_delegation_accepted}
@@ -32,7 +32,7 @@ use Rattle.denial_laws.proofs.Soundness.{there_from, present, unowned}
 use Rattle.denial_laws.proofs.Sums.{cut_of, not_cut, steps}
 use Rattle.denial_laws.proofs.Tests.{refuted, any_found}
 
-module _ (origin : Name) (m : Sets) (x : Name) (j : IsJudgedInChain origin m x) where
+module _ (origin : Name) (m : Sets) (x : Name) (j : IsInScopeOfChain origin m x) where
   abbrev rs : List NsecRecord
   rs = denial_records origin m x
 
@@ -60,7 +60,7 @@ module _ (origin : Name) (m : Sets) (x : Name) (j : IsJudgedInChain origin m x) 
   no_data t off = refuted (proves_no_data origin rs x t) (λ p. true≢false (sym (own_denied origin m x j rs t of_zone p).0 ∙ off))
 
   is_present : owns_at_or_below m x ≡ true → negative_answer origin m x ≡ name_exists
-  is_present e = present origin m x (or_left (owns_at_or_below m x) (asked_star_exists m x) e)
+  is_present e = present origin m x (or_left (owns_at_or_below m x) (asked_wildcard_exists m x) e)
 
   -- ---- of a name that isn't there
 
@@ -74,23 +74,23 @@ module _ (origin : Name) (m : Sets) (x : Name) (j : IsJudgedInChain origin m x) 
         by : (n : Name) × (t : ℕ) × IsAbove x n × (owns m n t ≡ true) → ⊥
         by (n, t, w, k) = true≢false (sym (any_from_In (is_at_or_above x) n (names_of m) (name_in m n t k) (is_at_or_above_complete x n (above_at x n w))) ∙ none)
 
-  -- ---- where a star is asked
+  -- ---- where a wildcard is asked
 
-  module _ (e : Name) (asked : asked_star m x ≡ Some (star_under e)) where
-    law : StarIsOfClosestEncloser
-    law = star_is_of_closest_encloser
+  module _ (e : Name) (asked : asked_wildcard m x ≡ Some (wildcard_under e)) where
+    law : WildcardIsOfClosestEncloser
+    law = wildcard_is_of_closest_encloser
 
     away : owns_at_or_below m x ≡ false
-    away = sym (exists_is origin m j.zone j.one_kind x) ∙ law.absent m x (star_under e) asked
+    away = sym (exists_is origin m j.zone j.one_kind x) ∙ law.absent m x (wildcard_under e) asked
 
     up : IsAbove origin x
     up = over origin m x j away
 
-    star_is : star_under e ≡ star_under (nsec_encloser origin m x)
-    star_is = (asked_only origin m x j up (star_under e) asked).0
+    star_is : wildcard_under e ≡ wildcard_under (nsec_encloser origin m x)
+    star_is = (asked_only origin m x j up (wildcard_under e) asked).0
 
-    denied : (r : NsecRecord) × In r rs × (denies_name origin r x && star_passes (name_eq (star_under e)) r x ≡ true)
-    denied = In-from_any (λ r. denies_name origin r x && star_passes (name_eq (star_under e)) r x) rs (wildcard_answer_accepted origin m x e j asked)
+    denied : (r : NsecRecord) × In r rs × (denies_name origin r x && wildcard_is (name_eq (wildcard_under e)) r x ≡ true)
+    denied = In-from_any (λ r. denies_name origin r x && wildcard_is (name_eq (wildcard_under e)) r x) rs (wildcard_answer_accepted origin m x e j asked)
 
     encloser_is : denied_encloser origin rs x ≡ Some e
     encloser_is =
@@ -102,22 +102,22 @@ module _ (origin : Name) (m : Sets) (x : Name) (j : IsJudgedInChain origin m x) 
         first : (r : NsecRecord) × (find (λ r. denies_name origin r x) rs ≡ Some r) × In r rs × (denies_name origin r x ≡ true)
         first =
             any_found (λ r. denies_name origin r x) rs
-            (any_from_In (λ r. denies_name origin r x) denied.0 rs denied.1 (and_left (denies_name origin denied.0 x) (star_passes (name_eq (star_under e)) denied.0 x) denied.2))
+            (any_from_In (λ r. denies_name origin r x) denied.0 rs denied.1 (and_left (denies_name origin denied.0 x) (wildcard_is (name_eq (wildcard_under e)) denied.0 x) denied.2))
 
         owner : (o : Name) × (owns m o NSEC ≡ true) × (first.0 ≡ record_at origin m j.zone o)
         owner = of_owner origin m j.zone rs of_zone first.0 first.2
 
-    not_bare : (signed : Bool) (t : ℕ) → IsUnflattened m (star_under e) t → (found m signed x (searched_type m x t) ≡ None → ⊥) → proves_wildcard_no_data origin rs x t ≡ false
+    not_bare : (signed : Bool) (t : ℕ) → IsUnflattened m (wildcard_under e) t → (found m signed x (searched_type m x t) ≡ None → ⊥) → proves_wildcard_no_data origin rs x t ≡ false
     not_bare signed t flat some =
         refuted (proves_wildcard_no_data origin rs x t)
-        (λ p. some ((wildcard_no_data_sound origin m rs x t j of_zone (law.plain m x (star_under e) asked) (subst (λ n. IsUnflattened m n t) star_is flat) p).none.nothing signed))
+        (λ p. some ((wildcard_no_data_sound origin m rs x t j of_zone (law.plain m x (wildcard_under e) asked) (subst (λ n. IsUnflattened m n t) star_is flat) p).none.nothing signed))
 
-pub denial_summed_up : (origin : Name) (m : Sets) (x : Name) → IsJudgedInChain origin m x → IsSummedUp origin m x (denial_records origin m x)
+pub denial_summed_up : (origin : Name) (m : Sets) (x : Name) → IsInScopeOfChain origin m x → IsSummedUp origin m x (denial_records origin m x)
 denial_summed_up origin m x j = record {
   error = λ t plain e i.
       steps (name_error_accepted origin m x j plain e i) (proves_unsigned_delegation origin rs x) (proves_empty_non_terminal origin rs x) (proves_no_data origin rs x t) (proves_wildcard_no_data origin rs x t)
       (denied_encloser origin rs x);
-  starred_error = λ t starless e i.
+  wildcard_error = λ t starless e i.
       steps (starred_error_accepted origin m x j starless e i) (proves_unsigned_delegation origin rs x) (proves_empty_non_terminal origin rs x) (proves_no_data origin rs x t) (proves_wildcard_no_data origin rs x t)
       (denied_encloser origin rs x);
   delegation = λ t e i.

@@ -1,4 +1,4 @@
--- How many owners a search for the closest NSEC set reads: no more than stand at or before the name, and on a circle one
+-- How many owners a search for the closest NSEC set reads: no more than are at or before the name, and on a circle one
 use Rattle.std.proofs.Common.{◌≡◌, ◌≤◌, Bool, true, List, length, refl, sym, subst, arith}
 use Rattle.std.specs.Prelude.{Option, Some, None, filter}
 use Rattle.std.specs.Option.{option_map_or}

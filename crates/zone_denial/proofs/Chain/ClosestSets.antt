@@ -18,7 +18,7 @@ use Rattle.zone_denial.specs.OwnersRead.{owners_read, GrewByAtMost}
 use Rattle.zone_denial.proofs.Ascending.{Ascends, Ascends-filter, Ascends-from_sorted}
 use Rattle.zone_denial.proofs.ReadBack.{filter_twice, from_greatest, NonePass, none_greatest, all_read, found_greatest, found_read, read_at_most}
 
--- owners stand in canonical order, and those of a part of them
+-- owners are in canonical order, and those of a part of them
 pub upto_ascends : (m : Sets) (x : Name) → IsZone m → Ascends name_cmp (denial_owners_upto m NSEC x)
 upto_ascends m x zone = Ascends-filter name_cmp (λ o. is_upto name_cmp o x) (owners m NSEC) (Ascends-from_sorted name_cmp (owners m NSEC) (owners_ascend m NSEC zone.ordered))
 
@@ -86,7 +86,7 @@ module _ (m : Sets) (x : Name) (left : List Name) (before now : ℕ) (r : AreRea
         none y (inl e) = ap (says_past m x) (sym e) ∙ past
         none y (inr i) = r.none y i
 
-    -- whether it is isn't known where want of memory ends the search
+    -- whether it is isn't known where lack of memory ends the search
     pub last_refused : GrewByAtMost (length (owners_read m x)) before next
     last_refused = record {
       reads = length (o ∷ r.read);

@@ -1,20 +1,20 @@
--- What a circle of NSEC sets says of the star that a search asks
+-- What a circle of NSEC sets says of the wildcard that a search asks
 use Rattle.std.proofs.Common.{◌≡◌, ℕ, Bool, true, false, not, ◌&&◌, ◌||◌, [], refl, sym, ap, ◌∙◌, true≢false, ◌⊎◌, inl, inr, eqb-true}
 use Rattle.std.specs.Prelude.{Some, unwrap_or, option_map, ◌==◌}
 use Rattle.std.specs.Option.{option_map_or}
-use Rattle.zone_proto.specs.Names.{Name, is_at_or_above, IsAbove, IsAtOrAbove, is_wildcard, star_under}
+use Rattle.zone_proto.specs.Names.{Name, is_at_or_above, IsAbove, IsAtOrAbove, is_wildcard, wildcard_under}
 use Rattle.zone_proto.specs.Types.{NSEC, NSEC3}
 use Rattle.zone_proto.proofs.Members.{In-from_any, any_from_In, and_right, not_true}
 use Rattle.zone_proto.proofs.Names.NameTree.{above_test, is_at_or_above_sound, is_at_or_above_complete}
 use Rattle.zone_proto.proofs.Names.Tree.{above_cases}
 use Rattle.zone_map.specs.Upserts.{is_denial_type}
-use Rattle.zone_map.specs.Wildcards.{exists, asked_star_exists, closest_encloser}
+use Rattle.zone_map.specs.Wildcards.{exists, asked_wildcard_exists, closest_encloser}
 use Rattle.zone_map.specs.Zones.{Sets, owns, owners, owns_at_or_below}
 use Rattle.zone_map.proofs.Owned.{owner_in, owner_owned}
 use Rattle.zone_denial.specs.Authority.{is_authoritative}
 use Rattle.zone_denial.specs.NsecDenial.{owns_nsec_at_or_below, nsec_encloser}
 use Rattle.zone_denial.specs.NsecLaws.{IsNsecZone}
-use Rattle.zone_denial.specs.StarLaws.{OwnsNone, EnclosersAgree, ProvedStarIsAsked, AbsentStarIsDenied}
+use Rattle.zone_denial.specs.WildcardLaws.{OwnsNone, EnclosersAgree, ProvedWildcardIsAsked, AbsentWildcardIsDenied}
 use Rattle.zone_denial.proofs.Names.AuthoritativeNames.{from_besides}
 use Rattle.zone_denial.proofs.Names.ExistingAncestors.{exists_from, unowned_absent, asked_is, IsEncloserTest, same_encloser, no_star}
 use Rattle.zone_denial.proofs.Names.LongestAncestors.{IsLongestAbove, longest_is, longest_above}
@@ -22,7 +22,7 @@ use Rattle.zone_denial.proofs.Chain.NsecCircle.{origin_on_circle}
 use Rattle.zone_denial.proofs.Chain.NsecLists.{off_circle}
 use Rattle.zone_denial.proofs.Chain.NsecStar.{proves_star}
 
--- ---- types that stand in a zone without a type of denial
+-- ---- types that are in a zone without a type of denial
 
 -- of two that aren't so, neither is
 neither : (a b : Bool) → a || b ≡ false → (a ≡ false) × (b ≡ false)
@@ -39,9 +39,9 @@ other_type m n t u none k = by (t == u) refl
 pub plain_type : (t : ℕ) → is_denial_type t ≡ false → (not (t == NSEC) ≡ true) × (not (t == NSEC3) ≡ true)
 plain_type t e = let r = neither (t == NSEC) (t == NSEC3) e in (ap not r.0, ap not r.1)
 
--- the star that is asked doesn't exist, of the ancestor that its name is under
-pub absent_star : (m : Sets) (o x e : Name) → IsAbove o x → is_wildcard x ≡ false → owns_at_or_below m x ≡ false → asked_star_exists m x ≡ false → closest_encloser m x ≡ Some e → exists m (star_under e) ≡ false
-absent_star m o x e u plain none gone is = sym (ap (λ p. option_map_or (exists m) p false) (asked_is m o x u plain (unowned_absent m x none) ∙ ap (option_map star_under) is)) ∙ gone
+-- the wildcard at the closest encloser doesn't exist, of the ancestor that its name is under
+pub absent_wildcard : (m : Sets) (o x e : Name) → IsAbove o x → is_wildcard x ≡ false → owns_at_or_below m x ≡ false → asked_wildcard_exists m x ≡ false → closest_encloser m x ≡ Some e → exists m (wildcard_under e) ≡ false
+absent_wildcard m o x e u plain none gone is = sym (ap (λ p. option_map_or (exists m) p false) (asked_is m o x u plain (unowned_absent m x none) ∙ ap (option_map wildcard_under) is)) ∙ gone
 
 module _ (origin : Name) (m : Sets) (h : IsNsecZone origin m) (none : OwnsNone m NSEC3) where
   abbrev encloses : Name → Bool
@@ -89,12 +89,12 @@ enclosers_agree origin m h none x below uncut =
     let e = there origin m h none x u in
     e.1.found ∙ ap Some (sym (same_encloser origin m NSEC (encloses origin m h none) (test origin m h none) x e.0 (nsec_encloser origin m x) u e.1 (longest origin m h none x u) uncut))
 
-pub proved_star_is_asked : ProvedStarIsAsked
+pub proved_star_is_asked : ProvedWildcardIsAsked
 proved_star_is_asked origin m h none x below uncut plain absent =
-    asked_is m origin x ((above_test origin x).0 below) plain absent ∙ ap (option_map star_under) (enclosers_agree origin m h none x below uncut)
+    asked_is m origin x ((above_test origin x).0 below) plain absent ∙ ap (option_map wildcard_under) (enclosers_agree origin m h none x below uncut)
 
-pub absent_star_is_denied : AbsentStarIsDenied
-absent_star_is_denied origin m h none x inside plain unowned gone =
+pub absent_wildcard_is_denied : AbsentWildcardIsDenied
+absent_wildcard_is_denied origin m h none x inside plain unowned gone =
     record { off = off; covered = (proves_star origin m h x inside (off_circle m x unowned)).off off }
   where
     below : IsAbove origin x
@@ -105,15 +105,15 @@ absent_star_is_denied origin m h none x inside plain unowned gone =
         by (inr w) = w
 
     star : Name
-    star = star_under (nsec_encloser origin m x)
+    star = wildcard_under (nsec_encloser origin m x)
 
-    off : owns m (star_under (nsec_encloser origin m x)) NSEC ≡ false
-    off = by (owns m (star_under (nsec_encloser origin m x)) NSEC) refl
+    off : owns m (wildcard_under (nsec_encloser origin m x)) NSEC ≡ false
+    off = by (owns m (wildcard_under (nsec_encloser origin m x)) NSEC) refl
       where
-        by : (b : Bool) → owns m (star_under (nsec_encloser origin m x)) NSEC ≡ b → b ≡ false
+        by : (b : Bool) → owns m (wildcard_under (nsec_encloser origin m x)) NSEC ≡ b → b ≡ false
         by false e = refl
         by true e =
             let t = there origin m h none x below in
             absurd
             (no_star origin m NSEC (encloses origin m h none) (test origin m h none) x t.0 (nsec_encloser origin m x) below t.1 (longest origin m h none x below)
-            (absent_star m origin x t.0 below plain unowned gone t.1.found) (star_under (nsec_encloser origin m x)) (on_circle origin m h none (star_under (nsec_encloser origin m x)) e) ([], refl))
+            (absent_wildcard m origin x t.0 below plain unowned gone t.1.found) (wildcard_under (nsec_encloser origin m x)) (on_circle origin m h none (wildcard_under (nsec_encloser origin m x)) e) ([], refl))

@@ -29,7 +29,7 @@ no_next_below origin m h x inside none =
     let c = closest_is origin m h x inside in
     (nsec_next origin m c.0, last_covers origin m h x c.0 c.2 c.1 (off_circle m x none), owner_elsewhere m x (nsec_next origin m c.0) NSEC none (next_owned origin m h c.0))
 
--- ---- where no owner of NSEC stands at or below a name, the name owns none itself
+-- ---- where no owner of NSEC is at or below a name, the name owns none itself
 
 pub none_owned : (m : Sets) (n : Name) → list_any (is_at_or_above n) (owners m NSEC) ≡ false → None ≡ set_at m n NSEC
 none_owned m n none = by (set_at m n NSEC) refl
@@ -52,7 +52,7 @@ comparable [] g a b e = inr (g, e)
 comparable (l ∷ f) [] a b e = inl (l ∷ f, sym e)
 comparable (l ∷ f) (k ∷ g) a b e = comparable f g a b (ap (drop 1) e)
 
--- ---- an empty name with an owner below it and no zone cut above it
+-- ---- an empty non-terminal with an owner below it and no zone cut above it
 
 module _ (origin : Name) (m : Sets) (h : IsNsecZone origin m) (x : Name) (inside : is_at_or_above origin x ≡ true) (empty : types_at m x ≡ []) (uncut : is_below_cut origin m x ≡ false) where
   owns_none : (t : ℕ) → owns m x t ≡ true → ⊥

@@ -24,13 +24,13 @@ above_upto a n h = by (above_cases a n (is_at_or_above_sound a n h))
     by (inl e) = upto_same name_order a n e
     by (inr r) = upto_before name_order a n (above_is_less a n r)
 
--- what an owner's next name is: the least owner after it, or the origin where there is none
+-- what an owner's next name is: the least owner after it, or the origin if there is none
 pub data NextIs (origin : Name) (m : Sets) (o n : Name) : Type 0 where
   least_after : owns m n NSEC ≡ true → name_cmp o n ≡ Less → ((a : Name) → owns m a NSEC ≡ true → name_cmp o a ≡ Less → name_cmp a n ≡ Less → ⊥) → NextIs origin m o n
   wraps : n ≡ origin → ((a : Name) → owns m a NSEC ≡ true → name_cmp o a ≡ Less → ⊥) → NextIs origin m o n
 
 module _ (origin : Name) (m : Sets) (circle : IsNsecCircle origin m) where
-  -- an owner of an NSEC set stands among the authoritative names, and the other way round
+  -- an owner of an NSEC set is among the authoritative names, and the other way round
   listed : (a : Name) → owns m a NSEC ≡ true → In a (authoritative_names origin m NSEC)
   listed a k = In-filter (is_authoritative origin m NSEC) a (names_of m) (name_in m a NSEC k) (sym (circle.one_for_each a) ∙ k)
 

@@ -3,7 +3,7 @@ use Rattle.std.proofs.Common.{◌≡◌, ◌||◌, ◌&&◌, Bool, true, false, 
 use Rattle.std.specs.Prelude.{Option, Some, None, find, unwrap_or}
 use Rattle.std.specs.Ordering.{is_eq}
 use Rattle.std.proofs.lemmas.List.{length-append}
-use Rattle.zone_proto.specs.Names.{Name, name_cmp, name_eq, base_name, wildcard_of, is_above, is_at_or_above, suffixes, IsAbove, IsAtOrAbove, star_under}
+use Rattle.zone_proto.specs.Names.{Name, name_cmp, name_eq, base_name, wildcard_of, is_above, is_at_or_above, suffixes, IsAbove, IsAtOrAbove, wildcard_under}
 use Rattle.zone_proto.proofs.Members.{and_left}
 use Rattle.zone_proto.proofs.Names.NameTree.{name_eq-Decides, above_test, above_is_less, name_itself, is_at_or_above_sound, is_at_or_above_complete}
 use Rattle.zone_proto.proofs.Ordering.Orders.{irrefl}
@@ -37,7 +37,7 @@ same_name : (a n : Name) → IsAtOrAbove a n → IsAtOrAbove n a → a ≡ n
 same_name a n ([], e) w = sym e
 same_name a n (l ∷ f, e) (g, q) = absurd (omega (arith, ap length e, length-append (l ∷ f) a, ap length q, length-append g n))
 
--- a name of the zone that isn't the origin stands below it
+-- a name of the zone that isn't the origin is below it
 pub below_other : (origin x : Name) → is_eq (name_cmp x origin) ≡ false → IsAtOrAbove origin x → IsAbove origin x
 below_other origin x h w = by (above_cases origin x w)
   where
@@ -83,12 +83,12 @@ module _ (origin : Name) (m : Sets) where
             ap (λ f. unwrap_or f origin)
             (first_passes encloses above (λ i. is_at_or_above_complete origin above in_zone i && e i))
 
-    pub star_found : name_eq above origin || owns_nsec_at_or_below m above ≡ true → wildcard_of n ≡ star_under (nsec_encloser origin m n)
-    star_found h = by n is below ∙ ap star_under (sym (ends_at h))
+    pub star_found : name_eq above origin || owns_nsec_at_or_below m above ≡ true → wildcard_of n ≡ wildcard_under (nsec_encloser origin m n)
+    star_found h = by n is below ∙ ap wildcard_under (sym (ends_at h))
       where
-        by : (n : Name) → above ≡ drop 1 n → IsAbove origin n → wildcard_of n ≡ star_under above
+        by : (n : Name) → above ≡ drop 1 n → IsAbove origin n → wildcard_of n ≡ wildcard_under above
         by [] e (l, f, q) = absurd cc
-        by (k ∷ ks) e w = ap star_under (sym e)
+        by (k ∷ ks) e w = ap wildcard_under (sym e)
 
     -- and goes on from any other
     pub goes_below : name_eq above origin || owns_nsec_at_or_below m above ≡ false → IsAbove origin above
@@ -124,15 +124,15 @@ module _ (origin : Name) (m : Sets) where
 
   pub beside_origin : proved_beside origin m origin ≡ None
   beside_origin =
-      ap (λ b. cond b (Some (star_under (nsec_encloser origin m origin))) (cond (name_eq origin origin) None (Some origin))) not_above_itself
+      ap (λ b. cond b (Some (wildcard_under (nsec_encloser origin m origin))) (cond (name_eq origin origin) None (Some origin))) not_above_itself
       ∙ ap (λ b. cond b None (Some origin)) (name_eq_itself origin)
 
-  pub beside_below : (x : Name) → IsAbove origin x → proved_beside origin m x ≡ Some (star_under (nsec_encloser origin m x))
-  beside_below x w = ap (λ b. cond b (Some (star_under (nsec_encloser origin m x))) (cond (name_eq x origin) None (Some origin))) ((above_test origin x).1 w)
+  pub beside_below : (x : Name) → IsAbove origin x → proved_beside origin m x ≡ Some (wildcard_under (nsec_encloser origin m x))
+  beside_below x w = ap (λ b. cond b (Some (wildcard_under (nsec_encloser origin m x))) (cond (name_eq x origin) None (Some origin))) ((above_test origin x).1 w)
 
   pub beside_outside : (x : Name) → (IsAtOrAbove origin x → ⊥) → proved_beside origin m x ≡ Some origin
   beside_outside x out =
-      ap (λ b. cond b (Some (star_under (nsec_encloser origin m x))) (cond (name_eq x origin) None (Some origin))) (by (is_above origin x) refl)
+      ap (λ b. cond b (Some (wildcard_under (nsec_encloser origin m x))) (cond (name_eq x origin) None (Some origin))) (by (is_above origin x) refl)
       ∙ ap (λ b. cond b None (Some origin)) (differs x origin (λ e. out ([], e)))
     where
       by : (b : Bool) → is_above origin x ≡ b → b ≡ false

@@ -1,8 +1,9 @@
--- On a circle of NSEC sets, the denial of a name off it has the set of the star under the closest encloser, or covers the star
+-- On a circle of NSEC sets, the denial of a name off it has the set of the wildcard at the closest encloser, or covers
+-- the wildcard
 use Rattle.std.proofs.Common.{◌≡◌, Bool, true, false, cond, ◌&&◌, [], ◌∷◌, refl, sym, ap, ◌∙◌, subst, true≢false, ◌⊎◌, inl, inr, Less}
 use Rattle.std.specs.Prelude.{Option, Some, None, filter, find, is_some, unwrap_or, option_and_then}
 use Rattle.std.specs.List.{Contains}
-use Rattle.zone_proto.specs.Names.{Name, name_eq, name_cmp, is_at_or_above, star_label, IsAbove, IsAtOrAbove, proper_ancestors, star_under}
+use Rattle.zone_proto.specs.Names.{Name, name_eq, name_cmp, is_at_or_above, asterisk_label, IsAbove, IsAtOrAbove, proper_ancestors, wildcard_under}
 use Rattle.zone_proto.specs.Order.{is_upto}
 use Rattle.zone_proto.specs.Sets.{RRset}
 use Rattle.zone_proto.specs.Types.{NSEC}
@@ -16,7 +17,7 @@ use Rattle.zone_map.proofs.Owned.{owner_in, set_of}
 use Rattle.zone_denial.specs.Covering.{covers}
 use Rattle.zone_denial.specs.NsecCircle.{nsec_next}
 use Rattle.zone_denial.specs.NsecDenial.{owns_nsec_at_or_below, nsec_encloser, proved_beside, reaches, closest_owner, both_of, denying_owners, nsec_denial}
-use Rattle.zone_denial.specs.NsecLaws.{IsNsecZone, HasOwnOrCover, DenialProvesStar}
+use Rattle.zone_denial.specs.NsecLaws.{IsNsecZone, HasOwnOrCover, DenialProvesWildcard}
 use Rattle.zone_denial.proofs.Chain.NsecCircle.{origin_on_circle}
 use Rattle.zone_denial.proofs.Chain.NsecClosest.{IsClosest, reaches_from, closest_is, closest_covers}
 use Rattle.zone_denial.proofs.Chain.NsecEnclosers.{beside_below}
@@ -71,12 +72,12 @@ module _ (origin : Name) (m : Sets) (h : IsNsecZone origin m) where
         by (inr w) = w
 
     abbrev star : Name
-    star = star_under (nsec_encloser origin m x)
+    star = wildcard_under (nsec_encloser origin m x)
 
     star_in : is_at_or_above origin star ≡ true
-    star_in = let w = encloser_in origin m x in is_at_or_above_complete origin star (star_label ∷ w.0, ap star_under w.1)
+    star_in = let w = encloser_in origin m x in is_at_or_above_complete origin star (asterisk_label ∷ w.0, ap wildcard_under w.1)
 
-    -- a set that the star's closest owner has is in the denial
+    -- a set that the wildcard's closest owner has is in the denial
     has_closest : (o : Name) (s : RRset) → closest_owner m star ≡ Some o → set_at m o NSEC ≡ Some s → Contains (nsec_denial origin m x) s
     has_closest o s is stands =
         let owners_are : denying_owners origin m x ≡ both_of (Some o) (closest_owner m x) =
@@ -102,5 +103,5 @@ module _ (origin : Name) (m : Sets) (h : IsNsecZone origin m) where
               };
         }
 
-pub proves_star : DenialProvesStar
+pub proves_star : DenialProvesWildcard
 proves_star origin m h x inside off = star_proved origin m h x inside off

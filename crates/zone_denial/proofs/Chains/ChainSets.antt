@@ -1,4 +1,4 @@
--- The sets of a zone that belong to its chain are those of a zone, and a look-up finds exactly these
+-- The sets of a zone that belong to its chain are those of a zone, and a lookup finds exactly these
 use Rattle.std.proofs.Common.{◌≡◌, ◌↔◌, ℕ, Bool, true, false, cond, not, ◌&&◌, ◌||◌, List, [], ◌∷◌, refl, sym, ap, ◌∙◌, subst, true≢false, inl, inr, eqb-true, Less}
 use Rattle.std.specs.Prelude.{Option, Some, filter, is_some, None, ◌==◌}
 use Rattle.std.specs.Map.{lookup, keys_of}
@@ -20,7 +20,7 @@ use Rattle.zone_denial.proofs.Ascending.{Ascends, Ascends-from_sorted, sorted_fr
 
 -- ---- entries whose keys ascend
 
--- what a look-up finds stands there
+-- what a lookup finds is there
 pub entry_of : (m : Sets) (k : RrKey) (s : RRset) → lookup (key_eq k) m ≡ Some s → In (k, s) m
 entry_of [] k s e = absurd cc
 entry_of ((j, r) ∷ m) k s e = by (key_eq k j) refl (λ g. entry_of m k s g) e
@@ -39,7 +39,7 @@ below_differs j k l = by (key_eq k j) refl
     by false e = refl
     by true e = absurd (true≢false (sym (key_itself j) ∙ ap (λ q. is_eq (key_cmp j q)) (sym (key_same k j e)) ∙ ap is_eq l))
 
--- and what stands there is found
+-- and what is there is found
 pub found_entry : (m : Sets) → Ascends key_cmp (keys_of m) → (k : RrKey) (s : RRset) → In (k, s) m → lookup (key_eq k) m ≡ Some s
 found_entry [] a k s i = absurd i
 found_entry ((j, r) ∷ m) a k s (inl e) =

@@ -21,7 +21,7 @@ use Rattle.zone_map.specs.Zones.{Sets, set_at, owns, owners, names_of}
 use Rattle.zone_map.proofs.Owned.{entry_owned, owner_in, owner_owned}
 use Rattle.zone_denial.specs.Authority.{is_authoritative, authoritative_names, owns_besides}
 use Rattle.zone_denial.specs.ChainLaws.{NsecCircleIsChain, Nsec3CircleIsChain, NsecCircleStays, Nsec3CircleStays}
-use Rattle.zone_denial.specs.Chains.{has_parameters, is_insecure_delegation, is_below_dname, has_signature, is_told_at_delegation, IsRightList, next_owner, may_be_left_out}
+use Rattle.zone_denial.specs.Chains.{has_parameters, is_insecure_delegation, is_below_dname, has_signature, is_stated_at_delegation, IsRightList, next_owner, may_be_left_out}
 use Rattle.zone_denial.specs.NsecCircle.{nsec_next}
 use Rattle.zone_denial.specs.NsecLaws.{IsNsecZone}
 use Rattle.zone_denial.specs.Nsec3Circle.{nsec3_types, IsNsec3Type}
@@ -40,8 +40,8 @@ use Rattle.zone_denial.proofs.InOrder.{flipped}
 use Rattle.zone_denial.proofs.Names.AuthoritativeNames.{authoritative_from, authoritative_listed, besides_from, from_besides, origin_uncut}
 
 -- a type of which a list tells at a delegation isn't another one of which it doesn't
-told_apart : (t u : ℕ) → is_told_at_delegation t ≡ true → is_told_at_delegation u ≡ false → t ≢ u
-told_apart t u h k e = true≢false (sym h ∙ ap is_told_at_delegation e ∙ k)
+told_apart : (t u : ℕ) → is_stated_at_delegation t ≡ true → is_stated_at_delegation u ≡ false → t ≢ u
+told_apart t u h k e = true≢false (sym h ∙ ap is_stated_at_delegation e ∙ k)
 
 -- ---- NSEC
 
@@ -82,7 +82,7 @@ module _ (origin : Name) (m : Sets) (h : IsNsecZone origin m) where
     right_list : IsRightList origin m n (nsec_types m n)
     right_list = record {
       at_delegation = λ d t told. (owned_of t (told_apart t RRSIG told refl), listed_of t);
-      exact = λ d t a b. (owned_of t a, listed_of t);
+      exact = λ d t a w b. (owned_of t a, listed_of t);
       signed = λ d s. list_has m n RRSIG (inr (inl refl));
     }
 
@@ -101,6 +101,7 @@ nsec_circle_is_chain origin m h = record {
         types = nsec_types m n;
         listed = c.list;
         right = right_list origin m h n on;
+        own = λ d. listed_of origin m h n on NSEC on;
         hashed = (owned_of origin m h n on NSEC3 (λ e. omega (arith, e)), listed_of origin m h n on NSEC3);
       };
 }
@@ -149,7 +150,7 @@ module _ (origin : Name) (m : Sets) (hash : Name → Option (List ℕ)) (paramet
     hashed_right : IsRightList origin m n (nsec3_types origin m n)
     hashed_right = record {
       at_delegation = λ d t told. (hashed_owned t (told_apart t RRSIG told refl), hashed_listed t (told_apart t NSEC3 told refl));
-      exact = λ d t a b. (hashed_owned t a, hashed_listed t b);
+      exact = λ d t a w b. (hashed_owned t a, hashed_listed t b);
       signed = λ d s. (types_are_exact origin m n RRSIG).1 (inr (inl (refl, inr (has_another s))));
     }
 
@@ -282,9 +283,8 @@ module _ (origin : Name) (m : Sets) (hash : Name → Option (List ℕ)) (paramet
       by true false true p q r = inr ((λ i. is_below_dname m n || (p i && left_out n a q r i)) ∙ or_true (is_below_dname m n))
 
 pub nsec3_circle_is_chain : Nsec3CircleIsChain
-nsec3_circle_is_chain origin m hash parameters h = record {
+nsec3_circle_is_chain origin beside m hash parameters h = record {
   zone = h.zone;
-  below_root = h.below_root;
   begins = begins origin m hash parameters h;
   between = between origin m hash parameters h;
   authoritative = authoritative origin m hash parameters h;
@@ -298,6 +298,7 @@ nsec3_circle_is_chain origin m hash parameters h = record {
           types = nsec3_types origin m n;
           says = r.2.says;
           right = hashed_right origin m hash parameters h n;
+          nsec = λ d. (hashed_listed origin m hash parameters h n NSEC (λ e. omega (arith, e)), λ c. inl (hashed_owned origin m hash parameters h n NSEC (λ e. omega (arith, e)) c));
           no_hashed = no_hashed origin m hash parameters h n;
           empty = empty origin m hash parameters h n;
         },

@@ -1,10 +1,10 @@
--- What a chain of NSEC3 sets says of the star that a search asks, without opt-out
+-- What a chain of NSEC3 sets says of the wildcard that a search asks, without opt-out
 use Rattle.std.proofs.Common.{◌≡◌, ℕ, Bool, true, false, not, ◌&&◌, ◌||◌, List, refl, sym, ap, ◌∙◌, subst, true≢false, ◌⊎◌, inl, inr}
 use Rattle.std.specs.Prelude.{Option, Some, find, option_map, ◌==◌}
 use Rattle.std.specs.Cmp.{both_ways}
 use Rattle.std.specs.List.{Contains}
 use Rattle.zone_proto.specs.declared.rdata.denial.NSEC3PARAM.{NSEC3PARAM as Nsec3Parameters}
-use Rattle.zone_proto.specs.Names.{Name, is_at_or_above, IsAbove, IsAtOrAbove, proper_ancestors, star_under}
+use Rattle.zone_proto.specs.Names.{Name, is_at_or_above, IsAbove, IsAtOrAbove, proper_ancestors, wildcard_under}
 use Rattle.zone_proto.specs.Types.{NS, NSEC, NSEC3}
 use Rattle.zone_proto.proofs.Members.{In-Contains, Contains-In, and_left, and_right, not_true}
 use Rattle.zone_proto.proofs.Names.NameTree.{above_test, above_is_less, is_at_or_above_sound, is_at_or_above_complete}
@@ -13,11 +13,11 @@ use Rattle.zone_proto.proofs.Ordering.Orders.{asym}
 use Rattle.zone_map.specs.Wildcards.{exists}
 use Rattle.zone_map.specs.Zones.{Sets, owns}
 use Rattle.zone_denial.specs.Authority.{is_below_cut, owns_besides, is_authoritative}
-use Rattle.zone_denial.specs.ChainLaws.{Nsec3ChainEnclosersAgree, Nsec3ChainProvedStarIsAsked, Nsec3ChainAbsentStarIsDenied}
+use Rattle.zone_denial.specs.ChainLaws.{Nsec3ChainEnclosersAgree, Nsec3ChainProvedWildcardIsAsked, Nsec3ChainAbsentWildcardIsDenied}
 use Rattle.zone_denial.specs.Chains.{DNAME, is_below_dname, is_insecure_delegation, may_be_left_out, IsNsec3Chain}
 use Rattle.zone_denial.specs.Nsec3Denial.{encloser_on}
-use Rattle.zone_denial.specs.StarLaws.{OwnsNone}
-use Rattle.zone_denial.proofs.Chain.NsecAskedStar.{other_type, plain_type, absent_star}
+use Rattle.zone_denial.specs.WildcardLaws.{OwnsNone}
+use Rattle.zone_denial.proofs.Chain.NsecAskedStar.{other_type, plain_type, absent_wildcard}
 use Rattle.zone_denial.proofs.Chain.NsecBelow.{above_through}
 use Rattle.zone_denial.proofs.Chains.NsecBelow.{IsOpen, open_above, first_below}
 use Rattle.zone_denial.proofs.Chains.Nsec3Names.{is_named, named_in, in_named, origin_in}
@@ -26,7 +26,7 @@ use Rattle.zone_denial.proofs.Names.AuthoritativeNames.{authoritative_from, besi
 use Rattle.zone_denial.proofs.Names.ExistingAncestors.{exists_from, from_exists, unowned_absent, asked_is}
 use Rattle.zone_denial.proofs.Names.LongestAncestors.{IsLongestAbove, longest_above, others_above}
 
-module _ (origin : Name) (m : Sets) (hash : Name → Option (List ℕ)) (parameters : Nsec3Parameters) (names : List Name) (h : IsNsec3Chain origin m hash parameters names) (none : OwnsNone m NSEC) where
+module _ (origin : Name) (beside m : Sets) (hash : Name → Option (List ℕ)) (parameters : Nsec3Parameters) (names : List Name) (h : IsNsec3Chain origin beside m hash parameters names) (none : OwnsNone m NSEC) where
   -- ---- a name of the chain exists
 
   besides_exists : (a b : Name) → owns_besides m NSEC3 b ≡ true → IsAtOrAbove a b → exists m a ≡ true
@@ -116,20 +116,20 @@ module _ (origin : Name) (m : Sets) (hash : Name → Option (List ℕ)) (paramet
       agree = there.1.found ∙ ap Some (sym same_encloser) ∙ sym encloser.1.found
 
 pub enclosers_agree : Nsec3ChainEnclosersAgree
-enclosers_agree origin m hash parameters names h all_in none x below uncut plain = agree origin m hash parameters names h none all_in x ((above_test origin x).0 below) uncut plain
+enclosers_agree origin beside m hash parameters names h all_in none x below uncut plain = agree origin beside m hash parameters names h none all_in x ((above_test origin x).0 below) uncut plain
 
-pub proved_star_is_asked : Nsec3ChainProvedStarIsAsked
-proved_star_is_asked origin m hash parameters names h all_in none x below uncut plain star absent a is =
-    asked_is m origin x ((above_test origin x).0 below) star absent ∙ ap (option_map star_under) (enclosers_agree origin m hash parameters names h all_in none x below uncut plain ∙ is)
+pub proved_star_is_asked : Nsec3ChainProvedWildcardIsAsked
+proved_star_is_asked origin beside m hash parameters names h all_in none x below uncut plain star absent a is =
+    asked_is m origin x ((above_test origin x).0 below) star absent ∙ ap (option_map wildcard_under) (enclosers_agree origin beside m hash parameters names h all_in none x below uncut plain ∙ is)
 
-pub absent_star_is_denied : Nsec3ChainAbsentStarIsDenied
-absent_star_is_denied origin m hash parameters names h all_in none x inside uncut plain apart unstarred unowned gone =
-    let r = proves_star origin m hash parameters names h x inside apart off in
+pub absent_wildcard_is_denied : Nsec3ChainAbsentWildcardIsDenied
+absent_wildcard_is_denied origin beside m hash parameters names h below_root all_in none x inside uncut plain apart not_wildcard unowned gone =
+    let r = proves_star origin beside m hash parameters names h below_root x inside apart off in
     let cover = r.2.star.off (star_off r.2.encloser r.2.is_encloser) in
     record { answer = r.0; denial = r.1; encloser = r.2.encloser; is_encloser = r.2.is_encloser; off = star_off r.2.encloser r.2.is_encloser; cover = cover.0; covers = cover.1; has_cover = cover.2 }
   where
     off : Contains names x → ⊥
-    off i = true≢false (sym (named_exists origin m hash parameters names h none x i) ∙ unowned_absent m x unowned)
+    off i = true≢false (sym (named_exists origin beside m hash parameters names h none x i) ∙ unowned_absent m x unowned)
 
     below : IsAbove origin x
     below = by (above_cases origin x (is_at_or_above_sound origin x inside))
@@ -138,14 +138,14 @@ absent_star_is_denied origin m hash parameters names h all_in none x inside uncu
         by (inl e) = absurd (off (subst (Contains names) e h.begins))
         by (inr w) = w
 
-    star_off : (a : Name) → encloser_on names x ≡ Some a → Contains names (star_under a) → ⊥
+    star_off : (a : Name) → encloser_on names x ≡ Some a → Contains names (wildcard_under a) → ⊥
     star_off a is i =
-        let t = there origin m hash parameters names h none all_in x below uncut plain in
-        let same : t.0 ≡ a = same_value t.0 a (sym t.1.found ∙ agree origin m hash parameters names h none all_in x below uncut plain ∙ is) in
+        let t = there origin beside m hash parameters names h none all_in x below uncut plain in
+        let same : t.0 ≡ a = same_value t.0 a (sym t.1.found ∙ agree origin beside m hash parameters names h none all_in x below uncut plain ∙ is) in
         true≢false
-        (sym (named_exists origin m hash parameters names h none (star_under a) i)
-        ∙ ap (λ n. exists m (star_under n)) (sym same)
-        ∙ absent_star m origin x t.0 below unstarred unowned gone t.1.found)
+        (sym (named_exists origin beside m hash parameters names h none (wildcard_under a) i)
+        ∙ ap (λ n. exists m (wildcard_under n)) (sym same)
+        ∙ absent_wildcard m origin x t.0 below not_wildcard unowned gone t.1.found)
       where
         same_value : (a b : Name) → Some a ≡ Some b → a ≡ b
         same_value a b e = cc

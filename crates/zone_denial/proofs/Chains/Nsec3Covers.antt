@@ -16,13 +16,13 @@ use Rattle.zone_denial.specs.Chains.{IsNsec3Chain}
 use Rattle.zone_denial.specs.Covering.{covers}
 use Rattle.zone_denial.specs.Nsec3Circle.{digests, next_digest}
 use Rattle.zone_denial.specs.Nsec3Denial.{cover_owner}
-use Rattle.zone_denial.specs.Nsec3Zones.{IsHashedOn, TellsApart}
+use Rattle.zone_denial.specs.Nsec3Zones.{IsHashedOn, HasDistinctDigests}
 use Rattle.zone_denial.proofs.Hashed.CoveringPairs.{IsLastBefore, before_it, last_of_all, last_covers}
 use Rattle.zone_denial.proofs.Chains.Nsec3Names.{origin_in}
 use Rattle.zone_denial.proofs.Chains.Nsec3Owners.{owner, named_hashed, named_owns, owners_as_digests, name_of_owner, digest_in, name_of_digest}
 use Rattle.zone_denial.proofs.Hashed.Nsec3Owners.{octets_order}
 
-module _ {origin : Name} {m : Sets} {hash : Name → Option (List ℕ)} {parameters : Nsec3Parameters} {names : List Name} {x : Name} (zone : IsNsec3Chain origin m hash parameters names) (apart : TellsApart (IsHashedOn names x) hash) where
+module _ {origin : Name} {beside m : Sets} {hash : Name → Option (List ℕ)} {parameters : Nsec3Parameters} {names : List Name} {x : Name} (zone : IsNsec3Chain origin beside m hash parameters names) (apart : HasDistinctDigests (IsHashedOn names x) hash) where
   abbrev all_digests : List (List ℕ)
   all_digests = digests hash names
 

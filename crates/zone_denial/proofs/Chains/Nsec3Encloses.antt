@@ -1,13 +1,13 @@
 -- The denial by a chain of NSEC3 sets of a name of the zone is the name's own set, or has the set of its closest encloser and one that covers
 -- the next closer name
 use Rattle.std.proofs.Common.{◌≡◌, ℕ, Bool, true, false, cond, ◌&&◌, List, [], ◌∷◌, ◌++◌, refl, sym, ap, ◌∙◌, true≢false, inl, inr}
-use Rattle.std.specs.Prelude.{Option, Some, None, Result, Ok, filter_map, option_map, option_to_list}
+use Rattle.std.specs.Prelude.{◌≢◌, Option, Some, None, Result, Ok, filter_map, option_map, option_to_list}
 use Rattle.std.specs.List.{Contains, cons_option}
 use Rattle.std.specs.Option.{option_map_or, option_or}
 use Rattle.zone_proto.specs.declared.error.ProtoError.{ProtoError}
 use Rattle.zone_proto.specs.declared.rdata.denial.NSEC3PARAM.{NSEC3PARAM as Nsec3Parameters}
 use Rattle.zone_proto.specs.HashedOwners.{owner_or_refusal}
-use Rattle.zone_proto.specs.Names.{Name, name_cmp, is_at_or_above, IsAtOrAbove, star_under}
+use Rattle.zone_proto.specs.Names.{Name, name_cmp, is_at_or_above, IsAtOrAbove, wildcard_under}
 use Rattle.zone_proto.specs.Sets.{RRset}
 use Rattle.zone_proto.specs.Types.{NSEC3}
 use Rattle.zone_proto.proofs.Members.{In, In-Contains, Contains-In, In-filter_map}
@@ -16,9 +16,9 @@ use Rattle.zone_map.specs.Zones.{Sets, set_at, owns}
 use Rattle.zone_denial.specs.ChainLaws.{Nsec3ChainFindsOrEncloses}
 use Rattle.zone_denial.specs.Chains.{IsNsec3Chain}
 use Rattle.zone_denial.specs.Nsec3Circle.{digests, next_digest}
-use Rattle.zone_denial.specs.Nsec3Denial.{match_owner, cover_owner, result_and_then, has_match, match_of, cover_of, encloser_of, star_part, enclosed, next_closer}
+use Rattle.zone_denial.specs.Nsec3Denial.{match_owner, cover_owner, result_and_then, has_match, match_of, cover_of, encloser_of, wildcard_part, enclosed, next_closer}
 use Rattle.zone_denial.specs.Nsec3Laws.{IsSetOf, ProvesEncloserOn, FindsOrEnclosesOn}
-use Rattle.zone_denial.specs.Nsec3Zones.{IsHashedOn, TellsApart}
+use Rattle.zone_denial.specs.Nsec3Zones.{IsHashedOn, HasDistinctDigests}
 use Rattle.zone_denial.specs.TypeLists.{in_order}
 use Rattle.zone_denial.proofs.Hashed.Nsec3Enclosers.{walked}
 use Rattle.zone_denial.proofs.InOrder.{In-in_order}
@@ -26,7 +26,7 @@ use Rattle.zone_denial.proofs.Chains.Nsec3Covers.{IsCover, has_cover}
 use Rattle.zone_denial.proofs.Chains.Nsec3Names.{is_named, named_in, in_named, root_off, IsEnclosed, enclosed_off}
 use Rattle.zone_denial.proofs.Chains.Nsec3Owners.{owner, named_hashed, set_of_named, named_owns, is_owner, owns_as_named}
 
-module _ {origin : Name} {m : Sets} {hash : Name → Option (List ℕ)} {parameters : Nsec3Parameters} {names : List Name} {x : Name} (zone : IsNsec3Chain origin m hash parameters names) (apart : TellsApart (IsHashedOn names x) hash) where
+module _ {origin : Name} {beside m : Sets} {hash : Name → Option (List ℕ)} {parameters : Nsec3Parameters} {names : List Name} {x : Name} (zone : IsNsec3Chain origin beside m hash parameters names) (apart : HasDistinctDigests (IsHashedOn names x) hash) where
   abbrev hashed : Name → Result Name ProtoError
   hashed n = owner_or_refusal origin (hash n)
 
@@ -63,11 +63,12 @@ module _ {origin : Name} {m : Sets} {hash : Name → Option (List ℕ)} {paramet
     closer_hashed : Hashed c
     closer_hashed = hashed_above c e.closer_at e.closer_below
 
-    pub star_hashed : Hashed (star_under a)
-    star_hashed = inr (a, e.is_encloser, inr refl)
+    pub wildcard_hashed : Hashed (wildcard_under a)
+    wildcard_hashed = inr (a, e.is_encloser, inr refl)
 
-    pub encloser_is : encloser_of m hashed x ≡ Ok (Some a)
-    encloser_is = walked (has_match m hashed) on_chain (root_off names origin zone.begins zone.below_root (λ n i. (zone.authoritative n i).0)) x a e.is_encloser (λ n above below. match_test n (hashed_above n above below))
+    -- the port asks no set of the root
+    pub encloser_is : origin ≢ [] → encloser_of m hashed x ≡ Ok (Some a)
+    encloser_is below_root = walked (has_match m hashed) on_chain (root_off names origin zone.begins below_root (λ n i. (zone.authoritative n i).0)) x a e.is_encloser (λ n above below. match_test n (hashed_above n above below))
 
   -- ---- an answer that has these sets proves the encloser
 
@@ -101,9 +102,9 @@ module _ {origin : Name} {m : Sets} {hash : Name → Option (List ℕ)} {paramet
         has_cover = has_cover s.0 s.1;
       }
 
-  -- ---- the answer, whatever is said of the star
+  -- ---- the answer, whatever is said of the wildcard
 
-  -- with the encloser a: what matches it, what covers the next closer name, and the star's part
+  -- with the encloser a: what matches it, what covers the next closer name, and the wildcard's part
   abbrev enclosed_with : (Name → Result (List Name) ProtoError) → Name → Result (List Name) ProtoError
   enclosed_with part a =
       result_and_then (λ closer. result_and_then (λ encloser. result_and_then (λ star. Ok (encloser ++ closer ++ star)) (part a)) (match_of m hashed a))
@@ -147,8 +148,8 @@ module _ {origin : Name} {m : Sets} {hash : Name → Option (List ℕ)} {paramet
       pub is_cover : IsCover zone apart c cover
       pub has : (o : Name) → In o (owner zone apart a ∷ owner zone apart cover ∷ star) → Has answer o
 
-    pub answer_off : (In x names → ⊥) → (a c : Name) → IsEnclosed names x a c → (star : List Name) → part a ≡ Ok star → (answer : List RRset) × IsEnclosing a c star answer
-    answer_off off a c e star star_is =
+    pub answer_off : origin ≢ [] → (In x names → ⊥) → (a c : Name) → IsEnclosed names x a c → (star : List Name) → part a ≡ Ok star → (answer : List RRset) × IsEnclosing a c star answer
+    answer_off below_root off a c e star star_is =
         let cover = has_cover zone apart c (closer_hashed a c e) e.off in
         let owners : List Name = owner zone apart a ∷ owner zone apart cover.0 ∷ star in
         let closer_is : option_map_or (cover_of m hashed) (next_closer x a) (Ok []) ≡ Ok (owner zone apart cover.0 ∷ []) =
@@ -157,7 +158,7 @@ module _ {origin : Name} {m : Sets} {hash : Name → Option (List ℕ)} {paramet
         with_some a
         ∙ (λ i. result_and_then (λ closer. result_and_then (λ encloser. result_and_then (λ star. Ok (encloser ++ closer ++ star)) (star_is i)) (match_is a e.on i)) (closer_is i)) in
         let rest : of_encloser ≡ Ok (in_order name_cmp owners) =
-        ap (result_and_then (λ encloser. result_and_then (λ owners. Ok (in_order name_cmp owners)) (with_encloser encloser))) (encloser_is a c e)
+        ap (result_and_then (λ encloser. result_and_then (λ owners. Ok (in_order name_cmp owners)) (with_encloser encloser))) (encloser_is a c e below_root)
         ∙ ap (result_and_then (λ owners. Ok (in_order name_cmp owners))) made in
         let answer : List RRset = filter_map (λ o. set_at m o NSEC3) (in_order name_cmp owners) in (
           answer,
@@ -174,9 +175,9 @@ module _ {origin : Name} {m : Sets} {hash : Name → Option (List ℕ)} {paramet
         unnamed false h = h
 
     -- both, where the star's part is no refusal
-    pub answer_is : is_at_or_above origin x ≡ true → ((a : Name) → Hashed (star_under a) → (star : List Name) × (part a ≡ Ok star))
+    pub answer_is : origin ≢ [] → is_at_or_above origin x ≡ true → ((a : Name) → Hashed (wildcard_under a) → (star : List Name) × (part a ≡ Ok star))
         → (answer : List RRset) × (denial ≡ Ok answer) × FindsOrEnclosesOn origin m hash names x answer
-    answer_is inside star_is = by (on_chain x) refl
+    answer_is below_root inside star_is = by (on_chain x) refl
       where
         by : (b : Bool) → on_chain x ≡ b → (answer : List RRset) × (denial ≡ Ok answer) × FindsOrEnclosesOn origin m hash names x answer
         by true e =
@@ -186,8 +187,8 @@ module _ {origin : Name} {m : Sets} {hash : Name → Option (List ℕ)} {paramet
         by false e =
             let off = λ (i : In x names). true≢false (sym (in_named names x i) ∙ e) in
             let n = enclosed_off names origin zone.begins x inside off in
-            let star = star_is n.0 (star_hashed n.0 n.1 n.2) in
-            let r = answer_off off n.0 n.1 n.2 star.0 star.1 in (
+            let star = star_is n.0 (wildcard_hashed n.0 n.1 n.2) in
+            let r = answer_off below_root off n.0 n.1 n.2 star.0 star.1 in (
               r.0,
               r.1.given,
               record {
@@ -196,15 +197,15 @@ module _ {origin : Name} {m : Sets} {hash : Name → Option (List ℕ)} {paramet
               },
             )
 
-  -- the owners of the star's part: of what matches the star, or else of what covers it
+  -- the owners of the wildcard's part: of what matches the wildcard, or else of what covers it
   abbrev pub star_owners : Name → List Name
-  star_owners a = option_to_list (option_or (match_owner m (owner zone apart (star_under a))) (cover_owner m (owner zone apart (star_under a))))
+  star_owners a = option_to_list (option_or (match_owner m (owner zone apart (wildcard_under a))) (cover_owner m (owner zone apart (wildcard_under a))))
 
-  -- it is no refusal where the star is hashed
-  pub star_answered : (a : Name) → Hashed (star_under a) → star_part m hashed a ≡ Ok (star_owners a)
-  star_answered a h = ap (result_and_then (λ h. Ok (option_to_list (option_or (match_owner m h) (cover_owner m h))))) (is_owner zone apart (star_under a) h)
+  -- it is no refusal where the wildcard is hashed
+  pub star_answered : (a : Name) → Hashed (wildcard_under a) → wildcard_part m hashed a ≡ Ok (star_owners a)
+  star_answered a h = ap (result_and_then (λ h. Ok (option_to_list (option_or (match_owner m h) (cover_owner m h))))) (is_owner zone apart (wildcard_under a) h)
 
 pub finds_or_encloses : Nsec3ChainFindsOrEncloses
-finds_or_encloses origin m hash parameters names zone x inside apart =
+finds_or_encloses origin beside m hash parameters names zone below_root x inside apart =
     let hashed : Name → Result Name ProtoError = λ n. owner_or_refusal origin (hash n) in
-    answer_is zone apart (enclosed m hashed false x) (star_part m hashed) (λ a. refl) inside (λ a h. (star_owners zone apart a, star_answered zone apart a h))
+    answer_is zone apart (enclosed m hashed false x) (wildcard_part m hashed) (λ a. refl) below_root inside (λ a h. (star_owners zone apart a, star_answered zone apart a h))

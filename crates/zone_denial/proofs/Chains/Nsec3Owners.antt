@@ -14,11 +14,11 @@ use Rattle.zone_map.proofs.Lists.{owner_named}
 use Rattle.zone_map.proofs.Owned.{owner_in, owner_owned}
 use Rattle.zone_denial.specs.Chains.{IsInNsec3Chain, IsNsec3Chain}
 use Rattle.zone_denial.specs.Nsec3Circle.{digests}
-use Rattle.zone_denial.specs.Nsec3Zones.{IsHashedOn, TellsApart}
+use Rattle.zone_denial.specs.Nsec3Zones.{IsHashedOn, HasDistinctDigests}
 use Rattle.zone_denial.proofs.Chains.Nsec3Names.{is_named, named_in, in_named, origin_in}
 use Rattle.zone_denial.proofs.Hashed.Nsec3Owners.{owner_faults, same_value, sort_as_digests, same_by_owner, digest_among, name_of_among}
 
-module _ {origin : Name} {m : Sets} {hash : Name → Option (List ℕ)} {parameters : Nsec3Parameters} {names : List Name} {x : Name} (zone : IsNsec3Chain origin m hash parameters names) (apart : TellsApart (IsHashedOn names x) hash) where
+module _ {origin : Name} {beside m : Sets} {hash : Name → Option (List ℕ)} {parameters : Nsec3Parameters} {names : List Name} {x : Name} (zone : IsNsec3Chain origin beside m hash parameters names) (apart : HasDistinctDigests (IsHashedOn names x) hash) where
   abbrev pub Hashed : Name → Type 0
   Hashed n = IsHashedOn names x n
 
@@ -31,7 +31,7 @@ module _ {origin : Name} {m : Sets} {hash : Name → Option (List ℕ)} {paramet
 
   -- ---- the names of the chain own NSEC3 there
 
-  pub set_of_named : (n : Name) → In n names → (s : RRset) × (set_at m (owner n) NSEC3 ≡ Some s) × IsInNsec3Chain origin m hash parameters names n (apart.digest n) s
+  pub set_of_named : (n : Name) → In n names → (s : RRset) × (set_at m (owner n) NSEC3 ≡ Some s) × IsInNsec3Chain origin beside m hash parameters names n (apart.digest n) s
   set_of_named n i = zone.one_for_each n (apart.digest n) (In-Contains n names i) (apart.answers n (named_hashed n i))
 
   pub named_owns : (n : Name) → In n names → owns m (owner n) NSEC3 ≡ true

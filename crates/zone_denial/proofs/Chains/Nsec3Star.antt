@@ -1,28 +1,29 @@
--- On a chain of NSEC3 sets, the denial of a name off it has the set of the star under the closest encloser, or covers the star
+-- On a chain of NSEC3 sets, the denial of a name off it has the set of the wildcard at the closest encloser, or covers
+-- the wildcard
 use Rattle.std.proofs.Common.{◌≡◌, ℕ, Bool, true, false, cond, List, [], ◌∷◌, refl, sym, ap, ◌∙◌, subst, inl, inr}
-use Rattle.std.specs.Prelude.{Option, Some, None, Result, Ok, option_map, option_to_list}
+use Rattle.std.specs.Prelude.{◌≢◌, Option, Some, None, Result, Ok, option_map, option_to_list}
 use Rattle.std.specs.List.{Contains}
 use Rattle.std.specs.Option.{option_or}
 use Rattle.zone_proto.specs.declared.error.ProtoError.{ProtoError}
 use Rattle.zone_proto.specs.declared.rdata.denial.NSEC3PARAM.{NSEC3PARAM as Nsec3Parameters}
 use Rattle.zone_proto.specs.HashedOwners.{owner_or_refusal}
-use Rattle.zone_proto.specs.Names.{Name, is_at_or_above, star_under}
+use Rattle.zone_proto.specs.Names.{Name, is_at_or_above, wildcard_under}
 use Rattle.zone_proto.specs.Sets.{RRset}
 use Rattle.zone_proto.specs.Types.{NSEC3}
 use Rattle.zone_proto.proofs.Members.{In, In-Contains, Contains-In}
 use Rattle.zone_map.specs.Zones.{Sets, owns}
-use Rattle.zone_denial.specs.ChainLaws.{Nsec3ChainProvesStar}
+use Rattle.zone_denial.specs.ChainLaws.{Nsec3ChainProvesWildcard}
 use Rattle.zone_denial.specs.Chains.{IsNsec3Chain}
 use Rattle.zone_denial.specs.Nsec3Circle.{digests, next_digest}
-use Rattle.zone_denial.specs.Nsec3Denial.{cover_owner, enclosed, star_part, nsec3_denial}
-use Rattle.zone_denial.specs.Nsec3Laws.{HasSetOrCoverOn, ProvesStarOn}
-use Rattle.zone_denial.specs.Nsec3Zones.{IsHashedOn, TellsApart}
+use Rattle.zone_denial.specs.Nsec3Denial.{cover_owner, enclosed, wildcard_part, nsec3_denial}
+use Rattle.zone_denial.specs.Nsec3Laws.{HasSetOrCoverOn, ProvesWildcardOn}
+use Rattle.zone_denial.specs.Nsec3Zones.{IsHashedOn, HasDistinctDigests}
 use Rattle.zone_denial.proofs.Chains.Nsec3Covers.{has_cover}
 use Rattle.zone_denial.proofs.Chains.Nsec3Names.{is_named, named_in, IsEnclosed, enclosed_off}
-use Rattle.zone_denial.proofs.Chains.Nsec3Encloses.{Has, star_hashed, star_owners, star_answered, answer_off}
+use Rattle.zone_denial.proofs.Chains.Nsec3Encloses.{Has, wildcard_hashed, star_owners, star_answered, answer_off}
 use Rattle.zone_denial.proofs.Chains.Nsec3Owners.{named_hashed, owner, set_of_named, named_owns, owns_as_named}
 
-module _ {origin : Name} {m : Sets} {hash : Name → Option (List ℕ)} {parameters : Nsec3Parameters} {names : List Name} {x : Name} (zone : IsNsec3Chain origin m hash parameters names) (apart : TellsApart (IsHashedOn names x) hash) where
+module _ {origin : Name} {beside m : Sets} {hash : Name → Option (List ℕ)} {parameters : Nsec3Parameters} {names : List Name} {x : Name} (zone : IsNsec3Chain origin beside m hash parameters names) (apart : HasDistinctDigests (IsHashedOn names x) hash) where
   abbrev hashed : Name → Result Name ProtoError
   hashed n = owner_or_refusal origin (hash n)
 
@@ -30,9 +31,9 @@ module _ {origin : Name} {m : Sets} {hash : Name → Option (List ℕ)} {paramet
       (has : (o : Name) → In o (star_owners zone apart a) → Has zone apart answer o)
     where
       abbrev star : Name
-      star = star_under a
+      star = wildcard_under a
 
-      -- the owners of the star's part, by whether its hashed owner owns NSEC3
+      -- the owners of the wildcard's part, by whether its hashed owner owns NSEC3
       owners_are : (b : Bool) → owns m (owner zone apart star) NSEC3 ≡ b
           → star_owners zone apart a ≡ option_to_list (option_or (cond b (Some (owner zone apart star)) None) (cover_owner m (owner zone apart star)))
       owners_are b h = ap (λ b. option_to_list (option_or (cond b (Some (owner zone apart star)) None) (cover_owner m (owner zone apart star)))) h
@@ -42,9 +43,9 @@ module _ {origin : Name} {m : Sets} {hash : Name → Option (List ℕ)} {paramet
         on = λ on.
             let i = Contains-In star names on in
             let s = set_of_named zone apart star i in
-            (s.0, (apart.digest star, apart.answers star (star_hashed zone apart a c e), s.1), has (owner zone apart star) (subst (In (owner zone apart star)) (sym (owners_are true (named_owns zone apart star i))) (inl refl)) s.0 s.1);
+            (s.0, (apart.digest star, apart.answers star (wildcard_hashed zone apart a c e), s.1), has (owner zone apart star) (subst (In (owner zone apart star)) (sym (owners_are true (named_owns zone apart star i))) (inl refl)) s.0 s.1);
         off = λ off.
-            let h = star_hashed zone apart a c e in
+            let h = wildcard_hashed zone apart a c e in
             let cover = has_cover zone apart star h (λ i. off (In-Contains star names i)) in
             let s = set_of_named zone apart cover.0 cover.1.on in
             let is : star_owners zone apart a ≡ owner zone apart cover.0 ∷ [] = owners_are false (owns_as_named zone apart star h ∙ unnamed off (is_named names star) refl) ∙ ap option_to_list cover.1.is_cover in (
@@ -67,12 +68,12 @@ module _ {origin : Name} {m : Sets} {hash : Name → Option (List ℕ)} {paramet
           unnamed off true h = absurd (off (In-Contains star names (named_in names star h)))
           unnamed off false h = h
 
-  star_of_denial : is_at_or_above origin x ≡ true → (Contains names x → ⊥)
-      → (answer : List RRset) × (nsec3_denial m hashed false x ≡ Ok answer) × ProvesStarOn origin m hash names x answer
-  star_of_denial inside off =
+  star_of_denial : origin ≢ [] → is_at_or_above origin x ≡ true → (Contains names x → ⊥)
+      → (answer : List RRset) × (nsec3_denial m hashed false x ≡ Ok answer) × ProvesWildcardOn origin m hash names x answer
+  star_of_denial below_root inside off =
       let away = λ (i : In x names). off (In-Contains x names i) in
       let n = enclosed_off names origin zone.begins x inside away in
-      let r = answer_off zone apart (enclosed m hashed false x) (star_part m hashed) (λ a. refl) away n.0 n.1 n.2 (star_owners zone apart n.0) (star_answered zone apart n.0 (star_hashed zone apart n.0 n.1 n.2)) in (
+      let r = answer_off zone apart (enclosed m hashed false x) (wildcard_part m hashed) (λ a. refl) below_root away n.0 n.1 n.2 (star_owners zone apart n.0) (star_answered zone apart n.0 (wildcard_hashed zone apart n.0 n.1 n.2)) in (
         r.0,
         r.1.given,
         record {
@@ -82,5 +83,5 @@ module _ {origin : Name} {m : Sets} {hash : Name → Option (List ℕ)} {paramet
         },
       )
 
-pub proves_star : Nsec3ChainProvesStar
-proves_star origin m hash parameters names zone x inside apart off = star_of_denial zone apart inside off
+pub proves_star : Nsec3ChainProvesWildcard
+proves_star origin beside m hash parameters names zone below_root x inside apart off = star_of_denial zone apart below_root inside off

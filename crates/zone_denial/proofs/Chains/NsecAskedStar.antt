@@ -1,8 +1,8 @@
--- What a chain of NSEC sets says of the star that a search asks
+-- What a chain of NSEC sets says of the wildcard that a search asks
 use Rattle.std.proofs.Common.{◌≡◌, ℕ, Bool, true, false, not, ◌&&◌, ◌||◌, [], refl, sym, ap, ◌∙◌, true≢false, ◌⊎◌, inl, inr, eqb-true}
 use Rattle.std.specs.Prelude.{Some, unwrap_or, option_map, ◌==◌}
 use Rattle.std.specs.Cmp.{both_ways}
-use Rattle.zone_proto.specs.Names.{Name, is_at_or_above, IsAbove, IsAtOrAbove, star_under}
+use Rattle.zone_proto.specs.Names.{Name, is_at_or_above, IsAbove, IsAtOrAbove, wildcard_under}
 use Rattle.zone_proto.specs.Types.{NSEC, NSEC3}
 use Rattle.zone_proto.proofs.Members.{In-from_any, any_from_In, and_left, and_right, not_true}
 use Rattle.zone_proto.proofs.Names.NameTree.{above_test, above_is_less, is_at_or_above_sound, is_at_or_above_complete}
@@ -12,11 +12,11 @@ use Rattle.zone_map.specs.Wildcards.{exists}
 use Rattle.zone_map.specs.Zones.{Sets, owns, owners, names_of, owns_at_or_below}
 use Rattle.zone_map.proofs.Owned.{owner_in, owner_owned, name_owned}
 use Rattle.zone_denial.specs.Authority.{is_below_cut, owns_besides}
-use Rattle.zone_denial.specs.ChainLaws.{ChainEnclosersAgree, ChainProvedStarIsAsked, ChainAbsentStarIsDenied}
+use Rattle.zone_denial.specs.ChainLaws.{ChainEnclosersAgree, ChainProvedWildcardIsAsked, ChainAbsentWildcardIsDenied}
 use Rattle.zone_denial.specs.Chains.{is_below_dname, IsNsecChain}
 use Rattle.zone_denial.specs.NsecDenial.{owns_nsec_at_or_below, nsec_encloser}
-use Rattle.zone_denial.specs.StarLaws.{OwnsNone}
-use Rattle.zone_denial.proofs.Chain.NsecAskedStar.{other_type, absent_star}
+use Rattle.zone_denial.specs.WildcardLaws.{OwnsNone}
+use Rattle.zone_denial.proofs.Chain.NsecAskedStar.{other_type, absent_wildcard}
 use Rattle.zone_denial.proofs.Chain.NsecLists.{off_circle}
 use Rattle.zone_denial.proofs.Chains.NsecBelow.{open_above, owner_under}
 use Rattle.zone_denial.proofs.Chains.NsecStar.{proves_star}
@@ -119,12 +119,12 @@ enclosers_agree origin m h none x below uncut plain =
     let u = (above_test origin x).0 below in
     (there origin m h none x u uncut plain).1.found ∙ ap Some (sym (agree origin m h none x u uncut plain))
 
-pub proved_star_is_asked : ChainProvedStarIsAsked
+pub proved_star_is_asked : ChainProvedWildcardIsAsked
 proved_star_is_asked origin m h none x below uncut plain star absent =
-    asked_is m origin x ((above_test origin x).0 below) star absent ∙ ap (option_map star_under) (enclosers_agree origin m h none x below uncut plain)
+    asked_is m origin x ((above_test origin x).0 below) star absent ∙ ap (option_map wildcard_under) (enclosers_agree origin m h none x below uncut plain)
 
-pub absent_star_is_denied : ChainAbsentStarIsDenied
-absent_star_is_denied origin m h none x inside uncut plain unstarred unowned gone =
+pub absent_wildcard_is_denied : ChainAbsentWildcardIsDenied
+absent_wildcard_is_denied origin m h none x inside uncut plain not_wildcard unowned gone =
     record { off = off; covered = (proves_star origin m h x inside (off_circle m x unowned)).off off }
   where
     below : IsAbove origin x
@@ -134,15 +134,15 @@ absent_star_is_denied origin m h none x inside uncut plain unstarred unowned gon
         by (inl e) = absurd (true≢false (sym h.begins ∙ ap (λ a. owns m a NSEC) e ∙ off_circle m x unowned))
         by (inr w) = w
 
-    off : owns m (star_under (nsec_encloser origin m x)) NSEC ≡ false
-    off = by (owns m (star_under (nsec_encloser origin m x)) NSEC) refl
+    off : owns m (wildcard_under (nsec_encloser origin m x)) NSEC ≡ false
+    off = by (owns m (wildcard_under (nsec_encloser origin m x)) NSEC) refl
       where
-        by : (b : Bool) → owns m (star_under (nsec_encloser origin m x)) NSEC ≡ b → b ≡ false
+        by : (b : Bool) → owns m (wildcard_under (nsec_encloser origin m x)) NSEC ≡ b → b ≡ false
         by false e = refl
         by true e =
             let t = there origin m h none x below uncut plain in
             absurd
             (true≢false
-            (sym (there_from origin m h none (star_under (nsec_encloser origin m x)) (star_under (nsec_encloser origin m x)) NSEC e ([], refl))
-            ∙ ap (λ n. exists m (star_under n)) (agree origin m h none x below uncut plain)
-            ∙ absent_star m origin x t.0 below unstarred unowned gone t.1.found))
+            (sym (there_from origin m h none (wildcard_under (nsec_encloser origin m x)) (wildcard_under (nsec_encloser origin m x)) NSEC e ([], refl))
+            ∙ ap (λ n. exists m (wildcard_under n)) (agree origin m h none x below uncut plain)
+            ∙ absent_wildcard m origin x t.0 below not_wildcard unowned gone t.1.found))

@@ -49,7 +49,7 @@ module _ (origin : Name) (m : Sets) (x : Name) (uncut : is_below_cut origin m x 
   no_dname_above : (a : Name) → IsAbove a x → owns m a DNAME ≡ false
   no_dname_above a u = not_owned a DNAME (λ k. none_passes (λ a. is_above a x) a (owners m DNAME) plain (owner_in m a DNAME k) ((above_test a x).1 u))
 
-  -- the ancestors of a name that stands below no zone cut and no DNAME
+  -- the ancestors of a name that is below no zone cut and no DNAME
   pub open_above : (e : Name) → IsAbove e x → IsOpen origin m e
   open_above e u = record { no_cut = λ a v. no_cut_above a (above_above a e x v u); no_dname = λ a v. no_dname_above a (above_above a e x v u) }
 
@@ -65,7 +65,8 @@ module _ (origin : Name) (m : Sets) (x : Name) (uncut : is_below_cut origin m x 
       of_dname a (inl e) = ap (λ n. owns m n DNAME) e ∙ dname
       of_dname a (inr u) = no_dname_above a u
 
--- of the names at or below one of these that pass a test, each of which owns a set, the first stands below no zone cut and no DNAME, if those pass
+-- of the names at or below one of these that pass a test, each of which owns a set, the first is below no zone cut and
+-- no DNAME, if those pass
 module _ (origin : Name) (m : Sets) (p : Name → Bool) (cuts : (a : Name) → owns m a NS ≡ true → p a ≡ true) (dnames : (a : Name) → owns m a DNAME ≡ true → p a ≡ true) (e : Name) (open_at : IsOpen origin m e) where
   abbrev below : List Name
   below = filter (λ n. is_at_or_above e n && p n) (names_of m)
@@ -98,7 +99,7 @@ module _ (origin : Name) (m : Sets) (p : Name → Bool) (cuts : (a : Name) → o
       sides : (z a : Name) → IsAtOrAbove e z → IsAbove a z → IsAtOrAbove e a ⊎ IsAtOrAbove a e
       sides z a u v = let w = above_at a z v in comparable u.0 w.0 e a (sym u.1 ∙ w.1)
 
-      -- another that passes doesn't stand above the first
+      -- another that passes doesn't are above the first
       none_above : (z a : Name) (t : ℕ) → IsTop (flipped name_order) below z → IsAbove a z → owns m a t ≡ true → p a ≡ true → IsAtOrAbove e a → ⊥
       none_above z a t g v k q u = g.none_greater a (below_in a t k u q) (above_is_less a z v)
 
@@ -126,7 +127,7 @@ module _ (origin : Name) (m : Sets) (p : Name → Bool) (cuts : (a : Name) → o
           by a k v (inr u) = true≢false (sym k ∙ open_at.no_dname a u)
 
 module _ (origin : Name) (m : Sets) (h : IsNsecChain origin m) where
-  -- with a set at or below a name where nothing refers elsewhere, an owner of NSEC stands there
+  -- with a set at or below a name where nothing refers elsewhere, an owner of NSEC is there
   pub owner_under : (e : Name) → is_at_or_above origin e ≡ true → IsOpen origin m e → owns_at_or_below m e ≡ true → (z : Name) × (owns m z NSEC ≡ true) × IsAtOrAbove e z
   owner_under e inside open_at some =
       let r = In-from_any (is_at_or_above e) (names_of m) some in
@@ -148,7 +149,7 @@ module _ (origin : Name) (m : Sets) (h : IsNsecChain origin m) where
               of (inl k) = sym q ∙ k
               of (inr d) = absurd (true≢false (sym d ∙ f.plain))
 
--- ---- an empty name with an owner below it, and neither zone cut nor DNAME above it
+-- ---- an empty non-terminal with an owner below it, and neither zone cut nor DNAME above it
 
 module _ (origin : Name) (m : Sets) (h : IsNsecChain origin m) (x : Name) (inside : is_at_or_above origin x ≡ true) (empty : types_at m x ≡ []) where
   owns_none : (t : ℕ) → owns m x t ≡ false
@@ -158,7 +159,8 @@ module _ (origin : Name) (m : Sets) (h : IsNsecChain origin m) (x : Name) (insid
       by true k = absurd (subst (In t) empty (type_in m x t k))
       by false k = refl
 
-  -- an owner of NSEC below it makes the closest owner's next name stand below it: that is past x and not past the owner, and descendants stand together
+  -- an owner of NSEC below it makes the closest owner's next name are below it: that is past x and not past the owner,
+  -- and descendants stand together
   module _ (d : Name) (on : owns m d NSEC ≡ true) (over : IsAbove x d) where
     next_below : (o : Name) → IsClosest origin m x o → is_above x (next_owner origin m o) ≡ true
     next_below o c = by (next_is origin m h o)

@@ -20,7 +20,7 @@ use Rattle.zone_map.proofs.Owned.{has_entry, set_of}
 use Rattle.zone_map.proofs.Walks.{own_cut, referral_split}
 use Rattle.zone_denial.specs.Authority.{is_below_cut}
 use Rattle.zone_denial.specs.ChainLaws.{IsListedInChain, ChainListsAllOwned, ChainDenialsAgree}
-use Rattle.zone_denial.specs.Chains.{is_delegation, is_below_dname, is_told_at_delegation, tells, IsRightList, IsInNsecChain, IsNsecChain}
+use Rattle.zone_denial.specs.Chains.{is_delegation, is_below_dname, is_stated_at_delegation, is_stated, IsRightList, IsInNsecChain, IsNsecChain}
 use Rattle.zone_denial.specs.NsecCircle.{types_of}
 use Rattle.zone_denial.specs.NsecLaws.{IsDenied}
 use Rattle.zone_denial.proofs.Names.AuthoritativeNames.{authoritative_from, besides_alone}
@@ -46,12 +46,12 @@ not_delegation origin m n h = by (is_delegation origin m n) refl
 -- ---- a right list
 
 module _ (origin : Name) (m : Sets) (n : Name) (types : List ℕ) (r : IsRightList origin m n types) where
-  pub list_right : (t : ℕ) → t ≢ RRSIG → t ≢ NSEC3 → tells origin m n t ≡ true → Contains types t ↔ (owns m n t ≡ true)
-  list_right t a b k = by (is_delegation origin m n) refl k
+  pub list_right : (t : ℕ) → t ≢ RRSIG → t ≢ NSEC → t ≢ NSEC3 → is_stated origin m n t ≡ true → Contains types t ↔ (owns m n t ≡ true)
+  list_right t a w b k = by (is_delegation origin m n) refl k
     where
-      by : (d : Bool) → is_delegation origin m n ≡ d → not d || is_told_at_delegation t ≡ true → Contains types t ↔ (owns m n t ≡ true)
+      by : (d : Bool) → is_delegation origin m n ≡ d → not d || is_stated_at_delegation t ≡ true → Contains types t ↔ (owns m n t ≡ true)
       by true e p = r.at_delegation e t p
-      by false e p = r.exact e t a b
+      by false e p = r.exact e t a w b
 
   -- RRSIG, if it is owned
   pub list_signed : owns m n RRSIG ≡ true → is_delegation origin m n ≡ false → Contains types RRSIG
@@ -69,12 +69,15 @@ module _ (origin : Name) (m : Sets) (h : IsNsecChain origin m) (n : Name) where
   list_is : (s : RRset) → set_at m n NSEC ≡ Some s → (types : List ℕ) → types_of s ≡ Some types → types ≡ listed_types m n
   list_is s e types said = sym (ap (λ p. unwrap_or p []) (ap (option_and_then types_of) e ∙ said))
 
-  pub of_owner : (on : owns m n NSEC ≡ true) → IsRightList origin m n (listed_types m n) × (Contains (listed_types m n) NSEC3 ↔ (owns m n NSEC3 ≡ true))
+  pub of_owner : (on : owns m n NSEC ≡ true) → IsRightList origin m n (listed_types m n) × (Contains (listed_types m n) NSEC3 ↔ (owns m n NSEC3 ≡ true)) × (is_delegation origin m n ≡ false → Contains (listed_types m n) NSEC)
   of_owner on =
       let s = set_of m n NSEC on in
       let c : IsInNsecChain origin m n s.0 = h.each n s.0 s.1 in
-      let same : c.types ≡ listed_types m n = list_is s.0 s.1 c.types c.listed in
-      (subst (IsRightList origin m n) same c.right, subst (λ ts. Contains ts NSEC3 ↔ (owns m n NSEC3 ≡ true)) same c.hashed)
+      let same : c.types ≡ listed_types m n = list_is s.0 s.1 c.types c.listed in (
+        subst (IsRightList origin m n) same c.right,
+        subst (λ ts. Contains ts NSEC3 ↔ (owns m n NSEC3 ≡ true)) same c.hashed,
+        λ d. subst (λ ts. Contains ts NSEC) same (c.own d),
+      )
 
   pub types_are : owns m n NSEC ≡ true → option_and_then types_of (set_at m n NSEC) ≡ Some (listed_types m n)
   types_are on =
@@ -83,12 +86,21 @@ module _ (origin : Name) (m : Sets) (h : IsNsecChain origin m) (n : Name) where
       ap (option_and_then types_of) s.1 ∙ c.listed ∙ ap Some (list_is s.0 s.1 c.types c.listed)
 
   -- whatever it tells of is listed exactly where it is owned
-  pub list_exact : owns m n NSEC ≡ true → (t : ℕ) → t ≢ RRSIG → tells origin m n t ≡ true → Contains (listed_types m n) t ↔ (owns m n t ≡ true)
-  list_exact on t a k = by (t == NSEC3) refl
+  pub list_exact : owns m n NSEC ≡ true → (t : ℕ) → t ≢ RRSIG → is_stated origin m n t ≡ true → Contains (listed_types m n) t ↔ (owns m n t ≡ true)
+  list_exact on t a k = by (t == NSEC3) refl (t == NSEC) refl
     where
-      by : (b : Bool) → (t == NSEC3) ≡ b → Contains (listed_types m n) t ↔ (owns m n t ≡ true)
-      by true e = subst (λ u. Contains (listed_types m n) u ↔ (owns m n u ≡ true)) (sym (eqb-true t NSEC3 e)) (of_owner on).1
-      by false e = list_right origin m n (listed_types m n) (of_owner on).0 t a (λ q. true≢false (sym (eq-eqb t NSEC3 q) ∙ e)) k
+      told : t ≡ NSEC → (d : Bool) → is_delegation origin m n ≡ d → not d || is_stated_at_delegation t ≡ true → d ≡ false
+      told q false e p = refl
+      told q true e p = absurd (true≢false (sym p ∙ ap is_stated_at_delegation q))
+
+      own : t ≡ NSEC → Contains (listed_types m n) NSEC ↔ (owns m n NSEC ≡ true)
+      own q = (λ c. on, λ o. (of_owner on).2 (told q (is_delegation origin m n) refl k))
+
+      by : (b : Bool) → (t == NSEC3) ≡ b → (c : Bool) → (t == NSEC) ≡ c → Contains (listed_types m n) t ↔ (owns m n t ≡ true)
+      by true e c f = subst (λ u. Contains (listed_types m n) u ↔ (owns m n u ≡ true)) (sym (eqb-true t NSEC3 e)) (of_owner on).1
+      by false e true f = let q = eqb-true t NSEC f in subst (λ u. Contains (listed_types m n) u ↔ (owns m n u ≡ true)) (sym q) (own q)
+      by false e false f =
+          list_right origin m n (listed_types m n) (of_owner on).0 t a (λ q. true≢false (sym (eq-eqb t NSEC q) ∙ f)) (λ q. true≢false (sym (eq-eqb t NSEC3 q) ∙ e)) k
 
 -- ---- what is found at a delegation
 
@@ -119,11 +131,11 @@ module _ (origin : Name) (m : Sets) (h : IsNsecChain origin m) where
     off = λ off inside. of off inside (is_below_cut origin m x) refl;
   }
     where
-      told_rrsig : (d : Bool) → is_delegation origin m x ≡ d → t ≡ RRSIG → not d || is_told_at_delegation t ≡ true → d ≡ false
+      told_rrsig : (d : Bool) → is_delegation origin m x ≡ d → t ≡ RRSIG → not d || is_stated_at_delegation t ≡ true → d ≡ false
       told_rrsig false e q p = refl
-      told_rrsig true e q p = absurd (true≢false (sym p ∙ ap is_told_at_delegation q))
+      told_rrsig true e q p = absurd (true≢false (sym p ∙ ap is_stated_at_delegation q))
 
-      listed : owns m x NSEC ≡ true → tells origin m x t ≡ true → (b : Bool) → (t == RRSIG) ≡ b → Contains (listed_types m x) t
+      listed : owns m x NSEC ≡ true → is_stated origin m x t ≡ true → (b : Bool) → (t == RRSIG) ≡ b → Contains (listed_types m x) t
       listed on told false e = (list_exact origin m h x on t (λ q. true≢false (sym (eq-eqb t RRSIG q) ∙ e)) told).1 k
       listed on told true e =
           let q = eqb-true t RRSIG e in
@@ -143,7 +155,7 @@ module _ (origin : Name) (m : Sets) (h : IsNsecChain origin m) where
   pub is_denied : (signed : Bool) (x : Name) (t : ℕ) → t ≢ ANY → found m signed x (searched_type m x t) ≡ None → IsDenied m x t
   is_denied signed x t any e = record {
     name = off_circle m x;
-    type' = λ s types k said c. by (ap is_some k) (subst (λ ts. Contains ts t) (list_is origin m h x s k types said) c) (t == RRSIG) refl (tells origin m x t) refl;
+    type' = λ s types k said c. by (ap is_some k) (subst (λ ts. Contains ts t) (list_is origin m h x s k types said) c) (t == RRSIG) refl (is_stated origin m x t) refl;
   }
     where
       itself : searched_type m x t ≡ t
@@ -156,16 +168,16 @@ module _ (origin : Name) (m : Sets) (h : IsNsecChain origin m) where
       nothing : direct m x t ≡ None
       nothing = (neither (direct m x t) (wildcard m signed x t) (ap (found m signed x) (sym itself) ∙ e)).0
 
-      untold : (d : Bool) → is_delegation origin m x ≡ d → not d || is_told_at_delegation t ≡ false → ⊥
+      untold : (d : Bool) → is_delegation origin m x ≡ d → not d || is_stated_at_delegation t ≡ false → ⊥
       untold false q p = true≢false p
       untold true q p =
           let o = delegation_owns origin m x q in
-          true≢false (sym (ap is_told_at_delegation (only_ds m x t (not_root ((above_test origin x).0 (delegation_below origin m x q))) o.0 o.1 nothing)) ∙ p)
+          true≢false (sym (ap is_stated_at_delegation (only_ds m x t (not_root ((above_test origin x).0 (delegation_below origin m x q))) o.0 o.1 nothing)) ∙ p)
         where
           not_root : IsAbove origin x → x ≡ [] → ⊥
           not_root (l, f, u) v = cc
 
-      by : owns m x NSEC ≡ true → Contains (listed_types m x) t → (b : Bool) → (t == RRSIG) ≡ b → (c : Bool) → tells origin m x t ≡ c → t ≡ RRSIG
+      by : owns m x NSEC ≡ true → Contains (listed_types m x) t → (b : Bool) → (t == RRSIG) ≡ b → (c : Bool) → is_stated origin m x t ≡ c → t ≡ RRSIG
       by on i true q c told = eqb-true t RRSIG q
       by on i false q true told = absurd (not_found m signed x t e ((list_exact origin m h x on t (λ r. true≢false (sym (eq-eqb t RRSIG r) ∙ q)) told).0 i))
       by on i false q false told = absurd (untold (is_delegation origin m x) refl told)

@@ -8,7 +8,7 @@ use Rattle.std.specs.Ordering.{nat_cmp}
 use Rattle.zone_proto.specs.declared.nx_proof_kind.NxProofKind.{NxProofKind}
 use Rattle.zone_proto.specs.declared.rr_key.RrKey.{RrKey}
 use Rattle.zone_proto.specs.Keys.{key, key_eq}
-use Rattle.zone_proto.specs.Names.{Name, name_eq, is_root, is_wildcard, is_above, is_at_or_above, suffixes, proper_ancestors, star_under}
+use Rattle.zone_proto.specs.Names.{Name, name_eq, is_root, is_wildcard, is_above, is_at_or_above, suffixes, proper_ancestors, wildcard_under}
 use Rattle.zone_proto.specs.Order.{least}
 use Rattle.zone_proto.specs.Sets.{RRset}
 use Rattle.zone_proto.specs.Types.{NS, CNAME, SOA, DS, ANAME}
@@ -17,7 +17,7 @@ use Rattle.zone_proto.proofs.Ordering.KeyOrder.{key_same}
 use Rattle.zone_proto.proofs.Ordering.Orders.{greatest_is, number_order}
 use Rattle.zone_map.specs.Direct.{is_address, is_delegated_for, referral_at, types_for, direct}
 use Rattle.zone_map.specs.Upserts.{is_denial_type}
-use Rattle.zone_map.specs.Wildcards.{exists, asked_star, found, renamed}
+use Rattle.zone_map.specs.Wildcards.{exists, asked_wildcard, found, renamed}
 use Rattle.zone_map.specs.Zones.{Sets, set_at, owns, owners}
 use Rattle.zone_denial.specs.Authority.{is_below_cut}
 use Rattle.zone_denial.specs.ChainLaws.{ChainSetsKeepSets, ChainSetsKeepNames, ChainSetsKeepFound}
@@ -74,8 +74,8 @@ module _ (chain : Option NxProofKind) where
       by true q false r ih = ih ∙ sym (ap (λ b. b || exists m n) (none (is_at_or_above n e.0.name)))
       by false q false r ih = absurd (true≢false (sym (kept e q) ∙ r))
 
-  pub asked_same : (m : Sets) (n : Name) → asked_star (chain_sets chain m) n ≡ asked_star m n
-  asked_same m n = λ i. cond (is_root n || is_wildcard n || exists_same m n i) None (option_map star_under (find (λ a. exists_same m a i) (proper_ancestors n)))
+  pub asked_same : (m : Sets) (n : Name) → asked_wildcard (chain_sets chain m) n ≡ asked_wildcard m n
+  asked_same m n = λ i. cond (is_root n || is_wildcard n || exists_same m n i) None (option_map wildcard_under (find (λ a. exists_same m a i) (proper_ancestors n)))
 
   pub below_cut_same : (origin : Name) (m : Sets) (n : Name) → is_below_cut origin (chain_sets chain m) n ≡ is_below_cut origin m n
   below_cut_same origin m n = ap (list_any (λ a. is_above origin a && is_above a n)) (owners_same m NS refl)

@@ -10,7 +10,7 @@ use Rattle.zone_proto.specs.Sets.{RRset}
 use Rattle.zone_proto.specs.Types.{A, NS, CNAME, SOA, DS, RRSIG, NSEC, NSEC3}
 use Rattle.zone_proto.proofs.Members.{In, In-Contains, Contains-In, In-from_any, none_passes}
 use Rattle.zone_map.specs.Zones.{Sets, owns}
-use Rattle.zone_denial.specs.Chains.{chain_sets, is_told_at_delegation, is_delegation, IsRightList, may_be_left_out}
+use Rattle.zone_denial.specs.Chains.{chain_sets, is_stated_at_delegation, is_delegation, IsRightList, may_be_left_out}
 use Rattle.zone_denial.specs.Nsec3Names.{is_unsigned_delegation}
 use Rattle.zone_denial.proofs.Examples.NsecExamples.{origin, at_origin, entry, address, start}
 
@@ -34,7 +34,7 @@ not_unsigned = refl
 
 -- ---- lists of the delegation
 
-told : (t : ℕ) → is_told_at_delegation t ≡ true → (t ≡ NS) ⊎ ((t ≡ CNAME) ⊎ ((t ≡ SOA) ⊎ (t ≡ DS)))
+told : (t : ℕ) → is_stated_at_delegation t ≡ true → (t ≡ NS) ⊎ ((t ≡ CNAME) ⊎ ((t ≡ SOA) ⊎ (t ≡ DS)))
 told t e = by (t == NS) refl (t == CNAME) refl (t == SOA) refl (t == DS) refl e
   where
     by : (p : Bool) → (t == NS) ≡ p → (q : Bool) → (t == CNAME) ≡ q → (r : Bool) → (t == SOA) ≡ r → (s : Bool) → (t == DS) ≡ s → p || (q || (r || s)) ≡ true
@@ -81,10 +81,10 @@ with_ds r = true≢false (sym ((r.at_delegation refl DS refl).0 (In-Contains DS 
 
 -- of the host no list is right that denies its address, nor one that has a type of which there is no set
 without_address : IsRightList origin zone (at_origin (codes "a")) (RRSIG ∷ NSEC ∷ []) → ⊥
-without_address r = none_passes (λ u. u == A) A (RRSIG ∷ NSEC ∷ []) refl (Contains-In A (RRSIG ∷ NSEC ∷ []) ((r.exact refl A (λ e. omega (arith, e)) (λ e. omega (arith, e))).1 refl)) refl
+without_address r = none_passes (λ u. u == A) A (RRSIG ∷ NSEC ∷ []) refl (Contains-In A (RRSIG ∷ NSEC ∷ []) ((r.exact refl A (λ e. omega (arith, e)) (λ e. omega (arith, e)) (λ e. omega (arith, e))).1 refl)) refl
 
 with_servers : IsRightList origin zone (at_origin (codes "a")) (A ∷ NS ∷ NSEC ∷ []) → ⊥
-with_servers r = true≢false (sym ((r.exact refl NS (λ e. omega (arith, e)) (λ e. omega (arith, e))).0 (In-Contains NS (A ∷ NS ∷ NSEC ∷ []) (inr (inl refl)))))
+with_servers r = true≢false (sym ((r.exact refl NS (λ e. omega (arith, e)) (λ e. omega (arith, e)) (λ e. omega (arith, e))).0 (In-Contains NS (A ∷ NS ∷ NSEC ∷ []) (inr (inl refl)))))
 
 -- ---- two chains of NSEC3 sets, of the salts 170 and 204: those of the second don't belong to the first
 

@@ -6,7 +6,7 @@ use Rattle.zone_proto.specs.declared.error.ProtoError.TheVariants.{Hash, LabelTo
 use Rattle.zone_proto.specs.declared.rdata.RData.TheVariants as V
 use Rattle.zone_proto.specs.declared.rdata.denial.NSEC3PARAM.{NSEC3PARAM as Nsec3Parameters}
 use Rattle.zone_proto.specs.HashedOwners.{hashed_owner, owner_or_refusal}
-use Rattle.zone_proto.specs.Names.{Name, name_eq, star_under}
+use Rattle.zone_proto.specs.Names.{Name, name_eq, wildcard_under}
 use Rattle.zone_proto.specs.Sets.{RRset}
 use Rattle.zone_proto.specs.Types.{A, NS, SOA, DS, RRSIG, DNSKEY, NSEC3, NSEC3PARAM, IN}
 use Rattle.zone_map.specs.Zones.{Sets, put}
@@ -61,14 +61,14 @@ linked table m = with_sets table m (announced m) (nsec3_names origin m false)
 abbrev pub y : Name
 y = at_origin (codes "y")
 
--- an empty name above x.y
+-- an empty non-terminal above x.y
 abbrev pub deep : Sets
 deep = start ∷ public_key ∷ address (codes "x" ∷ y) ∷ []
 
 names_with_empty : nsec3_names origin deep false ≡ origin ∷ y ∷ (codes "x" ∷ y) ∷ []
 names_with_empty = refl
 
--- a zone cut without DS, one with, and one below an empty name; glue below the first
+-- a zone cut without DS, one with, and one below an empty non-terminal; glue below the first
 abbrev pub unsigned : Name
 unsigned = at_origin (codes "a")
 
@@ -117,7 +117,7 @@ abbrev pub b : Name
 b = at_origin (codes "b")
 
 abbrev pub table : List (Name × List ℕ)
-table = (origin, 64 ∷ []) ∷ (a, 128 ∷ []) ∷ (b, 32 ∷ []) ∷ (star_under origin, 96 ∷ []) ∷ (codes "x" ∷ a, 192 ∷ []) ∷ (star_under a, 48 ∷ []) ∷ (codes "x" ∷ b, 200 ∷ []) ∷ []
+table = (origin, 64 ∷ []) ∷ (a, 128 ∷ []) ∷ (b, 32 ∷ []) ∷ (wildcard_under origin, 96 ∷ []) ∷ (codes "x" ∷ a, 192 ∷ []) ∷ (wildcard_under a, 48 ∷ []) ∷ (codes "x" ∷ b, 200 ∷ []) ∷ []
 
 abbrev pub hosts : Sets
 hosts = linked table (start ∷ public_key ∷ address a ∷ [])
@@ -132,7 +132,7 @@ host_set = says (128 ∷ []) (64 ∷ []) (A ∷ RRSIG ∷ [])
 own : nsec3_denial hosts (hashed_by table) false a ≡ Ok (host_set ∷ [])
 own = refl
 
--- one that isn't: what matches the origin, which covers the star too, and what covers the name
+-- one that isn't: what matches the origin, which covers the wildcard too, and what covers the name
 absent : nsec3_denial hosts (hashed_by table) false b ≡ Ok (origin_set ∷ host_set ∷ [])
 absent = refl
 
@@ -146,9 +146,9 @@ closer = refl
 below : nsec3_denial hosts (hashed_by table) false (codes "x" ∷ a) ≡ Ok (host_set ∷ [])
 below = refl
 
--- with a star that has a set: of a name further below that one too
+-- with a wildcard that has a set: of a name further below that one too
 abbrev starred : Sets
-starred = linked table (start ∷ public_key ∷ address a ∷ address (star_under origin) ∷ [])
+starred = linked table (start ∷ public_key ∷ address a ∷ address (wildcard_under origin) ∷ [])
 
 star_told : nsec3_denial starred (hashed_by table) false (codes "x" ∷ b)
     ≡ Ok (says (64 ∷ []) (96 ∷ []) (SOA ∷ RRSIG ∷ DNSKEY ∷ NSEC3PARAM ∷ []) ∷ says (96 ∷ []) (128 ∷ []) (A ∷ RRSIG ∷ []) ∷ says (128 ∷ []) (64 ∷ []) (A ∷ RRSIG ∷ []) ∷ [])
@@ -167,7 +167,7 @@ unlinked = refl
 abbrev no_star : List (Name × List ℕ)
 no_star = (origin, 64 ∷ []) ∷ (a, 128 ∷ []) ∷ (b, 32 ∷ []) ∷ []
 
--- the star is hashed last
+-- the wildcard is hashed last
 star_refused : nsec3_denial hosts (hashed_by no_star) false b ≡ Err Hash
 star_refused = refl
 

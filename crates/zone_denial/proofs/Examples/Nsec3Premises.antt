@@ -6,7 +6,7 @@ use Rattle.std.specs.List.{AllByRecursion, cons_option}
 use Rattle.zone_proto.specs.declared.record.Record.{Record}
 use Rattle.zone_proto.specs.HashedOwners.{hashed_owner}
 use Rattle.zone_proto.specs.Keys.{key, key_eq}
-use Rattle.zone_proto.specs.Names.{Name, base_name, name_eq, IsAtOrAbove, star_under}
+use Rattle.zone_proto.specs.Names.{Name, base_name, name_eq, IsAtOrAbove, wildcard_under}
 use Rattle.zone_proto.specs.Ranges.{IsOctet}
 use Rattle.zone_proto.specs.Sets.{RRset}
 use Rattle.zone_proto.specs.Types.{SOA, DNSKEY, RRSIG, NSEC3, NSEC3PARAM}
@@ -19,14 +19,14 @@ use Rattle.zone_map.specs.Zones.{Sets, set_at, owns, IsStoredAt, IsZone}
 use Rattle.zone_map.proofs.Stored.{IsZone-put, put_apart}
 use Rattle.zone_denial.specs.Nsec3Names.{nsec3_names}
 use Rattle.zone_denial.specs.Nsec3Sets.{nsec3_record, nsec3_set_at, set_of, HasNsec3Sets}
-use Rattle.zone_denial.specs.Nsec3Zones.{IsCircleName, IsHashed, IsNsec3Zone, TellsApart}
+use Rattle.zone_denial.specs.Nsec3Zones.{IsCircleName, IsHashed, IsNsec3Zone, HasDistinctDigests}
 use Rattle.zone_denial.proofs.Examples.NsecExamples.{origin, start, public_key, bare}
 use Rattle.zone_denial.proofs.Examples.NsecPremises.{type_apart, bare_zone}
 use Rattle.zone_denial.proofs.Hashed.Nsec3Secured.{secured_is_nsec3_circle}
 use Rattle.zone_denial.proofs.Examples.Nsec3Examples.{parameters, b, digest_in, says, announcing, announced, linked}
 
 abbrev table : List (Name × List ℕ)
-table = (origin, 64 ∷ []) ∷ (b, 32 ∷ []) ∷ (star_under origin, 96 ∷ []) ∷ []
+table = (origin, 64 ∷ []) ∷ (b, 32 ∷ []) ∷ (wildcard_under origin, 96 ∷ []) ∷ []
 
 abbrev alone : Sets
 alone = linked table bare
@@ -34,10 +34,10 @@ alone = linked table bare
 abbrev digest : Name → List ℕ
 digest n = unwrap_or (digest_in table n) []
 
--- ---- the names that are hashed are the origin, b and the star
+-- ---- the names that are hashed are the origin, b and the wildcard
 
 abbrev IsOneOfThree : Name → Type 0
-IsOneOfThree n = (n ≡ origin) ⊎ ((n ≡ b) ⊎ (n ≡ star_under origin))
+IsOneOfThree n = (n ≡ origin) ⊎ ((n ≡ b) ⊎ (n ≡ wildcard_under origin))
 
 on_circle : (n : Name) → In n (origin ∷ []) → IsOneOfThree n
 on_circle n (inl e) = inl (sym e)
@@ -57,9 +57,9 @@ hashed_names : (n : Name) → IsHashed origin alone false b n → IsOneOfThree n
 hashed_names n (inl c) = on_circle n (Contains-In n (nsec3_names origin alone false) c)
 hashed_names n (inr (a, e, where_)) =
     let same : a ≡ origin = cc in
-    by (subst (λ (k : Name). (IsAtOrAbove n b × IsAtOrAbove k n) ⊎ (n ≡ star_under k)) same where_)
+    by (subst (λ (k : Name). (IsAtOrAbove n b × IsAtOrAbove k n) ⊎ (n ≡ wildcard_under k)) same where_)
   where
-    by : (IsAtOrAbove n b × IsAtOrAbove origin n) ⊎ (n ≡ star_under origin) → IsOneOfThree n
+    by : (IsAtOrAbove n b × IsAtOrAbove origin n) ⊎ (n ≡ wildcard_under origin) → IsOneOfThree n
     by (inl (above, below)) = between n above.0 below.0 above.1 below.1
     by (inr star) = inr (inr star)
 
@@ -94,7 +94,7 @@ in_range n (inl e) = subst (λ (k : Name). AllByRecursion IsOctet (digest k)) (s
 in_range n (inr (inl e)) = subst (λ (k : Name). AllByRecursion IsOctet (digest k)) (sym e) (omega arith, tt)
 in_range n (inr (inr e)) = subst (λ (k : Name). AllByRecursion IsOctet (digest k)) (sym e) (omega arith, tt)
 
-table_tells_apart : TellsApart (IsHashed origin alone false b) (digest_in table)
+table_tells_apart : HasDistinctDigests (IsHashed origin alone false b) (digest_in table)
 table_tells_apart = record {
   digest = digest;
   answers = λ n h. answered n (hashed_names n h);
@@ -167,7 +167,7 @@ others n t h k = ap is_some (put_apart (announced bare) (key owner NSEC3) (key n
 alone_has_sets : HasNsec3Sets origin bare (digest_in table) parameters 60 7 alone
 alone_has_sets = record { others = others; denials = denials; announced = refl }
 
-circle_tells_apart : TellsApart (IsCircleName origin bare false) (digest_in table)
+circle_tells_apart : HasDistinctDigests (IsCircleName origin bare false) (digest_in table)
 circle_tells_apart = record {
   digest = table_tells_apart.digest;
   answers = λ n c. table_tells_apart.answers n (inl c);

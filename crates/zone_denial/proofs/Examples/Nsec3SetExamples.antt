@@ -75,7 +75,7 @@ set_of_both = refl
 before_both : made colliding pair (hashed_owner origin (64 ∷ [])) NSEC3 ≡ Some (set_of_digest (64 ∷ []) (says false (64 ∷ []) (32 ∷ []) (SOA ∷ RRSIG ∷ DNSKEY ∷ NSEC3PARAM ∷ []) ∷ []))
 before_both = refl
 
--- ---- an empty name has a set without types
+-- ---- an empty non-terminal has a set without types
 
 abbrev deep_table : List (Name × List ℕ)
 deep_table = (origin, 64 ∷ []) ∷ (y, 16 ∷ []) ∷ (codes "x" ∷ y, 32 ∷ []) ∷ []

@@ -89,7 +89,7 @@ hosts_a = says (at_origin (codes "a")) (at_origin (codes "c")) (A ∷ RRSIG ∷ 
 abbrev hosts_c : RRset
 hosts_c = says (at_origin (codes "c")) origin (A ∷ RRSIG ∷ NSEC ∷ [])
 
--- a name between the two: the set that covers the star under the origin, and then the one that covers the name
+-- a name between the two: the set that covers the wildcard at the origin, and then the one that covers the name
 between : nsec_denial origin (linked hosts) (at_origin (codes "b")) ≡ hosts_origin ∷ hosts_a ∷ []
 between = refl
 
@@ -173,7 +173,7 @@ over_cuts = refl
 at_inner_cut : nsec_set_at origin cuts 300 7 inner NSEC ≡ None
 at_inner_cut = refl
 
--- ---- with an empty name y above x.y
+-- ---- with an empty non-terminal y above x.y
 
 abbrev deep : Sets
 deep = start ∷ public_key ∷ address (codes "x" ∷ at_origin (codes "y")) ∷ []
@@ -181,7 +181,7 @@ deep = start ∷ public_key ∷ address (codes "x" ∷ at_origin (codes "y")) �
 empty_name : nsec_denial origin (linked deep) (at_origin (codes "y")) ≡ says origin (codes "x" ∷ at_origin (codes "y")) (SOA ∷ RRSIG ∷ NSEC ∷ DNSKEY ∷ []) ∷ []
 empty_name = refl
 
--- it is the closest encloser of a name below it, and the star under it stands before x.y
+-- it is the closest encloser of a name below it, and the wildcard at it comes before x.y
 empty_encloser : nsec_encloser origin (linked deep) (codes "z" ∷ at_origin (codes "y")) ≡ at_origin (codes "y")
 empty_encloser = refl
 
@@ -189,7 +189,7 @@ below_empty : nsec_denial origin (linked deep) (codes "z" ∷ at_origin (codes "
     ≡ says origin (codes "x" ∷ at_origin (codes "y")) (SOA ∷ RRSIG ∷ NSEC ∷ DNSKEY ∷ []) ∷ says (codes "x" ∷ at_origin (codes "y")) origin (A ∷ RRSIG ∷ NSEC ∷ []) ∷ []
 below_empty = refl
 
--- ---- with a star, whose own set tells of it
+-- ---- with a wildcard, whose own set tells of it
 
 abbrev star : Name
 star = at_origin (codes "*")

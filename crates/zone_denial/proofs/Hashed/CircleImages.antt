@@ -33,7 +33,7 @@ module _ {K L : Type 0} {f : K → L} where
     least_image : (us : List K) (vs : List L) → IsImage R S f us vs → option_map f (least R us) ≡ least S vs
     least_image us vs k = greatest_image (flipped o) (flipped p) us vs (record { into = k.into; from = k.from; agree = λ x y i j. k.agree y x j i })
 
-    -- what stands after an element is made of what stands after it
+    -- what follows an element is made of what follows it
     later_image : (x : K) → In x xs → IsImage R S f (filter (is_before R x) xs) (filter (is_before S (f x)) ys)
     later_image x i = record {
       into = λ y j. let r = In-from_filter (is_before R x) y xs j in In-filter (is_before S (f x)) (f y) ys (h.into y r.0) (ap is_lt (sym (h.agree x y i r.0)) ∙ r.1);

@@ -1,5 +1,5 @@
--- On a circle of values, one that isn't among them is covered by the last one before it, or where there is none by the last
--- of all, and the next one
+-- On a circle of values, one that isn't among them is covered by the last one before it, or if there is none by the
+-- last of all, and the next one
 use Rattle.std.proofs.Common.{◌≡◌, true, ◌&&◌, ◌||◌, List, refl, sym, ap, subst, Ordering, Less, is_lt}
 use Rattle.std.specs.Prelude.{Option, Some, None, filter, unwrap_or}
 use Rattle.std.specs.Option.{option_or}
@@ -10,7 +10,7 @@ use Rattle.zone_denial.specs.Covering.{next_around, covers}
 use Rattle.zone_denial.proofs.InOrder.{flipped}
 
 module _ {K : Type 0} {R : K → K → Ordering} (o : IsOrder R) (xs : List K) where
-  -- what the next of some values after x is: the least of those after it, or where there is none the least of all
+  -- what the next of some values after x is: the least of those after it, or if there is none the least of all
   data NextIs (x n : K) : Type 0 where
     least_after : In n xs → R x n ≡ Less → NextIs x n
     wraps : In n xs → ((y : K) → In y xs → R y n ≡ Less → ⊥) → ((y : K) → In y xs → R x y ≡ Less → ⊥) → NextIs x n
@@ -31,7 +31,7 @@ module _ {K : Type 0} {R : K → K → Ordering} (o : IsOrder R) (xs : List K) w
               (λ y j l. greatest_none (flipped o) (filter (is_before R x) xs) e y (In-filter (is_before R x) y xs j (ap is_lt l)))
           first None d = absurd (greatest_none (flipped o) xs d x i)
 
-  -- of some values, x is the last one before c, or where there is none the last of all
+  -- of some values, x is the last one before c, or if there is none the last of all
   pub data IsLastBefore (c x : K) : Type 0 where
     before_it : R x c ≡ Less → ((y : K) → In y xs → R y c ≡ Less → R x y ≡ Less → ⊥) → IsLastBefore c x
     last_of_all : ((y : K) → In y xs → R y c ≡ Less → ⊥) → ((y : K) → In y xs → R x y ≡ Less → ⊥) → IsLastBefore c x

@@ -9,7 +9,7 @@ use Rattle.std.proofs.lemmas.List.{length-append}
 use Rattle.std.proofs.lemmas.List.Elements.{filter_map-append}
 use Rattle.zone_proto.specs.declared.error.ProtoError.{ProtoError}
 use Rattle.zone_proto.specs.declared.error.ProtoError.TheVariants.{Memory}
-use Rattle.zone_proto.specs.Names.{Name, name_cmp, base_name, suffixes, wildcard_of, star_under}
+use Rattle.zone_proto.specs.Names.{Name, name_cmp, base_name, suffixes, wildcard_of, wildcard_under}
 use Rattle.zone_proto.specs.Sets.{RRset}
 use Rattle.zone_proto.specs.Order.{is_before, greatest}
 use Rattle.zone_proto.specs.Types.{NSEC3}
@@ -19,7 +19,7 @@ use Rattle.zone_proto.proofs.Names.Tree.{name_order}
 use Rattle.zone_map.specs.Zones.{Sets, set_at, owns, owners, IsZone}
 use Rattle.zone_map.proofs.Delegations.{found_above}
 use Rattle.zone_map.proofs.Owned.{owner_owned}
-use Rattle.zone_denial.specs.Nsec3Denial.{result_and_then, has_match, match_of, cover_of, match_owner, cover_owner, encloser_of, next_closer, star_part, enclosed, nsec3_denial}
+use Rattle.zone_denial.specs.Nsec3Denial.{result_and_then, has_match, match_of, cover_of, match_owner, cover_owner, encloser_of, next_closer, wildcard_part, enclosed, nsec3_denial}
 use Rattle.zone_denial.specs.Nsec3Lent.{sets_of, owner_cmp, enclosed_sets}
 use Rattle.zone_denial.specs.TypeLists.{in_order}
 use Rattle.zone_denial.proofs.Chain.NsecEnclosers.{base_is_drop}
@@ -200,18 +200,18 @@ module _ {E : Type 0} (m : Sets) (zone : IsZone m) (hashed : Name → Result Nam
       by None own = owns_cover h
       by (Some o) own = own
 
-  pub found_star : (a : Name) (sets : List RRset) → sets_of m (star_part m hashed a) ≡ Ok sets → AreFound (star_part m hashed a) sets
-  found_star a sets e = found_with (λ h. option_or (match_owner m h) (cover_owner m h)) owns_either (hashed (star_under a)) sets e
+  pub found_star : (a : Name) (sets : List RRset) → sets_of m (wildcard_part m hashed a) ≡ Ok sets → AreFound (wildcard_part m hashed a) sets
+  found_star a sets e = found_with (λ h. option_or (match_owner m h) (cover_owner m h)) owns_either (hashed (wildcard_under a)) sets e
 
   -- these in order are the answer where no wildcard answered
   pub enclosed_answers : (q a c : Name) → next_closer q a ≡ Some c → (closer encloser star : List RRset) → sets_of m (cover_of m hashed c) ≡ Ok closer → sets_of m (match_of m hashed a) ≡ Ok encloser
-      → sets_of m (star_part m hashed a) ≡ Ok star → enclosed_sets m hashed false q (Some a) ≡ Ok (in_order owner_cmp (encloser ++ closer ++ star))
+      → sets_of m (wildcard_part m hashed a) ≡ Ok star → enclosed_sets m hashed false q (Some a) ≡ Ok (in_order owner_cmp (encloser ++ closer ++ star))
   enclosed_answers q a c is closer encloser star e f g =
       let k = found_cover c closer e in
       let n = found_match a encloser f in
       let s = found_star a star g in
       let sorted = λ (r : Result (List Name) E). sets_of m (result_and_then (λ owners. Ok (in_order name_cmp owners)) r) in
-      let part = star_part m hashed a in
+      let part = wildcard_part m hashed a in
       ap (λ o. sorted (result_and_then (λ closer. result_and_then (λ encloser. result_and_then (λ star. Ok (encloser ++ closer ++ star)) part) (match_of m hashed a)) (option_map_or (cover_of m hashed) o (Ok [])))) is
       ∙ ap (λ r. sorted (result_and_then (λ closer. result_and_then (λ encloser. result_and_then (λ star. Ok (encloser ++ closer ++ star)) part) (match_of m hashed a)) r)) k.is
       ∙ ap (λ r. sorted (result_and_then (λ encloser. result_and_then (λ star. Ok (encloser ++ k.owners ++ star)) part) r)) n.is
@@ -244,20 +244,20 @@ module _ (m : Sets) (hashed : Name → Result Name ProtoError) (whole n above : 
   is_refused e (inl memory) = inl memory
   is_refused e (inr h) = inr (so_far ∙ walk_refused m hashed n above is inner e h)
 
--- ---- the star under the encloser
+-- ---- the wildcard at the encloser
 
--- it is the next closer name with a star for its first label
-closer_star : (q n : Name) → next_closer q (base_name n) ≡ Some n → wildcard_of n ≡ star_under (base_name n)
+-- it is the next closer name with `*` for its first label
+closer_star : (q n : Name) → next_closer q (base_name n) ≡ Some n → wildcard_of n ≡ wildcard_under (base_name n)
 closer_star q [] closer = absurd (true≢false (sym (found_above (λ s. length s == 1) q [] closer).1))
 closer_star q (l ∷ ls) closer = refl
 
 module _ {E : Type 0} (m : Sets) (hashed : Name → Result Name E) (q n : Name) (closer : next_closer q (base_name n) ≡ Some n) where
-  star_is : (r : Result Name E) → hashed (wildcard_of n) ≡ r → star_part m hashed (base_name n) ≡ result_and_then (λ h. Ok (option_to_list (option_or (match_owner m h) (cover_owner m h)))) r
+  star_is : (r : Result Name E) → hashed (wildcard_of n) ≡ r → wildcard_part m hashed (base_name n) ≡ result_and_then (λ h. Ok (option_to_list (option_or (match_owner m h) (cover_owner m h)))) r
   star_is r is = ap (result_and_then (λ h. Ok (option_to_list (option_or (match_owner m h) (cover_owner m h))))) (ap hashed (sym (closer_star q n closer)) ∙ is)
 
   -- what matches it or else what covers it was found
   pub star_found : (h : Name) (sets : List RRset) → hashed (wildcard_of n) ≡ Ok h → sets ≡ filter_map (λ o. set_at m o NSEC3) (option_to_list (option_or (match_owner m h) (cover_owner m h)))
-      → sets_of m (star_part m hashed (base_name n)) ≡ Ok sets
+      → sets_of m (wildcard_part m hashed (base_name n)) ≡ Ok sets
   star_found h sets is found = ap (sets_of m) (star_is (Ok h) is) ∙ ap Ok (sym found)
 
 -- ---- when the name's own set isn't the answer

@@ -14,7 +14,7 @@ use Rattle.zone_denial.specs.Covering.{next_around}
 use Rattle.zone_denial.specs.Nsec3Circle.{digests, next_digest}
 use Rattle.zone_denial.specs.Nsec3Names.{nsec3_names}
 use Rattle.zone_denial.specs.Nsec3Sets.{HashedName, hashed_cmp, hashed_names}
-use Rattle.zone_denial.specs.Nsec3Zones.{IsCircleName, TellsApart}
+use Rattle.zone_denial.specs.Nsec3Zones.{IsCircleName, HasDistinctDigests}
 use Rattle.zone_denial.proofs.Hashed.CircleImages.{IsImage, next_image}
 use Rattle.zone_denial.proofs.InOrder.{In-in_order, In-from_in_order, in_order_ascends}
 use Rattle.zone_denial.proofs.Hashed.Nsec3Owners.{octets_order, digest_among, name_of_among}
@@ -36,7 +36,7 @@ hashed_order = record {
 pub hashed_ascends : (origin : Name) (m : Sets) (hash : Name → Option (List ℕ)) (opt_out : Bool) → IsStrictlySortedBy hashed_cmp (hashed_names origin m hash opt_out)
 hashed_ascends origin m hash opt_out = in_order_ascends hashed_order (filter_map (λ n. option_map (λ d. record { digest = d; name = n }) (hash n)) (nsec3_names origin m opt_out))
 
-module _ (origin : Name) (m : Sets) (hash : Name → Option (List ℕ)) (opt_out : Bool) (apart : TellsApart (IsCircleName origin m opt_out) hash) where
+module _ (origin : Name) (m : Sets) (hash : Name → Option (List ℕ)) (opt_out : Bool) (apart : HasDistinctDigests (IsCircleName origin m opt_out) hash) where
   abbrev names : List Name
   names = nsec3_names origin m opt_out
 

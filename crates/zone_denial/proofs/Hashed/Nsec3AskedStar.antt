@@ -1,9 +1,9 @@
--- What a circle of NSEC3 sets says of the star that a search asks, without opt-out
+-- What a circle of NSEC3 sets says of the wildcard that a search asks, without opt-out
 use Rattle.std.proofs.Common.{◌≡◌, Bool, true, false, not, ◌&&◌, ◌||◌, [], length, refl, sym, ap, ◌∙◌, subst, true≢false, ◌⊎◌, inl, inr, arith}
 use Rattle.std.specs.Prelude.{Some, find, option_map, ◌==◌}
 use Rattle.std.specs.List.{Contains}
 use Rattle.std.proofs.lemmas.List.{length-append}
-use Rattle.zone_proto.specs.Names.{Name, name_eq, IsAbove, IsAtOrAbove, proper_ancestors, star_under}
+use Rattle.zone_proto.specs.Names.{Name, name_eq, IsAbove, IsAtOrAbove, proper_ancestors, wildcard_under}
 use Rattle.zone_proto.specs.Types.{NSEC, NSEC3, NSEC3PARAM}
 use Rattle.zone_proto.proofs.Members.{In, In-Contains, Contains-In, In-filter, In-from_filter, not_true}
 use Rattle.zone_proto.proofs.Names.NameTree.{above_test, is_at_or_above_sound}
@@ -14,14 +14,14 @@ use Rattle.zone_denial.specs.Authority.{is_below_cut, is_authoritative, authorit
 use Rattle.zone_denial.specs.Nsec3Denial.{closest_encloser}
 use Rattle.zone_denial.specs.Nsec3Names.{is_unsigned_delegation, counted_names, nsec3_names, IsNsec3Name}
 use Rattle.zone_denial.specs.Nsec3Zones.{IsCircleName}
-use Rattle.zone_denial.specs.StarLaws.{OwnsNone, Nsec3EnclosersAgree, Nsec3ProvedStarIsAsked, Nsec3AbsentStarIsDenied}
+use Rattle.zone_denial.specs.WildcardLaws.{OwnsNone, Nsec3EnclosersAgree, Nsec3ProvedWildcardIsAsked, Nsec3AbsentWildcardIsDenied}
 use Rattle.zone_denial.proofs.Names.AuthoritativeNames.{authoritative_listed}
 use Rattle.zone_denial.proofs.Names.ExistingAncestors.{exists_from, unowned_absent, asked_is, IsEncloserTest, above_authority, encloser_in, exists_as_passes, same_encloser, no_star}
 use Rattle.zone_denial.proofs.Names.LongestAncestors.{IsLongestAbove, longest_is, longest_above}
 use Rattle.zone_denial.proofs.Hashed.Nsec3Enclosers.{is_named, named_in, in_named, origin_in}
 use Rattle.zone_denial.proofs.Hashed.Nsec3NameLaws.{names_are_exact}
 use Rattle.zone_denial.proofs.Hashed.Nsec3Star.{proves_star}
-use Rattle.zone_denial.proofs.Chain.NsecAskedStar.{other_type, plain_type, absent_star}
+use Rattle.zone_denial.proofs.Chain.NsecAskedStar.{other_type, plain_type, absent_wildcard}
 
 module _ (origin : Name) (m : Sets) (opt_out : Bool) (announced : owns m origin NSEC3PARAM ≡ true) (all_in : opt_out ≡ false) (none : OwnsNone m NSEC) where
   abbrev counts : Name → Bool
@@ -66,7 +66,7 @@ module _ (origin : Name) (m : Sets) (opt_out : Bool) (announced : owns m origin 
     origin_there = exists_from m origin origin NSEC3PARAM announced refl ([], refl);
   }
 
-  -- where no zone cut stands above a name of the zone, it exists exactly where it is on the circle
+  -- where no zone cut is above a name of the zone, it exists exactly where it is on the circle
   pub exists_on_circle : (n : Name) → IsAtOrAbove origin n → is_below_cut origin m n ≡ false → exists m n ≡ is_named origin m opt_out n
   exists_on_circle = exists_as_passes origin m NSEC3 (is_named origin m opt_out) test
 
@@ -87,26 +87,26 @@ module _ (origin : Name) (m : Sets) (opt_out : Bool) (announced : owns m origin 
         let a = longest_above (is_named origin m opt_out) x origin u test.origin_passes in
         there.1.found ∙ ap Some (sym (same_encloser origin m NSEC3 (is_named origin m opt_out) test x there.0 a.0 u there.1 a.1 uncut)) ∙ sym a.1.found
 
-    -- a star that is asked and doesn't exist isn't on the circle
-    star_off : (a : Name) → closest_encloser origin m opt_out x ≡ Some a → exists m (star_under there.0) ≡ false → IsCircleName origin m opt_out (star_under a) → ⊥
-    star_off a is gone i = by (of_circle (star_under a) i)
+    -- a wildcard at the closest encloser and doesn't exist isn't on the circle
+    star_off : (a : Name) → closest_encloser origin m opt_out x ≡ Some a → exists m (wildcard_under there.0) ≡ false → IsCircleName origin m opt_out (wildcard_under a) → ⊥
+    star_off a is gone i = by (of_circle (wildcard_under a) i)
       where
         longest : IsLongestAbove (is_named origin m opt_out) x a
         longest = longest_is (is_named origin m opt_out) x a is
 
-        by : (star_under a ≡ origin) ⊎ ((b : Name) × (is_authoritative origin m NSEC3 b ≡ true) × IsAtOrAbove (star_under a) b) → ⊥
+        by : (wildcard_under a ≡ origin) ⊎ ((b : Name) × (is_authoritative origin m NSEC3 b ≡ true) × IsAtOrAbove (wildcard_under a) b) → ⊥
         by (inl e) = let w = encloser_in origin m NSEC3 (is_named origin m opt_out) test x there.0 a u there.1 longest in omega (arith, ap length e, ap length w.1, length-append w.0 origin)
         by (inr (b, k, v)) = no_star origin m NSEC3 (is_named origin m opt_out) test x there.0 a u there.1 longest gone b k v
 
 pub enclosers_agree : Nsec3EnclosersAgree
 enclosers_agree origin m hash parameters zone all_in none x below uncut = agree origin m parameters.opt_out zone.circle.announced all_in none x ((above_test origin x).0 below) uncut
 
-pub proved_star_is_asked : Nsec3ProvedStarIsAsked
+pub proved_star_is_asked : Nsec3ProvedWildcardIsAsked
 proved_star_is_asked origin m hash parameters zone all_in none x below uncut plain absent a is =
-    asked_is m origin x ((above_test origin x).0 below) plain absent ∙ ap (option_map star_under) (enclosers_agree origin m hash parameters zone all_in none x below uncut ∙ is)
+    asked_is m origin x ((above_test origin x).0 below) plain absent ∙ ap (option_map wildcard_under) (enclosers_agree origin m hash parameters zone all_in none x below uncut ∙ is)
 
-pub absent_star_is_denied : Nsec3AbsentStarIsDenied
-absent_star_is_denied origin m hash parameters zone all_in none x inside apart plain unowned gone =
+pub absent_wildcard_is_denied : Nsec3AbsentWildcardIsDenied
+absent_wildcard_is_denied origin m hash parameters zone all_in none x inside apart plain unowned gone =
     let r = proves_star origin m hash parameters zone x inside apart off in
     let star = star_off origin m parameters.opt_out zone.circle.announced all_in none x below r.2.encloser r.2.is_encloser gone_star in
     let cover = r.2.star.off star in
@@ -122,7 +122,7 @@ absent_star_is_denied origin m hash parameters zone all_in none x inside apart p
         by (inl e) = absurd (off (subst (IsCircleName origin m parameters.opt_out) e (In-Contains origin (nsec3_names origin m parameters.opt_out) (origin_in origin m parameters.opt_out))))
         by (inr w) = w
 
-    gone_star : exists m (star_under (there origin m parameters.opt_out zone.circle.announced all_in none x below).0) ≡ false
+    gone_star : exists m (wildcard_under (there origin m parameters.opt_out zone.circle.announced all_in none x below).0) ≡ false
     gone_star =
         let t = there origin m parameters.opt_out zone.circle.announced all_in none x below in
-        absent_star m origin x t.0 below plain unowned gone t.1.found
+        absent_wildcard m origin x t.0 below plain unowned gone t.1.found

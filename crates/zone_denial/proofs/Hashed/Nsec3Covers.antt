@@ -16,12 +16,12 @@ use Rattle.zone_denial.specs.Covering.{covers}
 use Rattle.zone_denial.specs.Nsec3Circle.{digests, next_digest}
 use Rattle.zone_denial.specs.Nsec3Denial.{cover_owner}
 use Rattle.zone_denial.specs.Nsec3Names.{nsec3_names}
-use Rattle.zone_denial.specs.Nsec3Zones.{IsNsec3Zone, IsHashed, TellsApart}
+use Rattle.zone_denial.specs.Nsec3Zones.{IsNsec3Zone, IsHashed, HasDistinctDigests}
 use Rattle.zone_denial.proofs.Hashed.CoveringPairs.{IsLastBefore, before_it, last_of_all, last_covers}
 use Rattle.zone_denial.proofs.Hashed.Nsec3Enclosers.{origin_in}
 use Rattle.zone_denial.proofs.Hashed.Nsec3Owners.{octets_order, owner, named_hashed, named_owns, owners_as_digests, name_of_owner, digest_in, name_of_digest}
 
-module _ {origin : Name} {m : Sets} {hash : Name → Option (List ℕ)} {parameters : Nsec3Parameters} {x : Name} (zone : IsNsec3Zone origin m hash parameters) (apart : TellsApart (IsHashed origin m parameters.opt_out x) hash) where
+module _ {origin : Name} {m : Sets} {hash : Name → Option (List ℕ)} {parameters : Nsec3Parameters} {x : Name} (zone : IsNsec3Zone origin m hash parameters) (apart : HasDistinctDigests (IsHashed origin m parameters.opt_out x) hash) where
   abbrev names : List Name
   names = nsec3_names origin m parameters.opt_out
 

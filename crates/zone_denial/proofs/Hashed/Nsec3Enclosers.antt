@@ -35,7 +35,7 @@ next_closer_is x a (l, f, e) = by (next_closer x a) refl
         let r = found_above longer x c h in
         (c, h, r.0, eqb-true (length c) (suc (length a)) r.1)
 
--- it stands at or below the ancestor
+-- it is at or below the ancestor
 pub below_ancestor : (x a c : Name) → IsAbove a x → IsAtOrAbove c x → length c ≡ suc (length a) → IsAtOrAbove a c
 below_ancestor x a c (l, f, e) (g, q) h = by (comparable (l ∷ f) g a c (sym e ∙ q))
   where

@@ -7,24 +7,24 @@ use Rattle.std.specs.Option.{option_map_or, option_or}
 use Rattle.zone_proto.specs.declared.error.ProtoError.{ProtoError}
 use Rattle.zone_proto.specs.declared.rdata.denial.NSEC3PARAM.{NSEC3PARAM as Nsec3Parameters}
 use Rattle.zone_proto.specs.HashedOwners.{owner_or_refusal}
-use Rattle.zone_proto.specs.Names.{Name, name_cmp, is_at_or_above, IsAtOrAbove, star_under}
+use Rattle.zone_proto.specs.Names.{Name, name_cmp, is_at_or_above, IsAtOrAbove, wildcard_under}
 use Rattle.zone_proto.specs.Sets.{RRset}
 use Rattle.zone_proto.specs.Types.{NSEC3}
 use Rattle.zone_proto.proofs.Members.{In, In-Contains, Contains-In, In-filter_map}
 use Rattle.zone_proto.proofs.Names.Tree.{name_order}
 use Rattle.zone_map.specs.Zones.{Sets, set_at, owns}
 use Rattle.zone_denial.specs.Nsec3Circle.{digests, next_digest}
-use Rattle.zone_denial.specs.Nsec3Denial.{match_owner, cover_owner, result_and_then, has_match, match_of, cover_of, encloser_of, star_part, enclosed, next_closer}
+use Rattle.zone_denial.specs.Nsec3Denial.{match_owner, cover_owner, result_and_then, has_match, match_of, cover_of, encloser_of, wildcard_part, enclosed, next_closer}
 use Rattle.zone_denial.specs.Nsec3Laws.{IsSetOf, ProvesEncloser, FindsOrEncloses, Nsec3DenialFindsOrEncloses}
 use Rattle.zone_denial.specs.Nsec3Names.{nsec3_names}
-use Rattle.zone_denial.specs.Nsec3Zones.{IsNsec3Zone, IsHashed, TellsApart}
+use Rattle.zone_denial.specs.Nsec3Zones.{IsNsec3Zone, IsHashed, HasDistinctDigests}
 use Rattle.zone_denial.specs.TypeLists.{in_order}
 use Rattle.zone_denial.proofs.InOrder.{In-in_order}
 use Rattle.zone_denial.proofs.Hashed.Nsec3Covers.{IsCover, has_cover}
 use Rattle.zone_denial.proofs.Hashed.Nsec3Enclosers.{is_named, named_in, in_named, root_off, walked, IsEnclosed, enclosed_off}
 use Rattle.zone_denial.proofs.Hashed.Nsec3Owners.{owner, named_hashed, set_of_named, named_owns, is_owner, owns_as_named}
 
-module _ {origin : Name} {m : Sets} {hash : Name → Option (List ℕ)} {parameters : Nsec3Parameters} {x : Name} (zone : IsNsec3Zone origin m hash parameters) (apart : TellsApart (IsHashed origin m parameters.opt_out x) hash) where
+module _ {origin : Name} {m : Sets} {hash : Name → Option (List ℕ)} {parameters : Nsec3Parameters} {x : Name} (zone : IsNsec3Zone origin m hash parameters) (apart : HasDistinctDigests (IsHashed origin m parameters.opt_out x) hash) where
   abbrev names : List Name
   names = nsec3_names origin m parameters.opt_out
 
@@ -64,8 +64,8 @@ module _ {origin : Name} {m : Sets} {hash : Name → Option (List ℕ)} {paramet
     closer_hashed : Hashed c
     closer_hashed = hashed_above c e.closer_at e.closer_below
 
-    pub star_hashed : Hashed (star_under a)
-    star_hashed = inr (a, e.is_encloser, inr refl)
+    pub wildcard_hashed : Hashed (wildcard_under a)
+    wildcard_hashed = inr (a, e.is_encloser, inr refl)
 
     pub encloser_is : encloser_of m hashed x ≡ Ok (Some a)
     encloser_is = walked (has_match m hashed) on_circle (root_off origin m parameters.opt_out zone.below_root) x a e.is_encloser (λ n above below. match_test n (hashed_above n above below))
@@ -102,9 +102,9 @@ module _ {origin : Name} {m : Sets} {hash : Name → Option (List ℕ)} {paramet
         has_cover = has_cover s.0 s.1;
       }
 
-  -- ---- the answer, whatever is said of the star
+  -- ---- the answer, whatever is said of the wildcard
 
-  -- with the encloser a: what matches it, what covers the next closer name, and the star's part
+  -- with the encloser a: what matches it, what covers the next closer name, and the wildcard's part
   abbrev enclosed_with : (Name → Result (List Name) ProtoError) → Name → Result (List Name) ProtoError
   enclosed_with part a =
       result_and_then (λ closer. result_and_then (λ encloser. result_and_then (λ star. Ok (encloser ++ closer ++ star)) (part a)) (match_of m hashed a))
@@ -174,8 +174,8 @@ module _ {origin : Name} {m : Sets} {hash : Name → Option (List ℕ)} {paramet
         unnamed true h = absurd (off (named_in origin m parameters.opt_out x h))
         unnamed false h = h
 
-    -- both, where the star's part is no refusal
-    pub answer_is : is_at_or_above origin x ≡ true → ((a : Name) → Hashed (star_under a) → (star : List Name) × (part a ≡ Ok star))
+    -- both, where the wildcard's part is no refusal
+    pub answer_is : is_at_or_above origin x ≡ true → ((a : Name) → Hashed (wildcard_under a) → (star : List Name) × (part a ≡ Ok star))
         → (answer : List RRset) × (denial ≡ Ok answer) × FindsOrEncloses origin m hash parameters.opt_out x answer
     answer_is inside star_is = by (on_circle x) refl
       where
@@ -187,7 +187,7 @@ module _ {origin : Name} {m : Sets} {hash : Name → Option (List ℕ)} {paramet
         by false e =
             let off = λ (i : In x names). true≢false (sym (in_named origin m parameters.opt_out x i) ∙ e) in
             let n = enclosed_off origin m parameters.opt_out x inside off in
-            let star = star_is n.0 (star_hashed n.0 n.1 n.2) in
+            let star = star_is n.0 (wildcard_hashed n.0 n.1 n.2) in
             let r = answer_off off n.0 n.1 n.2 star.0 star.1 in (
               r.0,
               r.1.given,
@@ -197,15 +197,15 @@ module _ {origin : Name} {m : Sets} {hash : Name → Option (List ℕ)} {paramet
               },
             )
 
-  -- the owners of the star's part: of what matches the star, or else of what covers it
+  -- the owners of the wildcard's part: of what matches the wildcard, or else of what covers it
   abbrev pub star_owners : Name → List Name
-  star_owners a = option_to_list (option_or (match_owner m (owner zone apart (star_under a))) (cover_owner m (owner zone apart (star_under a))))
+  star_owners a = option_to_list (option_or (match_owner m (owner zone apart (wildcard_under a))) (cover_owner m (owner zone apart (wildcard_under a))))
 
-  -- it is no refusal where the star is hashed
-  pub star_answered : (a : Name) → Hashed (star_under a) → star_part m hashed a ≡ Ok (star_owners a)
-  star_answered a h = ap (result_and_then (λ h. Ok (option_to_list (option_or (match_owner m h) (cover_owner m h))))) (is_owner zone apart (star_under a) h)
+  -- it is no refusal where the wildcard is hashed
+  pub star_answered : (a : Name) → Hashed (wildcard_under a) → wildcard_part m hashed a ≡ Ok (star_owners a)
+  star_answered a h = ap (result_and_then (λ h. Ok (option_to_list (option_or (match_owner m h) (cover_owner m h))))) (is_owner zone apart (wildcard_under a) h)
 
 pub finds_or_encloses : Nsec3DenialFindsOrEncloses
 finds_or_encloses origin m hash parameters zone x inside apart =
     let hashed : Name → Result Name ProtoError = λ n. owner_or_refusal origin (hash n) in
-    answer_is zone apart (enclosed m hashed false x) (star_part m hashed) (λ a. refl) inside (λ a h. (star_owners zone apart a, star_answered zone apart a h))
+    answer_is zone apart (enclosed m hashed false x) (wildcard_part m hashed) (λ a. refl) inside (λ a h. (star_owners zone apart a, star_answered zone apart a h))

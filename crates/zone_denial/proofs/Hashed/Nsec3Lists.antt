@@ -67,7 +67,8 @@ module _ (origin : Name) (m : Sets) (opt_out : Bool) where
       by (inl e) = inl (sym e)
       by (inr above) = inr (above, (x, c, ([], refl)))
 
-  -- of the names that own a set besides NSEC3 and stand below no zone cut, opt-out leaves out the unsigned delegations alone
+  -- of the names that own a set besides NSEC3 and are below no zone cut, opt-out leaves out the unsigned delegations
+  -- alone
   off_circle : (x : Name) (t : ℕ) → t ≢ NSEC3 → owns m x t ≡ true → (IsCircleName origin m opt_out x → ⊥) → is_at_or_above origin x ≡ true → is_below_cut origin m x ≡ false
       → (opt_out ≡ true) × (is_unsigned_delegation m x ≡ true)
   off_circle x t ne k off inside uncut = by opt_out (name_eq x origin) (is_unsigned_delegation m x) counted

@@ -25,7 +25,7 @@ use Rattle.zone_map.proofs.Lists.{owner_named}
 use Rattle.zone_map.proofs.Owned.{owner_in, owner_owned}
 use Rattle.zone_denial.specs.Nsec3Circle.{digests, IsOnNsec3Circle}
 use Rattle.zone_denial.specs.Nsec3Names.{nsec3_names}
-use Rattle.zone_denial.specs.Nsec3Zones.{IsNsec3Zone, IsHashed, TellsApart}
+use Rattle.zone_denial.specs.Nsec3Zones.{IsNsec3Zone, IsHashed, HasDistinctDigests}
 use Rattle.zone_denial.proofs.Hashed.Nsec3Enclosers.{is_named, named_in, in_named, origin_in}
 
 -- the order of octet strings, and so of digests
@@ -49,7 +49,7 @@ same_value d e h = cc
 
 -- ---- digests of a hash that tells names apart
 
-module _ {IsNamed : Name → Type 0} {hash : Name → Option (List ℕ)} (apart : TellsApart IsNamed hash) where
+module _ {IsNamed : Name → Type 0} {hash : Name → Option (List ℕ)} (apart : HasDistinctDigests IsNamed hash) where
   -- owners sort as the digests, and differ where the names do
   pub sort_as_digests : (origin n k : Name) → IsNamed n → IsNamed k → name_cmp (hashed_owner origin (apart.digest n)) (hashed_owner origin (apart.digest k)) ≡ octets_cmp (apart.digest n) (apart.digest k)
   sort_as_digests origin n k h j = owners_sort origin (apart.digest n) (apart.digest k) (apart.alike n k h j) (apart.octets n h) (apart.octets k j)
@@ -69,7 +69,7 @@ module _ {IsNamed : Name → Type 0} {hash : Name → Option (List ℕ)} (apart 
         let r = In-from_filter_map hash d names i in
         (r.0, r.1, same_value d (apart.digest r.0) (sym r.2 ∙ apart.answers r.0 (named r.0 r.1)))
 
-module _ {origin : Name} {m : Sets} {hash : Name → Option (List ℕ)} {parameters : Nsec3Parameters} {x : Name} (zone : IsNsec3Zone origin m hash parameters) (apart : TellsApart (IsHashed origin m parameters.opt_out x) hash) where
+module _ {origin : Name} {m : Sets} {hash : Name → Option (List ℕ)} {parameters : Nsec3Parameters} {x : Name} (zone : IsNsec3Zone origin m hash parameters) (apart : HasDistinctDigests (IsHashed origin m parameters.opt_out x) hash) where
   abbrev names : List Name
   names = nsec3_names origin m parameters.opt_out
 

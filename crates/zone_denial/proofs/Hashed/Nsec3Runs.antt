@@ -40,7 +40,7 @@ pub record AreOwn (ks : List RrKey) (n : Name) (own : List RrKey) : Type 0 where
   pub listed : (k : RrKey) → In k own → In k ks
   pub all : (k : RrKey) → In k ks → k.name ≡ n → In k own
 
--- types with RRSIG where there is one
+-- types with RRSIG if there is one
 with_rrsig_is : (t : ℕ) (ts : List ℕ) → In t ts → with_rrsig ts ≡ joined nat_cmp RRSIG (in_order nat_cmp ts)
 with_rrsig_is t [] i = absurd i
 with_rrsig_is t (u ∷ us) i = refl

@@ -73,7 +73,7 @@ module _ (origin : Name) (a b : Sets) (same : OwnSameOthers origin a b) where
       by true false h = refl
       by false d h = refl
 
-  -- what stands at or below a name below the origin isn't the origin
+  -- what is at or below a name below the origin isn't the origin
   below_off : (n c : Name) → IsAbove origin n → IsAtOrAbove n c → name_eq c origin ≡ false
   below_off n c above at = by (name_eq c origin) refl
     where

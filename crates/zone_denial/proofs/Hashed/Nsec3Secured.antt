@@ -20,7 +20,7 @@ use Rattle.zone_denial.specs.Nsec3Circle.{IsNsec3Circle, IsOnNsec3Circle, digest
 use Rattle.zone_denial.specs.Nsec3Laws.{SecuredIsNsec3Circle}
 use Rattle.zone_denial.specs.Nsec3Names.{nsec3_names}
 use Rattle.zone_denial.specs.Nsec3Sets.{HasNsec3Sets, HashedName, hashed_cmp, hashed_names, nsec3_record, set_of}
-use Rattle.zone_denial.specs.Nsec3Zones.{IsCircleName, TellsApart}
+use Rattle.zone_denial.specs.Nsec3Zones.{IsCircleName, HasDistinctDigests}
 use Rattle.zone_denial.proofs.Ascending.{Ascends, Ascends-from_sorted}
 use Rattle.zone_denial.proofs.Hashed.HashedCircle.{hashed_order, hashed_ascends, hashed, on_circle, hashed_in, name_of_hashed, next_has_next_digest}
 use Rattle.zone_denial.proofs.Hashed.Nsec3Owners.{same_value, same_by_owner}
@@ -61,7 +61,7 @@ no_fault : {E : Type 0} (p : Option E) → option_map_or (λ _. false) p true �
 no_fault None e = refl
 no_fault (Some x) e = absurd (true≢false (sym e))
 
-module _ (origin : Name) (m after : Sets) (hash : Name → Option (List ℕ)) (parameters : Nsec3Parameters) (ttl serial : ℕ) (h : HasNsec3Sets origin m hash parameters ttl serial after) (apart : TellsApart (IsCircleName origin m parameters.opt_out) hash) where
+module _ (origin : Name) (m after : Sets) (hash : Name → Option (List ℕ)) (parameters : Nsec3Parameters) (ttl serial : ℕ) (h : HasNsec3Sets origin m hash parameters ttl serial after) (apart : HasDistinctDigests (IsCircleName origin m parameters.opt_out) hash) where
   abbrev names : List Name
   names = nsec3_names origin m parameters.opt_out
 

@@ -1,4 +1,5 @@
--- On a circle of NSEC3 sets, the denial of a name off it has the set of the star under the closest encloser, or covers the star
+-- On a circle of NSEC3 sets, the denial of a name off it has the set of the wildcard at the closest encloser, or covers
+-- the wildcard
 use Rattle.std.proofs.Common.{◌≡◌, ℕ, Bool, true, false, cond, List, [], ◌∷◌, refl, sym, ap, ◌∙◌, subst, inl, inr}
 use Rattle.std.specs.Prelude.{Option, Some, None, Result, Ok, option_map, option_to_list}
 use Rattle.std.specs.List.{Contains}
@@ -6,22 +7,22 @@ use Rattle.std.specs.Option.{option_or}
 use Rattle.zone_proto.specs.declared.error.ProtoError.{ProtoError}
 use Rattle.zone_proto.specs.declared.rdata.denial.NSEC3PARAM.{NSEC3PARAM as Nsec3Parameters}
 use Rattle.zone_proto.specs.HashedOwners.{owner_or_refusal}
-use Rattle.zone_proto.specs.Names.{Name, is_at_or_above, star_under}
+use Rattle.zone_proto.specs.Names.{Name, is_at_or_above, wildcard_under}
 use Rattle.zone_proto.specs.Sets.{RRset}
 use Rattle.zone_proto.specs.Types.{NSEC3}
 use Rattle.zone_proto.proofs.Members.{In, In-Contains, Contains-In}
 use Rattle.zone_map.specs.Zones.{Sets, owns}
 use Rattle.zone_denial.specs.Nsec3Circle.{digests, next_digest}
-use Rattle.zone_denial.specs.Nsec3Denial.{cover_owner, enclosed, star_part, nsec3_denial}
-use Rattle.zone_denial.specs.Nsec3Laws.{HasSetOrCover, ProvesStar, Nsec3DenialProvesStar}
+use Rattle.zone_denial.specs.Nsec3Denial.{cover_owner, enclosed, wildcard_part, nsec3_denial}
+use Rattle.zone_denial.specs.Nsec3Laws.{HasSetOrCover, ProvesWildcard, Nsec3DenialProvesWildcard}
 use Rattle.zone_denial.specs.Nsec3Names.{nsec3_names}
-use Rattle.zone_denial.specs.Nsec3Zones.{IsNsec3Zone, IsHashed, TellsApart}
+use Rattle.zone_denial.specs.Nsec3Zones.{IsNsec3Zone, IsHashed, HasDistinctDigests}
 use Rattle.zone_denial.proofs.Hashed.Nsec3Covers.{has_cover}
 use Rattle.zone_denial.proofs.Hashed.Nsec3Enclosers.{is_named, named_in, IsEnclosed, enclosed_off}
-use Rattle.zone_denial.proofs.Hashed.Nsec3Encloses.{Has, star_hashed, star_owners, star_answered, answer_off}
+use Rattle.zone_denial.proofs.Hashed.Nsec3Encloses.{Has, wildcard_hashed, star_owners, star_answered, answer_off}
 use Rattle.zone_denial.proofs.Hashed.Nsec3Owners.{named_hashed, owner, set_of_named, named_owns, owns_as_named}
 
-module _ {origin : Name} {m : Sets} {hash : Name → Option (List ℕ)} {parameters : Nsec3Parameters} {x : Name} (zone : IsNsec3Zone origin m hash parameters) (apart : TellsApart (IsHashed origin m parameters.opt_out x) hash) where
+module _ {origin : Name} {m : Sets} {hash : Name → Option (List ℕ)} {parameters : Nsec3Parameters} {x : Name} (zone : IsNsec3Zone origin m hash parameters) (apart : HasDistinctDigests (IsHashed origin m parameters.opt_out x) hash) where
   abbrev names : List Name
   names = nsec3_names origin m parameters.opt_out
 
@@ -32,9 +33,9 @@ module _ {origin : Name} {m : Sets} {hash : Name → Option (List ℕ)} {paramet
       (has : (o : Name) → In o (star_owners zone apart a) → Has zone apart answer o)
     where
       abbrev star : Name
-      star = star_under a
+      star = wildcard_under a
 
-      -- the owners of the star's part, by whether its hashed owner owns NSEC3
+      -- the owners of the wildcard's part, by whether its hashed owner owns NSEC3
       owners_are : (b : Bool) → owns m (owner zone apart star) NSEC3 ≡ b
           → star_owners zone apart a ≡ option_to_list (option_or (cond b (Some (owner zone apart star)) None) (cover_owner m (owner zone apart star)))
       owners_are b h = ap (λ b. option_to_list (option_or (cond b (Some (owner zone apart star)) None) (cover_owner m (owner zone apart star)))) h
@@ -44,9 +45,9 @@ module _ {origin : Name} {m : Sets} {hash : Name → Option (List ℕ)} {paramet
         on = λ on.
             let i = Contains-In star names on in
             let s = set_of_named zone apart star i in
-            (s.0, (apart.digest star, apart.answers star (star_hashed zone apart a c e), s.1), has (owner zone apart star) (subst (In (owner zone apart star)) (sym (owners_are true (named_owns zone apart star i))) (inl refl)) s.0 s.1);
+            (s.0, (apart.digest star, apart.answers star (wildcard_hashed zone apart a c e), s.1), has (owner zone apart star) (subst (In (owner zone apart star)) (sym (owners_are true (named_owns zone apart star i))) (inl refl)) s.0 s.1);
         off = λ off.
-            let h = star_hashed zone apart a c e in
+            let h = wildcard_hashed zone apart a c e in
             let cover = has_cover zone apart star h (λ i. off (In-Contains star names i)) in
             let s = set_of_named zone apart cover.0 cover.1.on in
             let is : star_owners zone apart a ≡ owner zone apart cover.0 ∷ [] = owners_are false (owns_as_named zone apart star h ∙ unnamed off (is_named origin m parameters.opt_out star) refl) ∙ ap option_to_list cover.1.is_cover in (
@@ -70,11 +71,11 @@ module _ {origin : Name} {m : Sets} {hash : Name → Option (List ℕ)} {paramet
           unnamed off false h = h
 
   star_of_denial : is_at_or_above origin x ≡ true → (Contains names x → ⊥)
-      → (answer : List RRset) × (nsec3_denial m hashed false x ≡ Ok answer) × ProvesStar origin m hash parameters.opt_out x answer
+      → (answer : List RRset) × (nsec3_denial m hashed false x ≡ Ok answer) × ProvesWildcard origin m hash parameters.opt_out x answer
   star_of_denial inside off =
       let away = λ (i : In x names). off (In-Contains x names i) in
       let n = enclosed_off origin m parameters.opt_out x inside away in
-      let r = answer_off zone apart (enclosed m hashed false x) (star_part m hashed) (λ a. refl) away n.0 n.1 n.2 (star_owners zone apart n.0) (star_answered zone apart n.0 (star_hashed zone apart n.0 n.1 n.2)) in (
+      let r = answer_off zone apart (enclosed m hashed false x) (wildcard_part m hashed) (λ a. refl) away n.0 n.1 n.2 (star_owners zone apart n.0) (star_answered zone apart n.0 (wildcard_hashed zone apart n.0 n.1 n.2)) in (
         r.0,
         r.1.given,
         record {
@@ -84,5 +85,5 @@ module _ {origin : Name} {m : Sets} {hash : Name → Option (List ℕ)} {paramet
         },
       )
 
-pub proves_star : Nsec3DenialProvesStar
+pub proves_star : Nsec3DenialProvesWildcard
 proves_star origin m hash parameters zone x inside apart off = star_of_denial zone apart inside off

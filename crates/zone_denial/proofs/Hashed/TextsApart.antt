@@ -1,4 +1,4 @@
--- Digests are told apart by their texts in base32hex, whatever their lengths, and so by the owners that they are of
+-- Digests are distinguished by their texts in base32hex, whatever their lengths, and so by the owners that they are of
 use Rattle.std.proofs.Common.{◌≡◌, ℕ, ◌+◌, ◌*◌, ◌/◌, List, ◌∷◌, length, sym, ap, ◌∙◌, arith}
 use Rattle.std.specs.Char.{digit_char}
 use Rattle.std.specs.Cmp.Lexicographic.{nat_list_cmp_total}

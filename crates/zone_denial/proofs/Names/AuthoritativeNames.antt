@@ -36,7 +36,7 @@ besides_alone m c n t k none = besides_from m c n t (by (t == c) refl) k
 nothing_between : (a b : Name) → is_above a b ≡ true → is_above b a ≡ true → ⊥
 nothing_between a b h k = asym name_order a b (above_is_less a b ((above_test a b).0 h)) (above_is_less b a ((above_test b a).0 k))
 
--- so no zone cut stands above the origin
+-- so no zone cut is above the origin
 pub origin_uncut : (origin : Name) (m : Sets) → is_below_cut origin m origin ≡ false
 origin_uncut origin m = by (is_below_cut origin m origin) refl
   where
@@ -56,7 +56,7 @@ authoritative_listed origin m c n k =
 
 -- ---- maps in which names own the same types
 
--- where the same names own NS, the same zone cuts stand above a name
+-- where the same names own NS, the same zone cuts are above a name
 pub same_cuts : (origin : Name) (m after : Sets) → ((n : Name) → owns after n NS ≡ owns m n NS) → (n : Name) → is_below_cut origin after n ≡ is_below_cut origin m n
 same_cuts origin m after same n = both_ways (is_below_cut origin after n) (is_below_cut origin m n) (moved after m (λ a. sym (same a))) (moved m after same)
   where

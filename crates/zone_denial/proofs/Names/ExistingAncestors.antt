@@ -5,7 +5,7 @@ use Rattle.std.specs.Cmp.{both_ways}
 use Rattle.std.specs.Map.{keys_of}
 use Rattle.zone_proto.specs.declared.rr_key.RrKey.{RrKey}
 use Rattle.zone_proto.specs.Keys.{key}
-use Rattle.zone_proto.specs.Names.{Name, star_label, is_above, is_at_or_above, IsAbove, IsAtOrAbove, is_wildcard, star_under}
+use Rattle.zone_proto.specs.Names.{Name, asterisk_label, is_above, is_at_or_above, IsAbove, IsAtOrAbove, is_wildcard, wildcard_under}
 use Rattle.zone_proto.specs.Sets.{RRset}
 use Rattle.zone_proto.specs.Types.{NS}
 use Rattle.zone_proto.proofs.Members.{In-filter, In-from_filter, In-from_any, any_from_In, In-map, In-from_map, none_passes, and_left, and_right, not_true}
@@ -13,7 +13,7 @@ use Rattle.zone_proto.proofs.Names.NameTree.{above_test, above_is_less, is_at_or
 use Rattle.zone_proto.proofs.Ordering.Orders.{IsTop, has_greatest}
 use Rattle.zone_proto.proofs.Names.Tree.{name_order, above_cases}
 use Rattle.zone_map.specs.Upserts.{is_denial_type}
-use Rattle.zone_map.specs.Wildcards.{exists, asked_star, closest_encloser}
+use Rattle.zone_map.specs.Wildcards.{exists, asked_wildcard, closest_encloser}
 use Rattle.zone_map.specs.Zones.{Sets, owns, owners, names_of, owns_at_or_below}
 use Rattle.zone_map.proofs.Owned.{has_entry, entry_owned, owner_in, owner_owned, name_in}
 use Rattle.zone_denial.specs.Authority.{is_below_cut, owns_besides, is_authoritative}
@@ -54,10 +54,10 @@ module _ (m : Sets) where
           let r = from_exists n e in
           absurd (none_passes (is_at_or_above n) r.0 (names_of m) none (name_in m r.0 r.1 r.2) (is_at_or_above_complete n r.0 r.4))
 
--- the star that is asked for a name below another
-pub asked_is : (m : Sets) (o x : Name) → IsAbove o x → is_wildcard x ≡ false → exists m x ≡ false → asked_star m x ≡ option_map star_under (closest_encloser m x)
+-- the wildcard at the closest encloser of a name below another
+pub asked_is : (m : Sets) (o x : Name) → IsAbove o x → is_wildcard x ≡ false → exists m x ≡ false → asked_wildcard m x ≡ option_map wildcard_under (closest_encloser m x)
 asked_is m o [] (l, f, e) s h = absurd cc
-asked_is m o (k ∷ ks) u s h = λ i. cond (s i || h i) None (option_map star_under (closest_encloser m (k ∷ ks)))
+asked_is m o (k ∷ ks) u s h = λ i. cond (s i || h i) None (option_map wildcard_under (closest_encloser m (k ∷ ks)))
 
 -- ---- authoritative names
 
@@ -86,7 +86,7 @@ module _ (origin : Name) (m : Sets) (c : ℕ) where
     pub below : IsAbove origin a
     pub delegates : owns m a NS ≡ true
 
-  -- a name of the zone that owns another type is authoritative, or stands below a cut: the topmost one above it
+  -- a name of the zone that owns another type is authoritative, or is below a cut: the topmost one above it
   data Reached (d : Name) : Type 0 where
     itself : is_authoritative origin m c d ≡ true → Reached d
     by_cut : (a : Name) → IsCut a → IsAbove a d → Reached d
@@ -160,7 +160,7 @@ module _ (origin : Name) (m : Sets) (c : ℕ) (P : Name → Bool) (test : IsEncl
               side (inl r) = on a s.authoritative r
               side (inr r) = above (above_cases a e r)
 
-  -- where no zone cut stands above a name of the zone, it exists exactly where it passes
+  -- where no zone cut is above a name of the zone, it exists exactly where it passes
   pub exists_as_passes : (e : Name) → IsAtOrAbove origin e → is_below_cut origin m e ≡ false → exists m e ≡ P e
   exists_as_passes e u uncut = both_ways (exists m e) (P e) (λ h. of (below e u h)) (λ h. there (test.to e h))
     where
@@ -184,7 +184,7 @@ module _ (origin : Name) (m : Sets) (c : ℕ) (P : Name → Bool) (test : IsEncl
         by (inl q) = ap (exists m) q ∙ test.origin_there
         by (inr (b, k, v)) = above_authority a b k v
 
-    -- they are one name, or a cut stands above the former
+    -- they are one name, or a cut is above the former
     data Enclosers : Type 0 where
       one : a ≡ e → Enclosers
       apart : (d : Name) → IsCut origin m c d → IsAbove d e → Enclosers
@@ -203,7 +203,7 @@ module _ (origin : Name) (m : Sets) (c : ℕ) (P : Name → Bool) (test : IsEncl
             of (on d k v) = absurd (true≢false (sym (test.from e d inside k v) ∙ encloses.longest e there.above (above_shorter a e w)))
             of (over d k v) = apart d k v
 
-    -- where no cut stands above x, they are one
+    -- where no cut is above x, they are one
     pub same_encloser : is_below_cut origin m x ≡ false → a ≡ e
     same_encloser uncut = by enclosers
       where
@@ -211,13 +211,13 @@ module _ (origin : Name) (m : Sets) (c : ℕ) (P : Name → Bool) (test : IsEncl
         by (one q) = q
         by (apart d k v) = absurd (true≢false (sym (cut_by origin m c d x k.below k.delegates (above_below d e x v (above_at e x there.above))) ∙ uncut))
 
-    -- where the star under e doesn't exist, no authoritative name stands at or below the star under a
-    pub no_star : exists m (star_under e) ≡ false → (b : Name) → is_authoritative origin m c b ≡ true → IsAtOrAbove (star_under a) b → ⊥
+    -- where the wildcard at e doesn't exist, no authoritative name is at or below the wildcard at a
+    pub no_star : exists m (wildcard_under e) ≡ false → (b : Name) → is_authoritative origin m c b ≡ true → IsAtOrAbove (wildcard_under a) b → ⊥
     no_star gone b h s = by enclosers
       where
         by : Enclosers → ⊥
-        by (one q) = true≢false (sym (above_authority (star_under a) b h s) ∙ ap (λ n. exists m (star_under n)) q ∙ gone)
+        by (one q) = true≢false (sym (above_authority (wildcard_under a) b h s) ∙ ap (λ n. exists m (wildcard_under n)) q ∙ gone)
         by (apart d k v) =
             let up = above_below d e x v (above_at e x there.above) in
             let w = others_above P x a d encloses up (test.from d d (above_at origin d k.below) k.authoritative ([], refl)) in
-            true≢false (sym (cut_by origin m c d b k.below k.delegates (above_below d (star_under a) b (above_above d a (star_under a) w (star_label, [], refl)) s)) ∙ authority_uncut origin m c b h)
+            true≢false (sym (cut_by origin m c d b k.below k.delegates (above_below d (wildcard_under a) b (above_above d a (wildcard_under a) w (asterisk_label, [], refl)) s)) ∙ authority_uncut origin m c b h)

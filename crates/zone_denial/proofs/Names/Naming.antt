@@ -83,7 +83,7 @@ module _ (origin : Name) (m : Sets) (opt_out : Bool) (ks : List RrKey) where
   abbrev Done : List (Name × List ℕ) → Name → Type 0
   Done made n = is_counted n ≡ true → (x : Name) → IsAbove origin x → IsAtOrAbove x n → In x (listed_names made)
 
-  -- a key is behind: it stands before all that are left
+  -- a key is behind: it comes before all that are left
   abbrev Behind : List RrKey → Name → Type 0
   Behind left n = (q : RrKey) → In q left → name_cmp n q.name ≡ Less
 
@@ -264,7 +264,7 @@ module _ (origin : Name) (m : Sets) (opt_out : Bool) (ks : List RrKey) where
         upper : IsAtOrAbove a n
         upper = (above_n.0 ∷ above_n.1, above_n.2)
 
-        -- they stand after the last one
+        -- they come after the last one
         new_after : name_cmp last a ≡ Less
         new_after = by (side name_order last a)
           where
@@ -289,7 +289,7 @@ module _ (origin : Name) (m : Sets) (opt_out : Bool) (ks : List RrKey) where
             by (inl e) = absurd (irrefl name_order a (ap (λ x. name_cmp x a) (sym e) ∙ origin_less))
             by (inr w) = w
 
-        -- no cut stands above one, nor is it one, since none stands above n
+        -- no cut is above one, nor is it one, since none is above n
         a_uncut : is_below_cut origin m a ≡ false
         a_uncut = by (is_below_cut origin m a) refl
           where

@@ -24,21 +24,10 @@ use Rattle.zone_map.specs.Zones.{Sets, owners, owns}
 use Rattle.zone_map.proofs.Lists.{then_upto}
 use Rattle.zone_map.proofs.Owned.{entry_owned, has_entry}
 use Rattle.zone_denial.specs.Authority.{owns_besides, is_authoritative}
-use Rattle.zone_denial.specs.AuthoritativeKeys.{is_circle_key, authoritative_keys, cut_kept}
+use Rattle.zone_denial.specs.AuthoritativeKeys.{is_circle_key, authoritative_keys, cut_kept, below, next_cut, counts}
 use Rattle.zone_denial.proofs.Names.AuthoritativeNames.{besides_from}
 use Rattle.zone_denial.proofs.Ascending.{Ascends, Ascends-from_sorted}
 use Rattle.zone_denial.proofs.ReadBack.{filter_same}
-
--- a name stands below a cut, if there is one
-abbrev pub below : Option Name → Name → Bool
-below cut n = option_map_or (λ a. is_above a n) cut false
-
--- the cut once a key was passed, and whether the key counts
-abbrev pub next_cut : Name → Option Name → RrKey → Option Name
-next_cut origin cut k = cond (below cut k.name) cut (cond ((k.record_type.0 == NS) && is_above origin k.name) (Some k.name) (cut_kept cut k.name))
-
-abbrev pub counts : Name → ℕ → Option Name → RrKey → Bool
-counts origin denial cut k = not (below cut k.name) && (not (k.record_type.0 == denial) && is_at_or_above origin k.name)
 
 -- the keys that count of those that are left
 pub kept : Name → ℕ → Option Name → List RrKey → List RrKey
@@ -64,7 +53,7 @@ owners_by_keys : (m : Sets) → owners m NS ≡ ns_names (keys_of m)
 owners_by_keys [] = refl
 owners_by_keys (e ∷ m) = ap (cons_option (cond (NS == e.0.record_type.0) (Some e.0.name) None)) (owners_by_keys m)
 
--- a key that stands at or after all of them isn't below one
+-- a key that is at or after all of them isn't below one
 none_above : (origin : Name) (ks : List RrKey) (n : Name) → ((q : RrKey) → In q ks → is_upto name_cmp n q.name ≡ true) → under_ns origin ks n ≡ false
 none_above origin [] n h = refl
 none_above origin (k ∷ ks) n h = by (NS == k.record_type.0) (none_above origin ks n (λ q i. h q (inr i)))
@@ -89,7 +78,8 @@ above_above a b n h k =
     let w = (above_test b n).0 k in
     (above_test a n).1 (w.0, w.1 ++ (v.0 ∷ v.1), w.2 ∙ ap (λ x. (w.0 ∷ w.1) ++ x) v.2 ∙ sym (append_assoc (w.0 ∷ w.1) (v.0 ∷ v.1) a))
 
--- a name below a cut that stands at or before another name, which isn't below it, is below that other name too, where it stands after it
+-- a name below a cut that is at or before another name, which isn't below it, is below that other name too, where it
+-- comes after it
 below_later : (a b n : Name) → is_upto name_cmp a b ≡ true → is_upto name_cmp b n ≡ true → is_above a b ≡ false → is_above a n ≡ true → is_above b n ≡ true
 below_later a b n h k apart below =
     let w = (above_test a n).0 below in
@@ -111,7 +101,7 @@ none_below_later a b n h k apart differ = at (is_above a n) refl
     at true below = let w = (above_test a n).0 below in absurd (never (above_cases a b (together a b n h k (w.0 ∷ w.1, w.2))))
     at false below = refl
 
--- a cut stands at or before a name
+-- a cut is at or before a name
 abbrev Upto : Option Name → Name → Type 0
 Upto None n = Unit {0}
 Upto (Some a) n = is_upto name_cmp a n ≡ true
@@ -257,41 +247,24 @@ circle_key_in origin m denial n t h other on =
 
 -- ---- the loop
 
-module _ (origin : Name) (denial : ℕ) (cut : Option Name) (made all : List RrKey) (rest after : Sets) (e : RrKey × RRset) (is : rest ≡ e ∷ after) (so_far : made ++ kept origin denial cut (keys_of rest) ≡ all) where
-  -- a key that stands below the cut is passed over
-  pub passed_over : below cut e.0.name ≡ true → made ++ kept origin denial cut (keys_of after) ≡ all
+module _ (origin : Name) (denial : ℕ) (cut new : Option Name) (made all : List RrKey) (rest after : Sets) (e : RrKey × RRset) (is : rest ≡ e ∷ after) (so_far : made ++ kept origin denial cut (keys_of rest) ≡ all) (new_is : new ≡ next_cut origin cut e.0) where
+  step : kept origin denial cut (keys_of rest) ≡ cond (counts origin denial cut e.0) (e.0 ∷ kept origin denial new (keys_of after)) (kept origin denial new (keys_of after))
   unfolding kept
+  step =
+      ap (λ (es : Sets). kept origin denial cut (keys_of es)) is
+      ∙ (λ i. cond (counts origin denial cut e.0) (e.0 ∷ kept origin denial (sym new_is i) (keys_of after)) (kept origin denial (sym new_is i) (keys_of after)))
+
+  -- a key counts, or is passed over
+  pub counted : counts origin denial cut e.0 ≡ true → (made ++ e.0 ∷ []) ++ kept origin denial new (keys_of after) ≡ all
+  counted h =
+      append_assoc made (e.0 ∷ []) (kept origin denial new (keys_of after))
+      ∙ ap (λ ks. made ++ ks) (sym (step ∙ ap (λ c. cond c (e.0 ∷ kept origin denial new (keys_of after)) (kept origin denial new (keys_of after))) h))
+      ∙ so_far
+
+  pub passed_over : counts origin denial cut e.0 ≡ false → made ++ kept origin denial new (keys_of after) ≡ all
   passed_over h =
-      let later = kept origin denial cut (keys_of after) in
-      let test = not (e.0.record_type.0 == denial) && is_at_or_above origin e.0.name in
-      let new = cond ((e.0.record_type.0 == NS) && is_above origin e.0.name) (Some e.0.name) (cut_kept cut e.0.name) in
-      let step : kept origin denial cut (keys_of (e ∷ after)) ≡ later =
-      λ i. cond (not (h i) && test) (e.0 ∷ kept origin denial (cond (h i) cut new) (keys_of after)) (kept origin denial (cond (h i) cut new) (keys_of after)) in
-      ap (λ ks. made ++ ks) (sym step) ∙ ap (λ (es : Sets). made ++ kept origin denial cut (keys_of es)) (sym is) ∙ so_far
-
-  -- any other may be a cut, and may count
-  module _ (apart : below cut e.0.name ≡ false) (new : Option Name) (new_is : new ≡ cond ((e.0.record_type.0 == NS) && is_above origin e.0.name) (Some e.0.name) (cut_kept cut e.0.name)) where
-    renewed : next_cut origin cut e.0 ≡ new
-    renewed = ap (λ c. cond c cut (cond ((e.0.record_type.0 == NS) && is_above origin e.0.name) (Some e.0.name) (cut_kept cut e.0.name))) apart ∙ sym new_is
-
-    step : kept origin denial cut (keys_of rest) ≡ cond (not (e.0.record_type.0 == denial) && is_at_or_above origin e.0.name) (e.0 ∷ kept origin denial new (keys_of after)) (kept origin denial new (keys_of after))
-    unfolding kept
-    step =
-        ap (λ (es : Sets). kept origin denial cut (keys_of es)) is
-        ∙ (λ i.
-        cond (not (apart i) && (not (e.0.record_type.0 == denial) && is_at_or_above origin e.0.name)) (e.0 ∷ kept origin denial (renewed i) (keys_of after))
-        (kept origin denial (renewed i) (keys_of after)))
-
-    pub counted : not (e.0.record_type.0 == denial) && is_at_or_above origin e.0.name ≡ true → (made ++ e.0 ∷ []) ++ kept origin denial new (keys_of after) ≡ all
-    counted h =
-        append_assoc made (e.0 ∷ []) (kept origin denial new (keys_of after))
-        ∙ ap (λ ks. made ++ ks) (sym (step ∙ ap (λ c. cond c (e.0 ∷ kept origin denial new (keys_of after)) (kept origin denial new (keys_of after))) h))
-        ∙ so_far
-
-    pub uncounted : not (e.0.record_type.0 == denial) && is_at_or_above origin e.0.name ≡ false → made ++ kept origin denial new (keys_of after) ≡ all
-    uncounted h =
-        ap (λ ks. made ++ ks) (sym (step ∙ ap (λ c. cond c (e.0 ∷ kept origin denial new (keys_of after)) (kept origin denial new (keys_of after))) h))
-        ∙ so_far
+      ap (λ ks. made ++ ks) (sym (step ∙ ap (λ c. cond c (e.0 ∷ kept origin denial new (keys_of after)) (kept origin denial new (keys_of after))) h))
+      ∙ so_far
 
 -- where nothing is left, the keys so far are all
 pub kept_all : (origin : Name) (denial : ℕ) (cut : Option Name) (made all : List RrKey) (rest : Sets) → made ++ kept origin denial cut (keys_of rest) ≡ all → rest ≡ [] → made ≡ all

@@ -98,7 +98,7 @@ module _ (origin : Name) (m : Sets) (ks : List RrKey) (are : ks ≡ authoritativ
     set_same n on = λ i. new_set ttl serial n (nsec_data (next_same n i) (types_same n on i))
 
     module _ (es : Sets) (made : AreLinked origin ks ttl serial es) where
-      -- each stands under its key
+      -- each is under its key
       pub AreStored-linked : IsZone m → AreStored es
       AreStored-linked zone k d lt =
           let e = get_or es k d in

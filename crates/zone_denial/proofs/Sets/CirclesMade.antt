@@ -114,7 +114,7 @@ last_at-more es o u s n t =
     sym (update_all_push key_eq (λ _. None) (λ q. update_all key_eq (λ _. None) es q) es (key o u, s) (key n t) refl)
     ∙ ap (λ b. cond b (Some s) (last_at es n t)) (key_test n t o u)
 
--- what is found under a name and a type may stand there
+-- what is found under a name and a type may be there
 last_stored : (es : Sets) → AreStored es → (n : Name) (t : ℕ) (s : RRset) → last_at es n t ≡ Some s → IsStoredAt n t s
 last_stored es stored n t s e =
     let P = λ (w : RRset). IsStoredAt n t w in
@@ -122,7 +122,7 @@ last_stored es stored n t s e =
     (λ k d lt same. subst (λ (x : RrKey). IsStoredAt x.name x.record_type.0 (get_or es k d).1) (key_same (get_or es k d).0 (key n t) same) (stored k d lt)) in
     subst (λ (o : Option RRset). IfSome o P) e found
 
--- a set that is the one found may stand there
+-- a set that is the one found may be there
 found_stored : (es : Sets) → AreStored es → (o : Name) (t : ℕ) (b : Option (Bor RRset)) → option_copied b ≡ last_at es o t → IfSome b (λ s. IsStoredAt o t s.now)
 found_stored es stored o t (Some s) is = last_stored es stored o t s.now (sym is)
 found_stored es stored o t None is = tt
@@ -251,7 +251,7 @@ module _ (origin : Name) (parameters : Nsec3Parameters) (ttl serial : ℕ) (all 
     pub new_digest : last_at es (owner_of h) NSEC3 ≡ None
     new_digest = so_far.sets (owner_of h) NSEC3 ∙ ap (set_of (owner_of h) NSEC3 serial) (no_records (owner_of h) front (λ x i. apart x i (name_eq (owner_of h) (owner_of x)) refl))
 
-  -- ---- the set of the entry before is that of the owner, and there is none where it isn't taken over
+  -- ---- the set of the entry before is that of the owner, and there is none if it isn't taken over
 
   pub found_before : (i : ℕ) (h : HeldName) (es : Sets) (b : Option (Bor RRset)) → CircleSoFar (take i all) es → i < length all → h ≡ get_or all i h → Ascends hashed_cmp (map hashed all)
       → AllByRecursion IsOctet h.digest → IfSome b (λ s. last_set es ≡ Some s.now) → IfSome b (λ s. RepeatsDigest all i) → IfNone b ((es ≡ []) ⊎ ¬ RepeatsDigest all i)
@@ -384,7 +384,7 @@ module _ (origin : Name) (parameters : Nsec3Parameters) (ttl serial : ℕ) (all 
       subst (λ front. CircleSoFar front (es ++ e ∷ [])) (sym (take-suc all i h lt ∙ ap (λ k. take i all ++ k ∷ []) (sym is)))
       (subst (λ (x : RrKey × RRset). CircleSoFar (take i all ++ h ∷ []) (es ++ x ∷ [])) (sym own) (CircleSoFar-one (take i all) h es so_far none fits stored))
 
-  -- the same where the entry comes in the place of the last one, which has its key
+  -- the same where the entry comes in place of the last one, which has its key
   module _ (front : List HeldName) (others : Sets) (s : RRset) (e : RrKey × RRset) (so_far : CircleSoFar front ((others ++ (e.0, s) ∷ []) ++ e ∷ [])) where
     found_once : (n : Name) (t : ℕ) → last_at ((others ++ (e.0, s) ∷ []) ++ e ∷ []) n t ≡ last_at (others ++ e ∷ []) n t
     found_once n t =

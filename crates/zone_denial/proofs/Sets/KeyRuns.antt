@@ -90,7 +90,7 @@ module _ (n : Name) (keys : List (Bor RrKey)) (count : ℕ) (counted : count ≡
           let name : b.now.name ≡ n = ap (λ (k : RrKey). k.name) (let s : b.now ≡ q = cc in s) ∙ same in
           true≢false (sym (ap (λ x. eq_by_cmp name_cmp x n) name ∙ ap is_eq (name_itself n)) ∙ past_front is_of_name b keys bs h)
 
--- ---- from a place of the list on, the keys of the name that stands there
+-- ---- from a place of the list on, the keys of the name that is there
 
 pub counted_from : (keys : List (Bor RrKey)) (start count : ℕ) (first : Bor RrKey) → start < length keys → first ≡ get_or keys start first
     → ((f : Bor RrKey) (others : List (Bor RrKey)) → take (length keys - start) (drop start keys) ≡ f ∷ others → count ≡ 1 + prefix_len (λ (b : Bor RrKey). eq_by_cmp name_cmp b.now.name f.now.name) others)

@@ -54,7 +54,7 @@ module _ (n : Name) where
           let tied = ap (name_cmp k.name) (h r.0 (inr r.1) ∙ sym (h k (inl refl))) ∙ name_itself k.name in
           ap (nat_cmp k.record_type.0) (sym r.2) ∙ sym (ap (λ o. ordering_then o (nat_cmp k.record_type.0 r.0.record_type.0)) tied) ∙ a.0 r.0 r.1
 
-  -- what follows the keys of a name, if its first isn't of that name, stands after it
+  -- what follows the keys of a name, if its first isn't of that name, comes after it
   pub others_after : (f : RrKey) (own others : List RrKey) → f.name ≡ n → In f own → Ascends key_cmp (own ++ others) → ((q : RrKey) (qs : List RrKey) → others ≡ q ∷ qs → q.name ≡ n → ⊥)
       → (q : RrKey) → In q others → name_cmp n q.name ≡ Less
   others_after f own [] e i a apart q j = absurd j

@@ -1,4 +1,4 @@
--- The NSEC3 sets that stand in a zone, passed one after the other beside the names of a circle
+-- The NSEC3 sets that are in a zone, passed one after the other beside the names of a circle
 use Rattle.std.proofs.Common.{◌≡◌, ℕ, suc, ◌<◌, ◌==◌, Bool, true, false, cond, List, [], ◌∷◌, ◌++◌, map, length, take, get_or, refl, sym, ap, ◌∙◌, subst, append_assoc, append-nil, eqb-true, eq-eqb, Decides, inl, inr, arith}
 use Rattle.std.specs.Prelude.{Option, Some, None, filter}
 use Rattle.std.specs.Cmp.Lexicographic.{pointwise}
@@ -37,7 +37,7 @@ use Rattle.zone_denial.proofs.Sets.StandingSets.{renewed, keys_of-renewed, stand
 use Rattle.zone_denial.proofs.Sets.TakenRecords.{set_taking}
 use Rattle.zone_denial.proofs.Sets.TypesJoined.{of_numbers}
 
--- ---- under the key of a set that stands, none stands before it
+-- ---- under the key of a set that stands, none comes before it
 
 none_passed : (es : Sets) (f : RrKey → Option RRset) (q : RrKey) → f q ≡ None → ((e : RrKey × RRset) → In e es → key_eq e.0 q ≡ false) → update_all key_eq f es q ≡ None
 none_passed [] f q none differ = none

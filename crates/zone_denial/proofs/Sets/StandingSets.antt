@@ -1,4 +1,4 @@
--- The NSEC sets that stand in a zone, passed one after the other, and found by name and type
+-- The NSEC sets that are in a zone, passed one after the other, and found by name and type
 use Rattle.std.proofs.Common.{◌≡◌, ℕ, ◌==◌, Bool, true, false, cond, List, [], ◌∷◌, ◌++◌, map, refl, sym, ap, ◌∙◌, subst, append_assoc, append-nil, eqb-true}
 use Rattle.std.specs.Prelude.{Some, None, filter, option_map}
 use Rattle.std.specs.Cmp.{eq_by_cmp_equiv}

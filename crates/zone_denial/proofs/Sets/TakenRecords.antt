@@ -38,7 +38,7 @@ module _ (r : Record) (serial : ℕ) where
   taking_kind None h = refl
   taking_kind (Some s) h = let there : IsStoredAt (lower r.name) (type_of r.rdata) s = h in sym there.record_type
 
-  -- and may stand there once it has the record
+  -- and may be there once it has the record
   pub taken_stored : IsName (lower r.name) → (s : Option RRset) → IfSome s (IsStoredAt (lower r.name) (type_of r.rdata)) → IsStoredAt (lower r.name) (type_of r.rdata) (with_taken serial (taking s) r)
   taken_stored named None h =
       let none = empty_set r.name (type_of r.rdata) serial in

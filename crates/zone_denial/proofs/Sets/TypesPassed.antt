@@ -14,7 +14,7 @@ use Rattle.zone_proto.proofs.Members.{In, In-from_map}
 use Rattle.zone_denial.specs.TypeLists.{joined}
 use Rattle.zone_denial.proofs.Sets.KeyRuns.{in_front}
 
--- a number stands behind those that are less, and before one that is greater
+-- a number comes after those that are less, and before one that is greater
 joined_behind : (x : ℕ) (low rest : List ℕ) → ((y : ℕ) → In y low → y < x) → joined nat_cmp x (low ++ rest) ≡ low ++ joined nat_cmp x rest
 joined_behind x [] rest h = refl
 joined_behind x (y ∷ low) rest h = by (nat_cmp x y) (ranked x y (nat_cmp x y) refl) (joined_behind x low rest (λ z i. h z (inr i)))

@@ -14,11 +14,11 @@ use zone_proto::{LowerName, Nsec3Hash, Record, RecordSet, RrKey, Signer};
 impl<S: Signer, H: Nsec3Hash> InMemoryZoneHandler<S, H> {
     /// Takes a record into the set of its owner name and type, or makes that set.
     ///
-    /// `serial` is the serial that the set keeps when it takes the record. The answer is whether the record was
-    /// taken. It isn't taken if it is of another class than the zone; if its owner owns a type that may not stand
-    /// beside the record's, one of the two being CNAME and neither NSEC or NSEC3 (RFC 1034 section 3.6.2); or if the
-    /// set refuses it, as [`RecordSet::insert`] says: an SOA whose serial isn't greater than the stored one's, or
-    /// data that the set has. A record that isn't taken changes nothing, and so does a refusal, by `Memory` alone.
+    /// `serial` is the serial that the set keeps when it takes the record. The answer is whether the record was taken.
+    /// It isn't taken if it is of another class than the zone; if its owner owns a type that may not are beside the
+    /// record's, one of the two being CNAME and neither NSEC or NSEC3 (RFC 1034 section 3.6.2); or if the set refuses
+    /// it, as [`RecordSet::insert`] says: an SOA whose serial isn't greater than the stored one's, or data that the set
+    /// has. A record that isn't taken changes nothing, and so does a refusal, by `Memory` alone.
     pub fn upsert(&mut self, record: Record, serial: u32) -> Result<bool, ZoneError>
         ensures { IsUpsert self.old «record» serial result self.new }
     {
@@ -33,7 +33,7 @@ impl<S: Signer, H: Nsec3Hash> InMemoryZoneHandler<S, H> {
     }
 
     /// Stores a set whole, with its signatures, under its own owner name, in lower case, and type, and gives the set
-    /// that stood there.
+    /// that was there.
     ///
     /// Nothing is asked of its class, nor of a CNAME beside it. Refused by `Empty` for a set without records, and by
     /// `Memory`; both hand the set back and leave the zone as it was.
@@ -63,7 +63,7 @@ impl<S: Signer, H: Nsec3Hash> InMemoryZoneHandler<S, H> {
         }
     }
 
-    /// Takes the set out that stands under a key, and gives it. This takes no memory.
+    /// Takes the set out that is under a key, and gives it. This doesn't allocate.
     pub fn remove_set(&mut self, key: &RrKey) -> Option<RecordSet>
         ensures before { result ≡ set_at self.old.inner.records key.now.name key.now.record_type.0 }
         ensures removed { self.new ≡ record self.old {
@@ -75,7 +75,7 @@ impl<S: Signer, H: Nsec3Hash> InMemoryZoneHandler<S, H> {
         self.inner.remove(key)
     }
 
-    /// Takes all record sets out; the signers stay. This takes no memory.
+    /// Takes all record sets out; the signers stay. This doesn't allocate.
     pub fn clear(&mut self)
         ensures cleared { self.new
             ≡ record self.old { inner = record self.old.inner { records = [] } } }

@@ -4,23 +4,23 @@ ghost use Rattle.zone_proto.specs.declared.rdata.denial.NSEC3PARAM.{NSEC3PARAM a
 ghost use Rattle.zone_proto.specs.Names.{Name, is_at_or_above, is_wildcard};
 ghost use Rattle.zone_proto.specs.Types.{SOA, AXFR, NSEC, NSEC3};
 ghost use Rattle.zone_denial.specs.NsecLaws.{IsNsecZone};
-ghost use Rattle.zone_denial.specs.Nsec3Zones.{IsNsec3Zone, IsCircleName, IsHashed, TellsApart};
-ghost use Rattle.zone_denial.specs.StarLaws.{OwnsNone, StarIsDenied, Nsec3StarIsDenied};
+ghost use Rattle.zone_denial.specs.Nsec3Zones.{IsNsec3Zone, IsCircleName, IsHashed, HasDistinctDigests};
+ghost use Rattle.zone_denial.specs.WildcardLaws.{OwnsNone, DeniesWildcard, Nsec3DeniesWildcard};
 ghost use Rattle.zone_handler.specs.Hashing.{digest_for};
 ghost use Rattle.zone_handler.specs.Transfers.{IsNoLookup};
 ghost use Rattle.zone_lookup.specs.Replies.{negative_answer};
 ghost use Rattle.zone_in_memory.specs.Lookup.{IsLookup, IsAnswered, IsNameError};
-ghost use Rattle.denial_laws.specs.Judged.{IsJudged};
-ghost use Rattle.denial_laws.specs.Nsec3Judged.{IsNsec3Judged};
+ghost use Rattle.denial_laws.specs.Scope.{IsInScope};
+ghost use Rattle.denial_laws.specs.Nsec3Scope.{IsInNsec3Scope};
 ghost use Rattle.denial_laws.specs.Soundness.{IsTopmostCut};
-ghost use Rattle.zone_in_memory.specs.NsecAnswers.{IsNsecAnswer, HasNsecProof, HasStarProof, HasAcceptedRecords, AgreesWithCircle};
+ghost use Rattle.zone_in_memory.specs.NsecAnswers.{IsNsecAnswer, HasNsecProof, HasWildcardProof, HasAcceptedRecords, AgreesWithCircle};
 ghost use Rattle.zone_in_memory.specs.Nsec3Steps.{IsNsec3Answer};
-ghost use Rattle.zone_in_memory.specs.Nsec3Answers.{AgreesWithNsec3Circle, HasNsec3Proof, HasNsec3StarProof, HasAcceptedNsec3Records, HasAskedStarProof, HasNextCloser};
+ghost use Rattle.zone_in_memory.specs.Nsec3Answers.{AgreesWithNsec3Circle, HasNsec3Proof, HasNsec3WildcardProof, HasAcceptedNsec3Records, HasAskedWildcardProof, HasNextCloser};
 ghost use Rattle.zone_in_memory.specs.ValidatorAnswers.{HasNoProof, HasNoProofBelowCut, HasFoundParameters, HasOptOutProof, AgreesWithProofs, AgreesWithNsec3Proofs};
 ghost use Rattle.zone_in_memory.specs.Requests.{IsSearch};
 ghost use Rattle.zone_in_memory.specs.Transfers.{IsZoneTransfer};
 ghost use Rattle.zone_in_memory.specs.Construction.{made};
-ghost use Rattle.zone_map.specs.Wildcards.{asked_star_exists};
+ghost use Rattle.zone_map.specs.Wildcards.{asked_wildcard_exists};
 ghost use Rattle.zone_map.specs.Zones.{owns};
 
 use crate::in_memory_zone_handler::InMemoryZoneHandler;
@@ -78,29 +78,30 @@ impl<S: Signer, H: Nsec3Hash> ZoneHandler for InMemoryZoneHandler<S, H> {
     ///
     /// # Additional records
     ///
-    /// The additional section has what [`InnerInMemory::additional_search`] gives from where the last of these sets leads:
-    /// an ANAME set for A, AAAA and ANAME, and a set of NS, MX or SRV for its own type. Where nothing is found there is no
-    /// such section. If addresses are asked for and that last set is an ANAME set, it stands first among the additional
-    /// sets. An ANAME set that is answered alone is then flattened: in its place stands a set of its owner and the type that
-    /// is asked for, with the data of the last additional set where this is of that type, and with the lesser TTL of both.
-    /// Where DNSSEC is asked for it is signed by each signer of the zone that signs it, unless the moment `now`, in seconds
-    /// since 1970, is past the year 9999.
+    /// The additional section has what [`InnerInMemory::additional_search`] gives from where the last of these sets
+    /// leads: an ANAME set for A, AAAA and ANAME, and a set of NS, MX or SRV for its own type. Where nothing is found
+    /// there is no such section. If addresses are asked for and that last set is an ANAME set, it comes first among the
+    /// additional sets. An ANAME set that is answered alone is then flattened: in its place stands a set of its owner
+    /// and the type that is asked for, with the data of the last additional set where this is of that type, and with
+    /// the lesser TTL of both. Where DNSSEC is asked for it is signed by each signer of the zone that signs it, unless
+    /// the moment `now`, in seconds since 1970, is past the year 9999.
     ///
     /// # Errors
     ///
     /// Where nothing is found the answer is `NameExists` if the name or a name below it owns a set (RFC 2308 section
-    /// 2.2), or if the star that [`InnerInMemory::inner_lookup`] asks for it exists (RFC 4592 section 2.2.1), else
-    /// `NXDomain` for a name at or below the origin (RFC 2308 section 2.1), and else `Refused` (RFC 1035 section 4.1.1).
-    /// `Memory` may come in place of these, but not of the answer to AXFR. `request_info` isn't used.
+    /// 2.2), or if the wildcard that [`InnerInMemory::inner_lookup`] asks for it exists (RFC 4592 section 2.2.1), else
+    /// `NXDomain` for a name at or below the origin (RFC 2308 section 2.1), and else `Refused` (RFC 1035 section
+    /// 4.1.1). `Memory` may come in place of these, but not of the answer to AXFR. `request_info` isn't used.
     ///
     /// # DNSSEC
     ///
-    /// In a zone whose NSEC or NSEC3 sets are a circle the answer agrees with them: `NXDomain` comes only for a name that
-    /// isn't on the circle, and `NameExists` for a name on it only for a type that its set doesn't list, RRSIG aside.
-    /// `NXDomain` for a name that doesn't begin with `*` also comes only where the star under the name's closest encloser
-    /// isn't on the circle, and then a set of the name's denial covers this star (RFC 4035 section 3.1.3.2, RFC 5155 section
-    /// 7.2.2): so it is where the zone has no sets of the other of the two types and, with NSEC3, no opt-out, and the hash
-    /// gives the names on the circle and those that the denial asks of digests of one length that differ.
+    /// In a zone whose NSEC or NSEC3 sets are a circle the answer agrees with them: `NXDomain` comes only for a name
+    /// that isn't on the circle, and `NameExists` for a name on it only for a type that its set doesn't list, RRSIG
+    /// aside. `NXDomain` for a name that doesn't begin with `*` also comes only where the wildcard at the name's
+    /// closest encloser isn't on the circle, and then a set of the name's denial covers this wildcard (RFC 4035 section
+    /// 3.1.3.2, RFC 5155 section 7.2.2): so it is where the zone has no sets of the other of the two types and, with
+    /// NSEC3, no opt-out, and the hash gives the names on the circle and those that the denial asks of digests of one
+    /// length that differ.
     ///
     /// Nor does it contradict what a validator concludes from any NSEC records of the zone, of names that
     /// [`ZoneHandler::nsec_records`] says this of: where they prove a name error the answer is `NXDomain`, and where they prove
@@ -120,7 +121,7 @@ impl<S: Signer, H: Nsec3Hash> ZoneHandler for InMemoryZoneHandler<S, H> {
         ensures transfer { record_type.0 ≡ AXFR → IsNoLookup result }
         ensures owned_is_answered { IsTrue (owns self.now.inner.records name.now record_type.0)
             → record_type.0 ≢ AXFR → IsAnswered result }
-        ensures existing_star { IsTrue (asked_star_exists self.now.inner.records name.now)
+        ensures existing_wildcard { IsTrue (asked_wildcard_exists self.now.inner.records name.now)
             → ¬ IsNameError result }
         ensures circle { IsNsecZone self.now.origin self.now.inner.records
             → AgreesWithCircle self.now.origin self.now.inner.records name.now record_type.0
@@ -129,24 +130,25 @@ impl<S: Signer, H: Nsec3Hash> ZoneHandler for InMemoryZoneHandler<S, H> {
             → IsNsec3Zone self.now.origin self.now.inner.records hash parameters
             → AgreesWithNsec3Circle self.now.origin self.now.inner.records hash parameters.opt_out
             name.now record_type.0 result }
-        ensures absent_star { IsNsecZone self.now.origin self.now.inner.records
+        ensures absent_wildcard { IsNsecZone self.now.origin self.now.inner.records
             → OwnsNone self.now.inner.records NSEC3 → IsFalse (is_wildcard name.now)
-            → IsNameError result → StarIsDenied self.now.origin self.now.inner.records name.now }
-        ensures nsec3_absent_star { (hash : Name → Option (List ℕ)) (parameters : Nsec3Parameters)
+            → IsNameError result → DeniesWildcard self.now.origin self.now.inner.records name.now }
+        ensures nsec3_absent_wildcard { (hash : Name → Option (List ℕ)) (parameters :
+            Nsec3Parameters)
             → IsNsec3Zone self.now.origin self.now.inner.records hash parameters
             → IsFalse parameters.opt_out → OwnsNone self.now.inner.records NSEC
-            → TellsApart
+            → HasDistinctDigests
             (IsHashed self.now.origin self.now.inner.records parameters.opt_out name.now) hash
             → IsFalse (is_wildcard name.now) → IsNameError result
-            → Nsec3StarIsDenied self.now.origin self.now.inner.records hash parameters.opt_out
+            → Nsec3DeniesWildcard self.now.origin self.now.inner.records hash parameters.opt_out
             name.now }
         ensures proofs { record_type.0 ≢ AXFR
-            → IsJudged self.now.origin self.now.inner.records name.now
+            → IsInScope self.now.origin self.now.inner.records name.now
             → AgreesWithProofs self.now.origin self.now.inner.records name.now record_type.0
             result }
         ensures nsec3_proofs { record_type.0 ≢ AXFR → (hash : Name → Option (List ℕ))
             (parameters : Nsec3Parameters)
-            → IsNsec3Judged self.now.origin self.now.inner.records hash parameters name.now
+            → IsInNsec3Scope self.now.origin self.now.inner.records hash parameters name.now
             → AgreesWithNsec3Proofs self.now.origin self.now.inner.records hash
             parameters.opt_out name.now record_type.0 result }
     {
@@ -185,27 +187,27 @@ impl<S: Signer, H: Nsec3Hash> ZoneHandler for InMemoryZoneHandler<S, H> {
     /// The NSEC records that deny what `name` doesn't own, or that there is such a name, with their signatures where
     /// `lookup_options` ask for DNSSEC.
     ///
-    /// A name that owns an NSEC set is denied by that one, whose list tells what the name owns (RFC 4035 section 3.1.3.1).
-    /// Any other is denied by the closest NSEC sets, as [`InnerInMemory::closest_nsec`] says, of the star under its closest
-    /// encloser and of the name itself, in this order, or by one where they are the same (section 3.1.3.2). The closest
-    /// encloser is the longest proper ancestor, not above the origin, that owns NSEC or has such a name below it, or else the
-    /// origin. Of a name outside the zone the origin stands in the place of the star, and of the origin nothing does. A set
-    /// that isn't found is left out. So it is in any zone, and whatever its kind; the answer has no additional section.
-    /// `Memory` may come in place of it.
+    /// A name that owns an NSEC set is denied by that one, whose list tells what the name owns (RFC 4035 section
+    /// 3.1.3.1). Any other is denied by the closest NSEC sets, as [`InnerInMemory::closest_nsec`] says, of the wildcard
+    /// at its closest encloser and of the name itself, in this order, or by one where they are the same (section
+    /// 3.1.3.2). The closest encloser is the longest proper ancestor, not above the origin, that owns NSEC or has such
+    /// a name below it, or else the origin. Of a name outside the zone the origin stands in place of the wildcard, and
+    /// of the origin nothing does. A set that isn't found is left out. So it is in any zone, and whatever its kind; the
+    /// answer has no additional section. `Memory` may come in place of it.
     ///
     /// # In a secured zone
     ///
-    /// In a zone whose NSEC sets are a circle, as they are once [`InMemoryZoneHandler::secure_zone_mut`] made them, these
-    /// deny each name of the zone: the name's own set is found, or the last set covers the name; and in this case they also
-    /// have the set of the star under the closest encloser, or one that covers the star. Of names outside the zone nothing is
-    /// said.
+    /// In a zone whose NSEC sets are a circle, as they are once [`InMemoryZoneHandler::secure_zone_mut`] made them,
+    /// these deny each name of the zone: the name's own set is found, or the last set covers the name; and in this case
+    /// they also have the set of the wildcard at the closest encloser, or one that covers the wildcard. Of names
+    /// outside the zone nothing is said.
     ///
-    /// A validator makes of their records what [`InMemoryZoneHandler::lookup`] answers, as `denial_validation`, which knows no
-    /// zone, says: they prove a name error exactly where `NXDomain` is answered, if `name` doesn't begin with `*`, and absent
-    /// data, the star that answers or a delegation without DS (RFC 4035 section 5.4). So it is of a name of the zone that no
-    /// zone cut and no DNAME stands above, where no name owns NSEC3; but not of RRSIG, ANY and the DS of an apex. What
-    /// `nsec::proof` tells by them is the case that the zone has. Of a name below a zone cut they prove nothing (RFC 6840
-    /// section 4.1), nor, in any zone, of a name outside it.
+    /// A validator makes of their records what [`InMemoryZoneHandler::lookup`] answers, as `denial_validation`, which
+    /// knows no zone, says: they prove a name error exactly where `NXDomain` is answered, if `name` doesn't begin with
+    /// `*`, and absent data, the wildcard that answers or a delegation without DS (RFC 4035 section 5.4). So it is of a
+    /// name of the zone that no zone cut and no DNAME is above, where no name owns NSEC3; but not of RRSIG, ANY and the
+    /// DS of an apex. What `nsec::proof` tells by them is the case that the zone has. Of a name below a zone cut they
+    /// prove nothing (RFC 6840 section 4.1), nor, in any zone, of a name outside it.
     fn nsec_records(
         &self,
         name: &LowerName,
@@ -218,8 +220,8 @@ impl<S: Signer, H: Nsec3Hash> ZoneHandler for InMemoryZoneHandler<S, H> {
         ensures star { IsNsecZone self.now.origin self.now.inner.records
             → IsTrue (is_at_or_above self.now.origin name.now)
             → IsFalse (owns self.now.inner.records name.now NSEC)
-            → HasStarProof self.now.origin self.now.inner.records name.now result }
-        ensures accepted { IsJudged self.now.origin self.now.inner.records name.now
+            → HasWildcardProof self.now.origin self.now.inner.records name.now result }
+        ensures accepted { IsInScope self.now.origin self.now.inner.records name.now
             → HasAcceptedRecords self.now.origin self.now.inner.records name.now result }
         ensures below_cut { (cut : Name) → IsNsecZone self.now.origin self.now.inner.records
             → IsTopmostCut self.now.origin self.now.inner.records name.now cut
@@ -236,19 +238,21 @@ impl<S: Signer, H: Nsec3Hash> ZoneHandler for InMemoryZoneHandler<S, H> {
     ///
     /// # In a secured zone
     ///
-    /// In a zone whose NSEC3 sets are a circle by the parameters of `info` and by the zone's hash, and below the root, these
-    /// deny each name of the zone to which no wildcard answered: the name's own set is found, where the name is on the circle,
-    /// and else the set of its closest encloser and one that covers the next closer name (RFC 5155 section 7.2.1), and the set of
-    /// the star under that encloser or one that covers the star (section 7.2.2). That is so where the hash gives the names on
-    /// the circle and those that it is asked of digests of one length that differ. Then a query for a name below the origin is
-    /// also answered where a wildcard answered it, and refused by `Memory` alone: unless the name is on the circle, its sets
-    /// have one that covers the next closer name (section 7.2.6).
+    /// In a zone whose NSEC3 sets are a circle by the parameters of `info` and by the zone's hash, and below the root,
+    /// these deny each name of the zone to which no wildcard answered: the name's own set is found, where the name is
+    /// on the circle, and else the set of its closest encloser and one that covers the next closer name (RFC 5155
+    /// section 7.2.1), and the set of the wildcard at that encloser or one that covers the wildcard (section 7.2.2).
+    /// That is so where the hash gives the names on the circle and those that it is asked of digests of one length that
+    /// differ. Then a query for a name below the origin is also answered where a wildcard answered it, and refused by
+    /// `Memory` alone: unless the name is on the circle, its sets have one that covers the next closer name (section
+    /// 7.2.6).
     ///
-    /// Without opt-out a validator makes of their records what is answered, as with [`InMemoryZoneHandler::nsec_records`] (RFC
-    /// 5155 section 8): of such a name that owns no NSEC3, where no name owns NSEC and the origin is no delegation. With opt-out
-    /// too, of a name below a zone cut that it doesn't leave out they prove nothing, where no wildcard answered, and they prove
-    /// that a name isn't there only where what is there is an unsigned delegation that it leaves out, or stands below a zone
-    /// cut. `nsec3::proof` finds the zone's parameters in them, if these are those of `info`.
+    /// Without opt-out a validator makes of their records what is answered, as with
+    /// [`InMemoryZoneHandler::nsec_records`] (RFC 5155 section 8): of such a name that owns no NSEC3, where no name
+    /// owns NSEC and the origin is no delegation. With opt-out too, of a name below a zone cut that it doesn't leave
+    /// out they prove nothing, where no wildcard answered, and they prove that a name isn't there only where what is
+    /// there is an unsigned delegation that it leaves out, or is below a zone cut. `nsec3::proof` finds the zone's
+    /// parameters in them, if these are those of `info`.
     fn nsec3_records(
         &self,
         info: Nsec3QueryInfo<'_>,
@@ -260,7 +264,7 @@ impl<S: Signer, H: Nsec3Hash> ZoneHandler for InMemoryZoneHandler<S, H> {
             (digest_for (H.digest_of self.now.hash) info.entry) parameters
             → info.entry.has_wildcard_match ≡ false
             → IsTrue (is_at_or_above self.now.origin info.entry.qname.now)
-            → TellsApart
+            → HasDistinctDigests
             (IsHashed self.now.origin self.now.inner.records parameters.opt_out
             info.entry.qname.now)
             (digest_for (H.digest_of self.now.hash) info.entry)
@@ -272,21 +276,21 @@ impl<S: Signer, H: Nsec3Hash> ZoneHandler for InMemoryZoneHandler<S, H> {
             (digest_for (H.digest_of self.now.hash) info.entry) parameters
             → info.entry.has_wildcard_match ≡ false
             → IsTrue (is_at_or_above self.now.origin info.entry.qname.now)
-            → TellsApart
+            → HasDistinctDigests
             (IsHashed self.now.origin self.now.inner.records parameters.opt_out
             info.entry.qname.now)
             (digest_for (H.digest_of self.now.hash) info.entry)
             → (IsCircleName self.now.origin self.now.inner.records parameters.opt_out
             info.entry.qname.now
             → ⊥)
-            → HasNsec3StarProof self.now.origin self.now.inner.records
+            → HasNsec3WildcardProof self.now.origin self.now.inner.records
             (digest_for (H.digest_of self.now.hash) info.entry) parameters.opt_out
             info.entry.qname.now result }
         ensures closer { HasNextCloser H.digest_of self.now info.entry result }
         ensures accepted { info.entry.has_wildcard_match ≡ false
             → HasAcceptedNsec3Records H.digest_of self.now info.entry result }
         ensures wildcard { info.entry.has_wildcard_match ≡ true
-            → HasAskedStarProof H.digest_of self.now info.entry result }
+            → HasAskedWildcardProof H.digest_of self.now info.entry result }
         ensures below_cut { info.entry.has_wildcard_match ≡ false
             → HasNoProofBelowCut H.digest_of self.now info.entry result }
         ensures parameters { HasFoundParameters H.digest_of self.now info.entry result }

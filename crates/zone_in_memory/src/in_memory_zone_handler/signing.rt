@@ -18,10 +18,10 @@ impl<S: Signer, H: Nsec3Hash> InMemoryZoneHandler<S, H> {
 
     /// Adds a signer, which signs from the next [`InMemoryZoneHandler::secure_zone_mut`] on, after those that are there.
     ///
-    /// The signer's key is inserted as [`InMemoryZoneHandler::upsert`] says, as a DNSKEY record (RFC 4034 section 2) at the
-    /// origin, with the zone's minimum as its TTL, in seconds, and with the zone's serial. Where the record isn't taken,
-    /// because it is there or a CNAME stands at the origin, the signer is added all the same. Refused by `NoKey` for a
-    /// signer that has no key, and by `Memory`; both leave the zone as it was.
+    /// The signer's key is inserted as [`InMemoryZoneHandler::upsert`] says, as a DNSKEY record (RFC 4034 section 2) at
+    /// the origin, with the zone's minimum as its TTL, in seconds, and with the zone's serial. Where the record isn't
+    /// taken, because it is there or a CNAME is at the origin, the signer is added all the same. Refused by `NoKey` for
+    /// a signer that has no key, and by `Memory`; both leave the zone as it was.
     pub fn add_zone_signing_key_mut(&mut self, signer: S) -> Result<(), KeyError>
         ensures { IsKeyAdded S.key_of self.old «signer» result self.new }
     {
@@ -44,31 +44,31 @@ impl<S: Signer, H: Nsec3Hash> InMemoryZoneHandler<S, H> {
     ///
     /// # NSEC
     ///
-    /// Of a zone that NSEC denies, and that has a signer, the NSEC sets are first made anew, wherever old ones stand: one for
-    /// each name that the zone is authoritative for (RFC 4035 section 2.3), that is each one at or below the origin that owns
-    /// a set, NSEC sets aside, and that no zone cut stands above. It has one record, with the next of these names, or the
-    /// origin after the last, and with the types that the name owns, NSEC and RRSIG among them (RFC 4034 section 4). Its TTL
-    /// is the zone's minimum, and its serial that of before. So where the origin owns a set besides, the NSEC sets are one
-    /// closed circle through exactly these names.
+    /// Of a zone that NSEC denies, and that has a signer, the NSEC sets are first made anew, wherever old ones stand:
+    /// one for each name that the zone is authoritative for (RFC 4035 section 2.3), that is each one at or below the
+    /// origin that owns a set, NSEC sets aside, and that no zone cut is above. It has one record, with the next of
+    /// these names, or the origin after the last, and with the types that the name owns, NSEC and RRSIG among them (RFC
+    /// 4034 section 4). Its TTL is the zone's minimum, and its serial that of before. So where the origin owns a set
+    /// besides, the NSEC sets are one closed circle through exactly these names.
     ///
     /// # NSEC3
     ///
-    /// Of a zone that NSEC3 denies, and that has a signer, the NSEC3 sets are made anew in the same way (RFC 5155 section 7.1):
-    /// one for each of the names that the zone is authoritative for, of the empty names above them, and of the origin; with
-    /// opt-out none for a name that owns NS alone. It stands at the hashed owner of the name, and its record has the zone's
-    /// parameters, the digest of the next name in the order of digests, or of the first after the last, and the types that the
-    /// name owns, with RRSIG where there is one. Where names have one digest, their records are inserted into one set in the
-    /// order of the names. Then an NSEC3PARAM record with the parameters is inserted at the origin, unless it is there. So
-    /// where the hash tells these names apart, by digests of one length, and the origin isn't the root, the NSEC3 sets are one
-    /// closed circle through exactly these names.
+    /// Of a zone that NSEC3 denies, and that has a signer, the NSEC3 sets are made anew in the same way (RFC 5155
+    /// section 7.1): one for each of the names that the zone is authoritative for, of the empty non-terminals above
+    /// them, and of the origin; with opt-out none for a name that owns NS alone. It is at the hashed owner of the name,
+    /// and its record has the zone's parameters, the digest of the next name in the order of digests, or of the first
+    /// after the last, and the types that the name owns, with RRSIG if there is one. Where names have one digest, their
+    /// records are inserted into one set in the order of the names. Then an NSEC3PARAM record with the parameters is
+    /// inserted at the origin, unless it is there. So where the hash tells these names apart, by digests of one length,
+    /// and the origin isn't the root, the NSEC3 sets are one closed circle through exactly these names.
     ///
     /// # Errors
     ///
-    /// Refused, in this order, by `TimeOutOfRange` for a moment past the year 9999 (253402300799), which takes no memory; and,
-    /// where NSEC3 sets are to be made, by `CnameAtOrigin` where a CNAME stands at the origin, by `Hash` where the hash has no
-    /// digest of one of the names, and by `OwnerTooLong` where the text of a digest is empty or longer than a label may be, or
-    /// the hashed owner longer than a name. `Memory` may come in place of the latter, of a signer or the hash too. A refusal
-    /// leaves the zone as it was.
+    /// Refused, in this order, by `TimeOutOfRange` for a moment past the year 9999 (253402300799), which doesn't
+    /// allocate; and, where NSEC3 sets are to be made, by `CnameAtOrigin` where a CNAME is at the origin, by `Hash`
+    /// where the hash has no digest of one of the names, and by `OwnerTooLong` where the text of a digest is empty or
+    /// longer than a label may be, or the hashed owner longer than a name. `Memory` may come in place of the latter, of
+    /// a signer or the hash too. A refusal leaves the zone as it was.
     pub fn secure_zone_mut(&mut self, now: u64) -> Result<(), SecureError>
         ensures { IsSecuring S.signature_of H.digest_of self.old now result self.new }
     {

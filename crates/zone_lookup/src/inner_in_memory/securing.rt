@@ -21,23 +21,25 @@ use zone_signing::{keeping, securing};
 enum Denials {
     /// Those that the zone has, if any.
     AsTheyAre,
-    /// These sets, in the place of those of the type.
+    /// These sets, in place of those of the type.
     New(RecordType, NewSets),
-    /// Those of the type that stand in the zone, with this serial.
+    /// Those of the type that are in the zone, with this serial.
     Kept(RecordType, u32),
 }
 
 /// What `zone_in_memory` makes a zone of: no user of a zone needs it.
 #[doc(hidden)]
 impl<S: Signer> InnerInMemory<S> {
-    /// Secures the record sets of the zone whose SOA stands under `apex`, and which is denied as `kind` says: makes its
-    /// denials where it is to have some, steps its serial, and signs its sets at the moment `now`, in seconds since 1970.
+    /// Secures the record sets of the zone whose SOA is under `apex`, and which is denied as `kind` says: makes its
+    /// denials where it is to have some, steps its serial, and signs its sets at the moment `now`, in seconds since
+    /// 1970.
     ///
-    /// Denials are made anew where there is a signer: NSEC sets or, by `hash`, NSEC3 sets and the NSEC3PARAM record, with the
-    /// minimum and the serial that the SOA has before; without an SOA both are 0. They come in the place of those that stand
-    /// in the zone, which stay where none are made. Each set is then signed by each signer in order, and loses the signatures
-    /// that it has. Refused, where NSEC3 sets are to be made, by `CnameAtOrigin`, `Hash` and `OwnerTooLong`, in this order; and
-    /// by `Memory`, of a signer or the hash too. A refusal leaves the zone as it was.
+    /// Denials are made anew where there is a signer: NSEC sets or, by `hash`, NSEC3 sets and the NSEC3PARAM record,
+    /// with the minimum and the serial that the SOA has before; without an SOA both are 0. They come in place of those
+    /// that are in the zone, which stay where none are made. Each set is then signed by each signer in order, and loses
+    /// the signatures that it has. Refused, where NSEC3 sets are to be made, by `CnameAtOrigin`, `Hash` and
+    /// `OwnerTooLong`, in this order; and by `Memory`, of a signer or the hash too. A refusal leaves the zone as it
+    /// was.
     pub fn secure<H: Nsec3Hash>(
         &mut self,
         apex: &RrKey,
@@ -72,7 +74,7 @@ impl<S: Signer> InnerInMemory<S> {
         }
     }
 
-    /// The denials that the zone gets, or those that stand in it where it gets no other.
+    /// The denials that the zone gets, or those that are in it where it gets no other.
     fn denials<H: Nsec3Hash>(
         &self,
         apex: &RrKey,
@@ -131,7 +133,7 @@ impl<S: Signer> InnerInMemory<S> {
         if self.signers.is_empty() { None } else { kind }
     }
 
-    /// The NSEC sets of the zone whose SOA stands under `apex`, or those that stand in it where they are the same.
+    /// The NSEC sets of the zone whose SOA is under `apex`, or those that are in it where they are the same.
     fn nsec_denials(&self, apex: &RrKey) -> Result<Denials, ProtoError>
         requires { apex.now.record_type.0 ≡ SOA }
         ensures ok { IfOk result
@@ -148,8 +150,8 @@ impl<S: Signer> InnerInMemory<S> {
         }
     }
 
-    /// The NSEC3 sets of the zone whose SOA stands under `apex`, and its NSEC3PARAM set, beside which no CNAME may stand; or
-    /// those that stand in it where they are the same.
+    /// The NSEC3 sets of the zone whose SOA is under `apex`, and its NSEC3PARAM set, beside which no CNAME may stand;
+    /// or those that are in it where they are the same.
     fn nsec3_denials<H: Nsec3Hash>(
         &self,
         apex: &RrKey,
@@ -192,7 +194,7 @@ impl<S: Signer> InnerInMemory<S> {
         }
     }
 
-    /// Whether a CNAME stands at the name of `apex`.
+    /// Whether a CNAME is at the name of `apex`.
     fn owns_cname(&self, apex: &RrKey) -> Result<bool, ProtoError>
         ensures owned { IfOk result (λ owned. owned ≡ owns self.now.records apex.now.name CNAME) }
         ensures err { IsOkUnless result ProtoError.Memory }
@@ -201,7 +203,7 @@ impl<S: Signer> InnerInMemory<S> {
         Ok(self.get(&key).is_some())
     }
 
-    /// The minimum and the serial of the zone whose SOA stands under `apex`, which are 0 without an SOA.
+    /// The minimum and the serial of the zone whose SOA is under `apex`, which are 0 without an SOA.
     fn minimum_and_serial(&self, apex: &RrKey) -> (u32, u32)
         requires { apex.now.record_type.0 ≡ SOA }
         ensures { result
@@ -214,8 +216,8 @@ impl<S: Signer> InnerInMemory<S> {
     }
 }
 
-/// Secures the record sets of a zone whose SOA stands under `apex`, with these denials, at the moment `now`. Refused by
-/// `Memory` alone, which leaves the zone as it was.
+/// Secures the record sets of a zone whose SOA is under `apex`, with these denials, at the moment `now`. Its only error
+/// is `Memory`, which leaves the zone as it was.
 fn secure_denied<S: Signer>(
     records: &mut RecordMap,
     denials: Denials,

@@ -10,62 +10,63 @@ use crate::record_map::RecordMap;
 use zone_proto::{LowerName, RecordSet, RecordType, RrKey};
 
 impl RecordMap {
-    /// Whether there is no set of a type, if that is NSEC or NSEC3; of other types it isn't told, and the answer is no. Takes no
-    /// memory.
+    /// Whether there is no set of a type, if that is NSEC or NSEC3; of other types it isn't told, and the answer is no.
+    /// Doesn't allocate.
     pub fn is_without(&self, record_type: RecordType) -> bool
         ensures { IsTrue result → owners self.now record_type.0 ≡ [] }
     {
-        match self.denials.owners(record_type) {
+        match self.index.denials().owners(record_type) {
             Some(owners) => owners.is_empty(),
             None => false,
         }
     }
 
-    /// The owners of the sets of a type, in canonical order, if that is NSEC or NSEC3; none for other types. Takes no memory.
+    /// The owners of the sets of a type, in canonical order, if that is NSEC or NSEC3; none for other types. Doesn't
+    /// allocate.
     pub fn denial_owners(&self, record_type: RecordType) -> DenialOwners<'_>
         ensures { result ≡ denial_owners self.now record_type.0 }
     {
-        match self.denials.owners(record_type) {
+        match self.index.denials().owners(record_type) {
             Some(owners) => DenialOwners::new(Some(owners.iter())),
             None => DenialOwners::new(None),
         }
     }
 
-    /// Those of these owners that stand at or before a name, to be read from the last one back. Takes no memory.
+    /// Those of these owners that are at or before a name, to be read from the last one back. Doesn't allocate.
     pub fn denial_owners_upto(&self, record_type: RecordType, name: &LowerName) -> LastOwners<'_>
         ensures value { result ≡ denial_owners_upto self.now record_type.0 name.now }
         ensures zone { IsZone self.now }
     {
-        match self.denials.owners(record_type) {
+        match self.index.denials().owners(record_type) {
             Some(owners) => LastOwners::new(Some(owners.range(..=name))),
             None => LastOwners::new(None),
         }
     }
 
-    /// Those that stand before a name, to be read from the last one back. Takes no memory.
+    /// Those that come before a name, to be read from the last one back. Doesn't allocate.
     pub fn denial_owners_before(&self, record_type: RecordType, name: &LowerName) -> LastOwners<'_>
         ensures value { result ≡ denial_owners_before self.now record_type.0 name.now }
         ensures zone { IsZone self.now }
     {
-        match self.denials.owners(record_type) {
+        match self.index.denials().owners(record_type) {
             Some(owners) => LastOwners::new(Some(owners.range(..name))),
             None => LastOwners::new(None),
         }
     }
 
-    /// All of them, to be read from the last one back. Takes no memory.
+    /// All of them, to be read from the last one back. Doesn't allocate.
     pub fn last_denial_owners(&self, record_type: RecordType) -> LastOwners<'_>
         ensures value { result ≡ denial_owners self.now record_type.0 }
         ensures zone { IsZone self.now }
     {
-        match self.denials.owners(record_type) {
+        match self.index.denials().owners(record_type) {
             Some(owners) => LastOwners::new(Some(owners.range(..))),
             None => LastOwners::new(None),
         }
     }
 
-    /// The owner and the set of the last key that isn't after this one, if it is of the same type: then no owner of the type
-    /// stands between it and the key's name. None tells nothing of owners further back. Takes no memory.
+    /// The owner and the set of the last key that isn't after this one, if it is of the same type: then no owner of the
+    /// type stands between it and the key's name. None tells nothing of owners further back. Doesn't allocate.
     pub fn last_of_type_upto(&self, key: &RrKey) -> Option<(&LowerName, &RecordSet)>
         ensures last { IfSome result
             (λ last. IsLastOf last.0.now
@@ -81,13 +82,14 @@ impl RecordMap {
         Some((&last.name, set))
     }
 
-    /// Whether a name, or a name below it, owns a set of a type, if that is NSEC or NSEC3; no for other types. One owner is looked
-    /// at, the first of the type that isn't before the name: the names below a name stand together. Takes no memory.
+    /// Whether a name, or a name below it, owns a set of a type, if that is NSEC or NSEC3; no for other types. One
+    /// owner is looked at, the first of the type that isn't before the name: the names below a name stand together.
+    /// Doesn't allocate.
     pub fn owns_denial_at_or_below(&self, record_type: RecordType, name: &LowerName) -> bool
         ensures { result
             ≡ list_any (is_at_or_above name.now) (denial_owners self.now record_type.0) }
     {
-        let Some(owners) = self.denials.owners(record_type) else {
+        let Some(owners) = self.index.denials().owners(record_type) else {
             return false;
         };
         match owners.range(name..).next() {

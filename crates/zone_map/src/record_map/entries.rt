@@ -7,7 +7,7 @@ use std::collections::btree_map::Iter;
 use zone_proto::{RecordSet, RrKey};
 
 impl RecordMap {
-    /// The sets by their keys, in the order of the keys. Takes no memory.
+    /// The sets by their keys, in the order of the keys. Doesn't allocate.
     pub fn iter(&self) -> Iter<'_, RrKey, RecordSet>
         ensures rest { result ≡ self.now }
         ensures zone { IsZone self.now }
@@ -16,7 +16,7 @@ impl RecordMap {
         self.sets.iter()
     }
 
-    /// How many sets there are. Takes no memory.
+    /// How many sets there are. Doesn't allocate.
     pub fn len(&self) -> usize
         ensures count { result ≡ length self.now }
         ensures zone { IsZone self.now }

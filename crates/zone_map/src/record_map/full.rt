@@ -4,16 +4,16 @@ ghost use Rattle.std.specs.BTreeMap.{IsFromIterResult};
 ghost use Rattle.zone_proto.specs.Keys.{key_cmp};
 ghost use Rattle.zone_map.specs.Zones.{IsZone};
 
-use crate::denial_index::DenialIndex;
 use crate::new_sets::NewSets;
+use crate::owner_index::OwnerIndex;
 use crate::record_map::RecordMap;
 use std::alloc::{AllocError, Global};
 use std::collections::BTreeMap;
 use zone_proto::{ProtoError, RecordSet, RrKey};
 
 impl RecordMap {
-    /// The map of these sets. Its nodes are full, where those of a map that is filled one set after the other, in the order of
-    /// the keys, are half full. Refused for want of memory alone.
+    /// The map of these sets. Its nodes are full, where those of a map that is filled one set after the other, in the
+    /// order of the keys, are half full. Fails only for lack of memory.
     pub fn from_sets(alloc: Global, sets: NewSets) -> Result<RecordMap, ProtoError>
         ensures ok { IfOk result (λ map. map ≡ sets) }
         ensures zone { IsZone sets }
@@ -22,26 +22,26 @@ impl RecordMap {
         RecordMap::with_index(alloc, sets.into_map())
     }
 
-    /// The same map with full nodes, for one that was filled in the order of the keys. While it is made, a list of its sets
-    /// stands beside it. Refused for want of memory alone.
+    /// The same map with full nodes, for one that was filled in the order of the keys. While it is made, a list of its
+    /// sets is beside it. Fails only for lack of memory.
     pub fn compacted(self, alloc: Global) -> Result<RecordMap, ProtoError>
         ensures ok { IfOk result (λ map. map ≡ self) }
         ensures err { IsOkUnless result ProtoError.Memory }
     {
-        let RecordMap { sets, denials } = self;
+        let RecordMap { sets, index } = self;
         // What it takes is free for the nodes then.
-        drop(denials);
+        drop(index);
         RecordMap::with_index(alloc, refilled(alloc, sets)?)
     }
 
-    /// The map of these sets and the index of their denials.
+    /// The map of these sets and the index of their owners.
     fn with_index(alloc: Global, sets: BTreeMap<RrKey, RecordSet>) -> Result<RecordMap, ProtoError>
         requires { IsZone sets.entries }
         ensures ok { IfOk result (λ map. map ≡ sets.entries) }
         ensures err { IsOkUnless result ProtoError.Memory }
     {
-        let denials = DenialIndex::of_map(alloc, &sets)?;
-        Ok(RecordMap { sets, denials })
+        let index = OwnerIndex::of_map(alloc, &sets)?;
+        Ok(RecordMap { sets, index })
     }
 }
 

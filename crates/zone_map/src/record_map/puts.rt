@@ -9,13 +9,13 @@ ghost use Rattle.zone_proto.specs.declared.rr_key.RrKey.{RrKey as Key};
 ghost use Rattle.zone_proto.specs.Keys.{key_cmp, key_eq};
 ghost use Rattle.zone_proto.specs.Sets.{RRset};
 ghost use Rattle.zone_proto.specs.Names.{Name};
-ghost use Rattle.zone_map.specs.DenialOwners.{owners_of};
+ghost use Rattle.zone_map.specs.DenialOwners.{listed_of};
 ghost use Rattle.zone_map.specs.Puts.{with_exchanged, with_before, without_all, without_denials, without_added, Restores};
 ghost use Rattle.zone_map.specs.Zones.{Sets, set_at, IsZone};
 
-use crate::denial_index::DenialIndex;
 use crate::keys_ahead::KeysAhead;
 use crate::new_sets::{NewSets, collect_entries};
+use crate::owner_index::OwnerIndex;
 use crate::record_map::{RecordMap, is_denial_type};
 use std::alloc::Global;
 use std::collections::BTreeMap;
@@ -23,15 +23,15 @@ use std::marker::Model;
 use std::mem::replace;
 use zone_proto::{ProtoError, RecordSet, RrKey};
 
-/// What stood in a record map before sets were put into it. With it they are taken out again, which takes no memory.
+/// What was in a record map before sets were put into it. With it they are taken out again, which doesn't allocate.
 #[derive(Drop)]
 pub struct Replaced {
     /// The sets in whose place others came, each under its key.
     exchanged: Vec<(RrKey, RecordSet)>,
-    /// The keys under which none stood. None where sets of denial alone came, and none stood.
+    /// The keys under which none stood. None if sets of denial alone came, and none stood.
     added: Option<Vec<RrKey>>,
     /// The index as it was, where another one came.
-    denials: Option<DenialIndex>,
+    index: Option<OwnerIndex>,
 }
 
 impl Model for Replaced {
@@ -45,24 +45,24 @@ impl Model for Replaced {
         record {
           exchanged = r.exchanged.items;
           added = option_map (λ keys. keys.items) r.added;
-          owners = r.denials;
+          owners = r.index;
         } };
 }
 
 /// Sets that are to be put into a map, in the order of their keys.
 #[derive(Drop)]
 struct Parted {
-    /// Those under whose keys sets stand there.
+    /// Those under whose keys sets are there.
     common: Vec<(RrKey, RecordSet)>,
     /// The others.
     fresh: BTreeMap<RrKey, RecordSet>,
-    /// The keys of the others. None where these are sets of denial alone, and none stands there.
+    /// The keys of the others. None if these are sets of denial alone, and none is there.
     added: Option<Vec<RrKey>>,
 }
 
 impl RecordMap {
-    /// Puts new sets in, in the place of those that stand under their keys. What stood there is handed out. Refused for want of
-    /// memory alone, which leaves the map as it was.
+    /// Puts new sets in, in place of those that are under their keys. What was there is handed out. Fails only for lack
+    /// of memory, which leaves the map as it was.
     pub fn put_all(&mut self, alloc: Global, sets: NewSets) -> Result<Replaced, ProtoError>
         ensures ok { OnOk result
             ((n : Name) (t : ℕ)
@@ -80,11 +80,11 @@ impl RecordMap {
         } = parted;
         let mut exchanged = Vec::with_capacity(alloc, common.len())?;
         exchange(&mut self.sets, common, &mut exchanged);
-        match add(alloc, &mut self.sets, &mut self.denials, fresh) {
-            Ok(denials) => Ok(Replaced {
+        match add(alloc, &mut self.sets, &mut self.index, fresh) {
+            Ok(index) => Ok(Replaced {
                 exchanged,
                 added,
-                denials,
+                index,
             }),
             Err(error) => {
                 put_back(&mut self.sets, added, exchanged);
@@ -93,7 +93,7 @@ impl RecordMap {
         }
     }
 
-    /// Puts back what stood in the map before sets were put into it. Takes no memory.
+    /// Puts back what was in the map before sets were put into it. Doesn't allocate.
     pub fn put_back(&mut self, replaced: Replaced)
         requires { (sets : Sets) × Restores replaced self.old sets }
         ensures { (sets : Sets) → Restores replaced self.old sets → self.new ≡ sets }
@@ -101,17 +101,17 @@ impl RecordMap {
         let Replaced {
             exchanged,
             added,
-            denials,
+            index,
         } = replaced;
         put_back(&mut self.sets, added, exchanged);
-        if let Some(denials) = denials {
-            self.denials = denials;
+        if let Some(index) = index {
+            self.index = index;
         }
     }
 }
 
 impl RecordMap {
-    /// Parts sets by whether others stand under their keys.
+    /// Parts sets by whether others are under their keys.
     fn part(&self, alloc: Global, more: BTreeMap<RrKey, RecordSet>) -> Result<Parted, ProtoError>
         ensures common { IfOk result
             (λ parted. parted.common.items
@@ -128,7 +128,7 @@ impl RecordMap {
         ensures err { IsOkUnless result ProtoError.Memory }
     {
         // Their keys are those of all sets of denial that the map has then, so that they needn't be copied.
-        if self.denials.is_empty() && are_denials(&more) {
+        if self.index.is_without_denials() && are_denials(&more) {
             return Ok(Parted {
                 common: Vec::new(alloc),
                 fresh: more,
@@ -139,7 +139,7 @@ impl RecordMap {
     }
 }
 
-/// Parts sets by whether others stand under their keys, which are copied. Where none do, the map stays as it is.
+/// Parts sets by whether others are under their keys, which are copied. Where none do, the map stays as it is.
 fn part_by_keys(
     alloc: Global,
     sets: &BTreeMap<RrKey, RecordSet>,
@@ -185,7 +185,7 @@ fn are_denials(sets: &BTreeMap<RrKey, RecordSet>) -> bool
     true
 }
 
-/// The keys of a map under which no sets stand in another one: one pass over both maps.
+/// The keys of a map under which no sets are in another one: one pass over both maps.
 fn absent_keys(
     alloc: Global,
     sets: &BTreeMap<RrKey, RecordSet>,
@@ -249,7 +249,7 @@ fn behind<'k>(keys: &'k [RrKey], key: &RrKey) -> Option<&'k [RrKey]>
     key.same_as(first).then_some(others)
 }
 
-/// Puts sets in the place of those that stand under their keys, which go behind those of `exchanged`, where there is room.
+/// Puts sets in place of those that are under their keys, which go behind those of `exchanged`, where there is room.
 fn exchange(
     sets: &mut BTreeMap<RrKey, RecordSet>,
     common: Vec<(RrKey, RecordSet)>,
@@ -274,26 +274,26 @@ fn exchange(
 fn add(
     alloc: Global,
     sets: &mut BTreeMap<RrKey, RecordSet>,
-    denials: &mut DenialIndex,
+    index: &mut OwnerIndex,
     mut fresh: BTreeMap<RrKey, RecordSet>,
-) -> Result<Option<DenialIndex>, ProtoError>
+) -> Result<Option<OwnerIndex>, ProtoError>
     requires { IsStrictlySortedBy key_cmp (keys_of sets.old.entries) }
     ensures added { OnOk result (InsertsAll key_cmp sets.old fresh.entries sets.new) }
     ensures moved { (rest : Tree Key RRset) × MovesPrefix key_cmp sets.old fresh sets.new rest }
     ensures index { OnOk result
-        ((had : Sets) → keys_of sets.old.entries ≡ keys_of had → denials.old ≡ owners_of had
-        → denials.new ≡ owners_of sets.new.entries) }
-    ensures was { IfOk result (λ was. unwrap_or was denials.new ≡ denials.old) }
-    ensures same { OnErr result (denials.new ≡ denials.old) }
+        ((had : Sets) → keys_of sets.old.entries ≡ keys_of had → index.old ≡ listed_of had
+        → index.new ≡ listed_of sets.new.entries) }
+    ensures was { IfOk result (λ was. unwrap_or was index.new ≡ index.old) }
+    ensures same { OnErr result (index.new ≡ index.old) }
     ensures err { IsOkUnless result ProtoError.Memory }
 {
     if fresh.is_empty() {
         return Ok(None);
     }
     sets.append(&mut fresh)?;
-    // Of the merged map: while two maps are merged they take most memory, and no index stands beside them.
-    let index = DenialIndex::of_map(alloc, sets)?;
-    Ok(Some(replace(denials, index)))
+    // Of the merged map: while two maps are merged they take most memory, and no index is beside them.
+    let made = OwnerIndex::of_map(alloc, sets)?;
+    Ok(Some(replace(index, made)))
 }
 
 /// Takes out the sets that were added, and puts back those that were exchanged, the last one first.

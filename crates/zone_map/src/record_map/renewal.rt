@@ -11,9 +11,9 @@ use std::vec::IntoIter;
 use zone_proto::{RecordSet, RrKey, Rrsigs};
 
 impl RecordMap {
-    /// Puts signatures in the place of those that the sets have, in the order of the keys: the caller hands in a list for
+    /// Puts signatures in place of those that the sets have, in the order of the keys: the caller hands in a list for
     /// each set, or none for one that has as many signatures as it gets, which are exchanged with the next ones of
-    /// `exchanged`. The set under `apex` has its serial stepped as [`RecordSet::step_serial`] says. Takes no memory.
+    /// `exchanged`. The set under `apex` has its serial stepped as [`RecordSet::step_serial`] says. Doesn't allocate.
     pub fn renew(&mut self, apex: &RrKey, lists: Vec<Option<Rrsigs>>, exchanged: Rrsigs)
         requires { (made : List (List Signature)) × AreHanded self.old made lists.items exchanged }
         ensures sets { (made : List (List Signature))
@@ -22,14 +22,14 @@ impl RecordMap {
         ensures zone { IsZone self.new }
     {
         put_signatures(&mut self.sets, lists, exchanged);
-        // One look-up waits for fewer keys, which stand elsewhere in memory, than a pass that asks each.
+        // One lookup waits for fewer keys, which stand elsewhere in memory, than a pass that asks each.
         if let Some(set) = self.sets.get_mut(apex) {
             set.step_serial();
         }
     }
 }
 
-/// Puts signatures in the place of those that sets have, in the order of the keys, of which none is looked at.
+/// Puts signatures in place of those that sets have, in the order of the keys, of which none is looked at.
 fn put_signatures(
     sets: &mut BTreeMap<RrKey, RecordSet>,
     lists: Vec<Option<Rrsigs>>,
@@ -46,7 +46,7 @@ fn put_signatures(
     });
 }
 
-/// Puts the next signatures in the place of those that a set has.
+/// Puts the next signatures in place of those that a set has.
 fn put_next(
     set: &mut RecordSet,
     left: &mut IntoIter<Option<Rrsigs>>,

@@ -8,7 +8,7 @@ use std::collections::BTreeMap;
 use zone_proto::{RecordSet, RecordType, RrKey};
 
 impl RecordMap {
-    /// Puts a serial in the place of that of each set of a type; their records and signatures stay. Takes no memory.
+    /// Puts a serial in place of that of each set of a type; their records and signatures stay. Doesn't allocate.
     pub fn set_serials(&mut self, record_type: RecordType, serial: u32)
         ensures sets { self.new ≡ with_serial record_type.0 serial self.old }
         ensures zone { IsZone self.new }
@@ -17,7 +17,7 @@ impl RecordMap {
     }
 }
 
-/// Puts a serial in the place of that of each set under a key of a type.
+/// Puts a serial in place of that of each set under a key of a type.
 fn put_serials(sets: &mut BTreeMap<RrKey, RecordSet>, record_type: RecordType, serial: u32)
     ensures { sets.new.entries ≡ with_serial record_type.0 serial sets.old.entries }
 {
@@ -27,7 +27,7 @@ fn put_serials(sets: &mut BTreeMap<RrKey, RecordSet>, record_type: RecordType, s
     });
 }
 
-/// Puts a serial in the place of that of a set, if its key is of a type.
+/// Puts a serial in place of that of a set, if its key is of a type.
 fn put_serial(key: &RrKey, set: &mut RecordSet, record_type: RecordType, serial: u32)
     ensures { set.new
         ≡ (if key.now.record_type.0 == record_type.0 then record set.old { serial = serial } else

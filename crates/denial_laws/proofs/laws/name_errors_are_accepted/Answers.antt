@@ -4,5 +4,5 @@ use Rattle.denial_laws.proofs.laws.name_errors_are_accepted.Goals as goal
 pub returns-clause-plain : goal.returns-clause-plain
 returns-clause-plain c = name_error_accepted
 
-pub returns-clause-starred : goal.returns-clause-starred
-returns-clause-starred c = starred_error_accepted
+pub returns-clause-asterisk : goal.returns-clause-asterisk
+returns-clause-asterisk c = starred_error_accepted

@@ -4,32 +4,24 @@ use Rattle.std.specs.Borrow.{Bor}
 use Rattle.std.specs.Map.{keys_of}
 use Rattle.std.proofs.lemmas.List.{map-append}
 use Rattle.zone_proto.specs.declared.rr_key.RrKey.{RrKey}
-use Rattle.zone_denial.proofs.Sets.CircleKeys.{kept, passed_over, counted, uncounted, kept_all, kept_is_authoritative, below_lent}
+use Rattle.zone_denial.proofs.Sets.CircleKeys.{kept, passed_over, counted, kept_all, kept_is_authoritative}
 use Rattle.zone_denial.proofs.authoritative_keys.authoritative_keys.Goals as goal
-
-pub loop-key-preserved-then-is_below : goal.loop-key-preserved-then-is_below
-loop-key-preserved-then-is_below c =
-    let cut = option_map (λ a. a.now) c.loop-key.cut in
-    passed_over c.args.origin.now c.args.denial.0 cut (map (λ k. k.now) c.loop-key.keys.items) (kept c.args.origin.now c.args.denial.0 None (keys_of c.args.records.now)) c.loop-key.key-iterator c.next.new.self
-    (c.in-Some.key.now, c.in-Some.field-0-1.now) c.in-Some.ensures.steps c.loop-key.invariant (sym (c.is_below.ensures ∙ below_lent c.loop-key.cut c.in-Some.key.now.name) ∙ c.if-is_below.true)
 
 pub loop-key-preserved-in-Continue-branch-2 : goal.loop-key-preserved-in-Continue-branch-2
 loop-key-preserved-in-Continue-branch-2 c =
     let old = option_map (λ a. a.now) c.loop-key.cut in
-    let new = option_map (λ a. a.now) c.next_cut-cut.result in
+    let new = option_map (λ a. a.now) c.counts.new.cut in
     ap (λ (ks : List (Bor RrKey)). map (λ k. k.now) ks ++ kept c.args.origin.now c.args.denial.0 new (keys_of c.next.new.self)) c.in_ok-push.ensures.items
     ∙ ap (λ ks. ks ++ kept c.args.origin.now c.args.denial.0 new (keys_of c.next.new.self)) (map-append (λ (k : Bor RrKey). k.now) c.loop-key.keys.items (c.in-Some.key ∷ []))
-    ∙ counted c.args.origin.now c.args.denial.0 old (map (λ k. k.now) c.loop-key.keys.items) (kept c.args.origin.now c.args.denial.0 None (keys_of c.args.records.now)) c.loop-key.key-iterator c.next.new.self
-    (c.in-Some.key.now, c.in-Some.field-0-1.now) c.in-Some.ensures.steps c.loop-key.invariant (sym (c.is_below.ensures ∙ below_lent c.loop-key.cut c.in-Some.key.now.name) ∙ c.if-is_below.false)
-    new c.next_cut-cut.ensures (sym c.is_listed.ensures ∙ c.if-is_listed.true)
+    ∙ counted c.args.origin.now c.args.denial.0 old new (map (λ k. k.now) c.loop-key.keys.items) (kept c.args.origin.now c.args.denial.0 None (keys_of c.args.records.now)) c.loop-key.key-iterator c.next.new.self
+    (c.in-Some.key.now, c.in-Some.field-0-1.now) c.in-Some.ensures.steps c.loop-key.invariant c.counts.ensures.cut (sym c.counts.ensures.counted ∙ c.if-counts.true)
 
 pub loop-key-preserved : goal.loop-key-preserved
 loop-key-preserved c =
     let old = option_map (λ a. a.now) c.loop-key.cut in
-    let new = option_map (λ a. a.now) c.next_cut-cut.result in
-    uncounted c.args.origin.now c.args.denial.0 old (map (λ k. k.now) c.loop-key.keys.items) (kept c.args.origin.now c.args.denial.0 None (keys_of c.args.records.now)) c.loop-key.key-iterator c.next.new.self
-    (c.in-Some.key.now, c.in-Some.field-0-1.now) c.in-Some.ensures.steps c.loop-key.invariant (sym (c.is_below.ensures ∙ below_lent c.loop-key.cut c.in-Some.key.now.name) ∙ c.if-is_below.false)
-    new c.next_cut-cut.ensures (sym c.is_listed.ensures ∙ c.if-is_listed.false)
+    let new = option_map (λ a. a.now) c.counts.new.cut in
+    passed_over c.args.origin.now c.args.denial.0 old new (map (λ k. k.now) c.loop-key.keys.items) (kept c.args.origin.now c.args.denial.0 None (keys_of c.args.records.now)) c.loop-key.key-iterator c.next.new.self
+    (c.in-Some.key.now, c.in-Some.field-0-1.now) c.in-Some.ensures.steps c.loop-key.invariant c.counts.ensures.cut (sym c.counts.ensures.counted ∙ c.if-counts.false)
 
 pub returns-clause-ok : goal.returns-clause-ok
 returns-clause-ok c =

@@ -22,8 +22,8 @@ returns-then-not-zone_of-clause-found c =
     let out = λ (w : IsAtOrAbove c.args.origin.now c.args.name). true≢false (sym (c.zone_of.ensures.1 w) ∙ c.if-not-zone_of.true) in
     IfOk-weaker c.closest_nsec_knowing.result _ _ (λ set is. is ∙ ap (option_and_then (closest_nsec m)) (sym (beside_outside c.args.origin.now m c.args.name out))) c.closest_nsec_knowing.ensures.found
 
-pub enclosed_star-requires : goal.enclosed_star-requires
-enclosed_star-requires c = below_other c.args.origin.now c.args.name (sym c.eq.ensures ∙ c.if-eq.false) (c.zone_of.ensures.0 c.if-not-zone_of.false)
+pub enclosed_wildcard-requires : goal.enclosed_wildcard-requires
+enclosed_wildcard-requires c = below_other c.args.origin.now c.args.name (sym c.eq.ensures ∙ c.if-eq.false) (c.zone_of.ensures.0 c.if-not-zone_of.false)
 
 pub returns-clause-found : goal.returns-clause-found
 returns-clause-found c =

@@ -1,4 +1,5 @@
-use Rattle.zone_denial.proofs.Chains.Nsec3AskedStar.{enclosers_agree, proved_star_is_asked, absent_star_is_denied}
+use Rattle.zone_denial.proofs.Chains.Nsec3AskedStar.{enclosers_agree, proved_star_is_asked, absent_wildcard_is_denied}
+use Rattle.zone_denial.proofs.Chains.Nsec3Denies.{denies, covers_closer}
 use Rattle.zone_denial.proofs.Chains.Nsec3Encloses.{finds_or_encloses}
 use Rattle.zone_denial.proofs.Chains.Nsec3Lists.{lists_all_owned, denials_agree}
 use Rattle.zone_denial.proofs.Chains.Nsec3Star.{proves_star}
@@ -10,6 +11,12 @@ returns-clause-found_or_enclosed c = finds_or_encloses
 pub returns-clause-star : goal.returns-clause-star
 returns-clause-star c = proves_star
 
+pub returns-clause-denied : goal.returns-clause-denied
+returns-clause-denied c = denies
+
+pub returns-clause-closer : goal.returns-clause-closer
+returns-clause-closer c = covers_closer
+
 pub returns-clause-listed : goal.returns-clause-listed
 returns-clause-listed c = lists_all_owned
 
@@ -19,8 +26,8 @@ returns-clause-agree c = denials_agree
 pub returns-clause-encloser : goal.returns-clause-encloser
 returns-clause-encloser c = enclosers_agree
 
-pub returns-clause-asked_star : goal.returns-clause-asked_star
-returns-clause-asked_star c = proved_star_is_asked
+pub returns-clause-asked_wildcard : goal.returns-clause-asked_wildcard
+returns-clause-asked_wildcard c = proved_star_is_asked
 
-pub returns-clause-absent_star : goal.returns-clause-absent_star
-returns-clause-absent_star c = absent_star_is_denied
+pub returns-clause-absent_wildcard : goal.returns-clause-absent_wildcard
+returns-clause-absent_wildcard c = absent_wildcard_is_denied

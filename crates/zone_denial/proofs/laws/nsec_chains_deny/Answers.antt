@@ -1,4 +1,4 @@
-use Rattle.zone_denial.proofs.Chains.NsecAskedStar.{enclosers_agree, proved_star_is_asked, absent_star_is_denied}
+use Rattle.zone_denial.proofs.Chains.NsecAskedStar.{enclosers_agree, proved_star_is_asked, absent_wildcard_is_denied}
 use Rattle.zone_denial.proofs.Chains.NsecBelow.{no_next_below, next_below_empty}
 use Rattle.zone_denial.proofs.Chains.NsecClosest.{finds_or_covers}
 use Rattle.zone_denial.proofs.Chains.NsecLists.{lists_all_owned, denials_agree}
@@ -26,8 +26,8 @@ returns-clause-empty c = next_below_empty
 pub returns-clause-encloser : goal.returns-clause-encloser
 returns-clause-encloser c = enclosers_agree
 
-pub returns-clause-asked_star : goal.returns-clause-asked_star
-returns-clause-asked_star c = proved_star_is_asked
+pub returns-clause-asked_wildcard : goal.returns-clause-asked_wildcard
+returns-clause-asked_wildcard c = proved_star_is_asked
 
-pub returns-clause-absent_star : goal.returns-clause-absent_star
-returns-clause-absent_star c = absent_star_is_denied
+pub returns-clause-absent_wildcard : goal.returns-clause-absent_wildcard
+returns-clause-absent_wildcard c = absent_wildcard_is_denied

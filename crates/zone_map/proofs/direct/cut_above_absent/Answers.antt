@@ -9,7 +9,7 @@ use Rattle.zone_map.proofs.ExistingNames.{above_encloser}
 use Rattle.zone_map.proofs.NearestNames.{absent_where_asked, asked_of_nearest, unreferred_without, star_of_nearest, by_set}
 use Rattle.zone_map.proofs.direct.cut_above_absent.Goals as goal
 
--- a name for which a star is asked isn't the root, so that it is the child of its parent
+-- a name for which a wildcard is asked isn't the root, so that it is the child of its parent
 child_of_parent : (m : Sets) (n : Name) → not (is_root n || is_wildcard n || exists m n) ≡ true → IsChild n (drop 1 n)
 child_of_parent m [] h = cc
 child_of_parent m (l ∷ n) h = (l, refl)

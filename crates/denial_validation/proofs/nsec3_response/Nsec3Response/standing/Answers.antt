@@ -1,5 +1,5 @@
 use Rattle.std.proofs.Common.{Some, true, sym, ap, ◌∙◌}
-use Rattle.zone_proto.specs.Names.{base_name, star_under}
+use Rattle.zone_proto.specs.Names.{base_name, wildcard_under}
 use Rattle.denial_validation.specs.Nsec3Responses.{hash_of}
 use Rattle.denial_validation.proofs.EncloserProofs.{base_of_star, star_of_closer, opted_out_by, proved_is, opted_out_is}
 use Rattle.denial_validation.proofs.nsec3_response.Nsec3Response.standing.Goals as goal
@@ -16,7 +16,7 @@ returns-clause-proved g c =
 pub returns-clause-star : goal.returns-clause-star
 returns-clause-star g c =
     let n = c.args.encloser.next_closer in
-    c.into_wildcard.ensures ∙ star_of_closer c.args.self.now.name (base_name n) n c.requires.closer ∙ ap (λ s. star_under (base_name s)) (sym c.into_wildcard.ensures)
+    c.into_wildcard.ensures ∙ star_of_closer c.args.self.now.name (base_name n) n c.requires.closer ∙ ap (λ s. wildcard_under (base_name s)) (sym c.into_wildcard.ensures)
 
 pub returns-clause-opted_out : goal.returns-clause-opted_out
 returns-clause-opted_out g c =

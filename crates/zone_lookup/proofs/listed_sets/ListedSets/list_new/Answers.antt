@@ -16,11 +16,11 @@ returns-then-is_among-clause-listed c =
 
 pub invariant_of-self : goal.invariant_of-self
 invariant_of-self c =
-    let few : length c.self.inside.sets.items < 16 = omega (arith, c.if-len-lt-FEW.true, c.len.ensures) in
+    let few : length c.self.inside.sets.items < 16 = omega (arith, c.if-len-lt-LIST_LIMIT.true, c.len.ensures) in
     few_pushed c.push.result c.self.inside.sets.items c.push.new.list.items c.args.found c.self.inside.places.entries few c.push.ensures.ok c.push.ensures.same
 
-pub returns-then-len-lt-FEW-clause-listed : goal.returns-then-len-lt-FEW-clause-listed
-returns-then-len-lt-FEW-clause-listed c =
+pub returns-then-len-lt-LIST_LIMIT-clause-listed : goal.returns-then-len-lt-LIST_LIMIT-clause-listed
+returns-then-len-lt-LIST_LIMIT-clause-listed c =
     pushed_last c.push.result c.args.self.now c.self.inside.sets.items c.push.new.list.items c.args.found c.self.view_is
     (sym (c.is_among.ensures
     ∙ ap (list_any (λ f. same_set (found_set f) c.set.result.now)) c.as_slice.ensures.value
@@ -38,7 +38,7 @@ returns-then-is_listed-clause-listed c =
 
 pub invariant_of-self-2 : goal.invariant_of-self-2
 invariant_of-self-2 c =
-    let many : 16 ≤ length c.self.inside.sets.items = omega (arith, c.if-len-lt-FEW.false, c.len.ensures) in
+    let many : 16 ≤ length c.self.inside.sets.items = omega (arith, c.if-len-lt-LIST_LIMIT.false, c.len.ensures) in
     many_pushed c.push-2.result c.self.inside.sets.items c.push-2.new.list.items c.args.found c.self.inside.places.entries c.put_place.new.places.entries c.in_ok-key.key c.len-2.result
     c.in_ok-put_place.ensures.ok many (c.in_ok-key.ensures.ok ∙ ap set_key c.set-2.ensures) c.push-2.ensures.ok c.push-2.ensures.same c.self.invariant
 

@@ -8,7 +8,7 @@ use Rattle.zone_proto.specs.Names.{lower}
 use Rattle.zone_map.specs.Zones.{Sets, set_at, IsStoredAt, IsZone}
 use Rattle.zone_proto.specs.Results.{IsInsertion}
 use Rattle.zone_map.specs.Upserts.{with_record}
-use Rattle.zone_map.proofs.OwnersKept.{index_of_keys}
+use Rattle.zone_map.proofs.OwnerIndexes.{index_of_keys}
 use Rattle.zone_map.proofs.Upserting.{same_from_lower, stored_answer, stored_after, stored_same, IsZone-with_record, IsZone-or_same, IsZone-after}
 use Rattle.zone_map.proofs.record_map.RecordMap.insert_into.Goals as goal
 
@@ -44,7 +44,7 @@ invariant_of-self c =
           (stored_after c.self.inside.sets.entries c.args.record c.args.serial c.in-Some.set.now found c.get_mut.ensures.ordered c.insert.new.self c.insert.result c.insert.ensures.after)
           (stored_same c.self.inside.sets.entries c.args.record c.args.serial c.in-Some.set.now found c.get_mut.ensures.ordered c.insert.new.self c.insert.result c.insert.ensures.same));
       index =
-          index_of_keys c.self.inside.sets.entries (c.get_mut.follows.lender c.insert.new.self).entries c.self.inside.denials
+          index_of_keys c.self.inside.sets.entries (c.get_mut.follows.lender c.insert.new.self).entries c.self.inside.index
           (ap keys_of written ∙ keys-set_value (key_eq (key (lower c.args.record.name) (type_of c.args.record.rdata))) c.self.inside.sets.entries c.insert.new.self) c.self.invariant.index;
     }
 

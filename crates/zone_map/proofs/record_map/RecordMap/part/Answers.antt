@@ -3,19 +3,19 @@ use Rattle.std.specs.List.{list_any}
 use Rattle.std.specs.Map.{keys_of}
 use Rattle.zone_proto.specs.declared.rr_key.RrKey.{RrKey}
 use Rattle.zone_proto.specs.Keys.{key_eq}
-use Rattle.zone_map.specs.DenialOwners.{Owners}
+use Rattle.zone_map.specs.DenialOwners.{Listed, owners_of, none_deny}
 use Rattle.zone_map.specs.Puts.{without_denials}
 use Rattle.zone_map.specs.Zones.{Sets}
 use Rattle.zone_map.proofs.FirstDenials.{none_denied, none_common}
+use Rattle.zone_map.proofs.OwnerIndexes.{none_of_either}
 use Rattle.zone_map.proofs.Parting.{fresh_where_none}
 use Rattle.zone_map.proofs.record_map.RecordMap.part.Goals as goal
 
 none : (c : goal.After-new) → without_denials c.args.self.now ≡ c.args.self.now
 none c =
     subst (λ (m : Sets). without_denials m ≡ m) c.self.view_is
-    (none_denied c.self.inside.sets.entries c.self.invariant.zone.ordered
-    (sym (ap (λ (l : Owners). l.nsec) c.self.invariant.index) ∙ c.is_empty.ensures.nsec c.if-is_empty.true)
-    (sym (ap (λ (l : Owners). l.nsec3) c.self.invariant.index) ∙ c.is_empty.ensures.nsec3 c.if-is_empty.true))
+    (let either = none_of_either (owners_of c.self.inside.sets.entries) (sym (ap (λ (l : Listed). none_deny l.denials) c.self.invariant.index) ∙ sym c.is_without_denials.ensures ∙ c.if-is_without_denials.true) in
+    none_denied c.self.inside.sets.entries c.self.invariant.zone.ordered either.0 either.1)
 
 all : (c : goal.After-new) → without_denials c.args.more.entries ≡ []
 all c = c.are_denials.ensures c.if-are_denials.true

@@ -4,7 +4,7 @@ use Rattle.std.specs.Map.{remove_entry}
 use Rattle.zone_proto.specs.declared.rr_key.RrKey.{RrKey}
 use Rattle.zone_proto.specs.Keys.{key_cmp, key_eq}
 use Rattle.zone_proto.proofs.Ordering.KeyOrder.{key_itself}
-use Rattle.zone_map.specs.DenialOwners.{owners_of}
+use Rattle.zone_map.specs.DenialOwners.{listed_of}
 use Rattle.zone_map.specs.Zones.{IsZone}
 use Rattle.zone_map.proofs.OwnersKept.{put_removed}
 use Rattle.zone_map.proofs.Stored.{IsZone-put}
@@ -14,7 +14,7 @@ pub invariant_of-self-in-Ok-insert : goal.invariant_of-self-in-Ok-insert
 invariant_of-self-in-Ok-insert c =
     record {
       zone = subst IsZone (sym c.in-Ok-insert.ensures.entries) (IsZone-put c.self.inside.sets.entries c.args.key c.args.set c.self.invariant.zone c.requires);
-      index = c.in-Ok.ensures.ok c.self.inside.sets.entries c.args.set c.self.invariant.zone c.self.invariant.index ∙ ap owners_of (sym c.in-Ok-insert.ensures.entries);
+      index = c.in-Ok.ensures.ok c.args.set c.self.invariant.zone c.self.invariant.index ∙ ap listed_of (sym c.in-Ok-insert.ensures.entries);
     }
 
 pub invariant_of-self-in-Err : goal.invariant_of-self-in-Err
@@ -23,7 +23,8 @@ invariant_of-self-in-Err c =
     record {
       zone = subst IsZone (sym c.in-Err.ensures.err) c.self.invariant.zone;
       index =
-          c.remove.ensures (insert_entry key_cmp before c.args.key c.args.set) (c.in-Ok.ensures.ok before c.args.set c.self.invariant.zone c.self.invariant.index)
-          ∙ ap (λ (k : RrKey). owners_of (remove_entry (key_eq k) (insert_entry key_cmp before c.args.key c.args.set))) (ap (λ p. p.0) c.in-Err.ensures.value_returned)
-          ∙ ap owners_of (put_removed before c.args.key c.args.set c.in-Err.ensures.absent (key_itself c.args.key) ∙ sym c.in-Err.ensures.err);
+          c.remove.ensures (insert_entry key_cmp before c.args.key c.args.set) (IsZone-put before c.args.key c.args.set c.self.invariant.zone c.requires)
+          (c.in-Ok.ensures.ok c.args.set c.self.invariant.zone c.self.invariant.index)
+          (c.in-Err.ensures.err ∙ sym (put_removed before c.args.key c.args.set c.in-Err.ensures.absent (key_itself c.args.key))
+          ∙ ap (λ (k : RrKey). remove_entry (key_eq k) (insert_entry key_cmp before c.args.key c.args.set)) (sym (ap (λ p. p.0) c.in-Err.ensures.value_returned)));
     }

@@ -3,7 +3,7 @@ use Rattle.std.specs.List.Sorted.{IsStrictlySortedBy}
 use Rattle.std.specs.Map.{keys_of}
 use Rattle.std.specs.Option.{unwrap_or}
 use Rattle.zone_proto.specs.Keys.{key, key_cmp}
-use Rattle.zone_map.specs.DenialOwners.{owners_of}
+use Rattle.zone_map.specs.DenialOwners.{listed_of}
 use Rattle.zone_map.specs.Puts.{ArePut, with_exchanged, with_before}
 use Rattle.zone_map.specs.Zones.{Sets, IsZone}
 use Rattle.zone_map.proofs.FirstDenials.{all_undone}
@@ -21,7 +21,7 @@ are_there c =
     (are_put had more parted.parted.common.items ordered parted.ensures.common parted.parted.fresh parted.ensures.fresh
     c.exchange.new.sets c.add.new.sets (c.exchange.ensures.put ∙ ap (λ (m : Sets). with_exchanged m parted.parted.common.items) c.self.view_is) c.in-Ok.ensures.added)
 
-index : (c : goal.In-Ok) → c.add.new.denials ≡ owners_of c.add.new.sets.entries
+index : (c : goal.In-Ok) → c.add.new.index ≡ listed_of c.add.new.sets.entries
 index c =
     c.in-Ok.ensures.index c.self.inside.sets.entries (ap keys_of c.exchange.ensures.put ∙ keys_exchanged c.self.inside.sets.entries c.in_ok-parted.parted.common.items) c.self.invariant.index
 
@@ -47,7 +47,7 @@ returns-in-Ok-clause-before c =
           all_undone (λ keys. keys.items) parted.parted.added had more parted.parted.common.items ordered parted.ensures.common parted.parted.fresh parted.ensures.fresh parted.ensures.added parted.ensures.denials
           c.exchange.new.sets c.add.new.sets c.exchange.new.exchanged.items (c.exchange.ensures.put ∙ ap (λ (m : Sets). with_exchanged m parted.parted.common.items) c.self.view_is) c.exchange.ensures.ordered
           c.in-Ok.ensures.moved (c.exchange.ensures.before ∙ ap (with_before c.self.inside.sets.entries) c.in_ok-exchanged.ensures.items ∙ c.self.view_is);
-      index = ap (unwrap_or c.in-Ok.denials) (sym (index c)) ∙ c.in-Ok.ensures.was ∙ c.self.invariant.index ∙ ap owners_of c.self.view_is;
+      index = ap (unwrap_or c.in-Ok.index) (sym (index c)) ∙ c.in-Ok.ensures.was ∙ c.self.invariant.index ∙ ap listed_of c.self.view_is;
     }
 
 -- the sets that were put are taken out again
@@ -66,7 +66,7 @@ pub invariant_of-self-in-Err : goal.invariant_of-self-in-Err
 invariant_of-self-in-Err c =
     record {
       zone = subst IsZone (c.self.view_is ∙ sym (as_they_were c)) c.self.invariant.zone;
-      index = c.in-Err.ensures.same ∙ c.self.invariant.index ∙ ap owners_of (c.self.view_is ∙ sym (as_they_were c));
+      index = c.in-Err.ensures.same ∙ c.self.invariant.index ∙ ap listed_of (c.self.view_is ∙ sym (as_they_were c));
     }
 
 pub returns-in-Err-clause-same : goal.returns-in-Err-clause-same

@@ -5,7 +5,7 @@ use Rattle.zone_proto.specs.declared.record.Record.{Record}
 use Rattle.zone_proto.specs.Keys.{key_eq}
 use Rattle.zone_map.specs.Renewals.{with_signatures, stepped_under, AreHanded}
 use Rattle.zone_map.specs.Zones.{Sets, IsZone}
-use Rattle.zone_map.proofs.OwnersKept.{index_of_keys}
+use Rattle.zone_map.proofs.OwnerIndexes.{index_of_keys}
 use Rattle.zone_map.proofs.Renewing.{IsZone-with_signatures, IsZone-stepped_under, keys_renewed, stepped_one, stepped_none}
 use Rattle.zone_map.proofs.record_map.RecordMap.renew.Goals as goal
 use Rattle.zone_map.proofs.record_map.RecordMap.renew.Goals.{in-Some, in_default}
@@ -39,10 +39,10 @@ is_zone c =
     (IsZone-stepped_under c.args.apex.now _ (IsZone-with_signatures c.self.inside.sets.entries made c.self.invariant.zone))
 
 -- the index is as it was
-same_index : (c : goal.Joined-get_mut) → c.match-get_mut.self-inside.denials ≡ c.self.inside.denials
+same_index : (c : goal.Joined-get_mut) → c.match-get_mut.self-inside.index ≡ c.self.inside.index
 same_index c = elim c.match-get_mut.branch [
-  | in-Some w ↦ ap (λ i. i.denials) w.self-inside-is
-  | in_default w ↦ ap (λ i. i.denials) w.self-inside-is
+  | in-Some w ↦ ap (λ i. i.index) w.self-inside-is
+  | in_default w ↦ ap (λ i. i.index) w.self-inside-is
 ]
 
 pub returns-clause-sets : goal.returns-clause-sets
@@ -57,6 +57,6 @@ invariant_of-self c =
     record {
       zone = is_zone c;
       index =
-          index_of_keys c.self.inside.sets.entries c.match-get_mut.self-inside.sets.entries c.match-get_mut.self-inside.denials
+          index_of_keys c.self.inside.sets.entries c.match-get_mut.self-inside.sets.entries c.match-get_mut.self-inside.index
           (ap keys_of (is_renewed c made (of_entries c made handed)) ∙ keys_renewed c.args.apex.now c.self.inside.sets.entries made) (same_index c ∙ c.self.invariant.index);
     }

@@ -1,7 +1,7 @@
 use Rattle.std.proofs.Common.{sym, ap, ◌∙◌, subst}
 use Rattle.std.specs.Map.{keys_of}
 use Rattle.zone_map.specs.Zones.{IsZone}
-use Rattle.zone_map.proofs.OwnersKept.{index_of_keys}
+use Rattle.zone_map.proofs.OwnerIndexes.{index_of_keys}
 use Rattle.zone_map.proofs.Renumbering.{IsZone-with_serial, keys_of-with_serial}
 use Rattle.zone_map.proofs.record_map.RecordMap.set_serials.Goals as goal
 
@@ -15,6 +15,6 @@ invariant_of-self c =
     record {
       zone = subst IsZone (sym c.put_serials.ensures) (IsZone-with_serial c.args.record_type.0 c.args.serial before c.self.invariant.zone);
       index =
-          index_of_keys before c.put_serials.new.sets.entries c.self.inside.denials
+          index_of_keys before c.put_serials.new.sets.entries c.self.inside.index
           (ap keys_of c.put_serials.ensures ∙ keys_of-with_serial c.args.record_type.0 c.args.serial before) c.self.invariant.index;
     }

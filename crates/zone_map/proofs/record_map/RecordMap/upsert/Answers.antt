@@ -13,7 +13,7 @@ use Rattle.zone_map.proofs.CnamesAlone.{alone_after}
 use Rattle.zone_map.proofs.Upserting.{clash_is_not_taken, free_is_inserted, IsZone-after, IsZone-or_same, IsZone-with_record}
 use Rattle.zone_map.proofs.record_map.RecordMap.upsert.Goals as goal
 
--- what stands at the least key of a record's owner, for its type, tells whether the record clashes there
+-- what is at the least key of a record's owner, for its type, says whether the record clashes there
 clashes_there : (m : Sets) (r : Record) (least key : RrKey) (t : ℕ) (found b : Bool) → least ≡ key → key.name ≡ lower r.name → t ≡ type_of r.rdata → found ≡ clashes m least.name t → found ≡ b
     → clashes m (lower r.name) (type_of r.rdata) ≡ b
 clashes_there m r least key t found b made name kind asked is = cc

@@ -3,7 +3,7 @@ use Rattle.std.specs.Map.{lookup, update_all}
 use Rattle.std.proofs.lemmas.List.{nil_from_length}
 use Rattle.zone_proto.specs.Keys.{key_eq}
 use Rattle.zone_map.specs.Zones.{Sets}
-use Rattle.zone_map.proofs.OwnersKept.{index_of_keys}
+use Rattle.zone_map.proofs.OwnerIndexes.{index_of_keys}
 use Rattle.zone_map.proofs.record_map.puts.add.Goals as goal
 
 pub returns-then-is_empty-clause-added : goal.returns-then-is_empty-clause-added
@@ -15,4 +15,4 @@ pub returns-then-is_empty-clause-moved : goal.returns-then-is_empty-clause-moved
 returns-then-is_empty-clause-moved c = (c.args.fresh, ([], refl, ((λ q. refl), c.requires)))
 
 pub returns-then-is_empty-clause-index : goal.returns-then-is_empty-clause-index
-returns-then-is_empty-clause-index c = λ had keys is. index_of_keys had c.args.sets.now.entries c.args.denials.now keys is
+returns-then-is_empty-clause-index c = λ had keys is. index_of_keys had c.args.sets.now.entries c.args.index.now keys is

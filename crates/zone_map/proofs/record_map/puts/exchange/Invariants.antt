@@ -7,7 +7,8 @@ use Rattle.zone_proto.specs.Keys.{key_cmp}
 use Rattle.zone_map.specs.Puts.{with_exchanged, with_before}
 use Rattle.zone_map.proofs.record_map.puts.exchange.Given as goal
 
--- with what stood there the sets are as they were, and with those that are left all are exchanged; there is room for these
+-- with what was there the sets are as they were, and with those that are left all are exchanged; there is room for
+-- these
 abbrev pub invariant-loop-key : goal.invariant-loop-key
 invariant-loop-key l =
     record {

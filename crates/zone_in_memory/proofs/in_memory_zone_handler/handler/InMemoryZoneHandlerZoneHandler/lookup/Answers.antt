@@ -11,13 +11,13 @@ returns-clause-owned_is_answered g c owned no_transfer =
     owned_is_answered (answer_signatures g.S.Signer.signature_of c.args.now c.args.lookup_options.dnssec_ok c.args.self.now.inner.signers) c.args.self.now.inner.records c.args.name.now c.args.record_type.0 c.args.lookup_options
     c.args.self.now.origin (Continue c.answer.result) owned c.answer.ensures
 
-pub returns-clause-existing_star : goal.returns-clause-existing_star
-returns-clause-existing_star g c there denied =
+pub returns-clause-existing_wildcard : goal.returns-clause-existing_wildcard
+returns-clause-existing_wildcard g c there denied =
     star_never_denied (answer_signatures g.S.Signer.signature_of c.args.now c.args.lookup_options.dnssec_ok c.args.self.now.inner.signers) c.args.self.now.origin c.args.self.now.inner.records c.args.lookup_options c.args.name.now
     c.args.record_type.0 (Continue c.answer.result) there c.answer.ensures denied
 
-pub returns-then-eq-clause-existing_star : goal.returns-then-eq-clause-existing_star
-returns-then-eq-clause-existing_star g c there denied = absurd cc
+pub returns-then-eq-clause-existing_wildcard : goal.returns-then-eq-clause-existing_wildcard
+returns-then-eq-clause-existing_wildcard g c there denied = absurd cc
 
 pub returns-clause-circle : goal.returns-clause-circle
 returns-clause-circle g c circle =
@@ -35,21 +35,21 @@ returns-clause-nsec3_circle g c hash parameters circle =
 pub returns-then-eq-clause-nsec3_circle : goal.returns-then-eq-clause-nsec3_circle
 returns-then-eq-clause-nsec3_circle g c hash parameters circle = nsec3_transfer_agrees c.args.self.now.origin c.args.self.now.inner.records hash parameters circle c.args.name.now c.args.record_type.0 _
 
-pub returns-clause-absent_star : goal.returns-clause-absent_star
-returns-clause-absent_star g c circle none plain denied =
+pub returns-clause-absent_wildcard : goal.returns-clause-absent_wildcard
+returns-clause-absent_wildcard g c circle none plain denied =
     absent_star_agrees c.args.self.now.origin c.args.self.now.inner.records circle (answer_signatures g.S.Signer.signature_of c.args.now c.args.lookup_options.dnssec_ok c.args.self.now.inner.signers) c.args.lookup_options c.args.name.now
     c.args.record_type.0 (Continue c.answer.result) none plain c.answer.ensures denied
 
-pub returns-then-eq-clause-absent_star : goal.returns-then-eq-clause-absent_star
-returns-then-eq-clause-absent_star g c circle none plain denied = absurd cc
+pub returns-then-eq-clause-absent_wildcard : goal.returns-then-eq-clause-absent_wildcard
+returns-then-eq-clause-absent_wildcard g c circle none plain denied = absurd cc
 
-pub returns-clause-nsec3_absent_star : goal.returns-clause-nsec3_absent_star
-returns-clause-nsec3_absent_star g c hash parameters circle all_in none apart plain denied =
+pub returns-clause-nsec3_absent_wildcard : goal.returns-clause-nsec3_absent_wildcard
+returns-clause-nsec3_absent_wildcard g c hash parameters circle all_in none apart plain denied =
     nsec3_absent_star_agrees c.args.self.now.origin c.args.self.now.inner.records hash parameters circle (answer_signatures g.S.Signer.signature_of c.args.now c.args.lookup_options.dnssec_ok c.args.self.now.inner.signers) c.args.lookup_options
     c.args.name.now c.args.record_type.0 (Continue c.answer.result) all_in none apart plain c.answer.ensures denied
 
-pub returns-then-eq-clause-nsec3_absent_star : goal.returns-then-eq-clause-nsec3_absent_star
-returns-then-eq-clause-nsec3_absent_star g c hash parameters circle all_in none apart plain denied = absurd cc
+pub returns-then-eq-clause-nsec3_absent_wildcard : goal.returns-then-eq-clause-nsec3_absent_wildcard
+returns-then-eq-clause-nsec3_absent_wildcard g c hash parameters circle all_in none apart plain denied = absurd cc
 
 pub returns-clause-proofs : goal.returns-clause-proofs
 returns-clause-proofs g c no_transfer judged =

@@ -1,5 +1,0 @@
-use Rattle.zone_denial.proofs.Hashed.Nsec3AskedStar.{absent_star_is_denied}
-use Rattle.zone_denial.proofs.laws.nsec3_absent_star_is_denied.Goals as goal
-
-pub returns : goal.returns
-returns c = absent_star_is_denied
