@@ -52,7 +52,7 @@ fn fill(alloc: Global, zone: &mut SignedZone) -> anyhow::Result<()> {
     let line = b"c.example.com. 60 A 192.0.2.2";
     zone.upsert(read_record(alloc, &mut Words::new(line))?, 1)?;
     let signer = DemoSigner::new(7, zone.origin())?;
-    // The signer has a key, and the moment is in range: what is left is want of memory.
+    // The signer has a key, and the moment is in range: what is left is lack of memory.
     if zone.add_zone_signing_key_mut(signer).is_err() || zone.secure_zone_mut(NOW).is_err() {
         return Err(LookupError::Memory.into());
     }

@@ -1,4 +1,4 @@
-//! A program that keeps a zone, puts records into it and asks it.
+//! A program that keeps a zone, adds records to it and queries it.
 #![tactic(auto)]
 
 mod judged;
@@ -102,7 +102,7 @@ fn transfer(rt: &impl Print, alloc: Global, zone: &Zone) -> anyhow::Result<()> {
     let request = transfer_request(alloc, zone)?;
     match zone.zone_transfer(&request, LookupOptions::default(), 0) {
         Some((Ok(transfer), _)) => print_transfer(rt, &transfer),
-        // Refused by the policy, or want of memory.
+        // Refused by the policy, or lack of memory.
         Some((Err(error), _)) => Err(error.into()),
         None => Ok(()),
     }

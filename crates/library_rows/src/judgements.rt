@@ -7,8 +7,8 @@ use library_rows_arguments::{Arguments, RowHash};
 use library_rows_values::Answer;
 use zone_proto::{LowerName, Name, ProtoError, RData, Record, RecordType};
 
-/// Judges what the first eight records of the zone prove, by NSEC, or by NSEC3 with the hash beside the zone; or makes one of
-/// the calls that ask for a certain proof. It takes no memory to list the records.
+/// Judges what the first eight records of the zone prove, by NSEC, or by NSEC3 with the hash beside the zone; or makes
+/// one of the calls that ask for a certain proof. It doesn't allocate to list the records.
 pub fn make_judgement_call(
     out: &mut Answer,
     state: &mut State,

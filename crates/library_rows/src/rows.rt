@@ -59,7 +59,7 @@ fn split_times(row: &str) -> Option<(u64, &str)> {
     Some((times.parse::<u64>().ok()?, calls))
 }
 
-/// A text with a number in the place of each `#`.
+/// A text with a number in place of each `#`.
 fn numbered(alloc: Global, text: &str, number: u64) -> Result<String, AllocError> {
     let digits = format!(in alloc; "{number}")?;
     text.replace(alloc, "#", digits.as_str())

@@ -8,7 +8,7 @@ use line_text::TextError;
 use std::alloc::{AllocError, Global};
 
 /// How many rooms are tried before a call has to succeed.
-const ROOMS: usize = 800;
+const ATTEMPTS: usize = 800;
 
 /// How many octets more each room has.
 const STEP: usize = 16;
@@ -52,7 +52,7 @@ impl Runner {
         self.answer.text()
     }
 
-    /// Makes the call of a row, and tells whether there was room for its answer.
+    /// Makes the call of a row, and says whether there was room for its answer.
     pub fn run(&mut self, state: &mut State, row: &str) -> Result<(), TextError> {
         self.run_as_told(state, row)?;
         Ok(self.answer.end()?)
@@ -88,7 +88,7 @@ impl Runner {
     ) -> Result<(), TextError> {
         self.before.clear();
         state.write(&mut self.before);
-        self.scarcity.begin(2 * ROOMS)?;
+        self.scarcity.begin(2 * ATTEMPTS)?;
         let tried = self.try_rooms(state, call);
         self.scarcity.end();
         let refused = tried?;
@@ -102,7 +102,7 @@ impl Runner {
 
     /// Makes a call in ever more room: how often memory was refused to it.
     fn try_rooms(&mut self, state: &mut State, call: &str) -> Result<usize, TextError> {
-        for refused in 0..ROOMS {
+        for refused in 0..ATTEMPTS {
             self.scarcity.leave(READING);
             self.make(state, call, Some(refused.saturating_mul(STEP)))?;
             if self.answer.text() != REFUSED {

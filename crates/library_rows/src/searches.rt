@@ -55,7 +55,7 @@ fn lend_and_give(out: &mut Answer, found: Found<'_>) {
     write_made_set(out, found.into_set());
 }
 
-/// Chooses a type in the place of ANY.
+/// Chooses a type in place of ANY.
 fn choose(out: &mut Answer, inner: &InnerInMemory<RowSigner>, name: &LowerName) {
     match inner.replace_any(name) {
         Ok(chosen) => {

@@ -45,7 +45,7 @@ pub struct Arguments<'r> {
 
 impl<'r> Arguments<'r> {
     /// Nothing; for a zone, a primary that anybody may transfer, which denies by nothing, and whose hash has no
-    /// digests. It takes no memory.
+    /// digests. It doesn't allocate.
     pub fn new(alloc: Global) -> Arguments<'r> {
         Arguments {
             alloc,

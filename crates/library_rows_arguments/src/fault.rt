@@ -42,7 +42,7 @@ impl Fault {
         }
     }
 
-    /// Puts the copies of a key and of what stands under it into a map.
+    /// Puts the copies of a key and of what is under it into a map.
     pub fn insert<K: Ord + Drop, V: Drop>(
         &mut self,
         map: &mut BTreeMap<K, V>,

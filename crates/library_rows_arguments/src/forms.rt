@@ -16,7 +16,7 @@
 /// - The rest reads nothing: `SETS` and `LIST` stand for copies of the sets that were collected, `SET` and `KEPT` for one of the
 ///   current set and of the one that is kept, `RRSIGS` for the two records before it, and `SOA` for one of the root.
 ///
-/// What is in lower case has to stand there itself.
+/// What is in lower case has to be there itself.
 const FORMS: &str = "names: parse: TEXT
 names: lower parse: TEXT
 names: labels: LABELS

@@ -14,7 +14,7 @@ pub struct Held {
 }
 
 impl Held {
-    /// No sets. It takes no memory.
+    /// No sets. It doesn't allocate.
     pub fn new(alloc: Global) -> Held {
         Held {
             set: None,

@@ -1,5 +1,5 @@
-//! What the calls of rows are passed: it is read from their text by the form of the call, into lists, one for each kind of
-//! value. `src/forms.rt` lists the calls.
+//! What is passed to the calls of rows: it is read from their text according to the form of the call, into lists, one for each
+//! kind of value. `src/forms.rt` lists the calls.
 #![tactic(auto)]
 
 mod arguments;

@@ -5,7 +5,7 @@ use crate::read_arguments::take_text;
 use line_text::{TextError, Words, read_hex};
 use std::alloc::Global;
 
-/// Reads octets in hex, `-` for none, which a star and a number after them repeat.
+/// Reads octets in hex, `-` for none, which `*` and a number after them repeat.
 pub fn read_octets(alloc: Global, words: &mut Words<'_>) -> Result<Vec<u8>, TextError> {
     let word = take_text(words);
     match word.split_once('*') {

@@ -14,7 +14,7 @@ pub fn read_record(arguments: &mut Arguments<'_>, words: &mut Words<'_>) {
     read_parts(arguments, words, record_type);
 }
 
-/// Reads a type, which `CH` may stand before.
+/// Reads a type, which `CH` may come before.
 fn read_type_after_class(
     words: &mut Words<'_>,
     class: &mut DNSClass,

@@ -50,7 +50,7 @@ fn nsec3_kind(alloc: Global, opt_out: bool) -> NxProofKind {
     }
 }
 
-/// Reads names and their digests to the end of the row; and with `for` before a number in the place of a name, how many
+/// Reads names and their digests to the end of the row; and with `for` before a number in place of a name, how many
 /// calls find memory.
 pub fn read_digests(arguments: &mut Arguments<'_>, words: &mut Words<'_>) {
     for _ in 0..u64::MAX {

@@ -23,7 +23,7 @@ pub fn make_answer_call(out: &mut Answer, verb: &str, arguments: &mut Arguments<
     }
 }
 
-/// The section of the set of which a copy was put last to the others, the empty one where there is none.
+/// The section of the set of which a copy was put last to the others, the empty one if there is none.
 pub fn take_section(arguments: &mut Arguments<'_>, options: LookupOptions) -> LookupRecords {
     match arguments.take_copy() {
         Some(set) => LookupRecords::new(options, set),

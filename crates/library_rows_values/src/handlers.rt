@@ -194,7 +194,7 @@ fn search<Z: ZoneHandler>(out: &mut Answer, zone: &Z, arguments: &mut Arguments<
     }
 }
 
-/// What stands in a pair, unless something stands beside it. It is of any type, so that a proof has nothing to take apart.
+/// What is in a pair, unless something is beside it. It is of any type, so that a proof has nothing to take apart.
 fn alone<T: Drop, S: Drop>(pair: (T, Option<S>)) -> Option<T> {
     match pair {
         (value, None) => Some(value),

@@ -30,7 +30,7 @@ fn hash(out: &mut Answer, verb: &str, salt: &[u8], arguments: &mut Arguments<'_>
     write_hash(out, verb, query, &arguments.take_lower());
 }
 
-/// Writes the digest of a name, or the owner of the set of the name, or of the star under it.
+/// Writes the digest of a name, or the owner of the set of the name, or of the wildcard at it.
 fn write_hash(out: &mut Answer, verb: &str, query: Nsec3QueryInfo<'_>, zone: &LowerName) {
     let name = query.qname;
     match verb {

@@ -1,5 +1,5 @@
-//! Makes the calls of rows that need no zone of theirs: on names, records, answers, refusals and words, and those of a handler
-//! through its trait. What they answer is written as text into room that is there from the start.
+//! Makes the calls of rows that don't need a zone of their own: on names, records, answers, refusals and words, and those of a
+//! handler through its trait. What they answer is written as text into memory that is allocated at the start.
 #![tactic(auto)]
 
 mod answers;

@@ -64,7 +64,7 @@ fn write_given(out: &mut Answer, answer: AuthLookup) {
     drop(answer);
 }
 
-/// Writes a step that has an error, and the error, and what stands in the place of an answer.
+/// Writes a step that has an error, and the error, and what stands in place of an answer.
 fn write_error(out: &mut Answer, step: LookupControlFlow<AuthLookup>) {
     write_case(out, &step);
     match step.map(|answer| answer.is_empty()).map_result() {

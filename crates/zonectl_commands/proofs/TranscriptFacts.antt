@@ -78,7 +78,7 @@ module _ (S : Type 0) (carries : S → Command → List ℕ → S → Type 0) wh
 
 -- ---- lines of octets in two parts
 
--- an octet that isn't a line feed stands behind others
+-- an octet that isn't a line feed comes after others
 more_feedless : (l : List ℕ) (c : ℕ) → HasNoFeed l → c ≢ 10 → HasNoFeed (l ++ c ∷ [])
 more_feedless l c h n = All-append (λ o. o ≢ 10) l (c ∷ []) h (λ k d m. let first : k ≡ 0 = omega arith in rw first n)
 

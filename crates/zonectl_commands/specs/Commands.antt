@@ -73,7 +73,7 @@ abbrev pub all_read : Reading Command → Option Command
 all_read None = None
 all_read (Some r) = if_none_left r.0 r.1
 
--- which words are which command; none where they are no command
+-- which words are which command; none if they are no command
 abbrev pub command_of_words : WordList → Option Command
 command_of_words [] = None
 command_of_words (verb ∷ ws) = all_read (read_by forms verb ws)

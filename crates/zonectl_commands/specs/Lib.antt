@@ -1,7 +1,7 @@
 pub mod Commands
 pub mod Lines
 pub mod InHand
-pub mod Told
+pub mod AnsweredLines
 pub mod Kept
 pub mod Transcripts
 pub mod TranscriptLaws

@@ -11,8 +11,8 @@ is_plain line = nat_le (length line) 4096 && list_all (λ octet. nat_le octet 12
 abbrev pub plain : List ℕ → Option (List ℕ)
 plain line = if is_plain line then Some line else None
 
--- the lines of an input, in order: what stands before each line feed, without the one carriage return at its end if it has
--- one; and what stands behind the last line feed, as it is, if that isn't empty. `None` stands for a line that is bad by its
+-- the lines of an input, in order: what precedes each line feed, without the one carriage return at its end if it has
+-- one; and what follows the last line feed, as it is, if that isn't empty. `None` stands for a line that is bad by its
 -- length or an octet.
 abbrev pub lines_of : List ℕ → List (Option (List ℕ))
 lines_of input = map plain (lines input)

@@ -3,7 +3,7 @@ use Rattle.std.specs.Prelude.{◌≡◌, ◌++◌, ℕ, List, [], Option, Some, 
 use Rattle.std.specs.Io.KnownBytes.{Appends, Consumes, IsAtEnd}
 use Rattle.zonectl_commands.specs.declared.lines.Line.{Line as LineKind}
 use Rattle.zonectl_commands.specs.InHand.{HasNoFeed, InHand, IsUntaken, TakesLine}
-use Rattle.zonectl_commands.specs.Told.{told}
+use Rattle.zonectl_commands.specs.AnsweredLines.{answered_line}
 
 -- of the octets that waited the first ones were written to what a writer holds, and the others wait still
 pub record Moves (waited : List ℕ) (old new : Option (List ℕ)) (waiting : List ℕ) : Type 0 where
@@ -13,7 +13,7 @@ pub record Moves (waited : List ℕ) (old new : Option (List ℕ)) (waiting : Li
 
 -- of octets that were read and not taken the first line was taken; or they have no line feed, and nothing more comes
 abbrev pub TakesNext : Option LineKind → List ℕ → InHand → Option (List ℕ) → Type 0
-TakesNext (Some line) octets hand remaining = (left : List ℕ) × IsUntaken hand left × TakesLine octets (told line hand.line) left
+TakesNext (Some line) octets hand remaining = (left : List ℕ) × IsUntaken hand left × TakesLine octets (answered_line line hand.line) left
 TakesNext None octets hand remaining = IsUntaken hand octets × HasNoFeed octets × (hand.ahead ≡ []) × IsAtEnd remaining
 
 -- the next line, of whatever was not taken before and what was read behind it; of what a reader had left before and after

@@ -43,8 +43,8 @@ pub enum Command {
     Transfer(LookupOptions),
 }
 
-/// Reads the command of a line, or None where the line is blank or a comment, which begins with `#`. `BadText` where it is
-/// neither, `Memory` where none is found.
+/// Reads the command of a line, or None if the line is blank or a comment, which begins with `#`. `BadText` where it is
+/// neither. Its only error is `Memory`.
 pub(crate) fn read_command(alloc: Global, line: &[u8]) -> Result<Option<Command>, TextError>
     ensures ok { IfOk result (λ said. said_by line.now ≡ Some said) }
     ensures refusal { OnBadText result (said_by line.now ≡ None) }

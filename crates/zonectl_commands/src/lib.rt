@@ -1,5 +1,5 @@
 //! The command language of `zonectl`: the lines of its input, which command a line is, and how lines are answered one after the
-//! other by whatever carries out commands. It needs no zone.
+//! other by whatever carries out the commands. It needs no zone.
 //!
 //! A line is a list of octets, and what it says depends on its words alone, which `line_text` reads.
 #![tactic(auto)]

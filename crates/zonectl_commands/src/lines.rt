@@ -7,7 +7,7 @@ ghost use Rattle.std.specs.List.{list_all};
 ghost use Rattle.std.specs.Str.Lines.{strip_carriage_return};
 ghost use Rattle.zonectl_commands.specs.Lines.{is_plain, plain};
 ghost use Rattle.zonectl_commands.specs.InHand.{IsBegun};
-ghost use Rattle.zonectl_commands.specs.Told.{told};
+ghost use Rattle.zonectl_commands.specs.AnsweredLines.{answered_line};
 ghost use Rattle.zonectl_commands.specs.Kept.{begun_of, kept_if, IsCut};
 
 use memchr::memchr;
@@ -20,14 +20,14 @@ use std::marker::Model;
 const LINE_LIMIT: usize = 4_096;
 
 /// The most octets that are kept of a line: one past the limit, for the carriage return of a line of the greatest length.
-const ROOM: usize = 4_097;
+const LINE_BUFFER: usize = 4_097;
 
 /// How many octets are read ahead.
 const CHUNK: usize = 16_384;
 
 /// What a line is.
 pub enum Line {
-    /// Its octets stand in the buffer.
+    /// Its octets are in the buffer.
     Whole,
     /// It is too long, or has an octet above 126.
     Bad,
@@ -43,7 +43,7 @@ pub struct Lines {
     line: Vec<u8>,
     /// Whether octets of the line in hand were taken, and its line feed wasn't yet.
     is_begun: bool,
-    /// Whether all octets of the line in hand that were taken stand in the buffer.
+    /// Whether all octets of the line in hand that were taken are in the buffer.
     fits: bool,
 }
 
@@ -67,12 +67,12 @@ impl Model for Lines {
 impl Lines {
     ghost use Rattle.zonectl_commands.specs.InHand.{GoesOn, IsAllTaken, IsLastLine, IsUntaken, TakesFirst};
 
-    /// No line in hand and nothing read ahead. An error if no memory is found.
+    /// No line in hand and nothing read ahead. An error if there isn't enough memory.
     pub fn new(alloc: Global) -> Result<Lines, AllocError>
         ensures { IfOk result (λ lines. IsUntaken lines []) }
     {
         let chunk = vec![in alloc; 0u8; CHUNK]?;
-        let line = Vec::with_capacity(alloc, ROOM)?;
+        let line = Vec::with_capacity(alloc, LINE_BUFFER)?;
         Ok(Lines {
             chunk,
             at: 0,
@@ -94,7 +94,7 @@ impl Lines {
     /// taken, and the line goes on with what is read next.
     pub fn take(&mut self) -> Option<Line>
         ensures taken { IfSome result
-            (λ line. TakesFirst self.old self.new (told line self.new.line)) }
+            (λ line. TakesFirst self.old self.new (answered_line line self.new.line)) }
         ensures none { IfNone result (GoesOn self.old self.new) }
         ensures used_up { IfNone result (self.new.ahead ≡ []) }
     {
@@ -111,10 +111,12 @@ impl Lines {
         Some(judge(self.line.as_slice(), self.fits))
     }
 
-    /// Takes the last line at the end of the input, if it lacks its line feed. None if nothing stands after the last one.
+    /// Takes the last line at the end of the input, if it lacks its line feed. None if nothing comes after the last
+    /// one.
     pub fn take_last(&mut self) -> Option<Line>
         requires { self.old.ahead ≡ [] }
-        ensures taken { IfSome result (λ line. IsLastLine self.old (told line self.new.line)) }
+        ensures taken { IfSome result (λ line. IsLastLine self.old (answered_line line
+            self.new.line)) }
         ensures none { IfNone result (IsAllTaken self.old) }
         ensures left { IsUntaken self.new [] }
     {
@@ -146,7 +148,7 @@ impl Lines {
     }
 }
 
-/// The octets before the first line feed, and that there is one; or all octets, where there is none.
+/// The octets before the first line feed, and that there is one; or all octets, if there is none.
 #[tactic(auto, using(crate::proofs::LineFacts::cutting))]
 fn first_piece(unread: &[u8]) -> (&[u8], bool)
     ensures { IsCut unread.now result.0.now result.1 }
@@ -157,8 +159,8 @@ fn first_piece(unread: &[u8]) -> (&[u8], bool)
     }
 }
 
-/// Puts a piece behind what was taken of the line that goes on, or at the beginning of a new one. Answers whether all that was
-/// taken of the line is here then.
+/// Appends a piece to what was taken of the line that goes on, or at the beginning of a new one. Answers whether all
+/// that was taken of the line is here then.
 fn put(line: &mut Vec<u8>, piece: &[u8], is_begun: bool, fits: bool) -> bool
     requires room { 4097 ≤ vec_capacity line.old }
     requires short { vec_len line.old ≤ 4097 }
@@ -177,7 +179,7 @@ fn put(line: &mut Vec<u8>, piece: &[u8], is_begun: bool, fits: bool) -> bool
     append(line, piece) && is_whole
 }
 
-/// Puts a piece behind the octets of a line, unless they are too many then. Answers whether it did.
+/// Appends a piece to the octets of a line, unless they are too many then. Answers whether it did.
 fn append(line: &mut Vec<u8>, piece: &[u8]) -> bool
     requires room { 4097 ≤ vec_capacity line.old }
     requires short { vec_len line.old ≤ 4097 }
@@ -187,7 +189,7 @@ fn append(line: &mut Vec<u8>, piece: &[u8]) -> bool
     ensures short { vec_len line.new ≤ 4097 }
     ensures room { vec_capacity line.old ≤ vec_capacity line.new }
 {
-    piece.len() <= ROOM - line.len() && line.extend_from_slice(piece).is_ok()
+    piece.len() <= LINE_BUFFER - line.len() && line.extend_from_slice(piece).is_ok()
 }
 
 /// Takes one carriage return at the end of a line away.
@@ -202,7 +204,7 @@ fn drop_carriage_return(line: &mut Vec<u8>)
 
 /// What a line is, of which all octets are here or not.
 fn judge(line: &[u8], fits: bool) -> Line
-    ensures { told result line.now ≡ (if fits then plain line.now else None) }
+    ensures { answered_line result line.now ≡ (if fits then plain line.now else None) }
 {
     if fits && is_plain(line) {
         Line::Whole

@@ -5,7 +5,7 @@ ghost use Rattle.std.specs.Io.KnownBytes.{Appends, Consumes, IsAtEnd};
 ghost use Rattle.zonectl_commands.specs.InHand.{IsUntaken};
 ghost use Rattle.zonectl_commands.specs.Lines.{lines_of};
 ghost use Rattle.zonectl_commands.specs.Serving.{HasNext, Moves};
-ghost use Rattle.zonectl_commands.specs.Told.{told};
+ghost use Rattle.zonectl_commands.specs.AnsweredLines.{answered_line};
 ghost use Rattle.zonectl_commands.specs.Transcripts.{bad_line, AnswersLine, IsTranscript};
 
 use crate::command::{Command, read_command};
@@ -18,8 +18,8 @@ use std::io::{Read, Write};
 const WAITING_LIMIT: usize = 4_096;
 
 /// How many octets of answers have room from the start. Behind those that wait, an answer of up to 4,096 octets always
-/// has room, and takes no memory.
-const ANSWERS_ROOM: usize = 8_192;
+/// has room, and doesn't allocate.
+const ANSWERS_BUFFER: usize = 8_192;
 
 /// What carries out commands, and keeps what they change.
 pub trait Session {
@@ -40,13 +40,13 @@ pub enum Stop {
     Memory,
     /// A read failed, or there are more lines than a number of 64 bits counts.
     Read,
-    /// A write failed, or no memory is found for the text of an answer.
+    /// A write failed, or there isn't enough memory for the text of an answer.
     Write,
 }
 
-/// Has a session answer each line of an input, one after the other, and tells whether all lines were good. A
-/// command is carried out, a bad line is answered by `bad line N`, counted from 1, and a blank line and a comment, which begins
-/// with `#`, by nothing. Where no memory is found to read a line, its answer is `error Memory`.
+/// Has a session answer each line of an input, one after the other, and says whether all lines were good. A command is
+/// carried out, a bad line is answered by `bad line N`, counted from 1, and a blank line and a comment, which begins
+/// with `#`, by nothing. Where there isn't enough memory to read a line, its answer is `error Memory`.
 ///
 /// Answers to lines that were read together are written together: those that wait are written in one piece before `input` is
 /// read again and at its end, and as soon as they have 4,096 octets or more.
@@ -70,7 +70,7 @@ pub fn serve<S: Session, R: Read, W: Write>(
     let Ok(mut lines) = Lines::new(alloc) else {
         return Err(Stop::Memory);
     };
-    let Ok(mut answers) = String::with_capacity(alloc, ANSWERS_ROOM) else {
+    let Ok(mut answers) = String::with_capacity(alloc, ANSWERS_BUFFER) else {
         return Err(Stop::Memory);
     };
     let good = serve_lines(alloc, session, &mut lines, input, &mut answers, output)?;
@@ -138,7 +138,7 @@ fn next_line<R: Read, W: Write>(
     Err(Stop::Read)
 }
 
-/// Serves what stands behind the last line feed, if something does, and writes the answers that wait.
+/// Serves what follows the last line feed, if something does, and writes the answers that wait.
 fn serve_last<S: Session, W: Write>(
     alloc: Global,
     session: &mut S,
@@ -168,7 +168,7 @@ fn serve_last<S: Session, W: Write>(
     }
 }
 
-/// Answers a line, and tells whether it is good. Its octets stand in `octets`.
+/// Answers a line, and says whether it is good. Its octets stand in `octets`.
 fn serve_line<S: Session, W: Write>(
     alloc: Global,
     session: &mut S,
@@ -179,7 +179,8 @@ fn serve_line<S: Session, W: Write>(
     output: &mut W,
 ) -> Result<bool, Stop>
     ensures { IfOk result (λ good. (text : List ℕ)
-        × AnswersLine S.carries session.old number (told line octets.now) text good session.new
+        × AnswersLine S.carries session.old number (answered_line line octets.now) text good
+        session.new
         × Moves (string_bytes answers.old ++ text)
         (W.contents output.old) (W.contents output.new) (string_bytes answers.new)) }
 {
@@ -212,8 +213,8 @@ fn write_out<W: Write>(answers: &mut String, output: &mut W) -> Result<(), Stop>
     }
 }
 
-/// Adds the answer to a line to the text, and tells whether the line is good. An error says that memory was refused for the
-/// text.
+/// Adds the answer to a line to the text, and says whether the line is good. An error says that memory was refused for
+/// the text.
 fn answer_line<S: Session>(
     alloc: Global,
     session: &mut S,
@@ -223,7 +224,8 @@ fn answer_line<S: Session>(
     answer: &mut String,
 ) -> Result<bool, AllocError>
     ensures { IfOk result (λ good. (text : List ℕ)
-        × AnswersLine S.carries session.old number (told line octets.now) text good session.new
+        × AnswersLine S.carries session.old number (answered_line line octets.now) text good
+        session.new
         × (string_bytes answer.new ≡ string_bytes answer.old ++ text)) }
 {
     match line {

@@ -13,7 +13,7 @@ pub struct Ending<'e> {
 /// What differs first.
 #[derive(Drop)]
 pub enum Difference<'w, 'c> {
-    /// This line of the output, counted from 1; it is empty where there is none.
+    /// This line of the output, counted from 1; it is empty if there is none.
     Output {
         line: usize,
         wanted: &'w [u8],

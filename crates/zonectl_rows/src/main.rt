@@ -1,5 +1,5 @@
-//! Runs transcripts of `zonectl`, and tells what differs from them. Each line of standard input names a file of transcripts
-//! in the folder where the program runs, `data`; the file `pending` there names the transcripts that are to differ still.
+//! Runs transcripts of `zonectl`, and reports differences. Each line of standard input names a file of transcripts in the
+//! current directory, `data`; the file `pending` there names the transcripts that should still differ.
 //!
 //! A file of transcripts is written like this:
 //!
@@ -14,10 +14,10 @@
 //! ! status 1
 //! ```
 //!
-//! `$` is followed by the words that the program is given, `>` by a line of its input, and any other line is what it writes
-//! next. A line that begins with `%>` is one of its input too, in which `%{7f}` is an octet in hex and `%{7f*3}` three of
-//! them; they may stand among the words as well. `! status` and `! standard error:` say how the run ends, if not by status 0
-//! and silence, and `! no last line feed` that its input ends with its last line's last octet.
+//! `$` is followed by the words that the program is given, `>` by a line of its input, and any other line is what it
+//! writes next. A line that begins with `%>` is one of its input too, in which `%{7f}` is an octet in hex and `%{7f*3}`
+//! three of them; they may be among the words as well. `! status` and `! standard error:` say how the run ends, if not
+//! by status 0 and silence, and `! no last line feed` that its input ends with its last line's last octet.
 //!
 //! Each transcript is run on reads of any length, of seven octets and of one. It is also broken off by a read that fails
 //! before and within each of its first lines, and, on reads of one line each, by a write that fails at each of its first
@@ -51,7 +51,7 @@ fn main(rt: HostRuntime) -> io::Result<()> {
         let text = fs::read_to_string(&rt, file.as_str())?;
         println!(rt; "{file}")?;
         for (number, part) in text.split("\n## ").enumerate() {
-            // What stands before the first name are comments.
+            // What comes before the first name are comments.
             if number > 0 {
                 let line = report.line(rt.alloc(), part)?;
                 println!(rt; "  {line}")?;

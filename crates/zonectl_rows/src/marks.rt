@@ -1,8 +1,8 @@
-//! Octets that stand in a text as marks: `%{7f}` is the octet 7f, and `%{7f*3}` three of them.
+//! Octets that are in a text as marks: `%{7f}` is the octet 7f, and `%{7f*3}` three of them.
 
 use std::alloc::{AllocError, Global};
 
-/// The octets of a text with marks; `%{}` is none. None where a mark can't be read.
+/// The octets of a text with marks; `%{}` is none. None if a mark can't be read.
 pub fn read(alloc: Global, text: &str) -> Result<Option<Vec<u8>>, AllocError> {
     let mut octets = Vec::new(alloc);
     for (i, part) in text.split("%{").enumerate() {
@@ -24,7 +24,7 @@ pub fn read(alloc: Global, text: &str) -> Result<Option<Vec<u8>>, AllocError> {
     Ok(Some(octets))
 }
 
-/// The octet of a mark, and how often it stands there.
+/// The octet of a mark, and how often it is there.
 fn octets_of(mark: &str) -> Option<(u8, usize)> {
     if mark.is_empty() {
         return Some((0, 0));

@@ -8,7 +8,7 @@ use std::io;
 use std::io::Read;
 
 /// How many rooms are tried before a line has to be served.
-const ROOMS: usize = 800;
+const ATTEMPTS: usize = 800;
 
 /// How many octets more each room has.
 const STEP: usize = 16;
@@ -121,7 +121,7 @@ fn answers_without(
     Ok(answers)
 }
 
-/// How often memory is refused to a line before it is served; none where a run ended otherwise.
+/// How often memory is refused to a line before it is served; none if a run ended otherwise.
 fn refusals_of(
     alloc: Global,
     scarce: &mut Scarcity,
@@ -130,7 +130,7 @@ fn refusals_of(
     wanted: &[u8],
 ) -> Result<Option<usize>, AllocError> {
     let mut output = Capture::with_room(alloc, WRITING)?;
-    scarce.begin(3 * ROOMS)?;
+    scarce.begin(3 * ATTEMPTS)?;
     let refusals = try_rooms(alloc, scarce, transcript, line, wanted, &mut output);
     scarce.end();
     Ok(refusals)
@@ -144,7 +144,7 @@ fn try_rooms(
     wanted: &[u8],
     output: &mut Capture,
 ) -> Option<usize> {
-    for refusals in 0..ROOMS {
+    for refusals in 0..ATTEMPTS {
         output.got.clear();
         scarce.leave(PLENTY);
         let room = refusals.saturating_mul(STEP);

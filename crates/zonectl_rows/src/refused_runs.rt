@@ -8,7 +8,7 @@ use std::io;
 use std::io::Read;
 
 /// How many rooms are tried before a run has to succeed.
-const ROOMS: usize = 4_000;
+const ATTEMPTS: usize = 4_000;
 
 /// How many octets more each room has.
 const STEP: usize = 16;
@@ -113,7 +113,8 @@ struct Refusals {
     at_the_query: u32,
 }
 
-/// Runs the program with ever more room, until it answers: how often memory was refused where; none where a run ended otherwise.
+/// Runs the program with ever more room, until it answers: how often memory was refused where; none if a run ended
+/// otherwise.
 fn refusals_of_short_answers(
     alloc: Global,
     scarce: &mut Scarcity,
@@ -124,7 +125,7 @@ fn refusals_of_short_answers(
         at_the_first_line: 0,
         at_the_query: 0,
     };
-    for i in 0..ROOMS {
+    for i in 0..ATTEMPTS {
         let status = run.run_in(alloc, scarce, i.saturating_mul(STEP), INPUT)?;
         let starts = run.complained(b"") && status == 0;
         let both = run.wrote(b"error Memory\nerror Memory\n");
@@ -159,7 +160,7 @@ additional 0
 fn each_growth_is_refused(alloc: Global) -> Result<bool, AllocError> {
     let mut run = Run::new(alloc)?;
     let mut scarce = Scarcity::new(alloc)?;
-    scarce.begin(ROOMS)?;
+    scarce.begin(ATTEMPTS)?;
     let refusals = refusals_of_short_answers(alloc, &mut scarce, &mut run);
     scarce.end();
     Ok(refusals.is_some_and(|refusals| {
@@ -189,7 +190,7 @@ fn refusals_of_a_long_answer(
     input: &[u8],
 ) -> Option<u32> {
     let mut stops = 0u32;
-    for i in 0..ROOMS {
+    for i in 0..ATTEMPTS {
         let room = i.saturating_mul(STEP).saturating_add(16_384);
         let status = run.run_in(alloc, scarce, room, input)?;
         if run.complained(b"write failed\n") {
@@ -211,7 +212,7 @@ fn memory_is_refused_to_a_long_answer(alloc: Global) -> Result<bool, AllocError>
     let input = long_input(alloc)?;
     let mut run = Run::new(alloc)?;
     let mut scarce = Scarcity::new(alloc)?;
-    scarce.begin(ROOMS)?;
+    scarce.begin(ATTEMPTS)?;
     let stops = refusals_of_a_long_answer(alloc, &mut scarce, &mut run, input.as_slice());
     scarce.end();
     Ok(stops.is_some_and(|stops| stops > 0))
@@ -290,8 +291,8 @@ example.com. 300 IN NSEC names-of-more-than-32-octets.example.com. SOA RRSIG NSE
 names-of-more-than-32-octets.example.com. 300 IN NSEC example.com. A RRSIG NSEC
 ";
 
-/// Runs the program on three texts, with ever more room while it has the second, until it writes what is wanted: how often
-/// memory was refused to it; none where a run ended otherwise.
+/// Runs the program on three texts, with ever more room while it has the second, until it writes what is wanted: how
+/// often memory was refused to it; none if a run ended otherwise.
 fn refusals_between(
     alloc: Global,
     run: &mut Run,
@@ -301,7 +302,7 @@ fn refusals_between(
     served: &[u8],
 ) -> Option<usize> {
     let mut scarce = Scarcity::new(alloc).ok()?;
-    for refusals in 0..ROOMS {
+    for refusals in 0..ATTEMPTS {
         let mut feed = ScarceFeed {
             room: refusals.saturating_mul(step),
             texts,
@@ -333,7 +334,7 @@ fn memory_is_refused_to_a_denial(alloc: Global) -> Result<bool, AllocError> {
 /// The first and last labels of names whose texts have more than 8,192 octets in all.
 const OWNERS: &[u8] = b"abcdefghijk";
 
-/// A circle of their owners, and a line that takes no memory.
+/// A circle of their owners, and a line that doesn't allocate.
 const LISTED: &[u8] = b"circle
 lookup z.example.com. A
 ";

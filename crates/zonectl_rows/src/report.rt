@@ -1,4 +1,4 @@
-//! What is told of each transcript, and of all of them.
+//! What is reported about each transcript, and of all of them.
 
 use crate::transcript::{Transcript, Unreadable};
 use crate::trial::try_all;

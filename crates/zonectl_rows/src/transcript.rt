@@ -63,7 +63,7 @@ impl Transcript {
         Ok(transcript)
     }
 
-    /// Reads a line, and answers whether it can stand in a transcript.
+    /// Reads a line, and answers whether it can be in a transcript.
     fn read_line(&mut self, alloc: Global, line: &str) -> Result<bool, AllocError> {
         if line.is_empty() || line.starts_with("#") {
             return Ok(true);

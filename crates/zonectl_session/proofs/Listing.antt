@@ -48,7 +48,7 @@ counting_done all left count h is =
 abbrev pub lines_of : {A : Type 0} → (A → List ℕ) → List A → List ℕ
 lines_of text_of xs = flat_map (λ x. text_of x ++ codes "\n") xs
 
--- a word and the count stand behind a text, and then the items but those that are left
+-- a word and the count come after a text, and then the items but those that are left
 pub record Listing {A : Type 0} (word : List ℕ) (text_of : A → List ℕ) (all left : List A) (before after : List ℕ) : Type 0 where
   pub lines : after ++ lines_of text_of left ≡ before ++ list_text word text_of all
 

@@ -3,13 +3,13 @@ use Rattle.std.proofs.Common.{◌≡◌, ℕ, List, ◌++◌, cond, OnOk, Ok, Er
 use Rattle.zonectl_session.specs.Replies.{Reply, reply_text}
 use Rattle.zonectl_session.specs.Steps.{Adds}
 
--- a reply stands behind a text once its own text was pushed, if that was done
+-- a reply comes after a text once its own text was pushed, if that was done
 pub pushed : (IsReply : Reply → Type 0) (reply : Reply) (before after : List ℕ) {E : Type 0} (done : Result (Unit {0}) E)
     → after ≡ cond (is_ok done) (before ++ reply_text reply) before → IsReply reply → OnOk done (Adds IsReply before after)
 pushed IsReply reply before after (Ok x) is_text is_reply = (reply, is_reply, is_text)
 pushed IsReply reply before after (Err e) is_text is_reply = tt
 
--- a text that is pushed stands behind another, if that was done
+-- a text that is pushed comes after another, if that was done
 pub text_pushed : (text before after : List ℕ) {E : Type 0} (done : Result (Unit {0}) E)
     → after ≡ cond (is_ok done) (before ++ text) before → OnOk done (after ≡ before ++ text)
 text_pushed text before after (Ok x) is_text = is_text

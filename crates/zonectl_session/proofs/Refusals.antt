@@ -17,7 +17,7 @@ use Rattle.zonectl_commands.specs.Transcripts.{AnswersSaid}
 use Rattle.zonectl_session.specs.declared.session.Served.{Served}
 use Rattle.zonectl_session.specs.Replies.{Reply, yes, no, done, secured, refused, failed, broken_off, answered, proved, listed, transferred, reply_text}
 use Rattle.zonectl_session.specs.Sessions.{IsAnswer}
-use Rattle.zonectl_session.specs.Steps.{with_sets, IsAdded, IsDropped, IsKeyed, IsRenewed, IsSecuredAt, TellsSecured}
+use Rattle.zonectl_session.specs.Steps.{with_sets, IsAdded, IsDropped, IsKeyed, IsRenewed, IsSecuredAt, RepliesSecured}
 use Rattle.zonectl_session.specs.SessionLaws.{IsRefusal, RefusedChangesNothing, RefusedLineChangesNothing}
 
 no_refusal : {A : Type 0} (reply told : Reply) → IsRefusal reply → reply ≡ told → (IsRefusal told → ⊥) → A
@@ -59,7 +59,7 @@ module _ (old new : Served) (reply : Reply) (refusal : IsRefusal reply) where
   securing_refused : (now : ℕ) → IsSecuredAt old now reply new → new ≡ old
   securing_refused now secured_at = by secured_at.0 secured_at.2
     where
-      by : (result : Result (Unit {0}) SecureError) → TellsSecured old now result reply new → new ≡ old
+      by : (result : Result (Unit {0}) SecureError) → RepliesSecured old now result reply new → new ≡ old
       by (Ok x) h = no_refusal reply (secured (serial new.zone.inner.records new.zone.origin)) refusal h.0 (λ none. none)
       by (Err e) h = h.1
 

@@ -18,7 +18,7 @@ octets_of signer = signer.number / 256 ∷ signer.number % 256 ∷ []
 abbrev pub demo_key : Demo → DNSKEY
 demo_key signer = record { flags = 256; protocol = 3; algorithm = 253; public_key = octets_of signer }
 
--- how many labels an owner has, without the root and a leading star (RFC 4034 section 3.1.3)
+-- how many labels an owner has, without the root and a leading `*` (RFC 4034 section 3.1.3)
 abbrev pub signed_labels : Name → ℕ
 signed_labels owner = length owner - (if is_wildcard owner then 1 else 0)
 

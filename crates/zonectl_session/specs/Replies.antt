@@ -52,7 +52,7 @@ reply_text (proved proof) = records_text (codes "proof") proof
 reply_text (listed owners) = list_text (codes "circle") name_text owners
 reply_text (transferred zone) = records_text (codes "transfer") zone
 
--- the word for want of memory
+-- the word for lack of memory
 abbrev pub memory : List ℕ
 memory = codes "Memory"
 

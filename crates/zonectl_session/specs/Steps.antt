@@ -77,7 +77,7 @@ with_sets s sets = record s { zone = record s.zone { inner = record s.zone.inner
 abbrev pub with_zone : Served → DemoZone → Served
 with_zone s zone = record s { zone = zone }
 
--- no memory is found: the reply says so, and the session is as before
+-- there isn't enough memory: the reply says so, and the session is as before
 abbrev pub IsOutOfMemory : (List ℕ → Reply) → Served → Reply → Served → Type 0
 IsOutOfMemory refusal old reply new = (reply ≡ refusal memory) × (new ≡ old)
 
@@ -89,7 +89,7 @@ module _ (old : Served) where
       ((reply ≡ no) × (new ≡ old)) (λ sets. (reply ≡ yes) × (new ≡ with_sets old sets))
       ⊎ IsOutOfMemory failed old reply new
 
-  -- `drop`: the set that stands under the key is taken out; takes no memory
+  -- `drop`: the set that is under the key is taken out; doesn't allocate
   abbrev pub IsDropped : RrKey → Reply → Served → Type 0
   IsDropped key reply new =
       (reply ≡ (if is_some (set_at old.zone.inner.records key.name key.record_type.0) then yes else no))
@@ -106,15 +106,15 @@ module _ (old : Served) where
       ((reply ≡ done) × (new ≡ with_zone old (with_key old.zone signer (demo_key signer)))) ⊎ IsOutOfMemory refused old reply new
 
   -- what `secure` tells: the serial that the zone has then, and the moment is kept; or why not, and the session is as before
-  abbrev pub TellsSecured : ℕ → Result (Unit {0}) SecureError → Reply → Served → Type 0
-  TellsSecured now (Ok _) reply new = (reply ≡ secured (serial new.zone.inner.records new.zone.origin)) × (new.moment ≡ now)
-  TellsSecured now (Err e) reply new = (reply ≡ refused (secure_word e)) × (new ≡ old)
+  abbrev pub RepliesSecured : ℕ → Result (Unit {0}) SecureError → Reply → Served → Type 0
+  RepliesSecured now (Ok _) reply new = (reply ≡ secured (serial new.zone.inner.records new.zone.origin)) × (new.moment ≡ now)
+  RepliesSecured now (Err e) reply new = (reply ≡ refused (secure_word e)) × (new ≡ old)
 
   -- `secure`: the zone is secured at the moment, or that is refused
   abbrev pub IsSecuredAt : ℕ → Reply → Served → Type 0
-  IsSecuredAt now reply new = (result : Result (Unit {0}) SecureError) × IsSecuring signature_of digest_of old.zone now result new.zone × TellsSecured now result reply new
+  IsSecuredAt now reply new = (result : Result (Unit {0}) SecureError) × IsSecuring signature_of digest_of old.zone now result new.zone × RepliesSecured now result reply new
 
--- the additional records of an answer, none where it has no such section
+-- the additional records of an answer, none if it has no such section
 abbrev pub additionals_beside : AuthLookup → List Record
 additionals_beside found = unwrap_or (additionals_of found) []
 
@@ -180,7 +180,8 @@ module _ (session : Served) where
   abbrev pub IsCircled : Reply → Type 0
   IsCircled reply = (reply ≡ listed (circle_owners session.zone)) ⊎ (reply ≡ failed memory)
 
-  -- what the zone answers to a query for its transfer at the moment of the last `secure`, unless no memory is found for the query
+  -- what the zone answers to a query for its transfer at the moment of the last `secure`, unless there isn't enough
+  -- memory for the query
   abbrev pub IsTransferAnswer : LookupOptions → Result ZoneTransfer LookupError → Type 0
   IsTransferAnswer options answer =
       IsZoneTransfer signature_of session.zone (transfer_query session.zone.origin ∷ []) options session.moment (Some (answer, None)) ⊎ (answer ≡ Err lookup_error.Memory)
@@ -201,7 +202,7 @@ IsStep old (command.Deny key) reply new = IsDenied old key reply × (new ≡ old
 IsStep old command.Circle reply new = IsCircled old reply × (new ≡ old)
 IsStep old (command.Transfer options) reply new = IsTransferred old options reply × (new ≡ old)
 
--- the text of a reply stands behind the text before
+-- the text of a reply comes after the text before
 abbrev pub Adds : (Reply → Type 0) → List ℕ → List ℕ → Type 0
 Adds IsReply before after = (reply : Reply) × IsReply reply × (after ≡ before ++ reply_text reply)
 

@@ -86,7 +86,7 @@ impl Signer for DemoSigner {
     }
 }
 
-/// How many labels an owner has, without the root and a leading star (RFC 4034 section 3.1.3).
+/// How many labels an owner has, without the root and a leading `*` (RFC 4034 section 3.1.3).
 #[tactic(auto, using(crate::proofs::DemoSigning::labels_fit))]
 fn signed_labels(owner: &Name) -> u8
     ensures { result ≡ signed_labels owner.now }

@@ -1,6 +1,6 @@
-//! The program `zonectl`: carries out the command of each line, and writes an answer to each. Its lines are read, its commands
-//! told and its answers written as `zonectl_commands` does, its records are printed as `line_text` does, and its zone is that of
-//! `zone_in_memory`; the signer of its demonstrations is no cryptography.
+//! The program `zonectl`: carries out the command of each line, and writes an answer to each. Reading lines, recognizing
+//! commands and writing answers is done by `zonectl_commands`, printing records by `line_text`, and its zone is that of
+//! `zone_in_memory`; its demonstration signer does no cryptography.
 #![tactic(auto)]
 
 ghost use Rattle.std.specs.Prelude.{◌≡◌, ◌≢◌, ◌≤◌, ◌<◌, ℕ, length, map, if◌then◌else◌, IfOk, IsErrOf, string_bytes};
@@ -81,7 +81,7 @@ fn reason(why: Fault) -> &'static [u8] {
     }
 }
 
-/// Serves all lines from a zone without records on, and tells whether each was good.
+/// Serves all lines from a zone without records on, and says whether each was good.
 fn serve_zone<R: Read, W: Write>(
     alloc: Global,
     args: &[String],

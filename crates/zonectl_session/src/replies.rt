@@ -92,7 +92,7 @@ fn write_additionals(found: &AuthLookup, answer: &mut String) -> Result<(), Allo
     Ok(())
 }
 
-/// Lends the records that may help beside an answer, none where it has no such section.
+/// Lends the records that may help beside an answer, none if it has no such section.
 fn additionals_of(found: &AuthLookup) -> LookupRecordsIter<'_>
     ensures { left_in result ≡ additionals_beside found.now }
 {

@@ -84,7 +84,7 @@ fn add(served: &mut Served, record: Record, answer: &mut String) -> Result<(), A
     }
 }
 
-/// Takes a record set out, and tells whether it was there.
+/// Takes a record set out, and says whether it was there.
 fn drop_set(served: &mut Served, key: &RrKey, answer: &mut String) -> Result<(), AllocError>
     ensures { OnOk result
         (AddsTo (λ reply. IsDropped served.old key.now reply served.new) answer.old answer.new) }

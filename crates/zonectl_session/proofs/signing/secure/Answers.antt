@@ -3,7 +3,7 @@ use Rattle.zone_handler.specs.declared.secure_error.SecureError.{SecureError}
 use Rattle.zone_lookup.specs.StartOfAuthority.{serial}
 use Rattle.zonectl_session.specs.declared.session.Served.{Served}
 use Rattle.zonectl_session.specs.Replies.{Reply, secured, refused, secure_word}
-use Rattle.zonectl_session.specs.Steps.{IsSecuredAt, TellsSecured, with_zone}
+use Rattle.zonectl_session.specs.Steps.{IsSecuredAt, RepliesSecured, with_zone}
 use Rattle.zonectl_session.proofs.Pushing.{written}
 use Rattle.zonectl_session.proofs.signing.secure.Goals as goal
 
@@ -15,7 +15,7 @@ returns-in-Ok c =
     written (λ (reply : Reply). IsSecuredAt old c.args.now reply new) (secured (serial zone.inner.records zone.origin)) _ _ _ _
     c.writeln.ensures.bytes
     (ap (λ n. codes "ok " ++ decimal n ++ codes "\n") c.serial.ensures)
-    (c.secure_zone.result, c.secure_zone.ensures, subst (λ (result : Result (Unit {0}) SecureError). TellsSecured old c.args.now result (secured (serial zone.inner.records zone.origin)) new) (sym c.in-Ok.is) (refl, refl))
+    (c.secure_zone.result, c.secure_zone.ensures, subst (λ (result : Result (Unit {0}) SecureError). RepliesSecured old c.args.now result (secured (serial zone.inner.records zone.origin)) new) (sym c.in-Ok.is) (refl, refl))
 
 pub returns-in-Err : goal.returns-in-Err
 returns-in-Err c =
@@ -26,4 +26,4 @@ returns-in-Err c =
     written (λ (reply : Reply). IsSecuredAt old c.args.now reply new) (refused (secure_word c.in-Err.error)) _ _ _ _
     c.writeln-in-Err.ensures.bytes
     (ap (λ word. codes "refused " ++ word ++ codes "\n") c.word_of.ensures)
-    (c.secure_zone.result, c.secure_zone.ensures, subst (λ (result : Result (Unit {0}) SecureError). TellsSecured old c.args.now result (refused (secure_word c.in-Err.error)) new) (sym c.in-Err.is) (refl, ap (with_zone old) same))
+    (c.secure_zone.result, c.secure_zone.ensures, subst (λ (result : Result (Unit {0}) SecureError). RepliesSecured old c.args.now result (refused (secure_word c.in-Err.error)) new) (sym c.in-Err.is) (refl, ap (with_zone old) same))

@@ -4,7 +4,7 @@ use Rattle.std.specs.Prelude.{if◌then◌else◌, None}
 use Rattle.zonectl_commands.specs.InHand.{InHand, IsUntaken}
 use Rattle.zonectl_commands.specs.Kept.{IsCut}
 use Rattle.zonectl_commands.specs.Lines.{plain}
-use Rattle.zonectl_commands.specs.Told.{told}
+use Rattle.zonectl_commands.specs.AnsweredLines.{answered_line}
 use Rattle.zonectl_commands.proofs.LineFacts.{ahead_after, all_ahead, cut_by, empty_piece, goes_on, taken_first, taken_none}
 use Rattle.zonectl_commands.proofs.lines.Lines.take.Goals as goal
 
@@ -29,5 +29,5 @@ returns-clause-taken c = λ octets u.
     let cut : IsCut ahead piece true = cut_by _ ahead piece _ true read c.if-not-is_end.false c.first_piece-is_end.ensures in
     let line : c.as_slice.result.now ≡ c.drop_carriage_return.new.line.items = c.as_slice.ensures.value in
     taken_first _ _ octets piece cut.1.0 c.put-self-inside.new.line.items c.put-self-inside.result _ hand cut.1.1 cut.0 c.put-self-inside.ensures.begun
-    (ap (told c.judge.result) (sym line) ∙ c.judge.ensures ∙ ap (λ (l : List ℕ). if c.put-self-inside.result then plain l else None) (line ∙ c.drop_carriage_return.ensures.items))
+    (ap (answered_line c.judge.result) (sym line) ∙ c.judge.ensures ∙ ap (λ (l : List ℕ). if c.put-self-inside.result then plain l else None) (line ∙ c.drop_carriage_return.ensures.items))
     refl (ahead_after c.self.inside.chunk.items piece cut.1.0 c.self.inside.at c.self.inside.filled c.self.invariant.behind cut.1.1)

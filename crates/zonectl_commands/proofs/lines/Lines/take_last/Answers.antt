@@ -3,7 +3,7 @@ use Rattle.std.specs.Prelude.{if◌then◌else◌, None}
 use Rattle.zonectl_commands.specs.InHand.{InHand, IsUntaken}
 use Rattle.zonectl_commands.specs.Kept.{begun_of}
 use Rattle.zonectl_commands.specs.Lines.{plain}
-use Rattle.zonectl_commands.specs.Told.{told}
+use Rattle.zonectl_commands.specs.AnsweredLines.{answered_line}
 use Rattle.zonectl_commands.proofs.LineFacts.{taken_last}
 use Rattle.zonectl_commands.proofs.lines.Lines.take_last.Goals as goal
 
@@ -16,4 +16,4 @@ returns-clause-taken c = λ octets u.
     (ap (λ (h : InHand). h.ahead) c.self.view_is ∙ c.requires)
     (ap (λ b. begun_of b c.self.inside.fits line) c.if-not-self.false)
     some
-    (ap (told c.judge.result) (sym c.as_slice.ensures.value) ∙ c.judge.ensures ∙ ap (λ (l : List ℕ). if c.self.inside.fits then plain l else None) c.as_slice.ensures.value)
+    (ap (answered_line c.judge.result) (sym c.as_slice.ensures.value) ∙ c.judge.ensures ∙ ap (λ (l : List ℕ). if c.self.inside.fits then plain l else None) c.as_slice.ensures.value)

@@ -4,6 +4,6 @@ use Rattle.zonectl_commands.specs.declared.lines.Line.{Line as LineKind}
 use Rattle.zonectl_commands.specs.declared.lines.Line.TheVariants as line
 
 -- the line that an answer tells of: the octets in hand, or a bad line
-abbrev pub told : LineKind → List ℕ → Option (List ℕ)
-told line.Whole octets = Some octets
-told line.Bad octets = None
+abbrev pub answered_line : LineKind → List ℕ → Option (List ℕ)
+answered_line line.Whole octets = Some octets
+answered_line line.Bad octets = None
