@@ -1,4 +1,4 @@
--- In a zone with which nothing is wrong a CNAME stands alone
+-- In a zone with which nothing is wrong a CNAME is alone
 use Rattle.std.proofs.Common.{◌≡◌, ◌==◌, ◌&&◌, ◌||◌, ◌⊎◌, ℕ, Bool, true, false, cond, not, length, List, [], ◌∷◌, refl, sym, ap, ◌∙◌, inl, inr, eqb-true, true≢false, arith}
 use Rattle.std.specs.Prelude.{Option, Some, None, is_some, IsTrue}
 use Rattle.std.specs.Option.{option_or}
@@ -31,7 +31,7 @@ or_cases true b h = inl refl
 or_cases false b h = inr h
 
 module _ (origin n : Name) (t : ℕ) where
-  -- a set that may stand beside a CNAME
+  -- a set that may be beside a CNAME
   stands : (gs : List GivenRecord) → (length gs == 0) ≡ false → (o : Bool) → o ≡ true → set_fault origin n t o gs ≡ None → stands_beside_cname t ≡ true
   stands [] h o e f = absurd (true≢false h)
   stands (g ∷ gs) h o e f =

@@ -1,7 +1,7 @@
 -- What is wrong with the sets of a zone is what is wrong with the first of its groups, whose keys ascend
-use Rattle.std.proofs.Common.{◌≡◌, ◌==◌, ℕ, Bool, true, false, cond, not, length, List, [], ◌∷◌, refl, sym, ap, ◌∙◌, ◌⊎◌, inl, inr, Less}
-use Rattle.std.specs.Prelude.{Option, Some, None, filter}
-use Rattle.std.specs.List.{AllByRecursion}
+use Rattle.std.proofs.Common.{◌≡◌, ◌==◌, ◌||◌, ℕ, Bool, true, false, cond, not, length, List, [], ◌∷◌, refl, sym, ap, ◌∙◌, ◌⊎◌, inl, inr, Less}
+use Rattle.std.specs.Prelude.{Option, Some, None, filter, option_map}
+use Rattle.std.specs.List.{AllByRecursion, find}
 use Rattle.std.specs.List.Sorted.{IsStrictlySortedBy}
 use Rattle.std.specs.Map.{lookup, keys_of}
 use Rattle.std.specs.Option.{option_or, option_map_or}
@@ -12,15 +12,18 @@ use Rattle.zone_proto.specs.Names.{Name}
 use Rattle.zone_proto.specs.Types.{SOA, CNAME}
 use Rattle.zone_proto.proofs.Ordering.KeyOrder.{key_same, key_itself}
 use Rattle.zone_map.proofs.Stored.{all_above}
-use Rattle.zone_proto.specs.Sets.{first_serial}
+use Rattle.zone_proto.specs.Data.{same_data}
+use Rattle.zone_proto.specs.Sets.{first_serial, is_single}
+use Rattle.zone_denial.specs.Chains.{DNAME}
 use Rattle.zone_builder.specs.declared.fault.LoadFault.{LoadFault}
 use Rattle.zone_builder.specs.declared.fault.LoadFault.TheVariants as fault
 use Rattle.zone_builder.specs.declared.given.GivenRecord.{GivenRecord}
 use Rattle.zone_builder.specs.declared.groups.Group.{Group}
-use Rattle.zone_builder.specs.Faults.{apex_fault, class_fault, first_of, has_denials, soa_fault, set_fault, fault_at, records_fault, IsFirstSetFault, IsFault, IsFaultless}
+use Rattle.zone_builder.specs.Faults.{apex_fault, beside_fault, class_fault, count_fault, first_of, has_denials, has_other_data, iterations_fault, place_fault, soa_fault, set_fault, fault_at, records_fault, told_of, IsFirstSetFault, IsFault, IsFaultless}
 use Rattle.zone_builder.specs.GroupFaults.{has_cname, group_apex_fault, group_fault, first_fault}
-use Rattle.zone_builder.specs.Groups.{Groups, records_in}
+use Rattle.zone_builder.specs.Groups.{Groups, records_in, AreAlone}
 use Rattle.zone_builder.specs.Records.{is_data_of, given_at, records_of}
+use Rattle.zone_builder.specs.Repeats.{HaveOneData}
 use Rattle.zone_builder.proofs.KeysFound.{absent}
 
 -- ---- one fault after another
@@ -33,10 +36,52 @@ pub second_none : (a b : Option LoadFault) → option_or a b ≡ None → b ≡ 
 second_none None b h = h
 second_none (Some x) b h = absurd cc
 
+-- ---- sets of one record
+
+none_found : (p : GivenRecord → Bool) (gs : List GivenRecord) → find p gs ≡ None → AllByRecursion (λ (g : GivenRecord). p g ≡ false) gs
+none_found p [] h = tt
+none_found p (g ∷ gs) h = by (p g) refl h (none_found p gs)
+  where
+    by : (b : Bool) → p g ≡ b → cond b (Some g) (find p gs) ≡ None → (find p gs ≡ None → AllByRecursion (λ (x : GivenRecord). p x ≡ false) gs) → (p g ≡ false) × AllByRecursion (λ (x : GivenRecord). p x ≡ false) gs
+    by true e h rest = absurd cc
+    by false e h rest = (e, rest h)
+
+not_other : (b : Bool) → not b ≡ false → b ≡ true
+not_other true h = refl
+not_other false h = sym h
+
+one_data : (g : GivenRecord) (gs : List GivenRecord) → AllByRecursion (λ (x : GivenRecord). has_other_data g x ≡ false) gs → HaveOneData (g ∷ gs)
+one_data g [] h = tt
+one_data g (x ∷ xs) h = (not_other (same_data x.record.rdata g.record.rdata) h.0, one_data g xs h.1)
+
+no_count : (t : ℕ) (g : GivenRecord) (gs : List GivenRecord) → is_single t ≡ true → count_fault t g gs ≡ None → find (has_other_data g) gs ≡ None
+no_count t g gs one h = by (find (has_other_data g) gs) (ap (λ b. cond (b || (t == DNAME)) (option_map (λ (x : GivenRecord). fault.Second (told_of x)) (find (has_other_data g) gs)) None) (sym one) ∙ h)
+  where
+    by : (o : Option GivenRecord) → option_map (λ (x : GivenRecord). fault.Second (told_of x)) o ≡ None → o ≡ None
+    by None k = refl
+    by (Some x) k = absurd cc
+
+-- where nothing is wrong with a set, and it may have one record, all have equal data
+alone : (origin n : Name) (t : ℕ) (o : Bool) (gs : List GivenRecord) → set_fault origin n t o gs ≡ None → is_single t ≡ true → HaveOneData gs
+alone origin n t o [] h one = tt
+alone origin n t o (g ∷ gs) h one =
+    one_data g gs (none_found (has_other_data g) gs (no_count t g gs one
+    (first_none (count_fault t g gs) later (second_none (place_fault origin n t g) (option_or (count_fault t g gs) later) h))))
+  where
+    later : Option LoadFault
+    later = option_or (iterations_fault (g ∷ gs)) (beside_fault t o g)
+
+pub all_alone : (origin : Name) (groups es : List (RrKey × Group)) → first_fault origin groups es ≡ None → AreAlone es
+all_alone origin groups [] h = tt
+all_alone origin groups (e ∷ es) h = (
+  alone origin e.0.name e.0.record_type.0 (has_cname groups e.0.name) e.1.records.items (first_none (group_fault origin groups e.0 e.1) (first_fault origin groups es) h),
+  all_alone origin groups es (second_none (group_fault origin groups e.0 e.1) (first_fault origin groups es) h),
+)
+
 -- ---- the first of groups
 
 module _ (origin : Name) (groups : Groups) where
-  -- what is wrong with what stands under a key
+  -- what is wrong with what is under a key
   abbrev pub fault_under : Option Group → RrKey → Option LoadFault
   fault_under o k = set_fault origin k.name k.record_type.0 (has_cname groups k.name) (option_map_or (λ (g : Group). g.records.items) o [])
 
@@ -122,7 +167,7 @@ module _ (origin : Name) (gs : List GivenRecord) (groups : Groups) (own : (k : R
 module _ (origin : Name) (gs : List GivenRecord) where
   module _ (classes : class_fault gs ≡ None) (serial : ℕ) (soa : first_serial (records_of (given_at origin gs origin SOA)) ≡ Some serial)
       (groups : Groups) (own : (k : RrKey) → records_in groups k ≡ filter (is_data_of origin k) gs) (denied : Bool) (told : denied ≡ has_denials origin gs) where
-    -- nothing else can be wrong with the records than with what stands at the origin
+    -- nothing else can be wrong with the records than with what is at the origin
     pub records_wrong : records_fault origin gs ≡ group_apex_fault origin groups denied
     records_wrong =
         ap (λ o. option_or o (option_or (soa_fault origin gs) at_origin)) classes

@@ -20,7 +20,7 @@ use Rattle.zone_builder.specs.declared.groups.Group.{Group}
 use Rattle.zone_builder.specs.Groups.{Groups, all_under, ends_under, keyed, AreBelow, AreFrom, AreOrdered, AreUpTo}
 use Rattle.zone_builder.proofs.RecordsGrouped.{append_nil}
 
--- ---- what stands under a key
+-- ---- what is under a key
 
 module _ (part : Group → List GivenRecord) where
   under_append : (xs ys : Groups) (k : RrKey) → all_under part (xs ++ ys) k ≡ all_under part xs k ++ all_under part ys k
@@ -50,7 +50,7 @@ module _ (part : Group → List GivenRecord) where
   both_under true xs ys = refl
   both_under false xs ys = refl
 
-  -- the last group is followed by one more under its key, or that stands alone behind it
+  -- the last group is followed by one more under its key, or that is alone behind it
   pub put_under : (front old new : Groups) (k : RrKey) (o : Option Group) (g h : Group) → old ≡ front ++ keyed k o → new ≡ front ++ (k, h) ∷ []
       → part h ≡ option_map_or part o [] ++ part g → (q : RrKey) → all_under part new q ≡ all_under part old q ++ cond (key_eq k q) (part g) []
   put_under front old new k o g h was is made q =
@@ -174,14 +174,14 @@ before_another j k = by (key_cmp j k)
     by Equal h g = absurd (true≢false g)
     by Greater h g = absurd (true≢false (sym h))
 
--- groups up to a key that don't end under it stand below it
+-- groups up to a key that don't end under it are below it
 pub below_another : (es : Groups) (k : RrKey) → ends_under es k ≡ false → AreOrdered es → AreUpTo es k → AreBelow es k
 unfolding IsStrictlySortedBy
 below_another [] k h s u = tt
 below_another (e ∷ []) k h s u = (before_another e.0 k u.0 h, tt)
 below_another (e ∷ f ∷ es) k h s u = let rest = below_another (f ∷ es) k h s.1 u.1 in (key_cmp_total.trans e.0 f.0 k s.0.0 rest.0, rest)
 
--- ---- groups that are left stand behind those that were put together
+-- ---- groups that are left come after those that were put together
 
 pub none_before : (es : Groups) → AllByRecursion (λ (q : RrKey). AreUpTo [] q) (keys_of es)
 none_before [] = tt

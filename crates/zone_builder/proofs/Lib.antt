@@ -1,3 +1,8 @@
+mod Repeating
+mod RepeatedValues
+mod Warned
+mod FirstTaken
+mod SignedSets
 mod KeysFound
 mod RecordsGrouped
 mod Joining

@@ -26,12 +26,12 @@ use Rattle.zone_builder.specs.declared.given.GivenRecord.{GivenRecord}
 use Rattle.zone_builder.specs.declared.groups.Group.{Group}
 use Rattle.zone_builder.specs.Groups.{IsGroupOf}
 use Rattle.zone_builder.specs.Records.{is_signature, records_of}
-use Rattle.zone_builder.specs.Sets.{with_ttl, least_ttl, signed_by, signed_set_of, set_in, with_set}
+use Rattle.zone_builder.specs.Sets.{with_ttl, least_ttl, signed_set_of, set_in, with_set}
 use Rattle.zone_builder.proofs.KeysFound.{absent}
 
 -- records that are taken one after the other
 module _ (k : RrKey) (serial ttl : ℕ) (named : IsName k.name) where
-  -- a set that is empty, or stands under the key, stands there once it takes a record of the key
+  -- a set that is empty, or is under the key, is there once it takes a record of the key
   pub one_stored : (r : Record) → lower r.name ≡ k.name → type_of r.rdata ≡ k.record_type.0 → (s : Option RRset) → IfSome s (IsStoredAt k.name k.record_type.0)
       → IsStoredAt k.name k.record_type.0 (with_taken serial (unwrap_or s (empty_set r.name (type_of r.rdata) serial)) r)
   one_stored r o t s h =
@@ -48,7 +48,7 @@ module _ (k : RrKey) (serial ttl : ℕ) (named : IsName k.name) where
 
 -- ---- the set of a group
 
--- it may stand under the group's key
+-- it may be under the group's key
 pub made_stored : (k : RrKey) (serial : ℕ) (g : Group) → IsName k.name → IsGroupOf k g → (s : RRset) → Some s ≡ set_in serial g → IsStoredAt k.name k.record_type.0 s
 made_stored k serial g named of s e = by g.records.items refl
   where
@@ -69,7 +69,7 @@ made_stored k serial g named of s e = by g.records.items refl
         signed _ s (fold_stored k serial ttl named xs first (one_stored k serial ttl named (with_ttl ttl x.record) o.0 t.0 None tt) o.1 t.1) _
         (e ∙ ap (λ gs. signed_set_of serial gs g.signatures.items) (sym q))
 
--- behind sets that stand under their keys it stands under its own
+-- behind sets that are under their keys it is under its own
 pub stored_with : (k : RrKey) (serial : ℕ) (g : Group) → IsName k.name → IsGroupOf k g → (m n : Sets) → n ≡ with_set m k (set_in serial g) → AreStored m → AreStored n
 stored_with k serial g named of m n e stored = subst AreStored (sym e) (by (set_in serial g) refl)
   where
@@ -86,7 +86,7 @@ last_under m k = last_at m k.name k.record_type.0
 last_with : (m : Sets) (k : RrKey) (s : RRset) (q : RrKey) → last_under (m ++ (k, s) ∷ []) q ≡ cond (key_eq k q) (Some s) (last_under m q)
 last_with m k s q = sym (update_all_push key_eq (λ _. None) (λ x. last_under m x) m (k, s) q refl)
 
--- what stands under a key behind whose sets that of its group was put, if there is one
+-- what is under a key behind whose sets that of its group was put, if there is one
 with_own : (m : Sets) (k : RrKey) (o : Option RRset) → last_under (with_set m k o) k ≡ option_or o (last_under m k)
 with_own m k None = refl
 with_own m k (Some s) = last_with m k s k ∙ ap (λ b. cond b (Some s) (last_under m k)) (key_itself k)

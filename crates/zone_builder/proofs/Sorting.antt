@@ -19,7 +19,7 @@ use Rattle.zone_builder.specs.declared.groups.Group.{Group}
 use Rattle.zone_builder.specs.Groups.{Groups, all_under, AreFrom, AreNamed, AreOrdered, AreSorted}
 use Rattle.zone_builder.proofs.KeysFound.{entries_found}
 
--- a group stands before another
+-- a group comes before another
 abbrev pub is_before : RrKey × Group → RrKey × Group → Bool
 is_before x y = is_lt (key_cmp x.0 y.0)
 

@@ -13,19 +13,20 @@ use Rattle.zone_proto.specs.Sets.{first_serial, is_single}
 use Rattle.zone_proto.specs.Types.{IN, NS, SOA, CNAME, DNSKEY, NSEC3PARAM}
 use Rattle.zone_map.specs.Upserts.{is_denial_type}
 use Rattle.zone_denial.specs.Chains.{DNAME}
+use Rattle.zone_builder.specs.declared.fault.TheConstants.{MOST_ITERATIONS}
 use Rattle.zone_builder.specs.declared.fault.LoadFault.{LoadFault}
 use Rattle.zone_builder.specs.declared.fault.LoadFault.TheVariants as fault
 use Rattle.zone_builder.specs.declared.given.GivenRecord.{GivenRecord}
 use Rattle.zone_builder.specs.declared.given.RecordAt.{RecordAt}
 use Rattle.zone_builder.specs.Records.{given_at, records_of}
 
--- what is told of a record
+-- what is reported about a record
 abbrev pub told_of : GivenRecord → RecordAt
 told_of g = record { owner = g.record.name; record_type = record { 0 = type_of g.record.rdata }; place = g.place }
 
 -- what a check answers: that nothing is wrong, or what is; or that no memory was found
-abbrev pub TellsFault : {A : Type 0} → Result A LoadFault → Option LoadFault → Type 0
-TellsFault result wrong = MatchResult result (λ _. wrong ≡ None) (λ e. (e ≡ fault.Memory) ⊎ (wrong ≡ Some e))
+abbrev pub ReportsFault : {A : Type 0} → Result A LoadFault → Option LoadFault → Type 0
+ReportsFault result wrong = MatchResult result (λ _. wrong ≡ None) (λ e. (e ≡ fault.Memory) ⊎ (wrong ≡ Some e))
 
 -- a record isn't of class IN, which that of a zone is (RFC 1035 section 5.2)
 abbrev pub is_other_class : GivenRecord → Bool
@@ -35,7 +36,7 @@ is_other_class g = not (g.record.dns_class.0 == IN)
 abbrev pub class_fault : List GivenRecord → Option LoadFault
 class_fault gs = option_map (λ (g : GivenRecord). fault.OtherClass (told_of g) g.record.dns_class) (find is_other_class gs)
 
--- the types that may stand at a name that owns a CNAME: that itself, and those of denial (RFC 4035 section 2.5)
+-- the types that may be at a name that owns a CNAME: that itself, and those of denial (RFC 4035 section 2.5)
 abbrev pub stands_beside_cname : ℕ → Bool
 stands_beside_cname t = (t == CNAME) || is_denial_type t
 
@@ -61,19 +62,15 @@ iterations_of (V.NSEC3 d) = d.iterations
 iterations_of (V.NSEC3PARAM d) = d.iterations
 iterations_of d = 0
 
--- as many as a zone may have: there should be none, since each makes every denial dearer (RFC 9276 section 3.1)
-abbrev pub most_iterations : ℕ
-most_iterations = 50
-
--- a record has more
+-- a record has more than a zone may have: there should be none, since each makes every denial dearer (RFC 9276 section 3.1)
 abbrev pub is_iterated_too_often : GivenRecord → Bool
-is_iterated_too_often g = nat_lt most_iterations (iterations_of g.record.rdata)
+is_iterated_too_often g = nat_lt MOST_ITERATIONS (iterations_of g.record.rdata)
 
 -- the first of the records that has more
 abbrev pub iterations_fault : List GivenRecord → Option LoadFault
 iterations_fault gs = option_map (λ (g : GivenRecord). fault.TooManyIterations (told_of g) (iterations_of g.record.rdata)) (find is_iterated_too_often gs)
 
--- it stands beside a CNAME, and may not
+-- it is beside a CNAME, and may not
 abbrev pub beside_fault : ℕ → Bool → GivenRecord → Option LoadFault
 beside_fault t owns_cname first = cond (not (stands_beside_cname t) && owns_cname) (Some (fault.BesideCname (told_of first))) None
 
@@ -98,7 +95,7 @@ ns_fault origin (Some g) = None
 abbrev pub undenied_fault : Bool → Option GivenRecord → Option LoadFault
 undenied_fault denied signed = cond denied None (option_map (λ (g : GivenRecord). fault.NoDenials (told_of g)) signed)
 
--- what is wrong with what stands at the origin, where this is the first record of a type
+-- what is wrong with what is at the origin, where this is the first record of a type
 abbrev pub apex_fault : Name → Bool → (ℕ → Option GivenRecord) → Option LoadFault
 apex_fault origin denied first_at =
     option_or (ns_fault origin (first_at NS)) (option_or (undenied_fault denied (first_at DNSKEY)) (undenied_fault denied (first_at NSEC3PARAM)))
@@ -108,7 +105,7 @@ abbrev pub is_denial : Name → GivenRecord → Bool
 is_denial origin g = is_denial_type (type_of g.record.rdata) && is_at_or_above origin (lower g.record.name)
 
 module _ (origin : Name) (gs : List GivenRecord) where
-  -- no SOA stands at the origin
+  -- no SOA is at the origin
   abbrev pub soa_fault : Option LoadFault
   soa_fault = option_map_or (λ serial. None) (first_serial (records_of (given_at origin gs origin SOA))) (Some (fault.NoSoa origin))
 

@@ -10,9 +10,13 @@ use Rattle.zone_proto.specs.Data.{type_of}
 use Rattle.zone_proto.specs.Keys.{key_cmp, key_eq}
 use Rattle.zone_proto.specs.Names.{IsName, lower}
 use Rattle.zone_proto.specs.Order.{is_upto}
+use Rattle.zone_proto.specs.Sets.{is_single}
 use Rattle.zone_builder.specs.declared.given.GivenRecord.{GivenRecord}
 use Rattle.zone_builder.specs.declared.groups.Group.{Group}
+use Rattle.zone_builder.specs.declared.warning.LoadWarning.{LoadWarning}
 use Rattle.zone_builder.specs.Records.{is_signature}
+use Rattle.zone_builder.specs.Repeats.{HaveOneData}
+use Rattle.zone_builder.specs.Warnings.{set_warnings}
 
 -- groups by their keys
 abbrev pub Groups : Type 0
@@ -37,14 +41,14 @@ module _ (groups : Groups) (k : RrKey) where
   abbrev pub all_signatures_in : List GivenRecord
   all_signatures_in = all_under (λ (g : Group). g.signatures.items) groups k
 
-  -- no group stands after a key, and each before it
+  -- no group comes after a key, and each before it
   abbrev pub AreUpTo : Type 0
   AreUpTo = AllByRecursion (λ (q : RrKey). is_upto key_cmp q k ≡ true) (keys_of groups)
 
   abbrev pub AreBelow : Type 0
   AreBelow = AllByRecursion (λ (q : RrKey). key_cmp q k ≡ Less) (keys_of groups)
 
-  -- each group stands at a key or after it
+  -- each group is at a key or after it
   abbrev pub AreFrom : Type 0
   AreFrom = AllByRecursion (λ (q : RrKey). is_upto key_cmp k q ≡ true) (keys_of groups)
 
@@ -57,7 +61,7 @@ AreSorted (e ∷ es) = AreFrom es e.0 × AreSorted es
 abbrev pub AreOrdered : Groups → Type 0
 AreOrdered groups = IsStrictlySortedBy key_cmp (keys_of groups)
 
--- the last of groups stands under a key
+-- the last of groups is under a key
 abbrev pub ends_under : Groups → RrKey → Bool
 ends_under [] k = false
 ends_under (e ∷ []) k = key_eq e.0 k
@@ -81,3 +85,15 @@ pub record IsGroupOf (k : RrKey) (g : Group) : Type 0 where
 -- so it is under each key
 abbrev pub AreGroups : Groups → Type 0
 AreGroups groups = AllByRecursion (λ e. IsGroupOf e.0 e.1) groups
+
+-- if a set of the type has at most one record, all records of a group have equal data
+abbrev pub IsAlone : RrKey → Group → Type 0
+IsAlone k g = is_single k.record_type.0 ≡ true → HaveOneData g.records.items
+
+-- so it is under each key
+abbrev pub AreAlone : Groups → Type 0
+AreAlone groups = AllByRecursion (λ e. IsAlone e.0 e.1) groups
+
+-- the warnings of the set of a group
+abbrev pub group_warnings : RrKey × Group → List LoadWarning
+group_warnings e = set_warnings e.1.records.items e.1.signatures.items

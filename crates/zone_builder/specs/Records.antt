@@ -24,7 +24,7 @@ abbrev pub set_key : Record → RrKey
 set_key r = key (lower r.name) (set_type r.rdata)
 
 module _ (origin : Name) (k : RrKey) (g : GivenRecord) where
-  -- a record is of the set under a key, or covers it, and stands at or below the origin
+  -- a record is of the set under a key, or covers it, and is at or below the origin
   unfoldable pub is_of_set : Bool
   is_of_set = is_at_or_above origin (lower g.record.name) && key_eq (set_key g.record) k
 

@@ -1,10 +1,10 @@
-//! Whether what stands at the origin is what a zone needs.
+//! Whether what is at the origin is what a zone needs.
 ghost use Rattle.std.specs.Prelude.{◌≡◌, IfOk, IsOkUnless, option_copied};
 ghost use Rattle.zone_proto.specs.Keys.{key as key_at};
 ghost use Rattle.zone_proto.specs.Names.{Name as NameLabels};
 ghost use Rattle.zone_map.specs.Upserts.{is_denial_type};
 ghost use Rattle.zone_proto.specs.Data.{type_of};
-ghost use Rattle.zone_builder.specs.Faults.{TellsFault, first_of, has_denials, is_denial, ns_fault, undenied_fault};
+ghost use Rattle.zone_builder.specs.Faults.{ReportsFault, first_of, has_denials, is_denial, ns_fault, undenied_fault};
 ghost use Rattle.zone_builder.specs.GroupFaults.{group_apex_fault};
 ghost use Rattle.zone_builder.specs.Groups.{records_in, AreOrdered};
 
@@ -14,7 +14,7 @@ use crate::grouping::is_within;
 use crate::groups::{Group, group_under};
 use zone_proto::{LowerName, Name, ProtoError, RData, RecordType, RrKey};
 
-/// Whether a record at or below an origin denies a name. Refused by `Memory` alone.
+/// Whether a record at or below an origin denies a name. Its only error is `Memory`.
 pub(crate) fn has_denials(origin: &LowerName, records: &[GivenRecord]) -> Result<bool, ProtoError>
     ensures ok { IfOk result (λ has. has ≡ has_denials origin.now records.now) }
     ensures err { IsOkUnless result ProtoError.Memory }
@@ -27,7 +27,7 @@ pub(crate) fn has_denials(origin: &LowerName, records: &[GivenRecord]) -> Result
     Ok(false)
 }
 
-/// Whether a record stands at or below an origin and denies a name. Refused by `Memory` alone.
+/// Whether a record is at or below an origin and denies a name. Its only error is `Memory`.
 fn is_denial(origin: &LowerName, given: &GivenRecord) -> Result<bool, ProtoError>
     ensures ok { IfOk result (λ is. is ≡ is_denial origin.now given.now) }
     ensures err { IsOkUnless result ProtoError.Memory }
@@ -53,7 +53,7 @@ pub(crate) fn check_apex(
     is_denied: bool,
 ) -> Result<(), LoadFault>
     requires { AreOrdered groups.now }
-    ensures { TellsFault result (group_apex_fault origin.now groups.now is_denied) }
+    ensures { ReportsFault result (group_apex_fault origin.now groups.now is_denied) }
 {
     check_ns(origin, first_at(origin, groups, RecordType::NS)?)?;
     check_denied(is_denied, first_at(origin, groups, RecordType::DNSKEY)?)?;
@@ -62,7 +62,7 @@ pub(crate) fn check_apex(
 
 /// Refuses a zone whose origin owns no NS, of which this is the first.
 fn check_ns(origin: &LowerName, first: Option<&GivenRecord>) -> Result<(), LoadFault>
-    ensures { TellsFault result (ns_fault origin.now (option_copied first.entry)) }
+    ensures { ReportsFault result (ns_fault origin.now (option_copied first.entry)) }
 {
     match first {
         Some(_) => Ok(()),
@@ -72,7 +72,7 @@ fn check_ns(origin: &LowerName, first: Option<&GivenRecord>) -> Result<(), LoadF
 
 /// Refuses a zone in which nothing denies a name, where a record says that it is signed.
 fn check_denied(is_denied: bool, signed: Option<&GivenRecord>) -> Result<(), LoadFault>
-    ensures { TellsFault result (undenied_fault is_denied (option_copied signed.entry)) }
+    ensures { ReportsFault result (undenied_fault is_denied (option_copied signed.entry)) }
 {
     match signed {
         Some(given) if !is_denied => Err(LoadFault::NoDenials(RecordAt::of(given)?)),
@@ -80,7 +80,7 @@ fn check_denied(is_denied: bool, signed: Option<&GivenRecord>) -> Result<(), Loa
     }
 }
 
-/// The first record of a type that the origin owns. Refused by `Memory` alone.
+/// The first record of a type that the origin owns. Its only error is `Memory`.
 fn first_at<'g>(
     origin: &LowerName,
     groups: &'g [(RrKey, Group)],

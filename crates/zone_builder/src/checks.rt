@@ -2,21 +2,19 @@
 ghost use Rattle.std.specs.Prelude.{◌≡◌, ◌==◌, false, not, length, map, IfOk, IsOkUnless, option_copied};
 ghost use Rattle.std.specs.List.{find};
 ghost use Rattle.zone_proto.specs.Names.{Name as NameLabels, name_eq};
-ghost use Rattle.zone_builder.specs.Faults.{TellsFault, beside_fault, class_fault, count_fault, has_other_data, is_iterated_too_often, is_other_class, iterations_fault, iterations_of, place_fault, stands_beside_cname, stands_once};
+ghost use Rattle.zone_builder.specs.Faults.{ReportsFault, beside_fault, class_fault, count_fault, has_other_data, is_iterated_too_often, is_other_class, iterations_fault, iterations_of, place_fault, stands_beside_cname, stands_once};
 ghost use Rattle.zone_builder.specs.GroupFaults.{first_fault, group_fault, has_cname};
 ghost use Rattle.zone_builder.specs.Groups.{AreOrdered};
 
 use crate::fault::{LoadFault, MOST_ITERATIONS};
 use crate::given::{GivenRecord, RecordAt};
 use crate::groups::{Group, group_under};
+use zone_denial::type_word::DNAME;
 use zone_proto::{DNSClass, LowerName, ProtoError, RData, RecordType, RrKey};
-
-/// The type of a DNAME (RFC 6672 section 2.1).
-const DNAME: RecordType = RecordType(39);
 
 /// Looks for a record of another class than IN.
 pub(crate) fn check_classes(records: &[GivenRecord]) -> Result<(), LoadFault>
-    ensures { TellsFault result (class_fault records.now) }
+    ensures { ReportsFault result (class_fault records.now) }
 {
     match other_class(records) {
         Some(given) => Err(LoadFault::OtherClass(RecordAt::of(given)?, given.record.dns_class)),
@@ -33,10 +31,10 @@ fn other_class(records: &[GivenRecord]) -> Option<&GivenRecord>
         .find(|given| given.record.dns_class != DNSClass::IN)
 }
 
-/// Looks for a set that can't stand in the zone, or not beside the others, in the order of owners and types.
+/// Looks for a set that can't be in the zone, or not beside the others, in the order of owners and types.
 pub(crate) fn check_groups(origin: &LowerName, groups: &[(RrKey, Group)]) -> Result<(), LoadFault>
     requires { AreOrdered groups.now }
-    ensures { TellsFault result (first_fault origin.now groups.now groups.now) }
+    ensures { ReportsFault result (first_fault origin.now groups.now groups.now) }
 {
     let are_cnames = are_cnames(groups);
     for (key, group) in groups {
@@ -67,7 +65,7 @@ fn check_group(
 ) -> Result<(), LoadFault>
     requires ordered { AreOrdered groups.now }
     requires cnames { are_cnames ≡ false → (n : NameLabels) → has_cname groups.now n ≡ false }
-    ensures { TellsFault result (group_fault origin.now groups.now key.now group.now) }
+    ensures { ReportsFault result (group_fault origin.now groups.now key.now group.now) }
 {
     let Some((first, others)) = group.records.as_slice().split_first() else {
         return Ok(());
@@ -80,7 +78,7 @@ fn check_group(
 
 /// Looks for an SOA below the origin.
 fn check_place(origin: &LowerName, key: &RrKey, first: &GivenRecord) -> Result<(), LoadFault>
-    ensures { TellsFault result
+    ensures { ReportsFault result
         (place_fault origin.now key.now.name key.now.record_type.0 first.now) }
 {
     if key.record_type == RecordType::SOA && !is_same(&key.name, origin) {
@@ -98,7 +96,7 @@ fn is_same(name: &LowerName, other: &LowerName) -> bool
 
 /// Looks for a record of other data than the first, where the set may have one alone.
 fn check_count(key: &RrKey, first: &GivenRecord, others: &[GivenRecord]) -> Result<(), LoadFault>
-    ensures { TellsFault result (count_fault key.now.record_type.0 first.now others.now) }
+    ensures { ReportsFault result (count_fault key.now.record_type.0 first.now others.now) }
 {
     if !stands_once(key.record_type) {
         return Ok(());
@@ -120,7 +118,7 @@ fn other_data<'o>(first: &GivenRecord, others: &'o [GivenRecord]) -> Option<&'o 
 
 /// Looks for a record of more iterations than a zone may have.
 fn check_iterations(records: &[GivenRecord]) -> Result<(), LoadFault>
-    ensures { TellsFault result (iterations_fault records.now) }
+    ensures { ReportsFault result (iterations_fault records.now) }
 {
     match iterated_too_often(records) {
         Some(given) => Err(LoadFault::TooManyIterations(
@@ -149,7 +147,7 @@ fn iterations_of(rdata: &RData) -> u16
     }
 }
 
-/// Looks for a CNAME at the name of a set that may not stand beside one.
+/// Looks for a CNAME at the name of a set that may not are beside one.
 fn check_beside(
     groups: &[(RrKey, Group)],
     are_cnames: bool,
@@ -158,7 +156,7 @@ fn check_beside(
 ) -> Result<(), LoadFault>
     requires ordered { AreOrdered groups.now }
     requires cnames { are_cnames ≡ false → (n : NameLabels) → has_cname groups.now n ≡ false }
-    ensures { TellsFault result
+    ensures { ReportsFault result
         (beside_fault key.now.record_type.0 (has_cname groups.now key.now.name) first.now) }
 {
     if !are_cnames || stands_beside_cname(key.record_type) {
@@ -170,7 +168,7 @@ fn check_beside(
     Ok(())
 }
 
-/// Whether a name owns a CNAME. Refused by `Memory` alone.
+/// Whether a name owns a CNAME. Its only error is `Memory`.
 fn has_cname(groups: &[(RrKey, Group)], name: &LowerName) -> Result<bool, ProtoError>
     requires { AreOrdered groups.now }
     ensures ok { IfOk result (λ has. has ≡ has_cname groups.now name.now) }
@@ -183,7 +181,7 @@ fn has_cname(groups: &[(RrKey, Group)], name: &LowerName) -> Result<bool, ProtoE
     })
 }
 
-/// Whether a set of the type is a CNAME itself, or may stand beside one.
+/// Whether a set of the type is a CNAME itself, or may be beside one.
 fn stands_beside_cname(record_type: RecordType) -> bool
     ensures { result ≡ stands_beside_cname record_type.0 }
 {

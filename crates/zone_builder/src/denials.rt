@@ -4,7 +4,8 @@ ghost use Rattle.zone_proto.specs.HashedOwners.{owner_or_refusal};
 ghost use Rattle.zone_denial.specs.Nsec3Zones.{hash_with};
 ghost use Rattle.zone_builder.specs.DenialKinds.{announced_kind, chain_kind, denial_kind, first_kind, hashed_kind, named_kind, nsec3_set_of};
 
-use crate::nsec3_data::{has_parameters, opts_out};
+use crate::nsec3_data::opts_out;
+use zone_denial::chain_sets::has_parameters;
 use zone_handler::Nsec3QueryInfo;
 use zone_map::RecordMap;
 use zone_proto::{
@@ -12,10 +13,10 @@ use zone_proto::{
     RecordType, RrKey,
 };
 
-/// By what a zone denies what it doesn't hold: by hashed names, with the parameters of the first NSEC3PARAM record of the origin
-/// that has a chain (RFC 5155 section 7.3), else by names, where the origin owns NSEC (RFC 4035 section 2.3); None where neither
-/// is so. A chain has an NSEC3 set with these parameters at the origin's hashed owner, and that set says whether opt-out is used
-/// (RFC 5155 section 4.1.2). `hash` gives the digests. Refused by `Memory` alone.
+/// By what a zone denies what it doesn't have: by hashed names, with the parameters of the first NSEC3PARAM record of the
+/// origin that has a chain (RFC 5155 section 7.3), otherwise by names, if the origin owns NSEC (RFC 4035 section 2.3); None if
+/// neither is the case. A chain has an NSEC3 set with these parameters at the origin's hashed owner, and that set says whether
+/// opt-out is used (RFC 5155 section 4.1.2). `hash` gives the digests. Its only error is `Memory`.
 pub fn denial_kind<H: Nsec3Hash>(
     records: &RecordMap,
     origin: &LowerName,
@@ -35,7 +36,7 @@ pub fn denial_kind<H: Nsec3Hash>(
     }
 }
 
-/// Denial by the first chain that these records announce. Refused by `Memory` alone.
+/// Denial by the first chain that these records announce. Its only error is `Memory`.
 fn first_kind<H: Nsec3Hash>(
     records: &RecordMap,
     origin: &LowerName,
@@ -54,7 +55,7 @@ fn first_kind<H: Nsec3Hash>(
     Ok(None)
 }
 
-/// Denial by the chain that data announce. Refused by `Memory` alone.
+/// Denial by the chain that data announce. Its only error is `Memory`.
 fn announced_kind<H: Nsec3Hash>(
     records: &RecordMap,
     origin: &LowerName,
@@ -71,7 +72,7 @@ fn announced_kind<H: Nsec3Hash>(
     }
 }
 
-/// Denial by the chain with these parameters, if it has a set at the origin's hashed owner. Refused by `Memory` alone.
+/// Denial by the chain with these parameters, if it has a set at the origin's hashed owner. Its only error is `Memory`.
 fn hashed_kind<H: Nsec3Hash>(
     records: &RecordMap,
     origin: &LowerName,
@@ -89,7 +90,7 @@ fn hashed_kind<H: Nsec3Hash>(
     }
 }
 
-/// The NSEC3 set at the origin's hashed owner. Refused by `Memory` alone.
+/// The NSEC3 set at the origin's hashed owner. Its only error is `Memory`.
 fn nsec3_set_at<'r, H: Nsec3Hash>(
     records: &'r RecordMap,
     origin: &LowerName,
@@ -137,7 +138,7 @@ fn hashed_owner<H: Nsec3Hash>(
     query.hashed_owner_name(hash, origin, origin)
 }
 
-/// Denial by the chain with these parameters, if an NSEC3 set belongs to it. Refused by `Memory` alone.
+/// Denial by the chain with these parameters, if an NSEC3 set belongs to it. Its only error is `Memory`.
 fn chain_kind(parameters: &NSEC3PARAM, set: &RecordSet) -> Result<Option<NxProofKind>, ProtoError>
     ensures kind { IfOk result (λ kind. kind ≡ chain_kind parameters.now set.now) }
     ensures err { IsOkUnless result ProtoError.Memory }
@@ -159,7 +160,7 @@ fn chain_kind(parameters: &NSEC3PARAM, set: &RecordSet) -> Result<Option<NxProof
     }))
 }
 
-/// Denial by names, where the origin owns NSEC. Refused by `Memory` alone.
+/// Denial by names, where the origin owns NSEC. Its only error is `Memory`.
 fn named_kind(records: &RecordMap, origin: &LowerName) -> Result<Option<NxProofKind>, ProtoError>
     ensures kind { IfOk result (λ kind. kind ≡ named_kind origin.now records.now) }
     ensures err { IsOkUnless result ProtoError.Memory }

@@ -21,13 +21,13 @@ pub enum LoadFault {
     /// A record is of another class than IN, which that of a zone is (RFC 1035 section 5.2).
     #[error("{0} is of class {1}, and a zone here is of class IN")]
     OtherClass(RecordAt, DNSClass),
-    /// No SOA stands at the origin (RFC 1035 section 5.2).
+    /// No SOA is at the origin (RFC 1035 section 5.2).
     #[error("no SOA stands at the origin, {0}")]
     NoSoa(Name),
-    /// An SOA stands below the origin (RFC 1035 section 5.2).
+    /// An SOA is below the origin (RFC 1035 section 5.2).
     #[error("{0} stands below the origin, where none may stand")]
     SoaBelow(RecordAt),
-    /// No NS stands at the origin (RFC 1034 section 4.2.1).
+    /// No NS is at the origin (RFC 1034 section 4.2.1).
     #[error("no NS stands at the origin, {0}")]
     NoNs(Name),
     /// A DNSKEY or NSEC3PARAM at the origin says that the zone is signed, and it has neither NSEC (RFC 4035 section 2.3) nor
@@ -41,8 +41,8 @@ pub enum LoadFault {
     /// 10.1), DNAME (RFC 6672 section 2.4) or ANAME.
     #[error("{0} is the second one of this name, which may own one alone")]
     Second(RecordAt),
-    /// A record that is no CNAME stands at the name of one (RFC 1034 section 3.6.2), and isn't of NSEC or NSEC3, which may (RFC
-    /// 4035 section 2.5).
+    /// A record that is no CNAME is at the name of one (RFC 1034 section 3.6.2), and isn't of NSEC or NSEC3, which may
+    /// (RFC 4035 section 2.5).
     #[error("{0} stands beside a CNAME, beside which no other data may stand")]
     BesideCname(RecordAt),
 }

@@ -1,12 +1,13 @@
-//! Records that are given to make a zone of, and what is told of one.
+//! Records that are given to make a zone of, and what is reported about one.
 ghost use Rattle.std.specs.Prelude.{IfOk, IsOkUnless, ◌≡◌};
 ghost use Rattle.zone_builder.specs.Faults.{told_of};
 
 use std::fmt;
+use zone_denial::type_word::TypeWord;
 use zone_proto::{Name, ProtoError, Record, RecordType};
 use zone_scanner::Place;
 
-/// A record, and where it stands in a text, if that is known.
+/// A record, and where it is in a text, if that is known.
 #[derive(Debug, Drop)]
 pub struct GivenRecord {
     /// The record.
@@ -15,7 +16,7 @@ pub struct GivenRecord {
     pub place: Option<Place>,
 }
 
-/// What is told of a record: its owner, its type, and where it stands, if that is known.
+/// What is reported about a record: its owner, its type, and where it stands, if that is known.
 #[derive(Debug, Drop)]
 pub struct RecordAt {
     /// The owner, spelled as it is given.
@@ -27,7 +28,7 @@ pub struct RecordAt {
 }
 
 impl RecordAt {
-    /// What is told of a record. Refused by `Memory` alone.
+    /// What is reported about a record. Its only error is `Memory`.
     pub(crate) fn of(given: &GivenRecord) -> Result<RecordAt, ProtoError>
         ensures ok { IfOk result (λ at. at ≡ told_of given.now) }
         ensures err { IsOkUnless result ProtoError.Memory }
@@ -43,6 +44,6 @@ impl RecordAt {
 /// Owner and type.
 impl fmt::Display for RecordAt {
     fn fmt<W: fmt::Write>(&self, f: &mut fmt::Formatter<W>) -> fmt::Result {
-        write!(f, "{} {}", self.owner, self.record_type)
+        write!(f, "{} {}", self.owner, TypeWord(self.record_type))
     }
 }

@@ -5,6 +5,7 @@ ghost use Rattle.zone_proto.specs.Keys.{key_eq};
 ghost use Rattle.zone_proto.specs.Names.{is_at_or_above, IsName};
 ghost use Rattle.zone_builder.specs.Groups.{all_records_in, all_signatures_in, records_in, signatures_in, AreNamed, AreOrdered};
 ghost use Rattle.zone_builder.specs.Records.{is_data_of, is_signature, is_signature_of, set_key, set_type};
+ghost use Rattle.zone_builder.specs.Warnings.{outside_warnings};
 
 use crate::given::{GivenRecord, RecordAt};
 use crate::groups::{Group, ordered, put_behind};
@@ -12,8 +13,8 @@ use crate::warning::LoadWarning;
 use std::alloc::Global;
 use zone_proto::{LowerName, ProtoError, RData, Record, RecordType, RrKey};
 
-/// The records at or below an origin, by the key of the set that they are of or, as signatures, cover, in the order of the keys.
-/// The others are left out, each with a warning. Refused by `Memory` alone.
+/// The records at or below an origin, by the key of the set that they are of or, as signatures, cover, in the order of
+/// the keys. The others are left out, each with a warning. Its only error is `Memory`.
 pub(crate) fn grouped(
     alloc: Global,
     origin: &LowerName,
@@ -28,6 +29,8 @@ pub(crate) fn grouped(
         → signatures_in groups.items k ≡ filter (is_signature_of origin.now k) records.items) }
     ensures named { IfOk result (λ groups. AreNamed groups.items) }
     ensures ordered { IfOk result (λ groups. AreOrdered groups.items) }
+    ensures warned { OnOk result
+        (warnings.new.items ≡ warnings.old.items ++ outside_warnings origin.now records.items) }
     ensures err { IsOkUnless result ProtoError.Memory }
 {
     let groups = in_turn(alloc, origin, records, warnings)?;
@@ -49,6 +52,8 @@ fn in_turn(
         → all_signatures_in groups.items k
         ≡ filter (is_signature_of origin.now k) records.items) }
     ensures named { IfOk result (λ groups. AreNamed groups.items) }
+    ensures warned { OnOk result
+        (warnings.new.items ≡ warnings.old.items ++ outside_warnings origin.now records.items) }
     ensures err { IsOkUnless result ProtoError.Memory }
 {
     let mut groups = Vec::new(alloc);
@@ -58,7 +63,7 @@ fn in_turn(
     Ok(groups)
 }
 
-/// Puts a record behind others, or warns of one that is outside of the zone.
+/// Appends a record to others, or warns of one that is outside of the zone.
 fn take(
     origin: &LowerName,
     groups: &mut Vec<(RrKey, Group)>,
@@ -75,6 +80,8 @@ fn take(
         ≡ all_signatures_in groups.old.items k
         ++ filter (is_signature_of origin.now k) (given ∷ [])) }
     ensures named { OnOk result (AreNamed groups.old.items → AreNamed groups.new.items) }
+    ensures warned { OnOk result
+        (warnings.new.items ≡ warnings.old.items ++ outside_warnings origin.now (given ∷ [])) }
     ensures err { IsOkUnless result ProtoError.Memory }
 {
     let key = set_key(&given.record)?;
@@ -92,7 +99,7 @@ pub(crate) fn is_within(origin: &LowerName, name: &LowerName) -> bool
     origin.zone_of(name)
 }
 
-/// The key of the set that a record is of or, as a signature, covers. Refused by `Memory` alone.
+/// The key of the set that a record is of or, as a signature, covers. Its only error is `Memory`.
 fn set_key(given: &Record) -> Result<RrKey, ProtoError>
     ensures ok { IfOk result (λ k. k ≡ set_key given.now) }
     ensures named { IfOk result (λ k. IsName k.name) }
@@ -111,7 +118,7 @@ fn set_type(rdata: &RData) -> RecordType
     }
 }
 
-/// Puts a record under a key behind others.
+/// Appends a record under a key to others.
 fn put_record(
     groups: &mut Vec<(RrKey, Group)>,
     key: RrKey,

@@ -21,7 +21,7 @@ pub(crate) struct Group {
 }
 
 impl Group {
-    /// A record alone. Refused by `Memory` alone.
+    /// A record alone. Its only error is `Memory`.
     pub(crate) fn of(alloc: Global, given: GivenRecord) -> Result<Group, ProtoError>
         ensures records { IfOk result
             (λ group. group.records.items
@@ -47,7 +47,7 @@ impl Group {
         })
     }
 
-    /// The same with another group's records behind these, and its signatures behind these. Refused by `Memory` alone.
+    /// The same with another group's records behind these, and its signatures behind these. Its only error is `Memory`.
     fn followed_by(self, others: Group) -> Result<Group, ProtoError>
         ensures records { IfOk result
             (λ group. group.records.items ≡ self.records.items ++ others.records.items) }
@@ -95,7 +95,7 @@ fn joined_lists(
     Ok(all)
 }
 
-/// Puts a group behind others. Where the last of these stands under the same key, its records go behind those of that one.
+/// Appends a group to others. Where the last of these is under the same key, its records go behind those of that one.
 pub(crate) fn put_behind(
     groups: &mut Vec<(RrKey, Group)>,
     key: RrKey,
@@ -126,7 +126,7 @@ pub(crate) fn put_behind(
     Ok(())
 }
 
-/// Takes the last of groups out, if it stands under a key.
+/// Takes the last of groups out, if it is under a key.
 fn last_under(groups: &mut Vec<(RrKey, Group)>, key: &RrKey) -> Option<Group>
     ensures taken { groups.old.items ≡ groups.new.items ++ keyed key.now result }
     ensures below { AreOrdered groups.old.items → AreUpTo groups.old.items key.now
@@ -139,7 +139,7 @@ fn last_under(groups: &mut Vec<(RrKey, Group)>, key: &RrKey) -> Option<Group>
     Some(group)
 }
 
-/// Whether the last of groups stands under a key.
+/// Whether the last of groups is under a key.
 fn ends_under(groups: &[(RrKey, Group)], key: &RrKey) -> bool
     ensures { result ≡ ends_under groups.now key.now }
 {
@@ -165,7 +165,7 @@ fn behind(before: Option<Group>, group: Group) -> Result<Group, ProtoError>
     }
 }
 
-/// Puts groups in the order of their keys, and makes one of those under one key. Refused by `Memory` alone.
+/// Puts groups in the order of their keys, and makes one of those under one key. Its only error is `Memory`.
 pub(crate) fn ordered(
     alloc: Global,
     groups: Vec<(RrKey, Group)>,

@@ -10,6 +10,7 @@ ghost use Rattle.zone_builder.specs.Faults.{IsFault, IsFaultless};
 ghost use Rattle.zone_builder.specs.Groups.{records_in, AreOrdered};
 ghost use Rattle.zone_builder.specs.Records.{records_of};
 ghost use Rattle.zone_builder.specs.Sets.{loaded_set};
+ghost use Rattle.zone_builder.specs.Warnings.{AreWarnings};
 
 use crate::apex::{check_apex, has_denials};
 use crate::checks::{check_classes, check_groups};
@@ -34,19 +35,22 @@ pub struct Loaded {
     pub warnings: Vec<LoadWarning>,
 }
 
-/// Makes the zone of an origin of records, in the order of a file (RFC 1035 section 5.2).
+/// Makes the zone of an origin from records, in the order of a file (RFC 1035 section 5.2).
 ///
-/// Of each owner at or below the origin and type there is a set of its records in order, of equal data one (RFC 2181 section 5);
-/// with the signatures that cover it, in order, of equal ones one. All get the least TTL of its records (RFC 2181 section 5.2, RFC
-/// 4034 section 3). The serial of each set is that of the SOA. Records outside of the zone are left out, and so are signatures of
-/// no set.
+/// For each owner at or below the origin and each type there is a set of its records in order, equal data once (RFC 2181
+/// section 5); with the signatures that cover it, in order, equal ones once. All get the least TTL of its records (RFC 2181
+/// section 5.2, RFC 4034 section 3). The serial of each set is that of the SOA. Records outside the zone are left out, and so
+/// are signatures that cover no set. The warnings are first about records outside the zone, in their order, and then about each
+/// set, by owner in canonical order and by type.
+///
+/// n records take time in the order of n log n, however many of them are in one set.
 ///
 /// # Errors
 ///
-/// Refused, in this order: by `OtherClass` for the first record of another class than IN, wherever it stands; by `NoSoa` where
-/// the origin owns no SOA, and by `NoNs` where it owns no NS; by `NoDenials` for the first DNSKEY there, or else NSEC3PARAM, where
-/// the zone has neither NSEC nor NSEC3; by `SoaBelow`, `Second`, `TooManyIterations` or `BesideCname` for the first set, by owner in
-/// canonical order (RFC 4034 section 6.1) and type, that can't stand in a zone. `Memory` may come in place of any of these.
+/// In this order: `OtherClass` for the first record of a class other than IN, wherever it is; `NoSoa` if the origin owns no
+/// SOA, and `NoNs` if it owns no NS; `NoDenials` for the first DNSKEY there, or else NSEC3PARAM, if the zone has neither NSEC
+/// nor NSEC3; `SoaBelow`, `Second`, `TooManyIterations` or `BesideCname` for the first set, by owner in canonical order (RFC
+/// 4034 section 6.1) and type, that a zone can't have. `Memory` may come in place of any of these.
 pub fn load(alloc: Global, origin: Name, records: Vec<GivenRecord>) -> Result<Loaded, LoadFault>
     ensures sets { IfOk result
         (λ loaded. (n : NameLabels) (t : ℕ)
@@ -54,6 +58,8 @@ pub fn load(alloc: Global, origin: Name, records: Vec<GivenRecord>) -> Result<Lo
     ensures origin { IfOk result (λ loaded. loaded.origin ≡ lower origin) }
     ensures zone { IfOk result (λ loaded. IsZone loaded.records) }
     ensures cnames { IfOk result (λ loaded. CnamesStandAlone loaded.records) }
+    ensures warnings { IfOk result
+        (λ loaded. AreWarnings (lower origin) records.items loaded.warnings.items) }
     ensures faultless { OnOk result (IsFaultless (lower origin) records.items) }
     ensures fault { IfErr result (IsFault (lower origin) records.items) }
 {

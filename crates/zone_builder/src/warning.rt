@@ -1,16 +1,16 @@
-//! What of the records that a zone is made of isn't taken as it stands.
+//! What of the records that a zone is made of isn't taken as it is.
 
 use crate::given::RecordAt;
 use thiserror::Error;
 use zone_scanner::Place;
 
-/// What of the records that a zone is made of isn't taken as it stands.
+/// What of the records that a zone is made of isn't taken as it is.
 #[derive(Debug, Drop, Error)]
 pub enum LoadWarning {
     /// A record stands outside of the zone.
     #[error("{0} stands outside of the zone, and is left out")]
     Outside(RecordAt),
-    /// A record or a signature stands twice, its TTL aside (RFC 2181 section 5).
+    /// A record or a signature appears twice, its TTL aside (RFC 2181 section 5).
     #[error("{0} has these data already, and is left out")]
     Repeated(RecordAt),
     /// The records of a set have different TTLs, or one of its signatures has another than they. All get this one, in seconds:

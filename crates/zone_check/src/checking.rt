@@ -1,7 +1,11 @@
 //! Reads a zone file, and tells what is wrong with it, or what it has.
-ghost use Rattle.std.specs.Prelude.{◌≡◌, ◌≤◌, [], IfOk, IsOkUnless, unwrap_or};
+ghost use Rattle.std.specs.Prelude.{◌≡◌, ◌≤◌, ℕ, List, [], Some, IfOk, IsFalse, IsOkUnless, unwrap_or};
+ghost use Rattle.zone_database.specs.declared.zone.Zone.{Zone};
+ghost use Rattle.zone_database.specs.Files.{IsZoneOfFile};
+ghost use Rattle.zone_database.specs.Zones.{served_zone};
+ghost use Rattle.zone_check.specs.Denials.{DeniesRightly};
 
-use crate::telling::tell;
+use crate::reporting::tell;
 use crate::wanted::Wanted;
 use crate::zone::check_zone;
 use std::alloc::Global;
@@ -12,10 +16,15 @@ use zone_file::{FaultText, InputError, PlacedRecord, ZoneFault, read_zone};
 use zone_file_writer::MasterText;
 use zone_proto::{Name, ProtoError, Record, RecordType};
 
-/// Reads a zone file from `input`, and gives the status of the program: 0 where a zone can be made of it, and the sets by
-/// which it denies, if it has any, are a closed chain; 1 where that isn't so, and 2 where it can't be told. With `--print` it
-/// is 0 where the file is read to its end. What is wrong is told on `fault`, a line each, with file, line and column where it is about a record. What the file
-/// has is told on `output`: its records, if they are to be printed, and else what zone they make.
+/// Reads a zone file from `input`, and gives the status of the program: 0 where a zone can be made of it, and the
+/// sets by which it denies, if it has any, are a closed chain; 1 where that isn't so, and 2 where it can't be told.
+/// With `--print` it is 0 where the file is read to its end. What is wrong is told on `fault`, a line each, with
+/// file, line and column where it is about a record. What the file has is told on `output`: its records, if they are
+/// to be printed, and else what zone they make.
+///
+/// Where the status is 0 and nothing is to be printed, each zone that a server makes of the same text and origin has
+/// no NSEC and NSEC3 sets, or is one of which the laws of `response_laws` speak: `responses_prove_what_they_say` and
+/// `hashed_responses_prove_what_they_say`.
 pub fn check<R: Read, W: Write, E: Write>(
     alloc: Global,
     wanted: &Wanted<'_>,
@@ -23,13 +32,18 @@ pub fn check<R: Read, W: Write, E: Write>(
     output: &mut W,
     fault: &mut E,
 ) -> u8
-    ensures { result ≤ 2 }
+    ensures status { result ≤ 2 }
+    // Where it is known what the input has left, as of a slice, that is the text.
+    ensures served { result ≡ 0 → IsFalse wanted.now.is_printed
+        → (text : List ℕ) → R.remaining input.old ≡ Some text
+        → (z : Zone) → IsZoneOfFile wanted.now.origin text z
+        → DeniesRightly (served_zone z) }
 {
     let Ok(origin) = first_origin(alloc, wanted) else {
         return tell(fault, b"out of memory\n");
     };
     match read_zone(alloc, origin, input) {
-        Ok(mut records) if wanted.is_printed => match print(output, &mut records) {
+        Ok(mut records) if wanted.is_printed => match print(alloc, output, &mut records) {
             Ok(()) => 0,
             Err(e) if e.kind() == ErrorKind::OutOfMemory => tell(fault, b"out of memory\n"),
             Err(_) => tell(fault, b"write failed\n"),
@@ -41,7 +55,7 @@ pub fn check<R: Read, W: Write, E: Write>(
     }
 }
 
-/// The origin that the file begins with: the one that is named, or the root. Refused by `Memory` alone.
+/// The origin that the file begins with: the one that is named, or the root. Its only error is `Memory`.
 fn first_origin(alloc: Global, wanted: &Wanted<'_>) -> Result<Name, ProtoError>
     ensures ok { IfOk result (λ origin. origin ≡ unwrap_or wanted.now.origin []) }
     ensures err { IsOkUnless result ProtoError.Memory }
@@ -62,16 +76,20 @@ fn tell_fault<E: Write>(fault: &mut E, file: &str, found: &ZoneFault) -> u8
 }
 
 /// Writes the records in the order in which they are printed, those of one owner and type in the order of the file.
-fn print<W: Write>(output: &mut W, records: &mut Vec<PlacedRecord>) -> io::Result<()> {
+fn print<W: Write>(
+    alloc: Global,
+    output: &mut W,
+    records: &mut Vec<PlacedRecord>,
+) -> io::Result<()> {
     records.sort_by(|one, other| printed_order(&one.given, &other.given))?;
     for placed in records.iter() {
-        write!(output, "{}\n", MasterText(&placed.given))?;
+        write!(output, "{}\n", MasterText(alloc, &placed.given))?;
     }
     output.flush()
 }
 
-/// The order in which records are printed: an SOA first, and the others by owner, in canonical order (RFC 4034 section 6.1), and
-/// type.
+/// The order in which records are printed: an SOA first, and the others by owner, in canonical order (RFC 4034
+/// section 6.1), and type.
 fn printed_order(one: &Record, other: &Record) -> Ordering {
     let (first, second) = (one.record_type(), other.record_type());
     let by_start = (first != RecordType::SOA).cmp(&(second != RecordType::SOA));

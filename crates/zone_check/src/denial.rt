@@ -1,15 +1,12 @@
-//! What a zone denies by, and what is told of that.
-ghost use Rattle.std.specs.Prelude.{◌≡◌, ◌≤◌, List, [], Ok, Some};
-ghost use Rattle.zone_proto.specs.declared.nx_proof_kind.NxProofKind.TheVariants as kind;
-ghost use Rattle.zone_proto.specs.Types.{NSEC as nsec_type, NSEC3 as nsec3_type};
-ghost use Rattle.zone_map.specs.Zones.{owners};
-ghost use Rattle.zone_proto.specs.declared.rdata.denial.NSEC3PARAM.{NSEC3PARAM as Parameters};
-ghost use Rattle.zone_proto.specs.Names.{Name as NameLabels};
-ghost use Rattle.zone_denial.specs.Chains.{IsNsecChain, IsNsec3Chain, chain_sets};
-ghost use Rattle.zone_denial.specs.Nsec3Zones.{hash_with};
-ghost use Rattle.zone_sha1.specs.Digests.{name_digest};
+//! What a zone denies by, and what is reported about that.
+ghost use Rattle.std.specs.Prelude.{◌≡◌, ◌≤◌, None, IfOk, IfSome, IsOkUnless, option_copied};
+ghost use Rattle.zone_map.specs.Zones.{IsZone};
+ghost use Rattle.zone_database.specs.Zones.{denial_kind};
+ghost use Rattle.zone_response.specs.Queries.{Zone};
+ghost use Rattle.response_laws.specs.ProvedSayings.{IsUnreferred};
+ghost use Rattle.zone_check.specs.Denials.{DeniesRightly, IsReported, first_announced, served};
 
-use crate::telling::tell_at;
+use crate::reporting::tell_at;
 use std::fmt;
 use std::io::Write;
 use zone_builder::{Loaded, denial_kind};
@@ -33,7 +30,8 @@ pub enum Denial {
 impl Denial {
     /// The status for a zone that denies so.
     pub fn status(self) -> u8
-        ensures { result ≤ 1 }
+        ensures status { result ≤ 1 }
+        ensures closed { (z : Zone) → result ≡ 0 → IsReported z self → DeniesRightly z }
     {
         match self {
             Denial::Open => 1,
@@ -53,20 +51,15 @@ impl fmt::Display for Denial {
     }
 }
 
-/// Tells what is wrong with the sets of denial of a zone, and gives by what it denies; none where no memory is found.
+/// Tells what is wrong with the sets of denial of a zone, and gives by what it denies; none if there isn't enough
+/// memory.
+///
+/// The result is right for the zone that a server makes of what was loaded: where a chain is found closed, it is the
+/// one by which that zone denies, and the zone meets the premises of the laws about what a response proves.
 pub fn tell_denial<E: Write>(file: &str, loaded: &Loaded, fault: &mut E) -> Option<Denial>
-    ensures nothing { result ≡ Some Denial.Nothing
-        → (owners loaded.now.records nsec_type ≡ []) × (owners loaded.now.records nsec3_type ≡ []) }
-    ensures nsec { result ≡ Some Denial.NsecChain
-        → IsNsecChain loaded.now.origin (chain_sets (Some kind.Nsec) loaded.now.records) }
-    ensures nsec3 { result ≡ Some Denial.Nsec3Chain
-        → (parameters : Parameters) × (names : List NameLabels)
-        × IsNsec3Chain loaded.now.origin
-        (chain_sets
-        (Some (kind.Nsec3 parameters.algorithm parameters.salt
-        parameters.iterations parameters.opt_out)) loaded.now.records)
-        (hash_with (λ algorithm salt name iterations. name_digest algorithm salt name iterations)
-        parameters) parameters names }
+    requires zone { IsZone loaded.now.records }
+    requires top { IsUnreferred (served loaded.now) }
+    ensures { IfSome result (IsReported (served loaded.now)) }
 {
     match denial_of(loaded) {
         Ok(denial) => Some(denial),
@@ -80,21 +73,15 @@ pub fn tell_denial<E: Write>(file: &str, loaded: &Loaded, fault: &mut E) -> Opti
 
 /// By what a zone denies. Refused where its sets of denial are no chain, and by `Memory`.
 fn denial_of(loaded: &Loaded) -> Result<Denial, ChainFault>
-    ensures nothing { result ≡ Ok Denial.Nothing
-        → (owners loaded.now.records nsec_type ≡ []) × (owners loaded.now.records nsec3_type ≡ []) }
-    ensures nsec { result ≡ Ok Denial.NsecChain
-        → IsNsecChain loaded.now.origin (chain_sets (Some kind.Nsec) loaded.now.records) }
-    ensures nsec3 { result ≡ Ok Denial.Nsec3Chain
-        → (parameters : Parameters) × (names : List NameLabels)
-        × IsNsec3Chain loaded.now.origin
-        (chain_sets
-        (Some (kind.Nsec3 parameters.algorithm parameters.salt
-        parameters.iterations parameters.opt_out)) loaded.now.records)
-        (hash_with (λ algorithm salt name iterations. name_digest algorithm salt name iterations)
-        parameters) parameters names }
+    requires zone { IsZone loaded.now.records }
+    requires top { IsUnreferred (served loaded.now) }
+    ensures { IfOk result (IsReported (served loaded.now)) }
 {
     match denial_kind(&loaded.records, &loaded.origin, &Sha1Hash)? {
-        Some(NxProofKind::Nsec) => nsec_chain(loaded),
+        Some(NxProofKind::Nsec) => {
+            verify_nsec(&loaded.records, &loaded.origin)?;
+            Ok(Denial::NsecChain)
+        }
         Some(
             NxProofKind::Nsec3 {
                 algorithm,
@@ -102,84 +89,50 @@ fn denial_of(loaded: &Loaded) -> Result<Denial, ChainFault>
                 iterations,
                 opt_out,
             },
-        ) => nsec3_chain(
-            loaded,
-            &NSEC3PARAM {
+        ) => {
+            let parameters = NSEC3PARAM {
                 algorithm,
                 salt,
                 iterations,
                 opt_out,
-            },
-        ),
+            };
+            verify_nsec3(&loaded.records, &loaded.origin, &Sha1Hash, &parameters)?;
+            Ok(Denial::Nsec3Chain)
+        }
         None => no_chain(loaded),
     }
 }
 
-/// Denial by NSEC. Refused where the NSEC sets are no chain, and by `Memory`.
-fn nsec_chain(loaded: &Loaded) -> Result<Denial, ChainFault>
-    ensures other { ¬ (result ≡ Ok Denial.Nothing) }
-    ensures nsec { result ≡ Ok Denial.NsecChain
-        → IsNsecChain loaded.now.origin (chain_sets (Some kind.Nsec) loaded.now.records) }
-    ensures nsec3 { result ≡ Ok Denial.Nsec3Chain
-        → (parameters : Parameters) × (names : List NameLabels)
-        × IsNsec3Chain loaded.now.origin
-        (chain_sets
-        (Some (kind.Nsec3 parameters.algorithm parameters.salt
-        parameters.iterations parameters.opt_out)) loaded.now.records)
-        (hash_with (λ algorithm salt name iterations. name_digest algorithm salt name iterations)
-        parameters) parameters names }
-{
-    verify_nsec(&loaded.records, &loaded.origin)?;
-    Ok(Denial::NsecChain)
-}
-
-/// Denial by NSEC3 with these parameters. Refused where the NSEC3 sets are no chain, and by `Memory`.
-fn nsec3_chain(loaded: &Loaded, parameters: &NSEC3PARAM) -> Result<Denial, ChainFault>
-    ensures other { ¬ (result ≡ Ok Denial.Nothing) }
-    ensures nsec { ¬ (result ≡ Ok Denial.NsecChain) }
-    ensures nsec3 { result ≡ Ok Denial.Nsec3Chain
-        → (parameters : Parameters) × (names : List NameLabels)
-        × IsNsec3Chain loaded.now.origin
-        (chain_sets
-        (Some (kind.Nsec3 parameters.algorithm parameters.salt
-        parameters.iterations parameters.opt_out)) loaded.now.records)
-        (hash_with (λ algorithm salt name iterations. name_digest algorithm salt name iterations)
-        parameters) parameters names }
-{
-    verify_nsec3(&loaded.records, &loaded.origin, &Sha1Hash, parameters)?;
-    Ok(Denial::Nsec3Chain)
-}
-
-/// No denials, where nothing at the origin says by what a zone denies. Refused where sets of denial stand all the same, and by
-/// `Memory`.
+/// No denials, where nothing at the origin says by what a zone denies. Refused where sets of denial stand all the
+/// same, and by `Memory`.
 fn no_chain(loaded: &Loaded) -> Result<Denial, ChainFault>
-    ensures nothing { result ≡ Ok Denial.Nothing
-        → (owners loaded.now.records nsec_type ≡ []) × (owners loaded.now.records nsec3_type ≡ []) }
-    ensures nsec { result ≡ Ok Denial.NsecChain
-        → IsNsecChain loaded.now.origin (chain_sets (Some kind.Nsec) loaded.now.records) }
-    ensures nsec3 { result ≡ Ok Denial.Nsec3Chain
-        → (parameters : Parameters) × (names : List NameLabels)
-        × IsNsec3Chain loaded.now.origin
-        (chain_sets
-        (Some (kind.Nsec3 parameters.algorithm parameters.salt
-        parameters.iterations parameters.opt_out)) loaded.now.records)
-        (hash_with (λ algorithm salt name iterations. name_digest algorithm salt name iterations)
-        parameters) parameters names }
+    requires zone { IsZone loaded.now.records }
+    requires kind { denial_kind loaded.now.origin loaded.now.records ≡ None }
+    ensures { IfOk result (IsReported (served loaded.now)) }
 {
     if !loaded.records.is_without(RecordType::NSEC) {
-        return nsec_chain(loaded);
+        verify_nsec(&loaded.records, &loaded.origin)?;
+        return Ok(Denial::NsecChain);
     }
     if loaded.records.is_without(RecordType::NSEC3) {
         return Ok(Denial::Nothing);
     }
     match announced(loaded)? {
-        Some(parameters) => nsec3_chain(loaded, parameters),
+        Some(parameters) => {
+            verify_nsec3(&loaded.records, &loaded.origin, &Sha1Hash, parameters)?;
+            Ok(Denial::Nsec3Chain)
+        }
         None => Err(ChainFault::NoParameters),
     }
 }
 
-/// The parameters of the first NSEC3PARAM record of the origin. Refused by `Memory` alone.
-fn announced(loaded: &Loaded) -> Result<Option<&NSEC3PARAM>, ProtoError> {
+/// The parameters of the first NSEC3PARAM record of the origin. Its only error is `Memory`.
+fn announced(loaded: &Loaded) -> Result<Option<&NSEC3PARAM>, ProtoError>
+    ensures ok { IfOk result
+        (λ found. option_copied found
+        ≡ first_announced loaded.now.origin loaded.now.records) }
+    ensures err { IsOkUnless result ProtoError.Memory }
+{
     let key = RrKey::new(loaded.origin.clone()?, RecordType::NSEC3PARAM);
     let Some(set) = loaded.records.get(&key) else {
         return Ok(None);

@@ -1,9 +1,10 @@
-//! `zone_check [--print] FILE [ORIGIN]`: reads a zone file, and says whether it is one.
+//! `zone_check [--print] FILE [ORIGIN]`: reads a zone file and reports what is wrong with it or its zone, or prints its
+//! records.
 #![tactic(auto)]
 
 mod checking;
 mod denial;
-mod telling;
+mod reporting;
 mod wanted;
 mod zone;
 

@@ -14,7 +14,7 @@ pub struct Wanted<'w> {
     pub origin: Option<Name>,
 }
 
-/// What words ask for: `--print` or nothing, a file, and an origin or nothing. None where they aren't that.
+/// What words ask for: `--print` or nothing, a file, and an origin or nothing. None if they aren't that.
 pub fn wanted_by(alloc: Global, words: &[String]) -> Option<Wanted<'_>> {
     let (is_printed, words) = match words.split_first() {
         Some((first, others)) if first.as_str() == "--print" => (true, others),

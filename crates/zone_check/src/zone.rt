@@ -1,21 +1,33 @@
-//! The zone that the records of a file make, and what is told of it.
+//! The zone that the records of a file make, and what is reported about it.
 ghost use Rattle.std.specs.Prelude.{◌≡◌, ◌≤◌, map, IfOk, IsOkUnless, option_copied};
 ghost use Rattle.std.specs.List.{find};
-ghost use Rattle.zone_check.specs.Zones.{given_of, is_soa, origin_of};
+ghost use Rattle.zone_proto.specs.Names.{lower};
+ghost use Rattle.zone_map.specs.Zones.{IsZone};
+ghost use Rattle.zone_database.specs.declared.zone.Zone.{Zone};
+ghost use Rattle.zone_database.specs.Files.{is_soa, origin_of};
+ghost use Rattle.zone_database.specs.Texts.{given_of, IsZoneOf};
+ghost use Rattle.zone_database.specs.Zones.{served_zone};
+ghost use Rattle.response_laws.specs.ProvedSayings.{IsUnreferred};
+ghost use Rattle.zone_check.specs.Denials.{DeniesRightly, served};
 
 use crate::denial::{Denial, tell_denial};
-use crate::telling::{Warning, tell, tell_at};
+use crate::reporting::{Warning, tell, tell_at};
 use crate::wanted::Wanted;
-use std::alloc::{AllocError, Global};
+use std::alloc::Global;
 use std::io::Write;
 use std::{fmt, io};
-use zone_builder::{GivenRecord, LoadFault, Loaded, load};
+use zone_builder::{LoadFault, Loaded};
+use zone_database::load_records;
 use zone_file::PlacedRecord;
 use zone_map::RecordMap;
 use zone_proto::{LowerName, Name, ProtoError, RecordType};
 
-/// Makes the zone of the records, and gives the status of the program: 0 where one is made, and the sets by which it denies, if it
-/// has any, are a closed chain; 1 where that isn't so, and 2 where it can't be told. Warnings don't change it.
+/// Makes the zone of the records, and gives the status of the program: 0 where one is made, and the sets by which it
+/// denies, if it has any, are a closed chain; 1 where that isn't so, and 2 where it can't be told. Warnings don't
+/// change it.
+///
+/// Where it is 0, each zone that a server makes of the records has no NSEC and NSEC3 sets, or meets the premises of
+/// the laws about what a response proves.
 pub fn check_zone<W: Write, E: Write>(
     alloc: Global,
     wanted: &Wanted<'_>,
@@ -23,16 +35,18 @@ pub fn check_zone<W: Write, E: Write>(
     output: &mut W,
     fault: &mut E,
 ) -> u8
-    ensures { result ≤ 2 }
+    ensures status { result ≤ 2 }
+    ensures served { result ≡ 0
+        → (z : Zone)
+        → IsZoneOf (lower (origin_of wanted.now.origin records.items))
+        (map given_of records.items) z
+        → DeniesRightly (served_zone z) }
 {
     let count = records.len();
     let Ok(origin) = zone_origin(alloc, wanted, records.as_slice()) else {
         return tell(fault, b"out of memory\n");
     };
-    let Ok(given) = given_records(alloc, records) else {
-        return tell(fault, b"out of memory\n");
-    };
-    match load(alloc, origin, given) {
+    match load_records(alloc, origin, records) {
         Ok(loaded) => tell_loaded(wanted.file, count, &loaded, output, fault),
         Err(LoadFault::Memory) => tell(fault, b"out of memory\n"),
         Err(found) => {
@@ -42,8 +56,8 @@ pub fn check_zone<W: Write, E: Write>(
     }
 }
 
-/// The origin of the zone: the one that is named, or else the owner of the first SOA of the file, or the root. Refused by
-/// `Memory` alone.
+/// The origin of the zone: the one that is named, or else the owner of the first SOA of the file, or the root. Its
+/// only error is `Memory`.
 fn zone_origin(
     alloc: Global,
     wanted: &Wanted<'_>,
@@ -70,23 +84,6 @@ fn first_soa(records: &[PlacedRecord]) -> Option<&PlacedRecord>
         .find(|placed| placed.given.record_type() == RecordType::SOA)
 }
 
-/// The records with their places, as a zone is made of them.
-fn given_records(alloc: Global, records: Vec<PlacedRecord>) -> Result<Vec<GivenRecord>, AllocError>
-    ensures { IfOk result (λ given. given.items ≡ map given_of records.items) }
-{
-    records.into_iter().map(given).collect(alloc)
-}
-
-/// A record with its place.
-fn given(placed: PlacedRecord) -> GivenRecord
-    ensures { result ≡ given_of placed }
-{
-    GivenRecord {
-        record: placed.given,
-        place: Some(placed.place),
-    }
-}
-
 /// Tells of a zone that was made, and gives the status for it.
 fn tell_loaded<W: Write, E: Write>(
     file: &str,
@@ -95,7 +92,10 @@ fn tell_loaded<W: Write, E: Write>(
     output: &mut W,
     fault: &mut E,
 ) -> u8
-    ensures { result ≤ 2 }
+    requires zone { IsZone loaded.now.records }
+    requires top { IsUnreferred (served loaded.now) }
+    ensures status { result ≤ 2 }
+    ensures served { result ≡ 0 → DeniesRightly (served loaded.now) }
 {
     for warning in loaded.warnings.iter() {
         tell_at(fault, file, warning.place(), &Warning(warning));

@@ -1,6 +1,6 @@
 //! Whether the sets of denial of the zones that records of zone files make are chains.
 
-use crate::loading::{ROOMS, STEP, loaded};
+use crate::loading::{ATTEMPTS, STEP, loaded};
 use crate::octets::octets_of;
 use crate::plain_hash::{FIRST_OCTET, PlainHash, UNKNOWN, WHOLE};
 use crate::zone::{error_line, read};
@@ -29,7 +29,7 @@ pub fn answer(alloc: Global, row: &str) -> Result<String, AllocError> {
 /// What a call says of a zone, with a little more memory each time.
 fn chain_answer(alloc: Global, call: &str, loaded: &Loaded) -> Result<String, AllocError> {
     let mut scarce = Scarcity::new(alloc)?;
-    scarce.begin(ROOMS)?;
+    scarce.begin(ATTEMPTS)?;
     let given = scarce.until_given(STEP, || verdict(alloc, call, loaded));
     scarce.end();
     match given {
@@ -50,7 +50,7 @@ fn told_verdict(
     }
 }
 
-/// That the sets of denial of a zone are a chain, or why they aren't; none where memory was refused.
+/// That the sets of denial of a zone are a chain, or why they aren't; none if memory was refused.
 fn verdict(alloc: Global, call: &str, loaded: &Loaded) -> Option<Result<(), ChainFault>> {
     match verified(alloc, call, loaded) {
         Err(ChainFault::Memory) => None,

@@ -11,14 +11,14 @@ use zone_proto::{DNSClass, Name, ProtoError};
 /// How much more memory a call gets each time, in octets, and how often it is made at most.
 pub const STEP: usize = 48;
 
-pub const ROOMS: usize = 1_000;
+pub const ATTEMPTS: usize = 1_000;
 
 /// The class of CHAOS (RFC 1035 section 3.2.4).
 const CHAOS: DNSClass = DNSClass(3);
 
-/// The answer to a row, which is a call, an origin and a zone file: `load` tells how many sets the zone has that its records make,
-/// and its warnings, or why there is none; `chaos` the same once the last record is of that class; `scarce` tells whether memory was
-/// refused, and then a zone was made.
+/// The answer to a row, which is a call, an origin and a zone file: `load` tells how many sets the zone has that its
+/// records make, and its warnings, or why there is none; `chaos` the same once the last record is of that class;
+/// `scarce` says whether memory was refused, and then a zone was made.
 pub fn answer(alloc: Global, row: &str) -> Result<String, AllocError> {
     let (call, rest) = row.split_once(' ').unwrap_or((row, ""));
     let (origin, text) = rest.split_once(' ').unwrap_or((rest, ""));
@@ -102,7 +102,7 @@ fn scarce_answer(
     records: &[PlacedRecord],
 ) -> Result<String, AllocError> {
     let mut scarce = Scarcity::new(alloc)?;
-    scarce.begin(ROOMS)?;
+    scarce.begin(ATTEMPTS)?;
     let given = scarce.until_given(STEP, || is_loaded(alloc, origin, records));
     scarce.end();
     match given {
@@ -113,7 +113,7 @@ fn scarce_answer(
     }
 }
 
-/// Whether a zone is made; none where memory was refused.
+/// Whether a zone is made; none if memory was refused.
 fn is_loaded(alloc: Global, origin: &str, records: &[PlacedRecord]) -> Option<bool> {
     match loaded(alloc, origin, records) {
         Ok(_) => Some(true),

@@ -1,9 +1,9 @@
-//! Reads texts of zone files that lines of text write, and tells which of them are read otherwise. Each line of standard input
-//! names a file of such lines, rows, in the folder where the program runs, `data`.
+//! Reads texts of zone files that lines of text describe, and reports which of them are read differently. Each line of standard
+//! input names a file of such lines, rows, in the current directory, `data`.
 //!
 //! A row is `TEXT => ANSWER`; a line without `=>` is a comment. In a text `{10}` is the octet 10, and `{97x300}` is the octet
-//! 97 three hundred times. In the file `words` a text is a call and a word; in `zones`, `failing` and `printed` it is an origin
-//! and a zone file, and in `loading` and `chains` a call, an origin and a zone file. Texts and zone files are read whole, and octet by octet
+//! 97 three hundred times. In the file `words` a text is a call and a word; in `zones`, `failing`, `printed` and `types` it is an
+//! origin and a zone file, and in `loading` and `chains` a call, an origin and a zone file. Texts and zone files are read whole, and octet by octet
 //! too.
 #![tactic(auto)]
 

@@ -34,7 +34,7 @@ fn lines_of(alloc: Global, origin: &str, text: &[u8]) -> Result<String, AllocErr
 fn print(alloc: Global, records: &[PlacedRecord]) -> Result<String, AllocError> {
     let mut lines = String::new(alloc);
     for placed in records {
-        write!(&mut lines, "{}\n", MasterText(&placed.given))?;
+        write!(&mut lines, "{}\n", MasterText(alloc, &placed.given))?;
     }
     Ok(lines)
 }

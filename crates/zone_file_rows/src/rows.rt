@@ -13,10 +13,12 @@ pub enum Kind {
     Words,
     /// An origin and a zone file, and its records.
     Zones,
-    /// An origin and a zone file behind which the input fails, and what is told of it.
+    /// An origin and a zone file behind which the input fails, and what is reported about it.
     Failing,
     /// An origin and a zone file, and its records as they are printed in the form of a zone file.
     Printed,
+    /// An origin and a zone file, and its records with the octets of their data, and as they are printed.
+    Types,
     /// A call, an origin and a zone file, and the zone of its records.
     Loading,
     /// A call, an origin and a zone file, and whether the zone of its records has a chain.
@@ -31,6 +33,7 @@ impl Kind {
             "zones" => Kind::Zones,
             "failing" => Kind::Failing,
             "printed" => Kind::Printed,
+            "types" => Kind::Types,
             "loading" => Kind::Loading,
             "chains" => Kind::Chains,
             _ => Kind::Entries,
@@ -77,9 +80,17 @@ fn answer(alloc: Global, kind: Kind, row: &str) -> Result<String, AllocError> {
         Kind::Zones => zone::answer(alloc, row),
         Kind::Failing => zone::failing_answer(alloc, row),
         Kind::Printed => printed::answer(alloc, row),
+        Kind::Types => types_answer(alloc, row),
         Kind::Loading => loading::answer(alloc, row),
         Kind::Chains => chains::answer(alloc, row),
     }
+}
+
+/// What is read of a zone file, and what is printed of it.
+fn types_answer(alloc: Global, row: &str) -> Result<String, AllocError> {
+    let read = zone::answer(alloc, row)?;
+    let printed = printed::answer(alloc, row)?;
+    format!(in alloc; "{read}| {printed}")
 }
 
 /// The entries of a text, which have to be the same in pieces.

@@ -17,7 +17,7 @@ module _ (kind : Option NxProofKind) (left after : Sets) (e : RrKey × RRset) (s
   one_goes h = ap (chain_sets kind) steps ∙ ap (λ b. cond b (e ∷ chain_sets kind after) (chain_sets kind after)) h
 
 module _ (kind : Option NxProofKind) (m : Sets) (zone : IsZone m) (n : Name) (t : ℕ) where
-  -- what a look-up finds among all sets, and whether that stays
+  -- what a lookup finds among all sets, and whether that stays
   pub found_stays : (s : RRset) → set_at m n t ≡ Some s → stays kind t s ≡ true → set_at (chain_sets kind m) n t ≡ Some s
   found_stays s e h = (sets_are kind m zone n t s).1 (e, h)
 

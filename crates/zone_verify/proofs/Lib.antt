@@ -3,6 +3,5 @@ pub mod Kept
 pub mod Links
 pub mod NsecChains
 pub mod Nsec3Links
-pub mod Nsec3Names
 pub mod Nsec3Chosen
 pub mod Nsec3Chains

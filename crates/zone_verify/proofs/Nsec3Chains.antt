@@ -1,6 +1,6 @@
 -- NSEC3 sets that the program found right are a chain
-use Rattle.std.proofs.Common.{◌≡◌, ℕ, Bool, true, false, not, ◌&&◌, ◌||◌, List, [], ◌∷◌, map, refl, sym, ap, ◌∙◌, subst, true≢false, ◌⊎◌, inl, inr, eqb-true, eq-eqb}
-use Rattle.std.specs.Prelude.{Option, Some, None, filter_map, length, ◌==◌, ◌≢◌}
+use Rattle.std.proofs.Common.{◌≡◌, ℕ, Bool, true, false, not, ◌&&◌, ◌||◌, List, [], ◌∷◌, map, refl, sym, ap, ◌∙◌, subst, true≢false, ◌⊎◌, inl, inr, arith, eqb-true, eq-eqb}
+use Rattle.std.specs.Prelude.{Option, Some, None, filter_map, length, ◌==◌}
 use Rattle.std.specs.List.{Contains, cons_option}
 use Rattle.std.specs.Bool.{Decides}
 use Rattle.std.specs.Map.{keys_of}
@@ -17,14 +17,14 @@ use Rattle.zone_proto.specs.HashedOwners.{hashed_owner}
 use Rattle.zone_proto.specs.Keys.{key, key_cmp}
 use Rattle.zone_proto.specs.Names.{Name, name_eq, is_above, is_at_or_above, IsAtOrAbove}
 use Rattle.zone_proto.specs.Sets.{RRset}
-use Rattle.zone_proto.specs.Types.{NS, RRSIG, NSEC3, NSEC3PARAM}
+use Rattle.zone_proto.specs.Types.{NS, RRSIG, NSEC, NSEC3, NSEC3PARAM}
 use Rattle.zone_proto.proofs.Members.{In, In-Contains, Contains-In, In-from_any, any_from_In, In-map, In-from_map, and_left, and_right, not_true, or_right}
 use Rattle.zone_proto.proofs.Names.NameTree.{name_eq-Decides, above_test, is_at_or_above_complete}
 use Rattle.zone_map.specs.Zones.{Sets, IsZone, set_at, owns, owners}
 use Rattle.zone_map.proofs.Owned.{entry_owned}
 use Rattle.zone_denial.specs.Authority.{is_authoritative, is_below_cut, owns_besides}
 use Rattle.zone_denial.specs.AuthoritativeKeys.{authoritative_keys}
-use Rattle.zone_denial.specs.Chains.{chain_sets, is_delegation, is_told_at_delegation, has_signature, may_be_left_out, IsRightList, IsInNsec3Chain, IsNsec3Chain}
+use Rattle.zone_denial.specs.Chains.{chain_sets, is_delegation, is_stated_at_delegation, has_signature, may_be_left_out, IsRightList, IsInNsec3Chain, IsNsec3Chain}
 use Rattle.zone_denial.specs.Nsec3Circle.{digests, next_digest, nsec3_data, first_nsec3}
 use Rattle.zone_denial.proofs.Ascending.{Ascends-from_sorted}
 use Rattle.zone_denial.proofs.Chains.ChainSets.{sets_are, is_zone, found_entry}
@@ -32,7 +32,7 @@ use Rattle.zone_denial.proofs.Names.AuthoritativeNames.{authoritative_from, besi
 use Rattle.zone_denial.proofs.Names.LongestAncestors.{above_below}
 use Rattle.zone_denial.proofs.Sets.CircleKeys.{circle_key_from, circle_key_in, key_owned}
 use Rattle.zone_verify.specs.declared.nsec3_name.ChainName.{ChainName}
-use Rattle.zone_verify.specs.Lists.{IsKeyListed, tells_at}
+use Rattle.zone_verify.specs.Lists.{IsKeyListed, is_stated_at}
 use Rattle.zone_verify.specs.Nsec3Names.{HasNsec3, IsNamed, IsKeyName, AreChainNames, IsNsec3Key}
 
 number_Decides : (a b : ℕ) → Decides (a == b) (a ≡ b)
@@ -52,7 +52,7 @@ numbers : (types : List RecordType) → types ≡ map (λ (t : ℕ). record { 0 
 numbers [] = refl
 numbers (t ∷ ts) = ap (λ (us : List RecordType). t ∷ us) (numbers ts)
 
-module _ (origin : Name) (all : Sets) (zone : IsZone all) (hash : Name → Option (List ℕ)) (p : Nsec3Parameters) (below_root : origin ≢ []) where
+module _ (origin : Name) (all : Sets) (zone : IsZone all) (hash : Name → Option (List ℕ)) (p : Nsec3Parameters) where
   abbrev chain : Option NxProofKind
   chain = Some (kind.Nsec3 p.algorithm p.salt p.iterations p.opt_out)
 
@@ -60,7 +60,7 @@ module _ (origin : Name) (all : Sets) (zone : IsZone all) (hash : Name → Optio
   m = chain_sets chain all
 
   module _ (announced : owns m origin NSEC3PARAM ≡ true) (ks : List RrKey) (keys_are : ks ≡ authoritative_keys origin m NSEC3) (names : List ChainName)
-      (are : AreChainNames origin m hash p.opt_out ks names)
+      (are : AreChainNames origin all m hash p.opt_out ks names)
       (keyed : (k : RrKey) → Contains ks k → IsNsec3Key origin m hash p.opt_out names k)
       (linked : (c : ChainName) → Contains names c → c.data.now.next_hashed_owner_name ≡ next_digest (map (λ (c : ChainName). c.digest) names) c.digest)
       (owned : (o : Name) → owns m o NSEC3 ≡ true → (c : ChainName) × Contains names c × (c.owner ≡ o)) where
@@ -88,7 +88,7 @@ module _ (origin : Name) (all : Sets) (zone : IsZone all) (hash : Name → Optio
     origin_owns : owns_besides m NSEC3 origin ≡ true
     origin_owns = besides_from m NSEC3 origin NSEC3PARAM refl announced
 
-    named_authoritative : (n : Name) → IsKeyName origin m hash p.opt_out ks n → is_authoritative origin m NSEC3 n ≡ true
+    named_authoritative : (n : Name) → IsKeyName origin ks n → is_authoritative origin m NSEC3 n ≡ true
     named_authoritative n (inl e) =
         ap (is_authoritative origin m NSEC3) e ∙ authoritative_from origin m NSEC3 origin (is_at_or_above_complete origin origin ([], refl)) origin_owns (origin_uncut origin m)
     named_authoritative n (inr (k, i, e)) = ap (is_authoritative origin m NSEC3) e ∙ key_authoritative k i
@@ -176,21 +176,22 @@ module _ (origin : Name) (all : Sets) (zone : IsZone all) (hash : Name → Optio
           by (inl (d, j, e, l)) = subst (λ (a : Nsec3Data). IsKeyListed m delegated a.types (key c.name t)) (same_said d j e) l
           by (inr (left, none)) = absurd (not_both (set_at m c.owner NSEC3) has.set (ap (λ w. set_at m w NSEC3) has.owner ∙ none c.digest has.digest) has.stands)
 
-      stands : (t : ℕ) → tells_at delegated t ≡ true → (t ≡ RRSIG → ⊥) → Contains types t → owns m c.name t ≡ true
-      stands t told other l = by (((are.each c i).may t l).stands told)
+      stands : (t : ℕ) → is_stated_at delegated t ≡ true → (t ≡ RRSIG → ⊥) → (t ≡ NSEC → ⊥) → Contains types t → owns m c.name t ≡ true
+      stands t told other named l = by (((are.each c i).may t l).stands told)
         where
-          by : (t ≡ RRSIG) ⊎ (owns m c.name t ≡ true) → owns m c.name t ≡ true
+          by : (t ≡ RRSIG) ⊎ ((owns m c.name t ≡ true) ⊎ ((t ≡ NSEC) × (owns all c.name NSEC ≡ true))) → owns m c.name t ≡ true
           by (inl q) = absurd (other q)
-          by (inr k) = k
+          by (inr (inl k)) = k
+          by (inr (inr k)) = absurd (named k.0)
 
-      listed : (t : ℕ) → tells_at delegated t ≡ true → (t ≡ NSEC3 → ⊥) → owns m c.name t ≡ true → Contains types t
+      listed : (t : ℕ) → is_stated_at delegated t ≡ true → (t ≡ NSEC3 → ⊥) → owns m c.name t ≡ true → Contains types t
       listed t told ne k = (listed_key t ne k).own told
 
-      told_apart : (t u : ℕ) → is_told_at_delegation t ≡ true → is_told_at_delegation u ≡ false → t ≡ u → ⊥
-      told_apart t u told untold q = true≢false (sym told ∙ ap is_told_at_delegation q ∙ untold)
+      told_apart : (t u : ℕ) → is_stated_at_delegation t ≡ true → is_stated_at_delegation u ≡ false → t ≡ u → ⊥
+      told_apart t u told untold q = true≢false (sym told ∙ ap is_stated_at_delegation q ∙ untold)
 
-      tells_elsewhere : (t : ℕ) → delegated ≡ false → tells_at delegated t ≡ true
-      tells_elsewhere t d = ap (λ b. not b || is_told_at_delegation t) d
+      tells_elsewhere : (t : ℕ) → delegated ≡ false → is_stated_at delegated t ≡ true
+      tells_elsewhere t d = ap (λ b. not b || is_stated_at_delegation t) d
 
       signed : delegated ≡ false → has_signature m c.name ≡ true → Contains types RRSIG
       signed d h =
@@ -212,22 +213,22 @@ module _ (origin : Name) (all : Sets) (zone : IsZone all) (hash : Name → Optio
       right_list : IsRightList origin m c.name types
       right_list = record {
         at_delegation = λ d t told.
-            let tells : tells_at delegated t ≡ true = or_right (not delegated) (is_told_at_delegation t) told in
-            (stands t tells (told_apart t RRSIG told refl), listed t tells (told_apart t NSEC3 told refl));
-        exact = λ d t a b. (stands t (tells_elsewhere t d) a, listed t (tells_elsewhere t d) b);
+            let is_stated : is_stated_at delegated t ≡ true = or_right (not delegated) (is_stated_at_delegation t) told in
+            (stands t is_stated (told_apart t RRSIG told refl) (told_apart t NSEC told refl), listed t is_stated (told_apart t NSEC3 told refl));
+        exact = λ d t a b x. (stands t (tells_elsewhere t d) a b, listed t (tells_elsewhere t d) x);
         signed = signed;
       }
 
       nothing : owns_besides m NSEC3 c.name ≡ false → types ≡ []
       nothing none = by (are.each c i).own
         where
-          owner : IsKeyName origin m hash p.opt_out ks c.name → owns_besides m NSEC3 c.name ≡ true
+          owner : IsKeyName origin ks c.name → owns_besides m NSEC3 c.name ≡ true
           owner (inl e) = ap (owns_besides m NSEC3) e ∙ origin_owns
           owner (inr (k, j, e)) =
               let r = circle_key_from origin m NSEC3 k (subst (In k) keys_are (Contains-In k ks j)) in
               ap (owns_besides m NSEC3) e ∙ besides_from m NSEC3 k.name k.record_type.0 (and_left (not (k.record_type.0 == NSEC3)) _ r.1) (key_owned m k r.0)
 
-          by : (c.data.now.types ≡ []) ⊎ IsKeyName origin m hash p.opt_out ks c.name → types ≡ []
+          by : (c.data.now.types ≡ []) ⊎ IsKeyName origin ks c.name → types ≡ []
           by (inl e) = ap (map (λ (t : RecordType). t.0)) e
           by (inr k) = absurd (true≢false (sym (owner k) ∙ none))
 
@@ -247,20 +248,29 @@ module _ (origin : Name) (all : Sets) (zone : IsZone all) (hash : Name → Optio
           let next = linked c i ∙ ap (λ ds. next_digest ds c.digest) (sym digests_are) in
           λ j. record { algorithm = algorithm j; opt_out = has.flag j; iterations = iterations j; salt = salt j; next_hashed_owner_name = next j; types = numbers a.types j }
 
-      in_chain : IsInNsec3Chain origin m hash p ns c.name c.digest has.set
+      -- no NSEC set stays
+      nsec : delegated ≡ false → (owns m c.name NSEC ≡ true → Contains types NSEC) × (Contains types NSEC → (owns m c.name NSEC ≡ true) ⊎ (owns all c.name NSEC ≡ true))
+      nsec d = (listed NSEC (tells_elsewhere NSEC d) (λ e. omega (arith, e)), λ l. by (((are.each c i).may NSEC l).stands (tells_elsewhere NSEC d)))
+        where
+          by : (NSEC ≡ RRSIG) ⊎ ((owns m c.name NSEC ≡ true) ⊎ ((NSEC ≡ NSEC) × (owns all c.name NSEC ≡ true))) → (owns m c.name NSEC ≡ true) ⊎ (owns all c.name NSEC ≡ true)
+          by (inl q) = absurd (omega (arith, q))
+          by (inr (inl k)) = inl k
+          by (inr (inr k)) = inr k.1
+
+      in_chain : IsInNsec3Chain origin all m hash p ns c.name c.digest has.set
       in_chain = record {
         single = has.single;
         types = types;
         says = has.says ∙ ap Some says;
         right = right_list;
+        nsec = nsec;
         no_hashed = λ l. ((are.each c i).may NSEC3 l).other refl;
         empty = nothing;
       }
 
-    pub is_nsec3_chain : IsNsec3Chain origin m hash p ns
+    pub is_nsec3_chain : IsNsec3Chain origin all m hash p ns
     is_nsec3_chain = record {
       zone = is_zone chain all zone;
-      below_root = below_root;
       begins = named_in origin are.begins;
       between = λ n a j u v. let r = in_named n j in named_in a (are.between r.0 a r.1 u (subst (IsAtOrAbove a) (sym r.2) v));
       authoritative = authoritative;
@@ -271,7 +281,7 @@ module _ (origin : Name) (all : Sets) (zone : IsZone all) (hash : Name → Optio
           let digest = same_digest (hash n) r.0.digest d (ap hash (sym r.2) ∙ h.digest) e in (
             h.set,
             ap (λ w. set_at m w NSEC3) (ap (hashed_owner origin) (sym digest) ∙ sym h.owner) ∙ h.stands,
-            subst (λ w. IsInNsec3Chain origin m hash p ns w d h.set) r.2 (subst (λ x. IsInNsec3Chain origin m hash p ns r.0.name x h.set) digest (in_chain r.0 r.1)),
+            subst (λ w. IsInNsec3Chain origin all m hash p ns w d h.set) r.2 (subst (λ x. IsInNsec3Chain origin all m hash p ns r.0.name x h.set) digest (in_chain r.0 r.1)),
           );
       no_other = λ o k.
           let r = owned o k in

@@ -1,25 +1,24 @@
 -- Names with their NSEC3 sets, put behind others
-use Rattle.std.proofs.Common.{◌≡◌, ◌↔◌, ℕ, zero, suc, ◌-◌, ◌<◌, Bool, true, false, List, [], ◌∷◌, ◌++◌, take, refl, sym, ap, ◌∙◌, subst, true≢false, ◌⊎◌, inl, inr, arith}
-use Rattle.std.specs.Prelude.{Option, Some, None, IsSome}
+use Rattle.std.proofs.Common.{◌≡◌, ℕ, zero, suc, ◌+◌, ◌-◌, ◌<◌, ◌≤◌, Bool, List, [], ◌∷◌, ◌++◌, length, take, drop, refl, sym, ap, ◌∙◌, subst, ◌⊎◌, inl, inr, arith}
+use Rattle.std.specs.Prelude.{Option, Some, None}
 use Rattle.std.specs.List.{Contains}
-use Rattle.std.specs.Option.{option_to_list}
+use Rattle.std.proofs.lemmas.List.{length-drop, take-append-drop}
 use Rattle.zone_proto.specs.declared.record_type.RecordType.{RecordType}
 use Rattle.zone_proto.specs.declared.rr_key.RrKey.{RrKey}
-use Rattle.zone_proto.specs.Names.{Name, IsAbove, IsAtOrAbove, is_at_or_above}
+use Rattle.zone_proto.specs.Names.{Name, IsAbove, IsAtOrAbove, SharesLabels}
 use Rattle.zone_proto.proofs.Members.{In, In-Contains, Contains-In, In-from_append, In-append_left, In-append_right}
-use Rattle.zone_proto.proofs.Names.NameTree.{is_at_or_above_sound, is_at_or_above_complete}
 use Rattle.zone_proto.proofs.Names.Tree.{above_cases}
 use Rattle.zone_map.specs.Zones.{Sets}
 use Rattle.zone_denial.specs.Chains.{is_delegation}
 use Rattle.zone_denial.proofs.Chain.NsecBelow.{above_at, above_through, comparable}
-use Rattle.zone_denial.proofs.Names.LongestAncestors.{above_above, above_shorter}
+use Rattle.zone_denial.proofs.Names.LongestAncestors.{above_shorter}
 use Rattle.zone_verify.specs.declared.nsec3_name.ChainName.{ChainName}
 use Rattle.zone_verify.specs.Lists.{IsListed, MayAllBeListed, IsKeyListed}
-use Rattle.zone_verify.specs.Nsec3Names.{HasNsec3, IsNamed, IsKeyName, IsChainName, AreChainNames, StayChainNames, IsListedOrLeftOut, IsNsec3Key, AreEmptyBehind}
-use Rattle.zone_verify.proofs.Nsec3Names.{IsNew}
+use Rattle.zone_verify.specs.Nsec3Names.{HasNsec3, IsNamed, IsKeyName, HasAncestors, IsChainName, AreChainNames, StayChainNames, IsListedOrLeftOut, IsNsec3Key}
+use Rattle.zone_verify.proofs.Nsec3Links.{apart}
 use Rattle.zone_verify.proofs.Passing.{AreLeft, passed}
 
-abbrev AreKept : List ChainName → List ChainName → Type 0
+abbrev pub AreKept : List ChainName → List ChainName → Type 0
 AreKept old new = (c : ChainName) → Contains old c → Contains new c
 
 pub one_kept : (old new : List ChainName) (x : ChainName) → new ≡ old ++ x ∷ [] → AreKept old new
@@ -36,142 +35,60 @@ one_of old new x is c i = by (In-from_append c old (x ∷ []) (subst (In c) is (
     by (inr (inl e)) = inr e
     by (inr (inr j)) = absurd j
 
-pub named_kept : (old new : List ChainName) → AreKept old new → (n : Name) → IsNamed old n → IsNamed new n
+named_kept : (old new : List ChainName) → AreKept old new → (n : Name) → IsNamed old n → IsNamed new n
 named_kept old new kept n h = (h.0, kept h.0 h.1, h.2)
 
-pub emptied : (old new : List Name) (k : ℕ) (r : Option Name) → old ≡ new ++ option_to_list r → new ≡ take (k - 1) old → (0 < k → IsSome r) → r ≡ None → old ≡ []
-emptied old new zero r is rest f e = is ∙ ap (λ o. new ++ option_to_list o) e ∙ ap (λ (xs : List Name). xs ++ []) rest
-emptied old new (suc k) r is rest f e = absurd (true≢false (sym (subst IsSome e (f (omega arith)))))
+-- of two ancestors of one name the one with no more labels is at or above the other
+pub nested : (a b n : Name) → IsAtOrAbove a n → IsAtOrAbove b n → length a ≤ length b → IsAtOrAbove a b
+nested a b n u v long = by (comparable u.0 v.0 a b (sym u.1 ∙ v.1))
+  where
+    of : (b ≡ a) ⊎ IsAbove b a → IsAtOrAbove a b
+    of (inl e) = ([], e)
+    of (inr w) = absurd (omega (arith, above_shorter b a w, long))
 
-module _ (origin : Name) (m : Sets) (hash : Name → Option (List ℕ)) (opt_out : Bool) where
-  abbrev IsEmpty : Name → Name → ChainName → Type 0
-  IsEmpty last n c = HasNsec3 origin m hash opt_out c × (c.data.now.types ≡ []) × IsAbove c.name n × ¬ IsAtOrAbove c.name last
+    by : IsAtOrAbove a b ⊎ IsAtOrAbove b a → IsAtOrAbove a b
+    by (inl w) = w
+    by (inr w) = of (above_cases b a w)
 
-  -- empty names behind others, but for some that are left
-  pub record ArePutBehind (last n : Name) (old new : List ChainName) (left : List Name) : Type 0 where
-    pub kept : (c : ChainName) → Contains old c → Contains new c
-    pub added : (c : ChainName) → Contains new c → Contains old c ⊎ IsEmpty last n c
-    pub all : (a : Name) → IsNew last n a → In a left ⊎ IsNamed new a
-    pub left_new : (a : Name) → In a left → IsNew last n a
+module _ (origin : Name) (beside m : Sets) (hash : Name → Option (List ℕ)) (opt_out : Bool) where
+  -- one more name behind others, which have the ancestors of it
+  one_more : (keys : List RrKey) (old new : List ChainName) (x : ChainName) → new ≡ old ++ x ∷ [] → IsChainName origin beside m hash opt_out keys x → HasAncestors origin old x.name
+      → AreChainNames origin beside m hash opt_out keys old → AreChainNames origin beside m hash opt_out keys new
+  one_more keys old new x is own above are = record {
+    each = λ c i. each c (one_of old new x is c i);
+    begins = named_kept old new (one_kept old new x is) origin are.begins;
+    between = λ c a i u v. between c a u v (one_of old new x is c i);
+  }
+    where
+      each : (c : ChainName) → Contains old c ⊎ (x ≡ c) → IsChainName origin beside m hash opt_out keys c
+      each c (inl i) = are.each c i
+      each c (inr e) = subst (IsChainName origin beside m hash opt_out keys) e own
 
-  module _ (last n : Name) (old : List ChainName) where
-    pub none_put : (left : List Name) → ((a : Name) → Contains left a ↔ IsNew last n a) → ArePutBehind last n old old left
-    none_put left are = record {
-      kept = λ c i. i;
-      added = λ c i. inl i;
-      all = λ a h. inl (Contains-In a left ((are a).1 h));
-      left_new = λ a i. (are a).0 (In-Contains a left i);
-    }
+      at_x : (a : Name) → IsAtOrAbove origin a → (a ≡ x.name) ⊎ IsAbove a x.name → IsNamed new a
+      at_x a u (inl e) = (x, one_there old new x is, sym e)
+      at_x a u (inr w) = named_kept old new (one_kept old new x is) a (above a u w)
 
-    pub one_put : (new after : List ChainName) (left rest : List Name) (a : Name) (c : ChainName) → left ≡ rest ++ a ∷ [] → HasNsec3 origin m hash opt_out c → c.data.now.types ≡ [] → c.name ≡ a
-        → after ≡ new ++ c ∷ [] → ArePutBehind last n old new left → ArePutBehind last n old after rest
-    one_put new after left rest a c split has empty named is p = record {
-      kept = λ d i. one_kept new after c is d (p.kept d i);
-      added = λ d i. added d (one_of new after c is d i);
-      all = λ b h. all b (p.all b h);
-      left_new = λ b i. p.left_new b (subst (In b) (sym split) (In-append_left b rest (a ∷ []) i));
-    }
-      where
-        own : IsNew last n a
-        own = p.left_new a (subst (In a) (sym split) (In-append_right a rest (a ∷ []) (inl refl)))
+      between : (c : ChainName) (a : Name) → IsAtOrAbove origin a → IsAtOrAbove a c.name → Contains old c ⊎ (x ≡ c) → IsNamed new a
+      between c a u v (inl i) = named_kept old new (one_kept old new x is) a (are.between c a i u v)
+      between c a u v (inr e) = at_x a u (above_cases a x.name (subst (IsAtOrAbove a) (ap (λ (y : ChainName). y.name) (sym e)) v))
 
-        new_name : IsNew last n c.name
-        new_name = subst (IsNew last n) (sym named) own
-
-        added : (d : ChainName) → Contains new d ⊎ (c ≡ d) → Contains old d ⊎ IsEmpty last n d
-        added d (inl i) = p.added d i
-        added d (inr e) = inr (subst (IsEmpty last n) e (has, empty, new_name.0, new_name.1))
-
-        among : (b : Name) → In b rest ⊎ In b (a ∷ []) → In b rest ⊎ IsNamed after b
-        among b (inl i) = inl i
-        among b (inr (inl e)) = inr (c, one_there new after c is, named ∙ e)
-        among b (inr (inr i)) = absurd i
-
-        all : (b : Name) → In b left ⊎ IsNamed new b → In b rest ⊎ IsNamed after b
-        all b (inl i) = among b (In-from_append b rest (a ∷ []) (subst (In b) split i))
-        all b (inr h) = inr (named_kept new after (one_kept new after c is) b h)
-
-    pub all_put : (new : List ChainName) (left : List Name) → left ≡ [] → ArePutBehind last n old new left → AreEmptyBehind origin m hash opt_out last n old new
-    all_put new left none p = record {
-      kept = p.kept;
-      added = p.added;
-      all = λ a above apart. by a (p.all a (above, apart));
-    }
-      where
-        by : (a : Name) → In a left ⊎ IsNamed new a → IsNamed new a
-        by a (inl i) = absurd (subst (In a) none i)
-        by a (inr h) = h
-
-  may_none : (n : Name) (d : Bool) (types : List RecordType) → types ≡ [] → MayAllBeListed m n d types
-  may_none n d types e t l = absurd (Contains-In t [] (subst (λ (ts : List RecordType). IsListed ts t) e l))
-
-  -- ---- a name behind others
-
-  module _ (last n : Name) (old mid new : List ChainName) (x : ChainName) (empties : AreEmptyBehind origin m hash opt_out last n old mid) (is : new ≡ mid ++ x ∷ [])
-      (has : HasNsec3 origin m hash opt_out x) (named : x.name ≡ n) (may : MayAllBeListed m n (is_delegation origin m n) x.data.now.types) where
-    pub all_kept : AreKept old new
-    all_kept c i = one_kept mid new x is c (empties.kept c i)
-
-    pub stay : StayChainNames origin m hash opt_out last n old new
-    stay keys last_in is_key inside are = record {
-      each = λ c i. each c (one_of mid new x is c i);
-      begins = named_kept old new all_kept origin are.begins;
-      between = λ c a i u v. between c a u v (one_of mid new x is c i);
-    }
-      where
-        last_inside : IsAtOrAbove origin last
-        last_inside = subst (IsAtOrAbove origin) last_in.2 (are.each last_in.0 last_in.1).inside
-
-        empty_inside : (a : Name) → IsAbove a n → ¬ IsAtOrAbove a last → IsAtOrAbove origin a
-        empty_inside a above apart = let at = above_at a n above in by (comparable inside.0 at.0 origin a (sym inside.1 ∙ at.1))
-          where
-            by : IsAtOrAbove origin a ⊎ IsAtOrAbove a origin → IsAtOrAbove origin a
-            by (inl u) = u
-            by (inr u) = absurd (apart (above_through a origin last u last_inside))
-
-        each_mid : (c : ChainName) → Contains old c ⊎ IsEmpty last n c → IsChainName origin m hash opt_out keys c
-        each_mid c (inl i) = are.each c i
-        each_mid c (inr e) = record {
-          has = e.0;
-          inside = empty_inside c.name e.2 e.3;
-          below = (n, is_key, above_at c.name n e.2);
-          may = may_none c.name (is_delegation origin m c.name) c.data.now.types e.1;
-          own = inl e.1;
-        }
-
-        own : IsChainName origin m hash opt_out keys x
-        own = record {
-          has = has;
-          inside = subst (IsAtOrAbove origin) (sym named) inside;
-          below = (n, is_key, ([], sym named));
-          may = subst (λ w. MayAllBeListed m w (is_delegation origin m w) x.data.now.types) (sym named) may;
-          own = inr (subst (IsKeyName origin m hash opt_out keys) (sym named) is_key);
-        }
-
-        each : (c : ChainName) → Contains mid c ⊎ (x ≡ c) → IsChainName origin m hash opt_out keys c
-        each c (inl i) = each_mid c (empties.added c i)
-        each c (inr e) = subst (IsChainName origin m hash opt_out keys) e own
-
-        above_named : (a : Name) → IsAtOrAbove origin a → IsAbove a n → (b : Bool) → is_at_or_above a last ≡ b → IsNamed new a
-        above_named a u above true e =
-            named_kept old new all_kept a (are.between last_in.0 a last_in.1 u (subst (IsAtOrAbove a) (sym last_in.2) (is_at_or_above_sound a last e)))
-        above_named a u above false e = named_kept mid new (one_kept mid new x is) a (empties.all a above (λ w. true≢false (sym (is_at_or_above_complete a last w) ∙ e)))
-
-        at_n : (a : Name) → IsAtOrAbove origin a → (a ≡ n) ⊎ IsAbove a n → IsNamed new a
-        at_n a u (inl e) = (x, one_there mid new x is, named ∙ sym e)
-        at_n a u (inr w) = above_named a u w (is_at_or_above a last) refl
-
-        between_mid : (c : ChainName) (a : Name) → IsAtOrAbove origin a → IsAtOrAbove a c.name → Contains old c ⊎ IsEmpty last n c → IsNamed new a
-        between_mid c a u v (inl i) = named_kept old new all_kept a (are.between c a i u v)
-        between_mid c a u v (inr e) = at_n a u (inr (above_above a c.name n v e.2))
-
-        between : (c : ChainName) (a : Name) → IsAtOrAbove origin a → IsAtOrAbove a c.name → Contains mid c ⊎ (x ≡ c) → IsNamed new a
-        between c a u v (inl i) = between_mid c a u v (empties.added c i)
-        between c a u v (inr e) = at_n a u (above_cases a n (subst (IsAtOrAbove a) (ap (λ (y : ChainName). y.name) (sym e) ∙ named) v))
+  -- a name that owns something
+  pub stay : (n : Name) (old mid new : List ChainName) (x : ChainName) → StayChainNames origin beside m hash opt_out n old mid → HasAncestors origin mid n → new ≡ mid ++ x ∷ []
+      → HasNsec3 origin m hash opt_out x → x.name ≡ n → MayAllBeListed beside m n (is_delegation origin m n) x.data.now.types → StayChainNames origin beside m hash opt_out n old new
+  stay n old mid new x before above is has named may keys is_key inside are =
+      one_more keys mid new x is
+      record {
+        has = has;
+        inside = subst (IsAtOrAbove origin) (sym named) inside;
+        below = (n, is_key, ([], sym named));
+        may = subst (λ w. MayAllBeListed beside m w (is_delegation origin m w) x.data.now.types) (sym named) may;
+        own = inr (subst (IsKeyName origin keys) (sym named) is_key);
+      }
+      (subst (HasAncestors origin mid) (sym named) above) (before keys is_key inside are)
 
   -- the origin alone
   pub origin_alone : (old new : List ChainName) (x : ChainName) → old ≡ [] → new ≡ old ++ x ∷ [] → HasNsec3 origin m hash opt_out x → x.name ≡ origin
-      → MayAllBeListed m origin (is_delegation origin m origin) x.data.now.types → (keys : List RrKey) → AreChainNames origin m hash opt_out keys new
+      → MayAllBeListed beside m origin (is_delegation origin m origin) x.data.now.types → (keys : List RrKey) → AreChainNames origin beside m hash opt_out keys new
   origin_alone old new x none is has named may keys = record {
     each = λ c i. each c (one_of old new x is c i);
     begins = there;
@@ -184,18 +101,18 @@ module _ (origin : Name) (m : Sets) (hash : Name → Option (List ℕ)) (opt_out
       nothing : (c : ChainName) → Contains old c → ⊥
       nothing c i = Contains-In c [] (subst (λ (ns : List ChainName). Contains ns c) none i)
 
-      own : IsChainName origin m hash opt_out keys x
+      own : IsChainName origin beside m hash opt_out keys x
       own = record {
         has = has;
         inside = ([], named);
         below = (origin, inl refl, ([], sym named));
-        may = subst (λ w. MayAllBeListed m w (is_delegation origin m w) x.data.now.types) (sym named) may;
+        may = subst (λ w. MayAllBeListed beside m w (is_delegation origin m w) x.data.now.types) (sym named) may;
         own = inr (inl named);
       }
 
-      each : (c : ChainName) → Contains old c ⊎ (x ≡ c) → IsChainName origin m hash opt_out keys c
+      each : (c : ChainName) → Contains old c ⊎ (x ≡ c) → IsChainName origin beside m hash opt_out keys c
       each c (inl i) = absurd (nothing c i)
-      each c (inr e) = subst (IsChainName origin m hash opt_out keys) e own
+      each c (inr e) = subst (IsChainName origin beside m hash opt_out keys) e own
 
       same : (a : Name) → (origin ≡ a) ⊎ IsAbove origin a → (a ≡ origin) ⊎ IsAbove a origin → origin ≡ a
       same a (inl e) w = e
@@ -207,27 +124,83 @@ module _ (origin : Name) (m : Sets) (hash : Name → Option (List ℕ)) (opt_out
       between c a u v (inr e) =
           subst (IsNamed new) (same a (above_cases origin a u) (above_cases a origin (subst (IsAtOrAbove a) (ap (λ (y : ChainName). y.name) (sym e) ∙ named) v))) there
 
-  pub denied_there : (new : List ChainName) (x : ChainName) (n w : Name) (b : Bool) (types : Option (List RecordType)) → Contains new x → x.name ≡ n → w ≡ n → b ≡ is_delegation origin m n
-      → types ≡ Some x.data.now.types → (b ≡ is_delegation origin m w) × IsListedOrLeftOut origin m hash opt_out new w types
-  denied_there new x n w b types i named q e t =
-      (e ∙ ap (is_delegation origin m) (sym q), subst (λ (o : Option (List RecordType)). IsListedOrLeftOut origin m hash opt_out new w o) (sym t) (x, i, named ∙ sym q, refl))
+  -- ---- empty names above a name, from the highest down
 
-  pub are_moved : (keys : List RrKey) (old new : List ChainName) → AreKept old new → AreKept new old → AreChainNames origin m hash opt_out keys old → AreChainNames origin m hash opt_out keys new
+  -- the ancestors of n with at most so many labels are among these, which are still such names
+  pub record AreUpper (n : Name) (old new : List ChainName) (most : ℕ) : Type 0 where
+    pub stay : StayChainNames origin beside m hash opt_out n old new
+    pub kept : AreKept old new
+    pub upper : (a : Name) → IsAtOrAbove origin a → IsAtOrAbove a n → length a ≤ most → IsNamed new a
+
+  module _ (n last : Name) (shared : ℕ) (shares : SharesLabels n last shared) (old : List ChainName) (last_in : IsNamed old last) where
+    abbrev longest : Name
+    longest = drop (length n - shared) n
+
+    pub upper_before : (keys : List RrKey) → AreChainNames origin beside m hash opt_out keys old → AreUpper n old old shared
+    upper_before keys are = record {
+      stay = λ ks is_key inside own. own;
+      kept = λ c i. i;
+      upper = λ a u v short.
+          are.between last_in.0 a last_in.1 u
+          (subst (IsAtOrAbove a) (sym last_in.2)
+          (above_through a longest last (nested a longest n v (take (length n - shared) n, sym (take-append-drop (length n - shared) n)) (omega (arith, short, length-drop (length n - shared) n, shares.within))) shares.shared));
+    }
+
+    pub upper_after : (new after : List ChainName) (upper : ℕ) (a : Name) (c : ChainName) → shared ≤ upper → upper < length n - 1 → a ≡ drop (length n - (upper + 1)) n → HasNsec3 origin m hash opt_out c
+        → c.data.now.types ≡ [] → c.name ≡ a → after ≡ new ++ c ∷ [] → AreUpper n old new upper → AreUpper n old after (upper + 1)
+    upper_after new after upper a c from lt is_a has empty named is v = record {
+      stay = λ keys is_key inside are.
+          one_more keys new after c is
+          record {
+            has = has;
+            inside = nested origin c.name n inside at (omega (arith, from, long, shares.most origin inside (subst (IsAtOrAbove origin) last_in.2 (are.each last_in.0 last_in.1).inside)));
+            below = (n, is_key, at);
+            may = λ t l. absurd (Contains-In t [] (subst (λ (ts : List RecordType). IsListed ts t) empty l));
+            own = inl empty;
+          }
+          (λ b u w. v.upper b u (above_through b c.name n (above_at b c.name w) at) (omega (arith, above_shorter b c.name w, long))) (v.stay keys is_key inside are);
+      kept = λ d i. one_kept new after c is d (v.kept d i);
+      upper = λ b u w short. by b u w short (apart upper (length b));
+    }
+      where
+        at : IsAtOrAbove c.name n
+        at = subst (λ w. IsAtOrAbove w n) (sym (named ∙ is_a)) (take (length n - (upper + 1)) n, sym (take-append-drop (length n - (upper + 1)) n))
+
+        long : length c.name ≡ upper + 1
+        long = omega (arith, ap (λ (w : Name). length w) (named ∙ is_a), length-drop (length n - (upper + 1)) n, lt)
+
+        same : (b : Name) → IsAtOrAbove b n → length b ≡ upper + 1 → c.name ≡ b
+        same b w e = by (above_cases b c.name (nested b c.name n w at (omega (arith, e, long))))
+          where
+            by : (b ≡ c.name) ⊎ IsAbove b c.name → c.name ≡ b
+            by (inl q) = sym q
+            by (inr q) = absurd (omega (arith, above_shorter b c.name q, e, long))
+
+        by : (b : Name) → IsAtOrAbove origin b → IsAtOrAbove b n → length b ≤ upper + 1 → (upper < length b) ⊎ (length b ≤ upper) → IsNamed after b
+        by b u w short (inl l) = (c, one_there new after c is, same b w (omega (arith, short, l)))
+        by b u w short (inr l) = named_kept new after (one_kept new after c is) b (v.upper b u w l)
+
+  pub all_upper : (n : Name) (old new : List ChainName) (most : ℕ) → length n ≤ most + 1 → AreUpper n old new most → HasAncestors origin new n
+  all_upper n old new most long v a u w = v.upper a u (above_at a n w) (omega (arith, above_shorter a n w, long))
+
+  pub are_moved : (keys : List RrKey) (old new : List ChainName) → AreKept old new → AreKept new old → AreChainNames origin beside m hash opt_out keys old → AreChainNames origin beside m hash opt_out keys new
   are_moved keys old new to from are = record {
     each = λ c i. are.each c (from c i);
     begins = named_kept old new to origin are.begins;
     between = λ c a i u v. named_kept old new to a (are.between c a (from c i) u v);
   }
 
+module _ (origin : Name) (m : Sets) (hash : Name → Option (List ℕ)) (opt_out : Bool) where
+  pub denied_there : (new : List ChainName) (x : ChainName) (n w : Name) (b : Bool) (types : Option (List RecordType)) → Contains new x → x.name ≡ n → w ≡ n → b ≡ is_delegation origin m n
+      → types ≡ Some x.data.now.types → (b ≡ is_delegation origin m w) × IsListedOrLeftOut origin m hash opt_out new w types
+  denied_there new x n w b types i named q e t =
+      (e ∙ ap (is_delegation origin m) (sym q), subst (λ (o : Option (List RecordType)). IsListedOrLeftOut origin m hash opt_out new w o) (sym t) (x, i, named ∙ sym q, refl))
+
   -- ---- keys passed
 
   pub listed_kept : (old new : List ChainName) → AreKept old new → (k : RrKey) → IsNsec3Key origin m hash opt_out old k → IsNsec3Key origin m hash opt_out new k
   listed_kept old new kept k (inl h) = inl (h.0, kept h.0 h.1, h.2, h.3)
   listed_kept old new kept k (inr h) = inr h
-
-  pub named_by : (new : List ChainName) (n : Name) (types : Option (List RecordType)) (ts : List RecordType) → types ≡ Some ts → IsListedOrLeftOut origin m hash opt_out new n types → IsNamed new n
-  named_by new n None ts e d = absurd cc
-  named_by new n (Some us) ts e d = (d.0, d.1, d.2)
 
   pub key_listed : (new : List ChainName) (n : Name) (types : Option (List RecordType)) (k : RrKey) (ts : List RecordType) (b : Bool) → n ≡ k.name → IsListedOrLeftOut origin m hash opt_out new n types
       → types ≡ Some ts → b ≡ is_delegation origin m n → IsKeyListed m b ts k → IsNsec3Key origin m hash opt_out new k

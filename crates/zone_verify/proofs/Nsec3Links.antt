@@ -36,7 +36,7 @@ pub record IsLinkedAt (names : List ChainName) (i : ℕ) : Type 0 where
   pub within : (d : ChainName) → i + 1 < length names → (get_or names i d).data.now.next_hashed_owner_name ≡ digest_at names (i + 1) d
   pub last : (d : ChainName) → i < length names → ¬ (i + 1 < length names) → (get_or names i d).data.now.next_hashed_owner_name ≡ digest_at names 0 d
 
-apart : (a b : ℕ) → (a < b) ⊎ (b ≤ a)
+pub apart : (a b : ℕ) → (a < b) ⊎ (b ≤ a)
 apart a zero = inr (omega arith)
 apart zero (suc b) = inl (omega arith)
 apart (suc a) (suc b) = by (apart a b)

@@ -18,13 +18,13 @@ use Rattle.zone_map.specs.Zones.{Sets, IsZone, set_at, owns, owners}
 use Rattle.zone_map.proofs.Owned.{set_of, entry_owned}
 use Rattle.zone_denial.specs.Authority.{is_authoritative, is_below_cut, owns_besides}
 use Rattle.zone_denial.specs.AuthoritativeKeys.{authoritative_keys}
-use Rattle.zone_denial.specs.Chains.{chain_sets, stays, is_delegation, is_below_dname, is_told_at_delegation, has_signature, IsRightList, IsInNsecChain, IsNsecChain, next_owner}
+use Rattle.zone_denial.specs.Chains.{chain_sets, stays, is_delegation, is_below_dname, is_stated_at_delegation, has_signature, IsRightList, IsInNsecChain, IsNsecChain, next_owner}
 use Rattle.zone_denial.specs.NsecCircle.{next_of, types_of}
 use Rattle.zone_denial.proofs.Ascending.{Ascends-from_sorted}
 use Rattle.zone_denial.proofs.Chains.ChainSets.{sets_are, is_zone, one_kind, found_entry}
 use Rattle.zone_denial.proofs.Names.AuthoritativeNames.{authoritative_from, besides_from, from_besides}
 use Rattle.zone_denial.proofs.Sets.CircleKeys.{circle_key_from, circle_key_in}
-use Rattle.zone_verify.specs.Lists.{IsListed, IsKeyListed, tells_at}
+use Rattle.zone_verify.specs.Lists.{IsListed, IsKeyListed, is_stated_at}
 use Rattle.zone_verify.specs.NsecNames.{HasNsec, IsDenied, IsNsecKey}
 
 -- all NSEC sets belong to the chain
@@ -46,7 +46,7 @@ owners_same (e ∷ m) = by (owners_same m) (stays (Some kind.Nsec) e.0.record_ty
 
 module _ (origin : Name) (all : Sets) (zone : IsZone all) (begins : owns (chain_sets (Some kind.Nsec) all) origin NSEC ≡ true)
     (ks : List RrKey) (keys_are : ks ≡ authoritative_keys origin (chain_sets (Some kind.Nsec) all) NSEC3)
-    (right : (k : RrKey) → Contains ks k → IsNsecKey origin (chain_sets (Some kind.Nsec) all) k)
+    (right : (k : RrKey) → Contains ks k → IsNsecKey origin all (chain_sets (Some kind.Nsec) all) k)
     (owned : (n : Name) → owns all n NSEC ≡ true → Contains ks (key n NSEC))
     (linked : (n : Name) (s : RRset) → set_at all n NSEC ≡ Some s → next_of s ≡ Some (next_owner origin all n)) where
   abbrev m : Sets
@@ -72,7 +72,7 @@ module _ (origin : Name) (all : Sets) (zone : IsZone all) (begins : owns (chain_
       by false e = refl
       by true e = absurd (true≢false (sym k ∙ ap (owns m n) (eqb-true t NSEC3 e) ∙ none_hashed n))
 
-  key_right : (n : Name) (t : ℕ) → is_authoritative origin m NSEC3 n ≡ true → owns m n t ≡ true → IsNsecKey origin m (key n t)
+  key_right : (n : Name) (t : ℕ) → is_authoritative origin m NSEC3 n ≡ true → owns m n t ≡ true → IsNsecKey origin all m (key n t)
   key_right n t on k = right (key n t) (In-Contains (key n t) ks (subst (In (key n t)) (sym keys_are) (circle_key_in origin m NSEC3 n t k (not_hashed n t k) on)))
 
   on_keys : (n : Name) (s : RRset) → set_at m n NSEC ≡ Some s → is_authoritative origin m NSEC3 n ≡ true
@@ -87,14 +87,14 @@ module _ (origin : Name) (all : Sets) (zone : IsZone all) (begins : owns (chain_
   -- a key of a name that has an NSEC set is listed in that
   record Listed (n : Name) (s : RRset) (k : RrKey) : Type 0 where
     pub types : List RecordType
-    pub has : HasNsec m n (delegated n) types
+    pub has : HasNsec all m n (delegated n) types
     pub same : has.set ≡ s
     pub listed : IsKeyListed m (delegated n) types k
 
   listed_in : (n : Name) (s : RRset) → set_at m n NSEC ≡ Some s → (t : ℕ) → owns m n t ≡ true → Listed n s (key n t)
   listed_in n s e t k = let r = key_right n t (on_keys n s e) k in by r.types r.denied r.listed
     where
-      by : (o : Option (List RecordType)) → IsDenied origin m n o → IfSome o (λ types. IsKeyListed m (delegated n) types (key n t)) → Listed n s (key n t)
+      by : (o : Option (List RecordType)) → IsDenied origin all m n o → IfSome o (λ types. IsKeyListed m (delegated n) types (key n t)) → Listed n s (key n t)
       by None d l = absurd (not_both (set_at m n NSEC) s d.1 e)
       by (Some types) d l = record { types = types; has = d; same = same_set (set_at m n NSEC) d.set s d.stands e; listed = l }
 
@@ -117,7 +117,7 @@ module _ (origin : Name) (all : Sets) (zone : IsZone all) (begins : owns (chain_
       let r = key_right n some.0 on some.2 in
       by r.types r.denied
     where
-      by : (o : Option (List RecordType)) → IsDenied origin m n o → (owns m n NSEC ≡ true) ⊎ (is_below_dname m n ≡ true)
+      by : (o : Option (List RecordType)) → IsDenied origin all m n o → (owns m n NSEC ≡ true) ⊎ (is_below_dname m n ≡ true)
       by None d = inr d.0
       by (Some types) d = inl (ap is_some d.stands)
 
@@ -139,22 +139,23 @@ module _ (origin : Name) (all : Sets) (zone : IsZone all) (begins : owns (chain_
     moved : (t u : ℕ) (l : Listed n s (key n t)) → IsListed l.types u → Contains types u
     moved t u l c = subst (λ xs. Contains xs u) (same_list (types_of s) (map (λ t. t.0) l.types) types (ap types_of (sym l.same) ∙ l.has.listed) listed_there) c
 
-    -- what is listed stands there, and what stands there is listed
-    stands : (t : ℕ) → tells_at (delegated n) t ≡ true → (t ≡ RRSIG → ⊥) → Contains types t → owns m n t ≡ true
+    -- what is listed is there, and what is there is listed
+    stands : (t : ℕ) → is_stated_at (delegated n) t ≡ true → (t ≡ RRSIG → ⊥) → Contains types t → owns m n t ≡ true
     stands t told other c = by ((own.has.right.may t c).stands told)
       where
-        by : (t ≡ RRSIG) ⊎ (owns m n t ≡ true) → owns m n t ≡ true
+        by : (t ≡ RRSIG) ⊎ ((owns m n t ≡ true) ⊎ ((t ≡ NSEC) × (owns all n NSEC ≡ true))) → owns m n t ≡ true
         by (inl q) = absurd (other q)
-        by (inr k) = k
+        by (inr (inl k)) = k
+        by (inr (inr k)) = ap (owns m n) k.0 ∙ ap is_some e
 
-    listed : (t : ℕ) → tells_at (delegated n) t ≡ true → owns m n t ≡ true → Contains types t
+    listed : (t : ℕ) → is_stated_at (delegated n) t ≡ true → owns m n t ≡ true → Contains types t
     listed t told k = let l = listed_in n s e t k in moved t t l (l.listed.own told)
 
-    told_not_signature : (t : ℕ) → is_told_at_delegation t ≡ true → t ≡ RRSIG → ⊥
-    told_not_signature t told q = true≢false (sym told ∙ ap is_told_at_delegation q)
+    told_not_signature : (t : ℕ) → is_stated_at_delegation t ≡ true → t ≡ RRSIG → ⊥
+    told_not_signature t told q = true≢false (sym told ∙ ap is_stated_at_delegation q)
 
-    tells_elsewhere : (t : ℕ) → delegated n ≡ false → tells_at (delegated n) t ≡ true
-    tells_elsewhere t d = ap (λ b. not b || is_told_at_delegation t) d
+    tells_elsewhere : (t : ℕ) → delegated n ≡ false → is_stated_at (delegated n) t ≡ true
+    tells_elsewhere t d = ap (λ b. not b || is_stated_at_delegation t) d
 
     signed : delegated n ≡ false → has_signature m n ≡ true → Contains types RRSIG
     signed d h =
@@ -175,9 +176,9 @@ module _ (origin : Name) (all : Sets) (zone : IsZone all) (begins : owns (chain_
     right_list : IsRightList origin m n types
     right_list = record {
       at_delegation = λ d t told.
-          let tells : tells_at (delegated n) t ≡ true = or_right (not (delegated n)) (is_told_at_delegation t) told in
-          (stands t tells (told_not_signature t told), listed t tells);
-      exact = λ d t a b. (stands t (tells_elsewhere t d) a, listed t (tells_elsewhere t d));
+          let is_stated : is_stated_at (delegated n) t ≡ true = or_right (not (delegated n)) (is_stated_at_delegation t) told in
+          (stands t is_stated (told_not_signature t told), listed t is_stated);
+      exact = λ d t a b x. (stands t (tells_elsewhere t d) a, listed t (tells_elsewhere t d));
       signed = signed;
     }
 
@@ -188,6 +189,7 @@ module _ (origin : Name) (all : Sets) (zone : IsZone all) (begins : owns (chain_
       types = types;
       listed = listed_there;
       right = right_list;
+      own = own.has.right.own;
       hashed = (λ c. absurd ((own.has.right.may NSEC3 c).other refl), λ k. absurd (true≢false (sym k ∙ none_hashed n)));
     }
 

@@ -18,6 +18,14 @@ use Rattle.zone_verify.specs.Lists.{MayAllBeListed, IsKeyListed}
 abbrev pub IsNamed : List ChainName → Name → Type 0
 IsNamed names n = (c : ChainName) × Contains names c × (c.name ≡ n)
 
+-- the origin, or the name of one of these keys
+abbrev pub IsKeyName : Name → List RrKey → Name → Type 0
+IsKeyName origin keys n = (n ≡ origin) ⊎ ((k : RrKey) × Contains keys k × (n ≡ k.name))
+
+-- the names above n from the origin on are among these
+abbrev pub HasAncestors : Name → List ChainName → Name → Type 0
+HasAncestors origin names n = (a : Name) → IsAtOrAbove origin a → IsAbove a n → IsNamed names a
+
 module _ (origin : Name) (m : Sets) (hash : Name → Option (List ℕ)) (opt_out : Bool) where
   -- a name with its digest, and with what its NSEC3 set of a single record says, whose flag Opt-Out is that of the chain
   pub record HasNsec3 (c : ChainName) : Type 0 where
@@ -32,29 +40,6 @@ module _ (origin : Name) (m : Sets) (hash : Name → Option (List ℕ)) (opt_out
   -- a name has no NSEC3 set
   abbrev pub HasNone : Name → Type 0
   HasNone n = (d : List ℕ) → hash n ≡ Some d → set_at m (hashed_owner origin d) NSEC3 ≡ None
-
-  -- the origin, or the name of one of these keys
-  abbrev pub IsKeyName : List RrKey → Name → Type 0
-  IsKeyName keys n = (n ≡ origin) ⊎ ((k : RrKey) × Contains keys k × (n ≡ k.name))
-
-  -- a name at or above one of these, at or below the origin; it is one of these, and lists what may be, or it lists nothing
-  pub record IsChainName (keys : List RrKey) (c : ChainName) : Type 0 where
-    pub has : HasNsec3 c
-    pub inside : IsAtOrAbove origin c.name
-    pub below : (n : Name) × IsKeyName keys n × IsAtOrAbove c.name n
-    pub may : MayAllBeListed m c.name (is_delegation origin m c.name) c.data.now.types
-    pub own : (c.data.now.types ≡ []) ⊎ IsKeyName keys c.name
-
-  -- such names, the origin among them, and with each those between it and the origin
-  pub record AreChainNames (keys : List RrKey) (names : List ChainName) : Type 0 where
-    pub each : (c : ChainName) → Contains names c → IsChainName keys c
-    pub begins : IsNamed names origin
-    pub between : (c : ChainName) (a : Name) → Contains names c → IsAtOrAbove origin a → IsAtOrAbove a c.name → IsNamed names a
-
-  -- with a name behind them, that of a key, these are still such names; the last one before was at or above none of those that are new
-  abbrev pub StayChainNames : Name → Name → List ChainName → List ChainName → Type 0
-  StayChainNames last n old new =
-      (keys : List RrKey) → IsNamed old last → IsKeyName keys n → IsAtOrAbove origin n → AreChainNames keys old → AreChainNames keys new
 
   -- a name of these has this list; or it may be left out, and has no set
   abbrev pub IsListedOrLeftOut : List ChainName → Name → Option (List RecordType) → Type 0
@@ -71,8 +56,22 @@ module _ (origin : Name) (m : Sets) (hash : Name → Option (List ℕ)) (opt_out
       ((c : ChainName) × Contains names c × (c.name ≡ k.name) × IsKeyListed m (is_delegation origin m k.name) c.data.now.types k)
       ⊎ (IsTrue (may_be_left_out origin m opt_out k.name) × HasNone k.name)
 
-  -- names behind others: such as list nothing, for the ancestors of a name that aren't at or above the last one
-  pub record AreEmptyBehind (last n : Name) (old new : List ChainName) : Type 0 where
-    pub kept : (c : ChainName) → Contains old c → Contains new c
-    pub added : (c : ChainName) → Contains new c → Contains old c ⊎ (HasNsec3 c × (c.data.now.types ≡ []) × IsAbove c.name n × ¬ IsAtOrAbove c.name last)
-    pub all : (a : Name) → IsAbove a n → ¬ IsAtOrAbove a last → IsNamed new a
+-- m are the sets of the chain, and beside those of the zone
+module _ (origin : Name) (beside m : Sets) (hash : Name → Option (List ℕ)) (opt_out : Bool) where
+  -- a name at or above one of these, at or below the origin; it is one of these, and lists what may be, or it lists nothing
+  pub record IsChainName (keys : List RrKey) (c : ChainName) : Type 0 where
+    pub has : HasNsec3 origin m hash opt_out c
+    pub inside : IsAtOrAbove origin c.name
+    pub below : (n : Name) × IsKeyName origin keys n × IsAtOrAbove c.name n
+    pub may : MayAllBeListed beside m c.name (is_delegation origin m c.name) c.data.now.types
+    pub own : (c.data.now.types ≡ []) ⊎ IsKeyName origin keys c.name
+
+  -- such names, the origin among them, and with each those between it and the origin
+  pub record AreChainNames (keys : List RrKey) (names : List ChainName) : Type 0 where
+    pub each : (c : ChainName) → Contains names c → IsChainName keys c
+    pub begins : IsNamed names origin
+    pub between : (c : ChainName) (a : Name) → Contains names c → IsAtOrAbove origin a → IsAtOrAbove a c.name → IsNamed names a
+
+  -- with those appended for n, the name of a key, these are still such names
+  abbrev pub StayChainNames : Name → List ChainName → List ChainName → Type 0
+  StayChainNames n old new = (keys : List RrKey) → IsKeyName origin keys n → IsAtOrAbove origin n → AreChainNames keys old → AreChainNames keys new

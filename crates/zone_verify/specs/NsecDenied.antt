@@ -7,5 +7,5 @@ use Rattle.zone_verify.specs.declared.nsec.Denied.{Denied}
 use Rattle.zone_verify.specs.NsecNames.{IsDenied}
 
 -- it is known whether this is a delegation, and the name has the set that it has to have
-abbrev pub IsDeniedBy : Name → Sets → Denied → Type 0
-IsDeniedBy origin m d = (d.site.is_delegation ≡ is_delegation origin m d.site.name.now) × IsDenied origin m d.site.name.now (option_copied d.types)
+abbrev pub IsDeniedBy : Name → Sets → Sets → Denied → Type 0
+IsDeniedBy origin beside m d = (d.site.is_delegation ≡ is_delegation origin m d.site.name.now) × IsDenied origin beside m d.site.name.now (option_copied d.types)

@@ -2,12 +2,12 @@
 ghost use Rattle.std.specs.Prelude.{◌≡◌, IfOk, IsOkUnless, option_copied};
 ghost use Rattle.zone_proto.specs.Names.{Name as NameLabels};
 ghost use Rattle.zone_map.specs.Zones.{set_at, owns};
-ghost use Rattle.zone_denial.specs.Chains.{has_parameters, stays};
-ghost use Rattle.zone_denial.specs.Nsec3Circle.{first_nsec3};
+ghost use Rattle.zone_denial.specs.Chains.{stays};
 ghost use Rattle.zone_verify.specs.ChainSets.{kind_of, sets_of};
 
+use zone_denial::chain_sets::has_parameters;
 use zone_map::RecordMap;
-use zone_proto::{LowerName, NSEC3, NSEC3PARAM, ProtoError, RData, RecordSet, RecordType, RrKey};
+use zone_proto::{LowerName, NSEC3PARAM, ProtoError, RecordSet, RecordType, RrKey};
 
 /// The sets of a zone that stay where only those of its chain deny: of the chain of NSEC sets, or of the chain of NSEC3 sets with
 /// these parameters.
@@ -26,14 +26,19 @@ impl<'z> ChainSets<'z> {
         match record_type {
             RecordType::NSEC => self.parameters.is_none(),
             RecordType::NSEC3 => match self.parameters {
-                Some(parameters) => has_parameters(parameters, set),
+                Some(parameters) => has_parameters(
+                    parameters.algorithm,
+                    parameters.salt.as_slice(),
+                    parameters.iterations,
+                    set,
+                ),
                 None => false,
             },
             _ => true,
         }
     }
 
-    /// The set of a name and a type, if one stays. Refused by `Memory` alone.
+    /// The set of a name and a type, if one stays. Its only error is `Memory`.
     pub(crate) fn get(
         &self,
         name: &LowerName,
@@ -52,7 +57,7 @@ impl<'z> ChainSets<'z> {
         ensures { option_copied result
             ≡ set_at (sets_of self.now) key.now.name key.now.record_type.0 }
     {
-        // Its keys ascend, so what a look-up finds is all there is.
+        // Its keys ascend, so what a lookup finds is all there is.
         let _sets = self.records.as_map();
         match self.records.get(key) {
             Some(set) => {
@@ -66,7 +71,7 @@ impl<'z> ChainSets<'z> {
         }
     }
 
-    /// Whether a name owns a type. Refused by `Memory` alone.
+    /// Whether a name owns a type. Its only error is `Memory`.
     pub(crate) fn owns(&self, name: &LowerName, record_type: RecordType) -> Result<bool, ProtoError>
         ensures ok { IfOk result
             (λ owned. owned ≡ owns (sets_of self.now) name.now record_type.0) }
@@ -74,30 +79,18 @@ impl<'z> ChainSets<'z> {
     {
         Ok(self.get(name, record_type)?.is_some())
     }
-}
 
-/// Whether an NSEC3 set belongs to the chain with these parameters (RFC 5155 sections 7.2 and 8.2).
-fn has_parameters(parameters: &NSEC3PARAM, set: &RecordSet) -> bool
-    ensures { result
-        ≡ has_parameters parameters.now.algorithm parameters.now.salt parameters.now.iterations
-        set.now }
-{
-    match first_nsec3(set) {
-        Some(data) => {
-            data.algorithm == parameters.algorithm
-                && (data.salt.as_slice() == parameters.salt.as_slice()
-                    && data.iterations == parameters.iterations)
-        }
-        None => false,
-    }
-}
-
-/// The NSEC3 data of a set's first record.
-pub(crate) fn first_nsec3(set: &RecordSet) -> Option<&NSEC3>
-    ensures { option_copied result ≡ first_nsec3 set.now.records }
-{
-    match &set.as_slice().first()?.rdata {
-        RData::NSEC3(data) => Some(data),
-        _ => None,
+    /// Whether a name owns a type in the zone, among the sets that stay or beside them. Its only error is `Memory`.
+    pub(crate) fn owns_beside(
+        &self,
+        name: &LowerName,
+        record_type: RecordType,
+    ) -> Result<bool, ProtoError>
+        ensures ok { IfOk result
+            (λ owned. owned ≡ owns self.now.records.now name.now record_type.0) }
+        ensures err { IsOkUnless result ProtoError.Memory }
+    {
+        let key = RrKey::new(name.clone()?, record_type);
+        Ok(self.records.get(&key).is_some())
     }
 }

@@ -1,24 +1,15 @@
-//! What stands at and above a name: zone cuts and DNAME.
+//! What is at and above a name: zone cuts and DNAME.
 ghost use Rattle.std.specs.Prelude.{◌≡◌, IfOk, IsOkUnless, IsTrue};
-ghost use Rattle.zone_proto.specs.Names.{is_above};
 ghost use Rattle.zone_denial.specs.Chains.{is_below_dname, is_delegation, is_insecure_delegation};
 ghost use Rattle.zone_verify.specs.ChainSets.{sets_of};
 
 use crate::chain_sets::ChainSets;
+use zone_denial::authoritative_keys::is_above;
+use zone_denial::type_word::DNAME;
 use zone_proto::{LowerName, ProtoError, RecordType};
 
-/// Another name for all names below its owner (RFC 6672 section 2.1).
-const DNAME: RecordType = RecordType(39);
-
-/// Whether a name is a proper ancestor of another.
-pub(crate) fn is_above(ancestor: &LowerName, name: &LowerName) -> bool
-    ensures { result ≡ is_above ancestor.now name.now }
-{
-    ancestor.zone_of(name) && ancestor != name
-}
-
-/// Whether a name is a delegation: strictly below the origin, with NS and without SOA (RFC 1034 section 4.2). Refused by `Memory`
-/// alone.
+/// Whether a name is a delegation: strictly below the origin, with NS and without SOA (RFC 1034 section 4.2). Its only
+/// error is `Memory`.
 pub(crate) fn is_delegation(
     sets: &ChainSets<'_>,
     origin: &LowerName,
@@ -33,7 +24,7 @@ pub(crate) fn is_delegation(
     Ok(!sets.owns(name, RecordType::SOA)?)
 }
 
-/// Whether a name is a delegation without DS (RFC 5155 section 1.3). Refused by `Memory` alone.
+/// Whether a name is a delegation without DS (RFC 5155 section 1.3). Its only error is `Memory`.
 pub(crate) fn is_insecure_delegation(
     sets: &ChainSets<'_>,
     origin: &LowerName,
@@ -49,8 +40,8 @@ pub(crate) fn is_insecure_delegation(
     Ok(!sets.owns(name, RecordType::DS)?)
 }
 
-/// Whether a DNAME stands above a name, so that what the name owns is never answered (RFC 6672 section 2.4). It looks at each
-/// ancestor. Refused by `Memory` alone.
+/// Whether a DNAME is above a name, so that what the name owns is never answered (RFC 6672 section 2.4). It looks at
+/// each ancestor. Its only error is `Memory`.
 pub(crate) fn is_below_dname(sets: &ChainSets<'_>, name: &LowerName) -> Result<bool, ProtoError>
     ensures ok { IfOk result
         (λ is. IsTrue is → IsTrue (is_below_dname (sets_of sets.now) name.now)) }

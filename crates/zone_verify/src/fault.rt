@@ -3,6 +3,7 @@ ghost use Rattle.std.specs.Prelude.{◌≡◌, IfOk, IsOkUnless};
 
 use std::alloc::AllocFailed;
 use thiserror::Error;
+use zone_denial::type_word::TypeWord;
 use zone_proto::{LowerName, Name, ProtoError, RecordType};
 
 /// Why the NSEC or NSEC3 sets of a zone are no chain. The types that come first are NSEC or NSEC3, and names are those of the zone,
@@ -22,11 +23,11 @@ pub enum ChainFault {
     /// The set of a name has several records.
     #[error("the {1} of {0} has several records")]
     Several(Name, RecordType),
-    /// The list of a name lacks a type that stands there, or RRSIG where something is signed.
-    #[error("the {1} of {0} doesn't list {2}, which stands there")]
+    /// The list of a name lacks a type that the name owns, or RRSIG where something is signed.
+    #[error("the {1} of {0} doesn't list {word}, which stands there", word = TypeWord(*.2))]
     Lacks(Name, RecordType, RecordType),
-    /// The list of a name has a type that doesn't stand there.
-    #[error("the {1} of {0} lists {2}, which doesn't stand there")]
+    /// The list of a name has a type that the name doesn't own.
+    #[error("the {1} of {0} lists {word}, which doesn't stand there", word = TypeWord(*.2))]
     Lists(Name, RecordType, RecordType),
     /// The list of a name has no type but NSEC and RRSIG: a name that owns nothing else has no NSEC (RFC 4035 section 2.3).
     #[error("the NSEC of {0} lists nothing else that stands there")]
@@ -40,9 +41,6 @@ pub enum ChainFault {
     /// The origin has no NSEC3PARAM (RFC 5155 section 4).
     #[error("no NSEC3PARAM stands at the origin")]
     NoParameters,
-    /// The root zone can't be denied by NSEC3 here.
-    #[error("the root zone is denied by NSEC3")]
-    Root,
     /// The hash has no digest of a name: it doesn't know the algorithm with this number.
     #[error("names can't be hashed by the algorithm {0}")]
     Hash(u8),
@@ -76,7 +74,7 @@ impl From<ProtoError> for ChainFault {
     }
 }
 
-/// A name as a fault tells it. Refused by `Memory` alone.
+/// A name as a fault tells it. Its only error is `Memory`.
 pub(crate) fn told(name: &LowerName) -> Result<Name, ProtoError>
     ensures ok { IfOk result (λ n. n ≡ name.now) }
     ensures err { IsOkUnless result ProtoError.Memory }

@@ -1,5 +1,5 @@
-//! Whether the sets of denial of a zone are a chain: one through all names that the zone is authoritative for, with the right
-//! next names and the right lists of types (RFC 4035 section 2.3, RFC 5155 section 7.1), as signers write it.
+//! Whether the NSEC or NSEC3 sets of a zone form a chain: one through all names that the zone is authoritative for, with the
+//! right next names and the right type lists (RFC 4035 section 2.3, RFC 5155 section 7.1), as signers write it.
 //!
 //! [`verify_nsec`] and [`verify_nsec3`] say that they are, by the definition that the laws of denials take, or tell a fault.
 #![tactic(auto)]

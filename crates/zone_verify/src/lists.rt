@@ -1,8 +1,8 @@
-//! Lists of types, compared with what stands at their names.
+//! Lists of types, compared with what is at their names.
 ghost use Rattle.std.specs.Prelude.{◌≡◌, IfOk, IsTrue, OnOk};
-ghost use Rattle.zone_denial.specs.Chains.{is_told_at_delegation};
+ghost use Rattle.zone_denial.specs.Chains.{is_stated_at_delegation};
 ghost use Rattle.zone_verify.specs.ChainSets.{sets_of};
-ghost use Rattle.zone_verify.specs.Lists.{IsKeyListed, IsListed, MayAllBeListed, MayBeListed, is_signed, tells_at};
+ghost use Rattle.zone_verify.specs.Lists.{IsKeyListed, IsListed, MayAllBeListed, MayBeListed, is_signed, is_stated_at};
 
 use crate::chain_sets::ChainSets;
 use crate::fault::{ChainFault, told};
@@ -19,24 +19,25 @@ pub(crate) struct Site<'s> {
 }
 
 impl Site<'_> {
-    /// Whether a list tells of a type whether that stands there.
-    fn tells(&self, record_type: RecordType) -> bool
-        ensures { result ≡ tells_at self.now.is_delegation record_type.0 }
+    /// Whether a list tells of a type whether that is there.
+    fn is_stated(&self, record_type: RecordType) -> bool
+        ensures { result ≡ is_stated_at self.now.is_delegation record_type.0 }
     {
-        !self.is_delegation || is_told_at_delegation(record_type)
+        !self.is_delegation || is_stated_at_delegation(record_type)
     }
 }
 
 /// Whether a list tells of a type at a delegation (RFC 4035 section 2.3, RFC 6840 section 4.1).
-fn is_told_at_delegation(record_type: RecordType) -> bool
-    ensures { result ≡ is_told_at_delegation record_type.0 }
+fn is_stated_at_delegation(record_type: RecordType) -> bool
+    ensures { result ≡ is_stated_at_delegation record_type.0 }
 {
     record_type == RecordType::NS
         || (record_type == RecordType::CNAME
             || (record_type == RecordType::SOA || record_type == RecordType::DS))
 }
 
-/// Checks that the listed types stand there, as far as the list tells of them; RRSIG may be listed anywhere, and NSEC3 nowhere.
+/// Checks that the name owns the listed types, as far as the list says anything of them; RRSIG may be listed anywhere, NSEC where
+/// the zone has it, of this chain or not, and NSEC3 nowhere.
 ///
 /// # Errors
 ///
@@ -47,7 +48,8 @@ pub(crate) fn check_list(
     types: &[RecordType],
 ) -> Result<(), ChainFault>
     ensures ok { OnOk result
-        (MayAllBeListed (sets_of sets.now) site.now.name.now site.now.is_delegation types.now) }
+        (MayAllBeListed sets.now.records.now (sets_of sets.now) site.now.name.now
+        site.now.is_delegation types.now) }
 {
     for record_type in types {
         check_listed(sets, site, *record_type)?;
@@ -55,14 +57,15 @@ pub(crate) fn check_list(
     Ok(())
 }
 
-/// Checks that a listed type stands there, as far as the list tells of it.
+/// Checks that a listed type is there, as far as the list tells of it.
 fn check_listed(
     sets: &ChainSets<'_>,
     site: &Site<'_>,
     record_type: RecordType,
 ) -> Result<(), ChainFault>
     ensures ok { OnOk result
-        (MayBeListed (sets_of sets.now) site.now.name.now site.now.is_delegation record_type.0) }
+        (MayBeListed sets.now.records.now (sets_of sets.now) site.now.name.now
+        site.now.is_delegation record_type.0) }
 {
     if stands(sets, site, record_type)? {
         return Ok(());
@@ -70,7 +73,7 @@ fn check_listed(
     Err(ChainFault::Lists(told(site.name)?, site.denial, record_type))
 }
 
-/// Whether a type may be listed: it stands there, or the list doesn't tell of it. Refused by `Memory` alone.
+/// Whether a type may be listed: it is there, or the list doesn't tell of it. Its only error is `Memory`.
 fn stands(
     sets: &ChainSets<'_>,
     site: &Site<'_>,
@@ -78,14 +81,17 @@ fn stands(
 ) -> Result<bool, ProtoError>
     ensures { IfOk result
         (λ may. IsTrue may
-        → MayBeListed (sets_of sets.now) site.now.name.now site.now.is_delegation
-        record_type.0) }
+        → MayBeListed sets.now.records.now (sets_of sets.now) site.now.name.now
+        site.now.is_delegation record_type.0) }
 {
     if record_type == RecordType::NSEC3 {
         return Ok(false);
     }
-    if record_type == RecordType::RRSIG || !site.tells(record_type) {
+    if record_type == RecordType::RRSIG || !site.is_stated(record_type) {
         return Ok(true);
+    }
+    if record_type == RecordType::NSEC {
+        return sets.owns_beside(site.name, record_type);
     }
     sets.owns(site.name, record_type)
 }
@@ -104,7 +110,7 @@ pub(crate) fn check_key(
     ensures { OnOk result
         (IsKeyListed (sets_of sets.now) site.now.is_delegation types.now key.now) }
 {
-    if site.tells(key.record_type) {
+    if site.is_stated(key.record_type) {
         require_listed(site, types, key.record_type)?;
     }
     if !site.is_delegation && is_signed(sets, key) {
@@ -131,8 +137,18 @@ pub(crate) fn require_listed(
 ) -> Result<(), ChainFault>
     ensures { OnOk result (IsListed types.now record_type.0) }
 {
-    if types.contains(&record_type) {
+    if is_listed(types, record_type) {
         return Ok(());
     }
     Err(ChainFault::Lacks(told(site.name)?, site.denial, record_type))
+}
+
+/// Whether a type is listed. A list that was read is in ascending order, so binary search finds it; any other is read through.
+fn is_listed(types: &[RecordType], record_type: RecordType) -> bool
+    ensures { IsTrue result → IsListed types.now record_type.0 }
+{
+    match types.binary_search(&record_type) {
+        Ok(_) => true,
+        Err(_) => types.contains(&record_type),
+    }
 }

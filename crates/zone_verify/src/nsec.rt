@@ -53,7 +53,7 @@ pub fn verify_nsec(records: &RecordMap, origin: &LowerName) -> Result<(), ChainF
     Ok(())
 }
 
-/// A name of the zone, with the list of its NSEC set; without one where it stands below a DNAME.
+/// A name of the zone, with the list of its NSEC set; without one where it is below a DNAME.
 #[derive(Clone, Copy, Drop)]
 struct Denied<'z> {
     site: Site<'z>,
@@ -68,7 +68,7 @@ fn check_names<'z>(
 ) -> Result<(), ChainFault>
     ensures { OnOk result
         ((k : Key) → Contains (map (λ k. k.now) keys.now) k
-        → IsNsecKey origin.now (sets_of sets.now) k) }
+        → IsNsecKey origin.now sets.now.records.now (sets_of sets.now) k) }
 {
     let mut last = None;
     for key in keys {
@@ -88,9 +88,9 @@ fn denied_at<'z>(
     last: Option<Denied<'z>>,
     key: &'z RrKey,
 ) -> Result<Denied<'z>, ChainFault>
-    requires { IfSome last (IsDeniedBy origin.now (sets_of sets.now)) }
+    requires { IfSome last (IsDeniedBy origin.now sets.now.records.now (sets_of sets.now)) }
     ensures name { IfOk result (λ d. d.site.name.now ≡ key.now.name) }
-    ensures denied { IfOk result (IsDeniedBy origin.now (sets_of sets.now)) }
+    ensures denied { IfOk result (IsDeniedBy origin.now sets.now.records.now (sets_of sets.now)) }
 {
     match last {
         Some(denied) if *denied.site.name == key.name => Ok(denied),
@@ -105,7 +105,7 @@ fn denied_name<'z>(
     name: &'z LowerName,
 ) -> Result<Denied<'z>, ChainFault>
     ensures name { IfOk result (λ d. d.site.name.now ≡ name.now) }
-    ensures denied { IfOk result (IsDeniedBy origin.now (sets_of sets.now)) }
+    ensures denied { IfOk result (IsDeniedBy origin.now sets.now.records.now (sets_of sets.now)) }
 {
     let site = Site {
         name,
@@ -126,7 +126,8 @@ fn denied_name<'z>(
     }
 }
 
-/// Checks that what an NSEC set lists stands there, with another type than NSEC and RRSIG.
+/// Checks that the name owns what its NSEC set lists, that NSEC is listed unless at a delegation, and that the name owns another
+/// type too.
 fn check_own_list(
     sets: &ChainSets<'_>,
     site: &Site<'_>,
@@ -135,17 +136,18 @@ fn check_own_list(
     requires { IsTrue site.now.is_delegation
         → IsTrue (owns (sets_of sets.now) site.now.name.now ns_type) }
     ensures { OnOk result
-        (IsRightOwnList (sets_of sets.now) site.now.name.now site.now.is_delegation types.now) }
+        (IsRightOwnList sets.now.records.now (sets_of sets.now) site.now.name.now
+        site.now.is_delegation types.now) }
 {
     check_list(sets, site, types)?;
     if site.is_delegation {
         return Ok(());
     }
     require_listed(site, types, RecordType::NSEC)?;
-    if !lists_others(types) {
-        return Err(ChainFault::ListsNothing(told(site.name)?));
+    if lists_others(types) || sets.owns(site.name, RecordType::RRSIG)? {
+        return Ok(());
     }
-    Ok(())
+    Err(ChainFault::ListsNothing(told(site.name)?))
 }
 
 /// Whether a list has another type than NSEC and RRSIG.
@@ -242,7 +244,7 @@ fn nsec_entries<'z>(
     Ok(entries)
 }
 
-/// Those that stand behind a place.
+/// Those that come after a place.
 fn behind<'e, 'z>(
     entries: &'e [(&'z RrKey, &'z RecordSet)],
     i: usize,

@@ -11,12 +11,12 @@ ghost use Rattle.std.specs.Ordering.{as_partial_cmp, eq_by_cmp};
 ghost use Rattle.std.proofs.Common.{refl};
 ghost use Rattle.zone_verify.specs.Order.{digest_cmp, digest_cmp_total, digest_eq_equiv};
 
-use crate::chain_sets::{ChainSets, first_nsec3};
+use crate::chain_sets::ChainSets;
 use crate::fault::{ChainFault, told};
 use std::cmp::Ordering;
-use zone_proto::{
-    LowerName, NSEC3, NSEC3PARAM, Nsec3Hash, ProtoError, RecordSet, RecordType, Seq, base32_dnssec,
-};
+use zone_denial::chain_sets::first_nsec3;
+use zone_denial::nsec3_sets::hashed_owner;
+use zone_proto::{LowerName, NSEC3, NSEC3PARAM, Nsec3Hash, ProtoError, RecordSet, RecordType, Seq};
 
 /// A zone, and by what its names are hashed.
 #[derive(Drop)]
@@ -113,7 +113,7 @@ impl<'z, H: Nsec3Hash> HashedZone<'z, H> {
         }))
     }
 
-    /// The digest of a name. Refused by `Hash` where there is none, and by `Memory`.
+    /// The digest of a name. Refused by `Hash` if there is none, and by `Memory`.
     fn digest(&self, name: &LowerName) -> Result<Vec<u8>, ChainFault>
         ensures { IfOk result
             (λ d. hash_with (H.digest_of self.now.hash.now) self.now.parameters.now name.now
@@ -142,14 +142,6 @@ impl<'z, H: Nsec3Hash> HashedZone<'z, H> {
             Err(_) => Err(ChainFault::OwnerTooLong(told(name)?)),
         }
     }
-}
-
-/// The owner of the NSEC3 set of a name with this digest (RFC 5155 section 3). Refused where that is no name, and by `Memory`.
-fn hashed_owner(digest: &[u8], origin: &LowerName) -> Result<LowerName, ProtoError>
-    ensures { IfOk result (λ n. n ≡ hashed_owner origin.now digest.now) }
-{
-    let label = base32_dnssec(origin.alloc(), digest)?;
-    origin.prepend_label(label.as_bytes())
 }
 
 /// The data of an NSEC3 set's only record.

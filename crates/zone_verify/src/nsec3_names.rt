@@ -1,20 +1,21 @@
 //! The names that a chain of NSEC3 sets goes through.
-ghost use Rattle.std.specs.Prelude.{◌≡◌, ◌↔◌, List, ◌++◌, ◌∷◌, [], Some, None, map, IfOk, IfSome, OnOk, IsOkUnless, IsFalse, IsTrue, option_copied};
+ghost use Rattle.std.specs.Prelude.{◌≡◌, ◌<◌, List, ◌++◌, ◌∷◌, [], Some, map, IfOk, IfSome, OnOk, IsOkUnless, IsTrue, length, option_copied};
 ghost use Rattle.std.specs.List.{Contains};
+ghost use Rattle.std.specs.Option.{IfNone};
 ghost use Rattle.zone_proto.specs.declared.rr_key.RrKey.{RrKey as Key};
-ghost use Rattle.zone_proto.specs.Names.{Name as NameLabels, IsAbove, IsAtOrAbove};
+ghost use Rattle.zone_proto.specs.Names.{Name as NameLabels, IsAtOrAbove, SharesLabels};
 ghost use Rattle.zone_denial.specs.Chains.{is_delegation, may_be_left_out};
 ghost use Rattle.zone_denial.specs.Nsec3Zones.{hash_with};
 ghost use Rattle.zone_verify.specs.declared.nsec3_name.ChainName.{ChainName as Named};
 ghost use Rattle.zone_verify.specs.ChainSets.{sets_of};
 ghost use Rattle.zone_verify.specs.Lists.{MayAllBeListed};
-ghost use Rattle.zone_verify.specs.Nsec3Names.{HasNsec3, IsNamed, AreChainNames, StayChainNames, IsListedOrLeftOut, IsDeniedIn, IsNsec3Key, AreEmptyBehind};
+ghost use Rattle.zone_verify.specs.Nsec3Names.{AreChainNames, HasAncestors, HasNsec3, IsDeniedIn, IsNamed, IsNsec3Key, StayChainNames};
 
 use crate::delegations::{is_below_dname, is_delegation, is_insecure_delegation};
 use crate::fault::{ChainFault, told};
 use crate::lists::{Site, check_key, check_list};
 use crate::nsec3_name::{ChainName, HashedZone};
-use zone_proto::{LowerName, Nsec3Hash, ProtoError, RecordType, RrKey};
+use zone_proto::{LowerName, Name, Nsec3Hash, ProtoError, RecordType, RrKey};
 
 /// A name of the zone, with the list of its NSEC3 set; without one where the chain leaves it out.
 #[derive(Clone, Copy, Drop)]
@@ -35,7 +36,8 @@ impl<'z, H: Nsec3Hash> HashedZone<'z, H> {
         requires { (k : Key) → Contains (map (λ k. k.now) keys.now) k
             → IsAtOrAbove self.now.origin.now k.name }
         ensures names { IfOk result
-            (λ names. AreChainNames self.now.origin.now (sets_of self.now.sets)
+            (λ names. AreChainNames self.now.origin.now self.now.sets.records.now
+            (sets_of self.now.sets)
             (hash_with (H.digest_of self.now.hash.now) self.now.parameters.now)
             self.now.parameters.now.opt_out
             (map (λ k. k.now) keys.now) names.items) }
@@ -48,24 +50,22 @@ impl<'z, H: Nsec3Hash> HashedZone<'z, H> {
     {
         let mut names = Vec::new(self.origin.alloc());
         let mut denied = self.denied_origin(&mut names)?;
-        // The last name that has a set.
-        let mut last = self.origin;
         for key in keys {
-            let next = self.denied_at(&mut names, last, denied, key)?;
+            let next = self.denied_at(&mut names, denied, key)?;
             if let Some(types) = next.types {
                 check_key(&self.sets, &next.site, types, key)?;
-                last = next.site.name;
             }
             denied = next;
         }
         Ok(names)
     }
 
-    /// Puts the origin behind the names.
+    /// Appends the origin to the names.
     fn denied_origin(&self, names: &mut Vec<ChainName<'z>>) -> Result<Denied<'z>, ChainFault>
         requires { names.now.items ≡ [] }
         ensures names { OnOk result
-            ((keys : List Key) → AreChainNames self.now.origin.now (sets_of self.now.sets)
+            ((keys : List Key) → AreChainNames self.now.origin.now self.now.sets.records.now
+            (sets_of self.now.sets)
             (hash_with (H.digest_of self.now.hash.now) self.now.parameters.now)
             self.now.parameters.now.opt_out
             keys names.new.items) }
@@ -73,7 +73,6 @@ impl<'z, H: Nsec3Hash> HashedZone<'z, H> {
             (IsDeniedIn self.now.origin.now (sets_of self.now.sets)
             (hash_with (H.digest_of self.now.hash.now) self.now.parameters.now)
             self.now.parameters.now.opt_out names.new.items) }
-        ensures there { OnOk result (IsNamed names.new.items self.now.origin.now) }
     {
         match self.find(self.origin)? {
             Some(found) => {
@@ -88,11 +87,15 @@ impl<'z, H: Nsec3Hash> HashedZone<'z, H> {
     fn denied_at(
         &self,
         names: &mut Vec<ChainName<'z>>,
-        last: &LowerName,
         denied: Denied<'z>,
         key: &'z RrKey,
     ) -> Result<Denied<'z>, ChainFault>
-        requires { IsDeniedIn self.now.origin.now (sets_of self.now.sets)
+        requires names { (keys : List Key)
+            × AreChainNames self.now.origin.now self.now.sets.records.now (sets_of self.now.sets)
+            (hash_with (H.digest_of self.now.hash.now) self.now.parameters.now)
+            self.now.parameters.now.opt_out
+            keys names.now.items }
+        requires denied { IsDeniedIn self.now.origin.now (sets_of self.now.sets)
             (hash_with (H.digest_of self.now.hash.now) self.now.parameters.now)
             self.now.parameters.now.opt_out names.now.items denied }
         ensures name { IfOk result (λ d. d.site.name.now ≡ key.now.name) }
@@ -101,42 +104,50 @@ impl<'z, H: Nsec3Hash> HashedZone<'z, H> {
             (hash_with (H.digest_of self.now.hash.now) self.now.parameters.now)
             self.now.parameters.now.opt_out names.new.items) }
         ensures stay { OnOk result
-            (StayChainNames self.now.origin.now (sets_of self.now.sets)
+            (StayChainNames self.now.origin.now self.now.sets.records.now (sets_of self.now.sets)
             (hash_with (H.digest_of self.now.hash.now) self.now.parameters.now)
             self.now.parameters.now.opt_out
-            last.now key.now.name names.old.items names.new.items) }
+            key.now.name names.old.items names.new.items) }
         ensures kept { OnOk result
             ((c : Named) → Contains names.old.items c → Contains names.new.items c) }
     {
         if *denied.site.name == key.name {
             return Ok(denied);
         }
-        self.denied_name(names, last, &key.name)
+        self.denied_name(names, &key.name)
     }
 
-    /// Puts a name behind the others, and before it the names above it that are new; or leaves it out.
+    /// Appends a name to the others, and before it the names above it that are new; or leaves it out, with those above it that have
+    /// no set.
     fn denied_name(
         &self,
         names: &mut Vec<ChainName<'z>>,
-        last: &LowerName,
         name: &'z LowerName,
     ) -> Result<Denied<'z>, ChainFault>
+        requires { (keys : List Key)
+            × AreChainNames self.now.origin.now self.now.sets.records.now (sets_of self.now.sets)
+            (hash_with (H.digest_of self.now.hash.now) self.now.parameters.now)
+            self.now.parameters.now.opt_out
+            keys names.now.items }
         ensures name { IfOk result (λ d. d.site.name.now ≡ name.now) }
         ensures denied { IfOk result
             (IsDeniedIn self.now.origin.now (sets_of self.now.sets)
             (hash_with (H.digest_of self.now.hash.now) self.now.parameters.now)
             self.now.parameters.now.opt_out names.new.items) }
         ensures stay { OnOk result
-            (StayChainNames self.now.origin.now (sets_of self.now.sets)
+            (StayChainNames self.now.origin.now self.now.sets.records.now (sets_of self.now.sets)
             (hash_with (H.digest_of self.now.hash.now) self.now.parameters.now)
             self.now.parameters.now.opt_out
-            last.now name.now names.old.items names.new.items) }
+            name.now names.old.items names.new.items) }
         ensures kept { OnOk result
             ((c : Named) → Contains names.old.items c → Contains names.new.items c) }
     {
+        let without = self.push_new_ancestors(names, name)?;
         match self.find(name)? {
             Some(found) => {
-                self.push_new_ancestors(names, last, name)?;
+                if let Some(ancestor) = without {
+                    return Err(ChainFault::Missing(Name::from(ancestor), RecordType::NSEC3));
+                }
                 let denied = self.push(names, name, found)?;
                 Ok(denied)
             }
@@ -148,7 +159,60 @@ impl<'z, H: Nsec3Hash> HashedZone<'z, H> {
         }
     }
 
-    /// Puts a name that owns something behind the others.
+    /// Appends the ancestors of a name that aren't at or above the last of these names, from the highest down, as long as they have
+    /// sets. They own nothing. Gives the first that has no set, if there is one.
+    fn push_new_ancestors(
+        &self,
+        names: &mut Vec<ChainName<'z>>,
+        name: &LowerName,
+    ) -> Result<Option<LowerName>, ChainFault>
+        requires { (keys : List Key)
+            × AreChainNames self.now.origin.now self.now.sets.records.now (sets_of self.now.sets)
+            (hash_with (H.digest_of self.now.hash.now) self.now.parameters.now)
+            self.now.parameters.now.opt_out
+            keys names.now.items }
+        ensures all { IfOk result
+            (λ without. IfNone without
+            (HasAncestors self.now.origin.now names.new.items name.now)) }
+        ensures stay { OnOk result
+            (StayChainNames self.now.origin.now self.now.sets.records.now (sets_of self.now.sets)
+            (hash_with (H.digest_of self.now.hash.now) self.now.parameters.now)
+            self.now.parameters.now.opt_out
+            name.now names.old.items names.new.items) }
+        ensures kept { OnOk result
+            ((c : Named) → Contains names.old.items c → Contains names.new.items c) }
+    {
+        let shared = shared_with_last(names.as_slice(), name);
+        for upper in shared..name.num_labels().saturating_sub(1) {
+            let ancestor = name.ancestor(upper + 1)?;
+            let Some(found) = self.find_empty(&ancestor)? else {
+                return Ok(Some(ancestor));
+            };
+            names.push(found)?;
+        }
+        Ok(None)
+    }
+
+    /// A name that owns nothing, with its set, if it has one. Refused by `Lists` where that lists anything.
+    fn find_empty(&self, name: &LowerName) -> Result<Option<ChainName<'z>>, ChainFault>
+        ensures name { IfOk result (λ found. IfSome found (λ c. c.name ≡ name.now)) }
+        ensures has { IfOk result
+            (λ found. IfSome found
+            (HasNsec3 self.now.origin.now (sets_of self.now.sets)
+            (hash_with (H.digest_of self.now.hash.now) self.now.parameters.now)
+            self.now.parameters.now.opt_out)) }
+        ensures empty { IfOk result (λ found. IfSome found (λ c. c.data.now.types ≡ [])) }
+    {
+        let Some(found) = self.find(name)? else {
+            return Ok(None);
+        };
+        match found.data.types.as_slice().first() {
+            Some(first) => Err(ChainFault::Lists(told(name)?, RecordType::NSEC3, *first)),
+            None => Ok(Some(found)),
+        }
+    }
+
+    /// Appends a name that owns something to the others.
     fn push(
         &self,
         names: &mut Vec<ChainName<'z>>,
@@ -163,7 +227,7 @@ impl<'z, H: Nsec3Hash> HashedZone<'z, H> {
         ensures types { IfOk result
             (λ d. option_copied d.types ≡ Some found.entry.data.now.types) }
         ensures may { OnOk result
-            (MayAllBeListed (sets_of self.now.sets) name.now
+            (MayAllBeListed self.now.sets.records.now (sets_of self.now.sets) name.now
             (is_delegation self.now.origin.now (sets_of self.now.sets) name.now)
             found.entry.data.now.types) }
     {
@@ -177,7 +241,7 @@ impl<'z, H: Nsec3Hash> HashedZone<'z, H> {
         })
     }
 
-    /// A name with what is told of it.
+    /// A name with what is reported about it.
     fn site<'s>(&self, name: &'s LowerName) -> Result<Site<'s>, ChainFault>
         ensures name { IfOk result (λ s. s.name.now ≡ name.now) }
         ensures delegation { IfOk result
@@ -203,64 +267,15 @@ impl<'z, H: Nsec3Hash> HashedZone<'z, H> {
         }
         Ok(self.parameters.opt_out && is_insecure_delegation(&self.sets, self.origin, name)?)
     }
-
-    /// Puts the ancestors of a name that aren't at or above the last one with a set behind the names, from the highest down. They own
-    /// nothing, and each has to have a set.
-    fn push_new_ancestors(
-        &self,
-        names: &mut Vec<ChainName<'z>>,
-        last: &LowerName,
-        name: &LowerName,
-    ) -> Result<(), ChainFault>
-        ensures { OnOk result
-            (AreEmptyBehind self.now.origin.now (sets_of self.now.sets)
-            (hash_with (H.digest_of self.now.hash.now) self.now.parameters.now)
-            self.now.parameters.now.opt_out
-            last.now name.now names.old.items names.new.items) }
-    {
-        let mut ancestors = new_ancestors(last, name)?;
-        while let Some(ancestor) = ancestors.pop() {
-            let found = self.empty(&ancestor)?;
-            names.push(found)?;
-        }
-        Ok(())
-    }
-
-    /// A name that owns nothing, with its set, which lists nothing.
-    fn empty(&self, name: &LowerName) -> Result<ChainName<'z>, ChainFault>
-        ensures name { IfOk result (λ c. c.name ≡ name.now) }
-        ensures has { IfOk result
-            (HasNsec3 self.now.origin.now (sets_of self.now.sets)
-            (hash_with (H.digest_of self.now.hash.now) self.now.parameters.now)
-            self.now.parameters.now.opt_out) }
-        ensures empty { IfOk result (λ c. c.data.now.types ≡ []) }
-    {
-        let Some(found) = self.find(name)? else {
-            return Err(ChainFault::Missing(told(name)?, RecordType::NSEC3));
-        };
-        match found.data.types.as_slice().first() {
-            Some(first) => Err(ChainFault::Lists(told(name)?, RecordType::NSEC3, *first)),
-            None => Ok(found),
-        }
-    }
 }
 
-/// The ancestors of a name that aren't at or above another one, the longest first. Refused by `Memory` alone.
-fn new_ancestors(last: &LowerName, name: &LowerName) -> Result<Vec<LowerName>, ProtoError>
-    ensures found { IfOk result
-        (λ found. (a : NameLabels)
-        → Contains found.items a ↔ (IsAbove a name.now × ¬ IsAtOrAbove a last.now)) }
-    ensures err { IsOkUnless result ProtoError.Memory }
+/// How many labels at its end a name shares with the last of these names: its ancestors with more labels aren't at or above that.
+fn shared_with_last(names: &[ChainName<'_>], name: &LowerName) -> usize
+    requires { 0 < length names.now }
+    ensures { (last : Named) × Contains names.now last × SharesLabels name.now last.name result }
 {
-    let mut found = Vec::new(name.alloc());
-    let mut ancestor = name.clone()?;
-    for _step in 0..name.num_labels() {
-        ancestor.shorten();
-        if ancestor.zone_of(last) {
-            return Ok(found);
-        }
-        let one = ancestor.clone()?;
-        found.push(one)?;
+    match names.last() {
+        Some(last) => name.shared_labels(&last.name),
+        None => 0,
     }
-    Ok(found)
 }

@@ -8,7 +8,7 @@ use Rattle.zone_proto.proofs.Names.NameTree.{name_eq-Decides}
 use Rattle.zone_proto.proofs.Names.Tree.{name_order}
 use Rattle.zone_builder.proofs.checks.is_same.Goals as goal
 
--- names that neither stands before the other are the same, and no others
+-- names that neither comes before the other are the same, and no others
 tied_are_same : (a b : Name) → eq_by_cmp name_cmp a b ≡ name_eq a b
 tied_are_same a b =
     both_ways (eq_by_cmp name_cmp a b) (name_eq a b)

@@ -6,7 +6,7 @@ use Rattle.zone_proto.specs.declared.rr_key.RrKey.{RrKey}
 use Rattle.zone_builder.specs.Groups.{all_records_in, all_signatures_in, AreNamed, AreOrdered, AreSorted, AreUpTo}
 use Rattle.zone_builder.proofs.groups.joined.Given as goal
 
--- under each key stands what all groups that were passed have, and none of these stands after one that is left
+-- under each key stands what all groups that were passed have, and none of these comes after one that is left
 abbrev pub invariant-loop-key : goal.invariant-loop-key
 invariant-loop-key l = record {
   named : AreNamed l.joined.items;

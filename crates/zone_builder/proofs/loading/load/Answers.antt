@@ -1,4 +1,4 @@
-use Rattle.std.proofs.Common.{◌≡◌, ◌⊎◌, ℕ, Bool, List, sym, ap, ◌∙◌, subst}
+use Rattle.std.proofs.Common.{◌≡◌, ◌++◌, ◌⊎◌, ℕ, Bool, List, sym, ap, ◌∙◌, subst}
 use Rattle.std.specs.Prelude.{Some, None, Ok, Err, Result, IfErr, IsErrAnd, filter}
 use Rattle.zone_proto.specs.declared.rr_key.RrKey.{RrKey}
 use Rattle.zone_proto.specs.Keys.{key}
@@ -14,10 +14,12 @@ use Rattle.zone_builder.specs.GroupFaults.{first_fault, group_apex_fault}
 use Rattle.zone_builder.specs.Groups.{Groups, records_in, signatures_in}
 use Rattle.zone_builder.specs.Records.{is_data_of, is_signature_of, records_of}
 use Rattle.zone_builder.specs.Sets.{loaded_set}
+use Rattle.zone_builder.specs.Warnings.{outside_warnings, AreWarnings}
 use Rattle.zone_builder.proofs.Belonging.{are_groups}
 use Rattle.zone_builder.proofs.CnamesAlone.{cnames_alone}
-use Rattle.zone_builder.proofs.Faulting.{records_wrong, wrong_apex, wrong_set, nothing_wrong}
+use Rattle.zone_builder.proofs.Faulting.{all_alone, records_wrong, wrong_apex, wrong_set, nothing_wrong}
 use Rattle.zone_builder.proofs.LoadedSets.{first_of_zone, is_loaded}
+use Rattle.zone_builder.proofs.Warned.{all_told}
 use Rattle.zone_builder.proofs.loading.load.Goals as goal
 
 -- the serial that a slice of groups tells is that of the groups
@@ -25,7 +27,7 @@ serial_in : (slice groups : Groups) (origin : Name) (serial : ℕ) → slice ≡
     → first_serial (records_of (records_in groups (key origin SOA))) ≡ Some serial
 serial_in slice groups origin serial same h = subst (λ (es : Groups). first_serial (records_of (records_in es (key origin SOA))) ≡ Some serial) same h
 
--- what is wrong with the records is what is wrong with what stands at the origin
+-- what is wrong with the records is what is wrong with what is at the origin
 records_told : (origin : Name) (gs : List GivenRecord) (groups : Groups)
     → ((k : RrKey) → records_in groups k ≡ filter (is_data_of origin k) gs) → ((k : RrKey) → signatures_in groups k ≡ filter (is_signature_of origin k) gs)
     → (given : List GivenRecord) → given ≡ gs → class_fault given ≡ None
@@ -79,8 +81,10 @@ returns-in_err-check_groups-clause-fault c =
 pub sets_of-requires : goal.sets_of-requires
 sets_of-requires c =
     let held = c.in_ok-groups.ensures in
+    let groups : Groups = c.in_ok-groups.groups.items in
     record {
       ordered = held.ordered;
+      alone = all_alone c.from-origin.result groups groups (subst (λ (es : Groups). first_fault c.from-origin.result es es ≡ None) c.as_slice-5.ensures.value c.in_ok-check_groups.ensures);
       groups = are_groups c.from-origin.result c.args.records.items c.in_ok-groups.groups.items held.records held.signatures held.named held.ordered;
     }
 
@@ -91,6 +95,15 @@ returns-clause-sets c = λ n t.
     let held = c.in_ok-groups.ensures in
     subst (λ (o : Name). set_at c.in_ok-records.records n t ≡ loaded_set o gs n t) c.from-origin.ensures
     (is_loaded origin gs c.in_ok-groups.groups.items held.records held.signatures c.in_ok-serial.serial (serial_in c.as_slice-3.result.now c.in_ok-groups.groups.items origin c.in_ok-serial.serial c.as_slice-3.ensures.value c.in_ok-serial.ensures.ok) (set_at c.in_ok-records.records n t) n t (c.in_ok-records.ensures.ok (key n t)))
+
+pub returns-clause-warnings : goal.returns-clause-warnings
+returns-clause-warnings c =
+    let origin : Name = c.from-origin.result in
+    let gs : List GivenRecord = c.args.records.items in
+    let held = c.in_ok-groups.ensures in
+    let outside : c.grouped.new.warnings.items ≡ outside_warnings origin gs = held.warned ∙ ap (λ ws. ws ++ outside_warnings origin gs) c.new-warnings.ensures.items in
+    subst (λ (o : Name). AreWarnings o gs c.sets_of.new.warnings.items) c.from-origin.ensures
+    (all_told origin gs c.in_ok-groups.groups.items held.records held.signatures held.ordered c.grouped.new.warnings.items c.sets_of.new.warnings.items outside c.in_ok-records.ensures.warned)
 
 pub returns-clause-faultless : goal.returns-clause-faultless
 returns-clause-faultless c =

@@ -1,6 +1,6 @@
-use Rattle.std.proofs.Common.{rules, ◌≡◌, [], sym, ap, ◌∙◌, subst}
+use Rattle.std.proofs.Common.{rules, ◌≡◌, [], ◌++◌, sym, ap, ◌∙◌, subst, append-nil}
 use Rattle.std.specs.Prelude.{Option, Result, Ok, Err, IfOk, option_and_then}
-use Rattle.std.specs.List.{AllByRecursion}
+use Rattle.std.specs.List.{AllByRecursion, flat_map}
 use Rattle.std.specs.Map.{lookup}
 use Rattle.std.specs.Vec.Iter.{into_iter_items, into_iter_deque}
 use Rattle.std.proofs.lemmas.List.{nil_from_length}
@@ -10,23 +10,31 @@ use Rattle.zone_proto.specs.declared.rr_key.RrKey.{RrKey}
 use Rattle.zone_proto.specs.Keys.{key_eq}
 use Rattle.zone_proto.specs.Sets.{RRset}
 use Rattle.zone_map.specs.Zones.{Sets, set_at, IsStoredAt, AreStored}
-use Rattle.zone_builder.specs.Groups.{IsGroupOf}
+use Rattle.zone_builder.specs.Groups.{group_warnings, AreAlone, IsGroupOf}
 use Rattle.zone_builder.specs.Sets.{set_in}
 use Rattle.zone_builder.proofs.Making.{set_more, sorted_left, sets_with}
+use Rattle.zone_builder.proofs.Warned.{groups_warned, on_ok_always}
 use Rattle.zone_builder.proofs.sets.sets_of.Goals as goal
 
--- a map of sets has what is told of these
+-- a map of sets has what is reported about these
 told : (sets : Sets) (is : RrKey → Option RRset) (r : Result Sets ProtoError) → ((k : RrKey) → set_at sets k.name k.record_type.0 ≡ is k) → IfOk r (λ map. map ≡ sets)
     → IfOk r (λ map. (k : RrKey) → set_at map k.name k.record_type.0 ≡ is k)
 told sets is (Ok map) found h = λ k. ap (λ (m : Sets). set_at m k.name k.record_type.0) h ∙ found k
 told sets is (Err e) found h = tt
 
 pub put_set-requires : goal.put_set-requires
-put_set-requires c = (subst (AllByRecursion (λ e. IsGroupOf e.0 e.1)) c.in-Some.ensures.steps.0 c.loop-key.invariant.groups).0
+put_set-requires c = record {
+  group = (subst (AllByRecursion (λ e. IsGroupOf e.0 e.1)) c.in-Some.ensures.steps.0 c.loop-key.invariant.groups).0;
+  alone = (subst AreAlone c.in-Some.ensures.steps.0 c.loop-key.invariant.alone).0;
+}
 
 pub loop-key-preserved : goal.loop-key-preserved
 loop-key-preserved c = record {
   groups = (subst (AllByRecursion (λ e. IsGroupOf e.0 e.1)) c.in-Some.ensures.steps.0 c.loop-key.invariant.groups).1;
+  alone = (subst AreAlone c.in-Some.ensures.steps.0 c.loop-key.invariant.alone).1;
+  warned =
+      groups_warned c.loop-key.warnings.items c.put_set.new.warnings.items (c.in-Some.key, c.in-Some.group) (into_iter_items c.next.new.self) (into_iter_items c.loop-key.key-iterator) c.in_ok-put_set.ensures.warned c.in-Some.ensures.steps.0
+      ∙ c.loop-key.invariant.warned;
   ordered = sorted_left c.in-Some.key c.in-Some.group (into_iter_items c.next.new.self) (into_iter_items c.loop-key.key-iterator) c.in-Some.ensures.steps.0 c.loop-key.invariant.ordered;
   stored = c.in_ok-put_set.ensures.stored c.loop-key.invariant.stored;
   sets = λ k. set_more c.args.serial c.loop-key.sets.items c.put_set.new.sets.items c.in-Some.key c.in-Some.group (into_iter_items c.next.new.self) (into_iter_items c.loop-key.key-iterator) c.in_ok-put_set.ensures.ok c.in-Some.ensures.steps.0 c.loop-key.invariant.ordered k ∙ c.loop-key.invariant.sets k;
@@ -47,7 +55,16 @@ returns-clause-ok c =
 pub loop-key-init : goal.loop-key-init
 loop-key-init c = record {
   groups = search rules;
+  alone = search rules;
+  warned = search rules;
   ordered = search rules;
   stored = subst AreStored (sym c.in_ok-sets.ensures.items) (All-nil (λ e. IsStoredAt e.0.name e.0.record_type.0 e.1));
   sets = λ k. search rules;
 }
+
+pub returns-clause-warned : goal.returns-clause-warned
+returns-clause-warned c =
+    let left = c.loop-key.key-iterator in
+    let none : into_iter_items left ≡ [] = nil_from_length (into_iter_items left) (sym (into_iter_deque left).ok.0 ∙ c.in-None.ensures.steps.0) in
+    on_ok_always c.from_sets.result
+    (sym (append-nil c.loop-key.warnings.items) ∙ ap (λ es. c.loop-key.warnings.items ++ flat_map group_warnings es) (sym none) ∙ c.loop-key.invariant.warned)

@@ -12,5 +12,5 @@ pub returns : goal.returns
 returns c = λ k i.
     let keys : List (Bor RrKey) = c.args.keys.now in
     let names : List RrKey = map (λ k. k.now) keys in
-    all_passed (IsNsecKey c.args.origin.now (sets_of c.args.sets.now)) names (map (λ (k : Bor RrKey). k.now) (drop c.loop-key.key-index keys))
+    all_passed (IsNsecKey c.args.origin.now c.args.sets.now.records.now (sets_of c.args.sets.now)) names (map (λ (k : Bor RrKey). k.now) (drop c.loop-key.key-index keys))
     (ap (map (λ (k : Bor RrKey). k.now)) (drop_of_length-le keys c.loop-key-test.false)) c.loop-key.invariant.passed k (Contains-In k names i)

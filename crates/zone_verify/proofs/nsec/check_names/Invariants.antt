@@ -10,6 +10,6 @@ use Rattle.zone_verify.proofs.nsec.check_names.Given as goal
 -- each key that isn't left is right
 abbrev pub invariant-loop-key : goal.invariant-loop-key
 invariant-loop-key l = record {
-  last : IfSome l.last (IsDeniedBy l.origin (sets_of l.sets));
-  passed : (k : RrKey) → In k (map (λ k. k.now) l.keys) → In k (map (λ k. k.now) (drop l.key-index l.keys)) ⊎ IsNsecKey l.origin (sets_of l.sets) k;
+  last : IfSome l.last (IsDeniedBy l.origin l.sets.records.now (sets_of l.sets));
+  passed : (k : RrKey) → In k (map (λ k. k.now) l.keys) → In k (map (λ k. k.now) (drop l.key-index l.keys)) ⊎ IsNsecKey l.origin l.sets.records.now (sets_of l.sets) k;
 }

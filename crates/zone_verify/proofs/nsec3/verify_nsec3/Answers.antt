@@ -1,5 +1,5 @@
-use Rattle.std.proofs.Common.{◌≡◌, List, map, sym, ap, ◌∙◌, subst, true≢false, not, IsSorted}
-use Rattle.std.specs.Prelude.{Some, ◌==◌}
+use Rattle.std.proofs.Common.{◌≡◌, List, map, sym, ap, ◌∙◌, subst, not, IsSorted}
+use Rattle.std.specs.Prelude.{Some, is_some, ◌==◌}
 use Rattle.std.specs.Borrow.{Bor}
 use Rattle.std.specs.List.{Contains}
 use Rattle.std.proofs.lemmas.List.Sorted.{Contains-permutation, IsPermutation-sym}
@@ -10,7 +10,7 @@ use Rattle.zone_proto.proofs.Members.{In, Contains-In, and_left, and_right}
 use Rattle.zone_proto.proofs.Names.NameTree.{is_at_or_above_sound}
 use Rattle.zone_denial.specs.Authority.{is_authoritative}
 use Rattle.zone_denial.specs.Chains.{chain_sets}
-use Rattle.zone_map.specs.Zones.{Sets}
+use Rattle.zone_map.specs.Zones.{Sets, set_at}
 use Rattle.zone_proto.specs.declared.nx_proof_kind.NxProofKind.TheVariants as kind
 use Rattle.zone_denial.specs.Nsec3Zones.{hash_with}
 use Rattle.zone_denial.proofs.Sets.CircleKeys.{circle_key_from}
@@ -54,10 +54,16 @@ returns g c =
       chain = (
         map (λ (d : ChainName). d.name) sorted,
         is_nsec3_chain o all c.in_ok-keys.ensures.zone hash p
-            (λ e. true≢false (sym (c.is_root.ensures.1 e) ∙ c.if-is_root.false))
             (sym c.in_ok-owns.ensures.ok ∙ c.if-not-branch.false) ks is sorted
-            (are_moved o m hash p.opt_out ks found sorted to from c.in_ok-names.ensures.names)
+            (are_moved o all m hash p.opt_out ks found sorted to from c.in_ok-names.ensures.names)
             (λ k i. listed_kept o m hash p.opt_out found sorted to k (c.in_ok-names.ensures.keys k i))
             c.in_ok-check_links.ensures c.in_ok-check_owners.ensures,
       );
+      origin =
+          let begins = c.in_ok-names.ensures.names.begins in
+          let has = (c.in_ok-names.ensures.names.each begins.0 begins.1).has in (
+            begins.0.digest,
+            ap hash (sym begins.2) ∙ has.digest,
+            ap is_some (ap (λ w. set_at m w NSEC3) (sym has.owner) ∙ has.stands),
+          );
     }

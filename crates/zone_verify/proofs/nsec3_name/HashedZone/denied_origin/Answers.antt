@@ -13,7 +13,7 @@ returns-in_ok-denied-in-Some-clause-names g c = λ keys.
     let m = sets_of c.args.self.now.sets in
     let hash = hash_with (g.H.Nsec3Hash.digest_of c.args.self.now.hash.now) c.args.self.now.parameters.now in
     let opt = c.args.self.now.parameters.now.opt_out in
-    origin_alone o m hash opt c.args.names.now.items c.push.new.names.items c.in-Some.found c.requires c.in_ok-denied-in-Some.ensures.pushed
+    origin_alone o c.args.self.now.sets.records.now m hash opt c.args.names.now.items c.push.new.names.items c.in-Some.found c.requires c.in_ok-denied-in-Some.ensures.pushed
     (subst (λ (f : Option ChainName). IfSome f (HasNsec3 o m hash opt)) c.in-Some.is c.in_ok-found.ensures.has)
     (subst (λ (f : Option ChainName). IfSome f (λ d. d.name ≡ o)) c.in-Some.is c.in_ok-found.ensures.name) c.in_ok-denied-in-Some.ensures.may keys
 

@@ -5,14 +5,13 @@ use Rattle.std.specs.List.{Contains}
 use Rattle.std.specs.Prelude.{option_copied}
 use Rattle.std.proofs.lemmas.List.{drop_more}
 use Rattle.std.proofs.lemmas.List.Elements.{Contains-get_or}
-use Rattle.zone_proto.specs.Names.{Name}
 use Rattle.zone_proto.specs.declared.rr_key.RrKey.{RrKey}
 use Rattle.zone_proto.proofs.Members.{Contains-In, In-Contains, In-map}
 use Rattle.zone_denial.specs.Nsec3Zones.{hash_with}
 use Rattle.zone_verify.specs.ChainSets.{sets_of}
-use Rattle.zone_verify.specs.Nsec3Names.{IsNamed, IsDeniedIn, IsNsec3Key}
+use Rattle.zone_verify.specs.Nsec3Names.{IsDeniedIn, IsNsec3Key}
 use Rattle.zone_verify.specs.declared.nsec3_names.Denied.{Denied}
-use Rattle.zone_verify.proofs.Nsec3Chosen.{key_listed, key_left, key_passed, named_by, named_kept}
+use Rattle.zone_verify.proofs.Nsec3Chosen.{key_listed, key_left, key_passed}
 use Rattle.zone_verify.proofs.Passing.{all_passed}
 use Rattle.zone_verify.proofs.nsec3_name.HashedZone.names.Goals as goal
 use Rattle.zone_verify.proofs.nsec3_name.HashedZone.names.Goals.{in-Some+in_ok-check_key, in_default}
@@ -21,12 +20,14 @@ pub loop-key-init : goal.loop-key-init
 loop-key-init g c = record {
   are = c.in_ok-denied.ensures.names (map (λ k. k.now) c.args.keys.now);
   denied = c.in_ok-denied.ensures.denied;
-  last = c.in_ok-denied.ensures.there;
   passed = λ k i. inl i;
 }
 
 pub denied_at-requires : goal.denied_at-requires
-denied_at-requires g c = c.loop-key.invariant.denied
+denied_at-requires g c = record {
+  names = (map (λ k. k.now) c.args.keys.now, c.loop-key.invariant.are);
+  denied = c.loop-key.invariant.denied;
+}
 
 pub loop-key-preserved : goal.loop-key-preserved
 loop-key-preserved g c =
@@ -48,19 +49,14 @@ loop-key-preserved g c =
       | in-Some+in_ok-check_key w ↦ w.denied-is
       | in_default w ↦ w.denied-is
     ] in
-    let last : IsNamed new c.match-next.last.now = elim c.match-next.branch [
-      | in-Some+in_ok-check_key w ↦ subst (λ (r : Bor Name). IsNamed new r.now) (sym w.last-is) (named_by o m hash opt new next.site.name.now (option_copied next.types) w.in-Some.types.now (ap option_copied w.in-Some.is) of.denied.1)
-      | in_default w ↦ subst (λ (r : Bor Name). IsNamed new r.now) (sym w.last-is) (named_kept old new of.kept c.loop-key.last.now v.last)
-    ] in
     let here : IsNsec3Key o m hash opt new k = elim c.match-next.branch [
       | in-Some+in_ok-check_key w ↦ key_listed o m hash opt new next.site.name.now (option_copied next.types) k w.in-Some.types.now next.site.is_delegation of.name of.denied.1 (ap option_copied w.in-Some.is) of.denied.0 w.in_ok-check_key.ensures
       | in_default w ↦ key_left o m hash opt new next.site.name.now (option_copied next.types) k of.name of.denied.1 (ap option_copied w.in_default.is)
     ] in
     let split : map (λ k. k.now) (drop i keys) ≡ k ∷ map (λ k. k.now) (drop (i + 1) keys) = ap (map (λ (x : Bor RrKey). x.now)) (drop_more keys i c.key-item.result c.loop-key-test.true ∙ ap (λ (x : Bor RrKey). x ∷ drop (i + 1) keys) (sym c.key-item.is)) in
     record {
-      are = of.stay ks v.last (inr (k, listed, refl)) (c.requires k listed) v.are;
+      are = of.stay ks (inr (k, listed, refl)) (c.requires k listed) v.are;
       denied = subst (λ (d : Denied). IsDeniedIn o m hash opt new d) (sym same) of.denied;
-      last = last;
       passed = key_passed o m hash opt ks (map (λ (x : Bor RrKey). x.now) (drop i keys)) (map (λ (x : Bor RrKey). x.now) (drop (i + 1) keys)) k old new of.kept split here v.passed;
     }
 

@@ -3,7 +3,7 @@ use Rattle.zone_proto.specs.declared.rr_key.RrKey.{RrKey}
 use Rattle.zone_proto.proofs.Members.{In}
 use Rattle.zone_denial.specs.Nsec3Zones.{hash_with}
 use Rattle.zone_verify.specs.ChainSets.{sets_of}
-use Rattle.zone_verify.specs.Nsec3Names.{IsNamed, AreChainNames, IsDeniedIn, IsNsec3Key}
+use Rattle.zone_verify.specs.Nsec3Names.{AreChainNames, IsDeniedIn, IsNsec3Key}
 use Rattle.zone_verify.proofs.nsec3_name.HashedZone.names.Given as goal
 
 -- the names of the keys that aren't left are among the names, or left out
@@ -12,8 +12,7 @@ invariant-loop-key g l =
     let m = sets_of l.self.sets in
     let hash = hash_with (g.H.Nsec3Hash.digest_of l.self.hash.now) l.self.parameters.now in
     record {
-      are : AreChainNames l.self.origin.now m hash l.self.parameters.now.opt_out (map (λ k. k.now) l.keys) l.names.items;
+      are : AreChainNames l.self.origin.now l.self.sets.records.now m hash l.self.parameters.now.opt_out (map (λ k. k.now) l.keys) l.names.items;
       denied : IsDeniedIn l.self.origin.now m hash l.self.parameters.now.opt_out l.names.items l.denied;
-      last : IsNamed l.names.items l.last;
       passed : (k : RrKey) → In k (map (λ k. k.now) l.keys) → In k (map (λ k. k.now) (drop l.key-index l.keys)) ⊎ IsNsec3Key l.self.origin.now m hash l.self.parameters.now.opt_out l.names.items k;
     }

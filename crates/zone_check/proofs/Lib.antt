@@ -1,0 +1,2 @@
+pub mod SameSets
+pub mod Served
