@@ -1,4 +1,5 @@
--- No set of an additional section repeats one that stands before it: its sets are the addresses of several hosts, of two types
+-- No set of an additional section repeats one that comes before it: its sets are the addresses of several hosts, of two
+-- types
 use Rattle.std.proofs.Common.{◌≡◌, Bool, true, false, cond, ◌&&◌, List, [], ◌∷◌, ◌++◌, map, refl, sym, ap, ◌∙◌, subst, ◌⊎◌, inl, inr, true≢false}
 use Rattle.std.specs.Prelude.{Option, Some, None, ◌==◌, fold, flat_map, take}
 use Rattle.std.specs.List.{list_any, cons_option}
@@ -13,12 +14,12 @@ use Rattle.zone_lookup.specs.Flattening.{last_set}
 use Rattle.zone_map.specs.Zones.{Sets, set_at, IsZone}
 use Rattle.zone_response.specs.declared.response.Part.{Part}
 use Rattle.zone_response.specs.declared.response.Part.TheVariants as part
-use Rattle.zone_response.specs.Additional.{host_of, with_host, hosts, addresses, turned_host, host_sets, beside, sibling_sets, sibling_glue, glue_of, glue}
+use Rattle.zone_response.specs.Additional.{host_of, with_host, hosts, addresses, diverted_host, host_sets, beside, sibling_sets, sibling_glue, glue_of, glue}
 use Rattle.zone_response.specs.Queries.{Inquiry}
 use Rattle.zone_response.specs.Responses.{additional_sets, glue_at}
 use Rattle.zone_response.specs.Sections.{as_it_is, part_for, is_alike}
 use Rattle.zone_response.specs.Steps.{End, complete, referred, missing, outside, unfollowed, too_long, failed}
-use Rattle.zone_response.specs.Descent.{Turn, cut, renaming, turn}
+use Rattle.zone_response.specs.Descent.{Diversion, cut, renaming, diversion}
 use Rattle.response_laws.specs.Repeats.{repeats}
 use Rattle.response_laws.proofs.Leads.{sent_owner, sent_type}
 use Rattle.response_laws.proofs.Once.{Once, once_both, unlike, same_owners, once_after, Apart, apart_new, apart_differ}
@@ -86,7 +87,7 @@ module _ (m : Sets) (zone : IsZone m) (h : Name) (p : Part) where
       by (Some v) e (Some w) f = both v w e f
 
 module _ (origin : Name) (m : Sets) (zone : IsZone m) (signed : Bool) where
-  turned_once : (below : Bool) (h : Name) (o : Option Turn) → AreOfHost h (turned_host m signed below h o)
+  turned_once : (below : Bool) (h : Name) (o : Option Diversion) → AreOfHost h (diverted_host m signed below h o)
   turned_once below h None = addresses_once m zone h (part_for signed)
   turned_once true h (Some (cut c)) = addresses_once m zone h part.Records
   turned_once false h (Some (cut c)) = none_of h
@@ -95,8 +96,8 @@ module _ (origin : Name) (m : Sets) (zone : IsZone m) (signed : Bool) where
   host_once : (below : Bool) (h : Name) → AreOfHost h (host_sets origin m signed below h)
   host_once below h = by (is_at_or_above origin h)
     where
-      by : (b : Bool) → AreOfHost h (cond b (turned_host m signed below h (turn origin m h A)) [])
-      by true = turned_once below h (turn origin m h A)
+      by : (b : Bool) → AreOfHost h (cond b (diverted_host m signed below h (diversion origin m h A)) [])
+      by true = turned_once below h (diversion origin m h A)
       by false = none_of h
 
   sibling_once : (child h : Name) → AreOfHost h (sibling_sets origin m signed child h)

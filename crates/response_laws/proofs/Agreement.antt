@@ -6,14 +6,14 @@ use Rattle.std.specs.Option.{option_map_or}
 use Rattle.zone_proto.specs.declared.record.Record.{Record}
 use Rattle.zone_proto.specs.declared.response_code.ResponseCode.{ResponseCode}
 use Rattle.zone_proto.specs.declared.response_code.ResponseCode.TheVariants as code
-use Rattle.zone_proto.specs.Names.{Name, name_eq, is_at_or_above, is_wildcard, star_under}
+use Rattle.zone_proto.specs.Names.{Name, name_eq, is_at_or_above, is_wildcard, wildcard_under}
 use Rattle.zone_proto.specs.Sets.{RRset}
 use Rattle.zone_proto.specs.Types.{IN, SOA, ANY, ANAME}
 use Rattle.zone_proto.proofs.Members.{In, In-Contains}
 use Rattle.zone_proto.proofs.Names.NameTree.{name_eq-Decides}
 use Rattle.zone_map.specs.Chains.{chain}
 use Rattle.zone_map.specs.Direct.{is_address}
-use Rattle.zone_map.specs.Wildcards.{exists, closest_encloser, asked_star_exists, found}
+use Rattle.zone_map.specs.Wildcards.{exists, closest_encloser, asked_wildcard_exists, found}
 use Rattle.zone_map.specs.Zones.{Sets, owns_at_or_below}
 use Rattle.zone_map.proofs.ExistingNames.{absent_where_unowned, owned_where_existing}
 use Rattle.zone_map.proofs.Owned.{set_of}
@@ -38,10 +38,10 @@ use Rattle.response_laws.proofs.StandIns.{AreOfLast, addresses_of_last}
 
 -- ---- whether a name is there
 
-module _ (m : Sets) (x : Name) (unstarred : exists m x ≡ false → is_wildcard x ≡ false) where
+module _ (m : Sets) (x : Name) (not_wildcard : exists m x ≡ false → is_wildcard x ≡ false) where
   -- a lookup says the same where neither the name nor one below it owns sets of denial alone
-  star_there : exists m x ≡ false → asked_star_exists m x ≡ is_there m x
-  star_there e = ap (λ o. option_map_or (exists m) o false) (star_asked m x e (unstarred e)) ∙ sym (ap (λ b. b || option_map_or (exists m) (option_map star_under (closest_encloser m x)) false) e)
+  star_there : exists m x ≡ false → asked_wildcard_exists m x ≡ is_there m x
+  star_there e = ap (λ o. option_map_or (exists m) o false) (star_asked m x e (not_wildcard e)) ∙ sym (ap (λ b. b || option_map_or (exists m) (option_map wildcard_under (closest_encloser m x)) false) e)
 
   there_alike : IsNoDenialOwner m x → is_present m x ≡ is_there m x
   there_alike owner = by (exists m x) refl
@@ -52,15 +52,15 @@ module _ (m : Sets) (x : Name) (unstarred : exists m x ≡ false → is_wildcard
 
       by : (b : Bool) → exists m x ≡ b → is_present m x ≡ is_there m x
       by true e =
-          ap (λ b. b || asked_star_exists m x) (owned_where_existing x m e)
-          ∙ sym (ap (λ b. b || option_map_or (exists m) (option_map star_under (closest_encloser m x)) false) e)
-      by false e = ap (λ b. b || asked_star_exists m x) (unowned e (owns_at_or_below m x) refl) ∙ star_there e
+          ap (λ b. b || asked_wildcard_exists m x) (owned_where_existing x m e)
+          ∙ sym (ap (λ b. b || option_map_or (exists m) (option_map wildcard_under (closest_encloser m x)) false) e)
+      by false e = ap (λ b. b || asked_wildcard_exists m x) (unowned e (owns_at_or_below m x) refl) ∙ star_there e
 
   -- where a lookup says that there is no such name, there is none
   gone : is_present m x ≡ false → is_there m x ≡ false
   gone e = by (owns_at_or_below m x) refl e
     where
-      by : (b : Bool) → owns_at_or_below m x ≡ b → b || asked_star_exists m x ≡ false → is_there m x ≡ false
+      by : (b : Bool) → owns_at_or_below m x ≡ b → b || asked_wildcard_exists m x ≡ false → is_there m x ≡ false
       by true f g = absurd (true≢false g)
       by false f g = sym (star_there (absent_where_unowned x m f)) ∙ g
 
@@ -102,8 +102,8 @@ module _ (z : Zone) (q : Query) (r : Sections) (zone : IsOrdinaryZone z.origin z
     response = by_path as_found.1.passes
 
     -- a name of the zone without a set
-    unstarred : (y : Name) → unfound_name (inquiry z q) q.name ≡ Some y → is_at_or_above z.origin y ≡ true → exists z.sets y ≡ false → is_wildcard y ≡ false
-    unstarred y u inside = (query.names y (In-Contains y (searched_names (inquiry z q) q.name) (unfound_searched (inquiry z q) zone query.record_type q.name query.inside y u)) inside).unstarred
+    not_wildcard : (y : Name) → unfound_name (inquiry z q) q.name ≡ Some y → is_at_or_above z.origin y ≡ true → exists z.sets y ≡ false → is_wildcard y ≡ false
+    not_wildcard y u inside = (query.names y (In-Contains y (searched_names (inquiry z q) q.name) (unfound_searched (inquiry z q) zone query.record_type q.name query.inside y u)) inside).not_wildcard
 
     coded : (y : Name) → unfound_name (inquiry z q) q.name ≡ Some y → is_at_or_above z.origin y ≡ true → r.code ≡ cond (is_there z.sets y) code.NoError code.NXDomain
     coded y u inside = response.1.code ∙ as_found.1.unfound y u inside
@@ -113,8 +113,8 @@ module _ (z : Zone) (q : Query) (r : Sections) (zone : IsOrdinaryZone z.origin z
     agrees reply answers denied = record {
       answers = answers;
       denied = denied;
-      unfound = λ y u inside owner. coded y u inside ∙ by_there y inside owner (unstarred y u inside) (is_there m y) refl;
-      name_error = λ y u e. let inside = within y e in coded y u inside ∙ ap (λ b. cond b code.NoError code.NXDomain) (gone m y (unstarred y u inside) (lost y (is_present m y) refl e));
+      unfound = λ y u inside owner. coded y u inside ∙ by_there y inside owner (not_wildcard y u inside) (is_there m y) refl;
+      name_error = λ y u e. let inside = within y e in coded y u inside ∙ ap (λ b. cond b code.NoError code.NXDomain) (gone m y (not_wildcard y u inside) (lost y (is_present m y) refl e));
       no_error = λ out. response.1.code ∙ as_found.1.others out;
     }
       where

@@ -6,7 +6,7 @@ use Rattle.zone_proto.specs.declared.rdata.RData.TheVariants as V
 use Rattle.zone_proto.specs.declared.response_code.ResponseCode.{ResponseCode}
 use Rattle.zone_proto.specs.declared.response_code.ResponseCode.TheVariants as code
 use Rattle.zone_proto.specs.declared.rr_key.RrKey.{RrKey}
-use Rattle.zone_proto.specs.Names.{Name, star_under}
+use Rattle.zone_proto.specs.Names.{Name, wildcard_under}
 use Rattle.zone_proto.specs.Sets.{RRset}
 use Rattle.zone_proto.specs.Types.{A, NS, CNAME, SOA, MX, AAAA, NSEC, NSEC3, ANAME, IN}
 use Rattle.zone_map.specs.Wildcards.{renamed, found}
@@ -51,7 +51,7 @@ abbrev below_b : Name
 below_b = codes "x" ∷ b
 
 abbrev star : Name
-star = star_under origin
+star = wildcard_under origin
 
 abbrev other : Name
 other = codes "b" ∷ codes "other" ∷ []
@@ -83,10 +83,10 @@ inner_refers : IsResponse (zone inner) (asked below_b A) (record (answer []) { a
 unfolding path
 inner_refers = record { code = refl; authoritative = refl; answers = refl; authorities = refl; additionals = refl; glue = refl; left_at = refl }
 
--- ---- a name that begins with `*` (RFC 4592 section 3.3)
+-- ---- a name that begins with `*` (RFC 4592 section 2.3)
 
 abbrev other_star : Name
-other_star = star_under (at_origin (codes "q"))
+other_star = wildcard_under (at_origin (codes "q"))
 
 starred_unfound : looked_up (address star ∷ []) other_star A ≡ None
 starred_unfound = refl
@@ -95,7 +95,7 @@ starred_answered : IsResponse (zone (address star ∷ [])) (asked other_star A) 
 unfolding path
 starred_answered = record { code = refl; authoritative = refl; answers = refl; authorities = refl; additionals = refl; glue = refl; left_at = refl }
 
--- ---- a star that is a delegation (RFC 4592 section 4.2)
+-- ---- a wildcard that is a delegation (RFC 4592 section 4.2)
 
 star_cut_found : looked_up (servers star ∷ []) b A ≡ Some (renamed false star b (servers star).1)
 star_cut_found = refl

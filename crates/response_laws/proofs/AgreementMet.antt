@@ -1,4 +1,5 @@
--- The premises of the agreement are met: a zone with an alias to a name for which a star answers, and with one to a name that isn't there
+-- The premises of the agreement are met: a zone with an alias to a name for which a wildcard answers, and with one to a
+-- name that isn't there
 use Rattle.std.proofs.Common.{◌≡◌, ℕ, true, false, List, [], ◌∷◌, refl, sym, ap, ◌∙◌, subst, true≢false, ◌⊎◌, inl, inr}
 use Rattle.std.specs.Prelude.{codes, Some, None, ◌==◌}
 use Rattle.zone_proto.specs.declared.rdata.RData.TheVariants as V
@@ -6,7 +7,7 @@ use Rattle.zone_proto.specs.declared.response_code.ResponseCode.{ResponseCode}
 use Rattle.zone_proto.specs.declared.response_code.ResponseCode.TheVariants as code
 use Rattle.zone_proto.specs.declared.rr_key.RrKey.{RrKey}
 use Rattle.zone_proto.specs.Keys.{key}
-use Rattle.zone_proto.specs.Names.{Name, name_eq, is_at_or_above, star_under}
+use Rattle.zone_proto.specs.Names.{Name, name_eq, is_at_or_above, wildcard_under}
 use Rattle.zone_proto.specs.Sets.{RRset}
 use Rattle.zone_proto.specs.Types.{A, NS, CNAME, SOA, IN}
 use Rattle.zone_proto.proofs.Members.{In, Contains-In}
@@ -41,7 +42,7 @@ abbrev gone : Name
 gone = at_origin (codes "gone")
 
 abbrev star : Name
-star = star_under (at_origin (codes "w"))
+star = wildcard_under (at_origin (codes "w"))
 
 abbrev made : Name
 made = codes "x" ∷ at_origin (codes "w")
@@ -118,7 +119,7 @@ is_ordinary_zone : IsOrdinaryZone origin sets
 is_ordinary_zone = record {
   zone = is_zone;
   soa = refl;
-  unstarred = refl;
+  not_wildcard = refl;
   inside = λ n t h. inside n t (entries n t h);
   cnames = record { alone = λ n t f h. alone n t (entries n CNAME f) (entries n t h) };
 }
@@ -135,18 +136,18 @@ abbrev inquired : Name → Inquiry
 inquired n = inquiry zone (asked n)
 
 ordinary_a : IsOrdinary (inquired a) a
-ordinary_a = record { unturned = refl; unstarred = λ k. refl; uncut_star = λ w e. absurd cc; nsec = λ e. absurd (other_type A 47 refl refl e) }
+ordinary_a = record { unturned = refl; not_wildcard = λ k. refl; uncut_wildcard = λ w e. absurd cc; nsec = λ e. absurd (other_type A 47 refl refl e) }
 
 ordinary_c : IsOrdinary (inquired c) c
-ordinary_c = record { unturned = refl; unstarred = λ k. refl; uncut_star = λ w e. absurd cc; nsec = λ e. absurd (other_type A 47 refl refl e) }
+ordinary_c = record { unturned = refl; not_wildcard = λ k. refl; uncut_wildcard = λ w e. absurd cc; nsec = λ e. absurd (other_type A 47 refl refl e) }
 
 ordinary_made : IsOrdinary (inquired a) made
-ordinary_made = record { unturned = refl; unstarred = λ k. refl; uncut_star = λ w e. let same : star ≡ w = cc in ap (λ n. owns sets n NS) (sym same); nsec = λ e. absurd (other_type A 47 refl refl e) }
+ordinary_made = record { unturned = refl; not_wildcard = λ k. refl; uncut_wildcard = λ w e. let same : star ≡ w = cc in ap (λ n. owns sets n NS) (sym same); nsec = λ e. absurd (other_type A 47 refl refl e) }
 
 ordinary_gone : (n : Name) → IsOrdinary (inquired n) gone
-ordinary_gone n = record { unturned = refl; unstarred = λ k. refl; uncut_star = λ w e. let same : star_under origin ≡ w = cc in ap (λ n. owns sets n NS) (sym same); nsec = λ e. absurd (other_type A 47 refl refl e) }
+ordinary_gone n = record { unturned = refl; not_wildcard = λ k. refl; uncut_wildcard = λ w e. let same : wildcard_under origin ≡ w = cc in ap (λ n. owns sets n NS) (sym same); nsec = λ e. absurd (other_type A 47 refl refl e) }
 
--- behind a stands the set of the star under the name
+-- behind a stands the set of the wildcard at the name
 abbrev made_set : RRset
 made_set = renamed false star made (address star).1
 

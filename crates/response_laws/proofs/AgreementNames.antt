@@ -1,9 +1,9 @@
--- What a lookup finds at a name that nothing refers elsewhere: what the name owns, or what its star does
+-- What a lookup finds at a name that nothing refers elsewhere: what the name owns, or what its wildcard does
 use Rattle.std.proofs.Common.{◌≡◌, ℕ, Bool, true, false, cond, not, ◌&&◌, ◌||◌, List, [], ◌∷◌, drop, refl, sym, ap, ◌∙◌, subst, true≢false, ◌⊎◌, inl, inr, eqb-true}
 use Rattle.std.specs.Prelude.{Option, Some, None, filter, is_some, option_map, option_and_then, ◌==◌}
 use Rattle.std.specs.Option.{option_or}
 use Rattle.std.specs.Ordering.{nat_cmp}
-use Rattle.zone_proto.specs.Names.{Name, name_eq, is_root, is_wildcard, is_at_or_above, star_under, IsAtOrAbove, IsAbove}
+use Rattle.zone_proto.specs.Names.{Name, name_eq, is_root, is_wildcard, is_at_or_above, wildcard_under, IsAtOrAbove, IsAbove}
 use Rattle.zone_proto.specs.Order.{least}
 use Rattle.zone_proto.specs.Sets.{RRset}
 use Rattle.zone_proto.specs.Types.{A, NS, CNAME, SOA, AAAA, DS, ANAME}
@@ -12,11 +12,11 @@ use Rattle.zone_proto.proofs.Names.NameTree.{is_at_or_above_sound, is_at_or_abov
 use Rattle.zone_proto.proofs.Names.Tree.{above_cases}
 use Rattle.zone_map.specs.Direct.{is_delegated, is_delegated_for, nearest_delegation, referral_at, referral, is_address, exact, direct}
 use Rattle.zone_map.specs.Upserts.{is_denial_type, CnamesStandAlone}
-use Rattle.zone_map.specs.Wildcards.{exists, closest_encloser, asked_star, renamed, wildcard, found}
+use Rattle.zone_map.specs.Wildcards.{exists, closest_encloser, asked_wildcard, renamed, wildcard, found}
 use Rattle.zone_map.specs.Zones.{Sets, set_at, owns}
 use Rattle.zone_map.proofs.Delegations.{found_above}
 use Rattle.zone_map.proofs.ExistingNames.{owner_exists}
-use Rattle.zone_map.proofs.Wildcards.{star_is_of_closest_encloser}
+use Rattle.zone_map.proofs.Wildcards.{wildcard_is_of_closest_encloser}
 use Rattle.zone_denial.proofs.Chain.NsecBelow.{above_at, above_through}
 
 -- where what is delegated at a name or above it owns SOA, nothing refers the name
@@ -126,31 +126,31 @@ or_none : (o : Option RRset) → option_or o None ≡ o
 or_none None = refl
 or_none (Some s) = refl
 
--- the star that is asked for a name that doesn't exist and doesn't begin with `*`
-pub star_asked : (m : Sets) (n : Name) → exists m n ≡ false → is_wildcard n ≡ false → asked_star m n ≡ option_map star_under (closest_encloser m n)
+-- the wildcard at the closest encloser of a name that doesn't exist and doesn't begin with `*`
+pub star_asked : (m : Sets) (n : Name) → exists m n ≡ false → is_wildcard n ≡ false → asked_wildcard m n ≡ option_map wildcard_under (closest_encloser m n)
 star_asked m [] e f = refl
-star_asked m (l ∷ n) e f = λ i. cond (f i || e i) None (option_map star_under (closest_encloser m (l ∷ n)))
+star_asked m (l ∷ n) e f = λ i. cond (f i || e i) None (option_map wildcard_under (closest_encloser m (l ∷ n)))
 
 module _ (m : Sets) (signed : Bool) (n : Name) (t : ℕ) (unreferred : referral m n t ≡ None) where
   pub direct_is : direct m n t ≡ exact m n t
   direct_is = ap (λ o. option_or o (exact m n t)) unreferred
 
   -- at a name that exists
-  pub found_there : asked_star m n ≡ None → found m signed n t ≡ exact m n t
+  pub found_there : asked_wildcard m n ≡ None → found m signed n t ≡ exact m n t
   found_there e =
       ap (λ o. option_or (direct m n t) (option_and_then (λ s. option_map (renamed signed s n) (direct m s t)) o)) e
       ∙ or_none (direct m n t) ∙ direct_is
 
-  -- at a name that doesn't, by its star
+  -- at a name that doesn't, by its wildcard
   pub found_by_star : owns m n t ≡ false → exists m n ≡ false → is_wildcard n ≡ false
-      → found m signed n t ≡ option_and_then (λ s. option_map (renamed signed s n) (direct m s t)) (option_map star_under (closest_encloser m n))
-  found_by_star unowned absent unstarred =
+      → found m signed n t ≡ option_and_then (λ s. option_map (renamed signed s n) (direct m s t)) (option_map wildcard_under (closest_encloser m n))
+  found_by_star unowned absent not_wildcard =
       ap (λ o. option_or o (wildcard m signed n t)) (direct_is ∙ exact_absent m n t unowned absent)
-      ∙ ap (option_and_then (λ s. option_map (renamed signed s n) (direct m s t))) (star_asked m n absent unstarred)
+      ∙ ap (option_and_then (λ s. option_map (renamed signed s n) (direct m s t))) (star_asked m n absent not_wildcard)
 
 -- ---- outside a zone nothing is found
 
-module _ (origin : Name) (m : Sets) (inside : (n : Name) (t : ℕ) → owns m n t ≡ true → is_at_or_above origin n ≡ true) (unstarred : is_wildcard origin ≡ false) where
+module _ (origin : Name) (m : Sets) (inside : (n : Name) (t : ℕ) → owns m n t ≡ true → is_at_or_above origin n ≡ true) (not_wildcard : is_wildcard origin ≡ false) where
   unowned_outside : (n : Name) → (IsAtOrAbove origin n → ⊥) → (t : ℕ) → set_at m n t ≡ None
   unowned_outside n out t = by (set_at m n t) refl
     where
@@ -170,20 +170,20 @@ module _ (origin : Name) (m : Sets) (inside : (n : Name) (t : ℕ) → owns m n 
 
   pub found_outside : (signed : Bool) (x : Name) (t : ℕ) → is_at_or_above origin x ≡ false → found m signed x t ≡ None
   found_outside signed x t e =
-      ap (λ o. option_or o (wildcard m signed x t)) (nothing_outside x t out) ∙ by (asked_star m x) refl
+      ap (λ o. option_or o (wildcard m signed x t)) (nothing_outside x t out) ∙ by (asked_wildcard m x) refl
     where
       out : IsAtOrAbove origin x → ⊥
       out u = true≢false (sym (is_at_or_above_complete origin x u) ∙ e)
 
-      under : (a : Name) → IsAbove a x → IsAtOrAbove origin (star_under a) → ⊥
-      under a above u = cases (above_cases origin (star_under a) u)
+      under : (a : Name) → IsAbove a x → IsAtOrAbove origin (wildcard_under a) → ⊥
+      under a above u = cases (above_cases origin (wildcard_under a) u)
         where
-          cases : (origin ≡ star_under a) ⊎ IsAbove origin (star_under a) → ⊥
-          cases (inl same) = true≢false (sym (ap is_wildcard same) ∙ unstarred)
+          cases : (origin ≡ wildcard_under a) ⊎ IsAbove origin (wildcard_under a) → ⊥
+          cases (inl same) = true≢false (sym (ap is_wildcard same) ∙ not_wildcard)
           cases (inr (l, f, q)) = out (above_through origin a x (f, ap (drop 1) q) (above_at a x above))
 
-      by : (o : Option Name) → asked_star m x ≡ o → option_and_then (λ s. option_map (renamed signed s x) (direct m s t)) o ≡ None
+      by : (o : Option Name) → asked_wildcard m x ≡ o → option_and_then (λ s. option_map (renamed signed s x) (direct m s t)) o ≡ None
       by None f = refl
       by (Some w) f =
-          let c = star_is_of_closest_encloser.encloser m x w f in
+          let c = wildcard_is_of_closest_encloser.encloser m x w f in
           ap (option_map (renamed signed w x)) (nothing_outside w t (λ u. under c.0 c.2.above (subst (IsAtOrAbove origin) c.1 u)))

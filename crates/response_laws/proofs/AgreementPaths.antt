@@ -16,14 +16,14 @@ use Rattle.zone_map.specs.Zones.{Sets}
 use Rattle.zone_map.proofs.Chains.{rest_of, rest_none, rest_seen, rest_unfound, rest_more, chain_begins}
 use Rattle.zone_lookup.specs.Flattening.{stands_for_addresses}
 use Rattle.zone_lookup.specs.Replies.{is_followed}
-use Rattle.zone_response.specs.Paths.{is_told_by, unless_told, next_behind, Path, ended, behind, searched, path_from, path}
+use Rattle.zone_response.specs.Paths.{is_sought, unless_answered, next_behind, Path, ended, behind, searched, path_from, path}
 use Rattle.zone_response.specs.Queries.{Inquiry}
 use Rattle.zone_response.specs.Responses.{code_at, fails}
 use Rattle.zone_response.specs.Sections.{as_it_is, part_for, is_signed}
 use Rattle.zone_response.specs.Wildcards.{is_there}
 use Rattle.zone_response.specs.Aname.{addresses, stand_in_answer}
-use Rattle.zone_response.specs.Steps.{End, complete, missing, outside, unfollowed, failed, Next, on, ends, Step, at_end, made_names, after_alias, stood_in_step, turned_step, step}
-use Rattle.zone_response.specs.Descent.{DNAME, turn}
+use Rattle.zone_response.specs.Steps.{End, complete, missing, outside, unfollowed, failed, Next, on, ends, Step, at_end, expanded_names, after_alias, stood_in_step, diverted_step, step}
+use Rattle.zone_response.specs.Descent.{DNAME, diversion}
 use Rattle.response_laws.specs.Agreement.{IsOrdinaryZone, IsOrdinaryType, IsOrdinary, NoStandIn, led_on_to, unfound_name, chain_names, searched_names}
 use Rattle.response_laws.proofs.AgreementNames.{found_outside}
 use Rattle.response_laws.proofs.Leads.{sent_type}
@@ -38,7 +38,8 @@ abbrev pub IsUnfound : ℕ → List Name → Name → List (Name × RRset) → N
 IsUnfound k seen x [] y = (0 < k) × (list_any (name_eq x) seen ≡ false) × (x ≡ y)
 IsUnfound k seen x (e ∷ es) y = (length (e ∷ es) < k) × (last_target (e ∷ es) ≡ Some y) × (list_any (name_eq y) (seen ++ names (e ∷ es)) ≡ false)
 
--- a path from x on that doesn't fail, whose answers are these sets as they go out, and whose code is that of the name that has none
+-- a path from x on that doesn't fail, whose answers are these sets as they are sent, and whose code is that of the name
+-- that has none
 pub record Comes (q : Inquiry) (k : ℕ) (seen : List Name) (x : Name) (es : List (Name × RRset)) (p : Path) : Type 0 where
   pub answers : p.answers ≡ map (as_it_is (part_for q.signed)) (map (λ e. e.1) es)
   pub passes : fails p.end ≡ false
@@ -129,15 +130,15 @@ module _ (q : Inquiry) (zone : IsOrdinaryZone q.origin q.sets) (plain : IsOrdina
 
   -- behind these sets, the path from x on by its step
   abbrev stepped : List RRset → (List RRset → Name → Path) → Step → Path
-  stepped before search s = behind s.answers s.made (searched (search (before ++ s.answers)) (unless_told t (before ++ s.answers) s.next))
+  stepped before search s = behind s.answers s.made (searched (search (before ++ s.answers)) (unless_answered t (before ++ s.answers) s.next))
 
   -- none of these sets is a DNAME
   abbrev HaveNoDname : List RRset → Type 0
   HaveNoDname sets = (r : RRset) → In r sets → (r.record_type == DNAME) ≡ false
 
   -- none tells what is asked for then
-  untold : (sets : List RRset) → HaveNoDname sets → (y : Name) → list_any (is_told_by t y) sets ≡ false
-  untold sets h y = none_any (is_told_by t y) sets (λ r i j. h r i j && name_eq (lower r.owner) y && ((t == DNAME) || (t == RRSIG) && is_signed r))
+  untold : (sets : List RRset) → HaveNoDname sets → (y : Name) → list_any (is_sought t y) sets ≡ false
+  untold sets h y = none_any (is_sought t y) sets (λ r i j. h r i j && name_eq (lower r.owner) y && ((t == DNAME) || (t == RRSIG) && is_signed r))
 
   alias_behind : (sets : List RRset) → HaveNoDname sets → (s : RRset) → is_followed t s ≡ true → HaveNoDname (sets ++ as_it_is (part_for q.signed) s ∷ [])
   alias_behind sets h s followed r i = by (In-from_append r sets (as_it_is (part_for q.signed) s ∷ []) i)
@@ -209,8 +210,8 @@ module _ (q : Inquiry) (zone : IsOrdinaryZone q.origin q.sets) (plain : IsOrdina
       from_x : Goes → list_any (name_eq x) seen ≡ false → (b : Bool) → is_at_or_above q.origin x ≡ b → Here
       from_x goes e true i = let alike_x = first_alike k seen x e alike i in at_x goes e i alike_x.1 (step_as_found q zone plain x i alike_x.0 before)
       from_x goes e false i =
-          bare (outside x) e (found_outside q.origin m zone.inside zone.unstarred q.signed x t i)
-          (ap (λ b. cond b (turned_step q before x (turn q.origin m x t)) (at_end (outside x))) i)
+          bare (outside x) e (found_outside q.origin m zone.inside zone.not_wildcard q.signed x t i)
+          (ap (λ b. cond b (diverted_step q before x (diversion q.origin m x t)) (at_end (outside x))) i)
           (record {
             answers = refl;
             passes = refl;
@@ -341,8 +342,8 @@ module _ (q : Inquiry) (zone : IsOrdinaryZone q.origin q.sets) (plain : IsOrdina
 
   -- ---- so it is of the path
 
-  is : (s : Step) → step q [] x ≡ s → path q x ≡ behind s.answers s.made (searched (path_from q 7 (x ∷ []) s.answers) (unless_told q.record_type s.answers s.next))
-  is s e = path_step q x ∙ ap (λ s. behind s.answers s.made (searched (path_from q 7 (x ∷ []) s.answers) (unless_told q.record_type s.answers s.next))) e
+  is : (s : Step) → step q [] x ≡ s → path q x ≡ behind s.answers s.made (searched (path_from q 7 (x ∷ []) s.answers) (unless_answered q.record_type s.answers s.next))
+  is s e = path_step q x ∙ ap (λ s. behind s.answers s.made (searched (path_from q 7 (x ∷ []) s.answers) (unless_answered q.record_type s.answers s.next))) e
 
   -- where each name that is searched is alike
   module _ (alike : (y : Name) → In y (searched_names q x) → IsAlike q y) where
@@ -417,8 +418,8 @@ module _ (q : Inquiry) (zone : IsOrdinaryZone q.origin q.sets) (plain : IsOrdina
         by (leads_by r made f g other n) = absurd (true≢false (sym g ∙ ap (is_followed q.record_type) (same r f) ∙ unfollowed_so))
         by (lacks star f n) = let p : None ≡ Some s = sym f ∙ e in absurd cc
         by (stands_in r star f g n) =
-            let to : Step = record { answers = as_it_is (part_for q.signed) v ∷ []; made = made_names star x; next = ends complete } in
-            let p : path q x ≡ behind (as_it_is (part_for q.signed) v ∷ []) (made_names star x) (ended complete) =
+            let to : Step = record { answers = as_it_is (part_for q.signed) v ∷ []; made = expanded_names star x; next = ends complete } in
+            let p : path q x ≡ behind (as_it_is (part_for q.signed) v ∷ []) (expanded_names star x) (ended complete) =
             is to (n ∙ ap (λ r. stood_in_step q.is_proved q.signed star x (stand_in_answer q x r)) (same r f) ∙ ap (stood_in_step q.is_proved q.signed star x) leads ∙ ap (λ b. cond b (at_end failed) to) answered) in (
               answers_stood_in s v e unfollowed_so k leads (ap (λ (p : Path). p.answers) p),
               record {

@@ -86,7 +86,7 @@ is_ordinary_zone : IsOrdinaryZone origin sets
 is_ordinary_zone = record {
   zone = is_zone;
   soa = refl;
-  unstarred = refl;
+  not_wildcard = refl;
   inside = λ n t h. inside n t (entries n t h);
   cnames = record { alone = λ n t f h. absurd (no_alias n (entries n CNAME f)) };
 }
@@ -100,7 +100,7 @@ abbrev inquired : Inquiry
 inquired = inquiry zone asked
 
 ordinary : IsOrdinary inquired a
-ordinary = record { unturned = refl; unstarred = λ k. refl; uncut_star = λ w e. absurd cc; nsec = λ e. absurd (other_type A 47 refl refl e) }
+ordinary = record { unturned = refl; not_wildcard = λ k. refl; uncut_wildcard = λ w e. absurd cc; nsec = λ e. absurd (other_type A 47 refl refl e) }
 
 query : IsOrdinaryQuery zone asked
 query = record {

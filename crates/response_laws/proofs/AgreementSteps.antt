@@ -2,7 +2,7 @@
 use Rattle.std.proofs.Common.{◌≡◌, ℕ, Bool, true, false, cond, not, ◌&&◌, ◌||◌, List, [], ◌∷◌, drop, refl, sym, ap, ◌∙◌, true≢false, ◌⊎◌, inl, inr, eqb-true}
 use Rattle.std.specs.Prelude.{Option, Some, None, is_some, option_map, option_and_then, ◌==◌}
 use Rattle.std.specs.Option.{option_map_or}
-use Rattle.zone_proto.specs.Names.{Name, name_eq, is_root, is_at_or_above, star_under, IsAtOrAbove, IsAbove}
+use Rattle.zone_proto.specs.Names.{Name, name_eq, is_root, is_at_or_above, wildcard_under, IsAtOrAbove, IsAbove}
 use Rattle.zone_proto.specs.Sets.{RRset}
 use Rattle.zone_proto.specs.Types.{NS, CNAME, SOA, DS, RRSIG, NSEC, NSEC3, ANY, ANAME}
 use Rattle.zone_proto.proofs.Members.{and_left, and_right}
@@ -26,9 +26,9 @@ use Rattle.zone_response.specs.Nodes.{AtNode, own, alias, stand_in, nothing, ask
 use Rattle.zone_response.specs.Queries.{Inquiry}
 use Rattle.zone_response.specs.Sections.{as_it_is, part_for, is_signed}
 use Rattle.zone_response.specs.Wildcards
-use Rattle.zone_response.specs.Wildcards.{star_of, is_there}
+use Rattle.zone_response.specs.Wildcards.{source_of_synthesis, is_there}
 use Rattle.zone_response.specs.Aname.{stand_in_answer}
-use Rattle.zone_response.specs.Steps.{complete, missing, outside, ends, Step, at_end, made_by, made_names, after_alias, keeps, stood_in_step, node_step, step_at, star_step, name_step, turned_step, step}
+use Rattle.zone_response.specs.Steps.{complete, missing, outside, ends, Step, at_end, as_found_for, expanded_names, after_alias, keeps, stood_in_step, node_step, step_at, wildcard_step, name_step, diverted_step, step}
 use Rattle.response_laws.specs.Agreement.{IsOrdinaryZone, IsOrdinaryType, IsOrdinary}
 use Rattle.response_laws.proofs.AgreementNames.{no_referral, exact_own, exact_alias, exact_stand_in, exact_nothing, exact_absent, direct_is, found_there, found_by_star}
 use Rattle.response_laws.proofs.Leads.{no_target, made_target}
@@ -118,9 +118,9 @@ module _ (q : Inquiry) (zone : IsOrdinaryZone q.origin q.sets) (plain : IsOrdina
   module _ (x : Name) (inside : is_at_or_above q.origin x ≡ true) (ordinary : IsOrdinary q x) where
     -- ---- NSEC is no exception there
 
-    -- the name itself, or the star that is asked for it
+    -- the name itself, or the wildcard at its closest encloser
     abbrev IsAsked : Name → Type 0
-    IsAsked a = (a ≡ x) ⊎ (Wildcards.asked_star m x ≡ Some a)
+    IsAsked a = (a ≡ x) ⊎ (Wildcards.asked_wildcard m x ≡ Some a)
 
     is_nsec : is_denial_type t ≡ true → t ≡ NSEC
     is_nsec e = eqb-true t NSEC (first_of_either (t == NSEC) (t == NSEC3) (differs t NSEC3 plain.no_hashed) e)
@@ -182,15 +182,15 @@ module _ (q : Inquiry) (zone : IsOrdinaryZone q.origin q.sets) (plain : IsOrdina
         by a d (inl k) = k
         by a d (inr k) = own_soa a d k (owns m x SOA) refl
 
-    -- nor the star under a name above it, if that owns no NS
-    star_unreferred : (e : Name) → IsAbove e x → owns m (star_under e) NS ≡ false → referral m (star_under e) t ≡ None
-    star_unreferred e over uncut = no_referral m (star_under e) t (λ a u d. by a (owns_servers (star_under e) a d) (above_cases a (star_under e) u))
+    -- nor the wildcard at a name above it, if that owns no NS
+    star_unreferred : (e : Name) → IsAbove e x → owns m (wildcard_under e) NS ≡ false → referral m (wildcard_under e) t ≡ None
+    star_unreferred e over uncut = no_referral m (wildcard_under e) t (λ a u d. by a (owns_servers (wildcard_under e) a d) (above_cases a (wildcard_under e) u))
       where
         above : (a : Name) → IsAbove a x → (owns m a SOA ≡ true) ⊎ (name_eq a x && (t == DS) ≡ true) → owns m a SOA ≡ true
         above a u (inl k) = k
         above a u (inr k) = absurd (true≢false (sym (and_left (name_eq a x) (t == DS) k) ∙ not_above a x u))
 
-        by : (a : Name) → owns m a NS ≡ true → (a ≡ star_under e) ⊎ IsAbove a (star_under e) → owns m a SOA ≡ true
+        by : (a : Name) → owns m a NS ≡ true → (a ≡ wildcard_under e) ⊎ IsAbove a (wildcard_under e) → owns m a SOA ≡ true
         by a ns (inl same) = absurd (true≢false (sym ns ∙ ap (λ n. owns m n NS) same ∙ uncut))
         by a ns (inr (l, f, p)) = let u = above_above a e x (f, ap (drop 1) p) over in above a u (servers a (above_at a x u) ns)
 
@@ -198,14 +198,14 @@ module _ (q : Inquiry) (zone : IsOrdinaryZone q.origin q.sets) (plain : IsOrdina
 
     module _ (before : List RRset) where
       named_step : step q before x ≡ name_step q x
-      named_step = (λ i. cond (inside i) (turned_step q before x (ordinary.unturned i)) (at_end (outside x)))
+      named_step = (λ i. cond (inside i) (diverted_step q before x (ordinary.unturned i)) (at_end (outside x)))
 
       -- a set as it is found for x
       abbrev of : Option Name → RRset → RRset
       of None s = s
       of (Some w) s = renamed q.signed w x s
 
-      made_as : (star : Option Name) (s : RRset) → made_by (keeps q.signed t) star x s ≡ of star s
+      made_as : (star : Option Name) (s : RRset) → as_found_for (keeps q.signed t) star x s ≡ of star s
       made_as None s = refl
       made_as (Some w) s = ap (λ b. renamed b w x s) (ap (λ b. q.signed || b) signature ∙ right_false q.signed)
 
@@ -217,7 +217,7 @@ module _ (q : Inquiry) (zone : IsOrdinaryZone q.origin q.sets) (plain : IsOrdina
       of_target None s = refl
       of_target (Some w) s = made_target q.signed (Some w) x s
 
-      -- by what the name itself has, or its star
+      -- by what the name itself has, or its wildcard
       at_a_node : (star : Option Name) (a : Name) → IsAsked a → step q before x ≡ step_at q star x a → found m q.signed x t ≡ option_map (of star) (exact m a t) → is_there m x ≡ true → StepAsFound q before x
       at_a_node star a at is finds there = by (finds_at a (beside a at))
         where
@@ -226,15 +226,15 @@ module _ (q : Inquiry) (zone : IsOrdinaryZone q.origin q.sets) (plain : IsOrdina
 
           by : FindsAt m a t → StepAsFound q before x
           by (at_own s n e k target) =
-              answers_by (of star s) (made_names star x) (finds ∙ ap (option_map (of star)) e)
+              answers_by (of star s) (expanded_names star x) (finds ∙ ap (option_map (of star)) e)
               (ap (λ u. (u == CNAME) && not (t == CNAME)) (of_type star s ∙ k) ∙ never_both (t == CNAME))
               (ap (λ u. (u == ANAME) && is_address t) (of_type star s ∙ k) ∙ no_address t)
               (λ other. of_target star s ∙ target other)
-              (is ∙ ap stepped n ∙ (λ i. record { answers = as_it_is (cond (signature i) part.Signatures (part_for q.signed)) (made_as star s i) ∷ []; made = made_names star x; next = ends complete }))
+              (is ∙ ap stepped n ∙ (λ i. record { answers = as_it_is (cond (signature i) part.Signatures (part_for q.signed)) (made_as star s i) ∷ []; made = expanded_names star x; next = ends complete }))
           by (at_alias s n e k other) =
-              leads_by (of star s) (made_names star x) (finds ∙ ap (option_map (of star)) e)
+              leads_by (of star s) (expanded_names star x) (finds ∙ ap (option_map (of star)) e)
               (λ i. ((of_type star s ∙ k) i == CNAME) && not (other i)) other
-              (is ∙ ap stepped n ∙ (λ i. record { answers = as_it_is (part_for q.signed) (made_as star s i) ∷ []; made = made_names star x; next = after_alias (sym (of_target star s) i) }))
+              (is ∙ ap stepped n ∙ (λ i. record { answers = as_it_is (part_for q.signed) (made_as star s i) ∷ []; made = expanded_names star x; next = after_alias (sym (of_target star s) i) }))
           by (at_stand_in s n e k) =
               stands_in (of star s) star (finds ∙ ap (option_map (of star)) e) (ap (λ u. (u == ANAME) && is_address t) (of_type star s) ∙ k)
               (is ∙ ap stepped n ∙ (λ i. stood_in_step q.is_proved q.signed star x (stand_in_answer q x (made_as star s i))))
@@ -246,27 +246,27 @@ module _ (q : Inquiry) (zone : IsOrdinaryZone q.origin q.sets) (plain : IsOrdina
 
       existing : exists m x ≡ true → StepAsFound q before x
       existing e =
-          at_a_node None x (inl refl) (named_step ∙ ap (λ b. cond b (step_at q None x x) (star_step q x (star_of m x))) e)
+          at_a_node None x (inl refl) (named_step ∙ ap (λ b. cond b (step_at q None x x) (wildcard_step q x (source_of_synthesis m x))) e)
           (found_there m q.signed x t unreferred (unasked m x e) ∙ unchanged (exact m x t))
-          (ap (λ b. b || option_map_or (exists m) (star_of m x) false) e)
+          (ap (λ b. b || option_map_or (exists m) (source_of_synthesis m x) false) e)
 
       -- by the encloser of a name that doesn't exist
       absent : exists m x ≡ false → (o : Option Name) → closest_encloser m x ≡ o → StepAsFound q before x
-      absent e o f = by o f (found_by_star m q.signed x t unreferred (unowned x (inl refl) e) e (ordinary.unstarred e) ∙ ap (λ o. from (option_map star_under o)) f)
-          (named_step ∙ (λ i. cond (e i) (step_at q None x x) (star_step q x (option_map star_under (f i)))))
-          (λ i. e i || option_map_or (exists m) (option_map star_under (f i)) false)
+      absent e o f = by o f (found_by_star m q.signed x t unreferred (unowned x (inl refl) e) e (ordinary.not_wildcard e) ∙ ap (λ o. from (option_map wildcard_under o)) f)
+          (named_step ∙ (λ i. cond (e i) (step_at q None x x) (wildcard_step q x (option_map wildcard_under (f i)))))
+          (λ i. e i || option_map_or (exists m) (option_map wildcard_under (f i)) false)
         where
           from : Option Name → Option RRset
           from star = option_and_then (λ s. option_map (renamed q.signed s x) (direct m s t)) star
 
-          starred : (a : Name) → closest_encloser m x ≡ Some a → found m q.signed x t ≡ from (Some (star_under a)) → step q before x ≡ star_step q x (Some (star_under a)) → is_there m x ≡ exists m (star_under a) → (b : Bool) → exists m (star_under a) ≡ b → StepAsFound q before x
-          starred a f finds is there b g = cases b g (finds ∙ ap (option_map (renamed q.signed w x)) (direct_is m q.signed w t (star_unreferred a (longest_is (exists m) x a f).above (ordinary.uncut_star w is_asked))))
+          starred : (a : Name) → closest_encloser m x ≡ Some a → found m q.signed x t ≡ from (Some (wildcard_under a)) → step q before x ≡ wildcard_step q x (Some (wildcard_under a)) → is_there m x ≡ exists m (wildcard_under a) → (b : Bool) → exists m (wildcard_under a) ≡ b → StepAsFound q before x
+          starred a f finds is there b g = cases b g (finds ∙ ap (option_map (renamed q.signed w x)) (direct_is m q.signed w t (star_unreferred a (longest_is (exists m) x a f).above (ordinary.uncut_wildcard w is_asked))))
             where
               w : Name
-              w = star_under a
+              w = wildcard_under a
 
-              is_asked : Wildcards.asked_star m x ≡ Some (star_under a)
-              is_asked = λ i. cond (e i) None (option_map star_under (f i))
+              is_asked : Wildcards.asked_wildcard m x ≡ Some (wildcard_under a)
+              is_asked = λ i. cond (e i) None (option_map wildcard_under (f i))
 
               cases : (b : Bool) → exists m w ≡ b → found m q.signed x t ≡ option_map (renamed q.signed w x) (exact m w t) → StepAsFound q before x
               cases true g finds = at_a_node (Some w) w (inr is_asked) (is ∙ ap (λ b. cond b (step_at q (Some w) x w) (at_end (missing x (Some w) false))) g) finds (there ∙ g)
@@ -274,10 +274,10 @@ module _ (q : Inquiry) (zone : IsOrdinaryZone q.origin q.sets) (plain : IsOrdina
                   lacks (Some w) (finds ∙ ap (option_map (renamed q.signed w x)) (exact_absent m w t (unowned w (inr is_asked) g) g))
                   (is ∙ ap (λ b. cond b (step_at q (Some w) x w) (at_end (missing x (Some w) false))) g ∙ (λ i. at_end (missing x (Some w) (sym (there ∙ g) i))))
 
-          by : (o : Option Name) → closest_encloser m x ≡ o → found m q.signed x t ≡ from (option_map star_under o) → step q before x ≡ star_step q x (option_map star_under o)
-              → is_there m x ≡ option_map_or (exists m) (option_map star_under o) false → StepAsFound q before x
+          by : (o : Option Name) → closest_encloser m x ≡ o → found m q.signed x t ≡ from (option_map wildcard_under o) → step q before x ≡ wildcard_step q x (option_map wildcard_under o)
+              → is_there m x ≡ option_map_or (exists m) (option_map wildcard_under o) false → StepAsFound q before x
           by None f finds is there = lacks None finds (is ∙ (λ i. at_end (missing x None (sym there i))))
-          by (Some a) f finds is there = starred a f finds is there (exists m (star_under a)) refl
+          by (Some a) f finds is there = starred a f finds is there (exists m (wildcard_under a)) refl
 
       pub step_as_found : StepAsFound q before x
       step_as_found = by (exists m x) refl

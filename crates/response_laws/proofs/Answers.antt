@@ -1,4 +1,5 @@
--- The sets of an answer section are the zone's own, those of a star, a CNAME that a DNAME set makes, or addresses for which an ANAME set stands in
+-- The sets of an answer section are the zone's own, those of a wildcard, a CNAME that a DNAME set makes, or addresses
+-- for which an ANAME set stands in
 use Rattle.std.proofs.Common.{◌≡◌, ℕ, zero, suc, Bool, true, false, cond, not, ◌&&◌, List, [], ◌∷◌, ◌++◌, refl, sym, ap, ◌∙◌, subst, ◌⊎◌, inl, inr, eqb-true, true≢false, append_assoc}
 use Rattle.std.specs.Prelude.{Option, Some, None, ◌==◌}
 use Rattle.std.specs.List.{list_any}
@@ -13,27 +14,27 @@ use Rattle.zone_response.specs.declared.response.Part.TheVariants as part
 use Rattle.zone_response.specs.Nodes.{AtNode, chosen_type}
 use Rattle.zone_response.specs.Paths.{next_behind, Path, ended, behind, searched, path_from, path}
 use Rattle.zone_response.specs.Queries.{Inquiry}
-use Rattle.zone_response.specs.Dname.{dname_target, in_place_of, unless_long, made_alias}
+use Rattle.zone_response.specs.Dname.{dname_target, in_place_of, unless_long, synthesized_alias}
 use Rattle.zone_response.specs.Sections.{is_signed, as_it_is, part_for, unless_among}
-use Rattle.zone_response.specs.Wildcards.{star_of}
+use Rattle.zone_response.specs.Wildcards.{source_of_synthesis}
 use Rattle.zone_response.specs.Aname.{StandInAnswer, addresses, no_addresses, untold, stand_in_answer}
-use Rattle.zone_response.specs.Steps.{complete, referred, missing, outside, unfollowed, failed, Next, on, ends, Step, at_end, made_by, made_names, keeps, own_part, stood_in_step, node_step, new_name_step, step_at, step}
+use Rattle.zone_response.specs.Steps.{complete, referred, missing, outside, unfollowed, failed, Next, on, ends, Step, at_end, as_found_for, expanded_names, keeps, own_part, stood_in_step, node_step, new_name_step, step_at, step}
 use Rattle.zone_response.specs.Descent.{DNAME}
-use Rattle.response_laws.specs.Contents.{IsAnswerPart, IsMadeAlias, Origin, own, of_star, of_dname, of_aname}
+use Rattle.response_laws.specs.Contents.{IsAnswerPart, IsSynthesizedAlias, Origin, own, of_wildcard, of_dname, of_aname}
 use Rattle.response_laws.proofs.Dnames.{sent_dname_target, short_is, sent_dname, AreDnames, IsAboveBy, turned_by, stands_among, in_unless}
 use Rattle.response_laws.proofs.LastNames.{dnames_on}
 use Rattle.response_laws.proofs.Leads.{sent_owner, sent_type, asked_stands}
 use Rattle.response_laws.proofs.Origins.{origin_by, origin_in_longer}
 use Rattle.response_laws.proofs.StandIns.{aname_stands, made_signatures, made_ttl}
-use Rattle.response_laws.proofs.Stepped.{NodeOf, has_set, has_alias, has_stand_in, has_nothing, node_of, IsUnturned, StepOf, leaves, refers, fails, new_name, at_name, no_star, at_star, star_gone, step_of}
+use Rattle.response_laws.proofs.Stepped.{NodeOf, has_set, has_alias, has_stand_in, has_nothing, node_of, IsUndiverted, StepOf, leaves, refers, fails, new_name, at_name, no_star, at_wildcard, star_gone, step_of}
 
--- a name that doesn't exist, for which its star answers
+-- a name that doesn't exist, for which its wildcard answers
 pub record IsMade (q : Inquiry) (y w : Name) : Type 0 where
-  pub unturned : IsUnturned q y
+  pub unturned : IsUndiverted q y
   pub absent : exists q.sets y ≡ false
-  pub star : star_of q.sets y ≡ Some w
+  pub star : source_of_synthesis q.sets y ≡ Some w
 
--- the star's set under that name, as it is found for it
+-- the wildcard's set under that name, as it is found for it
 pub record IsMadeFound (q : Inquiry) (y : Name) (u : ℕ) (found : RRset) : Type 0 where
   pub star : Name
   pub made : IsMade q y star
@@ -45,14 +46,14 @@ pub record IsMadeFound (q : Inquiry) (y : Name) (u : ℕ) (found : RRset) : Type
 abbrev pub ByStarOf : Inquiry → List Name → Name → ℕ → RRset → Type 0
 ByStarOf q made y u found = In y made × IsMadeFound q y u found
 
--- a set that answers in a section, where stars answered for these names
+-- a set that answers in a section, where wildcards answered for these names
 abbrev pub IsAnswer : Inquiry → List Name → List RRset → RRset → Type 0
 IsAnswer q made all s = Origin q all (ByStarOf q made) s
 
 among_more : (q : Inquiry) (made more : List Name) (all : List RRset) (s : RRset) → ((y : Name) → In y made → In y more) → IsAnswer q made all s → IsAnswer q more all s
 among_more q made more all s more_of = origin_by q all s (ByStarOf q made) (ByStarOf q more) (λ n t found k. (more_of n k.0, k.1))
 
--- a DNAME set as it goes out has the same TTL and the same target, and makes the same CNAME
+-- a DNAME set as it is sent has the same TTL and the same target, and makes the same CNAME
 sent_ttl : (p : Part) (s : RRset) → (as_it_is p s).ttl ≡ s.ttl
 sent_ttl part.Records s = refl
 sent_ttl part.Signed s = refl
@@ -65,10 +66,10 @@ sent_target q v = by q.signed
     by true = sent_dname_target v
     by false = sent_dname_target v
 
-sent_alias : (q : Inquiry) (v : RRset) (x target : Name) → made_alias v x (in_place_of v.owner target x) ≡ made_alias (sent_dname q v) x (in_place_of (sent_dname q v).owner target x)
+sent_alias : (q : Inquiry) (v : RRset) (x target : Name) → synthesized_alias v x (in_place_of v.owner target x) ≡ synthesized_alias (sent_dname q v) x (in_place_of (sent_dname q v).owner target x)
 sent_alias q v x target = by q.signed
   where
-    by : (b : Bool) → made_alias v x (in_place_of v.owner target x) ≡ made_alias (as_it_is (part_for b) v) x (in_place_of (as_it_is (part_for b) v).owner target x)
+    by : (b : Bool) → synthesized_alias v x (in_place_of v.owner target x) ≡ synthesized_alias (as_it_is (part_for b) v) x (in_place_of (as_it_is (part_for b) v).owner target x)
     by true = refl
     by false = refl
 
@@ -88,21 +89,21 @@ module _ (q : Inquiry) (zone : IsZone q.sets) where
 
   -- ---- one step
 
-  -- the set of the star of x, as it is found for x
-  star_found : (w x a : Name) → (a ≡ w) × IsMade q x w → (u : ℕ) (s : RRset) → set_at m a u ≡ Some s → IsMadeFound q x u (made_by (keeps q.signed t) (Some w) x s)
+  -- the set of the wildcard of x, as it is found for x
+  star_found : (w x a : Name) → (a ≡ w) × IsMade q x w → (u : ℕ) (s : RRset) → set_at m a u ≡ Some s → IsMadeFound q x u (as_found_for (keeps q.signed t) (Some w) x s)
   star_found w x a made u s e =
       record { star = w; made = made.1; stored = s; stands = ap (λ n. set_at m n u) (sym made.0) ∙ e; is = refl }
 
-  -- a set as it is found for x, at the name or at its star
+  -- a set as it is found for x, at the name or at its wildcard
   found_answer : (star : Option Name) (x a : Name) → (star ≡ None → a ≡ x) → ((w : Name) → star ≡ Some w → (a ≡ w) × IsMade q x w) → (u : ℕ) (s : RRset) → set_at m a u ≡ Some s
-      → (p : Part) → IsAnswerPart q p → (all : List RRset) → IsAnswer q (made_names star x) all (as_it_is p (made_by (keeps q.signed t) star x s))
+      → (p : Part) → IsAnswerPart q p → (all : List RRset) → IsAnswer q (expanded_names star x) all (as_it_is p (as_found_for (keeps q.signed t) star x s))
   found_answer None x a here of u s e p g all = own p g (record { name = a; record_type = u; stored = s; stands = e; sent = refl })
   found_answer (Some w) x a here of u s e p g all =
-      of_star p g (record { name = x; record_type = u; found = made_by (keeps q.signed t) (Some w) x s; by_star = (inl refl, star_found w x a (of w refl) u s e); sent = refl })
+      of_wildcard p g (record { name = x; record_type = u; found = as_found_for (keeps q.signed t) (Some w) x s; by_wildcard = (inl refl, star_found w x a (of w refl) u s e); sent = refl })
 
-  -- an ANAME set that stands in for addresses of x, at the name or at its star
+  -- an ANAME set that stands in for addresses of x, at the name or at its wildcard
   aname_found : (star : Option Name) (x a : Name) → (star ≡ None → a ≡ x) → ((w : Name) → star ≡ Some w → (a ≡ w) × IsMade q x w) → (s : RRset) → set_at m a ANAME ≡ Some s
-      → (set_at m x ANAME ≡ Some (made_by (keeps q.signed t) star x s)) ⊎ (In x (made_names star x) × IsMadeFound q x ANAME (made_by (keeps q.signed t) star x s))
+      → (set_at m x ANAME ≡ Some (as_found_for (keeps q.signed t) star x s)) ⊎ (In x (expanded_names star x) × IsMadeFound q x ANAME (as_found_for (keeps q.signed t) star x s))
   aname_found None x a here of s e = inl (ap (λ n. set_at m n ANAME) (sym (here refl)) ∙ e)
   aname_found (Some w) x a here of s e = inr (inl refl, star_found w x a (of w refl) ANAME s e)
 
@@ -114,7 +115,7 @@ module _ (q : Inquiry) (zone : IsZone q.sets) where
       at = node_step q star x
 
       kept : RRset → RRset
-      kept = made_by (keeps q.signed t) star x
+      kept = as_found_for (keeps q.signed t) star x
 
       HasAnswers : Step → Type 0
       HasAnswers v = In s v.answers → (all : List RRset) → IsAnswer q v.made all s
@@ -124,9 +125,9 @@ module _ (q : Inquiry) (zone : IsZone q.sets) where
       only made r h (inr i) all = absurd i
 
       stands_in : (r v : RRset) → set_at m a ANAME ≡ Some r → stand_in_answer q x (kept r) ≡ addresses v → (q.is_proved ≡ true → is_signed v ≡ true) → In s (as_it_is (part_for q.signed) v ∷ [])
-          → (all : List RRset) → IsAnswer q (made_names star x) all s
+          → (all : List RRset) → IsAnswer q (expanded_names star x) all s
       stands_in r v k f signed =
-          only (made_names star x) (as_it_is (part_for q.signed) v)
+          only (expanded_names star x) (as_it_is (part_for q.signed) v)
           (λ all.
           of_aname (record {
             name = x;
@@ -142,7 +143,7 @@ module _ (q : Inquiry) (zone : IsZone q.sets) where
 
       -- addresses, which answer unless they are to be proved and aren't signed
       addressed : (r v : RRset) → set_at m a ANAME ≡ Some r → stand_in_answer q x (kept r) ≡ addresses v → (p : Bool) → q.is_proved ≡ p → (b : Bool) → is_signed v ≡ b
-          → HasAnswers (cond (p && not b) (at_end failed) (record { answers = as_it_is (part_for q.signed) v ∷ []; made = made_names star x; next = ends complete }))
+          → HasAnswers (cond (p && not b) (at_end failed) (record { answers = as_it_is (part_for q.signed) v ∷ []; made = expanded_names star x; next = ends complete }))
       addressed r v k f true e false g = λ i. absurd i
       addressed r v k f true e true g = stands_in r v k f (λ p. g)
       addressed r v k f false e b g = stands_in r v k f (λ p. absurd (true≢false (sym p ∙ e)))
@@ -155,16 +156,16 @@ module _ (q : Inquiry) (zone : IsZone q.sets) where
       by : NodeOf m a t → HasAnswers (step_at q star x a)
       by (has_set r e f) =
           subst (λ n. HasAnswers (at n)) (sym f)
-          (only (made_names star x) (as_it_is (own_part q.signed t) (kept r))
+          (only (expanded_names star x) (as_it_is (own_part q.signed t) (kept r))
           (found_answer star x a here of (chosen_type m a t) r (asked_stands m a t r e) (own_part q.signed t) own_goes_out))
       by (has_alias r e f g) =
           subst (λ n. HasAnswers (at n)) (sym g)
-          (only (made_names star x) (as_it_is (part_for q.signed) (kept r)) (found_answer star x a here of CNAME r f (part_for q.signed) (inl refl)))
+          (only (expanded_names star x) (as_it_is (part_for q.signed) (kept r)) (found_answer star x a here of CNAME r f (part_for q.signed) (inl refl)))
       by (has_stand_in r e f k g) = subst (λ n. HasAnswers (at n)) (sym g) (stood_in r (aname_stands m a t r k) (stand_in_answer q x (kept r)) refl)
       by (has_nothing e f g) = subst (λ n. HasAnswers (at n)) (sym g) (λ i. absurd i)
 
   -- below a DNAME
-  module _ (before : List RRset) (dnames : AreDnames q before) (x : Name) (v : RRset) (target : Name) (a : IsAboveBy q x v) (told : dname_target v ≡ Some target) where
+  module _ (before : List RRset) (dnames : AreDnames q before) (x : Name) (v : RRset) (target : Name) (a : IsAboveBy q x v) (call_concludes : dname_target v ≡ Some target) where
     abbrev sets : List RRset
     sets = unless_among before (sent_dname q v)
 
@@ -174,24 +175,24 @@ module _ (q : Inquiry) (zone : IsZone q.sets) where
     new_name_answers : (o : Option Name) → unless_long (in_place_of v.owner target x) ≡ o → (s : RRset) → In s (new_name_step q.signed t before x v o).answers
         → IsAnswer q (new_name_step q.signed t before x v o).made (before ++ (new_name_step q.signed t before x v o).answers) s
     new_name_answers None e s i = dname_answers (before ++ sets) s i
-    new_name_answers (Some n) e s i = by (In-from_append s sets (made_alias v x n ∷ []) i)
+    new_name_answers (Some n) e s i = by (In-from_append s sets (synthesized_alias v x n ∷ []) i)
       where
-        alias : made_alias v x n ≡ s → IsMadeAlias q (before ++ (sets ++ made_alias v x n ∷ [])) s
+        alias : synthesized_alias v x n ≡ s → IsSynthesizedAlias q (before ++ (sets ++ synthesized_alias v x n ∷ [])) s
         alias same = record {
           dname = sent_dname q v;
-          among = In-Contains (sent_dname q v) (before ++ (sets ++ made_alias v x n ∷ [])) (stands_among q zone before (made_alias v x n ∷ []) x v dnames a);
+          among = In-Contains (sent_dname q v) (before ++ (sets ++ synthesized_alias v x n ∷ [])) (stands_among q zone before (synthesized_alias v x n ∷ []) x v dnames a);
           record_type = sent_type (part_for q.signed) v.ttl v ∙ a.type';
           stands = record { name = a.name; record_type = DNAME; stored = v; stands = a.stands; sent = refl };
           target = target;
-          told = sent_target q v ∙ told;
+          call_concludes = sent_target q v ∙ call_concludes;
           name = x;
           below = subst (λ k. IsAbove k x) (sym (ap lower (sent_owner (part_for q.signed) v.ttl v) ∙ a.owner)) a.above;
-          made = sym same ∙ ap (made_alias v x) (short_is (in_place_of v.owner target x) n e) ∙ sent_alias q v x target;
+          made = sym same ∙ ap (synthesized_alias v x) (short_is (in_place_of v.owner target x) n e) ∙ sent_alias q v x target;
           ttl = ap (λ (r : RRset). r.ttl) (sym same) ∙ sym (sent_ttl (part_for q.signed) v);
         }
 
-        by : In s sets ⊎ In s (made_alias v x n ∷ []) → IsAnswer q [] (before ++ (sets ++ made_alias v x n ∷ [])) s
-        by (inl k) = dname_answers (before ++ (sets ++ made_alias v x n ∷ [])) s k
+        by : In s sets ⊎ In s (synthesized_alias v x n ∷ []) → IsAnswer q [] (before ++ (sets ++ synthesized_alias v x n ∷ [])) s
+        by (inl k) = dname_answers (before ++ (sets ++ synthesized_alias v x n ∷ [])) s k
         by (inr (inl same)) = of_dname (alias same)
         by (inr (inr k)) = absurd k
 
@@ -208,10 +209,10 @@ module _ (q : Inquiry) (zone : IsZone q.sets) where
       by (leaves i e) = of (at_end (outside x)) e (λ i. absurd i)
       by (refers r i f e) = of (at_end (referred r)) e (λ i. absurd i)
       by (fails r f g e) = of (at_end failed) e (λ i. absurd i)
-      by (new_name v target o f told g e) = of (new_name_step q.signed t before x v o) e (new_name_answers before dnames x v target (turned_by q zone x v f) told o g s)
+      by (new_name v target o f call_concludes g e) = of (new_name_step q.signed t before x v o) e (new_name_answers before dnames x v target (turned_by q zone x v f) call_concludes o g s)
       by (at_name u there e) = of (step_at q None x x) e (λ i. node_answers None x x (λ k. refl) (λ w k. absurd cc) s i (before ++ (step_at q None x x).answers))
       by (no_star u absent f e) = of (at_end (missing x None false)) e (λ i. absurd i)
-      by (at_star w u absent f g e) =
+      by (at_wildcard w u absent f g e) =
           of (step_at q (Some w) x w) e
           (λ i. node_answers (Some w) x w (λ k. absurd cc) (λ v k. (same w v k, subst (IsMade q x) (same w v k) (record { unturned = u; absent = absent; star = f }))) s i
           (before ++ (step_at q (Some w) x w).answers))

@@ -1,4 +1,5 @@
--- No set of an answer section repeats one that stands before it: each is of a name that wasn't searched before, or a DNAME set
+-- No set of an answer section repeats one that comes before it: each is of a name that wasn't searched before, or a
+-- DNAME set
 use Rattle.std.proofs.Common.{◌≡◌, ℕ, zero, suc, Bool, true, false, cond, ◌&&◌, ◌||◌, not, List, [], ◌∷◌, ◌++◌, refl, sym, ap, ◌∙◌, subst, ◌⊎◌, inl, inr, true≢false, eqb-true, eq-eqb}
 use Rattle.std.specs.Prelude.{Option, Some, None, ◌==◌}
 use Rattle.std.specs.List.{list_any}
@@ -14,12 +15,12 @@ use Rattle.zone_map.specs.Zones.{Sets, set_at, IsZone}
 use Rattle.zone_response.specs.declared.response.Part.{Part}
 use Rattle.zone_response.specs.declared.response.Part.TheVariants as part
 use Rattle.zone_response.specs.Nodes.{AtNode, chosen_type, stand_in_set}
-use Rattle.zone_response.specs.Paths.{is_told_by, next_behind, Path, ended, behind, searched, path_from, path}
+use Rattle.zone_response.specs.Paths.{is_sought, next_behind, Path, ended, behind, searched, path_from, path}
 use Rattle.zone_response.specs.Queries.{Inquiry}
-use Rattle.zone_response.specs.Dname.{made_alias}
+use Rattle.zone_response.specs.Dname.{synthesized_alias}
 use Rattle.zone_response.specs.Sections.{is_signed, as_it_is, part_for, is_alike, unless_among}
 use Rattle.zone_response.specs.Aname.{StandInAnswer, addresses, no_addresses, untold, stand_in_answer}
-use Rattle.zone_response.specs.Steps.{Next, on, ends, complete, missing, outside, referred, unfollowed, failed, Step, at_end, made_by, made_names, keeps, own_part, node_step, stood_in_step, new_name_step, step_at, step}
+use Rattle.zone_response.specs.Steps.{Next, on, ends, complete, missing, outside, referred, unfollowed, failed, Step, at_end, as_found_for, expanded_names, keeps, own_part, node_step, stood_in_step, new_name_step, step_at, step}
 use Rattle.zone_response.specs.Descent.{DNAME}
 use Rattle.response_laws.specs.Repeats.{have_both, repeats}
 use Rattle.response_laws.specs.Sayings.{asks_alias}
@@ -29,7 +30,7 @@ use Rattle.response_laws.proofs.Leads.{same_in_lower, sent_owner, sent_type, mad
 use Rattle.response_laws.proofs.Once.{Once, once_both, unlike, none_alike}
 use Rattle.response_laws.proofs.Said.{none_any}
 use Rattle.response_laws.proofs.StandIns.{aname_stands, addresses_of_last, owned_so, of_asked_type}
-use Rattle.response_laws.proofs.Stepped.{NodeOf, has_set, has_alias, has_stand_in, has_nothing, node_of, StepOf, leaves, refers, fails, new_name, at_name, no_star, at_star, star_gone, step_of}
+use Rattle.response_laws.proofs.Stepped.{NodeOf, has_set, has_alias, has_stand_in, has_nothing, node_of, StepOf, leaves, refers, fails, new_name, at_name, no_star, at_wildcard, star_gone, step_of}
 
 no_address : (t : ℕ) → is_address t ≡ true → (t == DNAME) ≡ false
 no_address t e = by (t == DNAME) refl
@@ -100,9 +101,9 @@ module _ (q : Inquiry) (zone : IsZone q.sets) where
         passed : (r : RRset) → In r before → r.record_type ≡ DNAME → (is_alike s r ≡ false) ⊎ (asks r ≡ false)
         passed r i e = of_owner (name_eq (lower r.owner) x) refl
           where
-            told : (b : Bool) → asks r ≡ b → name_eq (lower r.owner) x ≡ true → b ≡ false
-            told false f g = refl
-            told true f g = absurd (none_passes (is_told_by t x) r before is_untold i (λ i. eq-eqb r.record_type DNAME e i && g i && f i))
+            call_concludes : (b : Bool) → asks r ≡ b → name_eq (lower r.owner) x ≡ true → b ≡ false
+            call_concludes false f g = refl
+            call_concludes true f g = absurd (none_passes (is_sought t x) r before is_untold i (λ i. eq-eqb r.record_type DNAME e i && g i && f i))
 
             alike : (b : Bool) → is_alike s r ≡ b → name_eq (lower r.owner) x ≡ false → b ≡ false
             alike false f g = refl
@@ -111,7 +112,7 @@ module _ (q : Inquiry) (zone : IsZone q.sets) where
                 absurd (true≢false (sym ((name_eq-Decides (lower r.owner) x).1 same) ∙ g))
 
             of_owner : (b : Bool) → name_eq (lower r.owner) x ≡ b → (is_alike s r ≡ false) ⊎ (asks r ≡ false)
-            of_owner true g = inr (told (asks r) refl g)
+            of_owner true g = inr (call_concludes (asks r) refl g)
             of_owner false g = inl (alike (is_alike s r) refl g)
 
         none_of : (r : RRset) → asks r ≡ false → ((t == DNAME) ≡ true) ⊎ (((t == RRSIG) ≡ true) × (s.records ≡ [])) → have_both s.records r.records || is_signed s && is_signed r ≡ false
@@ -160,7 +161,7 @@ module _ (q : Inquiry) (zone : IsZone q.sets) where
         at = node_step q star x
 
         kept : RRset → RRset
-        kept = made_by (keeps q.signed t) star x
+        kept = as_found_for (keeps q.signed t) star x
 
         HasOnce : Step → Type 0
         HasOnce v = OnceOf v.answers
@@ -190,7 +191,7 @@ module _ (q : Inquiry) (zone : IsZone q.sets) where
 
         -- addresses for which an ANAME set stands in
         addressed : (s v : RRset) → set_at m a ANAME ≡ Some s → is_address t ≡ true → stand_in_answer q x (kept s) ≡ addresses v → (b : Bool)
-            → HasOnce (cond b (at_end failed) (record { answers = as_it_is (part_for q.signed) v ∷ []; made = made_names star x; next = ends complete }))
+            → HasOnce (cond b (at_end failed) (record { answers = as_it_is (part_for q.signed) v ∷ []; made = expanded_names star x; next = ends complete }))
         addressed s v k g f true = none
         addressed s v k g f false =
             let l = addresses_of_last q x (kept s) v f in
@@ -237,7 +238,7 @@ module _ (q : Inquiry) (zone : IsZone q.sets) where
       new_name_once (Some n) = (once_both before sets (r ∷ []) sets_once (plain_once r (caseless_eq_equiv.refl x) refl (before ++ sets) all, tt), λ k i. of k (In-from_append k sets (r ∷ []) i))
         where
           r : RRset
-          r = made_alias s x n
+          r = synthesized_alias s x n
 
           all : AreOf seen (before ++ sets)
           all k i = by (In-from_append k before sets i)
@@ -261,10 +262,10 @@ module _ (q : Inquiry) (zone : IsZone q.sets) where
         by (leaves i e) = of (at_end (outside x)) e none
         by (refers s i f e) = of (at_end (referred s)) e none
         by (fails s f g e) = of (at_end failed) e none
-        by (new_name s target o f told g e) = of (new_name_step q.signed t before x s o) e (new_name_once s (turned_by q zone x s f) o)
+        by (new_name s target o f call_concludes g e) = of (new_name_step q.signed t before x s o) e (new_name_once s (turned_by q zone x s f) o)
         by (at_name u there e) = of (step_at q None x x) e (node_once None x (λ k. refl))
         by (no_star u absent f e) = of (at_end (missing x None false)) e none
-        by (at_star w u absent f g e) = of (step_at q (Some w) x w) e (node_once (Some w) w (λ k. cc))
+        by (at_wildcard w u absent f g e) = of (step_at q (Some w) x w) e (node_once (Some w) w (λ k. cc))
         by (star_gone w u absent f g e) = of (at_end (missing x (Some w) false)) e none
 
   -- ---- the path

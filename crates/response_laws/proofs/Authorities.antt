@@ -37,7 +37,7 @@ module _ (m : Sets) (zone : IsZone m) where
       let r = In-from_map (as_proof ttl) s proofs i in
       subst (λ (v : RRset). IsSentSet m (authority_part v) v) r.2 (signed_set (lower r.0.owner) t (min r.0.ttl ttl) r.0 (owners r.0 r.1) other)
 
-  -- ---- what stands before them
+  -- ---- what precedes them
 
   -- the SOA of a negative response, or the sets of a referral
   pub front_is : (origin : Name) (soa : RRset) (e : End) → set_at m origin SOA ≡ Some soa → ((c : RRset) → e ≡ referred c → (n : Name) × (set_at m n NS ≡ Some c)) → (s : RRset) → In s (end_sets (ds_at m e) true soa e)

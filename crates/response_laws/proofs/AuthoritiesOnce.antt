@@ -1,4 +1,5 @@
--- No set of an authority section repeats one that stands before it: sets of denial are of several owners, and no others are of their types
+-- No set of an authority section repeats one that comes before it: sets of denial are of several owners, and no others
+-- are of their types
 use Rattle.std.proofs.Common.{◌≡◌, ℕ, Bool, true, false, cond, ◌&&◌, List, [], ◌∷◌, ◌++◌, map, refl, sym, ap, ◌∙◌, subst, inl, inr, true≢false, eqb-true}
 use Rattle.std.specs.Prelude.{Option, Some, None, option_to_list, ◌==◌, fold}
 use Rattle.std.proofs.lemmas.List.{map-append}
@@ -10,7 +11,7 @@ use Rattle.zone_lookup.specs.Runs.{with_new}
 use Rattle.zone_map.specs.Upserts.{is_denial_type}
 use Rattle.zone_map.specs.Zones.{IsZone}
 use Rattle.zone_response.specs.declared.response.Part.TheVariants as part
-use Rattle.zone_response.specs.Denials.{same_owner, star_proof, end_proof, with_star_proof, proofs}
+use Rattle.zone_response.specs.Denials.{same_owner, wildcard_proof, end_proof, with_wildcard_proof, proofs}
 use Rattle.zone_response.specs.Queries.{Zone, Query}
 use Rattle.zone_response.specs.Responses.{negative_ttl, child_ds, ds_at, end_sets}
 use Rattle.zone_response.specs.Sections.{Sections, sent, as_it_is, part_for, is_alike}
@@ -27,14 +28,14 @@ all_apart : (more sets : List RRset) → Apart same_owner [] sets → Apart same
 all_apart [] sets h = h
 all_apart (s ∷ more) sets h = all_apart more (with_new same_owner sets s) (apart_new same_owner sets s h)
 
-stars_apart : (z : Zone) (made : List Name) (sets : List RRset) → Apart same_owner [] sets → Apart same_owner [] (fold (with_star_proof z) sets made)
+stars_apart : (z : Zone) (made : List Name) (sets : List RRset) → Apart same_owner [] sets → Apart same_owner [] (fold (with_wildcard_proof z) sets made)
 stars_apart z [] sets h = h
-stars_apart z (x ∷ made) sets h = stars_apart z made (with_star_proof z sets x) (all_apart (star_proof z x) sets h)
+stars_apart z (x ∷ made) sets h = stars_apart z made (with_wildcard_proof z sets x) (all_apart (wildcard_proof z x) sets h)
 
 proofs_apart : (z : Zone) (ds : Option RRset) (made : List Name) (e : End) → Apart same_owner [] (proofs z ds made e)
-proofs_apart z ds made e = all_apart (end_proof z ds e) (fold (with_star_proof z) [] made) (stars_apart z made [] tt)
+proofs_apart z ds made e = all_apart (end_proof z ds e) (fold (with_wildcard_proof z) [] made) (stars_apart z made [] tt)
 
--- as they go out
+-- as they are sent
 proofs_once : (ttl : ℕ) (before sets : List RRset) → Apart same_owner before sets → Once (map (as_proof ttl) before) (map (as_proof ttl) sets)
 proofs_once ttl before [] h = tt
 proofs_once ttl before (s ∷ sets) h =

@@ -8,8 +8,8 @@ use Rattle.zone_proto.proofs.Names.NameTree.{name_eq-Decides}
 use Rattle.zone_map.specs.AnyTypes.{any_type}
 use Rattle.zone_map.specs.Zones.{Sets, set_at, owns, IsZone}
 use Rattle.zone_denial.specs.Chains.{chain_sets}
-use Rattle.zone_denial.specs.StarLaws.{OwnsNone}
-use Rattle.denial_laws.specs.Judged.{Unreferred}
+use Rattle.zone_denial.specs.WildcardLaws.{OwnsNone}
+use Rattle.denial_laws.specs.Scope.{Unreferred}
 use Rattle.denial_laws.proofs.OwnTypes.{differs}
 use Rattle.zone_response.specs.Queries.{Zone, Query, Inquiry, inquiry}
 use Rattle.zone_response.specs.Sections.{is_signed}
@@ -17,7 +17,7 @@ use Rattle.zone_response.specs.Nodes.{asked_set}
 use Rattle.response_laws.proofs.LastNames.{IsBare}
 use Rattle.response_laws.proofs.Leads.{any_answered}
 use Rattle.response_laws.proofs.LentSets.{owns_kept, unowned_kept}
-use Rattle.response_laws.proofs.Stepped.{IsUnturned}
+use Rattle.response_laws.proofs.Stepped.{IsUndiverted}
 use Rattle.response_laws.proofs.Turned.{unturned, silent_at}
 
 module _ (m : Sets) (a : Name) (t : ℕ) (bare : IsBare m a t) where
@@ -60,8 +60,8 @@ module _ (z : Zone) (same : z.denials ≡ chain_sets z.nx_proof_kind z.sets) (zo
       by true e = ap (owns z.denials a) (eqb-true t NSEC3 e) ∙ one_kind a
       by false e = lent_unowned unsigned one e
 
--- at a name that nothing turns, NS stands beside SOA alone, but where DS is asked
-pub beside_soa : (q : Inquiry) (x : Name) → IsUnturned q x → Unreferred q.origin q.sets → (q.record_type == DS) ≡ false → owns q.sets x NS ≡ true → owns q.sets x SOA ≡ true
+-- at a name that nothing turns, NS is beside SOA alone, but where DS is asked
+pub beside_soa : (q : Inquiry) (x : Name) → IsUndiverted q x → Unreferred q.origin q.sets → (q.record_type == DS) ≡ false → owns q.sets x NS ≡ true → owns q.sets x SOA ≡ true
 beside_soa q x u unreferred other ns = by (name_eq x q.origin) refl
   where
     unasked : set_at q.sets x NS ≡ None → owns q.sets x SOA ≡ true
@@ -79,6 +79,6 @@ beside_soa q x u unreferred other ns = by (name_eq x q.origin) refl
         ∙ (silent_at q.origin q.sets x q.record_type x u.inside (unturned q.origin q.sets x q.record_type u.unturned x ([], refl))).0)
 
 -- so it does among the sets that the zone lends
-pub lent_beside_soa : (z : Zone) → z.denials ≡ chain_sets z.nx_proof_kind z.sets → (q : Query) (x : Name) → IsUnturned (inquiry z q) x → Unreferred z.origin z.sets
+pub lent_beside_soa : (z : Zone) → z.denials ≡ chain_sets z.nx_proof_kind z.sets → (q : Query) (x : Name) → IsUndiverted (inquiry z q) x → Unreferred z.origin z.sets
     → (q.record_type == DS) ≡ false → owns z.denials x NS ≡ true → owns z.denials x SOA ≡ true
 lent_beside_soa z same q x u unreferred other ns = owns_kept z same x SOA refl ∙ beside_soa (inquiry z q) x u unreferred other (sym (owns_kept z same x NS refl) ∙ ns)

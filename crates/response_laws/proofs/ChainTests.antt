@@ -14,7 +14,7 @@ use Rattle.zone_proto.proofs.Ordering.KeyOrder.{key_same}
 use Rattle.zone_map.specs.Zones.{Sets, set_at, owns, owners, names_of, types_at}
 use Rattle.zone_map.proofs.Owned.{owner_in, type_in}
 use Rattle.zone_denial.specs.Authority.{is_authoritative, authoritative_names}
-use Rattle.zone_denial.specs.Chains.{DNAME, is_delegation, has_signature, is_told_at_delegation, IsRightList, is_below_dname, may_be_left_out}
+use Rattle.zone_denial.specs.Chains.{DNAME, is_delegation, has_signature, is_stated_at_delegation, IsRightList, is_below_dname, may_be_left_out}
 use Rattle.zone_denial.proofs.Chains.Nsec3Names.{is_named, named_in}
 use Rattle.zone_denial.proofs.Names.AuthoritativeNames.{authoritative_listed}
 use Rattle.denial_laws.proofs.Tests.{refuted, either}
@@ -60,7 +60,7 @@ each_set t P (e ∷ m) h n s found = by (key_eq (key n t) e.0) refl (each_set t 
 abbrev pub lists : List ℕ → ℕ → Bool
 lists types t = list_any (λ u. u == t) types
 
-listed : (types : List ℕ) (t : ℕ) → lists types t ≡ true → Contains types t
+pub listed : (types : List ℕ) (t : ℕ) → lists types t ≡ true → Contains types t
 listed types t e = let r = In-from_any (λ u. u == t) types e in In-Contains t types (subst (λ u. In u types) (eqb-true r.0 t r.2) r.1)
 
 pub is_listed : (types : List ℕ) (t : ℕ) → Contains types t → lists types t ≡ true
@@ -68,7 +68,7 @@ is_listed types t c = any_from_In (λ u. u == t) t types (Contains-In t types c)
 
 module _ (origin : Name) (m : Sets) (n : Name) (types : List ℕ) where
   abbrev is_free : ℕ → Bool
-  is_free t = (t == RRSIG) || (t == NSEC3)
+  is_free t = (t == RRSIG) || (t == NSEC) || (t == NSEC3)
 
   pub agreeing : (t : ℕ) → lists types t ≡ owns m n t → Contains types t ↔ (owns m n t ≡ true)
   agreeing t same = (λ c. sym same ∙ is_listed types t c, λ o. listed types t (same ∙ o))
@@ -80,7 +80,7 @@ module _ (origin : Name) (m : Sets) (n : Name) (types : List ℕ) where
       at : (t u : ℕ) → (t == u) ≡ true → lists types u ≡ owns m n u → lists types t ≡ owns m n t
       at t u e h = subst (λ t. lists types t ≡ owns m n t) (sym (eqb-true t u e)) h
 
-      by : (t : ℕ) (p : Bool) → (t == NS) ≡ p → (q : Bool) → (t == CNAME) ≡ q → (r : Bool) → (t == SOA) ≡ r → (s : Bool) → (t == DS) ≡ s → is_told_at_delegation t ≡ true → lists types t ≡ owns m n t
+      by : (t : ℕ) (p : Bool) → (t == NS) ≡ p → (q : Bool) → (t == CNAME) ≡ q → (r : Bool) → (t == SOA) ≡ r → (s : Bool) → (t == DS) ≡ s → is_stated_at_delegation t ≡ true → lists types t ≡ owns m n t
       by t true e q f r g s h k = at t NS e ns
       by t false e true f r g s h k = at t CNAME f cname
       by t false e false f true g s h k = at t SOA g soa
@@ -91,25 +91,34 @@ module _ (origin : Name) (m : Sets) (n : Name) (types : List ℕ) where
   pub right_elsewhere : is_delegation origin m n ≡ false → list_all (λ t. is_free t || owns m n t) types ≡ true → list_all (λ t. is_free t || lists types t) (types_at m n) ≡ true → not (has_signature m n) || lists types RRSIG ≡ true → IsRightList origin m n types
   right_elsewhere d sound complete signed = record {
     at_delegation = λ e. absurd (true≢false (sym e ∙ d));
-    exact = λ _ t a b. (
-      λ c. rest t a b (each_passes (λ t. is_free t || owns m n t) types sound t (Contains-In t types c)),
-      λ o. listed types t (rest t a b (each_passes (λ t. is_free t || lists types t) (types_at m n) complete t (type_in m n t o))),
+    exact = λ _ t a w b. (
+      λ c. rest t a w b (each_passes (λ t. is_free t || owns m n t) types sound t (Contains-In t types c)),
+      λ o. listed types t (rest t a w b (each_passes (λ t. is_free t || lists types t) (types_at m n) complete t (type_in m n t o))),
     );
     signed = λ _ s. listed types RRSIG (ap (λ b. not b || lists types RRSIG) (sym s) ∙ signed);
   }
     where
-      rest : {b : Bool} (t : ℕ) → t ≢ RRSIG → t ≢ NSEC3 → is_free t || b ≡ true → b ≡ true
-      rest {b} t a c e = by (t == RRSIG) refl (t == NSEC3) refl e
+      rest : {b : Bool} (t : ℕ) → t ≢ RRSIG → t ≢ NSEC → t ≢ NSEC3 → is_free t || b ≡ true → b ≡ true
+      rest {b} t a w c e = by (t == RRSIG) refl (t == NSEC) refl (t == NSEC3) refl e
         where
-          by : (p : Bool) → (t == RRSIG) ≡ p → (q : Bool) → (t == NSEC3) ≡ q → (p || q) || b ≡ true → b ≡ true
-          by true f q g k = absurd (a (eqb-true t RRSIG f))
-          by false f true g k = absurd (c (eqb-true t NSEC3 g))
-          by false f false g k = k
+          by : (p : Bool) → (t == RRSIG) ≡ p → (q : Bool) → (t == NSEC) ≡ q → (r : Bool) → (t == NSEC3) ≡ r → (p || q || r) || b ≡ true → b ≡ true
+          by true f q g r h k = absurd (a (eqb-true t RRSIG f))
+          by false f true g r h k = absurd (w (eqb-true t NSEC g))
+          by false f false g true h k = absurd (c (eqb-true t NSEC3 h))
+          by false f false g false h k = k
+
+  -- of NSEC in a chain of NSEC3 sets, with what stands beside these
+  pub nsec_told : (beside : Sets) → not (owns m n NSEC) || lists types NSEC ≡ true → not (lists types NSEC) || (owns m n NSEC || owns beside n NSEC) ≡ true
+      → (owns m n NSEC ≡ true → Contains types NSEC) × (Contains types NSEC → (owns m n NSEC ≡ true) ⊎ (owns beside n NSEC ≡ true))
+  nsec_told beside complete sound = (
+    λ o. listed types NSEC (ap (λ b. not b || lists types NSEC) (sym o) ∙ complete),
+    λ c. either (owns m n NSEC) (owns beside n NSEC) (ap (λ b. not b || (owns m n NSEC || owns beside n NSEC)) (sym (is_listed types NSEC c)) ∙ sound),
+  )
 
 -- ---- names
 
 module _ (origin : Name) (m : Sets) where
-  -- each owner of NSEC is authoritative, and each authoritative name owns it, or stands below a DNAME
+  -- each owner of NSEC is authoritative, and each authoritative name owns it, or is below a DNAME
   pub owners_authoritative : list_all (is_authoritative origin m NSEC) (owners m NSEC) ≡ true → (n : Name) → owns m n NSEC ≡ true → is_authoritative origin m NSEC n ≡ true
   owners_authoritative h n k = each_passes (is_authoritative origin m NSEC) (owners m NSEC) h n (owner_in m n NSEC k)
 

@@ -14,8 +14,8 @@ use Rattle.zone_map.specs.Wildcards.{closest_encloser}
 use Rattle.zone_map.specs.Zones.{Sets, set_at, IsZone}
 use Rattle.zone_denial.specs.NsecDenial.{closest_nsec}
 use Rattle.zone_lookup.specs.Runs.{with_new}
-use Rattle.zone_response.specs.Denials.{same_owner, hashed_owner_of, star_proof, star_proof_by, denial, denial_by, end_proof, with_star_proof, proofs}
-use Rattle.zone_response.specs.HashedDenials.{star_sets, absent_sets, present_sets, hashed_by}
+use Rattle.zone_response.specs.Denials.{same_owner, hashed_owner_of, wildcard_proof, wildcard_proof_by, denial, denial_by, end_proof, with_wildcard_proof, proofs}
+use Rattle.zone_response.specs.HashedDenials.{wildcard_sets, absent_sets, present_sets, hashed_by}
 use Rattle.zone_response.specs.Queries.{Zone}
 use Rattle.zone_response.specs.Steps.{End, referred, missing}
 use Rattle.response_laws.proofs.HashedSets.{each_of_both, of_star_sets, of_absent, of_present}
@@ -51,9 +51,9 @@ module _ (z : Zone) (zone : IsZone z.denials) where
 
   -- by hashed names
   module _ (hashed : Name → Name) where
-    star_hashed : (x : Name) (o : Option Name) → AreAll (option_map_or (star_sets z.origin z.denials hashed x) o [])
-    star_hashed x (Some e) = of_star_sets (IsDenial m) m nsec3_set z.origin hashed x e
-    star_hashed x None = λ s i. absurd i
+    wildcard_hashed : (x : Name) (o : Option Name) → AreAll (option_map_or (wildcard_sets z.origin z.denials hashed x) o [])
+    wildcard_hashed x (Some e) = of_star_sets (IsDenial m) m nsec3_set z.origin hashed x e
+    wildcard_hashed x None = λ s i. absurd i
 
     absent_hashed : (x e : Name) → AreAll (absent_sets z.origin z.denials hashed x e)
     absent_hashed x e = of_absent (IsDenial m) m nsec3_set z.origin hashed x e
@@ -61,24 +61,24 @@ module _ (z : Zone) (zone : IsZone z.denials) where
     present_hashed : (x : Name) → AreAll (present_sets z.origin z.denials hashed x)
     present_hashed x = of_present (IsDenial m) m nsec3_set z.origin hashed x
 
-  of_star : (x : Name) → AreAll (star_proof z x)
-  of_star x = by z.nx_proof_kind
+  of_wildcard : (x : Name) → AreAll (wildcard_proof z x)
+  of_wildcard x = by z.nx_proof_kind
     where
-      by : (k : Option NxProofKind) → AreAll (star_proof_by z k x)
+      by : (k : Option NxProofKind) → AreAll (wildcard_proof_by z k x)
       by None = of_closest x
       by (Some kind.Nsec) = of_closest x
-      by (Some (kind.Nsec3 algorithm salt iterations opt_out)) = star_hashed (hashed_by (hashed_owner_of z algorithm salt iterations)) x (closest_encloser z.sets x)
+      by (Some (kind.Nsec3 algorithm salt iterations opt_out)) = wildcard_hashed (hashed_by (hashed_owner_of z algorithm salt iterations)) x (closest_encloser z.sets x)
 
   denied : (x : Name) (star : Option Name) → AreAll (denial z x star)
   denied x star = by z.nx_proof_kind star
     where
-      at_star : (star : Option Name) → AreAll (option_to_list (option_and_then (closest_nsec m) star))
-      at_star (Some w) = of_closest w
-      at_star None = λ s i. absurd i
+      at_wildcard : (star : Option Name) → AreAll (option_to_list (option_and_then (closest_nsec m) star))
+      at_wildcard (Some w) = of_closest w
+      at_wildcard None = λ s i. absurd i
 
       by : (k : Option NxProofKind) (star : Option Name) → AreAll (denial_by z k x star)
-      by None star = denials_of_both (closest_sets m zone x) (option_to_list (option_and_then (closest_nsec m) star)) (of_closest x) (at_star star)
-      by (Some kind.Nsec) star = denials_of_both (closest_sets m zone x) (option_to_list (option_and_then (closest_nsec m) star)) (of_closest x) (at_star star)
+      by None star = denials_of_both (closest_sets m zone x) (option_to_list (option_and_then (closest_nsec m) star)) (of_closest x) (at_wildcard star)
+      by (Some kind.Nsec) star = denials_of_both (closest_sets m zone x) (option_to_list (option_and_then (closest_nsec m) star)) (of_closest x) (at_wildcard star)
       by (Some (kind.Nsec3 algorithm salt iterations opt_out)) (Some (l ∷ e)) = absent_hashed (hashed_by (hashed_owner_of z algorithm salt iterations)) x e
       by (Some (kind.Nsec3 algorithm salt iterations opt_out)) (Some []) = present_hashed (hashed_by (hashed_owner_of z algorithm salt iterations)) x
       by (Some (kind.Nsec3 algorithm salt iterations opt_out)) None = present_hashed (hashed_by (hashed_owner_of z algorithm salt iterations)) x
@@ -104,9 +104,9 @@ module _ (z : Zone) (zone : IsZone z.denials) where
   with_all sets [] h k = h
   with_all sets (s ∷ more) h k = with_all (with_new same_owner sets s) more (with_one sets s h (k s (inl refl))) (λ r i. k r (inr i))
 
-  of_stars : (made : List Name) (sets : List RRset) → AreAll sets → AreAll (fold (with_star_proof z) sets made)
+  of_stars : (made : List Name) (sets : List RRset) → AreAll sets → AreAll (fold (with_wildcard_proof z) sets made)
   of_stars [] sets h = h
-  of_stars (x ∷ made) sets h = of_stars made (with_star_proof z sets x) (with_all sets (star_proof z x) h (of_star x))
+  of_stars (x ∷ made) sets h = of_stars made (with_wildcard_proof z sets x) (with_all sets (wildcard_proof z x) h (of_wildcard x))
 
   pub proofs_are_denials : (ds : Option RRset) (made : List Name) (e : End) → AreDenials z.denials (proofs z ds made e)
-  proofs_are_denials ds made e = with_all (fold (with_star_proof z) [] made) (end_proof z ds e) (of_stars made [] (λ s i. absurd i)) (of_end ds e)
+  proofs_are_denials ds made e = with_all (fold (with_wildcard_proof z) [] made) (end_proof z ds e) (of_stars made [] (λ s i. absurd i)) (of_end ds e)

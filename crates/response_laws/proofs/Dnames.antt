@@ -14,18 +14,18 @@ use Rattle.zone_proto.proofs.Names.Tree.{above_cases}
 use Rattle.zone_proto.specs.Types.{RRSIG}
 use Rattle.zone_map.specs.Zones.{set_at, IsZone}
 use Rattle.zone_response.specs.declared.response.Part.TheVariants as part
-use Rattle.zone_response.specs.Paths.{is_told_by}
+use Rattle.zone_response.specs.Paths.{is_sought}
 use Rattle.zone_response.specs.Queries.{Inquiry}
-use Rattle.zone_response.specs.Dname.{only_target, dname_target, unless_long, made_alias}
+use Rattle.zone_response.specs.Dname.{only_target, dname_target, unless_long, synthesized_alias}
 use Rattle.zone_response.specs.Sections.{with_ttl, as_it_is, part_for, is_signed, is_alike, unless_among}
-use Rattle.zone_response.specs.Descent.{DNAME, renaming, turn}
+use Rattle.zone_response.specs.Descent.{DNAME, renaming, diversion}
 use Rattle.response_laws.specs.Sayings.{asks_alias, is_of, renames, leads_to, last_name}
 use Rattle.response_laws.proofs.Leads.{same_in_lower, sent_owner, sent_type}
 use Rattle.response_laws.proofs.Passages.{passed_over}
-use Rattle.response_laws.proofs.Stepped.{IsUnturned}
+use Rattle.response_laws.proofs.Stepped.{IsUndiverted}
 use Rattle.response_laws.proofs.Turned.{turned_first, renaming_set, renaming_uncut, renaming_unturned}
 
--- ---- a set as it goes out
+-- ---- a set as it is sent
 
 target_with_ttl : (ttl : ℕ) (rs : List Record) → only_target (map (with_ttl ttl) rs) ≡ only_target rs
 target_with_ttl ttl [] = refl
@@ -50,13 +50,13 @@ module _ (q : Inquiry) where
   abbrev pub sent_dname : RRset → RRset
   sent_dname s = as_it_is (part_for q.signed) s
 
-  -- the DNAME set of a name of the zone that nothing turns, as it goes out
+  -- the DNAME set of a name of the zone that nothing turns, as it is sent
   pub record IsSentDname (r : RRset) : Type 0 where
     pub name : Name
     pub stored : RRset
     pub stands : set_at q.sets name DNAME ≡ Some stored
     pub sent : r ≡ as_it_is (part_for q.signed) stored
-    pub unturned : IsUnturned q name
+    pub unturned : IsUndiverted q name
 
   abbrev pub AreDnames : List RRset → Type 0
   AreDnames sets = (r : RRset) → In r sets → r.record_type ≡ DNAME → IsSentDname r
@@ -77,10 +77,10 @@ module _ (q : Inquiry) where
     pub owner : lower s.owner ≡ name
     pub type' : s.record_type ≡ DNAME
     pub above : IsAbove name x
-    pub unturned : IsUnturned q name
+    pub unturned : IsUndiverted q name
 
   module _ (zone : IsZone q.sets) where
-    pub turned_by : (x : Name) (s : RRset) → turn q.origin q.sets x q.record_type ≡ Some (renaming s) → IsAboveBy x s
+    pub turned_by : (x : Name) (s : RRset) → diversion q.origin q.sets x q.record_type ≡ Some (renaming s) → IsAboveBy x s
     turned_by x s e =
         let f = turned_first q.origin q.sets x t (renaming s) e in
         let r = renaming_set q.origin q.sets x t f.name s f.turns in
@@ -98,23 +98,23 @@ module _ (q : Inquiry) where
         by n other (inl same) = absurd (true≢false (sym ((name_eq-Decides n x).1 same) ∙ other))
         by n other (inr u) = u
 
-    -- the owner of one that goes out
+    -- the owner of one that is sent
     sent_name : (r : RRset) (h : IsSentDname r) → h.name ≡ lower r.owner
     sent_name r h =
         sym (zone.stored h.name DNAME h.stored h.stands).owner
         ∙ ap lower (sym (sent_owner (part_for q.signed) h.stored.ttl h.stored)) ∙ ap (λ (v : RRset). lower v.owner) (sym h.sent)
 
     -- a name of which one of them tells what is asked for turns nothing
-    pub told_unturned : (sets : List RRset) → AreDnames sets → (x : Name) → list_any (is_told_by t x) sets ≡ true → IsUnturned q x
+    pub told_unturned : (sets : List RRset) → AreDnames sets → (x : Name) → list_any (is_sought t x) sets ≡ true → IsUndiverted q x
     told_unturned sets dnames x e =
-        let r = In-from_any (is_told_by t x) sets e in
+        let r = In-from_any (is_sought t x) sets e in
         let dname : Bool = r.0.record_type == DNAME in
         let owned : Bool = name_eq (lower r.0.owner) x in
         let both = and_left (dname && owned) ((t == DNAME) || (t == RRSIG) && is_signed r.0) r.2 in
         let h = dnames r.0 r.1 (eqb-true r.0.record_type DNAME (and_left dname owned both)) in
-        subst (IsUnturned q) (sent_name r.0 h ∙ (name_eq-Decides (lower r.0.owner) x).0 (and_right dname owned both)) h.unturned
+        subst (IsUndiverted q) (sent_name r.0 h ∙ (name_eq-Decides (lower r.0.owner) x).0 (and_right dname owned both)) h.unturned
 
-    -- of two that go out, alike are the same
+    -- of two that are sent, alike are the same
     same_dname : (x : Name) (s r : RRset) → IsAboveBy x s → IsSentDname r → same_name r.owner (sent_dname s).owner ≡ true → r ≡ sent_dname s
     same_dname x s r a h alike =
         h.sent ∙ ap (λ v. as_it_is (part_for q.signed) v) (same h.stored s (sym h.stands ∙ ap (λ n. set_at q.sets n DNAME) names ∙ a.stands))
@@ -128,7 +128,7 @@ module _ (q : Inquiry) where
         names : h.name ≡ a.name
         names = sent_name r h ∙ owners ∙ ap lower (sent_owner (part_for q.signed) s.ttl s) ∙ a.owner
 
-    -- the set stands in the answer then
+    -- the set is in the answer then
     pub stands_among : (before more : List RRset) (x : Name) (s : RRset) → AreDnames before → IsAboveBy x s → In (sent_dname s) (before ++ (unless_among before (sent_dname s) ++ more))
     stands_among before more x s dnames a = by (list_any (is_alike (sent_dname s)) before) refl
       where
@@ -177,8 +177,8 @@ module _ (q : Inquiry) where
         by false = passed_over t x (sent_dname s) more is_above_x
 
   -- the CNAME that it makes leads on, unless it is what is asked for
-  pub alias_leads : (x n : Name) (s : RRset) → asks_alias t ≡ false → leads_to t x (made_alias s x n) ≡ Some (lower n)
+  pub alias_leads : (x n : Name) (s : RRset) → asks_alias t ≡ false → leads_to t x (synthesized_alias s x n) ≡ Some (lower n)
   alias_leads x n s e = λ i. cond (e i || not (caseless_eq_equiv.refl x i)) None (Some (lower n))
 
-  pub alias_stays : (x n : Name) (s : RRset) → asks_alias t ≡ true → leads_to t x (made_alias s x n) ≡ None
+  pub alias_stays : (x n : Name) (s : RRset) → asks_alias t ≡ true → leads_to t x (synthesized_alias s x n) ≡ None
   alias_stays x n s e = λ i. cond (e i || not (caseless_eq_equiv.refl x i)) None (Some (lower n))

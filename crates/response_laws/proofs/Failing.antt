@@ -11,7 +11,7 @@ use Rattle.zone_response.specs.Queries.{Zone, Query, Inquiry, inquiry}
 use Rattle.zone_response.specs.Responses.{bare, code_at, authority_sets, query_hashed, fails, refusal, refused, without_soa as no_soa, failing, unprovable as unproven, answered, outcome_proven, outcome_along, outcome_of, IsResponse, IsResponseTo}
 use Rattle.zone_response.specs.Sections.{Sections}
 use Rattle.zone_response.specs.Steps.{End, complete, referred, missing, outside, unfollowed, too_long, failed}
-use Rattle.response_laws.specs.Failures.{Failure, without_soa, at_fault, unprovable, WhyAlone, FailureHasReason, AnswerableIsAnswered, FailureIsTold}
+use Rattle.response_laws.specs.Failures.{Failure, without_soa, at_fault, unprovable, WhyAlone, FailureHasReason, AnswerableIsAnswered, FailureIsReported}
 use Rattle.response_laws.proofs.AgreementProofs.{all_hashed}
 use Rattle.response_laws.proofs.Hashings.{unproved}
 use Rattle.response_laws.proofs.Parts.{HowAnswered, by_code_alone, by_parts, how_answered}
@@ -63,14 +63,14 @@ module _ (z : Zone) (q : Query) (r : Sections) (asked : refusal z.origin q ≡ N
   with_soa None so h = h
   with_soa (Some soa) so h = so soa h
 
-  pub told : Failure z q → r ≡ bare code.ServFail
-  told (without_soa e) = subst Found e found
-  told (at_fault e f) = with_soa (set_at z.sets z.origin SOA) (λ soa h. subst (λ b. IsResponseTo i (cond b failing (outcome_proven z q.signed soa p)) r) (ap fails e) h) found
-  told (unprovable why signed u) = with_soa (set_at z.sets z.origin SOA) (λ soa h. by soa (fails p.end) h) found
+  pub call_concludes : Failure z q → r ≡ bare code.ServFail
+  call_concludes (without_soa e) = subst Found e found
+  call_concludes (at_fault e f) = with_soa (set_at z.sets z.origin SOA) (λ soa h. subst (λ b. IsResponseTo i (cond b failing (outcome_proven z q.signed soa p)) r) (ap fails e) h) found
+  call_concludes (unprovable why signed u) = with_soa (set_at z.sets z.origin SOA) (λ soa h. by soa (fails p.end) h) found
     where
       by : (soa : RRset) (b : Bool) → IsResponseTo i (cond b failing (outcome_proven z q.signed soa p)) r → Fails
       by soa true h = h
       by soa false h = subst (λ b. IsResponseTo i (cond b unproven (answered p (authority_sets z q.signed soa p.made p.end))) r) (unproved z q why signed u) h
 
-pub failure_is_told : FailureIsTold IsResponse
-failure_is_told z q r asked failure is = told z q r asked is failure
+pub failure_is_told : FailureIsReported IsResponse
+failure_is_told z q r asked failure is = call_concludes z q r asked is failure

@@ -8,16 +8,16 @@ use Rattle.zone_proto.specs.Types.{ANAME}
 use Rattle.zone_map.specs.Chains.{cname_target}
 use Rattle.zone_map.specs.Zones.{set_at}
 use Rattle.zone_response.specs.Nodes.{AtNode}
-use Rattle.zone_response.specs.Paths.{is_told_by, unless_told, next_behind, Path, ended, behind, searched, path_from, path}
+use Rattle.zone_response.specs.Paths.{is_sought, unless_answered, next_behind, Path, ended, behind, searched, path_from, path}
 use Rattle.zone_response.specs.Queries.{Inquiry}
 use Rattle.zone_response.specs.Sections.{is_signed, as_it_is, part_for}
 use Rattle.zone_response.specs.Aname.{StandInAnswer, addresses, no_addresses, untold, stand_in_answer}
-use Rattle.zone_response.specs.Steps.{End, complete, referred, missing, outside, unfollowed, too_long, failed, Next, on, ends, Step, at_end, made_by, made_names, after_alias, keeps, stood_in_step, node_step, new_name_step, step_at, step}
+use Rattle.zone_response.specs.Steps.{End, complete, referred, missing, outside, unfollowed, too_long, failed, Next, on, ends, Step, at_end, as_found_for, expanded_names, after_alias, keeps, stood_in_step, node_step, new_name_step, step_at, step}
 use Rattle.zone_response.specs.Descent.{renaming}
 use Rattle.response_laws.specs.Failures.{IsFoundAname, Fault, without_target, leads_away, unsigned}
 use Rattle.response_laws.specs.Sayings.{asks_alias}
 use Rattle.response_laws.proofs.StandIns.{aname_stands}
-use Rattle.response_laws.proofs.Stepped.{NodeOf, has_set, has_alias, has_stand_in, has_nothing, node_of, StepOf, leaves, refers, fails, new_name, at_name, no_star, at_star, star_gone, step_of}
+use Rattle.response_laws.proofs.Stepped.{NodeOf, has_set, has_alias, has_stand_in, has_nothing, node_of, StepOf, leaves, refers, fails, new_name, at_name, no_star, at_wildcard, star_gone, step_of}
 use Rattle.response_laws.proofs.Turned.{turned_first, renaming_set}
 
 module _ (q : Inquiry) where
@@ -35,7 +35,7 @@ module _ (q : Inquiry) where
       at = node_step q star x
 
       kept : RRset → RRset
-      kept = made_by (keeps q.signed t) star x
+      kept = as_found_for (keeps q.signed t) star x
 
       found : (s : RRset) → set_at q.sets a ANAME ≡ Some s → IsFoundAname q x (kept s)
       found s e = record { owner = a; stored = s; stands = e; star = star; found = refl }
@@ -44,7 +44,7 @@ module _ (q : Inquiry) where
       lacking h = absurd cc
 
       addressed : (s v : RRset) → set_at q.sets a ANAME ≡ Some s → stand_in_answer q x (kept s) ≡ addresses v → (p : Bool) → q.is_proved ≡ p → (b : Bool) → is_signed v ≡ b
-          → Faulty (cond (p && not b) (at_end failed) (record { answers = as_it_is (part_for q.signed) v ∷ []; made = made_names star x; next = ends complete }))
+          → Faulty (cond (p && not b) (at_end failed) (record { answers = as_it_is (part_for q.signed) v ∷ []; made = expanded_names star x; next = ends complete }))
       addressed s v k f true e false g h = unsigned x (kept s) v (found s k) f e g
       addressed s v k f true e true g h = absurd cc
       addressed s v k f false e b g h = absurd cc
@@ -96,10 +96,10 @@ module _ (q : Inquiry) where
       by (fails s f g e) =
           let n = turned_first q.origin q.sets x t (renaming s) f in
           λ h. without_target n.name s (renaming_set q.origin q.sets x t n.name s n.turns).1 g
-      by (new_name v target o f told g e) = of (new_name_step q.signed t before x v o) e (renaming_fault before x v o)
+      by (new_name v target o f call_concludes g e) = of (new_name_step q.signed t before x v o) e (renaming_fault before x v o)
       by (at_name u there e) = of (step_at q None x x) e (node_fault None x x)
       by (no_star u absent f e) = of (at_end (missing x None false)) e (at (missing x None false) (λ f. absurd cc))
-      by (at_star w u absent f g e) = of (step_at q (Some w) x w) e (node_fault (Some w) x w)
+      by (at_wildcard w u absent f g e) = of (step_at q (Some w) x w) e (node_fault (Some w) x w)
       by (star_gone w u absent f g e) = of (at_end (missing x (Some w) false)) e (at (missing x (Some w) false) (λ f. absurd cc))
 
   fault_from : (k : ℕ) (seen : List Name) (before : List RRset) (x : Name) → (path_from q k seen before x).end ≡ failed → Fault q
@@ -115,12 +115,12 @@ module _ (q : Inquiry) where
       From : Type 0
       From = (y : Name) → (rest y).end ≡ failed → Fault q
 
-      at_next : From → (n : Next) → (step q before x).next ≡ n → (searched rest (unless_told t (before ++ answers) n)).end ≡ failed → Fault q
-      at_next from (on y) f = told (list_any (is_told_by t y) (before ++ answers))
+      at_next : From → (n : Next) → (step q before x).next ≡ n → (searched rest (unless_answered t (before ++ answers) n)).end ≡ failed → Fault q
+      at_next from (on y) f = call_concludes (list_any (is_sought t y) (before ++ answers))
         where
-          told : (b : Bool) → (searched rest (cond b (ends complete) (on y))).end ≡ failed → Fault q
-          told true e = absurd cc
-          told false e = from y e
+          call_concludes : (b : Bool) → (searched rest (cond b (ends complete) (on y))).end ≡ failed → Fault q
+          call_concludes true e = absurd cc
+          call_concludes false e = from y e
       at_next from (ends w) f = λ e. step_fault before x (f ∙ ap ends e)
 
       by : From → (b : Bool) → (cond b (ended unfollowed) (behind answers (step q before x).made (searched rest (next_behind q before x)))).end ≡ failed → Fault q

@@ -1,4 +1,4 @@
--- What stands in the sections of a response that is more than a code
+-- What is in the sections of a response that is more than a code
 use Rattle.std.proofs.Common.{◌≡◌, ℕ, Bool, true, false, cond, not, ◌&&◌, List, [], ◌∷◌, ◌++◌, map, refl, sym, ap, ◌∙◌, subst, true≢false, ◌⊎◌, inl, inr}
 use Rattle.std.specs.Prelude.{Option, Some, None, take, option_to_list, fold, min, is_some}
 use Rattle.std.specs.List.{Contains, list_any}
@@ -18,7 +18,7 @@ use Rattle.zone_response.specs.Queries.{Zone, Query, HasOwnDenials, inquiry}
 use Rattle.zone_response.specs.Responses.{code_at, negative_ttl, child_ds, ds_at, end_sets, fails, glue_at}
 use Rattle.zone_response.specs.Sections.{Sections, sent, as_it_is, part_for}
 use Rattle.zone_response.specs.Steps.{End, complete, referred, missing, outside, unfollowed, too_long, failed}
-use Rattle.response_laws.specs.Contents.{is_delegated, is_refusal, Origin, IsFoundByItsStar, IsNegative, HasToProve, AuthorityOrigin, start, servers, digests, denial, IsGlueOf, IsHelpful, NegativeTtlIsLesser, HasContents}
+use Rattle.response_laws.specs.Contents.{is_delegated, is_refusal, Origin, IsFoundByItsWildcard, IsNegative, HasToProve, AuthorityOrigin, start, servers, digests, denial, IsGlueOf, IsHelpful, NegativeTtlIsLesser, HasContents}
 use Rattle.response_laws.specs.Sayings.{Saying, data_of, name_error, no_data, referral, saying, SaysEnd}
 use Rattle.response_laws.proofs.Answers.{ByStarOf, path_answers}
 use Rattle.response_laws.proofs.Helpful.{helpful}
@@ -143,9 +143,9 @@ module _ (z : Zone) (zone : IsZone z.sets) (own : HasOwnDenials z) (q : Query) (
 
   -- ---- answers
 
-  answers_are : (s : RRset) → Contains r.answers s → Origin (inquiry z q) r.answers (IsFoundByItsStar (inquiry z q)) s
+  answers_are : (s : RRset) → Contains r.answers s → Origin (inquiry z q) r.answers (IsFoundByItsWildcard (inquiry z q)) s
   answers_are s c =
-      origin_by (inquiry z q) r.answers s (ByStarOf (inquiry z q) (path_of z q).made) (IsFoundByItsStar (inquiry z q))
+      origin_by (inquiry z q) r.answers s (ByStarOf (inquiry z q) (path_of z q).made) (IsFoundByItsWildcard (inquiry z q))
       (λ y u found k. record { absent = k.1.made.absent; star = k.1.star; asked = k.1.made.star; stored = k.1.stored; stands = k.1.stands; made = k.1.is })
       (subst (λ all. Origin (inquiry z q) all (ByStarOf (inquiry z q) (path_of z q).made) s) (sym h.answers)
       (path_answers (inquiry z q) zone q.name s (subst (In s) h.answers (Contains-In s r.answers c))))

@@ -1,58 +1,40 @@
 -- What the NSEC3 sets of a denial are in a zone whose NSEC3 sets are a chain: those that are found with the closest encloser that the chain has
-use Rattle.std.proofs.Common.{◌≡◌, ℕ, true, false, cond, List, [], ◌∷◌, ◌++◌, refl, sym, ap, ◌∙◌, subst, true≢false, inl, inr, arith}
-use Rattle.std.specs.Prelude.{Option, Some, None, Result, Ok, filter_map, is_some, option_and_then, option_to_list}
+use Rattle.std.proofs.Common.{◌≡◌, ℕ, Bool, true, false, List, [], ◌∷◌, ◌++◌, refl, sym, ap, ◌∙◌, subst, true≢false, inl, inr, arith}
+use Rattle.std.specs.Prelude.{Option, Some, None, Result, filter_map, is_some, option_and_then, option_to_list}
 use Rattle.std.specs.List.{cons_option}
 use Rattle.std.specs.Option.{option_map_or, option_or}
 use Rattle.std.proofs.lemmas.List.{length-append, append_assoc}
 use Rattle.zone_proto.specs.declared.error.ProtoError.{ProtoError}
 use Rattle.zone_proto.specs.declared.rdata.denial.NSEC3PARAM.{NSEC3PARAM as Nsec3Parameters}
 use Rattle.zone_proto.specs.HashedOwners.{owner_or_refusal}
-use Rattle.zone_proto.specs.Names.{Name, is_at_or_above, suffixes, proper_ancestors, star_under, IsAtOrAbove, IsAbove}
+use Rattle.zone_proto.specs.Names.{Name, name_cmp, is_at_or_above, suffixes, proper_ancestors, wildcard_under, IsAtOrAbove, IsAbove}
 use Rattle.zone_proto.specs.Sets.{RRset}
 use Rattle.zone_proto.specs.Types.{NSEC3}
-use Rattle.zone_proto.proofs.Members.{In, In-Contains}
+use Rattle.zone_proto.proofs.Members.{In, In-Contains, Contains-In, In-filter_map}
 use Rattle.zone_proto.proofs.Names.NameTree.{is_at_or_above_complete}
-use Rattle.zone_map.specs.Zones.{Sets, set_at}
+use Rattle.zone_proto.proofs.Names.Tree.{name_order}
+use Rattle.zone_map.specs.Zones.{Sets, set_at, owns}
 use Rattle.zone_denial.specs.Chains.{IsNsec3Chain}
-use Rattle.zone_denial.specs.Nsec3Denial.{encloser_on, result_and_then, match_owner, cover_owner, star_part, nsec3_denial}
-use Rattle.zone_denial.specs.Nsec3Lent.{owner_cmp, sets_of}
-use Rattle.zone_denial.specs.Nsec3Zones.{IsHashedOn, TellsApart}
+use Rattle.zone_denial.specs.Nsec3Denial.{encloser_on, cover_owner}
+use Rattle.zone_denial.specs.Nsec3Laws.{Denies}
+use Rattle.zone_denial.specs.Nsec3Lent.{owner_cmp}
+use Rattle.zone_denial.specs.Nsec3Zones.{IsHashedOn, HasDistinctDigests}
 use Rattle.zone_denial.specs.TypeLists.{in_order}
-use Rattle.zone_denial.proofs.Chains.Nsec3Encloses.{encloser_is, star_hashed}
-use Rattle.zone_denial.proofs.Chains.Nsec3Names.{is_named, named_in, unnamed, IsEnclosed}
-use Rattle.zone_denial.proofs.Chains.Nsec3Owners.{owner, named_hashed, set_of_named, is_owner, owns_as_named}
-use Rattle.zone_denial.proofs.Hashed.DenialSteps.{sets_matched, sets_covering, encloser_denial, enclosed_answers}
+use Rattle.zone_denial.proofs.InOrder.{In-in_order}
+use Rattle.zone_denial.proofs.Chains.Nsec3Covers.{IsCover, has_cover}
+use Rattle.zone_denial.proofs.Chains.Nsec3Denies.{has_set, has_cover_of}
+use Rattle.zone_denial.proofs.Chains.Nsec3Encloses.{Has, wildcard_hashed}
+use Rattle.zone_denial.proofs.Chains.Nsec3Names.{is_named, named_in, in_named, unnamed, IsEnclosed}
+use Rattle.zone_denial.proofs.Chains.Nsec3Owners.{owner, named_hashed, named_owns, set_of_named, is_owner, owns_as_named}
 use Rattle.zone_denial.proofs.Names.LongestAncestors.{IsLongestAbove, longest_is, above_above}
-use Rattle.zone_response.specs.HashedDenials.{owner_given, hashed_by, matching, covering, provable, closer_set, star_set, absent_below, absent_sets, left_out_sets, present_sets, star_sets}
+use Rattle.zone_denial.proofs.Sets.SetsInOrder.{sets_in_order}
+use Rattle.zone_response.specs.HashedDenials.{owner_given, hashed_by, matching, covering, provable, wildcard_set, absent_below, absent_sets, left_out_sets, present_sets, wildcard_sets}
 use Rattle.zone_response.proofs.ProvableWalk.{found_there, found_above}
 
--- ---- the sets of the owners that may be there
+abbrev look : Sets → Name → Option RRset
+look m o = set_at m o NSEC3
 
-module _ (m : Sets) where
-  abbrev look : Name → Option RRset
-  look o = set_at m o NSEC3
-
-  only : (o : Name) → filter_map look (o ∷ []) ≡ option_to_list (look o)
-  only o = by (look o)
-    where
-      by : (s : Option RRset) → cons_option s [] ≡ option_to_list s
-      by None = refl
-      by (Some s) = refl
-
-  any_set : (o : Option Name) → option_to_list (option_and_then look o) ≡ filter_map look (option_to_list o)
-  any_set None = refl
-  any_set (Some o) = sym (only o)
-
-  -- of what matches, or else of what covers
-  either_set : (h : Name) → filter_map look (option_to_list (option_or (match_owner m h) (cover_owner m h))) ≡ option_to_list (option_or (look h) (option_and_then look (cover_owner m h)))
-  either_set h = by (look h) refl
-    where
-      by : (s : Option RRset) → set_at m h NSEC3 ≡ s
-          → filter_map look (option_to_list (option_or (cond (is_some s) (Some h) None) (cover_owner m h))) ≡ option_to_list (option_or s (option_and_then look (cover_owner m h)))
-      by None e = sym (any_set (cover_owner m h))
-      by (Some s) e = ap (λ s. cons_option s []) e
-
-module _ {origin : Name} {m : Sets} {hash : Name → Option (List ℕ)} {parameters : Nsec3Parameters} {names : List Name} {x : Name} (zone : IsNsec3Chain origin m hash parameters names) (apart : TellsApart (IsHashedOn names x) hash) where
+module _ {origin : Name} {beside m : Sets} {hash : Name → Option (List ℕ)} {parameters : Nsec3Parameters} {names : List Name} {x : Name} (zone : IsNsec3Chain origin beside m hash parameters names) (apart : HasDistinctDigests (IsHashedOn names x) hash) where
   -- the hashed owner of a name, or its refusal; and as a name
   abbrev pub owner_of : Name → Result Name ProtoError
   owner_of n = owner_or_refusal origin (hash n)
@@ -62,9 +44,6 @@ module _ {origin : Name} {m : Sets} {hash : Name → Option (List ℕ)} {paramet
 
   given_is : (n : Name) → IsHashedOn names x n → named_owner n ≡ owner zone apart n
   given_is n h = ap owner_given (is_owner zone apart n h)
-
-  answered : (n : Name) → IsHashedOn names x n → owner_of n ≡ Ok (named_owner n)
-  answered n h = is_owner zone apart n h ∙ ap Ok (sym (given_is n h))
 
   -- the set of a name of the chain, and none of another name that is hashed
   matched : (n : Name) (i : In n names) → matching origin m named_owner n ≡ Some (set_of_named zone apart n i).0
@@ -122,6 +101,12 @@ module _ {origin : Name} {m : Sets} {hash : Name → Option (List ℕ)} {paramet
       by : IsAbove a x → provable origin m named_owner (proper_ancestors x) ≡ Some a
       by (l, f, q) = ap (λ n. provable origin m named_owner (proper_ancestors n)) q ∙ walk a is f (l, [], q)
 
+  -- ---- what covers a name
+
+  covering_is : (n k : Name) → IsHashedOn names x n → (cover : IsCover zone apart n k) → covering origin m named_owner n ≡ Some (set_of_named zone apart k cover.on).0
+  covering_is n k h cover =
+      ap (λ o. option_and_then (look m) (cover_owner m o)) (given_is n h) ∙ ap (option_and_then (look m)) cover.is_cover ∙ (set_of_named zone apart k cover.on).1
+
   -- ---- x is off the chain, a is its closest encloser there, and c the next closer name
 
   module _ (a c : Name) (enclosed_by : IsEnclosed names x a c) where
@@ -131,31 +116,91 @@ module _ {origin : Name} {m : Sets} {hash : Name → Option (List ℕ)} {paramet
     closer_hashed : IsHashedOn names x c
     closer_hashed = hashed_at a enclosed_by.is_encloser c enclosed_by.closer_at enclosed_by.closer_below
 
-    closer_is : closer_set origin m named_owner x a ≡ covering origin m named_owner c
-    closer_is = ap (option_and_then (covering origin m named_owner)) enclosed_by.is_closer
+    abbrev star : Name
+    star = wildcard_under a
 
-    star_part_is : sets_of m (star_part m owner_of a) ≡ Ok (option_to_list (star_set origin m named_owner a))
-    star_part_is =
-        ap (λ r. sets_of m (result_and_then (λ h. Ok (option_to_list (option_or (match_owner m h) (cover_owner m h)))) r)) (answered (star_under a) (star_hashed zone apart a c enclosed_by))
-        ∙ ap Ok (either_set m (named_owner (star_under a)))
+    -- the set of w tells of the star
+    record TellsOfStar (w : Name) : Type 0 where
+      pub on : In w names
+      pub found : wildcard_set origin m named_owner a ≡ Some (set_of_named zone apart w on).0
+      pub at_wildcard : In star names → w ≡ star
+      pub off_star : (In star names → ⊥) → IsCover zone apart star w
 
-    -- e is its closest encloser by names, as the search knows it
-    pub absent_is : (In x names → ⊥) → (e : Name) → IsAbove e x → IsAtOrAbove a e → nsec3_denial m owner_of false x ≡ Ok (absent_sets origin m named_owner x e)
-    absent_is off e above below =
-        encloser_denial m owner_of false x (owner zone apart x) None (is_owner zone apart x itself) (unmatched x itself (unnamed names x off)) refl (Some a) (encloser_is zone apart a c enclosed_by)
-        ∙ enclosed_answers m zone.zone owner_of x a c enclosed_by.is_closer (option_to_list (covering origin m named_owner c)) (option_to_list (matching origin m named_owner a)) (option_to_list (star_set origin m named_owner a))
-        (sets_covering m owner_of c (named_owner c) (option_to_list (covering origin m named_owner c)) (answered c closer_hashed) (any_set m (cover_owner m (named_owner c))))
-        (sets_matched m owner_of a (named_owner a) (matching origin m named_owner a) (answered a (named_hashed zone apart a enclosed_by.on)) refl)
-        star_part_is
-        ∙ ap (λ s. Ok (in_order owner_cmp (option_to_list (matching origin m named_owner a) ++ option_to_list s ++ option_to_list (star_set origin m named_owner a)))) (sym closer_is)
-        ∙ ap (λ o. Ok (option_map_or (absent_below origin m named_owner x) o [])) (sym (provable_from a e enclosed_by.is_encloser above below))
+    told_star : (w : Name) × TellsOfStar w
+    told_star = by (is_named names star) refl
+      where
+        h : IsHashedOn names x star
+        h = wildcard_hashed zone apart a c enclosed_by
+
+        by : (b : Bool) → is_named names star ≡ b → (w : Name) × TellsOfStar w
+        by true e =
+            let i = named_in names star e in
+            (star, record { on = i; found = ap (λ s. option_or s (covering origin m named_owner star)) (matched star i); at_wildcard = λ j. refl; off_star = λ off. absurd (off i) })
+        by false e =
+            let off = λ (i : In star names). true≢false (sym (in_named names star i) ∙ e) in
+            let k = has_cover zone apart star h off in
+            (k.0, record { on = k.1.on; found = ap (λ s. option_or s (covering origin m named_owner star)) (none_matches star h e) ∙ covering_is star k.0 h k.1; at_wildcard = λ i. absurd (off i); off_star = λ away. k.1 })
+
+    -- what is found for x with e, its closest encloser by names, as the search knows it
+    module _ (e : Name) (above : IsAbove e x) (below : IsAtOrAbove a e) where
+      k : (k : Name) × IsCover zone apart c k
+      k = has_cover zone apart c closer_hashed enclosed_by.off
+
+      abbrev answer : List RRset
+      answer = absent_sets origin m named_owner x e
+
+      abbrev owners : List Name
+      owners = owner zone apart a ∷ owner zone apart k.0 ∷ owner zone apart told_star.0 ∷ []
+
+      sets_are : filter_map (look m) owners ≡ (set_of_named zone apart a enclosed_by.on).0 ∷ (set_of_named zone apart k.0 k.1.on).0 ∷ (set_of_named zone apart told_star.0 told_star.1.on).0 ∷ []
+      sets_are =
+          λ i. cons_option ((set_of_named zone apart a enclosed_by.on).1 i)
+          (cons_option ((set_of_named zone apart k.0 k.1.on).1 i) (cons_option ((set_of_named zone apart told_star.0 told_star.1.on).1 i) []))
+
+      own : (o : Name) → In o owners → owns m o NSEC3 ≡ true
+      own o (inl q) = ap (λ n. owns m n NSEC3) (sym q) ∙ named_owns zone apart a enclosed_by.on
+      own o (inr (inl q)) = ap (λ n. owns m n NSEC3) (sym q) ∙ named_owns zone apart k.0 k.1.on
+      own o (inr (inr (inl q))) = ap (λ n. owns m n NSEC3) (sym q) ∙ named_owns zone apart told_star.0 told_star.1.on
+      own o (inr (inr (inr i))) = absurd i
+
+      answer_is : absent_sets origin m named_owner x e ≡ filter_map (look m) (in_order name_cmp owners)
+      answer_is =
+          ap (λ o. option_map_or (absent_below origin m named_owner x) o []) (provable_from a e enclosed_by.is_encloser above below)
+          ∙ (λ i. in_order owner_cmp
+          (option_to_list (matched a enclosed_by.on i) ++ option_to_list ((ap (option_and_then (covering origin m named_owner)) enclosed_by.is_closer ∙ covering_is c k.0 closer_hashed k.1) i) ++ option_to_list (told_star.1.found i)))
+          ∙ ap (in_order owner_cmp) (sym sets_are) ∙ sym (sets_in_order m zone.zone owners own)
+
+      has : (o : Name) → In o owners → Has zone apart answer o
+      has o i s q = In-Contains s answer (subst (In s) (sym answer_is) (In-filter_map (look m) o s (in_order name_cmp owners) (In-in_order name_order o owners i) q))
+
+      pub absent_denies : (In x names → ⊥) → Denies origin m hash names x (absent_sets origin m named_owner x e)
+      absent_denies off = record {
+        on = λ on. absurd (off (Contains-In x names on));
+        off = λ away.
+            record {
+              covers = record {
+                encloser = a;
+                is_encloser = enclosed_by.is_encloser;
+                closer = c;
+                is_closer = enclosed_by.is_closer;
+                cover = has_cover_of zone apart c k.0 closer_hashed k.1 answer (has (owner zone apart k.0) (inr (inl refl)));
+              };
+              matches = has_set zone apart a enclosed_by.on answer (has (owner zone apart a) (inl refl));
+              star_on = λ on.
+                  let i = Contains-In star names on in
+                  has_set zone apart star i answer (subst (λ n. Has zone apart answer (owner zone apart n)) (told_star.1.at_wildcard i) (has (owner zone apart told_star.0) (inr (inr (inl refl)))));
+              star_off = λ away.
+                  has_cover_of zone apart star told_star.0 (wildcard_hashed zone apart a c enclosed_by) (told_star.1.off_star (λ i. away (In-Contains star names i))) answer
+                  (has (owner zone apart told_star.0) (inr (inr (inl refl))));
+            };
+      }
 
     -- what covers the next closer name, and what matches a
-    pub left_out_is : (In x names → ⊥) → present_sets origin m named_owner x ≡ star_sets origin m named_owner x a ++ (set_of_named zone apart a enclosed_by.on).0 ∷ []
+    pub left_out_is : (In x names → ⊥) → present_sets origin m named_owner x ≡ wildcard_sets origin m named_owner x a ++ (set_of_named zone apart a enclosed_by.on).0 ∷ []
     left_out_is off =
         ap (λ s. option_map_or (λ s. s ∷ []) s (option_map_or (left_out_sets origin m named_owner x) (provable origin m named_owner (proper_ancestors x)) [])) (none_matches x itself (unnamed names x off))
         ∙ ap (λ o. option_map_or (left_out_sets origin m named_owner x) o []) (provable_over a enclosed_by.is_encloser)
-        ∙ ap (λ s. star_sets origin m named_owner x a ++ option_to_list s) (matched a enclosed_by.on)
+        ∙ ap (λ s. wildcard_sets origin m named_owner x a ++ option_to_list s) (matched a enclosed_by.on)
 
   -- ---- x is in the chain: its own set
 

@@ -15,12 +15,12 @@ use Rattle.zone_proto.specs.Types.{NSEC3}
 use Rattle.zone_proto.proofs.Members.{In, In-Contains, Contains-In, In-from_append}
 use Rattle.zone_map.specs.Zones.{Sets, set_at, IsZone}
 use Rattle.zone_denial.specs.Chains.{IsNsec3Chain}
-use Rattle.zone_denial.specs.Nsec3Zones.{IsHashedOn, TellsApart, hash_with}
+use Rattle.zone_denial.specs.Nsec3Zones.{IsHashedOn, HasDistinctDigests, hash_with}
 use Rattle.denial_validation.specs.Judgement.{nsec3_proof}
 use Rattle.denial_validation.specs.Nsec3Parameters.{zone_data, has_parameters, records_with, nsec3_datas, digest_by, is_known, is_other}
 use Rattle.denial_validation.specs.Nsec3Records.{nsec3_data, nsec3_record, read_nsec3}
-use Rattle.denial_laws.specs.Nsec3Calls.{StandInNsec3Sets, told}
-use Rattle.denial_laws.specs.Nsec3Judged.{read_nsec3_sets}
+use Rattle.denial_laws.specs.Nsec3Calls.{StandInNsec3Sets, call_concludes}
+use Rattle.denial_laws.specs.Nsec3Scope.{read_nsec3_sets}
 use Rattle.denial_laws.proofs.Chains.Nsec3Calls.{nsec3_parameters_found}
 use Rattle.zone_response.specs.declared.response.Part.{Part}
 use Rattle.zone_response.specs.declared.response.Part.TheVariants as part
@@ -53,13 +53,13 @@ kept_untimed passes h (v ∷ rs) =
 
 -- what a validator tells by records it tells by others of which it reads the same
 pub same_told : (digest_of : ℕ → List ℕ → Name → ℕ → Option (List ℕ)) (origin : Name) (rs others : List Record) → nsec3_datas origin rs ≡ nsec3_datas origin others
-    → ((p : Nsec3Data) → records_with origin p rs ≡ records_with origin p others) → (x : Name) (t : ℕ) → told digest_of origin rs x t ≡ told digest_of origin others x t
+    → ((p : Nsec3Data) → records_with origin p rs ≡ records_with origin p others) → (x : Name) (t : ℕ) → call_concludes digest_of origin rs x t ≡ call_concludes digest_of origin others x t
 same_told digest_of origin rs others datas kept x t = λ i. option_map_or (λ p. nsec3_proof origin (digest_by digest_of p) (kept p i) x t) (common (datas i)) None
   where
     common : List Nsec3Data → Option Nsec3Data
     common ds = option_and_then (λ p. cond (list_any (is_other digest_of origin x p) ds) None (Some p)) (find (is_known digest_of origin x) ds)
 
-told_untimed : (digest_of : ℕ → List ℕ → Name → ℕ → Option (List ℕ)) (origin : Name) (rs : List Record) (x : Name) (t : ℕ) → told digest_of origin (untimed rs) x t ≡ told digest_of origin rs x t
+told_untimed : (digest_of : ℕ → List ℕ → Name → ℕ → Option (List ℕ)) (origin : Name) (rs : List Record) (x : Name) (t : ℕ) → call_concludes digest_of origin (untimed rs) x t ≡ call_concludes digest_of origin rs x t
 told_untimed digest_of origin rs = same_told digest_of origin (untimed rs) rs (read_untimed (zone_data origin) (λ v. refl) rs) (λ p. kept_untimed (has_parameters origin p) (λ v. refl) rs)
 
 -- ---- the records of a section as they are stored
@@ -79,7 +79,7 @@ module _ (m : Sets) (zone : IsZone m) where
         by part.Signed set = (set.stored.records, sym (ap (λ (s : RRset). untimed s.records) set.sent ∙ again set.ttl set.stored.records), λ v i. i)
         by part.Signatures set = ([], sym (ap (λ (s : RRset). untimed s.records) set.sent), λ v i. absurd i)
 
-    -- an NSEC3 record stands in an NSEC3 set
+    -- an NSEC3 record is in an NSEC3 set
     stands : (v : Record) → In v set.stored.records → is_some (nsec3_data v.rdata) ≡ true → (o : Name) × (u : RRset) × (set_at m o NSEC3 ≡ Some u) × Contains u.records v
     stands v i k = (set.name, set.stored, ap (set_at m set.name) (sym type') ∙ set.stands, In-Contains v set.stored.records i)
       where
@@ -115,12 +115,12 @@ module _ (m : Sets) (zone : IsZone m) where
 
   -- ---- what a validator tells by them
 
-  pub told_is : (origin : Name) (digest_of : ℕ → List ℕ → Name → ℕ → Option (List ℕ)) (parameters : Nsec3Parameters) (names : List Name) → IsNsec3Chain origin m (hash_with digest_of parameters) parameters names
-      → (sets : List RRset) → ((s : RRset) → In s sets → IsSentSet m (authority_part s) s) → (x : Name) (t : ℕ) → TellsApart (IsHashedOn names x) (hash_with digest_of parameters)
-      → told digest_of origin (flat_map (λ (s : RRset). s.records) sets) x t ≡ nsec3_proof origin (hash_with digest_of parameters) (read_nsec3_sets sets) x t
-  told_is origin digest_of parameters names hashed sets h x t apart =
-      sym (told_untimed digest_of origin sent x t) ∙ ap (λ rs. told digest_of origin rs x t) (sym k.same) ∙ told_untimed digest_of origin k.records x t
-      ∙ nsec3_parameters_found origin m digest_of parameters names k.records x t hashed apart k.stand
+  pub told_is : {beside : Sets} (origin : Name) (digest_of : ℕ → List ℕ → Name → ℕ → Option (List ℕ)) (parameters : Nsec3Parameters) (names : List Name) → IsNsec3Chain origin beside m (hash_with digest_of parameters) parameters names
+      → (sets : List RRset) → ((s : RRset) → In s sets → IsSentSet m (authority_part s) s) → (x : Name) (t : ℕ) → HasDistinctDigests (IsHashedOn names x) (hash_with digest_of parameters)
+      → call_concludes digest_of origin (flat_map (λ (s : RRset). s.records) sets) x t ≡ nsec3_proof origin (hash_with digest_of parameters) (read_nsec3_sets sets) x t
+  told_is {beside} origin digest_of parameters names hashed sets h x t apart =
+      sym (told_untimed digest_of origin sent x t) ∙ ap (λ rs. call_concludes digest_of origin rs x t) (sym k.same) ∙ told_untimed digest_of origin k.records x t
+      ∙ nsec3_parameters_found origin beside m digest_of parameters names k.records x t hashed apart k.stand
       ∙ ap (λ ns. nsec3_proof origin (hash_with digest_of parameters) ns x t) (sym (read_untimed read_nsec3 (λ v. refl) k.records) ∙ ap (filter_map read_nsec3) k.same ∙ read_untimed read_nsec3 (λ v. refl) sent)
     where
       sent : List Record

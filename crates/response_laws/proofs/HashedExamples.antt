@@ -7,7 +7,7 @@ use Rattle.zone_proto.specs.declared.rdata.denial.NSEC3PARAM.{NSEC3PARAM as Nsec
 use Rattle.zone_proto.specs.declared.response_code.ResponseCode.TheVariants as code
 use Rattle.zone_proto.specs.declared.rr_key.RrKey.{RrKey}
 use Rattle.zone_proto.specs.HashedOwners.{hashed_owner}
-use Rattle.zone_proto.specs.Names.{Name, wire_form, star_under}
+use Rattle.zone_proto.specs.Names.{Name, wire_form, wildcard_under}
 use Rattle.zone_proto.specs.Sets.{RRset}
 use Rattle.zone_proto.specs.Types.{A, NS, SOA, RRSIG, NSEC3, NSEC3PARAM, IN}
 use Rattle.zone_map.specs.Wildcards.{renamed}
@@ -22,7 +22,7 @@ use Rattle.denial_validation.specs.Nsec3Proofs.{proves_name_error, proves_empty_
 use Rattle.zone_response.specs.declared.response.Part.TheVariants as part
 use Rattle.zone_response.specs.Paths.{path}
 use Rattle.zone_response.specs.Queries.{Zone}
-use Rattle.zone_response.specs.Dname.{made_alias}
+use Rattle.zone_response.specs.Dname.{synthesized_alias}
 use Rattle.zone_response.specs.Responses.{IsResponse}
 use Rattle.zone_response.specs.Sections.{Sections, sent, as_it_is}
 use Rattle.zone_response.specs.Descent.{DNAME}
@@ -55,14 +55,14 @@ abbrev c : Name
 c = codes "c" ∷ b
 
 abbrev star : Name
-star = star_under origin
+star = wildcard_under origin
 
 abbrev a : Name
 a = at_origin (codes "a")
 
 -- the digests of names
 abbrev digest : Name → Option (List ℕ)
-digest = digest_in ((origin, 64 ∷ []) ∷ (star, 96 ∷ []) ∷ (a, 96 ∷ []) ∷ (b, 80 ∷ []) ∷ (c, 32 ∷ []) ∷ (q, 32 ∷ []) ∷ (star_under b, 16 ∷ []) ∷ [])
+digest = digest_in ((origin, 64 ∷ []) ∷ (star, 96 ∷ []) ∷ (a, 96 ∷ []) ∷ (b, 80 ∷ []) ∷ (c, 32 ∷ []) ∷ (q, 32 ∷ []) ∷ (wildcard_under b, 16 ∷ []) ∷ [])
 
 abbrev at_apex : RRset
 at_apex = says (64 ∷ []) (96 ∷ []) (SOA ∷ RRSIG ∷ NSEC3PARAM ∷ [])
@@ -91,7 +91,7 @@ at_other = says (96 ∷ []) (64 ∷ []) (A ∷ RRSIG ∷ [])
 abbrev servers : Name → RrKey × RRset
 servers n = entry n NS (V.NS (codes "org" ∷ []))
 
--- ---- below an empty name that is left out, where a star stands above it
+-- ---- below an empty non-terminal that is left out, where a wildcard is above it
 
 abbrev above : Sets
 above = start ∷ address star ∷ servers c ∷ []
@@ -109,7 +109,7 @@ of_error = record { code = refl; authoritative = refl; answers = refl; authoriti
 error_says : saying (asked q A) error ≡ Some (name_error q)
 error_says = refl
 
--- the star is there, so that its record covers nothing of it
+-- the wildcard is there, so that its record covers nothing of it
 error_unproved : proves_name_error origin digest (shown_nsec3 error) q ≡ false
 error_unproved = refl
 
@@ -117,7 +117,7 @@ error_unproved = refl
 error_opted_out : nsec3_proof origin digest (shown_nsec3 error) q A ≡ Some UnsignedDelegation
 error_opted_out = refl
 
--- of the empty name itself that is proved too
+-- of the empty non-terminal itself that is proved too
 abbrev empty : Sections
 empty = sections code.NoError [] (sent part.Signed 60 start.1 ∷ sent part.Signed 60 at_apex ∷ [])
 
@@ -148,22 +148,22 @@ child_says = refl
 child_proved : proves_unsigned_delegation origin digest (shown_nsec3 to_child) c ≡ true
 child_proved = refl
 
--- ---- a star that is left out
+-- ---- a wildcard that is left out
 
 abbrev left_out : Sets
-left_out = start ∷ address a ∷ servers (star_under b) ∷ []
+left_out = start ∷ address a ∷ servers (wildcard_under b) ∷ []
 
 abbrev from_star : Sections
-from_star = sections code.NoError (renamed true (star_under b) q (servers (star_under b)).1 ∷ []) (sent part.Signed 60 at_other ∷ [])
+from_star = sections code.NoError (renamed true (wildcard_under b) q (servers (wildcard_under b)).1 ∷ []) (sent part.Signed 60 at_other ∷ [])
 
-of_star : IsResponse (zone left_out at_other) (asked q NS) from_star
+of_wildcard : IsResponse (zone left_out at_other) (asked q NS) from_star
 unfolding path
-of_star = record { code = refl; authoritative = refl; answers = refl; authorities = refl; additionals = refl; glue = refl; left_at = refl }
+of_wildcard = record { code = refl; authoritative = refl; answers = refl; authorities = refl; additionals = refl; glue = refl; left_at = refl }
 
 star_says : saying (asked q NS) from_star ≡ Some (data_of q)
 star_says = refl
 
--- the name next closer to the star's encloser is covered
+-- the name next closer to the wildcard's encloser is covered
 star_proved : proves_wildcard_answer origin digest (shown_nsec3 from_star) q b ≡ true
 star_proved = refl
 
@@ -178,12 +178,12 @@ at_renaming = says (96 ∷ []) (64 ∷ []) (DNAME ∷ RRSIG ∷ [])
 abbrev below_renaming : Name
 below_renaming = codes "q" ∷ a
 
--- the star of the new name isn't there either
+-- the wildcard of the new name isn't there either
 abbrev renamed_digest : Name → Option (List ℕ)
 renamed_digest = digest_in ((origin, 64 ∷ []) ∷ (a, 96 ∷ []) ∷ (b, 80 ∷ []) ∷ (q, 32 ∷ []) ∷ (star, 16 ∷ []) ∷ [])
 
 abbrev renamed_error : Sections
-renamed_error = sections code.NXDomain (renaming.1 ∷ made_alias renaming.1 below_renaming q ∷ []) (sent part.Signed 60 start.1 ∷ sent part.Signed 60 at_apex ∷ sent part.Signed 60 at_renaming ∷ [])
+renamed_error = sections code.NXDomain (renaming.1 ∷ synthesized_alias renaming.1 below_renaming q ∷ []) (sent part.Signed 60 start.1 ∷ sent part.Signed 60 at_apex ∷ sent part.Signed 60 at_renaming ∷ [])
 
 of_renamed_error : IsResponse (zone_by renamed_digest (start ∷ renaming ∷ []) at_renaming) (asked below_renaming A) renamed_error
 unfolding path

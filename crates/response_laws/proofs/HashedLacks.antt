@@ -8,13 +8,13 @@ use Rattle.zone_proto.specs.Types.{NS, CNAME, SOA, DS, RRSIG, NSEC3, ANY}
 use Rattle.zone_proto.proofs.Members.{In, In-from_any, any_from_In, and_left, and_right, not_true}
 use Rattle.zone_proto.proofs.Names.NameTree.{is_at_or_above_sound}
 use Rattle.zone_map.specs.Zones.{Sets, owns}
-use Rattle.zone_denial.specs.Chains.{is_delegation, is_told_at_delegation, tells, IsNsec3Chain}
-use Rattle.zone_denial.specs.Nsec3Zones.{IsHashedOn, TellsApart}
+use Rattle.zone_denial.specs.Chains.{is_delegation, is_stated_at_delegation, is_stated, IsNsec3Chain}
+use Rattle.zone_denial.specs.Nsec3Zones.{IsHashedOn, HasDistinctDigests}
 use Rattle.zone_denial.proofs.Chains.NsecLists.{delegation_owns, not_delegation}
 use Rattle.denial_validation.specs.Nsec3Proofs.{matches, lists, lists_none, is_wrong_side, denies_type, is_denied, proves_no_data}
 use Rattle.denial_validation.specs.Nsec3Records.{Nsec3Record}
-use Rattle.denial_laws.specs.Nsec3Judged.{AreNsec3OfZone}
-use Rattle.denial_laws.proofs.Chains.Nsec3Judging.{owned_listed, signature_listed, told, told_listed, told_owned}
+use Rattle.denial_laws.specs.Nsec3Scope.{AreNsec3OfZone}
+use Rattle.denial_laws.proofs.Chains.Nsec3Judging.{owned_listed, signature_listed, call_concludes, told_listed, told_owned}
 use Rattle.denial_laws.proofs.Chains.Nsec3Proved.{self_hashed, matching}
 use Rattle.denial_laws.proofs.Chains.Nsec3Readings.{record_of, of_name}
 use Rattle.denial_laws.proofs.Tests.{refuted}
@@ -34,8 +34,8 @@ unlisted r none t =
     (λ e. let u = In-from_any (λ u. u == t) r.types e in
     true≢false (sym (any_from_In (λ u. true) u.0 r.types u.1 refl) ∙ not_true (list_any (λ u. true) r.types) none))
 
-module _ (origin : Name) (m : Sets) (hash : Name → Option (List ℕ)) (parameters : Nsec3Parameters) (names : List Name) (rs : List Nsec3Record) (of_zone : AreNsec3OfZone m rs) (zone : IsNsec3Chain origin m hash parameters names) (x : Name)
-    (apart : TellsApart (IsHashedOn names x) hash) (t : ℕ) (p : proves_no_data origin hash rs x t ≡ true)
+module _ (origin : Name) (beside m : Sets) (hash : Name → Option (List ℕ)) (parameters : Nsec3Parameters) (names : List Name) (rs : List Nsec3Record) (of_zone : AreNsec3OfZone m rs) (zone : IsNsec3Chain origin beside m hash parameters names) (x : Name)
+    (apart : HasDistinctDigests (IsHashedOn names x) hash) (t : ℕ) (p : proves_no_data origin hash rs x t ≡ true)
   where
     abbrev r : Nsec3Record
     r = record_of zone apart x
@@ -50,8 +50,8 @@ module _ (origin : Name) (m : Sets) (hash : Name → Option (List ℕ)) (paramet
     pub lacking_named : In x names
     lacking_named = own.0
 
-    -- a type that stands there is listed, if the list tells of it
-    unlisted_absent : (u : ℕ) → u ≢ RRSIG → u ≢ NSEC3 → tells origin m x u ≡ true → lists r u ≡ false → owns m x u ≡ false
+    -- a type that is there is listed, if the list tells of it
+    unlisted_absent : (u : ℕ) → u ≢ RRSIG → u ≢ NSEC3 → is_stated origin m x u ≡ true → lists r u ≡ false → owns m x u ≡ false
     unlisted_absent u a b k e = refuted (owns m x u) (λ o. true≢false (sym (owned_listed zone apart x own.0 u o a b k) ∙ e))
 
     -- the record is of the right side of a zone cut, so that the name is a delegation only where DS is asked for
@@ -68,12 +68,12 @@ module _ (origin : Name) (m : Sets) (hash : Name → Option (List ℕ)) (paramet
         by true q = told_owned zone apart x own.0 SOA refl q
         by false q = absurd (true≢false (sym (λ i. told_listed zone apart x own.0 NS refl k i && not (q i)) ∙ delegation))
 
-    tells_it : tells origin m x t ≡ true
+    tells_it : is_stated origin m x t ≡ true
     tells_it = by (is_delegation origin m x) refl (t == DS) refl
       where
-        by : (d : Bool) → is_delegation origin m x ≡ d → (b : Bool) → (t == DS) ≡ b → not d || is_told_at_delegation t ≡ true
+        by : (d : Bool) → is_delegation origin m x ≡ d → (b : Bool) → (t == DS) ≡ b → not d || is_stated_at_delegation t ≡ true
         by false e b q = refl
-        by true e true q = ap is_told_at_delegation (eqb-true t DS q)
+        by true e true q = ap is_stated_at_delegation (eqb-true t DS q)
         by true e false q = let o = delegation_owns origin m x e in absurd (true≢false (sym (ns_beside_soa q o.0) ∙ o.1))
 
     absent : t ≢ NSEC3 → lists r t ≡ false → owns m x t ≡ false
@@ -97,7 +97,7 @@ module _ (origin : Name) (m : Sets) (hash : Name → Option (List ℕ)) (paramet
     lacking = by (denied_by (is_wrong_side origin r x t) (lists_none r) (t == ANY) (lists r t) (lists r CNAME) own.1)
       where
         alias : lists r CNAME ≡ false → owns m x CNAME ≡ false
-        alias e = unlisted_absent CNAME (λ g. omega (arith, g)) (λ g. omega (arith, g)) (told zone apart x own.0 CNAME refl) e
+        alias e = unlisted_absent CNAME (λ g. omega (arith, g)) (λ g. omega (arith, g)) (call_concludes zone apart x own.0 CNAME refl) e
 
         by : (lists_none r ≡ true) ⊎ ((lists r t ≡ false) × (lists r CNAME ≡ false)) → (t ≢ NSEC3 → owns m x t ≡ false) × (owns m x CNAME ≡ false)
         by (inl none) = (λ other. absent other (unlisted r none t), alias (unlisted r none CNAME))

@@ -9,7 +9,7 @@ use Rattle.zone_proto.specs.declared.record.Record.{Record}
 use Rattle.zone_proto.specs.declared.response_code.ResponseCode.TheVariants as code
 use Rattle.zone_proto.specs.HashedOwners.{hashed_owner}
 use Rattle.zone_proto.specs.Keys.{key, key_eq}
-use Rattle.zone_proto.specs.Names.{Name, base_name, name_eq, IsAtOrAbove, star_under}
+use Rattle.zone_proto.specs.Names.{Name, base_name, name_eq, IsAtOrAbove, wildcard_under}
 use Rattle.zone_proto.specs.Ranges.{IsOctet}
 use Rattle.zone_proto.specs.Sets.{RRset}
 use Rattle.zone_proto.specs.Types.{A, NS, SOA, DNSKEY, RRSIG, NSEC, NSEC3, NSEC3PARAM, IN}
@@ -25,7 +25,7 @@ use Rattle.zone_denial.specs.Nsec3Circle.{nsec3_data}
 use Rattle.zone_denial.specs.Nsec3Denial.{closest_encloser}
 use Rattle.zone_denial.specs.Nsec3Names.{nsec3_names}
 use Rattle.zone_denial.specs.Nsec3Sets.{nsec3_record, nsec3_set_at, set_of, HasNsec3Sets}
-use Rattle.zone_denial.specs.Nsec3Zones.{IsCircleName, IsHashed, IsNsec3Zone, TellsApart}
+use Rattle.zone_denial.specs.Nsec3Zones.{IsCircleName, IsHashed, IsNsec3Zone, HasDistinctDigests}
 use Rattle.zone_denial.proofs.Examples.NsecExamples.{origin, record_with, entry, start, public_key, bare}
 use Rattle.response_laws.proofs.MetPremises.{type_apart, bare_zone}
 use Rattle.zone_denial.proofs.Hashed.Nsec3Secured.{secured_is_nsec3_circle}
@@ -43,7 +43,7 @@ use Rattle.response_laws.proofs.SecuredZones.{denies_by_circle}
 use Rattle.response_laws.proofs.SayingExamples.{asked, sections}
 
 abbrev table : List (Name × List ℕ)
-table = (origin, 64 ∷ []) ∷ (b, 32 ∷ []) ∷ (star_under origin, 96 ∷ []) ∷ []
+table = (origin, 64 ∷ []) ∷ (b, 32 ∷ []) ∷ (wildcard_under origin, 96 ∷ []) ∷ []
 
 -- with opt-out or without
 abbrev parameters : Bool → Nsec3Parameters
@@ -85,10 +85,10 @@ zone opt_out = record {
 abbrev digest : Name → List ℕ
 digest n = unwrap_or (digest_in table n) []
 
--- ---- the names that are hashed are the origin, b and the star
+-- ---- the names that are hashed are the origin, b and the wildcard
 
 abbrev IsOneOfThree : Name → Type 0
-IsOneOfThree n = (n ≡ origin) ⊎ ((n ≡ b) ⊎ (n ≡ star_under origin))
+IsOneOfThree n = (n ≡ origin) ⊎ ((n ≡ b) ⊎ (n ≡ wildcard_under origin))
 
 circle_is : (opt_out : Bool) → nsec3_names origin (alone opt_out) opt_out ≡ origin ∷ []
 circle_is true = refl
@@ -117,9 +117,9 @@ between n (l ∷ j ∷ ls) back e k =
 
 hashed_names : (opt_out : Bool) (n : Name) → IsHashed origin (alone opt_out) opt_out b n → IsOneOfThree n
 hashed_names opt_out n (inl c) = on_circle n (subst (In n) (circle_is opt_out) (Contains-In n (nsec3_names origin (alone opt_out) opt_out) c))
-hashed_names opt_out n (inr (a, e, where_)) = by (subst (λ (k : Name). (IsAtOrAbove n b × IsAtOrAbove k n) ⊎ (n ≡ star_under k)) (same_name a origin (sym e ∙ encloser_is opt_out)) where_)
+hashed_names opt_out n (inr (a, e, where_)) = by (subst (λ (k : Name). (IsAtOrAbove n b × IsAtOrAbove k n) ⊎ (n ≡ wildcard_under k)) (same_name a origin (sym e ∙ encloser_is opt_out)) where_)
   where
-    by : (IsAtOrAbove n b × IsAtOrAbove origin n) ⊎ (n ≡ star_under origin) → IsOneOfThree n
+    by : (IsAtOrAbove n b × IsAtOrAbove origin n) ⊎ (n ≡ wildcard_under origin) → IsOneOfThree n
     by (inl (above, below)) = between n above.0 below.0 above.1 below.1
     by (inr star) = inr (inr star)
 
@@ -154,7 +154,7 @@ in_range n (inl e) = subst (λ (k : Name). AllByRecursion IsOctet (digest k)) (s
 in_range n (inr (inl e)) = subst (λ (k : Name). AllByRecursion IsOctet (digest k)) (sym e) (omega arith, tt)
 in_range n (inr (inr e)) = subst (λ (k : Name). AllByRecursion IsOctet (digest k)) (sym e) (omega arith, tt)
 
-table_tells_apart : (opt_out : Bool) → TellsApart (IsHashed origin (alone opt_out) opt_out b) (digest_in table)
+table_tells_apart : (opt_out : Bool) → HasDistinctDigests (IsHashed origin (alone opt_out) opt_out b) (digest_in table)
 table_tells_apart opt_out = record {
   digest = digest;
   answers = λ n h. answered n (hashed_names opt_out n h);
@@ -239,7 +239,7 @@ bare_circle : (opt_out : Bool) → nsec3_names origin bare opt_out ≡ origin �
 bare_circle true = refl
 bare_circle false = refl
 
-circle_tells_apart : (opt_out : Bool) → TellsApart (IsCircleName origin bare opt_out) (digest_in table)
+circle_tells_apart : (opt_out : Bool) → HasDistinctDigests (IsCircleName origin bare opt_out) (digest_in table)
 circle_tells_apart opt_out = record {
   digest = digest;
   answers = λ n c. answered n (of n c);
@@ -285,8 +285,8 @@ missing_proved opt_out = (response_proves_by_hashes (zone opt_out) (parameters o
 
 -- the standard has a proof of it, with opt-out too
 has_proof : (opt_out : Bool) → HasErrorProof (zone opt_out) (parameters opt_out) (names opt_out) b
-has_proof true e a is = ap (λ n. exists (alone true) (star_under n)) (same_name a origin (sym is ∙ encloser_is true))
+has_proof true e a is = ap (λ n. exists (alone true) (wildcard_under n)) (same_name a origin (sym is ∙ encloser_is true))
 has_proof false e a is = absurd (true≢false (sym e))
 
-told : (opt_out : Bool) → proof_in (zone opt_out) (parameters opt_out) (response opt_out) b A ≡ Some (NameError opt_out)
-told opt_out = (missing_proved opt_out).told (has_proof opt_out) A
+call_concludes : (opt_out : Bool) → proof_in (zone opt_out) (parameters opt_out) (response opt_out) b A ≡ Some (NameError opt_out)
+call_concludes opt_out = (missing_proved opt_out).call_concludes (has_proof opt_out) A

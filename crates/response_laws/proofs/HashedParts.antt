@@ -5,14 +5,14 @@ use Rattle.std.specs.Option.{option_map_or}
 use Rattle.zone_proto.specs.declared.nx_proof_kind.NxProofKind.TheVariants as kind
 use Rattle.zone_proto.specs.declared.rdata.denial.NSEC3PARAM.{NSEC3PARAM as Nsec3Parameters}
 use Rattle.zone_proto.specs.HashedOwners.{owner_or_refusal}
-use Rattle.zone_proto.specs.Names.{Name, lower, star_under}
+use Rattle.zone_proto.specs.Names.{Name, lower, wildcard_under}
 use Rattle.zone_proto.specs.Sets.{RRset}
 use Rattle.zone_proto.specs.Types.{NSEC3}
 use Rattle.zone_proto.proofs.Members.{In}
 use Rattle.zone_map.specs.Wildcards.{closest_encloser}
 use Rattle.zone_map.specs.Zones.{Sets, set_at, IsZone}
-use Rattle.zone_response.specs.Denials.{star_proof, star_proof_by, denial, denial_by, end_proof, with_star_proof, proofs}
-use Rattle.zone_response.specs.HashedDenials.{star_sets, absent_sets, present_sets, hashed_by}
+use Rattle.zone_response.specs.Denials.{wildcard_proof, wildcard_proof_by, denial, denial_by, end_proof, with_wildcard_proof, proofs}
+use Rattle.zone_response.specs.HashedDenials.{wildcard_sets, absent_sets, present_sets, hashed_by}
 use Rattle.zone_response.specs.Queries.{Zone}
 use Rattle.zone_response.specs.Steps.{End, referred, missing}
 use Rattle.response_laws.specs.HashedSayings.{zone_hash}
@@ -32,11 +32,11 @@ module _ (z : Zone) (zone : IsZone z.denials) (parameters : Nsec3Parameters) (fl
 
   -- ---- of one name
 
-  star_proof_is : (x : Name) → star_proof z x ≡ option_map_or (star_sets z.origin m hashed x) (closest_encloser z.sets x) []
-  star_proof_is x = ap (λ k. star_proof_by z k x) hashes
+  star_proof_is : (x : Name) → wildcard_proof z x ≡ option_map_or (wildcard_sets z.origin m hashed x) (closest_encloser z.sets x) []
+  star_proof_is x = ap (λ k. wildcard_proof_by z k x) hashes
 
-  absent_is : (x e : Name) → denial z x (Some (star_under e)) ≡ absent_sets z.origin m hashed x e
-  absent_is x e = ap (λ k. denial_by z k x (Some (star_under e))) hashes
+  absent_is : (x e : Name) → denial z x (Some (wildcard_under e)) ≡ absent_sets z.origin m hashed x e
+  absent_is x e = ap (λ k. denial_by z k x (Some (wildcard_under e))) hashes
 
   present_is : (x : Name) → denial z x None ≡ present_sets z.origin m hashed x
   present_is x = ap (λ k. denial_by z k x None) hashes
@@ -48,10 +48,10 @@ module _ (z : Zone) (zone : IsZone z.denials) (parameters : Nsec3Parameters) (fl
   abbrev IsOwn : RRset → Type 0
   IsOwn s = set_at m (lower s.owner) NSEC3 ≡ Some s
 
-  star_owners : (x : Name) → AreOwners NSEC3 m (star_proof z x)
+  star_owners : (x : Name) → AreOwners NSEC3 m (wildcard_proof z x)
   star_owners x = subst (AreOwners NSEC3 m) (sym (star_proof_is x)) (by (closest_encloser z.sets x))
     where
-      by : (o : Option Name) → AreOwners NSEC3 m (option_map_or (star_sets z.origin m hashed x) o [])
+      by : (o : Option Name) → AreOwners NSEC3 m (option_map_or (wildcard_sets z.origin m hashed x) o [])
       by (Some e) = of_star_sets IsOwn m own_set z.origin hashed x e
       by None = λ s i. absurd i
 
@@ -63,29 +63,29 @@ module _ (z : Zone) (zone : IsZone z.denials) (parameters : Nsec3Parameters) (fl
       by (Some []) = of_present IsOwn m own_set z.origin hashed x
       by None = of_present IsOwn m own_set z.origin hashed x
 
-  -- ---- of those for which a star answered
+  -- ---- of those for which a wildcard answered
 
   pub record AreStarProofs (start : List RRset) (made : List Name) (sets : List RRset) : Type 0 where
     pub owners : AreOwners NSEC3 m sets
     pub kept : (s : RRset) → In s start → In s sets
-    pub each : (x : Name) → In x made → (s : RRset) → In s (star_proof z x) → In s sets
+    pub each : (x : Name) → In x made → (s : RRset) → In s (wildcard_proof z x) → In s sets
 
-  star_proofs : (made : List Name) (start : List RRset) → AreOwners NSEC3 m start → AreStarProofs start made (fold (with_star_proof z) start made)
+  star_proofs : (made : List Name) (start : List RRset) → AreOwners NSEC3 m start → AreStarProofs start made (fold (with_wildcard_proof z) start made)
   star_proofs [] start h = record { owners = h; kept = λ s i. i; each = λ x i. absurd i }
-  star_proofs (x ∷ made) start h = by (star_proofs made (all_of start (star_proof z x)) (owners_of_all NSEC3 m start (star_proof z x) h (star_owners x)))
+  star_proofs (x ∷ made) start h = by (star_proofs made (all_of start (wildcard_proof z x)) (owners_of_all NSEC3 m start (wildcard_proof z x) h (star_owners x)))
     where
-      by : AreStarProofs (all_of start (star_proof z x)) made (fold (with_star_proof z) (all_of start (star_proof z x)) made) → AreStarProofs start (x ∷ made) (fold (with_star_proof z) (all_of start (star_proof z x)) made)
-      by rest = record { owners = rest.owners; kept = λ s i. rest.kept s (kept_in_all NSEC3 m start (star_proof z x) s i); each = each }
+      by : AreStarProofs (all_of start (wildcard_proof z x)) made (fold (with_wildcard_proof z) (all_of start (wildcard_proof z x)) made) → AreStarProofs start (x ∷ made) (fold (with_wildcard_proof z) (all_of start (wildcard_proof z x)) made)
+      by rest = record { owners = rest.owners; kept = λ s i. rest.kept s (kept_in_all NSEC3 m start (wildcard_proof z x) s i); each = each }
         where
-          each : (y : Name) → In y (x ∷ made) → (s : RRset) → In s (star_proof z y) → In s (fold (with_star_proof z) (all_of start (star_proof z x)) made)
-          each y (inl q) s i = rest.kept s (more_in_all NSEC3 m start (star_proof z x) s h (star_owners x) (subst (λ n. In s (star_proof z n)) (sym q) i))
+          each : (y : Name) → In y (x ∷ made) → (s : RRset) → In s (wildcard_proof z y) → In s (fold (with_wildcard_proof z) (all_of start (wildcard_proof z x)) made)
+          each y (inl q) s i = rest.kept s (more_in_all NSEC3 m start (wildcard_proof z x) s h (star_owners x) (subst (λ n. In s (wildcard_proof z n)) (sym q) i))
           each y (inr j) s i = rest.each y j s i
 
   -- ---- of all
 
   pub record AreHashedProofs (ds : Option RRset) (made : List Name) (e : End) (sets : List RRset) : Type 0 where
     pub owners : AreOwners NSEC3 m sets
-    pub stars : (x : Name) → In x made → (encloser : Name) → closest_encloser z.sets x ≡ Some encloser → (s : RRset) → In s (star_sets z.origin z.denials (zone_owner z parameters) x encloser) → In s sets
+    pub stars : (x : Name) → In x made → (encloser : Name) → closest_encloser z.sets x ≡ Some encloser → (s : RRset) → In s (wildcard_sets z.origin z.denials (zone_owner z parameters) x encloser) → In s sets
     pub kept : (s : RRset) → In s (end_proof z ds e) → In s sets
 
   end_owners : (ds : Option RRset) (e : End) → AreOwners NSEC3 m (end_proof z ds e)
@@ -96,18 +96,18 @@ module _ (z : Zone) (zone : IsZone z.denials) (parameters : Nsec3Parameters) (fl
 
   pub hashed_proofs : (ds : Option RRset) (made : List Name) (e : End) (sets : List RRset) → proofs z ds made e ≡ sets → AreHashedProofs ds made e sets
   hashed_proofs ds made e sets k = subst (AreHashedProofs ds made e) k (record {
-    owners = owners_of_all NSEC3 m (fold (with_star_proof z) [] made) (end_proof z ds e) all.owners (end_owners ds e);
-    stars = λ x i a f s j. kept_in_all NSEC3 m (fold (with_star_proof z) [] made) (end_proof z ds e) s (all.each x i s (subst (In s) (sym (star_proof_is x ∙ ap (λ o. option_map_or (star_sets z.origin m hashed x) o []) f)) j));
-    kept = λ s i. more_in_all NSEC3 m (fold (with_star_proof z) [] made) (end_proof z ds e) s all.owners (end_owners ds e) i;
+    owners = owners_of_all NSEC3 m (fold (with_wildcard_proof z) [] made) (end_proof z ds e) all.owners (end_owners ds e);
+    stars = λ x i a f s j. kept_in_all NSEC3 m (fold (with_wildcard_proof z) [] made) (end_proof z ds e) s (all.each x i s (subst (In s) (sym (star_proof_is x ∙ ap (λ o. option_map_or (wildcard_sets z.origin m hashed x) o []) f)) j));
+    kept = λ s i. more_in_all NSEC3 m (fold (with_wildcard_proof z) [] made) (end_proof z ds e) s all.owners (end_owners ds e) i;
   })
     where
-      all : AreStarProofs [] made (fold (with_star_proof z) [] made)
+      all : AreStarProofs [] made (fold (with_wildcard_proof z) [] made)
       all = star_proofs made [] (λ s i. absurd i)
 
-  -- of a name that doesn't exist, whose star was asked
-  pub of_missing : (made : List Name) (x e : Name) (there : Bool) (sets : List RRset) → proofs z None made (missing x (Some (star_under e)) there) ≡ sets
+  -- of a name that doesn't exist, whose wildcard was asked
+  pub of_missing : (made : List Name) (x e : Name) (there : Bool) (sets : List RRset) → proofs z None made (missing x (Some (wildcard_under e)) there) ≡ sets
       → (s : RRset) → In s (absent_sets z.origin z.denials (zone_owner z parameters) x e) → In s sets
-  of_missing made x e there sets k s i = (hashed_proofs None made (missing x (Some (star_under e)) there) sets k).kept s (subst (In s) (sym (absent_is x e)) i)
+  of_missing made x e there sets k s i = (hashed_proofs None made (missing x (Some (wildcard_under e)) there) sets k).kept s (subst (In s) (sym (absent_is x e)) i)
 
   -- of one that exists without what is asked for
   pub of_present_name : (made : List Name) (x : Name) (there : Bool) (sets : List RRset) → proofs z None made (missing x None there) ≡ sets

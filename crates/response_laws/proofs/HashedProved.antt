@@ -1,10 +1,10 @@
--- What a response has of NSEC3 records, and that they prove that a star may answer
+-- What a response has of NSEC3 records, and that they prove that a wildcard may answer
 use Rattle.std.proofs.Common.{◌≡◌, ◌<◌, ℕ, suc, Bool, true, false, cond, ◌||◌, List, length, refl, sym, ap, ◌∙◌, subst, true≢false, ◌⊎◌, inl, inr, arith}
 use Rattle.std.proofs.lemmas.List.{length-append}
 use Rattle.std.specs.Prelude.{Option, Some, None, option_map, ◌==◌}
 use Rattle.std.specs.List.{Contains}
 use Rattle.zone_proto.specs.declared.rdata.denial.NSEC3PARAM.{NSEC3PARAM as Nsec3Parameters}
-use Rattle.zone_proto.specs.Names.{Name, lower, IsAtOrAbove, IsAbove, star_under, is_at_or_above}
+use Rattle.zone_proto.specs.Names.{Name, lower, IsAtOrAbove, IsAbove, wildcard_under, is_at_or_above}
 use Rattle.zone_proto.specs.Sets.{RRset}
 use Rattle.zone_proto.specs.Types.{CNAME, RRSIG, NSEC, NSEC3}
 use Rattle.zone_proto.proofs.Members.{In, In-Contains, Contains-In}
@@ -15,9 +15,8 @@ use Rattle.zone_denial.specs.Authority.{is_below_cut}
 use Rattle.zone_denial.specs.Chains.{chain_sets, is_below_dname}
 use Rattle.zone_denial.specs.Nsec3Denial.{next_closer}
 use Rattle.zone_denial.specs.Nsec3Zones.{IsHashedOn}
-use Rattle.zone_denial.specs.StarLaws.{OwnsNone}
+use Rattle.zone_denial.specs.WildcardLaws.{OwnsNone}
 use Rattle.zone_denial.proofs.Chains.ChainSets.{one_kind}
-use Rattle.zone_denial.proofs.Chains.Nsec3Covers.{IsCover}
 use Rattle.zone_denial.proofs.Chains.Nsec3Names.{is_named, in_named, IsEnclosed}
 use Rattle.zone_denial.proofs.Chain.NsecBelow.{above_through}
 use Rattle.zone_denial.proofs.Hashed.Nsec3Enclosers.{next_closer_is, below_ancestor}
@@ -26,22 +25,23 @@ use Rattle.zone_proto.proofs.Names.Tree.{above_cases}
 use Rattle.denial_validation.specs.Judgement.{nsec3_proof}
 use Rattle.denial_validation.specs.Nsec3Proofs.{proves_no_data, proves_wildcard_answer}
 use Rattle.denial_validation.specs.Nsec3Records.{Nsec3Record, read_nsec3}
-use Rattle.denial_laws.specs.Nsec3Calls.{told}
-use Rattle.denial_laws.specs.Nsec3Chains.{IsNsec3JudgedInChain, IsOptOutSoundOn}
-use Rattle.denial_laws.specs.Nsec3Judged.{read_nsec3_sets, AreNsec3OfZone}
+use Rattle.denial_laws.specs.Nsec3Calls.{call_concludes}
+use Rattle.denial_laws.specs.Nsec3Chains.{IsInNsec3ScopeOfChain, IsOptOutSoundOn}
+use Rattle.denial_laws.specs.Nsec3Scope.{read_nsec3_sets, AreNsec3OfZone}
 use Rattle.denial_laws.specs.Nsec3Soundness.{IsNsec3SoundOn}
 use Rattle.denial_laws.proofs.Chains.Nsec3LeftOut.{nsec3_opt_out_sound}
 use Rattle.denial_laws.proofs.Chains.Nsec3Readings.{record_of}
+use Rattle.denial_laws.proofs.Chains.Nsec3Shown.{IsCovering}
 use Rattle.denial_laws.proofs.Chains.Nsec3Soundness.{nsec3_records_sound}
 use Rattle.denial_laws.proofs.Nsec3Readings.{from_read}
-use Rattle.zone_response.specs.HashedDenials.{star_sets}
+use Rattle.zone_response.specs.HashedDenials.{wildcard_sets}
 use Rattle.zone_response.specs.Queries.{Zone, Query, inquiry}
 use Rattle.zone_response.specs.Responses.{negative_ttl, ds_at, end_sets}
 use Rattle.zone_response.specs.Sections.{Sections}
-use Rattle.zone_response.specs.Wildcards.{star_of}
+use Rattle.zone_response.specs.Wildcards.{source_of_synthesis}
 use Rattle.zone_response.specs.Steps.{End}
 use Rattle.response_laws.specs.Contents.{Origin}
-use Rattle.response_laws.specs.HashedSayings.{zone_hash, DeniesByNsec3, HashesApart, IsReached, shown_nsec3, IsHashedFoundByStar, IsLacking, shown_records}
+use Rattle.response_laws.specs.HashedSayings.{zone_hash, DeniesByNsec3, HashesDistinctly, IsReached, shown_nsec3, IsHashedFoundByWildcard, IsLacking, shown_records}
 use Rattle.response_laws.specs.ProvedSayings.{IsAliasData}
 use Rattle.response_laws.specs.Sayings.{Saying, data_of, name_error, no_data, referral, saying, name_of}
 use Rattle.response_laws.proofs.Answers.{IsMadeFound, ByStarOf, path_answers}
@@ -109,19 +109,19 @@ module _ (z : Zone) (parameters : Nsec3Parameters) (q : Query) (r : Sections) (d
   pub records_proved : AreNsec3OfZone z.denials (shown_nsec3 r)
   records_proved = read_of_zone read_nsec3 NSEC3 nsec3_reader m d.chain.zone r.authorities authority_is
 
-  pub sound_proved : (x : Name) → IsNsec3JudgedInChain z.origin z.denials (zone_hash z parameters) parameters d.names x → IsNsec3SoundOn z.origin z.denials (zone_hash z parameters) d.names x (shown_nsec3 r)
-  sound_proved x j = nsec3_records_sound o m hash parameters names rs x j records_proved
+  pub sound_proved : (x : Name) → IsInNsec3ScopeOfChain z.origin z.sets z.denials (zone_hash z parameters) parameters d.names x → IsNsec3SoundOn z.origin z.denials (zone_hash z parameters) d.names x (shown_nsec3 r)
+  sound_proved x j = nsec3_records_sound o z.sets m hash parameters names rs x j records_proved
 
-  pub opt_out_sound_proved : (x : Name) → HashesApart z parameters d.names x → IsOptOutSoundOn z.origin z.denials (zone_hash z parameters) parameters.opt_out d.names x (shown_nsec3 r)
-  opt_out_sound_proved x apart = nsec3_opt_out_sound o m hash parameters names rs x d.chain apart records_proved
+  pub opt_out_sound_proved : (x : Name) → HashesDistinctly z parameters d.names x → IsOptOutSoundOn z.origin z.denials (zone_hash z parameters) parameters.opt_out d.names x (shown_nsec3 r)
+  opt_out_sound_proved x apart = nsec3_opt_out_sound o z.sets m hash parameters names rs x d.chain apart records_proved
 
-  pub parameters_found_proved : (x : Name) (t : ℕ) → HashesApart z parameters d.names x → told z.digest_of z.origin (shown_records r) x t ≡ nsec3_proof z.origin (zone_hash z parameters) (shown_nsec3 r) x t
+  pub parameters_found_proved : (x : Name) (t : ℕ) → HashesDistinctly z parameters d.names x → call_concludes z.digest_of z.origin (shown_records r) x t ≡ nsec3_proof z.origin (zone_hash z parameters) (shown_nsec3 r) x t
   parameters_found_proved x u apart = told_is m d.chain.zone o z.digest_of parameters names d.chain r.authorities authority_is x u apart
 
-  pub data_sound_proved : (x : Name) (t : ℕ) → HashesApart z parameters d.names x → proves_no_data z.origin (zone_hash z parameters) (shown_nsec3 r) x t ≡ true → IsLacking z d.names x t
+  pub data_sound_proved : (x : Name) (t : ℕ) → HashesDistinctly z parameters d.names x → proves_no_data z.origin (zone_hash z parameters) (shown_nsec3 r) x t ≡ true → IsLacking z d.names x t
   data_sound_proved x u apart p =
-      let k = lacking o m hash parameters names rs records_proved d.chain x apart u p in
-      record { named = In-Contains x names (lacking_named o m hash parameters names rs records_proved d.chain x apart u p); none = k.0; no_alias = sym (owns_kept z d.denials x CNAME refl) ∙ k.1 }
+      let k = lacking o z.sets m hash parameters names rs records_proved d.chain x apart u p in
+      record { named = In-Contains x names (lacking_named o z.sets m hash parameters names rs records_proved d.chain x apart u p); none = k.0; no_alias = sym (owns_kept z d.denials x CNAME refl) ∙ k.1 }
 
   -- what a denial shows is shown
   pub shown_of : (own : List RRset) → ((s : RRset) → In s own → In s h.proofs) → (n : Nsec3Record) → In n (read_nsec3_sets own) → In n (shown_nsec3 r)
@@ -130,10 +130,10 @@ module _ (z : Zone) (parameters : Nsec3Parameters) (q : Query) (r : Sections) (d
       subst (λ (sets : List RRset). In n (read_nsec3_sets sets)) (sym (authorities_are z q r zone signed h))
       (read_proof read_nsec3 NSEC3 nsec3_reader (negative_ttl h.soa) h.proofs s.0 n (among s.0 s.1) s.2 (end_sets (ds_at z.sets ends) true h.soa ends))
 
-  pub hashed_name : (x : Name) → IsReached z.origin z.sets x → HashesApart z parameters d.names x → IsHashedName z.origin z.denials (zone_hash z parameters) parameters d.names x
+  pub hashed_name : (x : Name) → IsReached z.origin z.sets x → HashesDistinctly z parameters d.names x → IsHashedName z.origin z.sets z.denials (zone_hash z parameters) parameters d.names x
   hashed_name x k apart = record { zone = d.chain; one_kind = no_nsec; unreferred = unreferred_kept z d.denials d.top; reached = reached_kept z d.denials x k; apart = apart }
 
-  pub judged_name : (x : Name) → IsReached z.origin z.sets x → HashesApart z parameters d.names x → parameters.opt_out ≡ false → owns z.denials x NSEC3 ≡ false → IsNsec3JudgedInChain z.origin z.denials (zone_hash z parameters) parameters d.names x
+  pub judged_name : (x : Name) → IsReached z.origin z.sets x → HashesDistinctly z parameters d.names x → parameters.opt_out ≡ false → owns z.denials x NSEC3 ≡ false → IsInNsec3ScopeOfChain z.origin z.sets z.denials (zone_hash z parameters) parameters d.names x
   judged_name x k apart all_in none =
       let there = reached_kept z d.denials x k in
       record {
@@ -167,34 +167,34 @@ module _ (z : Zone) (parameters : Nsec3Parameters) (q : Query) (r : Sections) (d
       by (says_referral y c f g u) = of (referral (lower c.owner)) f (reached_cut z q d.top.no_dname zone y c u).reached
       by (says_missing y star there f g u k) = of (cond there (no_data y) (name_error y)) f (either there y (reached_unturned z q d.top.no_dname y u))
 
-  -- ---- the star that is asked for a name
+  -- ---- the wildcard at the closest encloser of a name
 
   pub record IsAsked (x w : Name) : Type 0 where
     pub encloser : Name
     pub found : found_encloser z.sets x ≡ Some encloser
-    pub is : star_under encloser ≡ w
+    pub is : wildcard_under encloser ≡ w
 
-  pub asked_star : (x w : Name) → star_of z.sets x ≡ Some w → IsAsked x w
-  asked_star x w e = by (found_encloser z.sets x) refl e
+  pub asked_wildcard : (x w : Name) → source_of_synthesis z.sets x ≡ Some w → IsAsked x w
+  asked_wildcard x w e = by (found_encloser z.sets x) refl e
     where
-      by : (p : Option Name) → found_encloser z.sets x ≡ p → option_map star_under p ≡ Some w → IsAsked x w
+      by : (p : Option Name) → found_encloser z.sets x ≡ p → option_map wildcard_under p ≡ Some w → IsAsked x w
       by None f g = absurd cc
-      by (Some a) f g = record { encloser = a; found = f; is = same_name (star_under a) w g }
+      by (Some a) f g = record { encloser = a; found = f; is = same_name (wildcard_under a) w g }
 
   -- without opt-out a name that exists is one of the chain's
   pub there_on : (x : Name) → is_at_or_above z.origin x ≡ true → is_below_cut z.origin z.denials x ≡ false → is_below_dname z.denials x ≡ false → parameters.opt_out ≡ false → exists z.sets x ≡ true → is_named d.names x ≡ true
-  there_on x inside uncut plain all_in e = there_named o m hash parameters names d.chain no_nsec all_in x (is_at_or_above_sound o x inside) uncut plain (exists_kept z d.denials x ∙ e)
+  there_on x inside uncut plain all_in e = there_named o z.sets m hash parameters names d.chain no_nsec all_in x (is_at_or_above_sound o x inside) uncut plain (exists_kept z d.denials x ∙ e)
 
   pub off : (x : Name) → exists z.sets x ≡ false → is_named d.names x ≡ false
-  off x absent = absent_off o m hash parameters names d.chain no_nsec x (exists_kept z d.denials x ∙ absent)
+  off x absent = absent_off o z.sets m hash parameters names d.chain no_nsec x (exists_kept z d.denials x ∙ absent)
 
-  -- ---- an answer of a star
+  -- ---- an answer of a wildcard
 
-  star_proved : (y e : Name) → In y (path_of z q).made → IsReached o z.sets y → exists z.sets y ≡ false → found_encloser z.sets y ≡ Some e → HashesApart z parameters names y → proves_wildcard_answer o hash rs y e ≡ true
+  star_proved : (y e : Name) → In y (path_of z q).made → IsReached o z.sets y → exists z.sets y ≡ false → found_encloser z.sets y ≡ Some e → HashesDistinctly z parameters names y → proves_wildcard_answer o hash rs y e ≡ true
   star_proved y e i k absent there apart =
-      answer_proved j rs records_proved away_y n.0 e c.0 n.2.is_encloser over above c.1 between cover.0 cover.1 (shown_of (star_sets o m (zone_owner z parameters) y e) (all.stars y i e there) (record_of j.zone j.apart cover.0) cover.2)
+      answer_proved j rs records_proved away_y n.0 e c.0 n.2.is_encloser over above c.1 between cover.0 cover.1 (shown_of (wildcard_sets o m (zone_owner z parameters) y e) (all.stars y i e there) (record_of j.zone j.apart cover.0) cover.2)
     where
-      j : IsHashedName o m hash parameters names y
+      j : IsHashedName o z.sets m hash parameters names y
       j = hashed_name y k apart
 
       away_y : on_chain y ≡ false
@@ -207,12 +207,12 @@ module _ (z : Zone) (parameters : Nsec3Parameters) (q : Query) (r : Sections) (d
       lent = encloser_kept z d.denials y ∙ there
 
       above : IsAbove e y
-      above = existing_above o m hash parameters names d.chain no_nsec y (below j away_y) n.0 n.2.is_encloser e lent
+      above = existing_above o z.sets m hash parameters names d.chain no_nsec y (below j away_y) n.0 n.2.is_encloser e lent
 
       over : IsAtOrAbove n.0 e
-      over = encloser_over o m hash parameters names d.chain no_nsec y (below j away_y) n.0 n.2.is_encloser e lent
+      over = encloser_over o z.sets m hash parameters names d.chain no_nsec y (below j away_y) n.0 n.2.is_encloser e lent
 
-      -- the name next closer to the star's encloser
+      -- the name next closer to the wildcard's encloser
       c : (c : Name) × (next_closer y e ≡ Some c) × IsAtOrAbove c y × (length c ≡ suc (length e))
       c = next_closer_is y e above
 
@@ -230,13 +230,13 @@ module _ (z : Zone) (parameters : Nsec3Parameters) (q : Query) (r : Sections) (d
           by (inl q) = away j y away_y (subst (λ w. In w names) q v)
           by (inr u) = true≢false (sym (in_named names c.0 v) ∙ (longest_is on_chain y n.0 n.2.is_encloser).longest c.0 u (longer over c.3))
 
-      cover : (k : Name) × IsCover j.zone j.apart c.0 k × In (record_of j.zone j.apart k) (read_nsec3_sets (star_sets o m (zone_owner z parameters) y e))
+      cover : (k : Name) × IsCovering j.zone j.apart c.0 k × In (record_of j.zone j.apart k) (read_nsec3_sets (wildcard_sets o m (zone_owner z parameters) y e))
       cover = cover_shown j.zone j.apart e c.0 c.1 between off_chain
 
-  -- of a star's set under a name for which the star answered
-  by_star_proved : (y : Name) → In y (path_of z q).made → (u : ℕ) (found : RRset) → IsMadeFound (inquiry z q) y u found → IsHashedFoundByStar z parameters d.names (shown_nsec3 r) y u found
+  -- of a wildcard's set under a name for which the wildcard answered
+  by_star_proved : (y : Name) → In y (path_of z q).made → (u : ℕ) (found : RRset) → IsMadeFound (inquiry z q) y u found → IsHashedFoundByWildcard z parameters d.names (shown_nsec3 r) y u found
   by_star_proved y i u found k =
-      let w = asked_star y k.star k.made.star in
+      let w = asked_wildcard y k.star k.made.star in
       record {
         encloser = w.encloser;
         stored = k.stored;
@@ -245,8 +245,8 @@ module _ (z : Zone) (parameters : Nsec3Parameters) (q : Query) (r : Sections) (d
         proved = star_proved y w.encloser i (reached_unturned z q d.top.no_dname y k.made.unturned) k.made.absent w.found;
       }
 
-  pub answers_proved : (s : RRset) → Contains r.answers s → Origin (inquiry z q) r.answers (IsHashedFoundByStar z parameters d.names (shown_nsec3 r)) s
+  pub answers_proved : (s : RRset) → Contains r.answers s → Origin (inquiry z q) r.answers (IsHashedFoundByWildcard z parameters d.names (shown_nsec3 r)) s
   answers_proved s c =
-      origin_by (inquiry z q) r.answers s (ByStarOf (inquiry z q) (path_of z q).made) (IsHashedFoundByStar z parameters d.names (shown_nsec3 r)) (λ y u found k. by_star_proved y k.0 u found k.1)
+      origin_by (inquiry z q) r.answers s (ByStarOf (inquiry z q) (path_of z q).made) (IsHashedFoundByWildcard z parameters d.names (shown_nsec3 r)) (λ y u found k. by_star_proved y k.0 u found k.1)
       (subst (λ all. Origin (inquiry z q) all (ByStarOf (inquiry z q) (path_of z q).made) s) (sym h.answers)
       (path_answers (inquiry z q) zone q.name s (subst (In s) h.answers (Contains-In s r.answers c))))

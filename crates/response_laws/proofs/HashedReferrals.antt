@@ -2,7 +2,7 @@
 use Rattle.std.proofs.Common.{◌≡◌, ℕ, Bool, true, false, List, [], refl, sym, ap, ◌∙◌, subst, true≢false, ◌⊎◌, inl, inr}
 use Rattle.std.specs.Prelude.{Option, Some, None, is_some}
 use Rattle.zone_proto.specs.declared.rdata.denial.NSEC3PARAM.{NSEC3PARAM as Nsec3Parameters}
-use Rattle.zone_proto.specs.Names.{Name, lower, IsAbove, star_under}
+use Rattle.zone_proto.specs.Names.{Name, lower, IsAbove, wildcard_under}
 use Rattle.zone_proto.specs.Sets.{RRset}
 use Rattle.zone_proto.specs.Types.{NS, SOA, DS}
 use Rattle.zone_proto.proofs.Members.{In, or_left, or_right}
@@ -13,7 +13,7 @@ use Rattle.zone_denial.proofs.Chains.Nsec3Names.{is_named, named_in, IsEnclosed}
 use Rattle.zone_denial.proofs.Names.ExistingAncestors.{exists_from}
 use Rattle.denial_validation.specs.Nsec3Proofs.{is_covered, proves_opted_out, shows_unsigned_delegation}
 use Rattle.denial_validation.specs.Nsec3Records.{Nsec3Record}
-use Rattle.denial_laws.specs.Nsec3Judged.{read_nsec3_sets, AreNsec3OfZone}
+use Rattle.denial_laws.specs.Nsec3Scope.{read_nsec3_sets, AreNsec3OfZone}
 use Rattle.denial_laws.proofs.Chains.Nsec3Readings.{record_of}
 use Rattle.zone_response.specs.declared.response.Part.TheVariants as part
 use Rattle.zone_response.specs.Denials.{proofs}
@@ -22,7 +22,7 @@ use Rattle.zone_response.specs.Queries.{Zone, Query}
 use Rattle.zone_response.specs.Responses.{child_ds, ds_at}
 use Rattle.zone_response.specs.Sections.{Sections}
 use Rattle.zone_response.specs.Steps.{referred}
-use Rattle.response_laws.specs.HashedSayings.{zone_hash, DeniesByNsec3, HashesApart, shown_nsec3, IsHashedUnsigned}
+use Rattle.response_laws.specs.HashedSayings.{zone_hash, DeniesByNsec3, HashesDistinctly, shown_nsec3, IsHashedUnsigned}
 use Rattle.response_laws.specs.ProvedSayings.{HasAuthority, IsProvedReferral}
 use Rattle.response_laws.specs.Sayings.{referral, saying}
 use Rattle.response_laws.proofs.HashedNames.{plain_under}
@@ -53,11 +53,11 @@ module _ (z : Zone) (parameters : Nsec3Parameters) (q : Query) (r : Sections) (d
   rs = shown_nsec3 r
 
   -- a child without DS, which no SOA shows to be an apex
-  module _ (c : RRset) (end : (path_of z q).end ≡ referred c) (unsigned : child_ds z.sets c ≡ None) (k : IsCut z q d.top.no_dname c) (no_apex : owns z.sets (lower c.owner) SOA ≡ false) (apart : HashesApart z parameters d.names (lower c.owner)) where
+  module _ (c : RRset) (end : (path_of z q).end ≡ referred c) (unsigned : child_ds z.sets c ≡ None) (k : IsCut z q d.top.no_dname c) (no_apex : owns z.sets (lower c.owner) SOA ≡ false) (apart : HashesDistinctly z parameters d.names (lower c.owner)) where
     abbrev child : Name
     child = lower c.owner
 
-    abbrev j : IsHashedName o m hash parameters d.names child
+    abbrev j : IsHashedName o z.sets m hash parameters d.names child
     j = hashed_name z parameters q r d signed h child k.reached apart
 
     abbrev of_zone : AreNsec3OfZone m rs
@@ -74,7 +74,7 @@ module _ (z : Zone) (parameters : Nsec3Parameters) (q : Query) (r : Sections) (d
     ns : owns z.sets child NS ≡ true
     ns = ap is_some k.stands
 
-    -- it stands below the origin, as NS at the origin stands beside SOA
+    -- it is below the origin, as NS at the origin is beside SOA
     under : IsAbove o child
     under = by (above_cases o child (is_at_or_above_sound o child k.reached.inside))
       where
@@ -85,8 +85,8 @@ module _ (z : Zone) (parameters : Nsec3Parameters) (q : Query) (r : Sections) (d
     proved_by : (b : Bool) → is_named d.names child ≡ b → IsHashedUnsigned z parameters r child
     proved_by true on = record {
       proved = or_left (shows_unsigned_delegation o hash rs child) (proves_opted_out o hash rs child) shows;
-      told = sum_of_delegation o hash rs child DS (not_handed j rs of_zone) (no_encloser j rs of_zone i shown (λ r. r.opt_out) (λ e. true))
-          (no_encloser j rs of_zone i shown (λ r. true) (λ e. is_covered o hash rs (star_under e))) shows;
+      call_concludes = sum_of_delegation o hash rs child DS (not_handed j rs of_zone) (no_encloser j rs of_zone i shown (λ r. r.opt_out) (λ e. true))
+          (no_encloser j rs of_zone i shown (λ r. true) (λ e. is_covered o hash rs (wildcard_under e))) shows;
       none = record { below = under; delegated = ns; unsigned = ap is_some unsigned; no_apex = no_apex };
     }
       where
@@ -100,7 +100,7 @@ module _ (z : Zone) (parameters : Nsec3Parameters) (q : Query) (r : Sections) (d
         shows = own_delegates j rs of_zone i shown under (owns_kept z d.denials child NS refl ∙ ns) (owns_kept z d.denials child DS refl ∙ ap is_some unsigned) (owns_kept z d.denials child SOA refl ∙ no_apex)
     proved_by false off = record {
       proved = or_right (shows_unsigned_delegation o hash rs child) (proves_opted_out o hash rs child) out;
-      told = sum_of_digest o hash rs child (not_handed j rs of_zone) out;
+      call_concludes = sum_of_digest o hash rs child (not_handed j rs of_zone) out;
       none = record { below = under; delegated = ns; unsigned = ap is_some unsigned; no_apex = no_apex };
     }
       where
@@ -128,11 +128,11 @@ module _ (z : Zone) (parameters : Nsec3Parameters) (q : Query) (r : Sections) (d
             })
             ∙ opts
 
-  pub referral_said : (c : Name) → saying q r ≡ Some (referral c) → IsProvedReferral z r (λ n. HashesApart z parameters d.names n → IsHashedUnsigned z parameters r n) c
+  pub referral_said : (c : Name) → saying q r ≡ Some (referral c) → IsProvedReferral z r (λ n. HashesDistinctly z parameters d.names n → IsHashedUnsigned z parameters r n) c
   referral_said c e = subst (IsProvedReferral z r Unsigned) k.child (record { servers = k.servers cut.stands; keys = λ no_apex. keys no_apex k.keys })
     where
       Unsigned : Name → Type 0
-      Unsigned n = HashesApart z parameters d.names n → IsHashedUnsigned z parameters r n
+      Unsigned n = HashesDistinctly z parameters d.names n → IsHashedUnsigned z parameters r n
 
       k : IsReferralTo z q r zone signed h c
       k = referral_of z q r zone signed h c e

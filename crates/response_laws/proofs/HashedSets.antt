@@ -3,7 +3,7 @@ use Rattle.std.proofs.Common.{◌≡◌, List, [], ◌∷◌, ◌++◌, refl, su
 use Rattle.std.specs.Ordering.{match_ordering}
 use Rattle.std.specs.Prelude.{Option, Some, None, option_and_then, option_to_list}
 use Rattle.std.specs.Option.{option_map_or, option_or}
-use Rattle.zone_proto.specs.Names.{Name, proper_ancestors, star_under, suffixes}
+use Rattle.zone_proto.specs.Names.{Name, proper_ancestors, wildcard_under, suffixes}
 use Rattle.zone_proto.specs.Sets.{RRset}
 use Rattle.zone_proto.specs.Types.{NSEC3}
 use Rattle.zone_proto.proofs.Members.{In, In-from_append}
@@ -11,7 +11,7 @@ use Rattle.zone_map.specs.Zones.{Sets, set_at}
 use Rattle.zone_denial.specs.Nsec3Denial.{cover_owner}
 use Rattle.zone_denial.specs.Nsec3Lent.{owner_cmp}
 use Rattle.zone_denial.specs.TypeLists.{joined, in_order}
-use Rattle.zone_response.specs.HashedDenials.{next_closer, matching, covering, provable, closer_set, star_set, star_sets, absent_below, absent_sets, left_out_sets, present_sets}
+use Rattle.zone_response.specs.HashedDenials.{next_closer, matching, covering, provable, closer_set, wildcard_set, wildcard_sets, absent_below, absent_sets, left_out_sets, present_sets}
 
 -- each set of a list has a property
 abbrev pub Each : (RRset → Type 0) → List RRset → Type 0
@@ -83,22 +83,22 @@ module _ (P : RRset → Type 0) (m : Sets) (each : (o : Name) (s : RRset) → se
       by (Some c) = of_covering c
       by None = none
 
-  of_star_under : (e : Name) → MayHave (star_set origin m hashed e)
-  of_star_under e = by (matching origin m hashed (star_under e)) (of_matching (star_under e))
+  of_star_under : (e : Name) → MayHave (wildcard_set origin m hashed e)
+  of_star_under e = by (matching origin m hashed (wildcard_under e)) (of_matching (wildcard_under e))
     where
-      by : (o : Option RRset) → MayHave o → MayHave (option_or o (covering origin m hashed (star_under e)))
+      by : (o : Option RRset) → MayHave o → MayHave (option_or o (covering origin m hashed (wildcard_under e)))
       by (Some s) h = h
-      by None h = of_covering (star_under e)
+      by None h = of_covering (wildcard_under e)
 
-  pub of_star_sets : (x e : Name) → Each P (star_sets origin m hashed x e)
+  pub of_star_sets : (x e : Name) → Each P (wildcard_sets origin m hashed x e)
   of_star_sets x e = of_closer x e
 
   of_absent_below : (x e : Name) → Each P (absent_below origin m hashed x e)
-  of_absent_below x e s i = all s (from_in_order s (option_to_list (matching origin m hashed e) ++ option_to_list (closer_set origin m hashed x e) ++ option_to_list (star_set origin m hashed e)) i)
+  of_absent_below x e s i = all s (from_in_order s (option_to_list (matching origin m hashed e) ++ option_to_list (closer_set origin m hashed x e) ++ option_to_list (wildcard_set origin m hashed e)) i)
     where
-      all : Each P (option_to_list (matching origin m hashed e) ++ option_to_list (closer_set origin m hashed x e) ++ option_to_list (star_set origin m hashed e))
+      all : Each P (option_to_list (matching origin m hashed e) ++ option_to_list (closer_set origin m hashed x e) ++ option_to_list (wildcard_set origin m hashed e))
       all =
-          each_of_both P (option_to_list (matching origin m hashed e) ++ option_to_list (closer_set origin m hashed x e)) (option_to_list (star_set origin m hashed e))
+          each_of_both P (option_to_list (matching origin m hashed e) ++ option_to_list (closer_set origin m hashed x e)) (option_to_list (wildcard_set origin m hashed e))
           (each_of_both P (option_to_list (matching origin m hashed e)) (option_to_list (closer_set origin m hashed x e)) (of_matching e) (of_closer x e)) (of_star_under e)
 
   pub of_absent : (x e : Name) → Each P (absent_sets origin m hashed x e)

@@ -10,15 +10,16 @@ use Rattle.zone_proto.proofs.Members.{In, In-Contains, In-append_left, In-append
 use Rattle.zone_map.specs.Zones.{Sets, set_at}
 use Rattle.zone_denial.specs.Chains.{IsNsec3Chain}
 use Rattle.zone_denial.specs.Nsec3Denial.{cover_owner}
-use Rattle.zone_denial.specs.Nsec3Zones.{IsHashedOn, TellsApart}
+use Rattle.zone_denial.specs.Nsec3Zones.{IsHashedOn, HasDistinctDigests}
 use Rattle.zone_denial.proofs.Chains.Nsec3Covers.{IsCover, has_cover}
 use Rattle.zone_denial.proofs.Chains.Nsec3Names.{IsEnclosed}
 use Rattle.zone_denial.proofs.Chains.Nsec3Owners.{owner, set_of_named, is_owner}
 use Rattle.denial_validation.specs.Nsec3Records.{Nsec3Record, read_nsec3}
-use Rattle.denial_laws.specs.Nsec3Judged.{read_nsec3_sets}
+use Rattle.denial_laws.specs.Nsec3Scope.{read_nsec3_sets}
 use Rattle.denial_laws.proofs.Chains.Nsec3Readings.{record_of, shown}
+use Rattle.denial_laws.proofs.Chains.Nsec3Shown.{IsCovering, is_covering}
 use Rattle.denial_laws.proofs.Nsec3Readings.{from_read}
-use Rattle.zone_response.specs.HashedDenials.{next_closer, owner_given, hashed_by, covering, star_sets, present_sets}
+use Rattle.zone_response.specs.HashedDenials.{next_closer, owner_given, hashed_by, covering, wildcard_sets, present_sets}
 use Rattle.response_laws.proofs.HashedBridges.{left_out_is, present_is}
 
 -- what is read in sets is read where they are among others
@@ -30,7 +31,7 @@ read_among sets more among r i =
 
 -- ---- what a denial shows
 
-module _ {origin : Name} {m : Sets} {hash : Name → Option (List ℕ)} {parameters : Nsec3Parameters} {names : List Name} {x : Name} (zone : IsNsec3Chain origin m hash parameters names) (apart : TellsApart (IsHashedOn names x) hash) where
+module _ {origin : Name} {beside m : Sets} {hash : Name → Option (List ℕ)} {parameters : Nsec3Parameters} {names : List Name} {x : Name} (zone : IsNsec3Chain origin beside m hash parameters names) (apart : HasDistinctDigests (IsHashedOn names x) hash) where
   abbrev hashed : Name → Name
   hashed = hashed_by (λ n. owner_or_refusal origin (hash n))
 
@@ -38,7 +39,7 @@ module _ {origin : Name} {m : Sets} {hash : Name → Option (List ℕ)} {paramet
   pub record IsEncloserShown (a c : Name) (rs : List Nsec3Record) : Type 0 where
     pub encloser : In (record_of zone apart a) rs
     pub cover : Name
-    pub is_cover : IsCover zone apart c cover
+    pub is_cover : IsCovering zone apart c cover
     pub has_cover : In (record_of zone apart cover) rs
 
   same_set : (s r : RRset) → Some s ≡ Some r → s ≡ r
@@ -51,10 +52,10 @@ module _ {origin : Name} {m : Sets} {hash : Name → Option (List ℕ)} {paramet
       s : (s : RRset) × (set_at m (owner zone apart x) NSEC3 ≡ Some s)
       s = let k = set_of_named zone apart x i in (k.0, k.1)
 
-  -- of a name that was made from a star what covers the name next closer to the star's encloser
+  -- of a name that was made from a wildcard what covers the name next closer to the wildcard's encloser
   pub cover_shown : (e c : Name) → next_closer x e ≡ Some c → IsHashedOn names x c → (In c names → ⊥)
-      → (k : Name) × IsCover zone apart c k × In (record_of zone apart k) (read_nsec3_sets (star_sets origin m (hashed_by (λ n. owner_or_refusal origin (hash n))) x e))
-  cover_shown e c is h off = (k.0, k.1, subst (λ sets. In (record_of zone apart k.0) (read_nsec3_sets sets)) (sym sets_are) (shown zone apart (s.0 ∷ []) k.0 k.1.on (λ r q. In-Contains r (s.0 ∷ []) (inl (same_set s.0 r (sym s.1 ∙ q))))))
+      → (k : Name) × IsCovering zone apart c k × In (record_of zone apart k) (read_nsec3_sets (wildcard_sets origin m (hashed_by (λ n. owner_or_refusal origin (hash n))) x e))
+  cover_shown e c is h off = (k.0, is_covering zone apart c k.0 k.1, subst (λ sets. In (record_of zone apart k.0) (read_nsec3_sets sets)) (sym sets_are) (shown zone apart (s.0 ∷ []) k.0 k.1.on (λ r q. In-Contains r (s.0 ∷ []) (inl (same_set s.0 r (sym s.1 ∙ q))))))
     where
       k : (k : Name) × IsCover zone apart c k
       k = has_cover zone apart c h off
@@ -62,7 +63,7 @@ module _ {origin : Name} {m : Sets} {hash : Name → Option (List ℕ)} {paramet
       s : (s : RRset) × (set_at m (owner zone apart k.0) NSEC3 ≡ Some s)
       s = let v = set_of_named zone apart k.0 k.1.on in (v.0, v.1)
 
-      sets_are : star_sets origin m hashed x e ≡ s.0 ∷ []
+      sets_are : wildcard_sets origin m hashed x e ≡ s.0 ∷ []
       sets_are =
           ap (λ o. option_to_list (option_and_then (covering origin m hashed) o)) is
           ∙ ap (λ r. option_to_list (option_and_then (λ o. set_at m o NSEC3) (cover_owner m (owner_given r)))) (is_owner zone apart c h)
@@ -71,14 +72,14 @@ module _ {origin : Name} {m : Sets} {hash : Name → Option (List ℕ)} {paramet
   -- of another the closest encloser proof
   pub encloser_matched : (In x names → ⊥) → (a c : Name) → IsEnclosed names x a c → IsEncloserShown a c (read_nsec3_sets (present_sets origin m (hashed_by (λ n. owner_or_refusal origin (hash n))) x))
   encloser_matched off a c e = subst (λ sets. IsEncloserShown a c (read_nsec3_sets sets)) (sym (left_out_is zone apart a c e off)) (record {
-    encloser = shown zone apart (star_sets origin m hashed x a ++ match.0 ∷ []) a e.on (λ r g. In-Contains r (star_sets origin m hashed x a ++ match.0 ∷ []) (In-append_right r (star_sets origin m hashed x a) (match.0 ∷ []) (inl (same_set match.0 r (sym match.1 ∙ g)))));
+    encloser = shown zone apart (wildcard_sets origin m hashed x a ++ match.0 ∷ []) a e.on (λ r g. In-Contains r (wildcard_sets origin m hashed x a ++ match.0 ∷ []) (In-append_right r (wildcard_sets origin m hashed x a) (match.0 ∷ []) (inl (same_set match.0 r (sym match.1 ∙ g)))));
     cover = k.0;
     is_cover = k.1;
-    has_cover = read_among (star_sets origin m hashed x a) (star_sets origin m hashed x a ++ match.0 ∷ []) (λ s i. In-append_left s (star_sets origin m hashed x a) (match.0 ∷ []) i) (record_of zone apart k.0) k.2;
+    has_cover = read_among (wildcard_sets origin m hashed x a) (wildcard_sets origin m hashed x a ++ match.0 ∷ []) (λ s i. In-append_left s (wildcard_sets origin m hashed x a) (match.0 ∷ []) i) (record_of zone apart k.0) k.2;
   })
     where
       match : (s : RRset) × (set_at m (owner zone apart a) NSEC3 ≡ Some s)
       match = let s = set_of_named zone apart a e.on in (s.0, s.1)
 
-      k : (k : Name) × IsCover zone apart c k × In (record_of zone apart k) (read_nsec3_sets (star_sets origin m hashed x a))
+      k : (k : Name) × IsCovering zone apart c k × In (record_of zone apart k) (read_nsec3_sets (wildcard_sets origin m hashed x a))
       k = cover_shown a c e.is_closer (inr (a, e.is_encloser, inl (e.closer_at, e.closer_below))) e.off

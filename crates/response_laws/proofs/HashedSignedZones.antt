@@ -1,4 +1,6 @@
--- The premises of the law of NSEC3 are met by zones as dnssec-signzone, ldns-signzone and kzonesign write them: the list of an unsigned delegation with glue at its own name is NS alone, or with opt-out it has no NSEC3 set; the flag of NSEC3PARAM isn't set; and another chain stands beside
+-- The premises of the law of NSEC3 are met by zones as dnssec-signzone, ldns-signzone and kzonesign write them: the
+-- list of an unsigned delegation with glue at its own name is NS alone, or with opt-out it has no NSEC3 set; the flag
+-- of NSEC3PARAM isn't set; and another chain is beside
 use Rattle.std.proofs.Common.{◌≡◌, ℕ, Bool, true, false, List, [], ◌∷◌, map, refl, sym, ap, subst, true≢false, inl, inr, arith, slice_index}
 use Rattle.std.specs.Prelude.{codes, Some, None}
 use Rattle.std.specs.List.{Contains}
@@ -9,7 +11,7 @@ use Rattle.zone_proto.specs.declared.rr_key.RrKey.{RrKey}
 use Rattle.zone_proto.specs.HashedOwners.{hashed_owner}
 use Rattle.zone_proto.specs.Keys.{key}
 use Rattle.zone_proto.specs.declared.response_code.ResponseCode.TheVariants as code
-use Rattle.zone_proto.specs.Names.{Name, star_under}
+use Rattle.zone_proto.specs.Names.{Name, wildcard_under}
 use Rattle.zone_proto.specs.Sets.{RRset}
 use Rattle.zone_proto.specs.Types.{A, NS, SOA, DS, RRSIG, NSEC3, NSEC3PARAM}
 use Rattle.zone_proto.proofs.Members.{In, In-Contains, Contains-In, In-map}
@@ -30,7 +32,7 @@ use Rattle.zone_response.specs.Queries.{Zone, Query}
 use Rattle.zone_response.specs.Responses.{IsResponse}
 use Rattle.zone_response.specs.Sections.{Sections, sent, as_it_is}
 use Rattle.response_laws.specs.HashedSayings.{DeniesByNsec3, shown_nsec3, proof_in, ProvesByHashes}
-use Rattle.response_laws.proofs.ChainTests.{each_set, each_is, is_listed, right_at_delegation, right_elsewhere, names_between, names_authoritative, names_complete, is_unreferred}
+use Rattle.response_laws.proofs.ChainTests.{each_set, each_is, is_listed, right_at_delegation, right_elsewhere, nsec_told, names_between, names_authoritative, names_complete, is_unreferred}
 use Rattle.response_laws.proofs.MetPremises.{soa_stored}
 use Rattle.response_laws.proofs.SayingExamples.{asked, sections}
 
@@ -55,7 +57,7 @@ abbrev another : Nsec3Parameters
 another = record { algorithm = 1; opt_out = false; iterations = 0; salt = 170 ∷ [] }
 
 abbrev table : List (Name × List ℕ)
-table = (origin, 64 ∷ []) ∷ (b, 32 ∷ []) ∷ (a, 48 ∷ []) ∷ (star_under origin, 16 ∷ []) ∷ []
+table = (origin, 64 ∷ []) ∷ (b, 32 ∷ []) ∷ (a, 48 ∷ []) ∷ (wildcard_under origin, 16 ∷ []) ∷ []
 
 abbrev nsec3 : Nsec3Parameters → List ℕ → List ℕ → List ℕ → RrKey × RRset
 nsec3 p digest next types = entry (hashed_owner origin digest) NSEC3 (V.NSEC3 (nsec3_data p next types))
@@ -86,7 +88,7 @@ unsigned_zone =
 same_digest : (d e : List ℕ) → Some d ≡ Some e → d ≡ e
 same_digest d e q = cc
 
--- ---- all names have NSEC3 sets, and another chain stands beside
+-- ---- all names have NSEC3 sets, and another chain is beside
 
 abbrev origin_set : RrKey × RRset
 origin_set = nsec3 (parameters false) (64 ∷ []) (32 ∷ []) (SOA ∷ RRSIG ∷ NSEC3PARAM ∷ [])
@@ -122,11 +124,11 @@ abbrev names : List Name
 names = origin ∷ b ∷ []
 
 abbrev HasSet : Name → Type 0
-HasSet n = (d : List ℕ) → digest_in table n ≡ Some d → (s : RRset) × (set_at signed (hashed_owner origin d) NSEC3 ≡ Some s) × IsInNsec3Chain origin signed (digest_in table) (parameters false) names n d s
+HasSet n = (d : List ℕ) → digest_in table n ≡ Some d → (s : RRset) × (set_at signed (hashed_owner origin d) NSEC3 ≡ Some s) × IsInNsec3Chain origin both signed (digest_in table) (parameters false) names n d s
 
 of_origin : HasSet origin
 of_origin d e =
-    subst (λ d. (s : RRset) × (set_at signed (hashed_owner origin d) NSEC3 ≡ Some s) × IsInNsec3Chain origin signed (digest_in table) (parameters false) names origin d s) (same_digest (64 ∷ []) d e) (
+    subst (λ d. (s : RRset) × (set_at signed (hashed_owner origin d) NSEC3 ≡ Some s) × IsInNsec3Chain origin both signed (digest_in table) (parameters false) names origin d s) (same_digest (64 ∷ []) d e) (
       origin_set.1,
       refl,
       record {
@@ -134,6 +136,7 @@ of_origin d e =
         types = SOA ∷ RRSIG ∷ NSEC3PARAM ∷ [];
         says = refl;
         right = right_elsewhere origin signed origin (SOA ∷ RRSIG ∷ NSEC3PARAM ∷ []) refl refl refl refl;
+        nsec = λ _. nsec_told origin signed origin (SOA ∷ RRSIG ∷ NSEC3PARAM ∷ []) both refl refl;
         no_hashed = λ c. true≢false (sym (is_listed (SOA ∷ RRSIG ∷ NSEC3PARAM ∷ []) NSEC3 c));
         empty = λ none. absurd (true≢false none);
       },
@@ -141,7 +144,7 @@ of_origin d e =
 
 of_child : HasSet b
 of_child d e =
-    subst (λ d. (s : RRset) × (set_at signed (hashed_owner origin d) NSEC3 ≡ Some s) × IsInNsec3Chain origin signed (digest_in table) (parameters false) names b d s) (same_digest (32 ∷ []) d e) (
+    subst (λ d. (s : RRset) × (set_at signed (hashed_owner origin d) NSEC3 ≡ Some s) × IsInNsec3Chain origin both signed (digest_in table) (parameters false) names b d s) (same_digest (32 ∷ []) d e) (
       child_set.1,
       refl,
       record {
@@ -149,6 +152,7 @@ of_child d e =
         types = NS ∷ [];
         says = refl;
         right = right_at_delegation origin signed b (NS ∷ []) refl refl refl refl refl;
+        nsec = λ _. nsec_told origin signed b (NS ∷ []) both refl refl;
         no_hashed = λ c. true≢false (sym (is_listed (NS ∷ []) NSEC3 c));
         empty = λ none. absurd (true≢false none);
       },
@@ -157,10 +161,9 @@ of_child d e =
 abbrev IsHashedOwner : Name → Type 0
 IsHashedOwner o = (n : Name) × (d : List ℕ) × Contains names n × (digest_in table n ≡ Some d) × (o ≡ hashed_owner origin d)
 
-chain : IsNsec3Chain origin signed (digest_in table) (parameters false) names
+chain : IsNsec3Chain origin both signed (digest_in table) (parameters false) names
 chain = record {
   zone = signed_zone;
-  below_root = λ e. cc;
   begins = In-Contains origin names (inl refl);
   between = names_between origin signed names refl;
   authoritative = names_authoritative origin signed names refl;
@@ -209,7 +212,7 @@ mixed_refused q h =
         by (inl e) = other (ap (λ (xs : List ℕ). slice_index xs 0) e)
         by (inr i) = absurd i
 
--- ---- with opt-out the delegation has none, whatever stands there, and the flag of NSEC3PARAM isn't set
+-- ---- with opt-out the delegation has none, whatever is there, and the flag of NSEC3PARAM isn't set
 
 abbrev alone_set : RrKey × RRset
 alone_set = nsec3 (parameters true) (64 ∷ []) (64 ∷ []) (SOA ∷ RRSIG ∷ NSEC3PARAM ∷ [])
@@ -226,11 +229,11 @@ left_out_zone =
     (record { named = name_by_tests alone_set.0.name refl refl; owner = refl; record_type = refl; filled = λ e. cc; set = IsSet-alone alone_set.0.name NSEC3 _ refl refl })
 
 abbrev HasOptOutSet : Name → Type 0
-HasOptOutSet n = (d : List ℕ) → digest_in table n ≡ Some d → (s : RRset) × (set_at left_out (hashed_owner origin d) NSEC3 ≡ Some s) × IsInNsec3Chain origin left_out (digest_in table) (parameters true) (origin ∷ []) n d s
+HasOptOutSet n = (d : List ℕ) → digest_in table n ≡ Some d → (s : RRset) × (set_at left_out (hashed_owner origin d) NSEC3 ≡ Some s) × IsInNsec3Chain origin left_out left_out (digest_in table) (parameters true) (origin ∷ []) n d s
 
 of_alone : HasOptOutSet origin
 of_alone d e =
-    subst (λ d. (s : RRset) × (set_at left_out (hashed_owner origin d) NSEC3 ≡ Some s) × IsInNsec3Chain origin left_out (digest_in table) (parameters true) (origin ∷ []) origin d s) (same_digest (64 ∷ []) d e) (
+    subst (λ d. (s : RRset) × (set_at left_out (hashed_owner origin d) NSEC3 ≡ Some s) × IsInNsec3Chain origin left_out left_out (digest_in table) (parameters true) (origin ∷ []) origin d s) (same_digest (64 ∷ []) d e) (
       alone_set.1,
       refl,
       record {
@@ -238,6 +241,7 @@ of_alone d e =
         types = SOA ∷ RRSIG ∷ NSEC3PARAM ∷ [];
         says = refl;
         right = right_elsewhere origin left_out origin (SOA ∷ RRSIG ∷ NSEC3PARAM ∷ []) refl refl refl refl;
+        nsec = λ _. nsec_told origin left_out origin (SOA ∷ RRSIG ∷ NSEC3PARAM ∷ []) left_out refl refl;
         no_hashed = λ c. true≢false (sym (is_listed (SOA ∷ RRSIG ∷ NSEC3PARAM ∷ []) NSEC3 c));
         empty = λ none. absurd (true≢false none);
       },
@@ -246,10 +250,9 @@ of_alone d e =
 abbrev IsOptOutOwner : Name → Type 0
 IsOptOutOwner o = (n : Name) × (d : List ℕ) × Contains (origin ∷ []) n × (digest_in table n ≡ Some d) × (o ≡ hashed_owner origin d)
 
-opt_out_chain : IsNsec3Chain origin left_out (digest_in table) (parameters true) (origin ∷ [])
+opt_out_chain : IsNsec3Chain origin left_out left_out (digest_in table) (parameters true) (origin ∷ [])
 opt_out_chain = record {
   zone = left_out_zone;
-  below_root = λ e. cc;
   begins = In-Contains origin (origin ∷ []) (inl refl);
   between = names_between origin left_out (origin ∷ []) refl;
   authoritative = names_authoritative origin left_out (origin ∷ []) refl;

@@ -60,7 +60,7 @@ module _ (origin : Name) (hash : Name → Option (List ℕ)) (rs : List Nsec3Rec
       by false true d = d refl
       by false false d = tt
 
-  -- no data by a star
+  -- no data by a wildcard
   pub sum_of_star : proves_opted_out origin hash rs x ≡ false → proves_name_error origin hash rs x ≡ false → shows_unsigned_delegation origin hash rs x ≡ false → proves_no_data origin hash rs x t ≡ false
       → proves_wildcard_no_data origin hash rs x t ≡ true → nsec3_proof origin hash rs x t ≡ Some (WildcardNoData false)
   sum_of_star o e d p w = (λ i. steps (handed i) (t == DS) (e i) (o i) (d i) (p i) (w i) answer) ∙ by (t == DS)

@@ -4,33 +4,33 @@ use Rattle.std.specs.Prelude.{Option, Some, find}
 use Rattle.std.specs.List.{list_any}
 use Rattle.std.specs.Option.{option_map_or}
 use Rattle.zone_proto.specs.declared.rdata.denial.NSEC3PARAM.{NSEC3PARAM as Nsec3Parameters}
-use Rattle.zone_proto.specs.Names.{Name, is_above, is_at_or_above, IsAtOrAbove, IsAbove, star_under, suffixes, proper_ancestors}
+use Rattle.zone_proto.specs.Names.{Name, is_above, is_at_or_above, IsAtOrAbove, IsAbove, wildcard_under, suffixes, proper_ancestors}
 use Rattle.zone_proto.specs.Types.{NS, SOA, DS, NSEC}
 use Rattle.zone_proto.proofs.Members.{In, In-Contains, In-from_any, any_from_In, and_left, and_right, not_true}
 use Rattle.zone_proto.proofs.Names.NameTree.{above_test, at_or_above_from_suffix, is_at_or_above_sound, is_at_or_above_complete}
 use Rattle.zone_proto.proofs.Names.Tree.{above_cases}
 use Rattle.zone_map.specs.Zones.{Sets, owns, owners}
 use Rattle.zone_map.proofs.Owned.{owner_in}
-use Rattle.zone_denial.specs.Chains.{is_told_at_delegation, is_delegation, IsNsec3Chain}
+use Rattle.zone_denial.specs.Chains.{is_stated_at_delegation, is_delegation, IsNsec3Chain}
 use Rattle.zone_denial.specs.Nsec3Denial.{encloser_on}
-use Rattle.zone_denial.specs.Nsec3Zones.{IsHashedOn, TellsApart}
-use Rattle.zone_denial.specs.StarLaws.{OwnsNone}
+use Rattle.zone_denial.specs.Nsec3Zones.{IsHashedOn, HasDistinctDigests}
+use Rattle.zone_denial.specs.WildcardLaws.{OwnsNone}
 use Rattle.zone_denial.proofs.Chain.NsecBelow.{above_at, above_through}
 use Rattle.zone_denial.proofs.Chains.NsecLists.{delegation_below, delegation_owns, not_delegation}
-use Rattle.zone_denial.proofs.Chains.Nsec3Covers.{IsCover}
 use Rattle.zone_denial.proofs.Chains.Nsec3Names.{is_named, named_in, in_named, origin_in, IsEnclosed, enclosed_off}
-use Rattle.zone_denial.proofs.Chains.Nsec3Encloses.{star_hashed}
+use Rattle.zone_denial.proofs.Chains.Nsec3Encloses.{wildcard_hashed}
 use Rattle.zone_denial.proofs.Names.LongestAncestors.{IsLongestAbove, longest_is, longest_above, others_above, above_shorter}
 use Rattle.denial_validation.specs.Encloser.{next_closer}
 use Rattle.denial_validation.specs.NsecProofs.{DNAME}
 use Rattle.denial_validation.specs.Nsec3Proofs.{matches, covers, lists, is_of_encloser, is_of_unsigned, denies_type, is_matched, is_encloser, is_handing_on, is_denied, is_covered, is_handed_on, shown_encloser, encloser_and, proves_name_error, proves_no_data, proves_opted_out, proves_wildcard_no_data, proves_wildcard_answer, shows_unsigned_delegation}
 use Rattle.denial_validation.specs.Nsec3Records.{Nsec3Record}
-use Rattle.denial_laws.specs.Judged.{Unreferred}
-use Rattle.denial_laws.specs.Nsec3Judged.{AreNsec3OfZone}
+use Rattle.denial_laws.specs.Scope.{Unreferred}
+use Rattle.denial_laws.specs.Nsec3Scope.{AreNsec3OfZone}
 use Rattle.denial_laws.proofs.Chains.Nsec3Judging.{unlisted, told_listed, told_owned, told_unlisted}
 use Rattle.denial_laws.proofs.Chains.Nsec3Matches.{covers_is, unmatched, matches_itself, matched_by}
 use Rattle.denial_laws.proofs.Chains.Nsec3Proved.{ancestor_named, self_hashed, uncovered, matching}
 use Rattle.denial_laws.proofs.Chains.Nsec3Readings.{record_of, of_name}
+use Rattle.denial_laws.proofs.Chains.Nsec3Shown.{IsCovering}
 use Rattle.denial_laws.proofs.Chains.Nsec3Soundness.{not_opted_out}
 use Rattle.denial_laws.proofs.Nsec3Proved.{sides}
 use Rattle.denial_laws.proofs.Tests.{refuted, right_false}
@@ -38,14 +38,14 @@ use Rattle.response_laws.specs.HashedSayings.{IsReached}
 use Rattle.response_laws.proofs.HashedShown.{IsEncloserShown}
 
 -- a name of a zone that NSEC3 denies, which nothing refers elsewhere, and whose hash tells the names of a denial apart
-pub record IsHashedName (origin : Name) (m : Sets) (hash : Name → Option (List ℕ)) (parameters : Nsec3Parameters) (names : List Name) (x : Name) : Type 0 where
-  pub zone : IsNsec3Chain origin m hash parameters names
+pub record IsHashedName (origin : Name) (beside m : Sets) (hash : Name → Option (List ℕ)) (parameters : Nsec3Parameters) (names : List Name) (x : Name) : Type 0 where
+  pub zone : IsNsec3Chain origin beside m hash parameters names
   pub one_kind : OwnsNone m NSEC
   pub unreferred : Unreferred origin m
   pub reached : IsReached origin m x
-  pub apart : TellsApart (IsHashedOn names x) hash
+  pub apart : HasDistinctDigests (IsHashedOn names x) hash
 
-module _ {origin : Name} {m : Sets} {hash : Name → Option (List ℕ)} {parameters : Nsec3Parameters} {names : List Name} {x : Name} (j : IsHashedName origin m hash parameters names x) where
+module _ {origin : Name} {beside m : Sets} {hash : Name → Option (List ℕ)} {parameters : Nsec3Parameters} {names : List Name} {x : Name} (j : IsHashedName origin beside m hash parameters names x) where
   abbrev on_chain : Name → Bool
   on_chain = is_named names
 
@@ -68,7 +68,7 @@ module _ {origin : Name} {m : Sets} {hash : Name → Option (List ℕ)} {paramet
   -- the record of an ancestor is of no name that hands on what is below it
   of_encloser : (a : Name) → In a names → IsAtOrAbove origin a → IsAbove a x → is_of_encloser (record_of j.zone j.apart a) ≡ true
   of_encloser a on u v =
-      λ i. not (unlisted j.zone j.apart a on DNAME (λ e. omega (arith, e)) (ap (λ b. not b || is_told_at_delegation DNAME) (not_delegation origin m a undelegated)) (j.reached.no_dname a v) i) && delegates (lists r NS) refl i
+      λ i. not (unlisted j.zone j.apart a on DNAME (λ e. omega (arith, e)) (λ e. absurd (omega (arith, e))) (ap (λ b. not b || is_stated_at_delegation DNAME) (not_delegation origin m a undelegated)) (j.reached.no_dname a v) i) && delegates (lists r NS) refl i
     where
       r : Nsec3Record
       r = record_of j.zone j.apart a
@@ -269,24 +269,24 @@ module _ {origin : Name} {m : Sets} {hash : Name → Option (List ℕ)} {paramet
           by false o = not_opted_out j.zone o j.apart rs of_zone
 
       -- the star of the encloser is covered, or matched
-      pub error_proved : (k : Name) → IsCover j.zone j.apart (star_under a) k → In (record_of j.zone j.apart k) rs → proves_name_error origin hash rs x ≡ true
+      pub error_proved : (k : Name) → IsCovering j.zone j.apart (wildcard_under a) k → In (record_of j.zone j.apart k) rs → proves_name_error origin hash rs x ≡ true
       error_proved k is i =
-          encloser_proved (λ r. true) (λ b. is_covered origin hash rs (star_under b)) refl
-          (any_from_In (λ r. covers origin hash r (star_under a)) (record_of j.zone j.apart k) rs i
-          (covers_is j.zone j.apart k (star_under a) is.on (star_hashed j.zone j.apart a c e) ∙ is.covered))
+          encloser_proved (λ r. true) (λ b. is_covered origin hash rs (wildcard_under b)) refl
+          (any_from_In (λ r. covers origin hash r (wildcard_under a)) (record_of j.zone j.apart k) rs i
+          (covers_is j.zone j.apart k (wildcard_under a) is.on (wildcard_hashed j.zone j.apart a c e) ∙ is.covered))
 
-      pub no_error : In (star_under a) names → proves_name_error origin hash rs x ≡ false
-      no_error i = encloser_refuted (λ r. true) (λ b. is_covered origin hash rs (star_under b)) (not_covered (star_under a) i)
+      pub no_error : In (wildcard_under a) names → proves_name_error origin hash rs x ≡ false
+      no_error i = encloser_refuted (λ r. true) (λ b. is_covered origin hash rs (wildcard_under b)) (not_covered (wildcard_under a) i)
 
-      pub star_denied : (t : ℕ) → In (star_under a) names → In (record_of j.zone j.apart (star_under a)) rs → denies_type origin (record_of j.zone j.apart (star_under a)) (star_under a) t ≡ true
+      pub star_denied : (t : ℕ) → In (wildcard_under a) names → In (record_of j.zone j.apart (wildcard_under a)) rs → denies_type origin (record_of j.zone j.apart (wildcard_under a)) (wildcard_under a) t ≡ true
           → proves_wildcard_no_data origin hash rs x t ≡ true
       star_denied t on i p =
-          encloser_proved (λ r. true) (λ b. is_denied origin hash rs (star_under b) t) refl
-          (any_from_In (λ r. matches origin hash r (star_under a) && denies_type origin r (star_under a) t) (record_of j.zone j.apart (star_under a)) rs i
-          (λ i. matches_itself j.zone j.apart (star_under a) on i && p i))
+          encloser_proved (λ r. true) (λ b. is_denied origin hash rs (wildcard_under b) t) refl
+          (any_from_In (λ r. matches origin hash r (wildcard_under a) && denies_type origin r (wildcard_under a) t) (record_of j.zone j.apart (wildcard_under a)) rs i
+          (λ i. matches_itself j.zone j.apart (wildcard_under a) on i && p i))
 
     -- a star may answer that stands under a name e between the encloser and x, where what covers the name next closer to e is among them
-    pub answer_proved : is_named names x ≡ false → (a e c : Name) → encloser_on names x ≡ Some a → IsAtOrAbove a e → IsAbove e x → next_closer x e ≡ Some c → IsHashedOn names x c → (k : Name) → IsCover j.zone j.apart c k → In (record_of j.zone j.apart k) rs
+    pub answer_proved : is_named names x ≡ false → (a e c : Name) → encloser_on names x ≡ Some a → IsAtOrAbove a e → IsAbove e x → next_closer x e ≡ Some c → IsHashedOn names x c → (k : Name) → IsCovering j.zone j.apart c k → In (record_of j.zone j.apart k) rs
         → proves_wildcard_answer origin hash rs x e ≡ true
     answer_proved off a e c found over above closer between k is i =
         λ n. is_at_or_above_complete origin e (above_through origin a e encloser_in over) n && (above_test e x).1 above n && (ap (λ o. option_map_or (is_covered origin hash rs) o false) closer ∙ covered) n

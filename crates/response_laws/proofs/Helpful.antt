@@ -10,12 +10,12 @@ use Rattle.zone_map.specs.Zones.{set_at}
 use Rattle.zone_lookup.specs.Flattening.{last_set}
 use Rattle.zone_response.specs.declared.response.Part.{Part}
 use Rattle.zone_response.specs.declared.response.Part.TheVariants as part
-use Rattle.zone_response.specs.Additional.{hosts, addresses, turned_host, host_sets, beside, sibling_sets}
+use Rattle.zone_response.specs.Additional.{hosts, addresses, diverted_host, host_sets, beside, sibling_sets}
 use Rattle.zone_response.specs.Queries.{Inquiry}
 use Rattle.zone_response.specs.Responses.{additional_sets}
 use Rattle.zone_response.specs.Sections.{as_it_is, part_for}
 use Rattle.zone_response.specs.Steps.{End, complete, referred, missing, outside, unfollowed, too_long, failed}
-use Rattle.zone_response.specs.Descent.{Turn, cut, renaming, turn}
+use Rattle.zone_response.specs.Descent.{Diversion, cut, renaming, diversion}
 use Rattle.response_laws.specs.Contents.{IsHelpful}
 
 module _ (q : Inquiry) (s : RRset) where
@@ -25,7 +25,7 @@ module _ (q : Inquiry) (s : RRset) where
       let t = In-from_filter_map (set_at q.sets h) v.0 (A ∷ AAAA ∷ []) v.1 in
       record { name = h; record_type = t.0; stored = v.0; stands = t.2; part' = p; goes_out = goes; sent = sym v.2 }
 
-  of_turned : (below : Bool) (h : Name) (o : Option Turn) → In s (turned_host q.sets q.signed below h o) → IsHelpful q s
+  of_turned : (below : Bool) (h : Name) (o : Option Diversion) → In s (diverted_host q.sets q.signed below h o) → IsHelpful q s
   of_turned below h None i = of_addresses h (part_for q.signed) (inl refl) i
   of_turned true h (Some (cut c)) i = of_addresses h part.Records (inr refl) i
   of_turned false h (Some (cut c)) i = absurd i
@@ -34,8 +34,8 @@ module _ (q : Inquiry) (s : RRset) where
   of_host : (below : Bool) (h : Name) → In s (host_sets q.origin q.sets q.signed below h) → IsHelpful q s
   of_host below h = by (is_at_or_above q.origin h)
     where
-      by : (b : Bool) → In s (cond b (turned_host q.sets q.signed below h (turn q.origin q.sets h A)) []) → IsHelpful q s
-      by true i = of_turned below h (turn q.origin q.sets h A) i
+      by : (b : Bool) → In s (cond b (diverted_host q.sets q.signed below h (diversion q.origin q.sets h A)) []) → IsHelpful q s
+      by true i = of_turned below h (diversion q.origin q.sets h A) i
       by false i = absurd i
 
   of_sibling : (child h : Name) → In s (sibling_sets q.origin q.sets q.signed child h) → IsHelpful q s

@@ -13,20 +13,20 @@ use Rattle.zone_map.specs.Chains.{cname_target}
 use Rattle.zone_map.specs.Wildcards.{exists}
 use Rattle.zone_map.specs.Zones.{Sets, set_at, IsZone}
 use Rattle.zone_response.specs.Nodes.{AtNode, own, alias, stand_in, nothing, chosen_type, asked_set, at_node}
-use Rattle.zone_response.specs.Paths.{is_told_by, unless_told, next_behind, Path, ended, behind, searched, path_from, path}
+use Rattle.zone_response.specs.Paths.{is_sought, unless_answered, next_behind, Path, ended, behind, searched, path_from, path}
 use Rattle.zone_response.specs.Queries.{Inquiry}
-use Rattle.zone_response.specs.Dname.{dname_target, in_place_of, unless_long, made_alias}
+use Rattle.zone_response.specs.Dname.{dname_target, in_place_of, unless_long, synthesized_alias}
 use Rattle.zone_response.specs.Sections.{is_signed, as_it_is, part_for, unless_among}
-use Rattle.zone_response.specs.Wildcards.{star_of}
+use Rattle.zone_response.specs.Wildcards.{source_of_synthesis}
 use Rattle.zone_response.specs.Aname.{StandInAnswer, addresses, no_addresses, untold, stand_in_answer}
-use Rattle.zone_response.specs.Steps.{End, complete, referred, missing, outside, unfollowed, too_long, failed, Next, on, ends, Step, at_end, made_by, made_names, after_alias, keeps, own_part, stood_in_step, node_step, new_name_step, step_at, step}
-use Rattle.zone_response.specs.Descent.{DNAME, cut, turn}
+use Rattle.zone_response.specs.Steps.{End, complete, referred, missing, outside, unfollowed, too_long, failed, Next, on, ends, Step, at_end, as_found_for, expanded_names, after_alias, keeps, own_part, stood_in_step, node_step, new_name_step, step_at, step}
+use Rattle.zone_response.specs.Descent.{DNAME, cut, diversion}
 use Rattle.response_laws.specs.Sayings.{asks_alias, last_name, is_answer}
 use Rattle.response_laws.proofs.Dnames.{sent_dname, short_is, AreDnames, both_dnames, IsAboveBy, turned_by, told_unturned, stands_among, in_unless, passed, alias_leads as dname_leads, alias_stays}
 use Rattle.response_laws.proofs.Leads.{sent_type, made_type, has_target, lowered_target, follows, asked_stands, found_owner, found_stays, alias_leads, own_leads, own_answers}
 use Rattle.response_laws.proofs.Passages.{led, last_here}
 use Rattle.response_laws.proofs.StandIns.{aname_stands, addresses_of_last, addresses_stay, addresses_lead_nowhere, addresses_answer}
-use Rattle.response_laws.proofs.Stepped.{NodeOf, has_set, has_alias, has_stand_in, has_nothing, node_of, IsUnturned, StepOf, leaves, refers, fails, new_name, at_name, no_star, at_star, star_gone, step_of}
+use Rattle.response_laws.proofs.Stepped.{NodeOf, has_set, has_alias, has_stand_in, has_nothing, node_of, IsUndiverted, StepOf, leaves, refers, fails, new_name, at_name, no_star, at_wildcard, star_gone, step_of}
 
 -- ---- how a search ends at a name
 
@@ -35,12 +35,12 @@ pub record IsBare (m : Sets) (a : Name) (t : ℕ) : Type 0 where
   pub asked : asked_set m a t ≡ None
   pub alias : set_at m a CNAME ≡ None
 
--- a name without the set that is asked for: it exists, or its star does, or neither
+-- a name without the set that is asked for: it exists, or its wildcard does, or neither
 pub data IsMissing (q : Inquiry) (x : Name) (star : Option Name) (there : Bool) : Type 0 where
   bare : there ≡ true → star ≡ None → exists q.sets x ≡ true → IsBare q.sets x q.record_type → IsMissing q x star there
-  bare_star : (w : Name) → there ≡ true → star ≡ Some w → exists q.sets x ≡ false → star_of q.sets x ≡ Some w → exists q.sets w ≡ true → IsBare q.sets w q.record_type → IsMissing q x star there
-  starless : there ≡ false → exists q.sets x ≡ false → star_of q.sets x ≡ None → IsMissing q x star there
-  gone : (w : Name) → there ≡ false → star ≡ Some w → exists q.sets x ≡ false → star_of q.sets x ≡ Some w → exists q.sets w ≡ false → IsMissing q x star there
+  bare_star : (w : Name) → there ≡ true → star ≡ Some w → exists q.sets x ≡ false → source_of_synthesis q.sets x ≡ Some w → exists q.sets w ≡ true → IsBare q.sets w q.record_type → IsMissing q x star there
+  starless : there ≡ false → exists q.sets x ≡ false → source_of_synthesis q.sets x ≡ None → IsMissing q x star there
+  gone : (w : Name) → there ≡ false → star ≡ Some w → exists q.sets x ≡ false → source_of_synthesis q.sets x ≡ Some w → exists q.sets w ≡ false → IsMissing q x star there
 
 -- the answer of the last name, if the search ends with one
 pub record IsAnswered (q : Inquiry) (x : Name) (answers : List RRset) : Type 0 where
@@ -48,35 +48,35 @@ pub record IsAnswered (q : Inquiry) (x : Name) (answers : List RRset) : Type 0 w
   pub alone : answers ≡ set ∷ []
   pub answers_it : is_answer q.record_type x set ≡ true
 
--- the answer is the CNAME that was asked for, and that a DNAME set makes which stands in the whole section
+-- the answer is the CNAME that was asked for, and that a DNAME set makes which is in the whole section
 pub record IsAliasAsked (q : Inquiry) (all : List RRset) (x : Name) (answers : List RRset) : Type 0 where
   pub dname : RRset
   pub above : IsAboveBy q x dname
   pub target : Name
-  pub told : dname_target dname ≡ Some target
+  pub call_concludes : dname_target dname ≡ Some target
   pub among : In (sent_dname q dname) all
   pub asked : asks_alias q.record_type ≡ true
-  pub alone : answers ≡ made_alias dname x (in_place_of dname.owner target x) ∷ []
+  pub alone : answers ≡ synthesized_alias dname x (in_place_of dname.owner target x) ∷ []
 
 pub record IsReferred (q : Inquiry) (x : Name) (s : RRset) : Type 0 where
   pub inside : is_at_or_above q.origin x ≡ true
-  pub turned : turn q.origin q.sets x q.record_type ≡ Some (cut s)
+  pub turned : diversion q.origin q.sets x q.record_type ≡ Some (cut s)
 
 -- no set of the section tells what is asked for
 abbrev pub IsUntold : Inquiry → List RRset → Name → Type 0
-IsUntold q all x = list_any (is_told_by q.record_type x) all ≡ false
+IsUntold q all x = list_any (is_sought q.record_type x) all ≡ false
 
 -- one does
-pub record IsTold (q : Inquiry) (all : List RRset) (x : Name) (answers : List RRset) : Type 0 where
+pub record IsReported (q : Inquiry) (all : List RRset) (x : Name) (answers : List RRset) : Type 0 where
   pub none : answers ≡ []
-  pub told : list_any (is_told_by q.record_type x) all ≡ true
-  pub unturned : IsUnturned q x
+  pub call_concludes : list_any (is_sought q.record_type x) all ≡ true
+  pub unturned : IsUndiverted q x
 
--- what an end tells of the name where the search ends, where all these sets stand in the section
+-- what an end tells of the name where the search ends, where all these sets are in the section
 abbrev pub EndOf : Inquiry → List RRset → Name → List RRset → End → Type 0
-EndOf q all x answers complete = (IsAnswered q x answers × (IsUnturned q x ⊎ IsAliasAsked q all x answers)) ⊎ IsTold q all x answers
+EndOf q all x answers complete = (IsAnswered q x answers × (IsUndiverted q x ⊎ IsAliasAsked q all x answers)) ⊎ IsReported q all x answers
 EndOf q all x answers (referred s) = IsReferred q x s × (answers ≡ []) × IsUntold q all x
-EndOf q all x answers (missing y star there) = IsUnturned q x × IsMissing q x star there × (y ≡ x) × (answers ≡ []) × IsUntold q all x
+EndOf q all x answers (missing y star there) = IsUndiverted q x × IsMissing q x star there × (y ≡ x) × (answers ≡ []) × IsUntold q all x
 EndOf q all x answers (outside y) = (y ≡ x) × (answers ≡ []) × IsUntold q all x
 EndOf q all x answers unfollowed = ⊥
 EndOf q all x answers too_long = answers ≡ []
@@ -97,7 +97,7 @@ pub data StepEnd (q : Inquiry) (before : List RRset) (x : Name) (s : Step) : Typ
 
 -- nor behind a step that adds none
 still_untold : (q : Inquiry) (before : List RRset) (x : Name) → IsUntold q before x → IsUntold q (before ++ []) x
-still_untold q before x h = ap (list_any (is_told_by q.record_type x)) (append-nil before) ∙ h
+still_untold q before x h = ap (list_any (is_sought q.record_type x)) (append-nil before) ∙ h
 
 module _ (q : Inquiry) (zone : IsZone q.sets) where
   abbrev t : ℕ
@@ -109,7 +109,7 @@ module _ (q : Inquiry) (zone : IsZone q.sets) where
   alias_no_dname r e v (inr i) d = absurd i
 
   -- at a name, for x
-  node_end : (before : List RRset) (star : Option Name) (x a : Name) → (star ≡ None → a ≡ x) → IsUnturned q x → (IsBare q.sets a q.record_type → IsMissing q x star true) → StepEnd q before x (step_at q star x a)
+  node_end : (before : List RRset) (star : Option Name) (x a : Name) → (star ≡ None → a ≡ x) → IsUndiverted q x → (IsBare q.sets a q.record_type → IsMissing q x star true) → StepEnd q before x (step_at q star x a)
   node_end before star x a here u missing_as = by (node_of q.sets a t)
     where
       m : Sets
@@ -123,19 +123,19 @@ module _ (q : Inquiry) (zone : IsZone q.sets) where
 
       aliased : (s : RRset) → asked_set m a t ≡ None → set_at m a CNAME ≡ Some s → (o : Option Name) → cname_target s ≡ o → StepEnd q before x (at (alias s))
       aliased s e f (Some target) g =
-          let r = as_it_is (part_for q.signed) (made_by (keeps q.signed t) star x s) in
+          let r = as_it_is (part_for q.signed) (as_found_for (keeps q.signed t) star x s) in
           goes_on target
           (λ rest. led t x r rest (found_stays m zone.stored q.signed t (keeps q.signed t) star x a here s (part_for q.signed) CNAME f) target
           (alias_leads m zone.stored q.signed t (keeps q.signed t) star x a here s e f ∙ g))
-          (alias_no_dname r (sent_type (part_for q.signed) (made_by (keeps q.signed t) star x s).ttl (made_by (keeps q.signed t) star x s) ∙ made_type (keeps q.signed t) star x s ∙ (zone.stored a CNAME s f).record_type))
+          (alias_no_dname r (sent_type (part_for q.signed) (as_found_for (keeps q.signed t) star x s).ttl (as_found_for (keeps q.signed t) star x s) ∙ made_type (keeps q.signed t) star x s ∙ (zone.stored a CNAME s f).record_type))
           (ap after_alias g) (record { asks = follows m a t s e f; lowered = lowered_target s target g })
       aliased s e f None g = let n = has_target a s (zone.stored a CNAME s f) in let p : None ≡ Some n.0 = sym g ∙ n.1 in absurd cc
 
       -- by what an ANAME set stands for
       kept : RRset → RRset
-      kept s = made_by (keeps q.signed t) star x s
+      kept s = as_found_for (keeps q.signed t) star x s
 
-      addressed : (s v : RRset) → set_at m a ANAME ≡ Some s → stand_in_answer q x (kept s) ≡ addresses v → (b : Bool) → StepEnd q before x (cond b (at_end failed) (record { answers = as_it_is (part_for q.signed) v ∷ []; made = made_names star x; next = ends complete }))
+      addressed : (s v : RRset) → set_at m a ANAME ≡ Some s → stand_in_answer q x (kept s) ≡ addresses v → (b : Bool) → StepEnd q before x (cond b (at_end failed) (record { answers = as_it_is (part_for q.signed) v ∷ []; made = expanded_names star x; next = ends complete }))
       addressed s v k f true = comes_to failed [] refl refl (λ h. tt)
       addressed s v k f false =
           let r = as_it_is (part_for q.signed) v in
@@ -151,7 +151,7 @@ module _ (q : Inquiry) (zone : IsZone q.sets) where
 
       by : NodeOf m a t → StepEnd q before x (step_at q star x a)
       by (has_set s e f) =
-          let r = as_it_is (own_part q.signed t) (made_by (keeps q.signed t) star x s) in
+          let r = as_it_is (own_part q.signed t) (as_found_for (keeps q.signed t) star x s) in
           of (own s) f
           (comes_to complete (r ∷ []) refl
           (last_here t x r [] (found_stays m zone.stored q.signed t (keeps q.signed t) star x a here s (own_part q.signed t) (chosen_type m a t) (asked_stands m a t s e)) (own_leads m zone.stored q.signed t (keeps q.signed t) star x a here s e))
@@ -161,7 +161,7 @@ module _ (q : Inquiry) (zone : IsZone q.sets) where
       by (has_nothing e f g) = of nothing g (comes_to (missing x star true) [] refl refl (λ h. (u, missing_as (record { asked = e; alias = f }), refl, refl, still_untold q before x h)))
 
   -- below a DNAME
-  module _ (before : List RRset) (dnames : AreDnames q before) (x : Name) (s : RRset) (target : Name) (a : IsAboveBy q x s) (told : dname_target s ≡ Some target) where
+  module _ (before : List RRset) (dnames : AreDnames q before) (x : Name) (s : RRset) (target : Name) (a : IsAboveBy q x s) (call_concludes : dname_target s ≡ Some target) where
     abbrev sets : List RRset
     sets = unless_among before (sent_dname q s)
 
@@ -173,7 +173,7 @@ module _ (q : Inquiry) (zone : IsZone q.sets) where
     new_name_end (Some n) e = by (asks_alias t) refl
       where
         r : RRset
-        r = made_alias s x n
+        r = synthesized_alias s x n
 
         same : n ≡ in_place_of s.owner target x
         same = short_is (in_place_of s.owner target x) n e
@@ -201,10 +201,10 @@ module _ (q : Inquiry) (zone : IsZone q.sets) where
                     dname = s;
                     above = a;
                     target = target;
-                    told = told;
+                    call_concludes = call_concludes;
                     among = stands_among q zone before (r ∷ []) x s dnames a;
                     asked = k;
-                    alone = ap (λ n. made_alias s x n ∷ []) same;
+                    alone = ap (λ n. synthesized_alias s x n ∷ []) same;
                   }),
             )
             )
@@ -223,15 +223,15 @@ module _ (q : Inquiry) (zone : IsZone q.sets) where
       by (leaves i e) = of (at_end (outside x)) e (comes_to (outside x) [] refl refl (λ h. (refl, refl, still_untold q before x h)))
       by (refers s i f e) = of (at_end (referred s)) e (comes_to (referred s) [] refl refl (λ h. (record { inside = i; turned = f }, refl, still_untold q before x h)))
       by (fails s f g e) = of (at_end failed) e (comes_to failed [] refl refl (λ h. tt))
-      by (new_name s target o f told g e) = of (new_name_step q.signed t before x s o) e (new_name_end before dnames x s target (turned_by q zone x s f) told o g)
+      by (new_name s target o f call_concludes g e) = of (new_name_step q.signed t before x s o) e (new_name_end before dnames x s target (turned_by q zone x s f) call_concludes o g)
       by (at_name u there e) = of (step_at q None x x) e (node_end before None x x (λ k. refl) u (λ b. bare refl refl there b))
       by (no_star u absent f e) = of (at_end (missing x None false)) e (comes_to (missing x None false) [] refl refl (λ h. (u, starless refl absent f, refl, refl, still_untold q before x h)))
-      by (at_star w u absent f g e) = of (step_at q (Some w) x w) e (node_end before (Some w) x w (λ k. cc) u (λ b. bare_star w refl refl absent f g b))
+      by (at_wildcard w u absent f g e) = of (step_at q (Some w) x w) e (node_end before (Some w) x w (λ k. cc) u (λ b. bare_star w refl refl absent f g b))
       by (star_gone w u absent f g e) = of (at_end (missing x (Some w) false)) e (comes_to (missing x (Some w) false) [] refl refl (λ h. (u, gone w refl refl absent f g, refl, refl, still_untold q before x h)))
 
   -- where a path goes on, the step did
-  goes_to : (sets : List RRset) (n : Next) (y : Name) → unless_told t sets n ≡ on y → n ≡ on y
-  goes_to sets (on w) y e = by (list_any (is_told_by t w) sets) e
+  goes_to : (sets : List RRset) (n : Next) (y : Name) → unless_answered t sets n ≡ on y → n ≡ on y
+  goes_to sets (on w) y e = by (list_any (is_sought t w) sets) e
     where
       by : (b : Bool) → cond b (ends complete) (on w) ≡ on y → on w ≡ on y
       by true e = absurd cc
@@ -239,10 +239,10 @@ module _ (q : Inquiry) (zone : IsZone q.sets) where
   goes_to sets (ends w) y e = e
 
   -- to a name of which no set tells
-  pub untold_on : (sets : List RRset) (n : Next) (y : Name) → unless_told t sets n ≡ on y → IsUntold q sets y
-  untold_on sets (on w) y e = by (list_any (is_told_by t w) sets) refl e
+  pub untold_on : (sets : List RRset) (n : Next) (y : Name) → unless_answered t sets n ≡ on y → IsUntold q sets y
+  untold_on sets (on w) y e = by (list_any (is_sought t w) sets) refl e
     where
-      by : (b : Bool) → list_any (is_told_by t w) sets ≡ b → cond b (ends complete) (on w) ≡ on y → IsUntold q sets y
+      by : (b : Bool) → list_any (is_sought t w) sets ≡ b → cond b (ends complete) (on w) ≡ on y → IsUntold q sets y
       by true f e = absurd cc
       by false f e = let same : w ≡ y = cc in subst (IsUntold q sets) same f
   untold_on sets (ends w) y e = absurd cc
@@ -303,14 +303,14 @@ module _ (q : Inquiry) (zone : IsZone q.sets) where
       Leads target = (sets : List RRset) → last_name t x (answers ++ sets) ≡ last_name t target sets
 
       -- at a name of which the sets tell, or its search goes on
-      at_target : Rest → (target : Name) → Leads target → AreDnames q (before ++ answers) → (b : Bool) → list_any (is_told_by t target) (before ++ answers) ≡ b → PathEnd before x (whole (cond b (ends complete) (on target)))
+      at_target : Rest → (target : Name) → Leads target → AreDnames q (before ++ answers) → (b : Bool) → list_any (is_sought t target) (before ++ answers) ≡ b → PathEnd before x (whole (cond b (ends complete) (on target)))
       at_target from target l d true e =
           behind_step before x target answers made (ended complete) l
           (arrives target [] complete refl refl
           (inr
           (record {
             none = refl;
-            told = ap (list_any (is_told_by t target)) (append-nil (before ++ answers)) ∙ e;
+            call_concludes = ap (list_any (is_sought t target)) (append-nil (before ++ answers)) ∙ e;
             unturned = told_unturned q zone (before ++ answers) d target e;
           })))
       at_target from target l d false e = behind_step before x target answers made (rest target) l (from d target e)
@@ -318,10 +318,10 @@ module _ (q : Inquiry) (zone : IsZone q.sets) where
       by : Rest → (b : Bool) → StepEnd q before x (step q before x) → PathEnd before x (cond b (ended unfollowed) (whole (next_behind q before x)))
       by from true s = stops x refl refl (still_untold q before x u)
       by from false (goes_on target l d n k) =
-          subst (λ n. PathEnd before x (whole (unless_told t (before ++ answers) n))) (sym n)
-          (at_target from target l (both_dnames q before answers dnames d) (list_any (is_told_by t target) (before ++ answers)) refl)
+          subst (λ n. PathEnd before x (whole (unless_answered t (before ++ answers) n))) (sym n)
+          (at_target from target l (both_dnames q before answers dnames d) (list_any (is_sought t target) (before ++ answers)) refl)
       by from false (comes_to e sets n l h) =
-          subst (λ n. PathEnd before x (whole (unless_told t (before ++ answers) n))) (sym n)
+          subst (λ n. PathEnd before x (whole (unless_answered t (before ++ answers) n))) (sym n)
           (arrives x sets e refl (ap (last_name t x) (append-nil answers) ∙ l) (subst (λ (a : List RRset). EndOf q (before ++ a) x sets e) (sym (append-nil answers)) (h u)))
 
   pub path_end : (x : Name) → PathEnd [] x (path q x)

@@ -1,4 +1,4 @@
--- Which set of a step leads on to another name, as it stands in the answer section
+-- Which set of a step leads on to another name, as it is in the answer section
 use Rattle.std.proofs.Common.{◌≡◌, ◌≢◌, ℕ, Bool, true, false, cond, not, ◌&&◌, ◌||◌, List, [], ◌∷◌, map, refl, sym, ap, ◌∙◌, true≢false, eqb-true, eq-eqb}
 use Rattle.std.specs.Prelude.{Option, Some, None, filter, is_some, option_and_then, unwrap_or, ◌==◌}
 use Rattle.std.specs.List.{All}
@@ -31,11 +31,11 @@ use Rattle.zone_response.specs.declared.response.Part.{Part}
 use Rattle.zone_response.specs.declared.response.Part.TheVariants as part
 use Rattle.zone_response.specs.Nodes.{chosen_type, if_signed, asked_set}
 use Rattle.zone_response.specs.Sections.{with_ttl, sent, as_it_is, part_for, is_signed}
-use Rattle.zone_response.specs.Steps.{made_by, own_part}
+use Rattle.zone_response.specs.Steps.{as_found_for, own_part}
 use Rattle.zone_response.specs.Descent.{DNAME}
 use Rattle.response_laws.specs.Sayings.{asks_alias, leads_to, is_of, renames, is_answer}
 
--- ---- the target of an alias, as it goes out
+-- ---- the target of an alias, as it is sent
 
 target_with_ttl : (ttl : ℕ) (rs : List Record) → first_target (map (with_ttl ttl) rs) ≡ first_target rs
 target_with_ttl ttl [] = refl
@@ -49,7 +49,7 @@ pub sent_target : (signed : Bool) (s : RRset) → cname_target (as_it_is (part_f
 sent_target true s = target_with_ttl s.ttl s.records
 sent_target false s = target_with_ttl s.ttl s.records
 
-pub made_target : (keep : Bool) (star : Option Name) (x : Name) (s : RRset) → cname_target (made_by keep star x s) ≡ cname_target s
+pub made_target : (keep : Bool) (star : Option Name) (x : Name) (s : RRset) → cname_target (as_found_for keep star x s) ≡ cname_target s
 made_target keep None x s = refl
 made_target keep (Some star) x s = target_under x s.ttl s.records
 
@@ -63,7 +63,7 @@ sent_type part.Records ttl s = refl
 sent_type part.Signed ttl s = refl
 sent_type part.Signatures ttl s = refl
 
-pub made_type : (keep : Bool) (star : Option Name) (x : Name) (s : RRset) → (made_by keep star x s).record_type ≡ s.record_type
+pub made_type : (keep : Bool) (star : Option Name) (x : Name) (s : RRset) → (as_found_for keep star x s).record_type ≡ s.record_type
 made_type keep None x s = refl
 made_type keep (Some star) x s = refl
 
@@ -185,34 +185,34 @@ module _ (m : Sets) (a : Name) (t : ℕ) where
 
 module _ (m : Sets) (stored : (a : Name) (t : ℕ) (s : RRset) → set_at m a t ≡ Some s → IsStoredAt a t s) (signed : Bool) (t : ℕ) where
   -- a set that is found for x is owned by it
-  pub found_owner : (keep : Bool) (star : Option Name) (x a : Name) (s : RRset) → (star ≡ None → a ≡ x) → lower s.owner ≡ a → same_name (made_by keep star x s).owner x ≡ true
+  pub found_owner : (keep : Bool) (star : Option Name) (x a : Name) (s : RRset) → (star ≡ None → a ≡ x) → lower s.owner ≡ a → same_name (as_found_for keep star x s).owner x ≡ true
   found_owner keep None x a s here e = same_from_lower s.owner x (sym (lower-lower s.owner) ∙ ap lower (e ∙ here refl))
   found_owner keep (Some star) x a s here e = caseless_eq_equiv.refl x
 
   module _ (keep : Bool) (star : Option Name) (x a : Name) (here : star ≡ None → a ≡ x) (s : RRset) where
     -- it isn't of a name above x
-    pub found_stays : (p : Part) (u : ℕ) → set_at m a u ≡ Some s → renames x (as_it_is p (made_by keep star x s)) ≡ false
+    pub found_stays : (p : Part) (u : ℕ) → set_at m a u ≡ Some s → renames x (as_it_is p (as_found_for keep star x s)) ≡ false
     found_stays p u e =
         stays_by_owner x (as_it_is p own) (ap (λ n. same_name n x) (sent_owner p own.ttl own) ∙ found_owner keep star x a s here (stored a u s e).owner)
       where
         own : RRset
-        own = made_by keep star x s
+        own = as_found_for keep star x s
 
     -- an alias leads to its target
-    pub alias_leads : asked_set m a t ≡ None → set_at m a CNAME ≡ Some s → leads_to t x (as_it_is (part_for signed) (made_by keep star x s)) ≡ cname_target s
+    pub alias_leads : asked_set m a t ≡ None → set_at m a CNAME ≡ Some s → leads_to t x (as_it_is (part_for signed) (as_found_for keep star x s)) ≡ cname_target s
     alias_leads none alias =
-        (λ i. cond (follows m a t s none alias i || not (owned i)) None (cname_target (as_it_is (part_for signed) (made_by keep star x s))))
-        ∙ sent_target signed (made_by keep star x s) ∙ made_target keep star x s
+        (λ i. cond (follows m a t s none alias i || not (owned i)) None (cname_target (as_it_is (part_for signed) (as_found_for keep star x s))))
+        ∙ sent_target signed (as_found_for keep star x s) ∙ made_target keep star x s
       where
-        owned : same_name (as_it_is (part_for signed) (made_by keep star x s)).owner x ≡ true
-        owned = ap (λ n. same_name n x) (sent_owner (part_for signed) (made_by keep star x s).ttl (made_by keep star x s)) ∙ found_owner keep star x a s here (stored a CNAME s alias).owner
+        owned : same_name (as_it_is (part_for signed) (as_found_for keep star x s)).owner x ≡ true
+        owned = ap (λ n. same_name n x) (sent_owner (part_for signed) (as_found_for keep star x s).ttl (as_found_for keep star x s)) ∙ found_owner keep star x a s here (stored a CNAME s alias).owner
 
     -- what is asked for leads nowhere
-    pub own_leads : asked_set m a t ≡ Some s → leads_to t x (as_it_is (own_part signed t) (made_by keep star x s)) ≡ None
+    pub own_leads : asked_set m a t ≡ Some s → leads_to t x (as_it_is (own_part signed t) (as_found_for keep star x s)) ≡ None
     own_leads e = by (t == CNAME) refl (t == ANY) refl (t == RRSIG) refl
       where
         own : RRset
-        own = made_by keep star x s
+        own = as_found_for keep star x s
 
         asked : (b c : Bool) (o : Option Name) → o ≡ None → cond (b || c) None o ≡ None
         asked true c o f = refl
@@ -233,11 +233,11 @@ module _ (m : Sets) (stored : (a : Name) (t : ℕ) (s : RRset) → set_at m a t 
             asked false (not (same_name (as_it_is (part_for signed) own).owner x)) (cname_target (as_it_is (part_for signed) own))
             (sent_target signed own ∙ made_target keep star x s ∙ plain f g h)
 
-    pub own_answers : asked_set m a t ≡ Some s → is_answer t x (as_it_is (own_part signed t) (made_by keep star x s)) ≡ true
+    pub own_answers : asked_set m a t ≡ Some s → is_answer t x (as_it_is (own_part signed t) (as_found_for keep star x s)) ≡ true
     own_answers e = λ i. owned i && typed i
       where
         own : RRset
-        own = made_by keep star x s
+        own = as_found_for keep star x s
 
         stands : IsStoredAt a (chosen_type m a t) s
         stands = stored a (chosen_type m a t) s (asked_stands m a t s e)

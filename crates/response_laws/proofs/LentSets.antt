@@ -1,7 +1,7 @@
 -- What a zone has of a name is the same among the sets that it lends for its denials, sets of denial aside
 use Rattle.std.proofs.Common.{◌≡◌, ℕ, false, refl, sym, ap, ◌∙◌, subst, true≢false}
 use Rattle.std.specs.Prelude.{Option, Some, None, find, is_some, option_map}
-use Rattle.zone_proto.specs.Names.{Name, star_under, proper_ancestors}
+use Rattle.zone_proto.specs.Names.{Name, wildcard_under, proper_ancestors}
 use Rattle.zone_proto.specs.Sets.{RRset}
 use Rattle.zone_proto.specs.Types.{NS, SOA, DS}
 use Rattle.zone_map.specs.Upserts.{is_denial_type}
@@ -11,10 +11,10 @@ use Rattle.zone_denial.specs.Authority.{is_below_cut}
 use Rattle.zone_denial.specs.Chains.{chain_sets}
 use Rattle.zone_denial.proofs.Chains.ChainSets.{sets_are, is_zone}
 use Rattle.zone_denial.proofs.Chains.SameSets.{set_same, exists_same, below_cut_same}
-use Rattle.denial_laws.specs.Judged.{Unreferred}
+use Rattle.denial_laws.specs.Scope.{Unreferred}
 use Rattle.denial_laws.specs.Soundness.{IsUnsignedDelegation}
 use Rattle.zone_response.specs.Queries.{Zone, HasOwnDenials}
-use Rattle.zone_response.specs.Wildcards.{star_of}
+use Rattle.zone_response.specs.Wildcards.{source_of_synthesis}
 use Rattle.response_laws.specs.HashedSayings.{IsReached}
 use Rattle.response_laws.specs.ProvedSayings.{IsUnreferred}
 
@@ -35,8 +35,8 @@ module _ (z : Zone) (same : z.denials ≡ chain_sets z.nx_proof_kind z.sets) whe
   pub encloser_kept : (n : Name) → closest_encloser z.denials n ≡ closest_encloser z.sets n
   encloser_kept n = λ i. find (λ a. exists_kept a i) (proper_ancestors n)
 
-  pub star_kept : (n : Name) → star_of z.denials n ≡ star_of z.sets n
-  star_kept n = ap (option_map star_under) (encloser_kept n)
+  pub star_kept : (n : Name) → source_of_synthesis z.denials n ≡ source_of_synthesis z.sets n
+  star_kept n = ap (option_map wildcard_under) (encloser_kept n)
 
   pub reached_kept : (n : Name) → IsReached z.origin z.sets n → IsReached z.origin z.denials n
   reached_kept n r = record {

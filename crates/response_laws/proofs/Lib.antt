@@ -40,6 +40,7 @@ pub mod HashedProved
 pub mod HashedDenied
 pub mod HashedEmpty
 pub mod HashedReferrals
+pub mod HashCounts
 pub mod OwnDenials
 pub mod Helpful
 pub mod Reasons

@@ -13,7 +13,7 @@ use Rattle.zone_proto.proofs.Members.{In, In-from_append, In-append_left, In-app
 use Rattle.zone_map.specs.Zones.{Sets, set_at, IsZone}
 use Rattle.zone_denial.specs.NsecDenial.{closest_nsec}
 use Rattle.zone_response.specs.declared.response.Part.TheVariants as part
-use Rattle.zone_response.specs.Denials.{star_proof, star_proof_by, denial, denial_by, end_proof, with_star_proof, proofs}
+use Rattle.zone_response.specs.Denials.{wildcard_proof, wildcard_proof_by, denial, denial_by, end_proof, with_wildcard_proof, proofs}
 use Rattle.zone_response.specs.Paths.{Path, path}
 use Rattle.zone_response.specs.Queries.{Zone, Query, inquiry}
 use Rattle.zone_response.specs.QueryTypes.{is_no_data}
@@ -31,7 +31,8 @@ use Rattle.response_laws.proofs.OwnerSets.{all_of, owners_of_all, kept_in_all, m
 abbrev pub path_of : Zone → Query → Path
 path_of z q = path (inquiry z q) q.name
 
--- the names of which a response says something: those for which a star answered; the name without the set that is asked for, and the star that was asked for it; and a child without DS
+-- the names of which a response says something: those for which a wildcard answered; the name without the set that is
+-- asked for, and the wildcard that was asked for it; and a child without DS
 abbrev pub told_at : Option RRset → End → List Name
 told_at ds (missing x star there) = x ∷ option_to_list star
 told_at None (referred c) = lower c.owner ∷ []
@@ -41,7 +42,7 @@ told_at ds _ = []
 abbrev pub told_names : Zone → Query → End → List Name
 told_names z q e = (path_of z q).made ++ told_at (ds_at z.sets e) e
 
--- a set that proves something, as it goes out
+-- a set that proves something, as it is sent
 abbrev pub as_proof : ℕ → RRset → RRset
 as_proof ttl s = sent part.Signed (min s.ttl ttl) s
 
@@ -67,7 +68,7 @@ pub record IsMadeOf (z : Zone) (q : Query) (r : Sections) : Type 0 where
   pub given : q.signed ≡ true → ProofsOf z (path_of z q) proofs
   pub unproved : q.signed ≡ false → proofs ≡ []
   pub owners : z.nx_proof_kind ≡ Some kind.Nsec → AreOwnersNsec z.denials proofs
-  pub tells : z.nx_proof_kind ≡ Some kind.Nsec → q.signed ≡ true → (x : Name) (s : RRset) → In x (told_names z q (path_of z q).end) → closest_nsec z.denials x ≡ Some s → In s proofs
+  pub is_stated : z.nx_proof_kind ≡ Some kind.Nsec → q.signed ≡ true → (x : Name) (s : RRset) → In x (told_names z q (path_of z q).end) → closest_nsec z.denials x ≡ Some s → In s proofs
 
 -- a response is a code alone, for which there is a reason, or made of these parts
 pub data HowAnswered (z : Zone) (q : Query) (r : Sections) : Type 0 where
@@ -107,32 +108,32 @@ fails_at _ h = absurd (true≢false (sym h))
 
 -- ---- the sets of the proofs, where a zone denies by NSEC
 
--- they stand in it, and the closest ones of these names are among them
+-- they are in it, and the closest ones of these names are among them
 pub record AreProofs (m : Sets) (names : List Name) (sets : List RRset) : Type 0 where
   pub owners : AreOwnersNsec m sets
-  pub tells : (x : Name) (s : RRset) → In x names → closest_nsec m x ≡ Some s → In s sets
+  pub is_stated : (x : Name) (s : RRset) → In x names → closest_nsec m x ≡ Some s → In s sets
 
 module _ (z : Zone) (zone : IsZone z.denials) (nsec : z.nx_proof_kind ≡ Some kind.Nsec) where
   abbrev m : Sets
   m = z.denials
 
-  star_proof_is : (x : Name) → star_proof z x ≡ closest_sets m zone x
-  star_proof_is x = ap (λ k. star_proof_by z k x) nsec
+  star_proof_is : (x : Name) → wildcard_proof z x ≡ closest_sets m zone x
+  star_proof_is x = ap (λ k. wildcard_proof_by z k x) nsec
 
   denial_is : (x : Name) (star : Option Name) → denial z x star ≡ closest_sets m zone x ++ option_to_list (option_and_then (closest_nsec m) star)
   denial_is x star = ap (λ k. denial_by z k x star) nsec
 
-  -- those of the names for which a star answered, behind others
+  -- those of the names for which a wildcard answered, behind others
   stars_from : (made before : List Name) (sets : List RRset) → AreOwnersNsec m sets → ((x : Name) (s : RRset) → In x before → closest_nsec m x ≡ Some s → In s sets)
-      → AreProofs m (before ++ made) (fold (with_star_proof z) sets made)
-  stars_from [] before sets h k = record { owners = h; tells = λ x s i. k x s (subst (In x) (append-nil before) i) }
+      → AreProofs m (before ++ made) (fold (with_wildcard_proof z) sets made)
+  stars_from [] before sets h k = record { owners = h; is_stated = λ x s i. k x s (subst (In x) (append-nil before) i) }
   stars_from (y ∷ made) before sets h k =
-      subst (λ (names : List Name). AreProofs m names (fold (with_star_proof z) sets (y ∷ made))) (append_assoc before (y ∷ []) made)
-      (subst (λ (start : List RRset). AreProofs m ((before ++ y ∷ []) ++ made) (fold (with_star_proof z) start made)) (sym (ap (all_of sets) (star_proof_is y)))
-      (stars_from made (before ++ y ∷ []) (all_of sets (closest_sets m zone y)) (owners_of_all NSEC m sets (closest_sets m zone y) h (closest_owners m zone y)) told))
+      subst (λ (names : List Name). AreProofs m names (fold (with_wildcard_proof z) sets (y ∷ made))) (append_assoc before (y ∷ []) made)
+      (subst (λ (start : List RRset). AreProofs m ((before ++ y ∷ []) ++ made) (fold (with_wildcard_proof z) start made)) (sym (ap (all_of sets) (star_proof_is y)))
+      (stars_from made (before ++ y ∷ []) (all_of sets (closest_sets m zone y)) (owners_of_all NSEC m sets (closest_sets m zone y) h (closest_owners m zone y)) call_concludes))
     where
-      told : (x : Name) (s : RRset) → In x (before ++ y ∷ []) → closest_nsec m x ≡ Some s → In s (all_of sets (closest_sets m zone y))
-      told x s i e = by (In-from_append x before (y ∷ []) i)
+      call_concludes : (x : Name) (s : RRset) → In x (before ++ y ∷ []) → closest_nsec m x ≡ Some s → In s (all_of sets (closest_sets m zone y))
+      call_concludes x s i e = by (In-from_append x before (y ∷ []) i)
         where
           by : In x before ⊎ In x (y ∷ []) → In s (all_of sets (closest_sets m zone y))
           by (inl u) = kept_in_all NSEC m sets (closest_sets m zone y) s (k x s u e)
@@ -141,12 +142,12 @@ module _ (z : Zone) (zone : IsZone z.denials) (nsec : z.nx_proof_kind ≡ Some k
 
   -- those of what the end says
   none_proved : AreProofs m [] []
-  none_proved = record { owners = λ s i. absurd i; tells = λ x s i. absurd i }
+  none_proved = record { owners = λ s i. absurd i; is_stated = λ x s i. absurd i }
 
   closest_proved : (x : Name) (star : Option Name) → AreProofs m (x ∷ option_to_list star) (closest_sets m zone x ++ option_to_list (option_and_then (closest_nsec m) star))
   closest_proved x star = record {
     owners = λ s i. either s star (In-from_append s (closest_sets m zone x) (option_to_list (option_and_then (closest_nsec m) star)) i);
-    tells = λ y s i e. told star y s i e;
+    is_stated = λ y s i e. call_concludes star y s i e;
   }
     where
       either : (s : RRset) (star : Option Name) → In s (closest_sets m zone x) ⊎ In s (option_to_list (option_and_then (closest_nsec m) star)) → set_at m (lower s.owner) NSEC ≡ Some s
@@ -154,11 +155,11 @@ module _ (z : Zone) (zone : IsZone z.denials) (nsec : z.nx_proof_kind ≡ Some k
       either s (Some w) (inr i) = closest_owners m zone w s i
       either s None (inr i) = absurd i
 
-      told : (star : Option Name) (y : Name) (s : RRset) → In y (x ∷ option_to_list star) → closest_nsec m y ≡ Some s → In s (closest_sets m zone x ++ option_to_list (option_and_then (closest_nsec m) star))
-      told star y s (inl q) e = In-append_left s (closest_sets m zone x) (option_to_list (option_and_then (closest_nsec m) star)) (is_closest m zone x s (ap (closest_nsec m) q ∙ e))
-      told (Some w) y s (inr (inl q)) e = In-append_right s (closest_sets m zone x) (closest_sets m zone w) (is_closest m zone w s (ap (closest_nsec m) q ∙ e))
-      told (Some w) y s (inr (inr i)) e = absurd i
-      told None y s (inr i) e = absurd i
+      call_concludes : (star : Option Name) (y : Name) (s : RRset) → In y (x ∷ option_to_list star) → closest_nsec m y ≡ Some s → In s (closest_sets m zone x ++ option_to_list (option_and_then (closest_nsec m) star))
+      call_concludes star y s (inl q) e = In-append_left s (closest_sets m zone x) (option_to_list (option_and_then (closest_nsec m) star)) (is_closest m zone x s (ap (closest_nsec m) q ∙ e))
+      call_concludes (Some w) y s (inr (inl q)) e = In-append_right s (closest_sets m zone x) (closest_sets m zone w) (is_closest m zone w s (ap (closest_nsec m) q ∙ e))
+      call_concludes (Some w) y s (inr (inr i)) e = absurd i
+      call_concludes None y s (inr i) e = absurd i
 
   denied : (x : Name) (star : Option Name) → AreProofs m (x ∷ option_to_list star) (denial z x star)
   denied x star = subst (AreProofs m (x ∷ option_to_list star)) (sym (denial_is x star)) (closest_proved x star)
@@ -174,14 +175,14 @@ module _ (z : Zone) (zone : IsZone z.denials) (nsec : z.nx_proof_kind ≡ Some k
       let stars = stars_from made [] [] (λ s i. absurd i) (λ x s i. absurd i) in
       let end = ends_proved ds e in
       record {
-        owners = owners_of_all NSEC m (fold (with_star_proof z) [] made) (end_proof z ds e) stars.owners end.owners;
-        tells = λ x s i c. by stars end x s c (In-from_append x made (told_at ds e) i);
+        owners = owners_of_all NSEC m (fold (with_wildcard_proof z) [] made) (end_proof z ds e) stars.owners end.owners;
+        is_stated = λ x s i c. by stars end x s c (In-from_append x made (told_at ds e) i);
       }
     where
-      by : (stars : AreProofs m made (fold (with_star_proof z) [] made)) (end : AreProofs m (told_at ds e) (end_proof z ds e)) (x : Name) (s : RRset) → closest_nsec m x ≡ Some s
-          → In x made ⊎ In x (told_at ds e) → In s (all_of (fold (with_star_proof z) [] made) (end_proof z ds e))
-      by stars end x s c (inl i) = kept_in_all NSEC m (fold (with_star_proof z) [] made) (end_proof z ds e) s (stars.tells x s i c)
-      by stars end x s c (inr i) = more_in_all NSEC m (fold (with_star_proof z) [] made) (end_proof z ds e) s stars.owners end.owners (end.tells x s i c)
+      by : (stars : AreProofs m made (fold (with_wildcard_proof z) [] made)) (end : AreProofs m (told_at ds e) (end_proof z ds e)) (x : Name) (s : RRset) → closest_nsec m x ≡ Some s
+          → In x made ⊎ In x (told_at ds e) → In s (all_of (fold (with_wildcard_proof z) [] made) (end_proof z ds e))
+      by stars end x s c (inl i) = kept_in_all NSEC m (fold (with_wildcard_proof z) [] made) (end_proof z ds e) s (stars.is_stated x s i c)
+      by stars end x s c (inr i) = more_in_all NSEC m (fold (with_wildcard_proof z) [] made) (end_proof z ds e) s stars.owners end.owners (end.is_stated x s i c)
 
 -- what holds of each set of a list holds where the list is asked for, and else of none
 each_asked : (P : RRset → Type 0) (sets : List RRset) (b : Bool) → ((s : RRset) → In s sets → P s) → (s : RRset) → In s (cond b sets []) → P s
@@ -217,7 +218,7 @@ module _ (z : Zone) (q : Query) (r : Sections) (zone : IsZone z.denials) (inside
     given = λ k. sym (ap (λ b. cond b all []) k);
     unproved = λ k. ap (λ b. cond b all []) k;
     owners = λ n. each_asked (λ s. set_at z.denials (lower s.owner) NSEC ≡ Some s) all q.signed (proofs_are z zone n ds p.made p.end).owners;
-    tells = λ n k x s i c. subst (In s) (sym (ap (λ b. cond b all []) k)) ((proofs_are z zone n ds p.made p.end).tells x s i c);
+    is_stated = λ n k x s i c. subst (In s) (sym (ap (λ b. cond b all []) k)) ((proofs_are z zone n ds p.made p.end).is_stated x s i c);
   }
 
 pub how_answered : (z : Zone) (q : Query) (r : Sections) → IsZone z.denials → IsResponse z q r → HowAnswered z q r

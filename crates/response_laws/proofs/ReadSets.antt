@@ -1,4 +1,5 @@
--- What a validator reads in the sets of a section are records of the zone's sets, and what it reads in a set of the zone it reads in it as it goes out
+-- What a validator reads in the sets of a section are records of the zone's sets, and what it reads in a set of the
+-- zone it reads in it as it is sent
 use Rattle.std.proofs.Common.{◌≡◌, ℕ, List, ◌++◌, map, refl, sym, ap, ◌∙◌, subst}
 use Rattle.std.specs.Prelude.{Option, Some, min, filter_map, flat_map, option_map}
 use Rattle.std.specs.List.{Contains}

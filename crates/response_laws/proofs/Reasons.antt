@@ -1,4 +1,4 @@
--- Sets of denial stand in a response only where something is to be proved
+-- Sets of denial are in a response only where something is to be proved
 use Rattle.std.proofs.Common.{◌≡◌, ℕ, zero, suc, Bool, true, false, cond, not, ◌&&◌, List, [], ◌∷◌, ◌++◌, refl, sym, ap, ◌∙◌, subst, ◌⊎◌, inl, inr}
 use Rattle.std.specs.Prelude.{Option, Some, None}
 use Rattle.std.specs.List.{list_any}
@@ -13,10 +13,10 @@ use Rattle.zone_response.specs.Paths.{next_behind, Path, ended, behind, searched
 use Rattle.zone_response.specs.Queries.{Zone, Inquiry}
 use Rattle.zone_response.specs.Sections.{is_signed, as_it_is, part_for}
 use Rattle.zone_response.specs.Aname.{StandInAnswer, addresses, no_addresses, untold, stand_in_answer}
-use Rattle.zone_response.specs.Steps.{End, complete, referred, missing, outside, unfollowed, too_long, failed, Next, on, ends, Step, at_end, made_by, made_names, keeps, own_part, stood_in_step, node_step, new_name_step, step_at, step}
+use Rattle.zone_response.specs.Steps.{End, complete, referred, missing, outside, unfollowed, too_long, failed, Next, on, ends, Step, at_end, as_found_for, expanded_names, keeps, own_part, stood_in_step, node_step, new_name_step, step_at, step}
 use Rattle.response_laws.proofs.Leads.{sent_owner}
 use Rattle.response_laws.proofs.StandIns.{addresses_of_last}
-use Rattle.response_laws.proofs.Stepped.{NodeOf, has_set, has_alias, has_stand_in, has_nothing, node_of, StepOf, leaves, refers, fails, new_name, at_name, no_star, at_star, star_gone, step_of}
+use Rattle.response_laws.proofs.Stepped.{NodeOf, has_set, has_alias, has_stand_in, has_nothing, node_of, StepOf, leaves, refers, fails, new_name, at_name, no_star, at_wildcard, star_gone, step_of}
 
 -- ---- for which end something is to be proved
 
@@ -26,7 +26,7 @@ NeedsProof None (referred c) = Unit {0}
 NeedsProof (Some s) (referred c) = ⊥
 NeedsProof ds _ = ⊥
 
--- sets prove something of a name for which a star answered, or of the end
+-- sets prove something of a name for which a wildcard answered, or of the end
 pub proves_what : (z : Zone) (ds : Option RRset) (made : List Name) (e : End) (sets : List RRset) (s : RRset) → proofs z ds made e ≡ sets → In s sets → ((y : Name) × In y made) ⊎ NeedsProof ds e
 proves_what z ds (y ∷ made) e sets s is i = inl (y, inl refl)
 proves_what z ds [] e sets s is i = inr (by ds e is)
@@ -49,7 +49,7 @@ proves_what z ds [] e sets s is i = inr (by ds e is)
     by None failed f = none f
     by (Some d) failed f = none f
 
--- ---- the answer of a star
+-- ---- the answer of a wildcard
 
 module _ (q : Inquiry) where
   abbrev t : ℕ
@@ -71,12 +71,12 @@ module _ (q : Inquiry) where
       at = node_step q (Some w) x
 
       kept : RRset → RRset
-      kept = made_by (keeps q.signed t) (Some w) x
+      kept = as_found_for (keeps q.signed t) (Some w) x
 
       under : (p : Part) (v : RRset) → v.owner ≡ x → AnswersAbsent (as_it_is p v ∷ [])
       under p v e = record { set = as_it_is p v; among = inl refl; absent = ap (exists q.sets) (sent_owner p v.ttl v ∙ e) ∙ absent }
 
-      addressed : (s v : RRset) → stand_in_answer q x (kept s) ≡ addresses v → (b : Bool) → Starred (cond b (at_end failed) (record { answers = as_it_is (part_for q.signed) v ∷ []; made = made_names (Some w) x; next = ends complete }))
+      addressed : (s v : RRset) → stand_in_answer q x (kept s) ≡ addresses v → (b : Bool) → Starred (cond b (at_end failed) (record { answers = as_it_is (part_for q.signed) v ∷ []; made = expanded_names (Some w) x; next = ends complete }))
       addressed s v f true y i = absurd i
       addressed s v f false y i = under (part_for q.signed) v (ap (λ (r : RRset). r.owner) (addresses_of_last q x (kept s) v f).is)
 
@@ -91,14 +91,14 @@ module _ (q : Inquiry) where
       by (has_stand_in s e f k g) = subst (λ n. Starred (at n)) (sym g) (stood_in s (stand_in_answer q x (kept s)) refl)
       by (has_nothing e f g) = subst (λ n. Starred (at n)) (sym g) (λ y i. absurd i)
 
-  -- at a name that exists no star answers
+  -- at a name that exists no wildcard answers
   node_own : (x : Name) → Starred (step_at q None x x)
   node_own x = by (node_of q.sets x t)
     where
       at : AtNode → Step
       at = node_step q None x
 
-      addressed : (v : RRset) (b : Bool) → Starred (cond b (at_end failed) (record { answers = as_it_is (part_for q.signed) v ∷ []; made = made_names None x; next = ends complete }))
+      addressed : (v : RRset) (b : Bool) → Starred (cond b (at_end failed) (record { answers = as_it_is (part_for q.signed) v ∷ []; made = expanded_names None x; next = ends complete }))
       addressed v true y i = absurd i
       addressed v false y i = absurd i
 
@@ -110,7 +110,7 @@ module _ (q : Inquiry) where
       by : NodeOf q.sets x t → Starred (step_at q None x x)
       by (has_set s e f) = subst (λ n. Starred (at n)) (sym f) (λ y i. absurd i)
       by (has_alias s e f g) = subst (λ n. Starred (at n)) (sym g) (λ y i. absurd i)
-      by (has_stand_in s e f k g) = subst (λ n. Starred (at n)) (sym g) (stood_in (stand_in_answer q x (made_by (keeps q.signed t) None x s)))
+      by (has_stand_in s e f k g) = subst (λ n. Starred (at n)) (sym g) (stood_in (stand_in_answer q x (as_found_for (keeps q.signed t) None x s)))
       by (has_nothing e f g) = subst (λ n. Starred (at n)) (sym g) (λ y i. absurd i)
 
   renamed_unstarred : (before : List RRset) (x : Name) (s : RRset) (new : Option Name) → Starred (new_name_step q.signed t before x s new)
@@ -127,10 +127,10 @@ module _ (q : Inquiry) where
       by (leaves i e) = of (at_end (outside x)) e (λ y i. absurd i)
       by (refers r i f e) = of (at_end (referred r)) e (λ y i. absurd i)
       by (fails s f g e) = of (at_end failed) e (λ y i. absurd i)
-      by (new_name v target o f told g e) = of (new_name_step q.signed t before x v o) e (renamed_unstarred before x v o)
+      by (new_name v target o f call_concludes g e) = of (new_name_step q.signed t before x v o) e (renamed_unstarred before x v o)
       by (at_name u there e) = of (step_at q None x x) e (node_own x)
       by (no_star u absent f e) = of (at_end (missing x None false)) e (λ y i. absurd i)
-      by (at_star w u absent f g e) = of (step_at q (Some w) x w) e (node_starred w x absent)
+      by (at_wildcard w u absent f g e) = of (step_at q (Some w) x w) e (node_starred w x absent)
       by (star_gone w u absent f g e) = of (at_end (missing x (Some w) false)) e (λ y i. absurd i)
 
   -- ---- the path

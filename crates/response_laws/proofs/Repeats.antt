@@ -1,4 +1,4 @@
--- No set of a section repeats one that stands before it
+-- No set of a section repeats one that comes before it
 use Rattle.std.proofs.Common.{[], ◌++◌, ap}
 use Rattle.zone_response.specs.Queries.{inquiry}
 use Rattle.zone_response.specs.Responses.{IsResponse}

@@ -51,7 +51,7 @@ response_says_how_it_ends z q r zone denials is = by (how_answered z q r denials
         inl (e ∙ ap bare (sym same), subst (WhyAlone z q) (sym same) why)
     by (by_parts h) = inr (says_end z zone q r h)
 
--- ---- what stands in its sections
+-- ---- what is in its sections
 
 bare_has_contents : (z : Zone) (q : Query) (c : ResponseCode) → WhyAlone z q c → HasContents z q (bare c)
 bare_has_contents z q c why = record {
@@ -81,7 +81,7 @@ code_alone z q d c silent = record {
   says = record {
     answers = λ s i. absurd (Contains-In s [] i);
     signatures = λ t other all s i. absurd (Contains-In s [] i);
-    told = λ w e. let p = sym silent ∙ e in absurd cc;
+    call_concludes = λ w e. let p = sym silent ∙ e in absurd cc;
     error = λ x e. let p = sym silent ∙ e in absurd cc;
     empty = λ x e. let p = sym silent ∙ e in absurd cc;
     delegation = λ x e. let p = sym silent ∙ e in absurd cc;
@@ -99,7 +99,7 @@ response_proves_what_it_says z q r d signed is = by (how_answered z q r d.chain.
       says = record {
         answers = answers_proved z q r d signed h;
         signatures = λ t other all s i. signed_in_authority z d.chain.zone t other all s (authorities_proved z q r d signed h s i);
-        told = judged_proved z q r d signed h;
+        call_concludes = judged_proved z q r d signed h;
         error = error_said z q r d signed h;
         empty = empty_said z q r d signed h;
         delegation = referral_said z q r d signed h;
@@ -115,16 +115,16 @@ hashed_code_alone z parameters q d c silent = record {
   says = record {
     answers = λ s i. absurd (Contains-In s [] i);
     signatures = λ t other all s i. absurd (Contains-In s [] i);
-    told = λ w e. let p = sym silent ∙ e in absurd cc;
+    call_concludes = λ w e. let p = sym silent ∙ e in absurd cc;
     error = λ x e. let p = sym silent ∙ e in absurd cc;
     empty = λ x e. let p = sym silent ∙ e in absurd cc;
     delegation = λ x e. let p = sym silent ∙ e in absurd cc;
   };
   records = λ r i. absurd (Contains-In r [] i);
-  sound = λ x j. nsec3_records_sound z.origin z.denials (zone_hash z parameters) parameters d.names [] x j (λ r i. absurd (Contains-In r [] i));
-  parameters_found = λ x t apart. nsec3_parameters_found z.origin z.denials z.digest_of parameters d.names [] x t d.chain apart (λ v c. absurd (Contains-In v [] c));
+  sound = λ x j. nsec3_records_sound z.origin z.sets z.denials (zone_hash z parameters) parameters d.names [] x j (λ r i. absurd (Contains-In r [] i));
+  parameters_found = λ x t apart. nsec3_parameters_found z.origin z.sets z.denials z.digest_of parameters d.names [] x t d.chain apart (λ v c. absurd (Contains-In v [] c));
   data_sound = λ x t apart p. absurd (no_data x t p);
-  opt_out_sound = λ x apart. nsec3_opt_out_sound z.origin z.denials (zone_hash z parameters) parameters d.names [] x d.chain apart (λ r i. absurd (Contains-In r [] i));
+  opt_out_sound = λ x apart. nsec3_opt_out_sound z.origin z.sets z.denials (zone_hash z parameters) parameters d.names [] x d.chain apart (λ r i. absurd (Contains-In r [] i));
 }
   where
     -- no record denies nothing
@@ -140,7 +140,7 @@ response_proves_by_hashes z parameters q r d signed is = by (how_answered z q r 
       says = record {
         answers = hashed.answers_proved z parameters q r d signed h;
         signatures = λ t other all s i. signed_in_authority z d.chain.zone t other all s (hashed.authorities_proved z parameters q r d signed h s i);
-        told = hashed.reached_proved z parameters q r d signed h;
+        call_concludes = hashed.reached_proved z parameters q r d signed h;
         error = denied.error_said z parameters q r d signed h;
         empty = empty.empty_said z parameters q r d signed h;
         delegation = referred.referral_said z parameters q r d signed h;

@@ -24,23 +24,23 @@ use Rattle.response_laws.proofs.Leads.{sent_type}
 use Rattle.response_laws.proofs.LastNames.{IsMissing, IsAliasAsked, IsReferred, IsUntold, EndOf, PathEnd, stops, arrives, path_end}
 use Rattle.response_laws.proofs.Parts.{path_of, as_proof, IsMadeOf}
 use Rattle.response_laws.proofs.Starts.{IsAway, away_answers}
-use Rattle.response_laws.proofs.Stepped.{IsUnturned}
+use Rattle.response_laws.proofs.Stepped.{IsUndiverted}
 use Rattle.response_laws.proofs.Turned.{turned_first, cut_set}
 
 -- what is said, and the end from which it comes
 pub data Said (z : Zone) (q : Query) (r : Sections) : Type 0 where
   says_nothing : saying q r ≡ None → Said z q r
   says_data : (y : Name) (sets : List RRset) → saying q r ≡ Some (data_of y) → last_name q.record_type q.name (path_of z q).answers ≡ record { name = y; sets = sets }
-      → IsUnturned (inquiry z q) y ⊎ IsAliasAsked (inquiry z q) (path_of z q).answers y sets → Said z q r
+      → IsUndiverted (inquiry z q) y ⊎ IsAliasAsked (inquiry z q) (path_of z q).answers y sets → Said z q r
   says_referral : (y : Name) (c : RRset) → saying q r ≡ Some (referral (lower c.owner)) → (path_of z q).end ≡ referred c → IsReferred (inquiry z q) y c → Said z q r
-  says_missing : (y : Name) (star : Option Name) (there : Bool) → saying q r ≡ Some (cond there (no_data y) (name_error y)) → (path_of z q).end ≡ missing y star there → IsUnturned (inquiry z q) y
+  says_missing : (y : Name) (star : Option Name) (there : Bool) → saying q r ≡ Some (cond there (no_data y) (name_error y)) → (path_of z q).end ≡ missing y star there → IsUndiverted (inquiry z q) y
       → IsMissing (inquiry z q) y star there → Said z q r
 
 pub none_any : {X : Type 0} (p : X → Bool) (xs : List X) → ((x : X) → In x xs → p x ≡ false) → list_any p xs ≡ false
 none_any p [] h = refl
 none_any p (x ∷ xs) h = λ i. h x (inl refl) i || none_any p xs (λ y j. h y (inr j)) i
 
--- the NS set of a cut stands under the name that turns
+-- the NS set of a cut is under the name that turns
 pub cut_stands : (q : Inquiry) (y : Name) (c : RRset) → IsReferred q y c → (n : Name) × (set_at q.sets n NS ≡ Some c)
 cut_stands q y c h = let f = turned_first q.origin q.sets y q.record_type (cut c) h.turned in (f.name, (cut_set q.origin q.sets y q.record_type f.name c f.turns).1)
 
@@ -136,7 +136,7 @@ module _ (z : Zone) (zone : IsZone z.sets) (q : Query) (r : Sections) (h : IsMad
   says_at y sets complete f g (inl (a, u)) =
       saying_is y sets complete f g ∙ ap (λ s. without_error t answers y s (all complete)) a.alone ∙ ap (λ b. cond b (Some (data_of y)) None) a.answers_it
   says_at y sets complete f g (inr a) =
-      saying_is y sets complete f g ∙ ap (λ s. without_error t answers y s (all complete)) a.none ∙ ap (λ b. cond b (Some (data_of y)) (unanswered y (all complete))) a.told
+      saying_is y sets complete f g ∙ ap (λ s. without_error t answers y s (all complete)) a.none ∙ ap (λ b. cond b (Some (data_of y)) (unanswered y (all complete))) a.call_concludes
   says_at y sets (referred c) f g (u, a, k) =
       let n = cut_stands (inquiry z q) y c u in
       saying_is y sets (referred c) f g ∙ ap (λ s. without_error t answers y s (all (referred c))) a ∙ by_authorities y (referred c) k
@@ -198,7 +198,7 @@ module _ (z : Zone) (zone : IsZone z.sets) (q : Query) (r : Sections) (h : IsMad
       by (stops y f g k) = to unfollowed f (y, leads_away y y [] g refl refl (stops_silent y f g k) unfollowed f tt)
       by (arrives y sets e f g a) = to e f (of y sets e f g (says_at y sets e f g a) a)
 
-  -- the NS set stands in the zone to which a search is referred
+  -- the NS set is in the zone to which a search is referred
   pub referred_stands : (c : RRset) → ends ≡ referred c → (n : Name) × (set_at z.sets n NS ≡ Some c)
   referred_stands c e = by (path_end (inquiry z q) zone q.name)
     where

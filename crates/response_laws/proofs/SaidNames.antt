@@ -12,7 +12,7 @@ use Rattle.denial_validation.specs.NsecProofs.{DNAME}
 use Rattle.zone_response.specs.declared.response.Part.TheVariants as part
 use Rattle.zone_response.specs.Queries.{Zone, Query, inquiry}
 use Rattle.zone_response.specs.Responses.{negative_ttl, child_ds, ds_at, end_sets}
-use Rattle.zone_response.specs.Dname.{in_place_of, made_alias}
+use Rattle.zone_response.specs.Dname.{in_place_of, synthesized_alias}
 use Rattle.zone_response.specs.Sections.{Sections, as_it_is, part_for}
 use Rattle.zone_response.specs.Steps.{End, complete, referred, missing, outside, unfollowed, too_long, failed}
 use Rattle.zone_response.specs.Descent.{cut}
@@ -27,7 +27,7 @@ use Rattle.response_laws.proofs.OwnerSets.{AreOwners}
 use Rattle.response_laws.proofs.Parts.{path_of, as_proof, IsMadeOf}
 use Rattle.response_laws.proofs.Said.{Said, says_nothing, says_data, says_referral, says_missing, said, referred_stands}
 use Rattle.response_laws.proofs.SentSets.{IsSentSet, authority_part}
-use Rattle.response_laws.proofs.Stepped.{IsUnturned}
+use Rattle.response_laws.proofs.Stepped.{IsUndiverted}
 use Rattle.response_laws.proofs.Turned.{turned_first, unturned, cut_set, reached}
 
 -- what is said is said once
@@ -41,7 +41,7 @@ same_saying v w o e f = by v w (sym e ∙ f)
 
 module _ (z : Zone) (q : Query) (no_dname : (a : Name) → IsAbove a z.origin → owns z.sets a DNAME ≡ false) where
   -- the search ends at a name that nothing turns
-  pub reached_unturned : (y : Name) → IsUnturned (inquiry z q) y → IsReached z.origin z.sets y
+  pub reached_unturned : (y : Name) → IsUndiverted (inquiry z q) y → IsReached z.origin z.sets y
   reached_unturned y u = reached z no_dname y q.record_type y ([], refl) u.inside (λ b v. unturned z.origin z.sets y q.record_type u.unturned b (above_at b y v))
 
   -- or at a cut
@@ -104,7 +104,7 @@ module _ (z : Zone) (q : Query) (r : Sections) (zone : IsZone z.sets) (signed : 
   pub record IsMissingName (x : Name) (there : Bool) : Type 0 where
     pub star : Option Name
     pub end : (path_of z q).end ≡ missing x star there
-    pub unturned : IsUnturned (inquiry z q) x
+    pub unturned : IsUndiverted (inquiry z q) x
     pub how : IsMissing (inquiry z q) x star there
 
   pub missing_said : (there : Bool) (x : Name) → saying q r ≡ Some (cond there (no_data x) (name_error x)) → IsMissingName x there
@@ -139,20 +139,20 @@ module _ (z : Zone) (q : Query) (r : Sections) (zone : IsZone z.sets) (signed : 
           record {
             star = star;
             end = g ∙ (λ i. missing (s.1 i) star (s.0 i));
-            unturned = subst (IsUnturned (inquiry z q)) s.1 u;
+            unturned = subst (IsUndiverted (inquiry z q)) s.1 u;
             how = subst (λ n. IsMissing (inquiry z q) n star there) s.1 (subst (IsMissing (inquiry z q) y star) s.0 k);
           }
 
   -- ---- an alias by a DNAME
 
-  -- the CNAME was asked for, and the DNAME set that makes it stands in the answer section
+  -- the CNAME was asked for, and the DNAME set that makes it is in the answer section
   pub alias_said : (y : Name) (sets : List RRset) (w : Saying) → w ≡ data_of y → last_name q.record_type q.name (path_of z q).answers ≡ record { name = y; sets = sets }
       → IsAliasAsked (inquiry z q) (path_of z q).answers y sets → IsAliasData z q r w
   alias_said y sets w e g a = record {
     name = y;
     says = e;
     asked = a.asked;
-    alias = made_alias a.dname y (in_place_of a.dname.owner a.target y);
+    alias = synthesized_alias a.dname y (in_place_of a.dname.owner a.target y);
     answer = ap (last_name q.record_type q.name) h.answers ∙ g ∙ ap (λ sets. record { name = y; sets = sets }) a.alone;
     made = record {
       dname = as_it_is part.Signed a.dname;
@@ -160,7 +160,7 @@ module _ (z : Zone) (q : Query) (r : Sections) (zone : IsZone z.sets) (signed : 
       record_type = a.above.type';
       stands = record { name = a.above.name; record_type = DNAME; stored = a.dname; stands = a.above.stands; sent = ap (λ b. as_it_is (part_for b) a.dname) (sym signed) };
       target = a.target;
-      told = sent_dname_target a.dname ∙ a.told;
+      call_concludes = sent_dname_target a.dname ∙ a.call_concludes;
       name = y;
       below = subst (λ k. IsAbove k y) (sym a.above.owner) a.above.above;
       made = refl;

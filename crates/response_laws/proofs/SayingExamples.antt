@@ -6,7 +6,7 @@ use Rattle.zone_proto.specs.declared.rdata.RData.TheVariants as V
 use Rattle.zone_proto.specs.declared.response_code.ResponseCode.{ResponseCode}
 use Rattle.zone_proto.specs.declared.response_code.ResponseCode.TheVariants as code
 use Rattle.zone_proto.specs.declared.rr_key.RrKey.{RrKey}
-use Rattle.zone_proto.specs.Names.{Name, wire_form, star_under}
+use Rattle.zone_proto.specs.Names.{Name, wire_form, wildcard_under}
 use Rattle.zone_proto.specs.Sets.{RRset}
 use Rattle.zone_proto.specs.Types.{A, NS, CNAME, SOA, MX, DS, RRSIG, NSEC3, ANAME, IN}
 use Rattle.zone_map.specs.Wildcards.{renamed, found}
@@ -19,7 +19,7 @@ use Rattle.denial_validation.specs.NsecProofs.{proves_name_error, proves_empty_a
 use Rattle.zone_response.specs.declared.response.Part.TheVariants as part
 use Rattle.zone_response.specs.Paths.{path}
 use Rattle.zone_response.specs.Queries.{Zone, Query}
-use Rattle.zone_response.specs.Dname.{made_alias}
+use Rattle.zone_response.specs.Dname.{synthesized_alias}
 use Rattle.zone_response.specs.Responses.{IsResponse}
 use Rattle.zone_response.specs.Sections.{Sections, sent, as_it_is}
 use Rattle.zone_response.specs.Descent.{DNAME}
@@ -54,7 +54,7 @@ abbrev pub b : Name
 b = at_origin (codes "b")
 
 abbrev pub star : Name
-star = star_under origin
+star = wildcard_under origin
 
 abbrev pub server : Name
 server = codes "ns" ∷ b
@@ -160,7 +160,7 @@ renamed_names = start ∷ renaming ∷ address (under_a (codes "x")) ∷ []
 
 -- the DNAME set of b, and the CNAME that it makes
 abbrev pub new_name : List ℕ → List RRset
-new_name label = renaming.1 ∷ made_alias renaming.1 (under_b label) (under_a label) ∷ []
+new_name label = renaming.1 ∷ synthesized_alias renaming.1 (under_b label) (under_a label) ∷ []
 
 of_new_name : IsResponse (zone renamed_names) (asked (under_b (codes "x")) A) (sections code.NoError (new_name (codes "x") ++ (address (under_a (codes "x"))).1 ∷ []) [])
 unfolding path
@@ -213,7 +213,7 @@ led_back_twice = refl
 led_back_otherwise : saying (asked (under_b (codes "x")) MX) led_back ≡ None
 led_back_otherwise = refl
 
--- ---- a star
+-- ---- a wildcard
 
 abbrev starred : Sets
 starred = start ∷ address star ∷ []
@@ -221,9 +221,9 @@ starred = start ∷ address star ∷ []
 abbrev from_star : Sections
 from_star = sections code.NoError (renamed true star b (address star).1 ∷ []) (proof starred star ∷ [])
 
-of_star : IsResponse (zone starred) (asked b A) from_star
+of_wildcard : IsResponse (zone starred) (asked b A) from_star
 unfolding path
-of_star = record { code = refl; authoritative = refl; answers = refl; authorities = refl; additionals = refl; glue = refl; left_at = refl }
+of_wildcard = record { code = refl; authoritative = refl; answers = refl; authorities = refl; additionals = refl; glue = refl; left_at = refl }
 
 star_says : saying (asked b A) from_star ≡ Some (data_of b)
 star_says = refl
@@ -275,11 +275,11 @@ by_zone = refl
 by_other : is_signed_by origin (signed_host a 2) ≡ false
 by_other = refl
 
--- a label less: the set was made from a star
+-- a label less: the set was made from a wildcard
 of_made_set : is_signed_by origin (signed_host origin 1) ≡ false
 of_made_set = refl
 
--- and a star itself has one label that doesn't count
+-- and a wildcard itself has one label that doesn't count
 of_star_itself : is_signed_by origin (record (signed_host origin 1) { owner = star }) ≡ true
 of_star_itself = refl
 
@@ -301,7 +301,7 @@ of_no_digest = record { code = refl; authoritative = refl; answers = refl; autho
 no_digest_unproved : proves_empty_answer origin (shown (negative host code.NoError (origin ∷ []))) origin DS ≡ false
 no_digest_unproved = refl
 
--- a star that is a delegation (RFC 4592 section 4.2)
+-- a wildcard that is a delegation (RFC 4592 section 4.2)
 abbrev star_divided : Sets
 star_divided = start ∷ servers star ∷ []
 
@@ -312,7 +312,7 @@ of_star_cut = record { code = refl; authoritative = refl; answers = refl; author
 star_cut_unproved : proves_empty_answer origin (shown (negative star_divided code.NoError (star ∷ []))) b A ≡ false
 star_cut_unproved = refl
 
--- a child that stands in the zone with its SOA
+-- a child that is in the zone with its SOA
 abbrev with_child : Sets
 with_child = start ∷ servers b ∷ entry b SOA (V.SOA (record { mname = b; rname = b; serial = 7; refresh = pos 7200; retry = pos 600; expire = pos 86400; minimum = 300 })) ∷ []
 
@@ -326,7 +326,7 @@ of_inner_child = record { code = refl; authoritative = refl; answers = refl; aut
 inner_child_unproved : proves_unsigned_delegation origin (shown to_inner_child) b ≡ false
 inner_child_unproved = refl
 
--- a star that owns NSEC3 alone, which is on the circle, and doesn't exist for a search
+-- a wildcard that owns NSEC3 alone, which is on the circle, and doesn't exist for a search
 abbrev foreign : Sets
 foreign = start ∷ entry star NSEC3 (V.NSEC3 (nsec3_data parameters [] [])) ∷ []
 

@@ -7,7 +7,7 @@ use Rattle.zone_proto.specs.Types.{NSEC}
 use Rattle.zone_denial.specs.Chains.{chain_sets, IsNsecChain, IsNsec3Chain}
 use Rattle.zone_denial.specs.Nsec3Names.{nsec3_names}
 use Rattle.zone_denial.specs.Nsec3Zones.{IsNsec3Zone}
-use Rattle.zone_denial.specs.StarLaws.{OwnsNone}
+use Rattle.zone_denial.specs.WildcardLaws.{OwnsNone}
 use Rattle.zone_denial.proofs.Chains.Circles.{nsec_circle_is_chain, nsec_circle_stays, nsec3_circle_is_chain, nsec3_circle_stays}
 use Rattle.zone_response.specs.Queries.{Zone}
 use Rattle.response_laws.specs.HashedSayings.{zone_hash, DeniesByNsec3}
@@ -34,8 +34,8 @@ module _ (z : Zone) (parameters : Nsec3Parameters) (flag : Bool) (hashes : z.nx_
       zone = circle.zone;
       denials = same ∙ sym (ap (λ k. chain_sets k z.sets) hashes ∙ nsec3_circle_stays z.origin z.sets (zone_hash z parameters) parameters circle none);
       names = nsec3_names z.origin z.sets parameters.opt_out;
-      chain = subst (λ m. IsNsec3Chain z.origin m (zone_hash z parameters) parameters (nsec3_names z.origin z.sets parameters.opt_out)) (sym same)
-          (nsec3_circle_is_chain z.origin z.sets (zone_hash z parameters) parameters circle);
+      chain = subst (λ m. IsNsec3Chain z.origin z.sets m (zone_hash z parameters) parameters (nsec3_names z.origin z.sets parameters.opt_out)) (sym same)
+          (nsec3_circle_is_chain z.origin z.sets z.sets (zone_hash z parameters) parameters circle);
       top = top;
     }
 

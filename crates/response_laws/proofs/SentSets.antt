@@ -1,4 +1,4 @@
--- A set of the zone as it goes out in an authority section, with some TTL
+-- A set of the zone as it is sent in an authority section, with some TTL
 use Rattle.std.proofs.Common.{◌≡◌, ℕ, cond}
 use Rattle.std.specs.Prelude.{Some, ◌==◌}
 use Rattle.zone_proto.specs.Names.{Name}

@@ -1,4 +1,4 @@
--- A set that is signed goes out with a signature that a validator looks at
+-- A set that is signed is sent with a signature that a validator looks at
 use Rattle.std.proofs.Common.{◌≡◌, ◌≢◌, ℕ, true, cond, ◌&&◌, map, sym, ap, ◌∙◌, true≢false}
 use Rattle.std.specs.Prelude.{◌==◌}
 use Rattle.zone_proto.specs.declared.rdata.RData.{RData}

@@ -1,5 +1,7 @@
--- The premises of the law of NSEC are met by zones as dnssec-signzone and ldns-signzone write them: with glue at the name of an unsigned delegation, whose list has NS alone of what stands there, and with the remains of a chain of NSEC3 sets; and names below a DNAME may be left out
-use Rattle.std.proofs.Common.{◌≡◌, ℕ, false, List, [], ◌∷◌, ◌++◌, map, refl}
+-- The premises of the law of NSEC are met by zones as dnssec-signzone and ldns-signzone write them: with glue at the
+-- name of an unsigned delegation, whose list has NS alone of what is there, and with the remains of a chain of NSEC3
+-- sets; and names below a DNAME may be left out
+use Rattle.std.proofs.Common.{◌≡◌, ℕ, true, false, List, [], ◌∷◌, ◌++◌, map, refl}
 use Rattle.std.specs.Prelude.{codes, Some, None, length}
 use Rattle.zone_proto.specs.declared.nx_proof_kind.NxProofKind.TheVariants as kind
 use Rattle.zone_proto.specs.declared.rdata.RData.TheVariants as V
@@ -22,7 +24,7 @@ use Rattle.zone_response.specs.Queries.{Zone}
 use Rattle.zone_response.specs.Responses.{IsResponse}
 use Rattle.zone_response.specs.Sections.{Sections, sent, as_it_is}
 use Rattle.response_laws.specs.ProvedSayings.{DeniesByNsec, IsProvedReferral, IsProvedUnsigned}
-use Rattle.response_laws.proofs.ChainTests.{each_set, lists, agreeing, right_at_delegation, right_elsewhere, owners_authoritative, all_own, is_unreferred}
+use Rattle.response_laws.proofs.ChainTests.{each_set, lists, listed, agreeing, right_at_delegation, right_elsewhere, owners_authoritative, all_own, is_unreferred}
 use Rattle.response_laws.proofs.MetPremises.{soa_stored}
 use Rattle.response_laws.proofs.Responses.{response_proves_what_it_says}
 use Rattle.response_laws.proofs.SayingExamples.{asked}
@@ -81,6 +83,7 @@ of_origin = record {
   types = SOA ∷ RRSIG ∷ NSEC ∷ [];
   listed = refl;
   right = right_elsewhere origin signed origin (SOA ∷ RRSIG ∷ NSEC ∷ []) refl refl refl refl;
+  own = λ _. listed (SOA ∷ RRSIG ∷ NSEC ∷ []) NSEC refl;
   hashed = agreeing origin signed origin (SOA ∷ RRSIG ∷ NSEC ∷ []) NSEC3 refl;
 }
 
@@ -91,6 +94,7 @@ of_child = record {
   types = NS ∷ RRSIG ∷ NSEC ∷ [];
   listed = refl;
   right = right_at_delegation origin signed b (NS ∷ RRSIG ∷ NSEC ∷ []) refl refl refl refl refl;
+  own = λ _. listed (NS ∷ RRSIG ∷ NSEC ∷ []) NSEC refl;
   hashed = agreeing origin signed b (NS ∷ RRSIG ∷ NSEC ∷ []) NSEC3 refl;
 }
 
@@ -182,8 +186,8 @@ through_zone =
     (record { named = name_by_tests below refl refl; owner = refl; record_type = refl; filled = λ e. cc; set = IsSet-alone below NSEC _ refl refl })
 
 -- a set of such a chain with a right list
-in_chain : (m : Sets) (n : Name) (types : List ℕ) (s : RRset) → length s.records ≡ 1 → next_of s ≡ Some (next_owner origin m n) → types_of s ≡ Some types → IsRightList origin m n types → lists types NSEC3 ≡ owns m n NSEC3 → IsInNsecChain origin m n s
-in_chain m n types s single next listed right hashed = record { single = single; next = next; types = types; listed = listed; right = right; hashed = agreeing origin m n types NSEC3 hashed }
+in_chain : (m : Sets) (n : Name) (types : List ℕ) (s : RRset) → length s.records ≡ 1 → next_of s ≡ Some (next_owner origin m n) → types_of s ≡ Some types → IsRightList origin m n types → lists types NSEC ≡ true → lists types NSEC3 ≡ owns m n NSEC3 → IsInNsecChain origin m n s
+in_chain m n types s single next is right own hashed = record { single = single; next = next; types = types; listed = is; right = right; own = λ _. listed types NSEC own; hashed = agreeing origin m n types NSEC3 hashed }
 
 skipping_chain : IsNsecChain origin skipping
 skipping_chain = record {
@@ -194,8 +198,8 @@ skipping_chain = record {
   each = each_set NSEC (IsInNsecChain origin skipping) skipping (
     tt,
     (
-      in_chain skipping origin (SOA ∷ RRSIG ∷ NSEC ∷ []) of_apex.1 refl refl refl (right_elsewhere origin skipping origin (SOA ∷ RRSIG ∷ NSEC ∷ []) refl refl refl refl) refl,
-      (tt, (in_chain skipping d (DNAME ∷ RRSIG ∷ NSEC ∷ []) (of_owner origin).1 refl refl refl (right_elsewhere origin skipping d (DNAME ∷ RRSIG ∷ NSEC ∷ []) refl refl refl refl) refl, (tt, tt))),
+      in_chain skipping origin (SOA ∷ RRSIG ∷ NSEC ∷ []) of_apex.1 refl refl refl (right_elsewhere origin skipping origin (SOA ∷ RRSIG ∷ NSEC ∷ []) refl refl refl refl) refl refl,
+      (tt, (in_chain skipping d (DNAME ∷ RRSIG ∷ NSEC ∷ []) (of_owner origin).1 refl refl refl (right_elsewhere origin skipping d (DNAME ∷ RRSIG ∷ NSEC ∷ []) refl refl refl refl) refl refl, (tt, tt))),
     ),
   );
 }
@@ -209,12 +213,12 @@ through_chain = record {
   each = each_set NSEC (IsInNsecChain origin going_through) going_through (
     tt,
     (
-      in_chain going_through origin (SOA ∷ RRSIG ∷ NSEC ∷ []) of_apex.1 refl refl refl (right_elsewhere origin going_through origin (SOA ∷ RRSIG ∷ NSEC ∷ []) refl refl refl refl) refl,
+      in_chain going_through origin (SOA ∷ RRSIG ∷ NSEC ∷ []) of_apex.1 refl refl refl (right_elsewhere origin going_through origin (SOA ∷ RRSIG ∷ NSEC ∷ []) refl refl refl refl) refl refl,
       (
         tt,
         (
-          in_chain going_through d (DNAME ∷ RRSIG ∷ NSEC ∷ []) (of_owner below).1 refl refl refl (right_elsewhere origin going_through d (DNAME ∷ RRSIG ∷ NSEC ∷ []) refl refl refl refl) refl,
-          (tt, (in_chain going_through below (A ∷ RRSIG ∷ NSEC ∷ []) of_below.1 refl refl refl (right_elsewhere origin going_through below (A ∷ RRSIG ∷ NSEC ∷ []) refl refl refl refl) refl, tt)),
+          in_chain going_through d (DNAME ∷ RRSIG ∷ NSEC ∷ []) (of_owner below).1 refl refl refl (right_elsewhere origin going_through d (DNAME ∷ RRSIG ∷ NSEC ∷ []) refl refl refl refl) refl refl,
+          (tt, (in_chain going_through below (A ∷ RRSIG ∷ NSEC ∷ []) of_below.1 refl refl refl (right_elsewhere origin going_through below (A ∷ RRSIG ∷ NSEC ∷ []) refl refl refl refl) refl refl, tt)),
         ),
       ),
     ),

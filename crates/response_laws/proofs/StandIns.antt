@@ -1,4 +1,4 @@
--- What an ANAME set stands for, as it goes out
+-- What an ANAME set stands for, as it is sent
 use Rattle.std.proofs.Common.{◌≡◌, ℕ, ◌≤◌, Bool, true, false, cond, ◌&&◌, ◌||◌, [], map, refl, sym, ap, ◌∙◌, subst, eqb-true, eq-eqb}
 use Rattle.std.specs.Prelude.{Option, Some, None, unwrap_or, ◌==◌}
 use Rattle.std.specs.Option.{option_or, option_map_or}
@@ -15,7 +15,7 @@ use Rattle.zone_response.specs.Nodes.{stand_in_set}
 use Rattle.zone_response.specs.Queries.{Inquiry}
 use Rattle.zone_response.specs.Sections.{as_it_is, part_for}
 use Rattle.zone_response.specs.Aname.{target_sets, addresses, no_addresses, untold, at_last_target, by_addresses, stand_in_answer}
-use Rattle.zone_response.specs.Descent.{Turn, turn}
+use Rattle.zone_response.specs.Descent.{Diversion, diversion}
 use Rattle.response_laws.specs.Sayings.{leads_to, renames, is_answer}
 use Rattle.response_laws.proofs.Leads.{target_under, sent_target, sent_owner, sent_type, stays_by_owner, leads_nowhere}
 
@@ -50,7 +50,7 @@ addresses_of_last q x s v e = by (run_target t l) refl e
     l : RRset
     l = last_of q x s
 
-    by_place : (b : Bool) (o : Option Turn) → cond b (option_map_or (λ turn. untold) o no_addresses) untold ≡ addresses v → ⊥
+    by_place : (b : Bool) (o : Option Diversion) → cond b (option_map_or (λ diversion. untold) o no_addresses) untold ≡ addresses v → ⊥
     by_place true None e = cc
     by_place true (Some k) e = cc
     by_place false o e = cc
@@ -60,7 +60,7 @@ addresses_of_last q x s v e = by (run_target t l) refl e
     typed plain false f e = absurd cc
 
     by : (o : Option Name) → run_target t l ≡ o → option_map_or (at_last_target q) o (by_addresses q s l) ≡ addresses v → AreOfLast q x s v
-    by (Some n) f e = absurd (by_place (is_at_or_above q.origin n) (turn q.origin q.sets n t) e)
+    by (Some n) f e = absurd (by_place (is_at_or_above q.origin n) (diversion q.origin q.sets n t) e)
     by None f e = typed (first_none (cname_target l) (next_name t l) f) (l.record_type == t) refl e
 
 -- they have the signatures of the response

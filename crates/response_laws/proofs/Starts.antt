@@ -5,15 +5,15 @@ use Rattle.std.proofs.lemmas.Bool.Decides.{nat_tests}
 use Rattle.zone_proto.specs.Names.{Name, is_at_or_above}
 use Rattle.zone_proto.specs.Sets.{RRset}
 use Rattle.zone_response.specs.Nodes.{AtNode}
-use Rattle.zone_response.specs.Paths.{unless_told, Path, behind, searched, path_from, path}
+use Rattle.zone_response.specs.Paths.{unless_answered, Path, behind, searched, path_from, path}
 use Rattle.zone_response.specs.Queries.{Inquiry}
 use Rattle.zone_response.specs.Responses.{is_authority}
 use Rattle.zone_response.specs.Sections.{is_signed, as_it_is, part_for}
 use Rattle.zone_response.specs.Aname.{StandInAnswer, addresses, no_addresses, untold, stand_in_answer}
-use Rattle.zone_response.specs.Steps.{End, complete, referred, missing, outside, unfollowed, too_long, failed, ends, Step, at_end, made_by, made_names, keeps, stood_in_step, node_step, new_name_step, step_at, step}
-use Rattle.zone_response.specs.Descent.{turn}
+use Rattle.zone_response.specs.Steps.{End, complete, referred, missing, outside, unfollowed, too_long, failed, ends, Step, at_end, as_found_for, expanded_names, keeps, stood_in_step, node_step, new_name_step, step_at, step}
+use Rattle.zone_response.specs.Descent.{diversion}
 use Rattle.response_laws.specs.Contents.{is_cut}
-use Rattle.response_laws.proofs.Stepped.{NodeOf, has_set, has_alias, has_stand_in, has_nothing, node_of, StepOf, leaves, refers, fails, new_name, at_name, no_star, at_star, star_gone, step_of}
+use Rattle.response_laws.proofs.Stepped.{NodeOf, has_set, has_alias, has_stand_in, has_nothing, node_of, StepOf, leaves, refers, fails, new_name, at_name, no_star, at_wildcard, star_gone, step_of}
 
 some_behind : (before more : List RRset) → before ≢ [] → before ++ more ≢ []
 some_behind [] more h e = h refl
@@ -25,7 +25,7 @@ module _ (q : Inquiry) (x : Name) where
 
   -- the path behind a first step
   abbrev whole : Step → Path
-  whole s = behind s.answers s.made (searched (path_from q 7 (x ∷ []) s.answers) (unless_told t s.answers s.next))
+  whole s = behind s.answers s.made (searched (path_from q 7 (x ∷ []) s.answers) (unless_answered t s.answers s.next))
 
   path_is : path q x ≡ whole (step q [] x)
   unfolding path
@@ -46,7 +46,7 @@ module _ (q : Inquiry) (x : Name) where
       of : (n : AtNode) → Begins (at n) → (m : AtNode) → m ≡ n → Begins (at m)
       of n h m e = subst (λ n. Begins (at n)) (sym e) h
 
-      addressed : (v : RRset) (b : Bool) → Begins (cond b (at_end failed) (record { answers = as_it_is (part_for q.signed) v ∷ []; made = made_names star x; next = ends complete }))
+      addressed : (v : RRset) (b : Bool) → Begins (cond b (at_end failed) (record { answers = as_it_is (part_for q.signed) v ∷ []; made = expanded_names star x; next = ends complete }))
       addressed v true = fails_at_once refl
       addressed v false = answers_first (λ e. cc)
 
@@ -58,7 +58,7 @@ module _ (q : Inquiry) (x : Name) where
       by : NodeOf q.sets a t → Begins (step_at q star x a)
       by (has_set s e f) = subst (λ n. Begins (at n)) (sym f) (answers_first (λ e. cc))
       by (has_alias s e f g) = subst (λ n. Begins (at n)) (sym g) (answers_first (λ e. cc))
-      by (has_stand_in s e f k g) = subst (λ n. Begins (at n)) (sym g) (stood_in (stand_in_answer q x (made_by (keeps q.signed t) star x s)))
+      by (has_stand_in s e f k g) = subst (λ n. Begins (at n)) (sym g) (stood_in (stand_in_answer q x (as_found_for (keeps q.signed t) star x s)))
       by (has_nothing e f g) = subst (λ n. Begins (at n)) (sym g) (lacks_at_once star true refl)
 
   renaming_begins : (s : RRset) (new : Option Name) → Begins (new_name_step q.signed t [] x s new)
@@ -68,17 +68,17 @@ module _ (q : Inquiry) (x : Name) where
   -- ---- the whole path
 
   pub data Start : Type 0 where
-    starts_at_cut : (c : RRset) → is_cut (turn q.origin q.sets x q.record_type) ≡ true → (path q x).end ≡ referred c → (path q x).answers ≡ [] → Start
+    starts_at_cut : (c : RRset) → is_cut (diversion q.origin q.sets x q.record_type) ≡ true → (path q x).end ≡ referred c → (path q x).answers ≡ [] → Start
     starts_at_fault : (path q x).end ≡ failed → Start
-    starts_lacking : (star : Option Name) (there : Bool) → is_cut (turn q.origin q.sets x q.record_type) ≡ false → (path q x).end ≡ missing x star there → Start
-    starts_answering : is_cut (turn q.origin q.sets x q.record_type) ≡ false → (path q x).answers ≢ [] → Start
+    starts_lacking : (star : Option Name) (there : Bool) → is_cut (diversion q.origin q.sets x q.record_type) ≡ false → (path q x).end ≡ missing x star there → Start
+    starts_answering : is_cut (diversion q.origin q.sets x q.record_type) ≡ false → (path q x).answers ≢ [] → Start
 
-  begun : (v : Step) → step q [] x ≡ v → is_cut (turn q.origin q.sets x t) ≡ false → Begins v → Start
+  begun : (v : Step) → step q [] x ≡ v → is_cut (diversion q.origin q.sets x t) ≡ false → Begins v → Start
   begun v e uncut (fails_at_once f) = starts_at_fault (ap (λ (p : Path). p.end) (path_is ∙ ap whole (e ∙ f)))
   begun v e uncut (lacks_at_once star there f) = starts_lacking star there uncut (ap (λ (p : Path). p.end) (path_is ∙ ap whole (e ∙ f)))
   begun v e uncut (answers_first h) =
       starts_answering uncut
-      (λ none. some_behind v.answers (searched (path_from q 7 (x ∷ []) v.answers) (unless_told t v.answers v.next)).answers h
+      (λ none. some_behind v.answers (searched (path_from q 7 (x ∷ []) v.answers) (unless_answered t v.answers v.next)).answers h
       (sym (ap (λ (p : Path). p.answers) (path_is ∙ ap whole e)) ∙ none))
 
   pub start : is_at_or_above q.origin x ≡ true → Start
@@ -90,10 +90,10 @@ module _ (q : Inquiry) (x : Name) where
           let p = path_is ∙ ap whole e in
           starts_at_cut c (ap is_cut f) (ap (λ (p : Path). p.end) p) (ap (λ (p : Path). p.answers) p)
       by (fails s f g e) = starts_at_fault (ap (λ (p : Path). p.end) (path_is ∙ ap whole e))
-      by (new_name s target new f told g e) = begun (new_name_step q.signed t [] x s new) e (ap is_cut f) (renaming_begins s new)
+      by (new_name s target new f call_concludes g e) = begun (new_name_step q.signed t [] x s new) e (ap is_cut f) (renaming_begins s new)
       by (at_name u there e) = begun (step_at q None x x) e (ap is_cut u.unturned) (node_begins None x)
       by (no_star u absent f e) = begun (at_end (missing x None false)) e (ap is_cut u.unturned) (lacks_at_once None false refl)
-      by (at_star w u absent f g e) = begun (step_at q (Some w) x w) e (ap is_cut u.unturned) (node_begins (Some w) w)
+      by (at_wildcard w u absent f g e) = begun (step_at q (Some w) x w) e (ap is_cut u.unturned) (node_begins (Some w) w)
       by (star_gone w u absent f g e) = begun (at_end (missing x (Some w) false)) e (ap is_cut u.unturned) (lacks_at_once (Some w) false refl)
 
 -- ---- what follows
@@ -130,10 +130,10 @@ module _ (q : Inquiry) (x : Name) (inside : is_at_or_above q.origin x ≡ true) 
   some_authority failed answers h = refl
 
   -- the server is an authority for the name unless a zone cut refers at once
-  pub authority_is : ((path q x).end ≡ failed → ⊥) → is_authority (path q x).end (path q x).answers ≡ not (is_cut (turn q.origin q.sets x q.record_type))
+  pub authority_is : ((path q x).end ≡ failed → ⊥) → is_authority (path q x).end (path q x).answers ≡ not (is_cut (diversion q.origin q.sets x q.record_type))
   authority_is passes = by (start q x inside)
     where
-      by : Start q x → is_authority (path q x).end (path q x).answers ≡ not (is_cut (turn q.origin q.sets x q.record_type))
+      by : Start q x → is_authority (path q x).end (path q x).answers ≡ not (is_cut (diversion q.origin q.sets x q.record_type))
       by (starts_at_cut c t f a) = (λ i. is_authority (f i) (a i)) ∙ sym (ap not t)
       by (starts_at_fault f) = absurd (passes f)
       by (starts_lacking star there t f) = ap (λ e. is_authority e (path q x).answers) f ∙ sym (ap not t)

@@ -9,9 +9,9 @@ use Rattle.zone_map.specs.Zones.{Sets, set_at}
 use Rattle.zone_response.specs.Nodes.{own, alias, stand_in, nothing, asked_set, stand_in_set, first_of, at_node}
 use Rattle.zone_response.specs.Queries.{Inquiry}
 use Rattle.zone_response.specs.Dname.{dname_target, in_place_of, unless_long}
-use Rattle.zone_response.specs.Wildcards.{star_of}
-use Rattle.zone_response.specs.Steps.{outside, referred, missing, failed, at_end, target_step, new_name_step, step_at, star_step, turned_step, step}
-use Rattle.zone_response.specs.Descent.{Turn, cut, renaming, turn}
+use Rattle.zone_response.specs.Wildcards.{source_of_synthesis}
+use Rattle.zone_response.specs.Steps.{outside, referred, missing, failed, at_end, target_step, new_name_step, step_at, wildcard_step, diverted_step, step}
+use Rattle.zone_response.specs.Descent.{Diversion, cut, renaming, diversion}
 
 -- what a name has for a type
 pub data NodeOf (m : Sets) (a : Name) (t : ℕ) : Type 0 where
@@ -30,56 +30,56 @@ node_of m a t = by (asked_set m a t) refl (set_at m a CNAME) refl (stand_in_set 
     by None e None f None g = has_nothing e f (λ i. first_of (e i) (f i) (g i))
 
 -- a name of the zone on the way down to which nothing turns
-pub record IsUnturned (q : Inquiry) (x : Name) : Type 0 where
+pub record IsUndiverted (q : Inquiry) (x : Name) : Type 0 where
   pub inside : is_at_or_above q.origin x ≡ true
-  pub unturned : turn q.origin q.sets x q.record_type ≡ None
+  pub unturned : diversion q.origin q.sets x q.record_type ≡ None
 
 -- where a name stands, and the step from there
 pub data StepOf (q : Inquiry) (before : List RRset) (x : Name) : Type 0 where
   leaves : is_at_or_above q.origin x ≡ false → step q before x ≡ at_end (outside x) → StepOf q before x
-  refers : (s : RRset) → is_at_or_above q.origin x ≡ true → turn q.origin q.sets x q.record_type ≡ Some (cut s) → step q before x ≡ at_end (referred s) → StepOf q before x
-  fails : (s : RRset) → turn q.origin q.sets x q.record_type ≡ Some (renaming s) → dname_target s ≡ None → step q before x ≡ at_end failed → StepOf q before x
-  new_name : (s : RRset) (target : Name) (new : Option Name) → turn q.origin q.sets x q.record_type ≡ Some (renaming s) → dname_target s ≡ Some target → unless_long (in_place_of s.owner target x) ≡ new
+  refers : (s : RRset) → is_at_or_above q.origin x ≡ true → diversion q.origin q.sets x q.record_type ≡ Some (cut s) → step q before x ≡ at_end (referred s) → StepOf q before x
+  fails : (s : RRset) → diversion q.origin q.sets x q.record_type ≡ Some (renaming s) → dname_target s ≡ None → step q before x ≡ at_end failed → StepOf q before x
+  new_name : (s : RRset) (target : Name) (new : Option Name) → diversion q.origin q.sets x q.record_type ≡ Some (renaming s) → dname_target s ≡ Some target → unless_long (in_place_of s.owner target x) ≡ new
       → step q before x ≡ new_name_step q.signed q.record_type before x s new → StepOf q before x
-  at_name : IsUnturned q x → exists q.sets x ≡ true → step q before x ≡ step_at q None x x → StepOf q before x
-  no_star : IsUnturned q x → exists q.sets x ≡ false → star_of q.sets x ≡ None → step q before x ≡ at_end (missing x None false) → StepOf q before x
-  at_star : (star : Name) → IsUnturned q x → exists q.sets x ≡ false → star_of q.sets x ≡ Some star → exists q.sets star ≡ true → step q before x ≡ step_at q (Some star) x star → StepOf q before x
-  star_gone : (star : Name) → IsUnturned q x → exists q.sets x ≡ false → star_of q.sets x ≡ Some star → exists q.sets star ≡ false → step q before x ≡ at_end (missing x (Some star) false) → StepOf q before x
+  at_name : IsUndiverted q x → exists q.sets x ≡ true → step q before x ≡ step_at q None x x → StepOf q before x
+  no_star : IsUndiverted q x → exists q.sets x ≡ false → source_of_synthesis q.sets x ≡ None → step q before x ≡ at_end (missing x None false) → StepOf q before x
+  at_wildcard : (star : Name) → IsUndiverted q x → exists q.sets x ≡ false → source_of_synthesis q.sets x ≡ Some star → exists q.sets star ≡ true → step q before x ≡ step_at q (Some star) x star → StepOf q before x
+  star_gone : (star : Name) → IsUndiverted q x → exists q.sets x ≡ false → source_of_synthesis q.sets x ≡ Some star → exists q.sets star ≡ false → step q before x ≡ at_end (missing x (Some star) false) → StepOf q before x
 
 module _ (q : Inquiry) (before : List RRset) (x : Name) where
-  abbrev the_turn : Option Turn
-  the_turn = turn q.origin q.sets x q.record_type
+  abbrev the_turn : Option Diversion
+  the_turn = diversion q.origin q.sets x q.record_type
 
-  by_star : (inside : is_at_or_above q.origin x ≡ true) → the_turn ≡ None → step q before x ≡ star_step q x (star_of q.sets x) → exists q.sets x ≡ false → (o : Option Name) → star_of q.sets x ≡ o → StepOf q before x
-  by_star inside e step_is absent None f = no_star (record { inside = inside; unturned = e }) absent f (step_is ∙ ap (star_step q x) f)
-  by_star inside e step_is absent (Some star) f = by (exists q.sets star) refl
+  by_wildcard : (inside : is_at_or_above q.origin x ≡ true) → the_turn ≡ None → step q before x ≡ wildcard_step q x (source_of_synthesis q.sets x) → exists q.sets x ≡ false → (o : Option Name) → source_of_synthesis q.sets x ≡ o → StepOf q before x
+  by_wildcard inside e step_is absent None f = no_star (record { inside = inside; unturned = e }) absent f (step_is ∙ ap (wildcard_step q x) f)
+  by_wildcard inside e step_is absent (Some star) f = by (exists q.sets star) refl
     where
       by : (b : Bool) → exists q.sets star ≡ b → StepOf q before x
       by true g =
-          at_star star (record { inside = inside; unturned = e }) absent f g
-          (step_is ∙ ap (star_step q x) f ∙ ap (λ b. cond b (step_at q (Some star) x star) (at_end (missing x (Some star) false))) g)
+          at_wildcard star (record { inside = inside; unturned = e }) absent f g
+          (step_is ∙ ap (wildcard_step q x) f ∙ ap (λ b. cond b (step_at q (Some star) x star) (at_end (missing x (Some star) false))) g)
       by false g =
           star_gone star (record { inside = inside; unturned = e }) absent f g
-          (step_is ∙ ap (star_step q x) f ∙ ap (λ b. cond b (step_at q (Some star) x star) (at_end (missing x (Some star) false))) g)
+          (step_is ∙ ap (wildcard_step q x) f ∙ ap (λ b. cond b (step_at q (Some star) x star) (at_end (missing x (Some star) false))) g)
 
-  by_turn : (inside : is_at_or_above q.origin x ≡ true) → step q before x ≡ turned_step q before x the_turn → (o : Option Turn) → the_turn ≡ o → StepOf q before x
-  by_turn inside step_is (Some (cut s)) e = refers s inside e (step_is ∙ ap (turned_step q before x) e)
+  by_turn : (inside : is_at_or_above q.origin x ≡ true) → step q before x ≡ diverted_step q before x the_turn → (o : Option Diversion) → the_turn ≡ o → StepOf q before x
+  by_turn inside step_is (Some (cut s)) e = refers s inside e (step_is ∙ ap (diverted_step q before x) e)
   by_turn inside step_is (Some (renaming s)) e = by (dname_target s) refl
     where
       by : (o : Option Name) → dname_target s ≡ o → StepOf q before x
       by (Some target) f =
           new_name s target (unless_long (in_place_of s.owner target x)) e f refl
-          (step_is ∙ ap (turned_step q before x) e ∙ ap (target_step q.signed q.record_type before x s) f)
-      by None f = fails s e f (step_is ∙ ap (turned_step q before x) e ∙ ap (target_step q.signed q.record_type before x s) f)
+          (step_is ∙ ap (diverted_step q before x) e ∙ ap (target_step q.signed q.record_type before x s) f)
+      by None f = fails s e f (step_is ∙ ap (diverted_step q before x) e ∙ ap (target_step q.signed q.record_type before x s) f)
   by_turn inside step_is None e = by (exists q.sets x) refl
     where
       by : (b : Bool) → exists q.sets x ≡ b → StepOf q before x
-      by true f = at_name (record { inside = inside; unturned = e }) f (step_is ∙ ap (turned_step q before x) e ∙ ap (λ b. cond b (step_at q None x x) (star_step q x (star_of q.sets x))) f)
-      by false f = by_star inside e (step_is ∙ ap (turned_step q before x) e ∙ ap (λ b. cond b (step_at q None x x) (star_step q x (star_of q.sets x))) f) f (star_of q.sets x) refl
+      by true f = at_name (record { inside = inside; unturned = e }) f (step_is ∙ ap (diverted_step q before x) e ∙ ap (λ b. cond b (step_at q None x x) (wildcard_step q x (source_of_synthesis q.sets x))) f)
+      by false f = by_wildcard inside e (step_is ∙ ap (diverted_step q before x) e ∙ ap (λ b. cond b (step_at q None x x) (wildcard_step q x (source_of_synthesis q.sets x))) f) f (source_of_synthesis q.sets x) refl
 
   pub step_of : StepOf q before x
   step_of = by (is_at_or_above q.origin x) refl
     where
       by : (b : Bool) → is_at_or_above q.origin x ≡ b → StepOf q before x
-      by true e = by_turn e (ap (λ b. cond b (turned_step q before x the_turn) (at_end (outside x))) e) the_turn refl
-      by false e = leaves e (ap (λ b. cond b (turned_step q before x the_turn) (at_end (outside x))) e)
+      by true e = by_turn e (ap (λ b. cond b (diverted_step q before x the_turn) (at_end (outside x))) e) the_turn refl
+      by false e = leaves e (ap (λ b. cond b (diverted_step q before x the_turn) (at_end (outside x))) e)

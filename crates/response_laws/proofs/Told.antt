@@ -1,8 +1,8 @@
--- What the closest NSEC set of a judged name tells of it
+-- What the closest NSEC set of a name in scope tells of it
 use Rattle.std.proofs.Common.{◌≡◌, ◌≢◌, ℕ, Bool, true, false, not, ◌&&◌, ◌||◌, List, refl, sym, ap, ◌∙◌, true≢false, ◌⊎◌, inl, inr, Less, []}
 use Rattle.std.specs.Prelude.{Some, filter, option_and_then, ◌==◌}
 use Rattle.std.specs.Option.{option_map_or}
-use Rattle.zone_proto.specs.Names.{Name, name_cmp, name_eq, is_above, IsAbove, star_under}
+use Rattle.zone_proto.specs.Names.{Name, name_cmp, name_eq, is_above, IsAbove, wildcard_under}
 use Rattle.zone_proto.specs.Order.{is_upto}
 use Rattle.zone_proto.specs.Sets.{RRset}
 use Rattle.zone_proto.specs.Types.{NS, CNAME, SOA, DS, RRSIG, NSEC, ANY}
@@ -18,10 +18,10 @@ use Rattle.zone_denial.specs.NsecDenial.{reaches, closest_owner, closest_nsec, n
 use Rattle.zone_denial.proofs.Chain.NsecLists.{off_circle}
 use Rattle.zone_denial.proofs.Chains.NsecAskedStar.{enclosers_agree}
 use Rattle.zone_denial.proofs.Chains.NsecClosest.{IsClosest, reaches_from, closest_is, closest_covers}
-use Rattle.denial_validation.specs.NsecProofs.{denies_name, denies_type, shows_empty, shown_encloser, denied_and_star, is_denied, is_bare, proves_name_error, proves_no_data, proves_empty_non_terminal, proves_wildcard_no_data, proves_wildcard_answer, shows_unsigned_delegation, proves_unsigned_delegation}
+use Rattle.denial_validation.specs.NsecProofs.{denies_name, denies_type, shows_empty, shown_encloser, denied_and_wildcard, is_denied, is_bare, proves_name_error, proves_no_data, proves_empty_non_terminal, proves_wildcard_no_data, proves_wildcard_answer, shows_unsigned_delegation, proves_unsigned_delegation}
 use Rattle.denial_validation.specs.NsecRecords.{NsecRecord}
-use Rattle.denial_laws.specs.Chains.{IsJudgedInChain}
-use Rattle.denial_laws.specs.Judged.{is_parents_ds}
+use Rattle.denial_laws.specs.Chains.{IsInScopeOfChain}
+use Rattle.denial_laws.specs.Scope.{is_parents_ds}
 use Rattle.denial_laws.proofs.Chains.Gaps.{IsBetween, between_from_covers}
 use Rattle.denial_laws.proofs.Chains.OwnTypes.{unowned_denied}
 use Rattle.denial_laws.proofs.Chains.Readings.{record_at, told_listed, told_unlisted}
@@ -30,7 +30,7 @@ use Rattle.denial_laws.proofs.Chains.Speaking.{below_origin, owner_on_chain, den
 use Rattle.denial_laws.proofs.Chains.Stars.{undnamed}
 
 module _ (origin : Name) (m : Sets) (h : IsNsecChain origin m) (y : Name) where
-  -- an owner that stands at a name or before it, and no other between
+  -- an owner that is at a name or before it, and no other between
   pub data Stands (o : Name) : Type 0 where
     at : o ≡ y → owns m y NSEC ≡ true → Stands o
     before_it : owns m y NSEC ≡ false → IsBetween origin m y o → Stands o
@@ -51,7 +51,7 @@ module _ (origin : Name) (m : Sets) (h : IsNsecChain origin m) (y : Name) where
       by (inl q) = q
       by (inr l) = absurd ((greatest_is name_order (filter (reaches m y) (owners m NSEC)) o e).none_greater y (In-filter (reaches m y) y (owners m NSEC) (owner_in m y NSEC k) (reaches_from origin m h y y own)) l)
 
--- the closest set of a judged name is that of such an owner
+-- the closest set of a name in scope is that of such an owner
 pub record HasClosest (origin : Name) (m : Sets) (h : IsNsecChain origin m) (y : Name) : Type 0 where
   pub owner : Name
   pub set : RRset
@@ -59,7 +59,7 @@ pub record HasClosest (origin : Name) (m : Sets) (h : IsNsecChain origin m) (y :
   pub closest : closest_nsec m y ≡ Some set
   pub where' : Stands origin m h y owner
 
-pub has_closest : (origin : Name) (m : Sets) (y : Name) (j : IsJudgedInChain origin m y) → HasClosest origin m j.zone y
+pub has_closest : (origin : Name) (m : Sets) (y : Name) (j : IsInScopeOfChain origin m y) → HasClosest origin m j.zone y
 has_closest origin m y j =
     let c = closest_is origin m j.zone y j.inside in
     let s = set_of m c.0 NSEC c.2.on_chain in
@@ -71,17 +71,17 @@ has_closest origin m y j =
 
 -- ---- where the record of this owner is among records
 
-pub record IsTold (origin : Name) (m : Sets) (h : IsNsecChain origin m) (rs : List NsecRecord) (y : Name) : Type 0 where
+pub record IsReported (origin : Name) (m : Sets) (h : IsNsecChain origin m) (rs : List NsecRecord) (y : Name) : Type 0 where
   pub owner : Name
   pub among : In (record_at origin m h owner) rs
   pub where' : Stands origin m h y owner
 
-module _ (origin : Name) (m : Sets) (y : Name) (j : IsJudgedInChain origin m y) (rs : List NsecRecord) where
-  -- the star that would answer in the place of a name
+module _ (origin : Name) (m : Sets) (y : Name) (j : IsInScopeOfChain origin m y) (rs : List NsecRecord) where
+  -- the wildcard that would answer in place of a name
   abbrev star : Name
-  star = star_under (nsec_encloser origin m y)
+  star = wildcard_under (nsec_encloser origin m y)
 
-  module _ (t : IsTold origin m j.zone rs y) where
+  module _ (t : IsReported origin m j.zone rs y) where
     -- ---- of a name that isn't there
 
     module _ (none : owns_at_or_below m y ≡ false) where
@@ -95,24 +95,24 @@ module _ (origin : Name) (m : Sets) (y : Name) (j : IsJudgedInChain origin m y) 
       pub over : IsAbove origin y
       over = below_origin origin m y j (off_circle m y none)
 
-      -- with what its star passes
-      pub denied_with : (test : Name → Bool) → test star ≡ true → denied_and_star origin rs y test ≡ true
+      -- with what its wildcard passes
+      pub denied_with : (test : Name → Bool) → test star ≡ true → denied_and_wildcard origin rs y test ≡ true
       denied_with test p =
-          any_from_In (λ r. denies_name origin r y && option_map_or (λ a. test (star_under a)) (shown_encloser r y) false) (record_at origin m j.zone t.owner) rs t.among
-          (λ i. denied origin m y j t.owner between none i && (ap (λ q. option_map_or (λ a. test (star_under a)) q false) (shown_is origin m y j over t.owner between) ∙ p) i)
+          any_from_In (λ r. denies_name origin r y && option_map_or (λ a. test (wildcard_under a)) (shown_encloser r y) false) (record_at origin m j.zone t.owner) rs t.among
+          (λ i. denied origin m y j t.owner between none i && (ap (λ q. option_map_or (λ a. test (wildcard_under a)) q false) (shown_is origin m y j over t.owner between) ∙ p) i)
 
-      pub error_proved : (h : IsNsecChain origin m) → IsTold origin m h rs star → owns_at_or_below m star ≡ false → proves_name_error origin rs y ≡ true
+      pub error_proved : (h : IsNsecChain origin m) → IsReported origin m h rs star → owns_at_or_below m star ≡ false → proves_name_error origin rs y ≡ true
       error_proved h w starless =
           denied_with (is_denied origin rs)
-          (any_from_In (λ r. denies_name origin r star) (record_at origin m j.zone w.owner) rs w.among (denied origin m star (judged_star origin m y j over) w.owner (of_star w.where') starless))
+          (any_from_In (λ r. denies_name origin r star) (record_at origin m j.zone w.owner) rs w.among (denied origin m star (judged_star origin m y j over) w.owner (of_wildcard w.where') starless))
         where
-          of_star : Stands origin m h star w.owner → IsBetween origin m star w.owner
-          of_star (at e on) = absurd (true≢false (sym on ∙ off_circle m star starless))
-          of_star (before_it off b) = b
+          of_wildcard : Stands origin m h star w.owner → IsBetween origin m star w.owner
+          of_wildcard (at e on) = absurd (true≢false (sym on ∙ off_circle m star starless))
+          of_wildcard (before_it off b) = b
 
-      -- the star under its closest encloser may answer
+      -- the wildcard at its closest encloser may answer
       pub answer_proved : (e : Name) → closest_encloser m y ≡ Some e → proves_wildcard_answer origin rs y e ≡ true
-      answer_proved e is = denied_with (name_eq (star_under e)) ((name_eq-Decides (star_under e) star).1 (ap star_under (same_value e (nsec_encloser origin m y) (sym is ∙ enclosers_agree origin m j.zone j.one_kind y ((above_test origin y).1 over) j.uncut (undnamed origin m y j)))))
+      answer_proved e is = denied_with (name_eq (wildcard_under e)) ((name_eq-Decides (wildcard_under e) star).1 (ap wildcard_under (same_value e (nsec_encloser origin m y) (sym is ∙ enclosers_agree origin m j.zone j.one_kind y ((above_test origin y).1 over) j.uncut (undnamed origin m y j)))))
         where
           same_value : (a b : Name) → Some a ≡ Some b → a ≡ b
           same_value a b e = cc
@@ -149,7 +149,7 @@ module _ (origin : Name) (m : Sets) (y : Name) (j : IsJudgedInChain origin m y) 
                 any_from_In (λ r. denies_type origin r y u || shows_empty origin r y) (record_at origin m j.zone t.owner) rs t.among
                 (or_right (denies_type origin (record_at origin m j.zone t.owner) y u) (shows_empty origin (record_at origin m j.zone t.owner) y) (empty origin m y j t.owner b there))
 
-    -- a name that isn't there has no data by its star
+    -- a name that isn't there has no data by its wildcard
     pub star_bare_by : owns_at_or_below m y ≡ false → (u : ℕ) → is_bare origin rs u star ≡ true → proves_wildcard_no_data origin rs y u ≡ true
     star_bare_by none u p = denied_with none (is_bare origin rs u) p
 

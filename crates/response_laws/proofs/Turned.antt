@@ -17,7 +17,7 @@ use Rattle.zone_denial.proofs.Names.LongestAncestors.{above_above}
 use Rattle.denial_validation.specs.NsecProofs.{DNAME}
 use Rattle.denial_laws.proofs.OwnTypes.{neither}
 use Rattle.zone_response.specs.Queries.{Zone}
-use Rattle.zone_response.specs.Descent.{Turn, cut, renaming, cut_at, dname_at, turn_at, turn_down_to, turn}
+use Rattle.zone_response.specs.Descent.{Diversion, cut, renaming, cut_at, dname_at, diversion_at, diversion_down_to, diversion}
 use Rattle.response_laws.specs.HashedSayings.{IsReached}
 
 -- ---- the way down to a name
@@ -33,50 +33,50 @@ above_root : (a : Name) → IsAbove a [] → ⊥
 above_root a (l, f, e) = let p : [] ≡ l ∷ (f ++ a) = e in cc
 
 module _ (origin : Name) (m : Sets) (x : Name) (t : ℕ) where
-  abbrev at : Name → Option Turn
-  at = turn_at origin m x t
+  abbrev at : Name → Option Diversion
+  at = diversion_at origin m x t
 
-  none_turns : (n : Name) → turn_down_to origin m x t n ≡ None → (a : Name) → IsAtOrAbove a n → at a ≡ None
+  none_turns : (n : Name) → diversion_down_to origin m x t n ≡ None → (a : Name) → IsAtOrAbove a n → at a ≡ None
   none_turns [] e a ([], q) = ap at (sym q) ∙ e
   none_turns [] e a (l ∷ f, q) = let p : [] ≡ l ∷ (f ++ a) = q in cc
   none_turns (l ∷ n) e a u =
-      let both = neither (turn_down_to origin m x t n) (at (l ∷ n)) e in
+      let both = neither (diversion_down_to origin m x t n) (at (l ∷ n)) e in
       by both.1 (none_turns n both.0 a) (above_child a l n u)
     where
       by : at (l ∷ n) ≡ None → (IsAtOrAbove a n → at a ≡ None) → (a ≡ l ∷ n) ⊎ IsAtOrAbove a n → at a ≡ None
       by own above (inl q) = ap at q ∙ own
       by own above (inr v) = above v
 
-  pub none_down_to : (n : Name) → ((a : Name) → IsAtOrAbove a n → at a ≡ None) → turn_down_to origin m x t n ≡ None
+  pub none_down_to : (n : Name) → ((a : Name) → IsAtOrAbove a n → at a ≡ None) → diversion_down_to origin m x t n ≡ None
   none_down_to [] h = h [] ([], refl)
   none_down_to (l ∷ n) h = λ i. option_or (none_down_to n (λ a u. h a (l ∷ u.0, ap (λ k. l ∷ k) u.1)) i) (h (l ∷ n) ([], refl) i)
 
   -- the name that turns, above which none does
-  pub record IsFirstTurn (n : Name) (w : Turn) : Type 0 where
+  pub record IsFirstDiversion (n : Name) (w : Diversion) : Type 0 where
     pub name : Name
     pub above : IsAtOrAbove name n
-    pub turns : turn_at origin m x t name ≡ Some w
-    pub first : (b : Name) → IsAbove b name → turn_at origin m x t b ≡ None
+    pub turns : diversion_at origin m x t name ≡ Some w
+    pub first : (b : Name) → IsAbove b name → diversion_at origin m x t b ≡ None
 
-  first_turn : (n : Name) (w : Turn) → turn_down_to origin m x t n ≡ Some w → IsFirstTurn n w
+  first_turn : (n : Name) (w : Diversion) → diversion_down_to origin m x t n ≡ Some w → IsFirstDiversion n w
   first_turn [] w e = record { name = []; above = ([], refl); turns = e; first = λ b u. absurd (above_root b u) }
-  first_turn (l ∷ n) w e = by (first_turn n w) (turn_down_to origin m x t n) refl e
+  first_turn (l ∷ n) w e = by (first_turn n w) (diversion_down_to origin m x t n) refl e
     where
-      by : (turn_down_to origin m x t n ≡ Some w → IsFirstTurn n w) → (o : Option Turn) → turn_down_to origin m x t n ≡ o → option_or o (at (l ∷ n)) ≡ Some w → IsFirstTurn (l ∷ n) w
+      by : (diversion_down_to origin m x t n ≡ Some w → IsFirstDiversion n w) → (o : Option Diversion) → diversion_down_to origin m x t n ≡ o → option_or o (at (l ∷ n)) ≡ Some w → IsFirstDiversion (l ∷ n) w
       by above None d q = record { name = l ∷ n; above = ([], refl); turns = q; first = λ b u. none_turns n d b (above_parent b l n u) }
       by above (Some v) d q =
           let f = above (d ∙ q) in
           record { name = f.name; above = (l ∷ f.above.0, ap (λ k. l ∷ k) f.above.1); turns = f.turns; first = f.first }
 
-  pub turned_first : (w : Turn) → turn origin m x t ≡ Some w → IsFirstTurn x w
+  pub turned_first : (w : Diversion) → diversion origin m x t ≡ Some w → IsFirstDiversion x w
   turned_first w e = first_turn x w e
 
-  pub unturned : turn origin m x t ≡ None → (a : Name) → IsAtOrAbove a x → turn_at origin m x t a ≡ None
+  pub unturned : diversion origin m x t ≡ None → (a : Name) → IsAtOrAbove a x → diversion_at origin m x t a ≡ None
   unturned e a u = none_turns x e a u
 
   -- ---- at one name
 
-  abbrev said_at : Name → Option Turn
+  abbrev said_at : Name → Option Diversion
   said_at a = option_or (option_map cut (cut_at origin m x t a)) (option_map renaming (dname_at m x a))
 
   no_cut : (o : Option RRset) → option_map cut o ≡ None → o ≡ None
@@ -87,13 +87,13 @@ module _ (origin : Name) (m : Sets) (x : Name) (t : ℕ) where
   no_renaming None e = refl
   no_renaming (Some s) e = absurd cc
 
-  pub silent_at : (a : Name) → is_at_or_above origin a ≡ true → turn_at origin m x t a ≡ None → (cut_at origin m x t a ≡ None) × (dname_at m x a ≡ None)
+  pub silent_at : (a : Name) → is_at_or_above origin a ≡ true → diversion_at origin m x t a ≡ None → (cut_at origin m x t a ≡ None) × (dname_at m x a ≡ None)
   silent_at a inside e =
       let both = neither (option_map cut (cut_at origin m x t a)) (option_map renaming (dname_at m x a)) (sym (ap (λ b. cond b (said_at a) None) inside) ∙ e) in
       (no_cut (cut_at origin m x t a) both.0, no_renaming (dname_at m x a) both.1)
 
   -- the NS set of a cut
-  pub cut_set : (a : Name) (s : RRset) → turn_at origin m x t a ≡ Some (cut s) → (is_at_or_above origin a ≡ true) × (set_at m a NS ≡ Some s)
+  pub cut_set : (a : Name) (s : RRset) → diversion_at origin m x t a ≡ Some (cut s) → (is_at_or_above origin a ≡ true) × (set_at m a NS ≡ Some s)
   cut_set a s e = by (is_at_or_above origin a) refl e
     where
       of_cut : (o d : Option RRset) → option_or (option_map cut o) (option_map renaming d) ≡ Some (cut s) → o ≡ Some s
@@ -110,7 +110,7 @@ module _ (origin : Name) (m : Sets) (x : Name) (t : ℕ) where
       by false i q = absurd cc
 
   -- the DNAME set of a name above x
-  pub renaming_set : (a : Name) (s : RRset) → turn_at origin m x t a ≡ Some (renaming s) → (name_eq a x ≡ false) × (set_at m a DNAME ≡ Some s)
+  pub renaming_set : (a : Name) (s : RRset) → diversion_at origin m x t a ≡ Some (renaming s) → (name_eq a x ≡ false) × (set_at m a DNAME ≡ Some s)
   renaming_set a s e = by (is_at_or_above origin a) e
     where
       of_renaming : (o d : Option RRset) → option_or (option_map cut o) (option_map renaming d) ≡ Some (renaming s) → d ≡ Some s
@@ -127,7 +127,7 @@ module _ (origin : Name) (m : Sets) (x : Name) (t : ℕ) where
       by false q = absurd cc
 
   -- which is no zone cut
-  pub renaming_uncut : (a : Name) (s : RRset) → turn_at origin m x t a ≡ Some (renaming s) → (is_at_or_above origin a ≡ true) × (cut_at origin m x t a ≡ None)
+  pub renaming_uncut : (a : Name) (s : RRset) → diversion_at origin m x t a ≡ Some (renaming s) → (is_at_or_above origin a ≡ true) × (cut_at origin m x t a ≡ None)
   renaming_uncut a s e = by (is_at_or_above origin a) refl e
     where
       of_renaming : (o d : Option RRset) → option_or (option_map cut o) (option_map renaming d) ≡ Some (renaming s) → o ≡ None
@@ -155,7 +155,7 @@ not_above b x u = by (name_eq b x) refl
     by true e = absurd (irrefl name_order x (ap (λ n. name_cmp n x) (sym ((name_eq-Decides b x).0 e)) ∙ above_is_less b x u))
 
 -- the owner of a DNAME set that turns a search turns nothing on the way down to itself
-pub renaming_unturned : (origin : Name) (m : Sets) (x : Name) (t : ℕ) (s : RRset) (f : IsFirstTurn origin m x t x (renaming s)) → turn origin m f.name t ≡ None
+pub renaming_unturned : (origin : Name) (m : Sets) (x : Name) (t : ℕ) (s : RRset) (f : IsFirstDiversion origin m x t x (renaming s)) → diversion origin m f.name t ≡ None
 renaming_unturned origin m x t s f = none_down_to origin m f.name t f.name (λ a u. at_each a (above_cases a f.name u))
   where
     n : Name
@@ -168,10 +168,10 @@ renaming_unturned origin m x t s f = none_down_to origin m f.name t f.name (λ a
     place = renaming_uncut origin m x t n s f.turns
 
     -- what a name turns, by whether it is the one that is searched
-    turns : Name → Bool → Option Turn
+    turns : Name → Bool → Option Diversion
     turns a b = cond (is_at_or_above origin a) (option_or (option_map cut (cond (name_eq a origin || (b && (t == DS))) None (set_at m a NS))) (option_map renaming (cond b None (set_at m a DNAME)))) None
 
-    above : (a : Name) → IsAbove a n → turn_at origin m n t a ≡ None
+    above : (a : Name) → IsAbove a n → diversion_at origin m n t a ≡ None
     above a u = ap (turns a) (not_above a n u ∙ sym (not_above a x (lower_above a n x u f.above))) ∙ f.first a u
 
     no_cut_at : (b c : Bool) (o : Option RRset) → cond (b || (false && c)) None o ≡ None → cond (b || c) None o ≡ None
@@ -187,14 +187,14 @@ renaming_unturned origin m x t s f = none_down_to origin m f.name t f.name (λ a
         by true e = no_cut_at (name_eq n origin) (t == DS) (set_at m n NS) e
         by false e = e
 
-    here : turn_at origin m n t n ≡ None
+    here : diversion_at origin m n t n ≡ None
     here = λ i. cond (place.0 i) (option_or (option_map cut (uncut i)) (option_map renaming (cond ((name_eq-Decides n n).1 refl i) None (set_at m n DNAME)))) None
 
-    at_each : (a : Name) → (a ≡ n) ⊎ IsAbove a n → turn_at origin m n t a ≡ None
-    at_each a (inl e) = ap (turn_at origin m n t) e ∙ here
+    at_each : (a : Name) → (a ≡ n) ⊎ IsAbove a n → diversion_at origin m n t a ≡ None
+    at_each a (inl e) = ap (diversion_at origin m n t) e ∙ here
     at_each a (inr u) = above a u
 
-module _ (z : Zone) (no_dname_above : (a : Name) → IsAbove a z.origin → owns z.sets a DNAME ≡ false) (x : Name) (t : ℕ) (y : Name) (up : IsAtOrAbove y x) (inside : is_at_or_above z.origin y ≡ true) (none : (b : Name) → IsAbove b y → turn_at z.origin z.sets x t b ≡ None) where
+module _ (z : Zone) (no_dname_above : (a : Name) → IsAbove a z.origin → owns z.sets a DNAME ≡ false) (x : Name) (t : ℕ) (y : Name) (up : IsAtOrAbove y x) (inside : is_at_or_above z.origin y ≡ true) (none : (b : Name) → IsAbove b y → diversion_at z.origin z.sets x t b ≡ None) where
   no_servers : (b : Name) → IsAbove b y → is_at_or_above z.origin b ≡ true → name_eq b z.origin ≡ false → owns z.sets b NS ≡ false
   no_servers b u i other =
       ap is_some

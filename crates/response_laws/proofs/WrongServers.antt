@@ -16,7 +16,7 @@ use Rattle.zone_denial.proofs.Examples.NsecExamples.{origin, record_with, entry,
 use Rattle.zone_response.specs.declared.response.Part.TheVariants as part
 use Rattle.zone_response.specs.Paths.{path}
 use Rattle.zone_response.specs.Queries.{Zone, Query, inquiry}
-use Rattle.zone_response.specs.Dname.{made_alias}
+use Rattle.zone_response.specs.Dname.{synthesized_alias}
 use Rattle.zone_response.specs.Responses.{bare, IsResponse}
 use Rattle.zone_response.specs.Sections.{Sections, sent, as_it_is}
 use Rattle.zone_response.specs.Descent.{DNAME}
@@ -56,7 +56,7 @@ always_failing law = law (zone origin_alone) (asked b A) (bare code.ServFail) li
 abbrev empties : Zone → Sections → Sections
 empties z r = bare code.NoError
 
--- in the place of no data
+-- in place of no data
 of_no_data : IsResponse (zone origin_alone) (asked origin MX) (negative origin_alone code.NoError (origin ∷ []))
 unfolding path
 of_no_data = record { code = refl; authoritative = refl; answers = refl; authorities = refl; additionals = refl; glue = refl; left_at = refl }
@@ -145,7 +145,7 @@ abbrev x_a : Name
 x_a = under_a (codes "x")
 
 abbrev no_new_name : Sections
-no_new_name = sections code.NXDomain (renaming.1 ∷ made_alias renaming.1 x_b x_a ∷ []) (sent part.Records 60 start.1 ∷ [])
+no_new_name = sections code.NXDomain (renaming.1 ∷ synthesized_alias renaming.1 x_b x_a ∷ []) (sent part.Records 60 start.1 ∷ [])
 
 of_new_name : IsResponse (plain renamed_zone) (asks x_b A) no_new_name
 unfolding path

@@ -20,7 +20,7 @@ use Rattle.zone_response.specs.Paths.{path}
 use Rattle.zone_response.specs.Queries.{Zone, inquiry}
 use Rattle.zone_response.specs.Responses.{negative_ttl, IsResponse}
 use Rattle.zone_response.specs.Sections.{Sections, sent, as_it_is}
-use Rattle.response_laws.specs.Contents.{Origin, own, of_star, of_dname, of_aname, IsFoundByItsStar, HasToProve, AuthorityOrigin, start as starts, servers, digests, denial, HasContents, ResponseHasContents}
+use Rattle.response_laws.specs.Contents.{Origin, own, of_wildcard, of_dname, of_aname, IsFoundByItsWildcard, HasToProve, AuthorityOrigin, start as starts, servers, digests, denial, HasContents, ResponseHasContents}
 use Rattle.response_laws.proofs.HashedMetPremises as hashed
 use Rattle.response_laws.proofs.OwnDenials.{lends_own}
 use Rattle.response_laws.proofs.MetPremises.{linked_zone, type_apart, response, of_missing}
@@ -76,15 +76,15 @@ answers_shortened law = by (has.answers short (In-Contains short (short ∷ []) 
     has : HasContents (plain (start ∷ [])) (asks origin SOA) (record soa_answer { answers = short ∷ [] })
     has = law (plain (start ∷ [])) (asks origin SOA) (record soa_answer { answers = short ∷ [] }) start_zone (lends_own (plain (start ∷ [])) start_zone refl) (soa_answer, of_soa, refl)
 
-    by : Origin (inquiry (plain (start ∷ [])) (asks origin SOA)) (short ∷ []) (IsFoundByItsStar (inquiry (plain (start ∷ [])) (asks origin SOA))) short → ⊥
+    by : Origin (inquiry (plain (start ∷ [])) (asks origin SOA)) (short ∷ []) (IsFoundByItsWildcard (inquiry (plain (start ∷ [])) (asks origin SOA))) short → ⊥
     by (own p g h) = not_short h.name h.record_type h.stored h.stands (ap (λ (s : RRset). s.ttl) h.sent ∙ sent_ttl p h.stored)
-    by (of_star p g h) =
-        not_short h.by_star.star h.record_type h.by_star.stored h.by_star.stands
-        (ap (λ (s : RRset). s.ttl) h.sent ∙ sent_ttl p h.found ∙ ap (λ (s : RRset). s.ttl) h.by_star.made)
+    by (of_wildcard p g h) =
+        not_short h.by_wildcard.star h.record_type h.by_wildcard.stored h.by_wildcard.stands
+        (ap (λ (s : RRset). s.ttl) h.sent ∙ sent_ttl p h.found ∙ ap (λ (s : RRset). s.ttl) h.by_wildcard.made)
     by (of_dname h) = true≢false (ap (λ (s : RRset). s.record_type == SOA) h.made)
     by (of_aname h) = of h.stands
       where
-        of : (set_at (start ∷ []) h.name ANAME ≡ Some h.aname) ⊎ IsFoundByItsStar (inquiry (plain (start ∷ [])) (asks origin SOA)) h.name ANAME h.aname → ⊥
+        of : (set_at (start ∷ []) h.name ANAME ≡ Some h.aname) ⊎ IsFoundByItsWildcard (inquiry (plain (start ∷ [])) (asks origin SOA)) h.name ANAME h.aname → ⊥
         of (inl e) = no_aname h.name h.aname e
         of (inr k) = no_aname k.star k.stored k.stands
 

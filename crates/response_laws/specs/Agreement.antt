@@ -22,18 +22,19 @@ use Rattle.zone_response.specs.Queries.{Zone, Query, Inquiry, inquiry}
 use Rattle.zone_response.specs.QueryTypes.{is_no_data}
 use Rattle.zone_response.specs.Responses.{lacks_proofs}
 use Rattle.zone_response.specs.Sections.{Sections, as_it_is, part_for, is_signed}
-use Rattle.zone_response.specs.Wildcards.{asked_star}
+use Rattle.zone_response.specs.Wildcards.{asked_wildcard}
 use Rattle.zone_response.specs.Aname.{addresses, stand_in_answer}
-use Rattle.zone_response.specs.Descent.{turn}
+use Rattle.zone_response.specs.Descent.{diversion}
 use Rattle.response_laws.specs.Servers.{Server}
 
 -- ---- what both find alike
 
--- a zone whose origin owns SOA and doesn't begin with `*`, that has no set outside it, and in which a CNAME stands alone (RFC 1034 section 3.6.2)
+-- a zone whose origin owns SOA and doesn't begin with `*`, that has no set outside it, and in which a CNAME is alone
+-- (RFC 1034 section 3.6.2)
 pub record IsOrdinaryZone (origin : Name) (m : Sets) : Type 0 where
   pub zone : IsZone m
   pub soa : IsTrue (owns m origin SOA)
-  pub unstarred : IsFalse (is_wildcard origin)
+  pub not_wildcard : IsFalse (is_wildcard origin)
   pub inside : (n : Name) (t : ℕ) → IsTrue (owns m n t) → IsTrue (is_at_or_above origin n)
   pub cnames : CnamesStandAlone m
 
@@ -44,12 +45,14 @@ pub record IsOrdinaryType (t : ℕ) : Type 0 where
   pub no_signature : t ≢ RRSIG
   pub no_hashed : t ≢ NSEC3
 
--- nothing turns the search on the way down to a name; and if it doesn't exist, it doesn't begin with `*` (RFC 4592 section 3.3), and the star that is asked for it owns no NS (section 4.2). Where NSEC is asked for, the one of the two that owns it exists and is no alias (RFC 4035 section 2.5)
+-- nothing turns the search on the way down to a name; and if it doesn't exist, it doesn't begin with `*` (RFC 4592
+-- section 2.3), and the wildcard at its closest encloser owns no NS (section 4.2). Where NSEC is asked for, the one of
+-- the two that owns it exists and is no alias (RFC 4035 section 2.5)
 pub record IsOrdinary (q : Inquiry) (x : Name) : Type 0 where
-  pub unturned : turn q.origin q.sets x q.record_type ≡ None
-  pub unstarred : IsFalse (exists q.sets x) → IsFalse (is_wildcard x)
-  pub uncut_star : (w : Name) → asked_star q.sets x ≡ Some w → IsFalse (owns q.sets w NS)
-  pub nsec : q.record_type ≡ NSEC → (a : Name) → (a ≡ x) ⊎ (asked_star q.sets x ≡ Some a) → IsTrue (owns q.sets a NSEC) → IsTrue (exists q.sets a) × IsFalse (owns q.sets a CNAME)
+  pub unturned : diversion q.origin q.sets x q.record_type ≡ None
+  pub not_wildcard : IsFalse (exists q.sets x) → IsFalse (is_wildcard x)
+  pub uncut_wildcard : (w : Name) → asked_wildcard q.sets x ≡ Some w → IsFalse (owns q.sets w NS)
+  pub nsec : q.record_type ≡ NSEC → (a : Name) → (a ≡ x) ⊎ (asked_wildcard q.sets x ≡ Some a) → IsTrue (owns q.sets a NSEC) → IsTrue (exists q.sets a) × IsFalse (owns q.sets a CNAME)
 
 -- no ANAME set stands in for the addresses of a name
 abbrev pub NoStandIn : Inquiry → Name → Type 0
@@ -125,11 +128,12 @@ abbrev pub IsNoDenialOwner : Sets → Name → Type 0
 IsNoDenialOwner m x = IsTrue (owns_at_or_below m x) → IsTrue (exists m x)
 
 pub record Agrees (z : Zone) (q : Query) (r : Sections) (reply : Reply) : Type 0 where
-  -- the sets that answer are the same, as they go out
+  -- the sets that answer are the same, as they are sent
   pub answers : r.answers ≡ map (as_it_is (part_for q.signed)) (answer_sets_of reply)
   -- a negative answer is that of the queried name
   pub denied : (d : NegativeAnswer) → reply ≡ negative d → (unfound_name (inquiry z q) q.name ≡ Some q.name) × (d ≡ negative_answer z.origin z.sets q.name)
-  -- where the search ends without a set, the code is that of the negative answer that a lookup has for the name there (RFC 6604 section 3), unless sets of denial alone stand at that name
+  -- where the search ends without a set, the code is that of the negative answer that a lookup has for the name there
+  -- (RFC 6604 section 3), unless sets of denial alone are at that name
   pub unfound : (x : Name) → unfound_name (inquiry z q) q.name ≡ Some x → IsTrue (is_at_or_above z.origin x) → IsNoDenialOwner z.sets x → r.code ≡ code_of (negative_answer z.origin z.sets x)
   -- and where that is a name error, in any case
   pub name_error : (x : Name) → unfound_name (inquiry z q) q.name ≡ Some x → negative_answer z.origin z.sets x ≡ nx_domain → r.code ≡ code.NXDomain

@@ -1,4 +1,4 @@
--- What stands in the sections of a response: of each set, where it comes from, and with which TTL it goes out
+-- What is in the sections of a response: of each set, where it comes from, and with which TTL it is sent
 use Rattle.std.specs.Prelude.{◌≡◌, ℕ, ◌∷◌, ◌≤◌, Bool, true, false, ◌&&◌, not, ◌⊎◌, List, [], min, take, Option, Some, IsTrue, IsFalse}
 use Rattle.std.specs.List.{Contains}
 use Rattle.zone_proto.specs.declared.rdata.RData.TheVariants as V
@@ -16,25 +16,25 @@ use Rattle.zone_response.specs.declared.response.Part.{Part}
 use Rattle.zone_response.specs.declared.response.Part.TheVariants as part
 use Rattle.zone_response.specs.Additional.{host_of}
 use Rattle.zone_response.specs.Queries.{Zone, Query, HasOwnDenials, Inquiry, inquiry}
-use Rattle.zone_response.specs.Dname.{dname_target, in_place_of, made_alias}
+use Rattle.zone_response.specs.Dname.{dname_target, in_place_of, synthesized_alias}
 use Rattle.zone_response.specs.Responses.{negative_ttl}
 use Rattle.zone_response.specs.Sections.{Sections, sent, as_it_is, part_for, is_signed}
-use Rattle.zone_response.specs.Wildcards.{star_of}
+use Rattle.zone_response.specs.Wildcards.{source_of_synthesis}
 use Rattle.zone_response.specs.Aname.{addresses, stand_in_answer}
 use Rattle.zone_response.specs.Steps.{keeps}
-use Rattle.zone_response.specs.Descent.{DNAME, Turn, cut, turn}
+use Rattle.zone_response.specs.Descent.{DNAME, Diversion, cut, diversion}
 use Rattle.response_laws.specs.Sayings.{Saying, name_error, no_data, referral, saying}
 use Rattle.response_laws.specs.Servers.{Server}
 
 -- ---- AA
 
-abbrev pub is_cut : Option Turn → Bool
+abbrev pub is_cut : Option Diversion → Bool
 is_cut (Some (cut c)) = true
 is_cut _ = false
 
--- the name that is asked for is another zone's: a zone cut stands at it or above it, for DS above it
+-- the name that is asked for is another zone's: a zone cut is at it or above it, for DS above it
 abbrev pub is_delegated : Zone → Query → Bool
-is_delegated z q = is_cut (turn z.origin z.sets q.name q.record_type)
+is_delegated z q = is_cut (diversion z.origin z.sets q.name q.record_type)
 
 -- a code that says that the server doesn't answer
 abbrev pub is_refusal : ResponseCode → Bool
@@ -45,7 +45,8 @@ is_refusal _ = false
 
 -- ---- the answer section
 
--- a set goes out as the query asks for it, with its signatures or without; or where RRSIG is asked for, as its signatures alone
+-- a set is sent as the query asks for it, with its signatures or without; or where RRSIG is asked for, as its
+-- signatures alone
 abbrev pub IsAnswerPart : Inquiry → Part → Type 0
 IsAnswerPart q p = (p ≡ part_for q.signed) ⊎ ((q.record_type ≡ RRSIG) × (p ≡ part.Signatures))
 
@@ -57,41 +58,44 @@ pub record IsOwnSet (m : Sets) (p : Part) (s : RRset) : Type 0 where
   pub stands : set_at m name record_type ≡ Some stored
   pub sent : s ≡ as_it_is p stored
 
--- for a name that doesn't exist: the set of the star that is asked for it, under that name (RFC 4592 section 3.3.1)
-pub record IsFoundByItsStar (q : Inquiry) (name : Name) (record_type : ℕ) (found : RRset) : Type 0 where
+-- for a name that doesn't exist: the set of the wildcard at its closest encloser, under that name (RFC 4592 section
+-- 3.3.1)
+pub record IsFoundByItsWildcard (q : Inquiry) (name : Name) (record_type : ℕ) (found : RRset) : Type 0 where
   pub absent : IsFalse (exists q.sets name)
   pub star : Name
-  pub asked : star_of q.sets name ≡ Some star
+  pub asked : source_of_synthesis q.sets name ≡ Some star
   pub stored : RRset
   pub stands : set_at q.sets star record_type ≡ Some stored
   pub made : found ≡ renamed (keeps q.signed q.record_type) star name stored
 
--- a set that is found by a star, with its own TTL
-pub record IsStarSet (IsByStar : Name → ℕ → RRset → Type 0) (p : Part) (s : RRset) : Type 0 where
+-- a set that is found by a wildcard, with its own TTL
+pub record IsWildcardSet (IsByWildcard : Name → ℕ → RRset → Type 0) (p : Part) (s : RRset) : Type 0 where
   pub name : Name
   pub record_type : ℕ
   pub found : RRset
-  pub by_star : IsByStar name record_type found
+  pub by_wildcard : IsByWildcard name record_type found
   pub sent : s ≡ as_it_is p found
 
--- the CNAME that a DNAME set of the section makes for a name below its owner, with that set's TTL (RFC 6672 section 3.1): with DNSSEC a validator makes it anew from that set, which is the zone's and goes out signed (section 5.3.1)
-pub record IsMadeAlias (q : Inquiry) (answers : List RRset) (s : RRset) : Type 0 where
+-- the CNAME that a DNAME set of the section makes for a name below its owner, with that set's TTL (RFC 6672 section
+-- 3.1): with DNSSEC a validator makes it anew from that set, which is the zone's and is sent signed (section 5.3.1)
+pub record IsSynthesizedAlias (q : Inquiry) (answers : List RRset) (s : RRset) : Type 0 where
   pub dname : RRset
   pub among : Contains answers dname
   pub record_type : dname.record_type ≡ DNAME
   pub stands : IsOwnSet q.sets (part_for q.signed) dname
   pub target : Name
-  pub told : dname_target dname ≡ Some target
+  pub call_concludes : dname_target dname ≡ Some target
   pub name : Name
   pub below : IsAbove (lower dname.owner) name
-  pub made : s ≡ made_alias dname name (in_place_of dname.owner target name)
+  pub made : s ≡ synthesized_alias dname name (in_place_of dname.owner target name)
   pub ttl : s.ttl ≡ dname.ttl
 
--- the addresses for which an ANAME set stands in, made for the response, with no greater TTL than that set, and where they have to be proved signed for it by the zone. The ANAME set is the name's own, or one that is found by a star
-pub record IsMadeAddresses (q : Inquiry) (IsByStar : Name → ℕ → RRset → Type 0) (s : RRset) : Type 0 where
+-- the addresses for which an ANAME set stands in, made for the response, with no greater TTL than that set, and where
+-- they have to be proved signed for it by the zone. The ANAME set is the name's own, or one that is found by a wildcard
+pub record IsStandInAddresses (q : Inquiry) (IsByWildcard : Name → ℕ → RRset → Type 0) (s : RRset) : Type 0 where
   pub name : Name
   pub aname : RRset
-  pub stands : (set_at q.sets name ANAME ≡ Some aname) ⊎ IsByStar name ANAME aname
+  pub stands : (set_at q.sets name ANAME ≡ Some aname) ⊎ IsByWildcard name ANAME aname
   pub made : RRset
   pub leads : stand_in_answer q name aname ≡ addresses made
   pub signatures : made.signatures ≡ q.sign (record made { signatures = [] })
@@ -100,11 +104,11 @@ pub record IsMadeAddresses (q : Inquiry) (IsByStar : Name → ℕ → RRset → 
   pub ttl : made.ttl ≤ aname.ttl
 
 -- where a set of an answer section comes from
-pub data Origin (q : Inquiry) (answers : List RRset) (IsByStar : Name → ℕ → RRset → Type 0) (s : RRset) : Type 0 where
-  own : (p : Part) → IsAnswerPart q p → IsOwnSet q.sets p s → Origin q answers IsByStar s
-  of_star : (p : Part) → IsAnswerPart q p → IsStarSet IsByStar p s → Origin q answers IsByStar s
-  of_dname : IsMadeAlias q answers s → Origin q answers IsByStar s
-  of_aname : IsMadeAddresses q IsByStar s → Origin q answers IsByStar s
+pub data Origin (q : Inquiry) (answers : List RRset) (IsByWildcard : Name → ℕ → RRset → Type 0) (s : RRset) : Type 0 where
+  own : (p : Part) → IsAnswerPart q p → IsOwnSet q.sets p s → Origin q answers IsByWildcard s
+  of_wildcard : (p : Part) → IsAnswerPart q p → IsWildcardSet IsByWildcard p s → Origin q answers IsByWildcard s
+  of_dname : IsSynthesizedAlias q answers s → Origin q answers IsByWildcard s
+  of_aname : IsStandInAddresses q IsByWildcard s → Origin q answers IsByWildcard s
 
 -- ---- the authority section
 
@@ -114,12 +118,13 @@ IsNegative (Some (name_error x)) = Unit {0}
 IsNegative (Some (no_data x)) = Unit {0}
 IsNegative _ = ⊥
 
--- something is to be proved: a negative response; that a child has no DS; or that a star may answer for a name which doesn't exist
+-- something is to be proved: a negative response; that a child has no DS; or that a wildcard may answer for a name
+-- which doesn't exist
 abbrev pub HasToProve : Zone → Query → Sections → Type 0
 HasToProve z q r =
     IsNegative (saying q r) ⊎ ((c : Name) × (saying q r ≡ Some (referral c)) × IsFalse (owns z.sets c DS)) ⊎ ((s : RRset) × Contains r.answers s × IsFalse (exists z.sets s.owner))
 
--- where a set of an authority section comes from. Sets of denial stand there with DNSSEC alone
+-- where a set of an authority section comes from. Sets of denial are there with DNSSEC alone
 pub data AuthorityOrigin (z : Zone) (q : Query) (r : Sections) (s : RRset) : Type 0 where
   -- the SOA of a negative response, with the lesser of its own TTL and its MINIMUM (RFC 2308 sections 3 and 5)
   start : (soa : RRset) → IsNegative (saying q r) → set_at z.sets z.origin SOA ≡ Some soa → s ≡ sent (part_for q.signed) (negative_ttl soa) soa → AuthorityOrigin z q r s
@@ -137,7 +142,8 @@ NegativeTtlIsLesser = (soa : RRset) (r : Record) (rs : List Record) (a : SoaData
 
 -- ---- glue
 
--- a server of a child that stands in it: one of the first 64 records of the child's NS set names this host, and it is at or below the child
+-- a server of a child that is in it: one of the first 64 records of the child's NS set names this host, and it is at or
+-- below the child
 pub record IsServerBelow (m : Sets) (c h : Name) : Type 0 where
   pub servers : RRset
   pub stands : set_at m c NS ≡ Some servers
@@ -163,7 +169,8 @@ pub record HasGlue (z : Zone) (q : Query) (r : Sections) : Type 0 where
 
 -- ---- the additional section
 
--- a set of the zone that merely helps, with its own TTL: signed as the query asks for it, but for what stands below a zone cut (RFC 4035 section 2.2)
+-- a set of the zone that merely helps, with its own TTL: signed as the query asks for it, but for what is below a zone
+-- cut (RFC 4035 section 2.2)
 pub record IsHelpful (q : Inquiry) (s : RRset) : Type 0 where
   pub name : Name
   pub record_type : ℕ
@@ -178,7 +185,7 @@ pub record IsHelpful (q : Inquiry) (s : RRset) : Type 0 where
 pub record HasContents (z : Zone) (q : Query) (r : Sections) : Type 0 where
   -- AA is set but in a refusal, a failure and where the name that is asked for is another zone's: what aliases lead to doesn't matter (RFC 1035 section 4.1.1)
   pub authoritative : r.authoritative ≡ not (is_refusal r.code) && not (is_delegated z q)
-  pub answers : (s : RRset) → Contains r.answers s → Origin (inquiry z q) r.answers (IsFoundByItsStar (inquiry z q)) s
+  pub answers : (s : RRset) → Contains r.answers s → Origin (inquiry z q) r.answers (IsFoundByItsWildcard (inquiry z q)) s
   pub authorities : (s : RRset) → Contains r.authorities s → AuthorityOrigin z q r s
   -- a negative response has the SOA (RFC 2308 section 3)
   pub start : IsNegative (saying q r) → (soa : RRset) → set_at z.sets z.origin SOA ≡ Some soa → Contains r.authorities (sent (part_for q.signed) (negative_ttl soa) soa)

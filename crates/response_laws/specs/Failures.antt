@@ -18,22 +18,22 @@ use Rattle.zone_response.specs.Dname.{dname_target}
 use Rattle.zone_response.specs.Responses.{bare, query_hashed, refusal}
 use Rattle.zone_response.specs.Sections.{Sections, is_signed}
 use Rattle.zone_response.specs.Aname.{addresses, untold, stand_in_answer}
-use Rattle.zone_response.specs.Steps.{failed, made_by, keeps}
+use Rattle.zone_response.specs.Steps.{failed, as_found_for, keeps}
 use Rattle.zone_response.specs.Descent.{DNAME}
 use Rattle.response_laws.specs.Agreement.{HasHashedOwners}
 use Rattle.response_laws.specs.Servers.{Server}
 
 -- ---- faults of a zone
 
--- an ANAME set of the zone, as it is found for x: its own, or that of a star under the name x
+-- an ANAME set of the zone, as it is found for x: its own, or that of a wildcard at the name x
 pub record IsFoundAname (q : Inquiry) (x : Name) (s : RRset) : Type 0 where
   pub owner : Name
   pub stored : RRset
   pub stands : set_at q.sets owner ANAME ≡ Some stored
   pub star : Option Name
-  pub found : s ≡ made_by (keeps q.signed q.record_type) star x stored
+  pub found : s ≡ as_found_for (keeps q.signed q.record_type) star x stored
 
--- what stands in a zone and can't be answered
+-- what is in a zone and can't be answered
 pub data Fault (q : Inquiry) : Type 0 where
   -- a DNAME set without a target: its data are the wire form of no name, or it has several records (RFC 6672 sections 2.1 and 2.4)
   without_target : (n : Name) (s : RRset) → set_at q.sets n DNAME ≡ Some s → dname_target s ≡ None → Fault q
@@ -58,7 +58,7 @@ pub data Failure (z : Zone) (q : Query) : Type 0 where
   -- what is to be said has to be proved, and a name that is hashed for that has no hashed owner
   unprovable : (why : ProtoError) → IsTrue q.signed → IsUnhashed z z.nx_proof_kind (query_hashed z q) why → Failure z q
 
--- ---- why a code stands alone
+-- ---- why a code is alone
 
 -- a query is refused that asks for another class, or for a name outside the zone; a type that no record has isn't implemented; and else the zone has failed (RFC 1035 section 4.1.1)
 abbrev pub WhyAlone : Zone → Query → ResponseCode → Type 0
@@ -86,5 +86,5 @@ abbrev pub AnswerableIsAnswered : Server → Type 0
 AnswerableIsAnswered server = (z : Zone) (q : Query) (r : Sections) → IsZone z.sets → HasOwnDenials z → IsAnswerable z q → server z q r → r.code ≢ code.ServFail
 
 -- and where one has failed that isn't asked in vain, nothing else is said
-abbrev pub FailureIsTold : Server → Type 0
-FailureIsTold server = (z : Zone) (q : Query) (r : Sections) → refusal z.origin q ≡ None → Failure z q → server z q r → r ≡ bare code.ServFail
+abbrev pub FailureIsReported : Server → Type 0
+FailureIsReported server = (z : Zone) (q : Query) (r : Sections) → refusal z.origin q ≡ None → Failure z q → server z q r → r ≡ bare code.ServFail

@@ -6,5 +6,6 @@ pub mod Sayings
 pub mod Contents
 pub mod ProvedSayings
 pub mod HashedSayings
+pub mod HashCounts
 pub mod Repeats
 pub mod SecuredZones

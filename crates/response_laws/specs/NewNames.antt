@@ -8,6 +8,6 @@ use Rattle.zone_response.specs.Dname.{name_in, in_place_of}
 abbrev pub TargetsAreRead : Type 0
 TargetsAreRead = (octets : List ℕ) (n : Name) → (name_in octets ≡ Some n) ↔ ((octets ≡ wire_form n) × (fault_of n ≡ None))
 
--- the labels that stand before an owner stand before the target then
+-- the labels that come before an owner come before the target then
 abbrev pub OwnersAreReplaced : Type 0
 OwnersAreReplaced = (owner target front : Name) → in_place_of owner target (front ++ owner) ≡ front ++ target

@@ -1,4 +1,4 @@
--- The sets of a section, of which each stands there once (RFC 2181 section 5)
+-- The sets of a section, of which each is there once (RFC 2181 section 5.5)
 use Rattle.std.specs.Prelude.{◌≡◌, Bool, false, true, ◌&&◌, ◌||◌, List, [], ◌∷◌, ◌++◌, IsFalse}
 use Rattle.std.specs.List.{list_any}
 use Rattle.zone_proto.specs.declared.record.Record.{Record}
@@ -19,7 +19,7 @@ have_both (k ∷ ks) (r ∷ rs) = true
 abbrev pub repeats : RRset → RRset → Bool
 repeats s r = is_alike s r && (have_both s.records r.records || is_signed s && is_signed r)
 
--- none repeats one that stands before it
+-- none repeats one that comes before it
 abbrev pub StandOnce : List RRset → Type 0
 StandOnce sets = (before back : List RRset) (s : RRset) → sets ≡ before ++ s ∷ back → IsFalse (list_any (repeats s) before)
 

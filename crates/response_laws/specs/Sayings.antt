@@ -9,7 +9,7 @@ use Rattle.zone_proto.specs.Sets.{RRset}
 use Rattle.zone_proto.specs.Types.{NS, CNAME, SOA, RRSIG, ANY}
 use Rattle.zone_map.specs.Chains.{cname_target}
 use Rattle.zone_map.specs.Zones.{IsZone}
-use Rattle.zone_response.specs.Paths.{is_told_by, path}
+use Rattle.zone_response.specs.Paths.{is_sought, path}
 use Rattle.zone_response.specs.Queries.{Zone, Query, HasOwnDenials, inquiry}
 use Rattle.zone_response.specs.Responses.{bare, yx_domain}
 use Rattle.zone_response.specs.Sections.{Sections}
@@ -58,7 +58,7 @@ pub data Passage : Type 0 where
 abbrev pub passage : ℕ → Name → RRset → Passage
 passage t x s = cond (renames x s) passed (option_map_or leads_on (leads_to t x s) stays)
 
--- the last name of an answer section, with the sets that stand behind the aliases to it
+-- the last name of an answer section, with the sets that come after the aliases to it
 pub record LastName : Type 0 where
   pub name : Name
   pub sets : List RRset
@@ -92,7 +92,7 @@ is_answer t x s = same_name s.owner x && (is_of t s || (t == ANY) || (t == RRSIG
 
 -- without error: one set behind the aliases to x is the answer; or with none there, one that was passed, of all these
 abbrev pub without_error : ℕ → List RRset → Name → List RRset → List RRset → Option Saying
-without_error t answers x [] authorities = cond (list_any (is_told_by t x) answers) (Some (data_of x)) (unanswered x authorities)
+without_error t answers x [] authorities = cond (list_any (is_sought t x) answers) (Some (data_of x)) (unanswered x authorities)
 without_error t answers x (s ∷ []) authorities = cond (is_answer t x s) (Some (data_of x)) None
 without_error t answers x (s ∷ (r ∷ sets)) authorities = None
 

@@ -5,7 +5,7 @@ use Rattle.zone_proto.specs.declared.rdata.denial.NSEC3PARAM.{NSEC3PARAM as Nsec
 use Rattle.zone_proto.specs.Types.{NSEC, NSEC3}
 use Rattle.zone_denial.specs.NsecLaws.{IsNsecZone}
 use Rattle.zone_denial.specs.Nsec3Zones.{IsNsec3Zone}
-use Rattle.zone_denial.specs.StarLaws.{OwnsNone}
+use Rattle.zone_denial.specs.WildcardLaws.{OwnsNone}
 use Rattle.zone_response.specs.Queries.{Zone}
 use Rattle.response_laws.specs.HashedSayings.{zone_hash, DeniesByNsec3}
 use Rattle.response_laws.specs.ProvedSayings.{IsUnreferred, DeniesByNsec}

@@ -1,5 +1,5 @@
-//! What a whole response proves to who asked: the responses of `zone_response`, laid beside the judgement of `denial_validation`,
-//! which knows no zone.
+//! What a whole response proves to whoever asked: the responses of `zone_response`, compared with the judgement of
+//! `denial_validation`, which has no zone.
 #![tactic(auto)]
 
 pub mod laws;

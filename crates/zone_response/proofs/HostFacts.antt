@@ -1,4 +1,4 @@
--- The hosts of a set, record after record; and those of a set as it goes out
+-- The hosts of a set, record after record; and those of a set as it is sent
 use Rattle.std.proofs.Common.{◌≡◌, ℕ, zero, suc, ◌||◌, Bool, true, false, cond, List, [], ◌∷◌, ◌++◌, map, take, ◌⊎◌, inl, inr, refl, sym, ap, ◌∙◌}
 use Rattle.std.specs.Prelude.{◌==◌, flat_map, fold, Result, OnOk}
 use Rattle.std.specs.Cmp.{both_ways}
@@ -53,7 +53,7 @@ enough names k rs whole e h = sym (ap (λ k. hosts_from names k rs) e) ∙ h
 pub passed : (names after : List Name) (k j : ℕ) (s t : List Record) (r : Record) (whole : List Name) → s ≡ r ∷ t → k ≡ suc j → after ≡ with_host names r → hosts_from names k s ≡ whole → hosts_from after j t ≡ whole
 passed names after k j s t r whole e d a h = ap (λ ns. hosts_from ns j t) a ∙ sym ((λ i. hosts_from names (d i) (e i))) ∙ h
 
--- ---- as a set goes out
+-- ---- as a set is sent
 
 named : (ttl k : ℕ) (names : List Name) (rs : List Record) → fold with_host names (take k (map (with_ttl ttl) rs)) ≡ fold with_host names (take k rs)
 named ttl zero names rs = refl
@@ -61,7 +61,7 @@ named ttl (suc k) names [] = refl
 named ttl (suc k) names (r ∷ rs) = named ttl k (with_host names r) rs
 
 module _ (origin : Name) (m : Sets) (signed : Bool) (p : Part) (ttl : ℕ) (s t : RRset) (same : t ≡ s) where
-  -- beside a set as it goes out stands what stands beside the set, if its records go
+  -- beside a set as it is sent stands what is beside the set, if its records go
   pub beside_sent : (p ≡ part.Records) ⊎ (p ≡ part.Signed) → beside origin m signed t ≡ beside origin m signed (sent p ttl s)
   beside_sent (inl is) =
       ap (beside origin m signed) same

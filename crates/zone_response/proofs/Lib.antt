@@ -1,8 +1,7 @@
 pub mod NameTests
 pub mod StarWalk
 pub mod TurnWalk
-pub mod PassedNames
-pub mod WaysDown
+pub mod NextKeys
 pub mod NodeCases
 pub mod StandInFacts
 pub mod StepCases

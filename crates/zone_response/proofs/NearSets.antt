@@ -13,9 +13,9 @@ use Rattle.zone_proto.proofs.Ordering.Orders.{upto_cases, upto_before}
 use Rattle.zone_map.specs.Zones.{Sets}
 use Rattle.zone_map.proofs.Putting.{sorted_filter}
 use Rattle.zone_response.specs.NodeSets.{sets_from, IsFromSome}
-use Rattle.zone_response.proofs.PassedNames.{key_order}
+use Rattle.zone_response.proofs.NextKeys.{key_order}
 
--- a key that isn't at or after another stands before it
+-- a key that isn't at or after another comes before it
 pub less_from : (o : Ordering) → is_ge o ≡ false → o ≡ Less
 less_from Less h = refl
 less_from Equal h = cc

@@ -35,7 +35,7 @@ module _ (m : Sets) (x : Name) (t : ℕ) where
       whole None = refl
       whole (Some s) = ap (λ b. cond b (cond (is_signed s) (Some s) None) (Some s)) (sym (second (t == ANY) (t == RRSIG) e))
 
-  -- ---- what stands first
+  -- ---- what comes first
 
   pub own_first : (s : RRset) → Some s ≡ asked_set m x t → own s ≡ at_node m x t
   own_first s e = ap (λ (o : Option RRset). first_of o (set_at m x CNAME) (stand_in_set m x t)) e

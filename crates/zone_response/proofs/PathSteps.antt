@@ -4,7 +4,7 @@ use Rattle.std.specs.List.{list_any}
 use Rattle.std.proofs.lemmas.List.{append-nil}
 use Rattle.zone_proto.specs.Names.{Name, name_eq}
 use Rattle.zone_proto.specs.Sets.{RRset}
-use Rattle.zone_response.specs.Paths.{Path, ended, behind, unless_told, next_behind, searched, path_from, path}
+use Rattle.zone_response.specs.Paths.{Path, ended, behind, unless_answered, next_behind, searched, path_from, path}
 use Rattle.zone_response.specs.Queries.{Inquiry}
 use Rattle.zone_response.specs.Steps.{End, unfollowed, Next, on, ends, step}
 
@@ -50,8 +50,8 @@ module _ (q : Inquiry) where
             ∙ sym (ap (behind a n) (unseen k j seen a x more new)) ∙ left
 
         -- what comes next, behind the sets that the step adds
-        pub told : (n w : Next) → n ≡ unless_told q.record_type b w → w ≡ (step q a x).next → n ≡ next_behind q a x
-        told n w is next = is ∙ (λ i. unless_told q.record_type (sets i) (next i))
+        pub told : (n w : Next) → n ≡ unless_answered q.record_type b w → w ≡ (step q a x).next → n ≡ next_behind q a x
+        told n w is next = is ∙ (λ i. unless_answered q.record_type (sets i) (next i))
 
         pub goes_on : (target : Name) (also : List Name) → on target ≡ next_behind q a x → also ≡ seen ++ x ∷ [] → behind b o (path_from q j also b target) ≡ whole
         goes_on target also next e =

@@ -5,15 +5,15 @@ use Rattle.std.specs.Option.{option_map_or}
 use Rattle.zone_proto.specs.declared.error.ProtoError.{ProtoError}
 use Rattle.zone_proto.specs.declared.nx_proof_kind.NxProofKind.{NxProofKind}
 use Rattle.zone_proto.specs.declared.nx_proof_kind.NxProofKind.TheVariants as kind
-use Rattle.zone_proto.specs.Names.{Name, base_name, is_root, star_under}
+use Rattle.zone_proto.specs.Names.{Name, base_name, is_root, wildcard_under}
 use Rattle.zone_handler.specs.declared.lookup_error.LookupError.{LookupError}
 use Rattle.zone_handler.specs.declared.lookup_error.LookupError.TheVariants as error
 use Rattle.zone_handler.specs.declared.nsec3_query_info.Nsec3QueryInfo.{Nsec3QueryInfo}
 use Rattle.zone_map.specs.Wildcards.{closest_encloser}
 use Rattle.zone_denial.specs.Nsec3Lent.{hashed_for}
 use Rattle.zone_denial.specs.NsecDenial.{closest_nsec}
-use Rattle.zone_response.specs.Denials.{hashed_owner_of, star_proof_by, star_hashed_by, denial_by, denial_hashed_by, have_owners_by}
-use Rattle.zone_response.specs.HashedDenials.{star_sets, star_hashed, absent_sets, absent_hashed, present_sets, present_hashed, hashed_by, have_owners, unless_root, AsksByHash}
+use Rattle.zone_response.specs.Denials.{hashed_owner_of, wildcard_proof_by, wildcard_hashed_by, denial_by, denial_hashed_by, have_owners_by}
+use Rattle.zone_response.specs.HashedDenials.{wildcard_sets, wildcard_hashed, absent_sets, absent_hashed, present_sets, present_hashed, hashed_by, have_owners, unless_root, AsksByHash}
 use Rattle.zone_response.specs.Queries.{Zone}
 use Rattle.zone_response.proofs.ProvableWalk.{front_had, both_have, front_lacks, rest_lacks}
 
@@ -24,7 +24,7 @@ pub raised : {A E : Type 0} (r : Result A E) (P : E → Type 0) (e : E) → IsEr
 raised (Ok a) P e h p = tt
 raised (Err k) P e h p = subst P (sym h) p
 
--- want of memory, or a refusal from which another comes
+-- lack of memory, or a refusal from which another comes
 pub or_refused : {X Y : Type 0} (e : LookupError) → (X → Y) → (e ≡ error.Memory) ⊎ X → (e ≡ error.Memory) ⊎ Y
 or_refused e goes (inl memory) = inl memory
 or_refused e goes (inr refused) = inr (goes refused)
@@ -36,42 +36,42 @@ abbrev pub hash_in : Zone → Nsec3QueryInfo → Name → Result Name ProtoError
 hash_in z q = hashed_for z.origin z.digest_of q
 
 module _ (z : Zone) (x : Name) where
-  -- a star under the closest encloser
-  pub star_is : (star : Name) → Some star ≡ option_map star_under (closest_encloser z.sets x) → closest_encloser z.sets x ≡ Some (base_name star)
+  -- a wildcard at the closest encloser
+  pub star_is : (star : Name) → Some star ≡ option_map wildcard_under (closest_encloser z.sets x) → closest_encloser z.sets x ≡ Some (base_name star)
   star_is star e = by (closest_encloser z.sets x) e
     where
-      by : (o : Option Name) → Some star ≡ option_map star_under o → o ≡ Some (base_name star)
+      by : (o : Option Name) → Some star ≡ option_map wildcard_under o → o ≡ Some (base_name star)
       by None e = cc
-      by (Some a) e = ap Some (sym (ap base_name (same star (star_under a) e)))
+      by (Some a) e = ap Some (sym (ap base_name (same star (wildcard_under a) e)))
         where
           same : (n k : Name) → Some n ≡ Some k → n ≡ k
           same n k e = cc
 
-  pub no_star_is : None ≡ option_map star_under (closest_encloser z.sets x) → closest_encloser z.sets x ≡ None
+  pub no_star_is : None ≡ option_map wildcard_under (closest_encloser z.sets x) → closest_encloser z.sets x ≡ None
   no_star_is e = by (closest_encloser z.sets x) e
     where
-      by : (o : Option Name) → None ≡ option_map star_under o → o ≡ None
+      by : (o : Option Name) → None ≡ option_map wildcard_under o → o ≡ None
       by None e = refl
       by (Some a) e = cc
 
-  pub not_root : (star : Name) (o : Option Name) → Some star ≡ option_map star_under o → is_root star ≡ false
+  pub not_root : (star : Name) (o : Option Name) → Some star ≡ option_map wildcard_under o → is_root star ≡ false
   not_root star None e = cc
   not_root [] (Some a) e = cc
   not_root (l ∷ ls) (Some a) e = refl
 
-  -- for a name for which a star answered
+  -- for a name for which a wildcard answered
   pub starred_by_hash : (k : Option NxProofKind) (q : Nsec3QueryInfo) → AsksByHash k x (Some q)
-      → option_map_or (star_sets z.origin z.denials (hashed_by (hash_in z q)) q.qname.now) (closest_encloser z.sets x) [] ≡ star_proof_by z k x
+      → option_map_or (wildcard_sets z.origin z.denials (hashed_by (hash_in z q)) q.qname.now) (closest_encloser z.sets x) [] ≡ wildcard_proof_by z k x
   starred_by_hash None q h = cc
   starred_by_hash (Some kind.Nsec) q h = cc
   starred_by_hash (Some (kind.Nsec3 algorithm salt iterations opt_out)) q h =
-      λ i. option_map_or (star_sets z.origin z.denials (hashed_by (hashed_owner_of z (h.algorithm i) (h.salt i) (h.iterations i))) (h.name i)) (closest_encloser z.sets x) []
+      λ i. option_map_or (wildcard_sets z.origin z.denials (hashed_by (hashed_owner_of z (h.algorithm i) (h.salt i) (h.iterations i))) (h.name i)) (closest_encloser z.sets x) []
 
   pub star_names_by_hash : (k : Option NxProofKind) (q : Nsec3QueryInfo) → AsksByHash k x (Some q)
-      → option_map_or (star_hashed q.qname.now) (closest_encloser z.sets x) [] ≡ star_hashed_by z k x
+      → option_map_or (wildcard_hashed q.qname.now) (closest_encloser z.sets x) [] ≡ wildcard_hashed_by z k x
   star_names_by_hash None q h = cc
   star_names_by_hash (Some kind.Nsec) q h = cc
-  star_names_by_hash (Some (kind.Nsec3 algorithm salt iterations opt_out)) q h = λ i. option_map_or (star_hashed (h.name i)) (closest_encloser z.sets x) []
+  star_names_by_hash (Some (kind.Nsec3 algorithm salt iterations opt_out)) q h = λ i. option_map_or (wildcard_hashed (h.name i)) (closest_encloser z.sets x) []
 
   pub owners_by_hash : (k : Option NxProofKind) (q : Nsec3QueryInfo) → AsksByHash k x (Some q) → (names : List Name) → have_owners (hash_in z q) names ≡ have_owners_by z k names
   owners_by_hash None q h names = cc
@@ -83,7 +83,7 @@ module _ (z : Zone) (x : Name) where
   owners_by_name (Some kind.Nsec) h names = refl
   owners_by_name (Some (kind.Nsec3 algorithm salt iterations opt_out)) h names = absurd h
 
-  pub starred_by_name : (k : Option NxProofKind) → AsksByHash k x None → star_proof_by z k x ≡ option_to_list (closest_nsec z.denials x)
+  pub starred_by_name : (k : Option NxProofKind) → AsksByHash k x None → wildcard_proof_by z k x ≡ option_to_list (closest_nsec z.denials x)
   starred_by_name None h = refl
   starred_by_name (Some kind.Nsec) h = refl
   starred_by_name (Some (kind.Nsec3 algorithm salt iterations opt_out)) h = absurd h

@@ -3,7 +3,7 @@ use Rattle.std.proofs.Common.{◌≡◌, ℕ, true, false, [], ◌∷◌, ◌++�
 use Rattle.std.specs.Prelude.{Option, Some, None, Result, Ok, IsErr, IfSome, option_and_then, option_map, option_to_list}
 use Rattle.std.specs.Option.{option_or}
 use Rattle.zone_proto.specs.declared.error.ProtoError.{ProtoError}
-use Rattle.zone_proto.specs.Names.{Name, base_name, is_root, star_under, wildcard_of}
+use Rattle.zone_proto.specs.Names.{Name, base_name, is_root, wildcard_under, wildcard_of}
 use Rattle.zone_proto.specs.Sets.{RRset}
 use Rattle.zone_proto.specs.Types.{NSEC3}
 use Rattle.zone_map.specs.Zones.{Sets, set_at}
@@ -11,12 +11,12 @@ use Rattle.zone_denial.specs.Nsec3Denial.{cover_owner}
 use Rattle.zone_denial.specs.Nsec3Lent.{owner_cmp}
 use Rattle.zone_denial.specs.TypeLists.{in_order}
 use Rattle.zone_response.specs.declared.hashed_denials.HashedName.{HashedName}
-use Rattle.zone_response.specs.HashedDenials.{owner_given, hashed_by, have_owners, matching, covering, closer_set, star_set, of_labels, next_closer, star_hashed, below_hashed, absent_below, left_out_sets}
+use Rattle.zone_response.specs.HashedDenials.{owner_given, hashed_by, have_owners, matching, covering, closer_set, wildcard_set, of_labels, next_closer, wildcard_hashed, below_hashed, absent_below, left_out_sets}
 use Rattle.zone_response.proofs.LabelCounts.{closer_is}
 use Rattle.zone_response.proofs.ProvableWalk.{first_had, first_refused, both_have, front_lacks, rest_lacks}
 
--- the star under the parent of a name
-pub star_is : (c : Name) → is_root c ≡ false → wildcard_of c ≡ star_under (base_name c)
+-- the wildcard at the parent of a name
+pub star_is : (c : Name) → is_root c ≡ false → wildcard_of c ≡ wildcard_under (base_name c)
 star_is [] h = absurd (true≢false h)
 star_is (l ∷ a) h = refl
 
@@ -30,24 +30,24 @@ module _ (hash : Name → Result Name ProtoError) where
   one_had (Some c) next e h = ap (λ o. have_owners hash (option_to_list o)) (sym e) ∙ first_had hash c.name c.owner [] h
 
   module _ (x c : Name) (count : ℕ) (below : is_root c ≡ false) (long : count ≡ length c) where
-    pub closer_had : (closer : Option HashedName) → option_map (λ h. h.name) closer ≡ of_labels count x → IfSome closer IsHashed → have_owners hash (star_hashed x (base_name c)) ≡ true
+    pub closer_had : (closer : Option HashedName) → option_map (λ h. h.name) closer ≡ of_labels count x → IfSome closer IsHashed → have_owners hash (wildcard_hashed x (base_name c)) ≡ true
     closer_had closer e h = one_had closer (next_closer x (base_name c)) (e ∙ closer_is x c count below long) h
 
-    pub closer_lacks : have_owners hash (option_to_list (of_labels count x)) ≡ false → have_owners hash (star_hashed x (base_name c)) ≡ false
+    pub closer_lacks : have_owners hash (option_to_list (of_labels count x)) ≡ false → have_owners hash (wildcard_hashed x (base_name c)) ≡ false
     closer_lacks h = sym (ap (λ o. have_owners hash (option_to_list o)) (closer_is x c count below long)) ∙ h
 
     pub below_had : (closer : Option HashedName) (w owner : Name) → option_map (λ h. h.name) closer ≡ of_labels count x → IfSome closer IsHashed → w ≡ wildcard_of c → hash w ≡ Ok owner → have_owners hash (below_hashed x (base_name c)) ≡ true
     below_had closer w owner e h is k =
-        both_have hash (star_hashed x (base_name c)) (star_under (base_name c) ∷ []) (closer_had closer e h)
-        (first_had hash (star_under (base_name c)) owner [] (ap hash (sym (is ∙ star_is c below)) ∙ k))
+        both_have hash (wildcard_hashed x (base_name c)) (wildcard_under (base_name c) ∷ []) (closer_had closer e h)
+        (first_had hash (wildcard_under (base_name c)) owner [] (ap hash (sym (is ∙ star_is c below)) ∙ k))
 
     pub below_lacks_closer : have_owners hash (option_to_list (of_labels count x)) ≡ false → have_owners hash (below_hashed x (base_name c)) ≡ false
-    below_lacks_closer h = front_lacks hash (star_hashed x (base_name c)) (star_under (base_name c) ∷ []) (closer_lacks h)
+    below_lacks_closer h = front_lacks hash (wildcard_hashed x (base_name c)) (wildcard_under (base_name c) ∷ []) (closer_lacks h)
 
     pub below_lacks_star : (w : Name) → w ≡ wildcard_of c → IsErr (hash w) → have_owners hash (below_hashed x (base_name c)) ≡ false
     below_lacks_star w is h =
-        rest_lacks hash (star_hashed x (base_name c)) (star_under (base_name c) ∷ [])
-        (first_refused hash (star_under (base_name c)) [] (subst (λ n. IsErr (hash n)) (is ∙ star_is c below) h))
+        rest_lacks hash (wildcard_hashed x (base_name c)) (wildcard_under (base_name c) ∷ [])
+        (first_refused hash (wildcard_under (base_name c)) [] (subst (λ n. IsErr (hash n)) (is ∙ star_is c below) h))
 
   -- ---- the sets
 
@@ -76,5 +76,5 @@ module _ (hash : Name → Result Name ProtoError) where
             → in_order owner_cmp (option_to_list (Some set) ++ option_to_list cover ++ option_to_list star) ≡ absent_below origin m hashed x (base_name c)
         absent_is w owner star is e stands = λ i. in_order owner_cmp (option_to_list (sym matched i) ++ option_to_list (closer_set_is i) ++ option_to_list (star_set_is i))
           where
-            star_set_is : star ≡ star_set origin m hashed (base_name c)
+            star_set_is : star ≡ wildcard_set origin m hashed (base_name c)
             star_set_is = stands ∙ ap (λ r. option_or (set_at m (owner_given r) NSEC3) (option_and_then (λ o. set_at m o NSEC3) (cover_owner m (owner_given r)))) (sym e ∙ ap hash (is ∙ star_is c below))

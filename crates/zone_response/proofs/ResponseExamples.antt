@@ -7,7 +7,7 @@ use Rattle.zone_proto.specs.declared.rdata.RData.TheVariants as V
 use Rattle.zone_proto.specs.declared.record.Record.{Record}
 use Rattle.zone_proto.specs.declared.response_code.ResponseCode.TheVariants as code
 use Rattle.zone_proto.specs.Keys.{key}
-use Rattle.zone_proto.specs.Names.{Name, star_under}
+use Rattle.zone_proto.specs.Names.{Name, wildcard_under}
 use Rattle.zone_proto.specs.Sets.{RRset}
 use Rattle.zone_proto.specs.Types.{A, NS, SOA, CNAME, TXT, DS, RRSIG, NSEC, NSEC3, IN}
 use Rattle.zone_map.specs.Zones.{Sets}
@@ -16,7 +16,7 @@ use Rattle.zone_response.specs.Queries.{Zone, Query}
 use Rattle.zone_response.specs.Responses.{bare, IsResponse}
 use Rattle.zone_response.specs.Sections.{Sections}
 
--- ---- the zone example: an alias that leads to no name, an unsigned and a signed child, a star, and a host
+-- ---- the zone example: an alias that leads to no name, an unsigned and a signed child, a wildcard, and a host
 
 abbrev example : Name
 example = codes "example" ∷ []
@@ -31,7 +31,7 @@ abbrev server : Name
 server = codes "ns" ∷ unsigned_child
 
 abbrev star : Name
-star = star_under (under (codes "w"))
+star = wildcard_under (under (codes "w"))
 
 abbrev record_of : Name → ℕ → RData → Record
 record_of n ttl d = record { name = n; dns_class = record { 0 = IN }; ttl = ttl; rdata = d }
@@ -122,12 +122,14 @@ of_host : IsResponse zone (asked (under (codes "www")) A) (sections true (host [
 unfolding path
 of_host = record { code = refl; authoritative = refl; answers = refl; authorities = refl; additionals = refl; glue = refl; left_at = refl }
 
--- the star answers with its text and signature under the name, and the NSEC set says that it may (RFC 4035 section 3.1.3.3)
-of_star : IsResponse zone (asked (codes "q" ∷ under (codes "w")) TXT) (sections true (record (signed 3600 (codes "q" ∷ under (codes "w")) TXT 2 text) { serial = 0 } ∷ []) (star_nsec 300 ∷ []) [] [])
+-- the wildcard answers with its text and signature under the name, and the NSEC set says that it may (RFC 4035 section
+-- 3.1.3.3)
+of_wildcard : IsResponse zone (asked (codes "q" ∷ under (codes "w")) TXT) (sections true (record (signed 3600 (codes "q" ∷ under (codes "w")) TXT 2 text) { serial = 0 } ∷ []) (star_nsec 300 ∷ []) [] [])
 unfolding path
-of_star = record { code = refl; authoritative = refl; answers = refl; authorities = refl; additionals = refl; glue = refl; left_at = refl }
+of_wildcard = record { code = refl; authoritative = refl; answers = refl; authorities = refl; additionals = refl; glue = refl; left_at = refl }
 
--- the code is that of the alias's target, which isn't there (RFC 6604 section 3); the SOA has its minimum as TTL, and the NSEC sets deny the target and the star
+-- the code is that of the alias's target, which isn't there (RFC 6604 section 3); the SOA has its minimum as TTL, and
+-- the NSEC sets deny the target and the wildcard
 along_alias : IsResponse zone (asked (under (codes "a")) A) (record { code = code.NXDomain; authoritative = true; answers = alias ∷ []; authorities = soa 300 ∷ signed_child_nsec 300 ∷ first_nsec 300 ∷ []; additionals = []; glue = []; left_at = None })
 unfolding path
 along_alias = record { code = refl; authoritative = refl; answers = refl; authorities = refl; additionals = refl; glue = refl; left_at = refl }
@@ -139,12 +141,12 @@ of_missing : IsResponse zone (asked (codes "x" ∷ under (codes "no")) A) (recor
 unfolding path
 of_missing = record { code = refl; authoritative = refl; answers = refl; authorities = refl; additionals = refl; glue = refl; left_at = refl }
 
--- an empty name is there (RFC 4592 section 2.2.2)
+-- an empty non-terminal is there (RFC 4592 section 2.2.2)
 of_empty_name : IsResponse zone (asked (under (codes "w")) A) (sections true [] (soa 300 ∷ signed_child_nsec 300 ∷ []) [] [])
 unfolding path
 of_empty_name = record { code = refl; authoritative = refl; answers = refl; authorities = refl; additionals = refl; glue = refl; left_at = refl }
 
--- no data by the star: one set says both that the name isn't there and what the star has, and stands once
+-- no data by the wildcard: one set says both that the name isn't there and what the wildcard has, and appears once
 of_star_without_data : IsResponse zone (asked (codes "q" ∷ under (codes "w")) A) (sections true [] (soa 300 ∷ star_nsec 300 ∷ []) [] [])
 unfolding path
 of_star_without_data = record { code = refl; authoritative = refl; answers = refl; authorities = refl; additionals = refl; glue = refl; left_at = refl }
@@ -166,7 +168,7 @@ below_unsigned_child : IsResponse zone (asked (codes "x" ∷ unsigned_child) A) 
 unfolding path
 below_unsigned_child = record { code = refl; authoritative = refl; answers = refl; authorities = refl; additionals = refl; glue = refl; left_at = refl }
 
--- the DS set of a signed child; its server stands in the other child, so that its address may go
+-- the DS set of a signed child; its server is in the other child, so that its address may go
 below_signed_child : IsResponse zone (asked (under (codes "c")) A) (sections false [] (signed_child_servers ∷ digest ∷ []) (glue ∷ []) [])
 unfolding path
 below_signed_child = record { code = refl; authoritative = refl; answers = refl; authorities = refl; additionals = refl; glue = refl; left_at = refl }
@@ -223,7 +225,7 @@ hashed_sets =
 abbrev hashed_zone : ℕ → Zone
 hashed_zone algorithm = record { origin = example; sets = hashed_sets; denials = hashed_sets; nx_proof_kind = Some (kind.Nsec3 algorithm [] 0 true); digest_of = λ algorithm salt n iterations. cond (algorithm == 1) (Some (octets n ∷ [])) None; sign = λ signed s. [] }
 
--- a name error: one set matches the closest encloser, and covers the name, of 9 octets, and the star, of 8
+-- a name error: one set matches the closest encloser, and covers the name, of 9 octets, and the wildcard, of 8
 abbrev hashed_absence : Sections
 hashed_absence = record { code = code.NXDomain; authoritative = true; answers = []; authorities = soa 300 ∷ of_apex 300 ∷ []; additionals = []; glue = []; left_at = None }
 

@@ -1,4 +1,4 @@
--- Lists of sets that are lent or go out
+-- Lists of sets that are lent or are sent
 use Rattle.std.proofs.Common.{Bor, ◌≡◌, ℕ, zero, suc, ◌||◌, ◌-◌, ◌<◌, Bool, true, false, cond, List, [], ◌∷◌, ◌++◌, map, filter, length, get_or, refl, sym, ap, ◌∙◌, ◌⊎◌, inl, inr, append_assoc, arith}
 use Rattle.std.specs.Prelude.{Option, Some, None, slice_get, option_map, option_to_list}
 use Rattle.std.specs.List.{list_any, cons_option}
@@ -33,7 +33,7 @@ module _ (sets : List (Bor RRset)) (s : Bor RRset) where
       → map (λ (b : Bor RRset). b.now) new ≡ with_new same_owner (map (λ (b : Bor RRset). b.now) sets) s.now
   listed_last new e is = ap (map (λ (b : Bor RRset). b.now)) is ∙ map-append (λ (b : Bor RRset). b.now) sets (s ∷ []) ∙ with_test false e
 
--- ---- sets that go out
+-- ---- sets that are sent
 
 -- the last one
 pub last_sent : (sets : List Sent) → last_set (map sent_set sets) ≡ option_map sent_set (slice_get sets (length sets - 1))
@@ -61,9 +61,9 @@ passes_among p [] i item lt e h = absurd (omega (arith, lt))
 passes_among p (x ∷ sets) zero item lt e h = ap (λ b. b || list_any p (map sent_set sets)) (ap (λ (y : Sent). p (sent_set y)) (sym e) ∙ h)
 passes_among p (x ∷ sets) (suc i) item lt e h = ap (λ b. p (sent_set x) || b) (passes_among p sets i item (omega (arith, lt)) e h) ∙ any_or (p (sent_set x))
 
--- ---- signatures that go out
+-- ---- signatures that are sent
 
--- a set that goes out with its signatures has one that covers its type, if the set has
+-- a set that is sent with its signatures has one that covers its type, if the set has
 module _ (ttl : ℕ) (s : RRset) where
   abbrev covers_type : Record → Bool
   covers_type r = covers s.record_type r.rdata

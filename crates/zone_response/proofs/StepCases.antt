@@ -10,9 +10,9 @@ use Rattle.zone_response.specs.declared.steps.SoFar.{SoFar}
 use Rattle.zone_response.specs.Nodes.{AtNode, at_node}
 use Rattle.zone_response.specs.Queries.{Inquiry}
 use Rattle.zone_response.specs.Sections.{sent_sets}
-use Rattle.zone_response.specs.Wildcards.{star_of}
-use Rattle.zone_response.specs.Steps.{End, missing, outside, ends, Step, at_end, node_step, step_at, star_step, name_step, turned_step, step, next_of, Takes}
-use Rattle.zone_response.specs.Descent.{Turn, turn}
+use Rattle.zone_response.specs.Wildcards.{source_of_synthesis}
+use Rattle.zone_response.specs.Steps.{End, missing, outside, ends, Step, at_end, node_step, step_at, wildcard_step, name_step, diverted_step, step, next_of, Takes}
+use Rattle.zone_response.specs.Descent.{Diversion, diversion}
 
 -- ---- what is taken of a step
 
@@ -30,25 +30,25 @@ same_step result before after s t e h = subst (λ u. IfOk result (λ next. Takes
 module _ (q : Inquiry) (x : Name) where
   module _ (before : List RRset) where
     pub outside_step : is_at_or_above q.origin x ≡ false → step q before x ≡ at_end (outside x)
-    outside_step h = ap (λ b. cond b (turned_step q before x (turn q.origin q.sets x q.record_type)) (at_end (outside x))) h
+    outside_step h = ap (λ b. cond b (diverted_step q before x (diversion q.origin q.sets x q.record_type)) (at_end (outside x))) h
 
-    pub inside_step : (o : Option Turn) → is_at_or_above q.origin x ≡ true → o ≡ turn q.origin q.sets x q.record_type → step q before x ≡ turned_step q before x o
+    pub inside_step : (o : Option Diversion) → is_at_or_above q.origin x ≡ true → o ≡ diversion q.origin q.sets x q.record_type → step q before x ≡ diverted_step q before x o
     inside_step o h e =
-        ap (λ b. cond b (turned_step q before x (turn q.origin q.sets x q.record_type)) (at_end (outside x))) h
-        ∙ ap (turned_step q before x) (sym e)
+        ap (λ b. cond b (diverted_step q before x (diversion q.origin q.sets x q.record_type)) (at_end (outside x))) h
+        ∙ ap (diverted_step q before x) (sym e)
 
   at_a : (star : Option Name) (a : Name) (node : AtNode) → node ≡ at_node q.sets a q.record_type → step_at q star x a ≡ node_step q star x node
   at_a star a node e = ap (node_step q star x) (sym e)
 
   pub own_step : (node : AtNode) → exists q.sets x ≡ true → node ≡ at_node q.sets x q.record_type → name_step q x ≡ node_step q None x node
-  own_step node h e = ap (λ b. cond b (step_at q None x x) (star_step q x (star_of q.sets x))) h ∙ at_a None x node e
+  own_step node h e = ap (λ b. cond b (step_at q None x x) (wildcard_step q x (source_of_synthesis q.sets x))) h ∙ at_a None x node e
 
-  pub absent_step : (star : Option Name) → exists q.sets x ≡ false → star ≡ star_of q.sets x → name_step q x ≡ star_step q x star
-  absent_step star h e = ap (λ b. cond b (step_at q None x x) (star_step q x (star_of q.sets x))) h ∙ ap (star_step q x) (sym e)
+  pub absent_step : (star : Option Name) → exists q.sets x ≡ false → star ≡ source_of_synthesis q.sets x → name_step q x ≡ wildcard_step q x star
+  absent_step star h e = ap (λ b. cond b (step_at q None x x) (wildcard_step q x (source_of_synthesis q.sets x))) h ∙ ap (wildcard_step q x) (sym e)
 
   pub starred_step : (star : Name) (node : AtNode) → exists q.sets star ≡ true → node ≡ at_node q.sets star q.record_type
-      → star_step q x (Some star) ≡ node_step q (Some star) x node
+      → wildcard_step q x (Some star) ≡ node_step q (Some star) x node
   starred_step star node h e = ap (λ b. cond b (step_at q (Some star) x star) (at_end (missing x (Some star) false))) h ∙ at_a (Some star) star node e
 
-  pub starless_step : (star : Name) → exists q.sets star ≡ false → star_step q x (Some star) ≡ at_end (missing x (Some star) false)
+  pub starless_step : (star : Name) → exists q.sets star ≡ false → wildcard_step q x (Some star) ≡ at_end (missing x (Some star) false)
   starless_step star h = ap (λ b. cond b (step_at q (Some star) x star) (at_end (missing x (Some star) false))) h

@@ -12,7 +12,7 @@ use Rattle.zone_lookup.specs.Runs.{along}
 use Rattle.zone_response.specs.declared.aname.StandInAnswer.{StandInAnswer as KeptAnswer}
 use Rattle.zone_response.specs.declared.aname.StandInAnswer.TheVariants as kept
 use Rattle.zone_response.specs.Queries.{Inquiry}
-use Rattle.zone_response.specs.Descent.{turn}
+use Rattle.zone_response.specs.Descent.{diversion}
 
 -- ---- where the targets lead
 
@@ -47,7 +47,7 @@ module _ (q : Inquiry) where
 
   -- at a target for which nothing is found: one outside the zone, below a zone cut or below a DNAME isn't told
   abbrev pub at_last_target : Name → StandInAnswer
-  at_last_target n = cond (is_at_or_above q.origin n) (option_map_or (λ turn. untold) (turn q.origin q.sets n q.record_type) no_addresses) untold
+  at_last_target n = cond (is_at_or_above q.origin n) (option_map_or (λ diversion. untold) (diversion q.origin q.sets n q.record_type) no_addresses) untold
 
   -- by the last set along the targets, which may be an alias or an ANAME set itself
   abbrev pub by_last_set : RRset → RRset → StandInAnswer

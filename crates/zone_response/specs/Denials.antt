@@ -11,7 +11,7 @@ use Rattle.zone_map.specs.Wildcards.{closest_encloser}
 use Rattle.zone_denial.specs.NsecDenial.{closest_nsec}
 use Rattle.zone_lookup.specs.Runs.{with_new}
 use Rattle.zone_response.specs.declared.response.Part.TheVariants as part
-use Rattle.zone_response.specs.HashedDenials.{star_sets, absent_sets, present_sets, star_hashed, absent_hashed, present_hashed, hashed_by, have_owners}
+use Rattle.zone_response.specs.HashedDenials.{wildcard_sets, absent_sets, present_sets, wildcard_hashed, absent_hashed, present_hashed, hashed_by, have_owners}
 use Rattle.zone_response.specs.Queries.{Zone}
 use Rattle.zone_response.specs.Sections.{sent}
 use Rattle.zone_response.specs.Steps.{End, referred, missing}
@@ -23,20 +23,23 @@ module _ (z : Zone) where
   abbrev pub hashed_owner_of : ℕ → List ℕ → ℕ → Name → Result Name ProtoError
   hashed_owner_of algorithm salt iterations x = owner_or_refusal z.origin (z.digest_of algorithm salt x iterations)
 
-  -- what proves that a star may answer for a name: the NSEC set that covers the name (RFC 4035 section 3.1.3.3), or the NSEC3 set that covers the next closer name (RFC 5155 section 7.2.6)
-  abbrev pub star_proof_by : Option NxProofKind → Name → List RRset
-  star_proof_by (Some (kind.Nsec3 algorithm salt iterations opt_out)) x =
-      option_map_or (star_sets z.origin z.denials (hashed_by (hashed_owner_of algorithm salt iterations)) x) (closest_encloser z.sets x) []
-  star_proof_by _ x = option_to_list (closest_nsec z.denials x)
+  -- what proves that a wildcard may answer for a name: the NSEC set that covers the name (RFC 4035 section 3.1.3.3), or
+  -- the NSEC3 set that covers the next closer name (RFC 5155 section 7.2.6)
+  abbrev pub wildcard_proof_by : Option NxProofKind → Name → List RRset
+  wildcard_proof_by (Some (kind.Nsec3 algorithm salt iterations opt_out)) x =
+      option_map_or (wildcard_sets z.origin z.denials (hashed_by (hashed_owner_of algorithm salt iterations)) x) (closest_encloser z.sets x) []
+  wildcard_proof_by _ x = option_to_list (closest_nsec z.denials x)
 
-  -- what proves that a name, and the star that was asked for it, hasn't what is asked for: by NSEC, the sets of these, which list what they own, or else those that cover them (RFC 4035 sections 3.1.3.1, 3.1.3.2 and 3.1.3.4). A star stands under the closest encloser
+  -- what proves that a name, and the wildcard that was asked for it, hasn't what is asked for: by NSEC, the sets of
+  -- these, which list what they own, or else those that cover them (RFC 4035 sections 3.1.3.1, 3.1.3.2 and 3.1.3.4). A
+  -- wildcard is under the closest encloser
   abbrev pub denial_by : Option NxProofKind → Name → Option Name → List RRset
   denial_by (Some (kind.Nsec3 algorithm salt iterations opt_out)) x (Some (star ∷ encloser)) = absent_sets z.origin z.denials (hashed_by (hashed_owner_of algorithm salt iterations)) x encloser
   denial_by (Some (kind.Nsec3 algorithm salt iterations opt_out)) x _ = present_sets z.origin z.denials (hashed_by (hashed_owner_of algorithm salt iterations)) x
   denial_by _ x star = option_to_list (closest_nsec z.denials x) ++ option_to_list (option_and_then (closest_nsec z.denials) star)
 
-  abbrev pub star_proof : Name → List RRset
-  star_proof = star_proof_by z.nx_proof_kind
+  abbrev pub wildcard_proof : Name → List RRset
+  wildcard_proof = wildcard_proof_by z.nx_proof_kind
 
   abbrev pub denial : Name → Option Name → List RRset
   denial = denial_by z.nx_proof_kind
@@ -57,15 +60,15 @@ same_owner r s = same_name r.owner s.owner
 abbrev pub together : List RRset → List RRset → List RRset
 together sets more = fold (with_new same_owner) sets more
 
--- sets, and those that prove that a star may answer for a name
-abbrev pub with_star_proof : Zone → List RRset → Name → List RRset
-with_star_proof z sets x = together sets (star_proof z x)
+-- sets, and those that prove that a wildcard may answer for a name
+abbrev pub with_wildcard_proof : Zone → List RRset → Name → List RRset
+with_wildcard_proof z sets x = together sets (wildcard_proof z x)
 
--- the sets that prove that a star may answer for each name for which one did, and what the end says
+-- the sets that prove that a wildcard may answer for each name for which one did, and what the end says
 abbrev pub proofs : Zone → Option RRset → List Name → End → List RRset
-proofs z ds made end = together (fold (with_star_proof z) [] made) (end_proof z ds end)
+proofs z ds made end = together (fold (with_wildcard_proof z) [] made) (end_proof z ds end)
 
--- such a set goes out with the lesser of its TTL and of that of a negative response (RFC 9077 section 3)
+-- such a set is sent with the lesser of its TTL and of that of a negative response (RFC 9077 section 3)
 abbrev pub sent_proof : ℕ → RRset → RRset
 sent_proof ttl s = sent part.Signed (min s.ttl ttl) s
 
@@ -77,10 +80,10 @@ module _ (z : Zone) where
   have_owners_by (Some (kind.Nsec3 algorithm salt iterations opt_out)) names = have_owners (hashed_owner_of z algorithm salt iterations) names
   have_owners_by _ names = true
 
-  -- the names that are hashed for a name for which a star answered
-  abbrev pub star_hashed_by : Option NxProofKind → Name → List Name
-  star_hashed_by (Some (kind.Nsec3 algorithm salt iterations opt_out)) x = option_map_or (star_hashed x) (closest_encloser z.sets x) []
-  star_hashed_by _ x = []
+  -- the names that are hashed for a name for which a wildcard answered
+  abbrev pub wildcard_hashed_by : Option NxProofKind → Name → List Name
+  wildcard_hashed_by (Some (kind.Nsec3 algorithm salt iterations opt_out)) x = option_map_or (wildcard_hashed x) (closest_encloser z.sets x) []
+  wildcard_hashed_by _ x = []
 
   -- for a name without what is asked for
   abbrev pub denial_hashed_by : Option NxProofKind → Name → Option Name → List Name
@@ -88,8 +91,8 @@ module _ (z : Zone) where
   denial_hashed_by (Some (kind.Nsec3 algorithm salt iterations opt_out)) x _ = present_hashed z.origin z.denials (hashed_by (hashed_owner_of z algorithm salt iterations)) x
   denial_hashed_by _ x star = []
 
-  abbrev pub star_hashed_names : Name → List Name
-  star_hashed_names = star_hashed_by z.nx_proof_kind
+  abbrev pub wildcard_hashed_names : Name → List Name
+  wildcard_hashed_names = wildcard_hashed_by z.nx_proof_kind
 
   abbrev pub denial_hashed : Name → Option Name → List Name
   denial_hashed = denial_hashed_by z.nx_proof_kind
@@ -103,10 +106,10 @@ module _ (z : Zone) where
 
   -- for all
   abbrev pub hashed_names : Option RRset → List Name → End → List Name
-  hashed_names ds made end = flat_map star_hashed_names made ++ end_hashed ds end
+  hashed_names ds made end = flat_map wildcard_hashed_names made ++ end_hashed ds end
 
-  abbrev pub star_has_owners : Name → Bool
-  star_has_owners x = have_owners_by z.nx_proof_kind (star_hashed_names x)
+  abbrev pub wildcard_has_owners : Name → Bool
+  wildcard_has_owners x = have_owners_by z.nx_proof_kind (wildcard_hashed_names x)
 
   abbrev pub denial_has_owners : Name → Option Name → Bool
   denial_has_owners x star = have_owners_by z.nx_proof_kind (denial_hashed x star)

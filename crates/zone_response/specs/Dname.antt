@@ -11,11 +11,12 @@ use Rattle.zone_proto.specs.Types.{CNAME, IN}
 
 -- ---- the target
 
--- the labels that stand in octets, each behind its length, the last octet aside, which is the root's (RFC 1035 section 3.1)
+-- the labels that are in octets, each behind its length, the last octet aside, which is the root's (RFC 1035 section
+-- 3.1)
 abbrev pub labels_in : List ℕ → Name
 labels_in octets = counted_name (take (length octets - 1) octets)
 
--- the name of which octets are the wire form; none where they are that of no name
+-- the name of which octets are the wire form; none if they are that of no name
 abbrev pub name_in : List ℕ → Option Name
 name_in octets = cond (label_eq octets (wire_form (labels_in octets)) && is_none (fault_of (labels_in octets))) (Some (labels_in octets)) None
 
@@ -34,7 +35,8 @@ dname_target s = only_target s.records
 
 -- ---- the new name
 
--- a name below an owner, with a target in the owner's place: its labels in front of the owner's stand before the target's (RFC 6672 section 2.2)
+-- a name below an owner, with a target in the owner's place: its labels in front of the owner's come before the
+-- target's (RFC 6672 section 2.2)
 abbrev pub in_place_of : Name → Name → Name → Name
 in_place_of owner target x = take (length x - length owner) x ++ target
 
@@ -45,8 +47,8 @@ unless_long n = cond (nat_lt 255 (wire_length n)) None (Some n)
 -- ---- the CNAME
 
 -- the CNAME set that a DNAME set makes of its new name for x: of class IN and with the set's TTL (RFC 6672 section 3.1), and not signed (section 5.3.1)
-abbrev pub made_alias : RRset → Name → Name → RRset
-made_alias s x n = record {
+abbrev pub synthesized_alias : RRset → Name → Name → RRset
+synthesized_alias s x n = record {
   owner = x;
   record_type = CNAME;
   class = IN;

@@ -5,7 +5,7 @@ use Rattle.std.specs.Option.{option_map_or, option_or}
 use Rattle.zone_proto.specs.declared.error.ProtoError.{ProtoError}
 use Rattle.zone_proto.specs.declared.nx_proof_kind.NxProofKind.{NxProofKind}
 use Rattle.zone_proto.specs.declared.nx_proof_kind.NxProofKind.TheVariants as kind
-use Rattle.zone_proto.specs.Names.{Name, is_at_or_above, proper_ancestors, star_under, suffixes}
+use Rattle.zone_proto.specs.Names.{Name, is_at_or_above, proper_ancestors, wildcard_under, suffixes}
 use Rattle.zone_proto.specs.Sets.{RRset}
 use Rattle.zone_proto.specs.Types.{NSEC3}
 use Rattle.zone_handler.specs.declared.nsec3_query_info.Nsec3QueryInfo.{Nsec3QueryInfo}
@@ -32,12 +32,12 @@ of_labels count x = find (λ s. length s == count) (suffixes x)
 abbrev pub next_closer : Name → Name → Option Name
 next_closer x e = of_labels (suc (length e)) x
 
--- of x with a closest encloser e, the next closer name; and that and the star under e
-abbrev pub star_hashed : Name → Name → List Name
-star_hashed x e = option_to_list (next_closer x e)
+-- of x with a closest encloser e, the next closer name; and that and the wildcard at e
+abbrev pub wildcard_hashed : Name → Name → List Name
+wildcard_hashed x e = option_to_list (next_closer x e)
 
 abbrev pub below_hashed : Name → Name → List Name
-below_hashed x e = option_to_list (next_closer x e) ++ star_under e ∷ []
+below_hashed x e = option_to_list (next_closer x e) ++ wildcard_under e ∷ []
 
 -- ---- given a hash that answers: of a zone's origin, the sets of its chain, and each name's hashed owner
 
@@ -60,19 +60,21 @@ module _ (origin : Name) (m : Sets) (hashed : Name → Name) where
   abbrev pub closer_set : Name → Name → Option RRset
   closer_set x e = option_and_then covering (next_closer x e)
 
-  -- the set that matches the star under e, or covers it
-  abbrev pub star_set : Name → Option RRset
-  star_set e = option_or (matching (star_under e)) (covering (star_under e))
+  -- the set that matches the wildcard at e, or covers it
+  abbrev pub wildcard_set : Name → Option RRset
+  wildcard_set e = option_or (matching (wildcard_under e)) (covering (wildcard_under e))
 
-  -- a star answers for x, whose closest encloser is e (section 7.2.6)
-  abbrev pub star_sets : Name → Name → List RRset
-  star_sets x e = option_to_list (closer_set x e)
+  -- a wildcard answers for x, whose closest encloser is e (section 7.2.6)
+  abbrev pub wildcard_sets : Name → Name → List RRset
+  wildcard_sets x e = option_to_list (closer_set x e)
 
-  -- x doesn't exist, and what was asked for the star hasn't what is asked for either, for a name error (section 7.2.2) and for absent data of a star (section 7.2.5), with a provable encloser: in the order of owners
+  -- x doesn't exist, and what was asked for the wildcard hasn't what is asked for either, for a name error (section
+  -- 7.2.2) and for absent data of a wildcard (section 7.2.5), with a provable encloser: in the order of owners
   abbrev pub absent_below : Name → Name → List RRset
-  absent_below x e = in_order owner_cmp (option_to_list (matching e) ++ option_to_list (closer_set x e) ++ option_to_list (star_set e))
+  absent_below x e = in_order owner_cmp (option_to_list (matching e) ++ option_to_list (closer_set x e) ++ option_to_list (wildcard_set e))
 
-  -- the same with the closest encloser. The star is that of the search, `*.e`, unless opt-out leaves e out of the chain: then it is the one under the provable encloser, below which nothing is shown to exist
+  -- the same with the closest encloser. The wildcard is that of the search, `*.e`, unless opt-out leaves e out of the
+  -- chain: then it is the one under the provable encloser, below which nothing is shown to exist
   abbrev pub absent_sets : Name → Name → List RRset
   absent_sets x e = option_map_or (absent_below x) (provable (suffixes e)) []
 
@@ -93,14 +95,14 @@ module _ (origin : Name) (m : Sets) (hashed : Name → Name) where
   absent_hashed x e = tried (suffixes e) ++ option_map_or (below_hashed x) (provable (suffixes e)) []
 
   abbrev pub left_out_hashed : Name → List Name
-  left_out_hashed x = tried (proper_ancestors x) ++ option_map_or (star_hashed x) (provable (proper_ancestors x)) []
+  left_out_hashed x = tried (proper_ancestors x) ++ option_map_or (wildcard_hashed x) (provable (proper_ancestors x)) []
 
   abbrev pub present_hashed : Name → List Name
   present_hashed x = x ∷ cond (has_set x) [] (left_out_hashed x)
 
 -- ---- a hash that may refuse a name
 
--- the hashed owner of a name; where there is none nothing is asked of it, and any name will do
+-- the hashed owner of a name; if there is none nothing is asked of it, and any name will do
 abbrev pub owner_given : Result Name ProtoError → Name
 owner_given (Ok h) = h
 owner_given (Err e) = []

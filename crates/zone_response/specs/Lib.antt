@@ -2,6 +2,7 @@ pub mod Queries
 pub mod Sections
 pub mod QueryTypes
 pub mod NodeSets
+pub mod Neighbours
 pub mod Descent
 pub mod Wildcards
 pub mod Nodes

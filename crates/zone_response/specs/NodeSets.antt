@@ -1,4 +1,4 @@
--- What stands at a name, as one walk of the zone reads it
+-- What is at a name, as one walk of the zone reads it
 use Rattle.std.specs.Prelude.{◌≡◌, ℕ, option_copied}
 use Rattle.std.specs.BTreeMap.Range.{entries_between}
 use Rattle.std.specs.declared.ops.Bound.TheVariants.{Included, Unbounded}
@@ -18,11 +18,12 @@ sets_from m k = entries_between key_cmp (Included k) Unbounded m
 abbrev pub IsFromSome : Sets → Sets → Type 0
 IsFromSome m es = (k : RrKey) × (es ≡ sets_from m k)
 
--- of a zone, the sets of NS and of two other types that stand at a name
+-- of a zone, the sets of NS and of two other types that are at a name
 pub record StandsAt (m : Sets) (n : Name) (t u : ℕ) (here : NodeSets) : Type 0 where
   pub ns : option_copied here.ns ≡ set_at m n NS
-  pub one : option_copied here.one ≡ set_at m n t
-  pub other : option_copied here.other ≡ set_at m n u
-  -- the first key from the name's least key on, and that the keys of the zone are in order: by the two it mostly tells whether the name exists
+  pub first_asked : option_copied here.first_asked ≡ set_at m n t
+  pub second_asked : option_copied here.second_asked ≡ set_at m n u
+  -- the first key from the name's least key on, and that the keys of the zone are in order: by the two it mostly says
+  -- whether the name exists
   pub first : option_copied here.first ≡ first_key_from m n
   pub zone : IsZone m

@@ -1,4 +1,4 @@
--- What a name, or the star that is asked for one, has for a query of a type
+-- What a name, or the wildcard at the closest encloser of one, has for a query of a type
 use Rattle.std.specs.Prelude.{ℕ, ◌||◌, cond, ◌==◌, Option, Some, None, option_and_then}
 use Rattle.zone_proto.specs.Names.{Name}
 use Rattle.zone_proto.specs.Sets.{RRset}
@@ -23,7 +23,7 @@ pub data AtNode : Type 0 where
 abbrev pub chosen_type : Sets → Name → ℕ → ℕ
 chosen_type m x t = cond ((t == ANY) || (t == RRSIG)) (any_type m x) t
 
--- of a set, what goes out for a query of RRSIG are its signatures, if it has any
+-- of a set, what is sent for a query of RRSIG are its signatures, if it has any
 abbrev pub if_signed : ℕ → RRset → Option RRset
 if_signed t s = cond ((t == RRSIG)) (cond (is_signed s) (Some s) None) (Some s)
 

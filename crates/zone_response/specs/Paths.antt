@@ -10,7 +10,7 @@ use Rattle.zone_response.specs.Sections.{is_signed, sent_sets}
 use Rattle.zone_response.specs.Steps.{End, complete, unfollowed, Next, on, ends, step, end_of}
 use Rattle.zone_response.specs.Descent.{DNAME}
 
--- the sets of the answer section, the names for which a star answered, and how the search ends
+-- the sets of the answer section, the names for which a wildcard answered, and how the search ends
 pub record Path : Type 0 where
   pub answers : List RRset
   pub made : List Name
@@ -23,14 +23,16 @@ ended e = record { answers = []; made = []; end = e }
 abbrev pub behind : List RRset → List Name → Path → Path
 behind answers made p = record { answers = answers ++ p.answers; made = made ++ p.made; end = p.end }
 
--- a set that was passed tells what a query of t asks for of x: a DNAME set of x, where DNAME is asked for; or where RRSIG is, and the set stands there with a signature
-abbrev pub is_told_by : ℕ → Name → RRset → Bool
-is_told_by t x s = (s.record_type == DNAME) && name_eq (lower s.owner) x && ((t == DNAME) || (t == RRSIG) && is_signed s)
+-- a set that was passed tells what a query of t asks for of x: a DNAME set of x, where DNAME is asked for; or where
+-- RRSIG is, and the set is there with a signature
+abbrev pub is_sought : ℕ → Name → RRset → Bool
+is_sought t x s = (s.record_type == DNAME) && name_eq (lower s.owner) x && ((t == DNAME) || (t == RRSIG) && is_signed s)
 
--- what comes next behind these sets of the answer section. Where one of them tells what is asked for, it is the answer: a set stands once in a section (RFC 2181 section 5)
-abbrev pub unless_told : ℕ → List RRset → Next → Next
-unless_told t sets (on x) = cond (list_any (is_told_by t x) sets) (ends complete) (on x)
-unless_told t sets (ends e) = ends e
+-- what comes next behind these sets of the answer section. Where one of them tells what is asked for, it is the answer:
+-- a set appears once in a section (RFC 2181 section 5.5)
+abbrev pub unless_answered : ℕ → List RRset → Next → Next
+unless_answered t sets (on x) = cond (list_any (is_sought t x) sets) (ends complete) (on x)
+unless_answered t sets (ends e) = ends e
 
 -- what comes next, searched
 abbrev pub searched : (Name → Path) → Next → Path
@@ -40,7 +42,7 @@ searched search (ends e) = ended e
 module _ (q : Inquiry) where
   -- what comes next behind the step from x
   abbrev pub next_behind : List RRset → Name → Next
-  next_behind before x = unless_told q.record_type (before ++ (step q before x).answers) (step q before x).next
+  next_behind before x = unless_answered q.record_type (before ++ (step q before x).answers) (step q before x).next
 
   -- the path from x on, of k names at most, behind these sets; a name that was searched isn't searched again
   abbrev pub path_from : ℕ → List Name → List RRset → Name → Path

@@ -28,7 +28,9 @@ bare c = record { code = c; authoritative = false; answers = []; authorities = [
 abbrev pub yx_domain : ResponseCode
 yx_domain = code.Other 6
 
--- the code is that of the last name of a chain (RFC 6604 section 3): a name error where neither the name nor the star exists that is asked for it (RFC 2308 section 2.1), and YXDOMAIN where a DNAME gives it a name that is too long (RFC 6672 section 2.2)
+-- the code is that of the last name of a chain (RFC 6604 section 3): a name error where neither the name nor the
+-- wildcard exists that is asked for it (RFC 2308 section 2.1), and YXDOMAIN where a DNAME gives it a name that is too
+-- long (RFC 6672 section 2.2)
 abbrev pub code_at : End → ResponseCode
 code_at (missing x star there) = cond there code.NoError code.NXDomain
 code_at too_long = yx_domain
@@ -126,7 +128,7 @@ pub data Outcome : Type 0 where
   failing : Outcome
   -- a name has no hashed owner of which something is to be proved
   unprovable : Outcome
-  -- the search took this path, and these sets stand in the authority section
+  -- the search took this path, and these sets are in the authority section
   answered : Path → List RRset → Outcome
 
 -- the code of a query that isn't searched: of another class than the zone's or outside the zone; and of a type that is no data

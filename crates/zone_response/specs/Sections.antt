@@ -1,4 +1,4 @@
--- A response by its sections: what goes out, as sets of records
+-- A response by its sections: what is sent, as sets of records
 use Rattle.std.specs.Prelude.{ℕ, Bool, false, ◌&&◌, cond, List, [], ◌∷◌, filter, map, ◌==◌, Option}
 use Rattle.std.specs.List.{list_any}
 use Rattle.std.specs.declared.alloc.Global.{Global}
@@ -25,7 +25,7 @@ pub record Sections : Type 0 where
   pub glue : List RRset
   pub left_at : Option Name
 
--- ---- a set as it goes out
+-- ---- a set as it is sent
 
 -- the type that a signature covers (RFC 4034 section 3.1.1)
 abbrev pub covers : ℕ → RData → Bool
@@ -44,7 +44,8 @@ is_signed s = list_any (λ (r : Record). covers s.record_type r.rdata) s.signatu
 abbrev pub with_ttl : ℕ → Record → Record
 with_ttl ttl r = record r { ttl = ttl }
 
--- all records of a set go out with one TTL (RFC 2181 section 5.2), and so do its signatures (RFC 4034 section 3): the records, with the signatures or without them, or the signatures alone
+-- all records of a set are sent with one TTL (RFC 2181 section 5.2), and so do its signatures (RFC 4034 section 3): the
+-- records, with the signatures or without them, or the signatures alone
 abbrev pub sent : Part → ℕ → RRset → RRset
 sent part.Records ttl s = record s { ttl = ttl; records = map (with_ttl ttl) s.records; signatures = [] }
 sent part.Signed ttl s = record s { ttl = ttl; records = map (with_ttl ttl) s.records; signatures = map (with_ttl ttl) (own_signatures s) }
@@ -62,7 +63,7 @@ part_for signed = cond signed part.Signed part.Records
 abbrev pub is_alike : RRset → RRset → Bool
 is_alike s r = (r.record_type == s.record_type) && same_name r.owner s.owner
 
--- a set, unless one alike is among others: a set stands once in a section (RFC 2181 section 5)
+-- a set, unless one alike is among others: a set appears once in a section (RFC 2181 section 5.5)
 abbrev pub unless_among : List RRset → RRset → List RRset
 unless_among sets s = cond (list_any (is_alike s) sets) [] (s ∷ [])
 

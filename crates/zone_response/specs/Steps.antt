@@ -14,11 +14,11 @@ use Rattle.zone_response.specs.declared.steps.Next.TheVariants as kept_next
 use Rattle.zone_response.specs.declared.steps.SoFar.{SoFar}
 use Rattle.zone_response.specs.Queries.{Inquiry}
 use Rattle.zone_response.specs.Nodes.{AtNode, own, alias, stand_in, nothing, at_node}
-use Rattle.zone_response.specs.Dname.{dname_target, in_place_of, unless_long, made_alias}
+use Rattle.zone_response.specs.Dname.{dname_target, in_place_of, unless_long, synthesized_alias}
 use Rattle.zone_response.specs.Sections.{is_signed, as_it_is, part_for, unless_among, sent_sets}
-use Rattle.zone_response.specs.Wildcards.{star_of}
+use Rattle.zone_response.specs.Wildcards.{source_of_synthesis}
 use Rattle.zone_response.specs.Aname.{StandInAnswer, addresses, no_addresses, untold, stand_in_answer}
-use Rattle.zone_response.specs.Descent.{Turn, cut, renaming, turn}
+use Rattle.zone_response.specs.Descent.{Diversion, cut, renaming, diversion}
 
 -- how a search ends
 pub data End : Type 0 where
@@ -26,7 +26,8 @@ pub data End : Type 0 where
   complete : End
   -- at a zone cut, of which this is the NS set
   referred : RRset → End
-  -- at a name of the zone without such a set; with the star that was asked for it, none where the name exists, and with whether one of the two exists
+  -- at a name of the zone without such a set; with the wildcard that was asked for it, none if the name exists, and
+  -- with whether one of the two exists
   missing : Name → Option Name → Bool → End
   -- at a name outside the zone
   outside : Name → End
@@ -42,7 +43,7 @@ pub data Next : Type 0 where
   on : Name → Next
   ends : End → Next
 
--- the sets that a step adds to the answer section; the names for which a star answered; and what comes next
+-- the sets that a step adds to the answer section; the names for which a wildcard answered; and what comes next
 pub record Step : Type 0 where
   pub answers : List RRset
   pub made : List Name
@@ -51,15 +52,16 @@ pub record Step : Type 0 where
 abbrev pub at_end : End → Step
 at_end e = record { answers = []; made = []; next = ends e }
 
--- a set as it is found for x: its own, or that of a star under the name x, whose signatures are kept where they are of use
-abbrev pub made_by : Bool → Option Name → Name → RRset → RRset
-made_by keep None x s = s
-made_by keep (Some star) x s = renamed keep star x s
+-- a set as it is found for x: its own, or that of a wildcard at the name x, whose signatures are kept where they are of
+-- use
+abbrev pub as_found_for : Bool → Option Name → Name → RRset → RRset
+as_found_for keep None x s = s
+as_found_for keep (Some star) x s = renamed keep star x s
 
--- the name for which a star answered
-abbrev pub made_names : Option Name → Name → List Name
-made_names None x = []
-made_names (Some star) x = x ∷ []
+-- the name for which a wildcard answered
+abbrev pub expanded_names : Option Name → Name → List Name
+expanded_names None x = []
+expanded_names (Some star) x = x ∷ []
 
 -- behind an alias comes its target
 abbrev pub after_alias : Option Name → Next
@@ -72,15 +74,17 @@ module _ (signed : Bool) (t : ℕ) where
   abbrev pub keeps : Bool
   keeps = signed || (t == RRSIG)
 
-  -- what goes out of the set that is asked for
+  -- what is sent of the set that is asked for
   abbrev pub own_part : Part
   own_part = cond (t == RRSIG) part.Signatures (part_for signed)
 
 -- for a query whose answer has to be proved or not, and that asks for DNSSEC or not
 module _ (proved signed : Bool) where
-  -- the addresses for which an ANAME set of x stands in, itself or that of the star, are the whole answer. Where the answer has to be proved and nobody signs them, it fails: a validator would find them bogus (RFC 4035 section 4.3)
+  -- the addresses for which an ANAME set of x stands in, itself or that of the wildcard, are the whole answer. Where
+  -- the answer has to be proved and nobody signs them, it fails: a validator would find them bogus (RFC 4035 section
+  -- 4.3)
   abbrev pub addresses_step : Option Name → Name → RRset → Step
-  addresses_step star x s = cond (proved && not (is_signed s)) (at_end failed) (record { answers = as_it_is (part_for signed) s ∷ []; made = made_names star x; next = ends complete })
+  addresses_step star x s = cond (proved && not (is_signed s)) (at_end failed) (record { answers = as_it_is (part_for signed) s ∷ []; made = expanded_names star x; next = ends complete })
 
   -- by what it stands for
   abbrev pub stood_in_step : Option Name → Name → StandInAnswer → Step
@@ -88,15 +92,15 @@ module _ (proved signed : Bool) where
   stood_in_step star x no_addresses = at_end (missing x star true)
   stood_in_step star x untold = at_end failed
 
--- by what x itself has, or the star that is asked for it
+-- by what x itself has, or the wildcard at its closest encloser
 module _ (q : Inquiry) where
   abbrev pub stand_in_step : Option Name → Name → RRset → Step
-  stand_in_step star x s = stood_in_step q.is_proved q.signed star x (stand_in_answer q x (made_by (keeps q.signed q.record_type) star x s))
+  stand_in_step star x s = stood_in_step q.is_proved q.signed star x (stand_in_answer q x (as_found_for (keeps q.signed q.record_type) star x s))
 
   -- the set that is asked for is the whole answer, and an alias is followed (RFC 1034 section 4.3.2 step 3a)
   abbrev pub node_step : Option Name → Name → AtNode → Step
-  node_step star x (own s) = record { answers = as_it_is (own_part q.signed q.record_type) (made_by (keeps q.signed q.record_type) star x s) ∷ []; made = made_names star x; next = ends complete }
-  node_step star x (alias s) = record { answers = as_it_is (part_for q.signed) (made_by (keeps q.signed q.record_type) star x s) ∷ []; made = made_names star x; next = after_alias (cname_target s) }
+  node_step star x (own s) = record { answers = as_it_is (own_part q.signed q.record_type) (as_found_for (keeps q.signed q.record_type) star x s) ∷ []; made = expanded_names star x; next = ends complete }
+  node_step star x (alias s) = record { answers = as_it_is (part_for q.signed) (as_found_for (keeps q.signed q.record_type) star x s) ∷ []; made = expanded_names star x; next = after_alias (cname_target s) }
   node_step star x (stand_in s) = stand_in_step star x s
   node_step star x nothing = at_end (missing x star true)
 
@@ -108,13 +112,13 @@ after_renaming t n = cond ((t == CNAME) || (t == ANY)) (ends complete) (on (lowe
 
 -- behind these sets, for a query of t that asks for DNSSEC or not
 module _ (signed : Bool) (t : ℕ) (before : List RRset) (x : Name) (s : RRset) where
-  -- the DNAME set goes out, with its signatures where the query asks for DNSSEC (RFC 6672 section 5.3.1)
+  -- the DNAME set is sent, with its signatures where the query asks for DNSSEC (RFC 6672 section 5.3.1)
   abbrev pub dname_sets : List RRset
   dname_sets = unless_among before (as_it_is (part_for signed) s)
 
   -- behind it stands the CNAME that it makes; of a new name that is too long nothing is told (RFC 6672 section 3.2)
   abbrev pub new_name_step : Option Name → Step
-  new_name_step (Some n) = record { answers = dname_sets ++ made_alias s x n ∷ []; made = []; next = after_renaming t n }
+  new_name_step (Some n) = record { answers = dname_sets ++ synthesized_alias s x n ∷ []; made = []; next = after_renaming t n }
   new_name_step None = record { answers = dname_sets; made = []; next = ends too_long }
 
   -- by its target; a set that has none isn't answered
@@ -127,24 +131,25 @@ module _ (q : Inquiry) where
   abbrev pub step_at : Option Name → Name → Name → Step
   step_at star x a = node_step q star x (at_node q.sets a q.record_type)
 
-  -- for a name that doesn't exist: by the star that is asked for it, if that exists (RFC 1034 section 4.3.2 step 3c, RFC 4592 section 3.3.1)
-  abbrev pub star_step : Name → Option Name → Step
-  star_step x None = at_end (missing x None false)
-  star_step x (Some star) = cond (exists q.sets star) (step_at (Some star) x star) (at_end (missing x (Some star) false))
+  -- for a name that doesn't exist: by the wildcard at its closest encloser, if that exists (RFC 1034 section 4.3.2 step
+  -- 3c, RFC 4592 section 3.3.1)
+  abbrev pub wildcard_step : Name → Option Name → Step
+  wildcard_step x None = at_end (missing x None false)
+  wildcard_step x (Some star) = cond (exists q.sets star) (step_at (Some star) x star) (at_end (missing x (Some star) false))
 
-  -- for a name that no cut and no DNAME stands above
+  -- for a name that no cut and no DNAME is above
   abbrev pub name_step : Name → Step
-  name_step x = cond (exists q.sets x) (step_at None x x) (star_step x (star_of q.sets x))
+  name_step x = cond (exists q.sets x) (step_at None x x) (wildcard_step x (source_of_synthesis q.sets x))
 
   -- a cut refers (RFC 1034 section 4.3.2 step 3b), and a DNAME gives the name another (RFC 6672 section 3.2)
-  abbrev pub turned_step : List RRset → Name → Option Turn → Step
-  turned_step before x None = name_step x
-  turned_step before x (Some (cut s)) = at_end (referred s)
-  turned_step before x (Some (renaming s)) = target_step q.signed q.record_type before x s (dname_target s)
+  abbrev pub diverted_step : List RRset → Name → Option Diversion → Step
+  diverted_step before x None = name_step x
+  diverted_step before x (Some (cut s)) = at_end (referred s)
+  diverted_step before x (Some (renaming s)) = target_step q.signed q.record_type before x s (dname_target s)
 
   -- the step from x, behind these sets of the answer section
   abbrev pub step : List RRset → Name → Step
-  step before x = cond (is_at_or_above q.origin x) (turned_step before x (turn q.origin q.sets x q.record_type)) (at_end (outside x))
+  step before x = cond (is_at_or_above q.origin x) (diverted_step before x (diversion q.origin q.sets x q.record_type)) (at_end (outside x))
 
 -- ---- as the program keeps it
 
@@ -161,7 +166,7 @@ abbrev pub next_of : KeptNext → Next
 next_of (kept_next.On x) = on x
 next_of (kept_next.Ends e) = ends (end_of e)
 
--- a step, from what was found before it: the sets and names that it adds stand behind these, and this comes next
+-- a step, from what was found before it: the sets and names that it adds come after these, and this comes next
 pub record Takes (s : Step) (before after : SoFar) (came : KeptNext) : Type 0 where
   pub answers : sent_sets after.answers ≡ sent_sets before.answers ++ s.answers
   pub made : after.made.items ≡ before.made.items ++ s.made

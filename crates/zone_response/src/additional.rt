@@ -3,14 +3,14 @@ ghost use Rattle.std.specs.Prelude.{◌≡◌, ◌++◌, [], Bool, Some, true, m
 ghost use Rattle.std.specs.List.{cons_option};
 ghost use Rattle.zone_proto.specs.Names.{lower, name_eq, is_at_or_above};
 ghost use Rattle.zone_lookup.specs.Runs.{with_new};
-ghost use Rattle.zone_response.specs.Additional.{host_of, with_host, hosts, addresses, host_sets, turned_host, beside, glue, glue_of, sibling_glue, sibling_sets};
+ghost use Rattle.zone_response.specs.Additional.{host_of, with_host, hosts, addresses, host_sets, diverted_host, beside, glue, glue_of, sibling_glue, sibling_sets};
 ghost use Rattle.zone_response.specs.Sections.{as_it_is, sent_sets};
 ghost use Rattle.zone_response.specs.NodeSets.{IsFromSome};
 ghost use Rattle.zone_proto.specs.Types.{A};
-ghost use Rattle.zone_response.specs.Descent.{turn_at, turn_of};
+ghost use Rattle.zone_response.specs.Descent.{diversion_at, diversion_of};
 
 use crate::cursor::sets_near;
-use crate::descent::{Turning, own_cut, turn_above};
+use crate::descent::{Diverting, diversion_above, own_cut};
 use crate::lists::{lend, push};
 use crate::names::{has_name, is_at_or_above};
 use crate::node_sets::{NodeSets, node_sets_in, read_node_sets};
@@ -22,7 +22,7 @@ use zone_proto::{
     LowerName, Name, ProtoError, RData, Record, RecordSet, RecordType, RrKey, Signer,
 };
 
-// Of how many records of a set the hosts are looked up: more would make a small query cost many look-ups.
+// Of how many records of a set the hosts are looked up: more would make a small query cost many lookups.
 const MAX_RECORDS: usize = 64;
 
 /// The host that data name.
@@ -93,7 +93,7 @@ fn send_addresses<'z, S: Signer>(
     send_standing(here, part, list)
 }
 
-/// Puts the addresses last that stand at a name.
+/// Puts the addresses last that are at a name.
 fn send_standing<'z>(
     here: NodeSets<'z>,
     part: Part,
@@ -103,12 +103,12 @@ fn send_standing<'z>(
         (sent_sets list.new
         ≡ sent_sets list.old
         ++ map (as_it_is part)
-        (cons_option (option_copied here.entry.one)
-        (cons_option (option_copied here.entry.other) []))) }
+        (cons_option (option_copied here.entry.first_asked)
+        (cons_option (option_copied here.entry.second_asked) []))) }
     ensures err { IsOkUnless result ProtoError.Memory }
 {
-    send_set(here.one, part, list)?;
-    send_set(here.other, part, list)
+    send_set(here.first_asked, part, list)?;
+    send_set(here.second_asked, part, list)
 }
 
 /// Puts a set last, if there is one.
@@ -129,8 +129,8 @@ fn send_set<'z>(
     }
 }
 
-/// Puts the addresses of a host last, if it is one of the zone; `below` tells whether they go also where the host stands at a
-/// zone cut or below it.
+/// Puts the addresses of a host last, if it is one of the zone; `below` says whether they go also where the host is at
+/// a zone cut or below it.
 fn send_host<'z, S: Signer>(
     inner: &'z InnerInMemory<S>,
     origin: &LowerName,
@@ -147,40 +147,41 @@ fn send_host<'z, S: Signer>(
     if !is_at_or_above(origin, host) {
         return Ok(());
     }
-    match turn_above(inner, origin, host)? {
-        Some(turning) => send_turned(inner, below, host, turning, list),
-        None => send_unturned(inner, origin, signed, below, host, list),
+    match diversion_above(inner, origin, host)? {
+        Some(turning) => send_diverted(inner, below, host, turning, list),
+        None => send_undiverted(inner, origin, signed, below, host, list),
     }
 }
 
-/// Puts the addresses of a host of the zone last, by what stands above it.
-fn send_turned<'z, S: Signer>(
+/// Puts the addresses of a host of the zone last, by what is above it.
+fn send_diverted<'z, S: Signer>(
     inner: &'z InnerInMemory<S>,
     below: bool,
     host: &LowerName,
-    turning: Turning<'z>,
+    turning: Diverting<'z>,
     list: &mut Vec<Sent<'z>>,
 ) -> Result<(), ProtoError>
     ensures ok { (signed : Bool)
         → OnOk result
         (sent_sets list.new
         ≡ sent_sets list.old
-        ++ turned_host inner.now.records signed below host.now (Some (turn_of turning.entry))) }
+        ++ diverted_host inner.now.records signed below host.now (Some (diversion_of
+        turning.entry))) }
     ensures err { IsOkUnless result ProtoError.Memory }
 {
     match turning {
-        Turning::Cut(_) => {
+        Diverting::Cut(_) => {
             if below {
                 return send_addresses(inner, host, Part::Records, list);
             }
             Ok(())
         }
-        Turning::Renaming(_) => Ok(()),
+        Diverting::Renaming(_) => Ok(()),
     }
 }
 
 /// Puts the addresses of a host of the zone last above which nothing turns: it may be a zone cut itself.
-fn send_unturned<'z, S: Signer>(
+fn send_undiverted<'z, S: Signer>(
     inner: &'z InnerInMemory<S>,
     origin: &LowerName,
     signed: bool,
@@ -192,8 +193,8 @@ fn send_unturned<'z, S: Signer>(
     ensures ok { OnOk result
         (sent_sets list.new
         ≡ sent_sets list.old
-        ++ turned_host inner.now.records signed below host.now
-        (turn_at origin.now inner.now.records host.now A host.now)) }
+        ++ diverted_host inner.now.records signed below host.now
+        (diversion_at origin.now inner.now.records host.now A host.now)) }
     ensures err { IsOkUnless result ProtoError.Memory }
 {
     let key = RrKey::first_of(host)?;
@@ -247,8 +248,8 @@ fn send_hosts<'z, S: Signer>(
     Ok(())
 }
 
-/// Puts the addresses of a child's servers last: of those that stand in the child to `own`, and of the others, as far as the zone
-/// has them elsewhere, to `siblings`.
+/// Puts the addresses of a child's servers last: of those that are in the child to `own`, and of the others, as far as
+/// the zone has them elsewhere, to `siblings`.
 pub(crate) fn send_servers<'z, S: Signer>(
     inner: &'z InnerInMemory<S>,
     asked: Asked<'_>,
@@ -272,8 +273,8 @@ pub(crate) fn send_servers<'z, S: Signer>(
     Ok(())
 }
 
-/// Puts the addresses of a child's server last. `near` are the sets of the zone from the server on that stands in the child and was
-/// read last, if one was; gives those for the next server.
+/// Puts the addresses of a child's server last. `near` are the sets of the zone from the server on that is in the child
+/// and was read last, if one was; gives those for the next server.
 fn send_server<'z, S: Signer>(
     inner: &'z InnerInMemory<S>,
     asked: Asked<'_>,

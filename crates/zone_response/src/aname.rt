@@ -5,7 +5,7 @@ ghost use Rattle.zone_response.specs.Queries.{inquiry_of};
 ghost use Rattle.zone_response.specs.Aname.{target_sets, at_last_target, by_addresses, by_last_set, stand_in_answer, answer_of};
 ghost use Rattle.zone_response.specs.Steps.{stand_in_step, stood_in_step, addresses_step, Takes};
 
-use crate::descent::turn;
+use crate::descent::diversion;
 use crate::lists::send_made;
 use crate::names::is_at_or_above;
 use crate::response::is_signed;
@@ -26,7 +26,7 @@ pub(crate) enum StandInAnswer {
     Untold,
 }
 
-/// The step from a name for whose addresses an ANAME set stands in, its own or that of its star.
+/// The step from a name for whose addresses an ANAME set stands in, its own or that of its wildcard.
 pub(crate) fn stand_in_step<'z, S: Signer>(
     inner: &'z InnerInMemory<S>,
     set: &'z RecordSet,
@@ -58,7 +58,7 @@ fn copy_of(name: &Option<LowerName>) -> Result<Option<LowerName>, ProtoError>
     }
 }
 
-/// The step from a name by what its ANAME set, or that of its star, stands for.
+/// The step from a name by what its ANAME set, or that of its wildcard, stands for.
 fn stood_in_step<'z>(
     answer: StandInAnswer,
     star: Option<LowerName>,
@@ -81,7 +81,7 @@ fn stood_in_step<'z>(
     }
 }
 
-/// The step from a name that its ANAME set, or that of its star, gives these addresses.
+/// The step from a name that its ANAME set, or that of its wildcard, gives these addresses.
 fn addresses_step<'z>(
     addresses: RecordSet,
     star: &Option<LowerName>,
@@ -207,7 +207,7 @@ fn at_last_target<S: Signer>(
     if !is_at_or_above(asked.origin, target) {
         return Ok(StandInAnswer::Untold);
     }
-    match turn(inner, asked.origin, target, asked.record_type)? {
+    match diversion(inner, asked.origin, target, asked.record_type)? {
         Some(_) => Ok(StandInAnswer::Untold),
         None => Ok(StandInAnswer::NoAddresses),
     }

@@ -21,33 +21,36 @@ use zone_proto::{
     DNSClass, LowerName, Nsec3Hash, RecordSet, RecordType, ResponseCode, RrKey, Signer,
 };
 
-/// The response of a zone to a question, with signatures and the NSEC or NSEC3 sets that prove it
-/// where `options` ask for DNSSEC (RFC 1034 section 4.3.2). Refused by `Memory` alone, of a signer too. Its sets are lent out of
-/// the zone, but for those that a wildcard gives the name, the CNAME that a DNAME makes, and the addresses that an ANAME gives.
+/// The response of a zone to a question, with signatures and the NSEC or NSEC3 sets that prove it if `options` ask for DNSSEC
+/// (RFC 1034 section 4.3.2). Its only error is `Memory`, a signer's included. Its sets are lent from the zone, except those
+/// that a wildcard gives the name, the CNAME synthesized from a DNAME, and the addresses that an ANAME gives.
 ///
-/// - Of another class than IN, and outside the zone, the code is `Refused`; of a type that no record has, ANY aside, `NotImp`;
-///   and of a zone without SOA, `ServFail`.
-/// - The first zone cut on the way from the origin down to the name refers (RFC 1034 section 4.3.2 step 3b), but for DS of the
-///   cut itself (RFC 4035 section 3.1.4.1). A name that exists is answered by its own sets, and else the star under its closest
-///   encloser answers, if that exists (RFC 4592 section 3.3.1); a name that begins with `*` is a name like others.
-/// - For ANY one set is chosen (RFC 8482 section 4.1), and for RRSIG the signatures of that set go out.
-/// - Below a DNAME the answer has that set and the CNAME that it makes of the name, with its TTL and without signatures, and the
-///   search goes on at the CNAME's target (RFC 6672 section 3.2), but for a query of CNAME or ANY. Where that name would have
-///   more than 255 octets, the code is YXDOMAIN, `Other(6)`; and `ServFail` where the set has several records (section 2.4), or
-///   its octets are the wire form of no name.
-/// - An alias is followed as long as its target is a name of the zone that wasn't searched, up to 8 names. Where DNAME is asked for,
-///   and it leads back to the owner of a DNAME that the search passed, that set is the answer, since a set stands once in a section
-///   (RFC 2181 section 5); so it is of the set's signatures, where RRSIG is asked for with DNSSEC.
+/// - For a class other than IN, and outside the zone, the code is `Refused`; for a type that no record has, except ANY,
+///   `NotImp`; and for a zone without SOA, `ServFail`.
+/// - The first zone cut on the way from the origin down to the name refers (RFC 1034 section 4.3.2 step 3b), except for DS at
+///   the cut itself (RFC 4035 section 3.1.4.1). A name that exists is answered with its own sets, and otherwise the wildcard at
+///   its closest encloser answers, if that exists (RFC 4592 section 3.3.1); a name that begins with `*` is a name like any
+///   other.
+/// - For ANY one set is chosen (RFC 8482 section 4.1), and for RRSIG the signatures of that set are sent.
+/// - Below a DNAME the answer has that set and the CNAME synthesized from it for the name, with its TTL and without signatures,
+///   and the search continues at the CNAME's target (RFC 6672 section 3.2), except in a query for CNAME or ANY. If that name
+///   would have more than 255 octets, the code is YXDOMAIN, `Other(6)`; and `ServFail` if the set has several records (section
+///   2.4), or its octets aren't the wire form of a name.
+/// - An alias is followed as long as its target is a name in the zone that wasn't searched, up to 8 names. If DNAME is asked
+///   for, and the alias leads back to the owner of a DNAME that the search passed, that set is the answer, since an RRset
+///   appears once in a section (RFC 2181 section 5.5); the same goes for the set's signatures if RRSIG is asked for with
+///   DNSSEC.
 /// - With DNSSEC, the authority section has the NSEC sets (RFC 4035 section 3.1.3) or NSEC3 sets (RFC 5155 section 7.2), each
-///   once, that prove a name error, absent data, an unsigned child, and each answer of a wildcard. Where the zone denies by NSEC3
-///   and its hash has no digest of a name that is hashed for this, or one that makes no owner name, the code is `ServFail`.
-/// - A name that owns an ANAME, and neither addresses of the type that is asked for nor an alias, has those of the ANAME's target, as
-///   a lookup finds them in the zone along aliases and ANAMEs: under the owner of the ANAME, with the lesser one of the TTLs of the
-///   ANAME and of the addresses. There are no data where the last target is a name of the zone without such addresses, and the code
-///   is `ServFail` where it stands outside the zone, below a zone cut or below a DNAME: the zone can't tell.
-/// - With DNSSEC, each signer of the zone signs these addresses at the moment `zone.moment`, as it does for a lookup; none does once that
-///   is past the year 9999. Where they have no signature then, and the zone has a kind of denial, the code is `ServFail`, since a
-///   validator would find them bogus (RFC 4035 section 4.3).
+///   once, that prove a name error, absent data, an unsigned child, and each answer from a wildcard. If the zone denies by
+///   NSEC3 and its hash has no digest of a name that is hashed for this, or one that makes no owner name, the code is
+///   `ServFail`.
+/// - A name that owns an ANAME, and neither addresses of the type that is asked for nor an alias, has those of the ANAME's
+///   target, as a lookup finds them in the zone along aliases and ANAMEs: under the owner of the ANAME, with the lesser of the
+///   TTLs of the ANAME and of the addresses. There is no data if the last target is a name in the zone without such addresses,
+///   and the code is `ServFail` if it is outside the zone, below a zone cut or below a DNAME, since the zone can't know.
+/// - With DNSSEC, each signer of the zone signs these addresses at the time `zone.moment`, as it does for a lookup; none does
+///   once that is past the year 9999. If they then have no signature, and the zone has a kind of denial, the code is
+///   `ServFail`, since a validator would find them bogus (RFC 4035 section 4.3).
 pub fn respond<'z, S: Signer, H: Nsec3Hash>(
     zone: ServedZone<'z, S, H>,
     question: Question<'_>,
@@ -61,11 +64,11 @@ pub fn respond<'z, S: Signer, H: Nsec3Hash>(
     respond_counted(zone, question, options, &mut Counter::new())
 }
 
-/// The response of [`respond`], and how many names are hashed for it: each adds one to `hashes`. Without DNSSEC there are none, nor
-/// are there where the zone doesn't deny by NSEC3. Else it is one for each answer of a wildcard, and for the end of the search
-/// three at most for a name error and for a wildcard without the set that is asked for, and one for absent data and for a
-/// referral without DS. Names that opt-out leaves out of the chain cost more: one for each ancestor of the name that exists
-/// without an NSEC3 set, and for a name of its own without one, two more.
+/// The response of [`respond`], and how many names are hashed for it: each adds one to `hashes`. Without DNSSEC there are none,
+/// nor if the zone doesn't deny by NSEC3. Otherwise it is one for each answer from a wildcard, and for the end of the search at
+/// most three for a name error and for a wildcard without the set that is asked for, and one for absent data and for a referral
+/// without DS. Names that opt-out leaves out of the chain cost more: one for each ancestor of the name that exists without an
+/// NSEC3 set, and two more for a name that has none itself.
 pub fn respond_counted<'z, S: Signer, H: Nsec3Hash>(
     zone: ServedZone<'z, S, H>,
     question: Question<'_>,
@@ -124,7 +127,7 @@ fn searched<'z, S: Signer, H: Nsec3Hash>(
     ensures err { IsOkUnless result LookupError.Memory }
 {
     let apex = read_apex(zone.inner, zone.origin)?;
-    match apex.one {
+    match apex.first_asked {
         Some(soa) => along(
             zone,
             asked,
@@ -193,7 +196,7 @@ fn proven<'z, S: Signer, H: Nsec3Hash>(
     }
 }
 
-/// The response of a path that says what can't be proved for this error; or want of memory, if it is that.
+/// The response of a path that says what can't be proved for this error; or lack of memory, if it is that.
 fn unproven<'z>(path: Path<'z>, error: LookupError) -> Result<Response<'z>, LookupError>
     ensures response { IfOk result
         (λ r. (sections r ≡ bare ResponseCode.ServFail) × (error ≢ LookupError.Memory)) }

@@ -4,26 +4,26 @@ ghost use Rattle.std.specs.List.{list_any};
 ghost use Rattle.zone_proto.specs.Names.{same_name};
 ghost use Rattle.zone_denial.specs.NsecDenial.{closest_nsec};
 ghost use Rattle.zone_lookup.specs.Runs.{with_new};
-ghost use Rattle.zone_response.specs.Denials.{star_proof, star_hashed_names, star_has_owners, denial, denial_hashed, denial_has_owners, end_proof, end_hashed, end_has_owners, same_owner, with_star_proof, proofs, hashed_names, is_provable, sent_proof};
+ghost use Rattle.zone_response.specs.Denials.{wildcard_proof, wildcard_hashed_names, wildcard_has_owners, denial, denial_hashed, denial_has_owners, end_proof, end_hashed, end_has_owners, same_owner, with_wildcard_proof, proofs, hashed_names, is_provable, sent_proof};
 ghost use Rattle.zone_response.specs.HashedDenials.{AsksByHash, unless_root};
 ghost use Rattle.zone_response.specs.Queries.{zone_of};
 ghost use Rattle.zone_response.specs.Sections.{sent_sets};
 ghost use Rattle.zone_response.specs.Steps.{end_of};
 
-use crate::hashed_denials::{absent_sets, present_sets, star_sets};
+use crate::hashed_denials::{absent_sets, present_sets, wildcard_sets};
 use crate::lists::{lend_for, push};
 use crate::question::ServedZone;
 use crate::response::{Part, Sent};
 use crate::steps::End;
-use crate::wildcards::star_of;
+use crate::wildcards::source_of_synthesis;
 use zone_denial::closest::closest_nsec;
 use zone_handler::{LookupError, Nsec3QueryInfo};
 use zone_map::{Counter, RecordMap};
 use zone_proto::{LowerName, Nsec3Hash, NxProofKind, ProtoError, RecordSet, RecordType, Signer};
 
-/// The sets that prove that a star may answer for each name for which one did, and what the end says; each set once. `ds` is the DS
-/// set of the child that is referred to, if it owns one. It counts the names that it hashes. Refused by `Memory`, and as the hash
-/// of a zone that denies by NSEC3 refuses a name.
+/// The sets that prove that a wildcard may answer for each name for which one did, and what the end says; each set
+/// once. `ds` is the DS set of the child that is referred to, if it owns one. It counts the names that it hashes.
+/// Refused by `Memory`, and as the hash of a zone that denies by NSEC3 refuses a name.
 pub(crate) fn proofs<'z, S: Signer, H: Nsec3Hash>(
     zone: &ServedZone<'z, S, H>,
     ds: Option<&RecordSet>,
@@ -52,15 +52,15 @@ pub(crate) fn proofs<'z, S: Signer, H: Nsec3Hash>(
 {
     let mut sets = Vec::new(zone.origin.alloc());
     for name in made {
-        add_star_proof(zone, name, &mut sets, hashes)?;
+        add_wildcard_proof(zone, name, &mut sets, hashes)?;
     }
     let more = end_proof(zone, ds, end, hashes)?;
     add_all(&mut sets, more)?;
     Ok(sets)
 }
 
-/// Puts the sets last that prove that a star may answer for a name, unless the list has them.
-fn add_star_proof<'z, S: Signer, H: Nsec3Hash>(
+/// Puts the sets last that prove that a wildcard may answer for a name, unless the list has them.
+fn add_wildcard_proof<'z, S: Signer, H: Nsec3Hash>(
     zone: &ServedZone<'z, S, H>,
     name: &LowerName,
     sets: &mut Vec<&'z RecordSet>,
@@ -68,44 +68,44 @@ fn add_star_proof<'z, S: Signer, H: Nsec3Hash>(
 ) -> Result<(), LookupError>
     ensures ok { OnOk result
         (map (λ s. s.now) sets.new.items
-        ≡ with_star_proof (zone_of S.signature_of H.digest_of zone.now)
+        ≡ with_wildcard_proof (zone_of S.signature_of H.digest_of zone.now)
         (map (λ s. s.now) sets.old.items) name.now) }
     ensures hashed { OnOk result
-        (star_has_owners (zone_of S.signature_of H.digest_of zone.now) name.now ≡ true) }
+        (wildcard_has_owners (zone_of S.signature_of H.digest_of zone.now) name.now ≡ true) }
     ensures counted { hashes.new
         ≤ hashes.old
         + length
-        (star_hashed_names (zone_of S.signature_of H.digest_of zone.now) name.now) }
+        (wildcard_hashed_names (zone_of S.signature_of H.digest_of zone.now) name.now) }
     ensures err { IfErr result
         (λ e. (e ≡ LookupError.Memory)
-        ⊎ (star_has_owners (zone_of S.signature_of H.digest_of zone.now) name.now ≡ false)) }
+        ⊎ (wildcard_has_owners (zone_of S.signature_of H.digest_of zone.now) name.now ≡ false)) }
 {
-    let more = star_proof(zone, name, hashes)?;
+    let more = wildcard_proof(zone, name, hashes)?;
     Ok(add_all(sets, more)?)
 }
 
-/// The sets that prove that a star may answer for a name.
-fn star_proof<'z, S: Signer, H: Nsec3Hash>(
+/// The sets that prove that a wildcard may answer for a name.
+fn wildcard_proof<'z, S: Signer, H: Nsec3Hash>(
     zone: &ServedZone<'z, S, H>,
     name: &LowerName,
     hashes: &mut Counter,
 ) -> Result<Vec<&'z RecordSet>, LookupError>
     ensures ok { IfOk result
         (λ sets. map (λ s. s.now) sets.items
-        ≡ star_proof (zone_of S.signature_of H.digest_of zone.now) name.now) }
+        ≡ wildcard_proof (zone_of S.signature_of H.digest_of zone.now) name.now) }
     ensures hashed { OnOk result
-        (star_has_owners (zone_of S.signature_of H.digest_of zone.now) name.now ≡ true) }
+        (wildcard_has_owners (zone_of S.signature_of H.digest_of zone.now) name.now ≡ true) }
     ensures counted { hashes.new
         ≤ hashes.old
         + length
-        (star_hashed_names (zone_of S.signature_of H.digest_of zone.now) name.now) }
+        (wildcard_hashed_names (zone_of S.signature_of H.digest_of zone.now) name.now) }
     ensures err { IfErr result
         (λ e. (e ≡ LookupError.Memory)
-        ⊎ (star_has_owners (zone_of S.signature_of H.digest_of zone.now) name.now ≡ false)) }
+        ⊎ (wildcard_has_owners (zone_of S.signature_of H.digest_of zone.now) name.now ≡ false)) }
 {
     match hashed_query(zone.nx_proof_kind, name) {
-        Some(query) => match star_of(zone.inner, name)? {
-            Some(star) => star_sets(zone, query, &star, hashes),
+        Some(query) => match source_of_synthesis(zone.inner, name)? {
+            Some(star) => wildcard_sets(zone, query, &star, hashes),
             None => Ok(Vec::new(zone.origin.alloc())),
         },
         None => nsec_proof(zone.denials, name, None),
@@ -148,7 +148,7 @@ fn end_proof<'z, S: Signer, H: Nsec3Hash>(
     }
 }
 
-/// The sets that prove that a name, and the star that was asked for it, hasn't what is asked for.
+/// The sets that prove that a name, and the wildcard that was asked for it, hasn't what is asked for.
 fn denial<'z, S: Signer, H: Nsec3Hash>(
     zone: &ServedZone<'z, S, H>,
     name: &LowerName,
@@ -183,7 +183,7 @@ fn denial<'z, S: Signer, H: Nsec3Hash>(
     }
 }
 
-/// A name that isn't the root, as each star.
+/// A name that isn't the root, as each wildcard.
 fn below_root(star: Option<&LowerName>) -> Option<&LowerName>
     ensures { option_copied result ≡ option_and_then unless_root (option_copied star.entry) }
 {
@@ -222,7 +222,7 @@ fn hashed_query<'q>(
     }
 }
 
-/// The NSEC sets of a name and of the star that was asked for it, or else those that cover them.
+/// The NSEC sets of a name and of the wildcard that was asked for it, or else those that cover them.
 fn nsec_proof<'z>(
     denials: &'z RecordMap,
     name: &LowerName,

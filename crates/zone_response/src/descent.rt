@@ -1,14 +1,14 @@
 //! What turns a search on its way from the origin down to a name: the first zone cut or DNAME.
-ghost use Rattle.std.specs.Prelude.{◌≡◌, ℕ, None, cond, drop, IfOk, IsOkUnless, option_copied, option_map, true};
+ghost use Rattle.std.specs.Prelude.{◌≡◌, ◌<◌, ◌≤◌, ℕ, None, cond, length, IfOk, IsOkUnless, option_copied, option_map, true};
 ghost use Rattle.zone_map.specs.Zones.{Sets, set_at};
-ghost use Rattle.zone_proto.specs.Keys.{first_key};
 ghost use Rattle.zone_proto.specs.Names.{is_at_or_above, name_eq};
-ghost use Rattle.zone_proto.specs.Results.{IsCopy};
 ghost use Rattle.zone_proto.specs.Types.{NS, SOA};
 ghost use Rattle.zone_response.specs.NodeSets.{StandsAt};
-ghost use Rattle.zone_response.specs.Descent.{cut_at, is_passed, turn, turn_above, turn_by, turn_of, IsWayTo};
+ghost use Rattle.zone_response.specs.Descent.{cut_at, diversion, diversion_above, diversion_by, diversion_of};
+ghost use Rattle.zone_response.specs.Neighbours.{NoLongerOwns};
 
 use crate::names::same_name;
+use crate::neighbours::labels_before;
 use crate::node_sets::{NodeSets, read_apex, read_node_sets};
 use crate::query_types::DNAME;
 use zone_lookup::InnerInMemory;
@@ -16,149 +16,114 @@ use zone_proto::{LowerName, ProtoError, RecordSet, RecordType, RrKey, Signer};
 
 /// What turns a search.
 #[derive(Clone, Copy)]
-pub(crate) enum Turning<'z> {
+pub(crate) enum Diverting<'z> {
     /// A zone cut, of which this is the NS set.
     Cut(&'z RecordSet),
     /// The names below the owner of this DNAME set have other names.
     Renaming(&'z RecordSet),
 }
 
-/// The way from the origin down to a name, for names below that one.
-#[derive(Clone, Copy)]
-struct Way<'z> {
-    /// The first turn on it.
-    turn: Option<Turning<'z>>,
-    /// The first key from the name's least key on, of the name or of another, if nothing turns.
-    first: Option<&'z RrKey>,
-}
-
 /// The first turn on the way from the origin down to a name of the zone, the name itself too, for a query of a type.
-pub(crate) fn turn<'z, S: Signer>(
+pub(crate) fn diversion<'z, S: Signer>(
     inner: &'z InnerInMemory<S>,
     origin: &LowerName,
     name: &LowerName,
     record_type: RecordType,
-) -> Result<Option<Turning<'z>>, ProtoError>
+) -> Result<Option<Diverting<'z>>, ProtoError>
     requires { is_at_or_above origin.now name.now ≡ true }
     ensures ok { IfOk result
-        (λ found. option_map turn_of found
-        ≡ turn origin.now inner.now.records name.now record_type.0) }
+        (λ found. option_map diversion_of found
+        ≡ diversion origin.now inner.now.records name.now record_type.0) }
     ensures err { IsOkUnless result ProtoError.Memory }
 {
-    if let Some(turning) = turn_above(inner, origin, name)? {
+    if let Some(turning) = diversion_above(inner, origin, name)? {
         return Ok(Some(turning));
     }
     let key = RrKey::first_of(name)?;
     let here = read_node_sets(inner, &key, RecordType::NS, RecordType::NS);
     match own_cut(here.ns, origin, name, record_type) {
-        Some(cut) => Ok(Some(Turning::Cut(cut))),
+        Some(cut) => Ok(Some(Diverting::Cut(cut))),
         None => Ok(None),
     }
 }
 
 /// The first turn on the way from the origin down to the parent of a name of the zone.
-pub(crate) fn turn_above<'z, S: Signer>(
+pub(crate) fn diversion_above<'z, S: Signer>(
     inner: &'z InnerInMemory<S>,
     origin: &LowerName,
     name: &LowerName,
-) -> Result<Option<Turning<'z>>, ProtoError>
+) -> Result<Option<Diverting<'z>>, ProtoError>
     requires { is_at_or_above origin.now name.now ≡ true }
     ensures ok { (t : ℕ)
         → IfOk result
-        (λ found. option_map turn_of found
-        ≡ turn_above origin.now inner.now.records name.now t name.now) }
+        (λ found. option_map diversion_of found
+        ≡ diversion_above origin.now inner.now.records name.now t name.now) }
     ensures err { IsOkUnless result ProtoError.Memory }
 {
     let apex = read_apex(inner, origin)?;
-    turn_from_apex(inner, origin, apex, name)
+    diversion_from_apex(inner, origin, apex, name)
 }
 
-/// The same by what stands at the origin.
-pub(crate) fn turn_from_apex<'z, S: Signer>(
+/// The same by what is at the origin. Going up from the name, it reads only ancestors that own a set, or below which a set
+/// stands before the one that it comes from, by two searches each: so where nothing stands on the way there is one search,
+/// however many labels the name has.
+pub(crate) fn diversion_from_apex<'z, S: Signer>(
     inner: &'z InnerInMemory<S>,
     origin: &LowerName,
     apex: NodeSets<'z>,
     name: &LowerName,
-) -> Result<Option<Turning<'z>>, ProtoError>
+) -> Result<Option<Diverting<'z>>, ProtoError>
     requires inside { is_at_or_above origin.now name.now ≡ true }
     requires apex { StandsAt inner.now.records origin.now SOA DNAME.0 apex }
     ensures ok { (t : ℕ)
         → IfOk result
-        (λ found. option_map turn_of found
-        ≡ turn_above origin.now inner.now.records name.now t name.now) }
+        (λ found. option_map diversion_of found
+        ≡ diversion_above origin.now inner.now.records name.now t name.now) }
     ensures err { IsOkUnless result ProtoError.Memory }
 {
-    if same_name(name, origin) {
-        return Ok(None);
+    let depth = origin.num_labels();
+    let mut found = None;
+    let mut below = RrKey::first_of(name)?;
+    while below.name.num_labels() > depth {
+        let labels = owning_labels(inner, depth, &below);
+        if labels == depth {
+            return Ok(diversion_by(None, apex.second_asked).or(found));
+        }
+        let above = RrKey::new(below.name.ancestor(labels)?, RecordType(0));
+        let here = read_node_sets(inner, &above, DNAME, DNAME);
+        found = diversion_by(here.ns, here.second_asked).or(found);
+        below = above;
     }
-    let parent = parent_key(name)?;
-    let way = way_down(inner, origin, apex, &parent)?;
-    Ok(way.turn)
+    Ok(found)
 }
 
-/// The least key of the parent of a name.
-fn parent_key(name: &LowerName) -> Result<RrKey, ProtoError>
-    ensures { IsCopy result (first_key (drop 1 name.now)) }
+/// As many labels as an ancestor of a name has at most that owns a set, and at least so many as are given. One search tells,
+/// and none where those are all that an ancestor may have.
+fn owning_labels<S: Signer>(inner: &InnerInMemory<S>, least: usize, below: &RrKey) -> usize
+    requires { least < length below.now.name }
+    ensures least { least ≤ result }
+    ensures shorter { result < length below.now.name }
+    ensures longest { NoLongerOwns inner.now.records below.now.name result }
 {
-    Ok(RrKey::new(name.base_name()?, RecordType(0)))
-}
-
-/// The way from the origin, by what stands there, down to a name of the zone, by its least key. What stands below a turn isn't read,
-/// nor a name that owns nothing, as a key tells that was read above it.
-fn way_down<'z, S: Signer>(
-    inner: &'z InnerInMemory<S>,
-    origin: &LowerName,
-    apex: NodeSets<'z>,
-    least: &RrKey,
-) -> Result<Way<'z>, ProtoError>
-    requires least { least.now.record_type.0 ≡ 0 }
-    requires inside { is_at_or_above origin.now least.now.name ≡ true }
-    requires apex { StandsAt inner.now.records origin.now SOA DNAME.0 apex }
-    ensures ok { IfOk result (IsWayTo origin.now inner.now.records least.now.name) }
-    ensures err { IsOkUnless result ProtoError.Memory }
-{
-    if same_name(&least.name, origin) {
-        return Ok(Way {
-            turn: turn_by(None, apex.other),
-            first: apex.first,
-        });
+    if below.name.num_labels() - least == 1 {
+        return least;
     }
-    let parent = parent_key(&least.name)?;
-    let above = way_down(inner, origin, apex, &parent)?;
-    if above.turn.is_some() {
-        return Ok(above);
-    }
-    if is_passed(&least.name, above.first) {
-        return Ok(above);
-    }
-    let here = read_node_sets(inner, least, DNAME, DNAME);
-    Ok(Way {
-        turn: turn_by(here.ns, here.other),
-        first: here.first,
-    })
-}
-
-/// Whether a name stands before the first key of a zone from another name on, or there is none: if the other stands above the name,
-/// this one owns nothing then.
-fn is_passed(name: &LowerName, first: Option<&RrKey>) -> bool
-    ensures { result ≡ is_passed name.now (option_copied first.entry) }
-{
-    match first {
-        Some(first) => *name < first.name,
-        None => true,
-    }
+    labels_before(inner.as_map(), below).max(least)
 }
 
 /// What a name turns that owns these sets: a zone cut, or a DNAME.
-fn turn_by<'z>(cut: Option<&'z RecordSet>, dname: Option<&'z RecordSet>) -> Option<Turning<'z>>
-    ensures { option_map turn_of result
-        ≡ turn_by (option_copied cut.entry) (option_copied dname.entry) }
+fn diversion_by<'z>(
+    cut: Option<&'z RecordSet>,
+    dname: Option<&'z RecordSet>,
+) -> Option<Diverting<'z>>
+    ensures { option_map diversion_of result
+        ≡ diversion_by (option_copied cut.entry) (option_copied dname.entry) }
 {
     if let Some(cut) = cut {
-        return Some(Turning::Cut(cut));
+        return Some(Diverting::Cut(cut));
     }
     match dname {
-        Some(dname) => Some(Turning::Renaming(dname)),
+        Some(dname) => Some(Diverting::Renaming(dname)),
         None => None,
     }
 }

@@ -1,14 +1,14 @@
 //! The names that a DNAME set gives to those below its owner (RFC 6672).
 ghost use Rattle.std.specs.Prelude.{◌≡◌, ◌≢◌, ◌++◌, take, None, IfOk, OnOk, IsOkUnless};
 ghost use Rattle.zone_proto.specs.Vectors.{octets_of};
-ghost use Rattle.zone_response.specs.Dname.{name_in, target_of, dname_target, in_place_of, unless_long, made_alias};
+ghost use Rattle.zone_response.specs.Dname.{name_in, target_of, dname_target, in_place_of, unless_long, synthesized_alias};
 
 use crate::lists::push;
 use std::alloc::Global;
 use zone_proto::{Labels, LowerName, Name, ProtoError, RData, RecordSet, RecordType};
 
-/// The target of a DNAME set: none where it has several records, or one whose data are the wire form of no name. Refused by
-/// `Memory` alone.
+/// The target of a DNAME set: none if it has several records, or one whose data are the wire form of no name. Its only
+/// error is `Memory`.
 pub(crate) fn dname_target(set: &RecordSet) -> Result<Option<Name>, ProtoError>
     ensures ok { IfOk result (λ target. target ≡ dname_target set.now) }
     ensures err { IsOkUnless result ProtoError.Memory }
@@ -45,7 +45,7 @@ fn name_in(alloc: Global, octets: &[u8]) -> Result<Option<Name>, ProtoError>
     }
 }
 
-/// No name, where octets were refused for this fault; or want of memory, if it is that.
+/// No name, where octets were refused for this fault; or lack of memory, if it is that.
 fn no_name(error: ProtoError) -> Result<Option<Name>, ProtoError>
     ensures ok { IfOk result (λ name. (name ≡ None) × (error ≢ ProtoError.Memory)) }
     ensures err { IsOkUnless result ProtoError.Memory }
@@ -56,7 +56,8 @@ fn no_name(error: ProtoError) -> Result<Option<Name>, ProtoError>
     }
 }
 
-/// A name below an owner with a target in the owner's place; none where that is too long for a name. Refused by `Memory` alone.
+/// A name below an owner with a target in the owner's place; none if that is too long for a name. Its only error is
+/// `Memory`.
 pub(crate) fn in_place_of(
     owner: &Name,
     target: &Name,
@@ -93,13 +94,13 @@ fn add_labels(labels: Labels<'_>, count: usize, list: &mut Vec<Vec<u8>>) -> Resu
     Ok(())
 }
 
-/// The CNAME set that a DNAME set makes of its new name for a name. Refused by `Memory` alone.
-pub(crate) fn made_alias(
+/// The CNAME set that a DNAME set makes of its new name for a name. Its only error is `Memory`.
+pub(crate) fn synthesized_alias(
     set: &RecordSet,
     name: &LowerName,
     new: Name,
 ) -> Result<RecordSet, ProtoError>
-    ensures made { IfOk result (λ made. made ≡ made_alias set.now name.now new) }
+    ensures made { IfOk result (λ made. made ≡ synthesized_alias set.now name.now new) }
     ensures err { IsOkUnless result ProtoError.Memory }
 {
     let owner = Name::from(name.clone()?);

@@ -7,13 +7,13 @@ ghost use Rattle.zone_proto.specs.Types.{NSEC3};
 ghost use Rattle.zone_map.specs.Counts.{one_more};
 ghost use Rattle.zone_map.specs.Zones.{set_at};
 ghost use Rattle.zone_denial.specs.Nsec3Denial.{cover_owner};
-ghost use Rattle.zone_response.specs.HashedDenials.{matching, covering, of_labels, provable, tried, star_sets, star_hashed, absent_below, absent_sets, absent_hashed, below_hashed, left_out_sets, left_out_hashed, present_sets, present_hashed, hash_of, hashed_by, have_owners};
+ghost use Rattle.zone_response.specs.HashedDenials.{matching, covering, of_labels, provable, tried, wildcard_sets, wildcard_hashed, absent_below, absent_sets, absent_hashed, below_hashed, left_out_sets, left_out_hashed, present_sets, present_hashed, hash_of, hashed_by, have_owners};
 
 use crate::covering::{covering, matching, matching_or_covering};
 use crate::lists::push;
 use crate::names::{is_at_or_above, same_name};
-use crate::owner_order::in_owner_order;
 use crate::question::ServedZone;
+use zone_denial::owner_order::in_owner_order;
 use zone_handler::{LookupError, Nsec3QueryInfo};
 use zone_map::{Counter, RecordMap};
 use zone_proto::{LowerName, Nsec3Hash, ProtoError, RecordSet, Signer};
@@ -36,9 +36,9 @@ struct Encloser<'z> {
     before: Option<HashedName>,
 }
 
-/// The sets that prove that a star may answer for the name of a query: the one that covers the next closer name, one label longer
-/// than the closest encloser, above which the star stands.
-pub(crate) fn star_sets<'z, S: Signer, H: Nsec3Hash>(
+/// The sets that prove that a wildcard may answer for the name of a query: the one that covers the next closer name,
+/// one label longer than the closest encloser, above which the wildcard stands.
+pub(crate) fn wildcard_sets<'z, S: Signer, H: Nsec3Hash>(
     zone: &ServedZone<'z, S, H>,
     query: Nsec3QueryInfo<'_>,
     star: &LowerName,
@@ -47,19 +47,19 @@ pub(crate) fn star_sets<'z, S: Signer, H: Nsec3Hash>(
     requires { is_root star.now ≡ false }
     ensures ok { IfOk result
         (λ sets. map (λ s. s.now) sets.items
-        ≡ star_sets zone.now.origin.now zone.now.denials.now
+        ≡ wildcard_sets zone.now.origin.now zone.now.denials.now
         (hashed_by (hash_of H.digest_of zone.now query.entry)) query.entry.qname.now
         (base_name star.now)) }
     ensures hashed { OnOk result
         (have_owners (hash_of H.digest_of zone.now query.entry)
-        (star_hashed query.entry.qname.now (base_name star.now))
+        (wildcard_hashed query.entry.qname.now (base_name star.now))
         ≡ true) }
     ensures counted { hashes.new
-        ≤ hashes.old + length (star_hashed query.entry.qname.now (base_name star.now)) }
+        ≤ hashes.old + length (wildcard_hashed query.entry.qname.now (base_name star.now)) }
     ensures err { IfErr result
         (λ e. (e ≡ LookupError.Memory)
         ⊎ (have_owners (hash_of H.digest_of zone.now query.entry)
-        (star_hashed query.entry.qname.now (base_name star.now))
+        (wildcard_hashed query.entry.qname.now (base_name star.now))
         ≡ false)) }
 {
     let closer = hashed_closer(zone, query, star.num_labels(), None, hashes)?;
@@ -70,8 +70,8 @@ pub(crate) fn star_sets<'z, S: Signer, H: Nsec3Hash>(
     Ok(sets)
 }
 
-/// The sets that prove that the name of a query doesn't exist, and of what was asked for its star. The star stands under the closest
-/// encloser.
+/// The sets that prove that the name of a query doesn't exist, and of what was asked for its wildcard. The wildcard is
+/// under the closest encloser.
 pub(crate) fn absent_sets<'z, S: Signer, H: Nsec3Hash>(
     zone: &ServedZone<'z, S, H>,
     query: Nsec3QueryInfo<'_>,
@@ -145,9 +145,9 @@ fn absent_below<'z, S: Signer, H: Nsec3Hash>(
     let closer = hashed_closer(zone, query, child.num_labels(), before, hashes)?;
     let closer_set = closer_set(zone.denials, &closer)?;
     let star = known_or_hashed(zone, query, child.into_wildcard(), closer, hashes)?;
-    let star_set = matching_or_covering(zone.denials, &star.owner)?;
+    let wildcard_set = matching_or_covering(zone.denials, &star.owner)?;
     let alloc = zone.origin.alloc();
-    Ok(in_owner_order(alloc, Some(set), closer_set, star_set)?)
+    Ok(in_owner_order(alloc, Some(set), closer_set, wildcard_set)?)
 }
 
 /// The sets that prove that the name of a query, which exists, doesn't own a set.
@@ -251,15 +251,15 @@ fn left_out_below<'z, S: Signer, H: Nsec3Hash>(
         (base_name encloser.entry.child)) }
     ensures hashed { OnOk result
         (have_owners (hash_of H.digest_of zone.now query.entry)
-        (star_hashed query.entry.qname.now (base_name encloser.entry.child))
+        (wildcard_hashed query.entry.qname.now (base_name encloser.entry.child))
         ≡ true) }
     ensures counted { hashes.new
         ≤ hashes.old
-        + length (star_hashed query.entry.qname.now (base_name encloser.entry.child)) }
+        + length (wildcard_hashed query.entry.qname.now (base_name encloser.entry.child)) }
     ensures err { IfErr result
         (λ e. (e ≡ LookupError.Memory)
         ⊎ (have_owners (hash_of H.digest_of zone.now query.entry)
-        (star_hashed query.entry.qname.now (base_name encloser.entry.child))
+        (wildcard_hashed query.entry.qname.now (base_name encloser.entry.child))
         ≡ false)) }
 {
     let Encloser { child, set, before } = encloser;
@@ -370,14 +370,10 @@ fn of_labels(name: &LowerName, count: usize) -> Result<Option<LowerName>, ProtoE
     ensures ok { IfOk result (λ found. found ≡ of_labels count name.now) }
     ensures err { IsOkUnless result ProtoError.Memory }
 {
-    let mut above = name.clone()?;
-    while above.num_labels() > count {
-        above.shorten();
+    if name.num_labels() < count {
+        return Ok(None);
     }
-    if above.num_labels() == count {
-        return Ok(Some(above));
-    }
-    Ok(None)
+    Ok(Some(name.ancestor(count)?))
 }
 
 /// A name hashed, unless it is the one that is at hand.

@@ -1,11 +1,11 @@
-//! The whole response of an authoritative server, by its sections (RFC 1034 section 4.3.2): code, AA, the answer section with
-//! chains of aliases and what a DNAME makes of a name below it (RFC 6672), referrals with their DS sets and glue, the SOA of a
-//! negative response, the NSEC or NSEC3 sets that prove what is said, and the additional section.
+//! The whole response of an authoritative server, section by section (RFC 1034 section 4.3.2): code, AA, the answer section
+//! with chains of aliases and what a DNAME does to a name below it (RFC 6672), referrals with their DS sets and glue, the SOA
+//! of a negative response, the NSEC or NSEC3 sets that prove what is said, and the additional section.
 //!
 //! Zones without DNSSEC are answered whole, and so are zones that deny by NSEC, and by NSEC3 with and without opt-out. The addresses
 //! for which an ANAME stands in are signed for each response, by the zone's signers.
 //!
-//! Contracts see a response as its code and its sections, each a list of record sets as they go out.
+//! Contracts see a response as its code and its sections, each a list of record sets as they are sent.
 #![tactic(auto)]
 
 mod additional;
@@ -20,9 +20,9 @@ mod dname_repeats;
 mod hashed_denials;
 mod lists;
 mod names;
+mod neighbours;
 mod node_sets;
 mod nodes;
-mod owner_order;
 mod paths;
 mod query_types;
 mod question;

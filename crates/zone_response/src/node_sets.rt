@@ -1,4 +1,4 @@
-//! What stands at one name, read in one walk of the zone: the sets of a name stand together in it, the least type first.
+//! What is at one name, read in one walk of the zone: the sets of a name stand together in it, the least type first.
 ghost use Rattle.std.specs.Prelude.{◌≡◌, ◌≤◌, ◌==◌, IfOk, IsOkUnless, option_copied};
 ghost use Rattle.std.specs.List.Sorted.{IsStrictlySortedBy};
 ghost use Rattle.std.specs.Map.{keys_of};
@@ -17,31 +17,31 @@ use std::collections::btree_map::Range;
 use zone_lookup::InnerInMemory;
 use zone_proto::{LowerName, ProtoError, RecordSet, RecordType, RrKey, Signer};
 
-/// The sets of three types that stand at a name: NS, and two that are asked for; and the first key from the name's least key on,
-/// of the name or of another.
+/// The sets of three types that are at a name: NS, and two that are asked for; and the first key from the name's least
+/// key on, of the name or of another.
 #[derive(Clone, Copy, Drop)]
 pub(crate) struct NodeSets<'z> {
     pub(crate) ns: Option<&'z RecordSet>,
-    pub(crate) one: Option<&'z RecordSet>,
-    pub(crate) other: Option<&'z RecordSet>,
+    pub(crate) first_asked: Option<&'z RecordSet>,
+    pub(crate) second_asked: Option<&'z RecordSet>,
     pub(crate) first: Option<&'z RrKey>,
 }
 
-/// What stands at the name of its least key, that of type 0, of the type NS and of two others.
+/// What is at the name of its least key, that of type 0, of the type NS and of two others.
 pub(crate) fn read_node_sets<'z, S: Signer>(
     inner: &'z InnerInMemory<S>,
     least: &RrKey,
-    one: RecordType,
-    other: RecordType,
+    first_asked: RecordType,
+    second_asked: RecordType,
 ) -> NodeSets<'z>
     requires { least.now.record_type.0 ≡ 0 }
-    ensures { StandsAt inner.now.records least.now.name one.0 other.0 result }
+    ensures { StandsAt inner.now.records least.now.name first_asked.0 second_asked.0 result }
 {
     let sets = inner.as_map();
-    node_sets_in(sets, sets.range(least..), least, one, other)
+    node_sets_in(sets, sets.range(least..), least, first_asked, second_asked)
 }
 
-/// What stands at the zone's origin, of the types SOA and DNAME.
+/// What is at the zone's origin, of the types SOA and DNAME.
 pub(crate) fn read_apex<'z, S: Signer>(
     inner: &'z InnerInMemory<S>,
     origin: &LowerName,
@@ -58,23 +58,25 @@ pub(crate) fn node_sets_in<'z>(
     sets: &'z BTreeMap<RrKey, RecordSet>,
     from: Range<'z, RrKey, RecordSet>,
     least: &RrKey,
-    one: RecordType,
-    other: RecordType,
+    first_asked: RecordType,
+    second_asked: RecordType,
 ) -> NodeSets<'z>
     requires least { least.now.record_type.0 ≡ 0 }
     requires ordered { IsStrictlySortedBy key_cmp (keys_of sets.now.entries) }
     requires from { from ≡ sets_from sets.now.entries least.now }
     ensures ns { option_copied result.ns ≡ set_at sets.now.entries least.now.name NS }
-    ensures one { option_copied result.one ≡ set_at sets.now.entries least.now.name one.0 }
-    ensures other { option_copied result.other ≡ set_at sets.now.entries least.now.name other.0 }
+    ensures first_asked { option_copied result.first_asked ≡ set_at sets.now.entries least.now.name
+        first_asked.0 }
+    ensures second_asked { option_copied result.second_asked ≡ set_at sets.now.entries
+        least.now.name second_asked.0 }
     ensures first { option_copied result.first
         ≡ first_key_from sets.now.entries least.now.name }
 {
-    let last = last_of(one, other);
+    let last = last_of(first_asked, second_asked);
     let mut here = NodeSets {
         ns: None,
-        one: None,
-        other: None,
+        first_asked: None,
+        second_asked: None,
         first: None,
     };
     for (key, set) in from {
@@ -82,7 +84,7 @@ pub(crate) fn node_sets_in<'z>(
         if key.name != least.name {
             break;
         }
-        here = here.with(key.record_type, set, one, other);
+        here = here.with(key.record_type, set, first_asked, second_asked);
         // Further types are greater.
         if key.record_type >= last {
             break;
@@ -97,21 +99,23 @@ impl<'z> NodeSets<'z> {
         self,
         set_type: RecordType,
         set: &'z RecordSet,
-        one: RecordType,
-        other: RecordType,
+        first_asked: RecordType,
+        second_asked: RecordType,
     ) -> NodeSets<'z>
         ensures ns { option_copied result.ns
             ≡ option_or (option_copied self.entry.ns) (set_if (NS == set_type.0) set.now) }
-        ensures one { option_copied result.one
-            ≡ option_or (option_copied self.entry.one) (set_if (one.0 == set_type.0) set.now) }
-        ensures other { option_copied result.other
-            ≡ option_or (option_copied self.entry.other) (set_if (other.0 == set_type.0) set.now) }
+        ensures first_asked { option_copied result.first_asked
+            ≡ option_or (option_copied self.entry.first_asked) (set_if (first_asked.0 == set_type.0)
+            set.now) }
+        ensures second_asked { option_copied result.second_asked
+            ≡ option_or (option_copied self.entry.second_asked) (set_if (second_asked.0 ==
+            set_type.0) set.now) }
         ensures first { option_copied result.first ≡ option_copied self.entry.first }
     {
         NodeSets {
             ns: or_if(self.ns, RecordType::NS, set_type, set),
-            one: or_if(self.one, one, set_type, set),
-            other: or_if(self.other, other, set_type, set),
+            first_asked: or_if(self.first_asked, first_asked, set_type, set),
+            second_asked: or_if(self.second_asked, second_asked, set_type, set),
             first: self.first,
         }
     }
@@ -134,17 +138,17 @@ fn or_if<'z>(
 }
 
 /// The greatest of three types, of which one is NS.
-fn last_of(one: RecordType, other: RecordType) -> RecordType
+fn last_of(first_asked: RecordType, second_asked: RecordType) -> RecordType
     ensures ns { NS ≤ result.0 }
-    ensures one { one.0 ≤ result.0 }
-    ensures other { other.0 ≤ result.0 }
+    ensures first_asked { first_asked.0 ≤ result.0 }
+    ensures second_asked { second_asked.0 ≤ result.0 }
 {
-    RecordType::NS.max(one).max(other)
+    RecordType::NS.max(first_asked).max(second_asked)
 }
 
-/// Whether the name of its least key exists, where `here` stands there: whether it, or a name below it, owns a set of a type other
-/// than those of denial (RFC 4592 section 2.2.2). The first key from there on tells, since the names below a name stand together
-/// after it; only where that key is of a type of denial the zone is searched for a further one.
+/// Whether the name of its least key exists, where `here` is there: whether it, or a name below it, owns a set of a
+/// type other than those of denial (RFC 4592 section 2.2.2). The first key from there on tells, since the names below a
+/// name stand together after it; only where that key is of a type of denial the zone is searched for a further one.
 pub(crate) fn exists<S: Signer>(inner: &InnerInMemory<S>, least: &RrKey, here: NodeSets<'_>) -> bool
     requires key { least.now.record_type.0 ≡ 0 }
     requires first { option_copied here.first

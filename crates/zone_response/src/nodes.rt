@@ -1,4 +1,4 @@
-//! What a name, or the star that is asked for one, has for a query of a type.
+//! What a name, or the wildcard at the closest encloser of one, has for a query of a type.
 ghost use Rattle.std.specs.Prelude.{◌≡◌, IfOk, IsOkUnless, option_copied, option_and_then};
 ghost use Rattle.zone_map.specs.AnyTypes.{any_type};
 ghost use Rattle.zone_map.specs.Zones.{set_at};
@@ -27,8 +27,8 @@ pub(crate) enum Node<'z> {
     Nothing,
 }
 
-/// What the key's name has for a query of a type; the key's own type is of no account. `here` has the sets of that type and of
-/// CNAME that stand there. Refused by `Memory` alone.
+/// What the key's name has for a query of a type; the key's own type is of no account. `here` has the sets of that type
+/// and of CNAME that are there. Its only error is `Memory`.
 pub(crate) fn at_node<'z, S: Signer>(
     inner: &'z InnerInMemory<S>,
     key: &mut RrKey,
@@ -41,10 +41,10 @@ pub(crate) fn at_node<'z, S: Signer>(
     ensures err { IsOkUnless result LookupError.Memory }
     ensures same { key.new.name ≡ key.old.name }
 {
-    if let Some(set) = asked_set(inner, key, record_type, here.one)? {
+    if let Some(set) = asked_set(inner, key, record_type, here.first_asked)? {
         return Ok(Node::Own(set));
     }
-    if let Some(set) = here.other {
+    if let Some(set) = here.second_asked {
         return Ok(Node::Alias(set));
     }
     match stand_in_set(inner, key, record_type) {
@@ -95,7 +95,7 @@ fn any_set<'z, S: Signer>(
     }
 }
 
-/// Of a set, what goes out for a query of RRSIG are its signatures, if it has any.
+/// Of a set, what is sent for a query of RRSIG are its signatures, if it has any.
 fn if_signed(record_type: RecordType, set: &RecordSet) -> Option<&RecordSet>
     ensures { option_copied result ≡ if_signed record_type.0 set.now }
 {

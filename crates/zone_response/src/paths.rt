@@ -6,7 +6,7 @@ ghost use Rattle.zone_response.specs.Queries.{inquiry_of};
 ghost use Rattle.zone_response.specs.NodeSets.{StandsAt};
 ghost use Rattle.zone_response.specs.Descent.{DNAME};
 
-use crate::dname_repeats::unless_told;
+use crate::dname_repeats::unless_answered;
 use crate::lists::push;
 use crate::names::has_name;
 use crate::node_sets::NodeSets;
@@ -24,13 +24,13 @@ const MAX_CHAIN: usize = 8;
 pub(crate) struct Path<'z> {
     /// The sets of the answer section.
     pub(crate) answers: Vec<Sent<'z>>,
-    /// The names for which a star answered.
+    /// The names for which a wildcard answered.
     pub(crate) made: Vec<LowerName>,
     /// How it ends.
     pub(crate) end: End<'z>,
 }
 
-/// The path from a name, by what stands at the zone's origin. Refused by `Memory` alone.
+/// The path from a name, by what is at the zone's origin. Its only error is `Memory`.
 pub(crate) fn walk<'z, S: Signer>(
     inner: &'z InnerInMemory<S>,
     asked: Asked<'_>,
@@ -54,7 +54,7 @@ pub(crate) fn walk<'z, S: Signer>(
             return Ok(ended(so_far, End::Unfollowed));
         }
         let next = step(inner, asked, apex, &name, &mut so_far)?;
-        match unless_told(next, asked.record_type, &so_far.answers)? {
+        match unless_answered(next, asked.record_type, &so_far.answers)? {
             Next::On(target) => {
                 push(&mut seen, name)?;
                 name = target;

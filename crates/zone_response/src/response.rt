@@ -6,7 +6,7 @@ ghost use Rattle.zone_response.specs.Sections.{covers, is_signed};
 use zone_lookup::Found;
 use zone_proto::{LowerName, RData, Record, RecordSet, RecordType, ResponseCode};
 
-/// What goes out of a set.
+/// What is sent of a set.
 #[derive(Clone, Copy, PartialEq, Eq, Debug)]
 pub enum Part {
     /// The records.
@@ -24,7 +24,8 @@ pub struct Sent<'z> {
     pub set: Found<'z>,
     /// The TTL of all its records and signatures, in seconds, whatever they have themselves (RFC 2181 section 5.2).
     pub ttl: u32,
-    /// What goes out. Of the signatures only those go out for which [`Sent::covers`] says that they cover the set's type.
+    /// What is sent. Of the signatures only those are sent for which [`Sent::covers`] says that they cover the set's
+    /// type.
     pub part: Part,
 }
 
@@ -74,7 +75,7 @@ pub struct Response<'z> {
     /// What goes into the additional section where there is room.
     pub additionals: Vec<Sent<'z>>,
     /// What has to go into the additional section, so that a message without room for it is truncated: the glue of a
-    /// referral's servers that stand in the child (RFC 9471 section 3.1).
+    /// referral's servers that are in the child (RFC 9471 section 3.1).
     pub glue: Vec<Sent<'z>>,
     /// The name at which a chain of aliases left the zone, if it did. Another zone of the server may go on there.
     pub left_at: Option<LowerName>,

@@ -177,7 +177,7 @@ fn proof_sets<'z, S: Signer, H: Nsec3Hash>(
     proofs(zone, ds, made, end, hashes)
 }
 
-/// The DS set that goes out: without DNSSEC none, so that none is looked up.
+/// The DS set that is sent: without DNSSEC none, so that none is looked up.
 fn sent_ds<'z, S: Signer>(
     inner: &'z InnerInMemory<S>,
     signed: bool,
@@ -301,7 +301,7 @@ fn send_beside_last<'z, S: Signer>(
     }
 }
 
-/// Puts the sets last that go beside a set that goes out; beside signatures alone there are none.
+/// Puts the sets last that go beside a set that is sent; beside signatures alone there are none.
 fn send_beside_sent<'z, S: Signer>(
     inner: &'z InnerInMemory<S>,
     asked: Asked<'_>,

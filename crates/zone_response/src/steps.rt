@@ -9,18 +9,18 @@ ghost use Rattle.zone_response.specs.Sections.{as_it_is, sent_sets, part_for};
 ghost use Rattle.zone_response.specs.Queries.{inquiry_of};
 ghost use Rattle.zone_response.specs.Dname.{dname_target};
 ghost use Rattle.zone_response.specs.NodeSets.{StandsAt};
-ghost use Rattle.zone_response.specs.Steps.{step, turned_step, target_step, new_name_step, after_renaming, name_step, star_step, node_step, keeps, made_by, made_names, own_part, after_alias, missing as missing_at, ends, next_of, Takes};
-ghost use Rattle.zone_response.specs.Descent.{DNAME, turn_at};
+ghost use Rattle.zone_response.specs.Steps.{step, diverted_step, target_step, new_name_step, after_renaming, name_step, wildcard_step, node_step, keeps, as_found_for, expanded_names, own_part, after_alias, missing as missing_at, ends, next_of, Takes};
+ghost use Rattle.zone_response.specs.Descent.{DNAME, diversion_at};
 
 use crate::aname::stand_in_step;
-use crate::descent::{Turning, own_cut, turn_from_apex};
-use crate::dname::{dname_target, in_place_of, made_alias};
+use crate::descent::{Diverting, diversion_from_apex, own_cut};
+use crate::dname::{dname_target, in_place_of, synthesized_alias};
 use crate::lists::{push, send, send_made, send_unless_among};
 use crate::names::is_at_or_above;
 use crate::node_sets::{NodeSets, exists, read_node_sets};
 use crate::nodes::{Node, at_node};
 use crate::response::{Part, Sent};
-use crate::wildcards::star_of;
+use crate::wildcards::source_of_synthesis;
 use zone_handler::LookupError;
 use zone_lookup::{Found, InnerInMemory, cname_target};
 use zone_map::wildcard::renamed;
@@ -45,9 +45,9 @@ pub(crate) struct Asked<'z> {
 #[derive(Drop)]
 pub(crate) struct Missing {
     pub(crate) name: LowerName,
-    /// The star that was asked for it, if the name doesn't exist.
+    /// The wildcard that was asked for it, if the name doesn't exist.
     pub(crate) star: Option<LowerName>,
-    /// Whether the name or this star exists.
+    /// Whether the name or this wildcard exists.
     pub(crate) is_there: bool,
 }
 
@@ -84,12 +84,12 @@ pub(crate) enum Next<'z> {
 pub(crate) struct SoFar<'z> {
     /// The sets of the answer section.
     pub(crate) answers: Vec<Sent<'z>>,
-    /// The names for which a star answered.
+    /// The names for which a wildcard answered.
     pub(crate) made: Vec<LowerName>,
 }
 
-/// A step from a name, by what stands at the zone's origin: it puts the step's sets and names behind those so far. Refused by
-/// `Memory` alone.
+/// A step from a name, by what is at the zone's origin: it puts the step's sets and names behind those so far. Its only
+/// error is `Memory`.
 pub(crate) fn step<'z, S: Signer>(
     inner: &'z InnerInMemory<S>,
     asked: Asked<'_>,
@@ -107,9 +107,9 @@ pub(crate) fn step<'z, S: Signer>(
     if !is_at_or_above(asked.origin, name) {
         return Ok(Next::Ends(End::Outside(name.clone()?)));
     }
-    match turn_from_apex(inner, asked.origin, apex, name)? {
-        Some(Turning::Cut(cut)) => Ok(Next::Ends(End::Referred(cut))),
-        Some(Turning::Renaming(dname)) => target_step(dname, name, asked, so_far),
+    match diversion_from_apex(inner, asked.origin, apex, name)? {
+        Some(Diverting::Cut(cut)) => Ok(Next::Ends(End::Referred(cut))),
+        Some(Diverting::Renaming(dname)) => target_step(dname, name, asked, so_far),
         None => own_step(inner, asked, name, so_far),
     }
 }
@@ -124,9 +124,9 @@ fn own_step<'z, S: Signer>(
     requires { is_at_or_above asked.origin.now name.now ≡ true }
     ensures ok { IfOk result
         (λ next. Takes
-        (turned_step (inquiry_of S.signature_of asked.entry inner.now)
+        (diverted_step (inquiry_of S.signature_of asked.entry inner.now)
         (sent_sets so_far.old.answers) name.now
-        (turn_at asked.entry.origin.now inner.now.records name.now asked.entry.record_type.0
+        (diversion_at asked.entry.origin.now inner.now.records name.now asked.entry.record_type.0
         name.now)) so_far.old so_far.new next) }
     ensures err { IsOkUnless result LookupError.Memory }
 {
@@ -178,7 +178,7 @@ fn new_name_step<'z>(
         return Ok(Next::Ends(End::TooLong));
     };
     let next = after_renaming(asked.record_type, &new)?;
-    let alias = made_alias(dname, name, new)?;
+    let alias = synthesized_alias(dname, name, new)?;
     send_made(&mut so_far.answers, alias, Part::Records)?;
     Ok(next)
 }
@@ -194,7 +194,7 @@ fn after_renaming<'z>(record_type: RecordType, new: &Name) -> Result<Next<'z>, P
     Ok(Next::On(LowerName::new(new)?))
 }
 
-/// The step from a name that nothing turns, by its least key and what stands there.
+/// The step from a name that nothing turns, by its least key and what is there.
 fn name_step<'z, S: Signer>(
     inner: &'z InnerInMemory<S>,
     asked: Asked<'_>,
@@ -216,12 +216,12 @@ fn name_step<'z, S: Signer>(
         let node = at_node(inner, &mut key, asked.record_type, here)?;
         return node_step(inner, node, None, name, asked, so_far);
     }
-    let star = star_of(inner, name)?;
-    star_step(inner, asked, name, star, so_far)
+    let star = source_of_synthesis(inner, name)?;
+    wildcard_step(inner, asked, name, star, so_far)
 }
 
-/// The step from a name that doesn't exist, by the star that is asked for it.
-fn star_step<'z, S: Signer>(
+/// The step from a name that doesn't exist, by the wildcard at its closest encloser.
+fn wildcard_step<'z, S: Signer>(
     inner: &'z InnerInMemory<S>,
     asked: Asked<'_>,
     name: &LowerName,
@@ -229,7 +229,8 @@ fn star_step<'z, S: Signer>(
     so_far: &mut SoFar<'z>,
 ) -> Result<Next<'z>, LookupError>
     ensures ok { IfOk result
-        (λ next. Takes (star_step (inquiry_of S.signature_of asked.entry inner.now) name.now star)
+        (λ next. Takes (wildcard_step (inquiry_of S.signature_of asked.entry inner.now) name.now
+        star)
         so_far.old so_far.new next) }
     ensures err { IsOkUnless result LookupError.Memory }
 {
@@ -245,7 +246,7 @@ fn star_step<'z, S: Signer>(
     node_step(inner, node, Some(star), name, asked, so_far)
 }
 
-/// The step from a name by what it has itself, or what the star has that is asked for it.
+/// The step from a name by what it has itself, or what the wildcard has that is asked for it.
 fn node_step<'z, S: Signer>(
     inner: &'z InnerInMemory<S>,
     node: Node<'z>,
@@ -283,7 +284,7 @@ pub(crate) fn keeps(asked: Asked<'_>) -> bool
     asked.signed || asked.record_type == RecordType::RRSIG
 }
 
-/// What goes out of the set that is asked for.
+/// What is sent of the set that is asked for.
 fn own_part(asked: Asked<'_>) -> Part
     ensures { result ≡ own_part asked.entry.signed asked.entry.record_type.0 }
 {
@@ -327,7 +328,7 @@ fn after_alias<'z>(set: &RecordSet) -> Result<Next<'z>, ProtoError>
     })
 }
 
-/// Puts a set as it is found for a name behind the sets so far, and the name behind the names if a star has the set.
+/// Appends a set as it is found for a name to the sets so far, and the name behind the names if a wildcard has the set.
 fn answer<'z>(
     set: &'z RecordSet,
     star: Option<LowerName>,
@@ -339,9 +340,9 @@ fn answer<'z>(
     ensures answers { OnOk result
         (sent_sets so_far.new.answers
         ≡ sent_sets so_far.old.answers
-        ++ as_it_is part (made_by keep star name.now set.now) ∷ []) }
+        ++ as_it_is part (as_found_for keep star name.now set.now) ∷ []) }
     ensures made { OnOk result
-        (so_far.new.made.items ≡ so_far.old.made.items ++ made_names star name.now) }
+        (so_far.new.made.items ≡ so_far.old.made.items ++ expanded_names star name.now) }
     ensures err { IsOkUnless result ProtoError.Memory }
 {
     add_made(&star, name, &mut so_far.made)?;
@@ -355,13 +356,13 @@ fn answer<'z>(
     send(&mut so_far.answers, item)
 }
 
-/// Puts a name last if a star has its set.
+/// Puts a name last if a wildcard has its set.
 pub(crate) fn add_made(
     star: &Option<LowerName>,
     name: &LowerName,
     made: &mut Vec<LowerName>,
 ) -> Result<(), ProtoError>
-    ensures ok { OnOk result (made.new.items ≡ made.old.items ++ made_names star.now name.now) }
+    ensures ok { OnOk result (made.new.items ≡ made.old.items ++ expanded_names star.now name.now) }
     ensures err { IsOkUnless result ProtoError.Memory }
 {
     match star {
@@ -377,7 +378,7 @@ pub(crate) fn found_for<'z>(
     name: &LowerName,
     keep: bool,
 ) -> Result<Found<'z>, ProtoError>
-    ensures ok { IfOk result (λ found. found_set found ≡ made_by keep star name.now set.now) }
+    ensures ok { IfOk result (λ found. found_set found ≡ as_found_for keep star name.now set.now) }
     ensures err { IsOkUnless result ProtoError.Memory }
 {
     match star {

@@ -7,5 +7,5 @@ returns-clause-reason c = failure_has_reason
 pub returns-clause-answered : goal.returns-clause-answered
 returns-clause-answered c = answerable_is_answered
 
-pub returns-clause-told : goal.returns-clause-told
-returns-clause-told c = failure_is_told
+pub returns-clause-call_concludes : goal.returns-clause-call_concludes
+returns-clause-call_concludes c = failure_is_told

@@ -11,7 +11,7 @@ use Rattle.zone_response.proofs.additional.send_addresses.Goals as goal
 pub returns-clause-ok : goal.returns-clause-ok
 returns-clause-ok g c =
     let m = c.args.inner.now.records in
-    let one : option_copied c.read_node_sets-here.result.one ≡ set_at m c.args.name.now A = c.read_node_sets-here.ensures.one ∙ ap (λ (k : RrKey). set_at m k.name A) c.in_ok-key.ensures.copy.ok in
-    let other : option_copied c.read_node_sets-here.result.other ≡ set_at m c.args.name.now AAAA = c.read_node_sets-here.ensures.other ∙ ap (λ (k : RrKey). set_at m k.name AAAA) c.in_ok-key.ensures.copy.ok in
+    let first_asked : option_copied c.read_node_sets-here.result.first_asked ≡ set_at m c.args.name.now A = c.read_node_sets-here.ensures.first_asked ∙ ap (λ (k : RrKey). set_at m k.name A) c.in_ok-key.ensures.copy.ok in
+    let second_asked : option_copied c.read_node_sets-here.result.second_asked ≡ set_at m c.args.name.now AAAA = c.read_node_sets-here.ensures.second_asked ∙ ap (λ (k : RrKey). set_at m k.name AAAA) c.in_ok-key.ensures.copy.ok in
     IfOk-equal c.send_standing.result (sent_sets c.send_standing.new.list) _ _ c.send_standing.ensures.ok
-    (λ i. sent_sets c.args.list.now ++ map (as_it_is c.args.part) (cons_option (one i) (cons_option (other i) [])))
+    (λ i. sent_sets c.args.list.now ++ map (as_it_is c.args.part) (cons_option (first_asked i) (cons_option (second_asked i) [])))

@@ -18,13 +18,13 @@ walk-requires g c = subst (λ (a : Name). StandsAt c.args.zone.now.inner.now.rec
 pub returns-in_ok-walk-in-Some-clause-response : goal.returns-in_ok-walk-in-Some-clause-response
 returns-in_ok-walk-in-Some-clause-response g c =
     let m = c.args.zone.now.inner.now.records in
-    let stored : Some c.in-Some.soa.now ≡ set_at m c.args.zone.now.origin.now SOA = ap option_copied (sym c.in-Some.is) ∙ c.in_ok-apex.ensures.ok.one in
+    let stored : Some c.in-Some.soa.now ≡ set_at m c.args.zone.now.origin.now SOA = ap option_copied (sym c.in-Some.is) ∙ c.in_ok-apex.ensures.ok.first_asked in
     with_soa (zone_of g.S.Signer.signature_of g.H.Nsec3Hash.digest_of c.args.zone.now) (inquiry_of g.S.Signer.signature_of c.args.asked c.args.zone.now.inner.now) c.args.name.now c.along.result c.in-Some.soa.now (path_of c.in_ok-walk-in-Some.field-0) stored c.in_ok-walk-in-Some.ensures.ok c.along.ensures.response
 
 pub returns-in-None-clause-response : goal.returns-in-None-clause-response
 returns-in-None-clause-response g c =
     let m = c.args.zone.now.inner.now.records in
-    let stored : None ≡ set_at m c.args.zone.now.origin.now SOA = ap option_copied (sym c.in-None.is) ∙ c.in_ok-apex.ensures.ok.one in
+    let stored : None ≡ set_at m c.args.zone.now.origin.now SOA = ap option_copied (sym c.in-None.is) ∙ c.in_ok-apex.ensures.ok.first_asked in
     without_soa (zone_of g.S.Signer.signature_of g.H.Nsec3Hash.digest_of c.args.zone.now) (inquiry_of g.S.Signer.signature_of c.args.asked c.args.zone.now.inner.now) c.args.name.now (sections c.bare.result) stored c.bare.ensures
 
 pub returns-in_ok-walk-in-Some-clause-counted : goal.returns-in_ok-walk-in-Some-clause-counted

@@ -5,8 +5,8 @@ use Rattle.zone_response.proofs.LabelCounts.{below_counted}
 use Rattle.zone_response.proofs.ProvenNames.{absent_is, below_had}
 use Rattle.zone_response.proofs.hashed_denials.absent_below.Goals as goal
 
-pub returns-in_err-star_set-clause-counted : goal.returns-in_err-star_set-clause-counted
-returns-in_err-star_set-clause-counted g c =
+pub returns-in_err-wildcard_set-clause-counted : goal.returns-in_err-wildcard_set-clause-counted
+returns-in_err-wildcard_set-clause-counted g c =
     below_counted c.args.query.qname.now c.args.encloser.child c.num_labels.result c.args.hashes.now c.hashed_closer.new.hashes c.known_or_hashed.new.hashes c.requires.child c.num_labels.ensures.count c.hashed_closer.ensures.counted c.known_or_hashed.ensures.counted
 
 pub returns-in_err-in_owner_order-clause-counted : goal.returns-in_err-in_owner_order-clause-counted
@@ -19,7 +19,7 @@ returns-clause-ok g c =
     c.in_ok-in_owner_order.ensures.ok
     ∙ absent_is hash c.args.zone.now.origin.now c.args.zone.now.denials.now c.args.query.qname.now c.args.encloser.child c.num_labels.result c.requires.child c.num_labels.ensures.count
     c.in_ok-closer.closer c.in_ok-closer.ensures.name c.in_ok-closer.ensures.owner (option_copied c.in_ok-closer_set.closer_set) c.in_ok-closer_set.ensures.ok
-    c.args.encloser.set.now c.requires.set c.into_wildcard.result c.in_ok-star.star.owner (option_copied c.in_ok-star_set.star_set) c.into_wildcard.ensures c.in_ok-star.ensures.owner c.in_ok-star_set.ensures.ok
+    c.args.encloser.set.now c.requires.set c.into_wildcard.result c.in_ok-star.star.owner (option_copied c.in_ok-wildcard_set.wildcard_set) c.into_wildcard.ensures c.in_ok-star.ensures.owner c.in_ok-wildcard_set.ensures.ok
 
 pub returns-clause-hashed : goal.returns-clause-hashed
 returns-clause-hashed g c =

@@ -38,8 +38,8 @@ loop-key-init c =
     let first : c.into_iter-key-iterator.result ≡ from_key c.args.least.now c.args.sets.now.entries = c.into_iter-key-iterator.ensures.into_iter_gives ∙ c.requires.from in
     record {
       ns = ap (first_set (λ u. NS == u) c.args.least.now.name) first;
-      one = ap (first_set (λ u. c.args.one.0 == u) c.args.least.now.name) first;
-      other = ap (first_set (λ u. c.args.other.0 == u) c.args.least.now.name) first;
+      first_asked = ap (first_set (λ u. c.args.first_asked.0 == u) c.args.least.now.name) first;
+      second_asked = ap (first_set (λ u. c.args.second_asked.0 == u) c.args.least.now.name) first;
       first = ap front_key first;
       ascend =
           subst (λ es. Ascends (front_types c.args.least.now.name es)) (sym first)
@@ -53,12 +53,12 @@ loop-key-preserved c =
       ns =
           first_passed (λ u. NS == u) c.args.least.now.name _ c.next.new.self (c.in-Some.key.now, c.in-Some.set.now) (option_copied c.loop-key.here.ns) _ _
           c.in-Some.ensures.steps same c.with-here.ensures.ns c.loop-key.invariant.ns;
-      one =
-          first_passed (λ u. c.args.one.0 == u) c.args.least.now.name _ c.next.new.self (c.in-Some.key.now, c.in-Some.set.now) (option_copied c.loop-key.here.one) _ _
-          c.in-Some.ensures.steps same c.with-here.ensures.one c.loop-key.invariant.one;
-      other =
-          first_passed (λ u. c.args.other.0 == u) c.args.least.now.name _ c.next.new.self (c.in-Some.key.now, c.in-Some.set.now) (option_copied c.loop-key.here.other) _ _
-          c.in-Some.ensures.steps same c.with-here.ensures.other c.loop-key.invariant.other;
+      first_asked =
+          first_passed (λ u. c.args.first_asked.0 == u) c.args.least.now.name _ c.next.new.self (c.in-Some.key.now, c.in-Some.set.now) (option_copied c.loop-key.here.first_asked) _ _
+          c.in-Some.ensures.steps same c.with-here.ensures.first_asked c.loop-key.invariant.first_asked;
+      second_asked =
+          first_passed (λ u. c.args.second_asked.0 == u) c.args.least.now.name _ c.next.new.self (c.in-Some.key.now, c.in-Some.set.now) (option_copied c.loop-key.here.second_asked) _ _
+          c.in-Some.ensures.steps same c.with-here.ensures.second_asked c.loop-key.invariant.second_asked;
       first =
           first_stays _ c.next.new.self (c.in-Some.key.now, c.in-Some.set.now) (option_copied c.loop-key.here.first) (option_copied c.with-here.result.first) _
           c.in-Some.ensures.steps (c.with-here.ensures.first ∙ noted_first c.loop-key.here.first c.in-Some.key c.or-here.result c.or-here.ensures) c.loop-key.invariant.first;
@@ -70,36 +70,36 @@ returns-in-None-clause-ns c =
     alone (option_copied c.loop-key.here.ns) _ _ (ap (first_set (λ u. NS == u) c.args.least.now.name) c.in-None.ensures.steps.0) c.loop-key.invariant.ns
     ∙ whole_type c.args.least.now c.args.sets.now.entries c.args.sets.now.entries c.requires.least c.requires.ordered refl NS
 
-pub returns-in-None-clause-one : goal.returns-in-None-clause-one
-returns-in-None-clause-one c =
-    alone (option_copied c.loop-key.here.one) _ _ (ap (first_set (λ u. c.args.one.0 == u) c.args.least.now.name) c.in-None.ensures.steps.0) c.loop-key.invariant.one
-    ∙ whole_type c.args.least.now c.args.sets.now.entries c.args.sets.now.entries c.requires.least c.requires.ordered refl c.args.one.0
+pub returns-in-None-clause-first_asked : goal.returns-in-None-clause-first_asked
+returns-in-None-clause-first_asked c =
+    alone (option_copied c.loop-key.here.first_asked) _ _ (ap (first_set (λ u. c.args.first_asked.0 == u) c.args.least.now.name) c.in-None.ensures.steps.0) c.loop-key.invariant.first_asked
+    ∙ whole_type c.args.least.now c.args.sets.now.entries c.args.sets.now.entries c.requires.least c.requires.ordered refl c.args.first_asked.0
 
-pub returns-in-None-clause-other : goal.returns-in-None-clause-other
-returns-in-None-clause-other c =
-    alone (option_copied c.loop-key.here.other) _ _ (ap (first_set (λ u. c.args.other.0 == u) c.args.least.now.name) c.in-None.ensures.steps.0) c.loop-key.invariant.other
-    ∙ whole_type c.args.least.now c.args.sets.now.entries c.args.sets.now.entries c.requires.least c.requires.ordered refl c.args.other.0
+pub returns-in-None-clause-second_asked : goal.returns-in-None-clause-second_asked
+returns-in-None-clause-second_asked c =
+    alone (option_copied c.loop-key.here.second_asked) _ _ (ap (first_set (λ u. c.args.second_asked.0 == u) c.args.least.now.name) c.in-None.ensures.steps.0) c.loop-key.invariant.second_asked
+    ∙ whole_type c.args.least.now c.args.sets.now.entries c.args.sets.now.entries c.requires.least c.requires.ordered refl c.args.second_asked.0
 
 pub returns-then-ne-clause-ns : goal.returns-then-ne-clause-ns
 returns-then-ne-clause-ns c =
-    let other : eq_by_cmp name_cmp c.in-Some.key.now.name c.args.least.now.name ≡ false = not_true _ (sym c.ne.ensures ∙ c.if-ne.true) in
+    let second_asked : eq_by_cmp name_cmp c.in-Some.key.now.name c.args.least.now.name ≡ false = not_true _ (sym c.ne.ensures ∙ c.if-ne.true) in
     alone (option_copied c.loop-key.here.ns) _ _
-    (first_over (λ u. NS == u) c.args.least.now.name _ c.next.new.self (c.in-Some.key.now, c.in-Some.set.now) c.in-Some.ensures.steps other) c.loop-key.invariant.ns
+    (first_over (λ u. NS == u) c.args.least.now.name _ c.next.new.self (c.in-Some.key.now, c.in-Some.set.now) c.in-Some.ensures.steps second_asked) c.loop-key.invariant.ns
     ∙ whole_type c.args.least.now c.args.sets.now.entries c.args.sets.now.entries c.requires.least c.requires.ordered refl NS
 
-pub returns-then-ne-clause-one : goal.returns-then-ne-clause-one
-returns-then-ne-clause-one c =
-    let other : eq_by_cmp name_cmp c.in-Some.key.now.name c.args.least.now.name ≡ false = not_true _ (sym c.ne.ensures ∙ c.if-ne.true) in
-    alone (option_copied c.loop-key.here.one) _ _
-    (first_over (λ u. c.args.one.0 == u) c.args.least.now.name _ c.next.new.self (c.in-Some.key.now, c.in-Some.set.now) c.in-Some.ensures.steps other) c.loop-key.invariant.one
-    ∙ whole_type c.args.least.now c.args.sets.now.entries c.args.sets.now.entries c.requires.least c.requires.ordered refl c.args.one.0
+pub returns-then-ne-clause-first_asked : goal.returns-then-ne-clause-first_asked
+returns-then-ne-clause-first_asked c =
+    let second_asked : eq_by_cmp name_cmp c.in-Some.key.now.name c.args.least.now.name ≡ false = not_true _ (sym c.ne.ensures ∙ c.if-ne.true) in
+    alone (option_copied c.loop-key.here.first_asked) _ _
+    (first_over (λ u. c.args.first_asked.0 == u) c.args.least.now.name _ c.next.new.self (c.in-Some.key.now, c.in-Some.set.now) c.in-Some.ensures.steps second_asked) c.loop-key.invariant.first_asked
+    ∙ whole_type c.args.least.now c.args.sets.now.entries c.args.sets.now.entries c.requires.least c.requires.ordered refl c.args.first_asked.0
 
-pub returns-then-ne-clause-other : goal.returns-then-ne-clause-other
-returns-then-ne-clause-other c =
-    let other : eq_by_cmp name_cmp c.in-Some.key.now.name c.args.least.now.name ≡ false = not_true _ (sym c.ne.ensures ∙ c.if-ne.true) in
-    alone (option_copied c.loop-key.here.other) _ _
-    (first_over (λ u. c.args.other.0 == u) c.args.least.now.name _ c.next.new.self (c.in-Some.key.now, c.in-Some.set.now) c.in-Some.ensures.steps other) c.loop-key.invariant.other
-    ∙ whole_type c.args.least.now c.args.sets.now.entries c.args.sets.now.entries c.requires.least c.requires.ordered refl c.args.other.0
+pub returns-then-ne-clause-second_asked : goal.returns-then-ne-clause-second_asked
+returns-then-ne-clause-second_asked c =
+    let second_asked : eq_by_cmp name_cmp c.in-Some.key.now.name c.args.least.now.name ≡ false = not_true _ (sym c.ne.ensures ∙ c.if-ne.true) in
+    alone (option_copied c.loop-key.here.second_asked) _ _
+    (first_over (λ u. c.args.second_asked.0 == u) c.args.least.now.name _ c.next.new.self (c.in-Some.key.now, c.in-Some.set.now) c.in-Some.ensures.steps second_asked) c.loop-key.invariant.second_asked
+    ∙ whole_type c.args.least.now c.args.sets.now.entries c.args.sets.now.entries c.requires.least c.requires.ordered refl c.args.second_asked.0
 
 pub returns-then-ge-clause-ns : goal.returns-then-ge-clause-ns
 returns-then-ge-clause-ns c =
@@ -113,29 +113,29 @@ returns-then-ge-clause-ns c =
     c.in-Some.ensures.steps same c.with-here.ensures.ns c.loop-key.invariant.ns)
     ∙ whole_type c.args.least.now c.args.sets.now.entries c.args.sets.now.entries c.requires.least c.requires.ordered refl NS
 
-pub returns-then-ge-clause-one : goal.returns-then-ge-clause-one
-returns-then-ge-clause-one c =
+pub returns-then-ge-clause-first_asked : goal.returns-then-ge-clause-first_asked
+returns-then-ge-clause-first_asked c =
     let same : eq_by_cmp name_cmp c.in-Some.key.now.name c.args.least.now.name ≡ true = not_false _ (sym c.ne.ensures ∙ c.if-ne.false) in
     let high : c.last_of-last.result.0 ≤ c.in-Some.key.now.record_type.0 = at_least c.in-Some.key.now.record_type.0 c.last_of-last.result.0 c.if-ge.ensures in
-    let known : c.args.one.0 ≤ c.last_of-last.result.0 = c.last_of-last.ensures.one in
-    alone (option_copied c.with-here.result.one) _ _
+    let known : c.args.first_asked.0 ≤ c.last_of-last.result.0 = c.last_of-last.ensures.first_asked in
+    alone (option_copied c.with-here.result.first_asked) _ _
     (none_left c.args.least.now.name _ c.next.new.self (c.in-Some.key.now, c.in-Some.set.now) c.in-Some.ensures.steps same c.loop-key.invariant.ascend
-    (λ u. c.args.one.0 == u) (λ u h. later_differs c.args.one.0 u (omega (arith, h, high, known))))
-    (first_passed (λ u. c.args.one.0 == u) c.args.least.now.name _ c.next.new.self (c.in-Some.key.now, c.in-Some.set.now) (option_copied c.loop-key.here.one) _ _
-    c.in-Some.ensures.steps same c.with-here.ensures.one c.loop-key.invariant.one)
-    ∙ whole_type c.args.least.now c.args.sets.now.entries c.args.sets.now.entries c.requires.least c.requires.ordered refl c.args.one.0
+    (λ u. c.args.first_asked.0 == u) (λ u h. later_differs c.args.first_asked.0 u (omega (arith, h, high, known))))
+    (first_passed (λ u. c.args.first_asked.0 == u) c.args.least.now.name _ c.next.new.self (c.in-Some.key.now, c.in-Some.set.now) (option_copied c.loop-key.here.first_asked) _ _
+    c.in-Some.ensures.steps same c.with-here.ensures.first_asked c.loop-key.invariant.first_asked)
+    ∙ whole_type c.args.least.now c.args.sets.now.entries c.args.sets.now.entries c.requires.least c.requires.ordered refl c.args.first_asked.0
 
-pub returns-then-ge-clause-other : goal.returns-then-ge-clause-other
-returns-then-ge-clause-other c =
+pub returns-then-ge-clause-second_asked : goal.returns-then-ge-clause-second_asked
+returns-then-ge-clause-second_asked c =
     let same : eq_by_cmp name_cmp c.in-Some.key.now.name c.args.least.now.name ≡ true = not_false _ (sym c.ne.ensures ∙ c.if-ne.false) in
     let high : c.last_of-last.result.0 ≤ c.in-Some.key.now.record_type.0 = at_least c.in-Some.key.now.record_type.0 c.last_of-last.result.0 c.if-ge.ensures in
-    let known : c.args.other.0 ≤ c.last_of-last.result.0 = c.last_of-last.ensures.other in
-    alone (option_copied c.with-here.result.other) _ _
+    let known : c.args.second_asked.0 ≤ c.last_of-last.result.0 = c.last_of-last.ensures.second_asked in
+    alone (option_copied c.with-here.result.second_asked) _ _
     (none_left c.args.least.now.name _ c.next.new.self (c.in-Some.key.now, c.in-Some.set.now) c.in-Some.ensures.steps same c.loop-key.invariant.ascend
-    (λ u. c.args.other.0 == u) (λ u h. later_differs c.args.other.0 u (omega (arith, h, high, known))))
-    (first_passed (λ u. c.args.other.0 == u) c.args.least.now.name _ c.next.new.self (c.in-Some.key.now, c.in-Some.set.now) (option_copied c.loop-key.here.other) _ _
-    c.in-Some.ensures.steps same c.with-here.ensures.other c.loop-key.invariant.other)
-    ∙ whole_type c.args.least.now c.args.sets.now.entries c.args.sets.now.entries c.requires.least c.requires.ordered refl c.args.other.0
+    (λ u. c.args.second_asked.0 == u) (λ u h. later_differs c.args.second_asked.0 u (omega (arith, h, high, known))))
+    (first_passed (λ u. c.args.second_asked.0 == u) c.args.least.now.name _ c.next.new.self (c.in-Some.key.now, c.in-Some.set.now) (option_copied c.loop-key.here.second_asked) _ _
+    c.in-Some.ensures.steps same c.with-here.ensures.second_asked c.loop-key.invariant.second_asked)
+    ∙ whole_type c.args.least.now c.args.sets.now.entries c.args.sets.now.entries c.requires.least c.requires.ordered refl c.args.second_asked.0
 
 pub returns-in-None-clause-first : goal.returns-in-None-clause-first
 returns-in-None-clause-first c =

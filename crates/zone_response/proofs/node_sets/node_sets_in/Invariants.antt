@@ -12,8 +12,8 @@ use Rattle.zone_response.proofs.node_sets.node_sets_in.Given as goal
 abbrev pub invariant-loop-key : goal.invariant-loop-key
 invariant-loop-key l = record {
   ns : option_or (option_copied l.here.ns) (first_set (λ u. NS == u) l.least.name l.key-iterator) ≡ first_set (λ u. NS == u) l.least.name (from_key l.least l.sets.entries);
-  one : option_or (option_copied l.here.one) (first_set (λ u. l.one.0 == u) l.least.name l.key-iterator) ≡ first_set (λ u. l.one.0 == u) l.least.name (from_key l.least l.sets.entries);
-  other : option_or (option_copied l.here.other) (first_set (λ u. l.other.0 == u) l.least.name l.key-iterator) ≡ first_set (λ u. l.other.0 == u) l.least.name (from_key l.least l.sets.entries);
+  first_asked : option_or (option_copied l.here.first_asked) (first_set (λ u. l.first_asked.0 == u) l.least.name l.key-iterator) ≡ first_set (λ u. l.first_asked.0 == u) l.least.name (from_key l.least l.sets.entries);
+  second_asked : option_or (option_copied l.here.second_asked) (first_set (λ u. l.second_asked.0 == u) l.least.name l.key-iterator) ≡ first_set (λ u. l.second_asked.0 == u) l.least.name (from_key l.least l.sets.entries);
   first : option_or (option_copied l.here.first) (front_key l.key-iterator) ≡ front_key (from_key l.least l.sets.entries);
   ascend : Ascends (front_types l.least.name l.key-iterator);
 }

@@ -9,8 +9,8 @@ returns g c =
     let n = c.args.least.now.name in
     record {
       ns = c.node_sets_in.ensures.ns ∙ ap (λ m. set_at m n NS) c.as_map-sets.ensures.entries;
-      one = c.node_sets_in.ensures.one ∙ ap (λ m. set_at m n c.args.one.0) c.as_map-sets.ensures.entries;
-      other = c.node_sets_in.ensures.other ∙ ap (λ m. set_at m n c.args.other.0) c.as_map-sets.ensures.entries;
+      first_asked = c.node_sets_in.ensures.first_asked ∙ ap (λ m. set_at m n c.args.first_asked.0) c.as_map-sets.ensures.entries;
+      second_asked = c.node_sets_in.ensures.second_asked ∙ ap (λ m. set_at m n c.args.second_asked.0) c.as_map-sets.ensures.entries;
       first = c.node_sets_in.ensures.first ∙ ap (λ m. first_key_from m n) c.as_map-sets.ensures.entries;
       zone = c.as_map-sets.ensures.zone;
     }

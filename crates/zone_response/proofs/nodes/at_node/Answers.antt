@@ -8,10 +8,10 @@ pub returns-in-Some-clause-node : goal.returns-in-Some-clause-node
 returns-in-Some-clause-node g c =
     own_first c.args.inner.now.records c.args.key.now.name c.args.record_type.0 c.in-Some.set.now (ap option_copied (sym c.in-Some.is) ∙ c.in_ok-set.ensures.set)
 
-pub returns-in-Some-other-clause-node : goal.returns-in-Some-other-clause-node
-returns-in-Some-other-clause-node g c =
-    alias_first c.args.inner.now.records c.args.key.now.name c.args.record_type.0 c.in-Some-other.set.now
-    (ap option_copied (sym c.in_default.is) ∙ c.in_ok-set.ensures.set) (ap option_copied (sym c.in-Some-other.is) ∙ c.requires.other)
+pub returns-in-Some-second_asked-clause-node : goal.returns-in-Some-second_asked-clause-node
+returns-in-Some-second_asked-clause-node g c =
+    alias_first c.args.inner.now.records c.args.key.now.name c.args.record_type.0 c.in-Some-second_asked.set.now
+    (ap option_copied (sym c.in_default.is) ∙ c.in_ok-set.ensures.set) (ap option_copied (sym c.in-Some-second_asked.is) ∙ c.requires.second_asked)
 
 pub returns-in-Some-stand_in_set-clause-node : goal.returns-in-Some-stand_in_set-clause-node
 returns-in-Some-stand_in_set-clause-node g c =
@@ -19,7 +19,7 @@ returns-in-Some-stand_in_set-clause-node g c =
     let t = c.args.record_type.0 in
     stand_in_first m c.args.key.now.name t (Some c.in-Some-stand_in_set.set.now)
     (ap option_copied (sym c.in_default.is) ∙ c.in_ok-set.ensures.set)
-    (ap option_copied (sym c.in_default-other.is) ∙ c.requires.other)
+    (ap option_copied (sym c.in_default-second_asked.is) ∙ c.requires.second_asked)
     (ap option_copied (sym c.in-Some-stand_in_set.is) ∙ c.stand_in_set.ensures.set ∙ ap (λ x. stand_in_set m x t) c.asked_set.ensures.same)
 
 pub returns-in-None-clause-node : goal.returns-in-None-clause-node
@@ -28,5 +28,5 @@ returns-in-None-clause-node g c =
     let t = c.args.record_type.0 in
     stand_in_first m c.args.key.now.name t None
     (ap option_copied (sym c.in_default.is) ∙ c.in_ok-set.ensures.set)
-    (ap option_copied (sym c.in_default-other.is) ∙ c.requires.other)
+    (ap option_copied (sym c.in_default-second_asked.is) ∙ c.requires.second_asked)
     (ap option_copied (sym c.in-None.is) ∙ c.stand_in_set.ensures.set ∙ ap (λ x. stand_in_set m x t) c.asked_set.ensures.same)

@@ -3,7 +3,7 @@ use Rattle.std.specs.List.{list_any}
 use Rattle.zone_proto.specs.Names.{name_eq}
 use Rattle.zone_response.specs.Queries.{inquiry_of}
 use Rattle.zone_response.specs.Sections.{sent_set, sent_sets}
-use Rattle.zone_response.specs.Paths.{unless_told, path}
+use Rattle.zone_response.specs.Paths.{unless_answered, path}
 use Rattle.zone_response.specs.Steps.{end_of, next_of}
 use Rattle.zone_response.proofs.PathSteps.{begins, none_left, known, told, goes_on, comes_to}
 use Rattle.zone_response.proofs.paths.walk.Goals as goal
@@ -38,7 +38,7 @@ loop-count-preserved g c =
     told q w (sent_sets l.so_far.answers) l.so_far.made.items (8 - l._count) l.seen.items l.name l.invariant j more new
     (sent_sets c.step.new.so_far.answers) c.step.new.so_far.made.items takes.answers takes.made
     (next_of c.in_ok-target.field-0) (next_of c.in_ok-next.next)
-    (c.in_ok-target.ensures.ok ∙ ap (λ sets. unless_told q.record_type (map sent_set sets) (next_of c.in_ok-next.next)) c.deref-in-loop-count.ensures.value) takes.next in
+    (c.in_ok-target.ensures.ok ∙ ap (λ sets. unless_answered q.record_type (map sent_set sets) (next_of c.in_ok-next.next)) c.deref-in-loop-count.ensures.value) takes.next in
     goes_on q w (sent_sets l.so_far.answers) l.so_far.made.items (8 - l._count) l.seen.items l.name l.invariant j more new
     (sent_sets c.step.new.so_far.answers) c.step.new.so_far.made.items takes.answers takes.made c.in-On.target c.push.new.list.items (ap next_of (sym c.in-On.is) ∙ next) c.in_ok-push-in-On.ensures.ok
 
@@ -55,7 +55,7 @@ returns-in-Ends-clause-ok g c =
     told q w (sent_sets l.so_far.answers) l.so_far.made.items (8 - l._count) l.seen.items l.name l.invariant j more new
     (sent_sets c.step.new.so_far.answers) c.step.new.so_far.made.items takes.answers takes.made
     (next_of c.in_ok-target.field-0) (next_of c.in_ok-next.next)
-    (c.in_ok-target.ensures.ok ∙ ap (λ sets. unless_told q.record_type (map sent_set sets) (next_of c.in_ok-next.next)) c.deref-in-loop-count.ensures.value) takes.next in
+    (c.in_ok-target.ensures.ok ∙ ap (λ sets. unless_answered q.record_type (map sent_set sets) (next_of c.in_ok-next.next)) c.deref-in-loop-count.ensures.value) takes.next in
     (λ i. record { answers = sent_sets (c.ended-in-Ends.ensures.answers i); made = (c.ended-in-Ends.ensures.made i).items; end = end_of (c.ended-in-Ends.ensures.end i) })
     ∙ comes_to q w (sent_sets l.so_far.answers) l.so_far.made.items (8 - l._count) l.seen.items l.name l.invariant j more new
     (sent_sets c.step.new.so_far.answers) c.step.new.so_far.made.items takes.answers takes.made (end_of c.in-Ends.end) (ap next_of (sym c.in-Ends.is) ∙ next)

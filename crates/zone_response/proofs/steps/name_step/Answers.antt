@@ -3,7 +3,7 @@ use Rattle.std.specs.Prelude.{None}
 use Rattle.zone_map.specs.Wildcards.{exists}
 use Rattle.zone_response.specs.Nodes.{at_node, node_of}
 use Rattle.zone_response.specs.Queries.{inquiry_of}
-use Rattle.zone_response.specs.Steps.{name_step, star_step, node_step}
+use Rattle.zone_response.specs.Steps.{name_step, wildcard_step, node_step}
 use Rattle.zone_response.proofs.StepCases.{same_step, own_step, absent_step}
 use Rattle.zone_response.proofs.steps.name_step.Goals as goal
 
@@ -21,5 +21,5 @@ returns-clause-ok g c =
     let q = inquiry_of g.S.Signer.signature_of c.args.asked c.args.inner.now in
     let x = c.args.name.now in
     let absent : exists q.sets x ≡ false = sym (ap (exists q.sets) c.requires.name) ∙ sym c.exists.ensures ∙ c.if-exists.false in
-    same_step c.star_step.result c.args.so_far.now c.star_step.new.so_far (name_step q x) (star_step q x c.in_ok-star.star)
-    (absent_step q x c.in_ok-star.star absent c.in_ok-star.ensures.star) c.star_step.ensures.ok
+    same_step c.wildcard_step.result c.args.so_far.now c.wildcard_step.new.so_far (name_step q x) (wildcard_step q x c.in_ok-star.star)
+    (absent_step q x c.in_ok-star.star absent c.in_ok-star.ensures.star) c.wildcard_step.ensures.ok

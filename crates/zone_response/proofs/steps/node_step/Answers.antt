@@ -3,7 +3,7 @@ use Rattle.zone_response.specs.declared.nodes.Node.{Node}
 use Rattle.zone_response.specs.Nodes.{node_of}
 use Rattle.zone_response.specs.Queries.{inquiry_of}
 use Rattle.zone_response.specs.Sections.{as_it_is, sent_sets}
-use Rattle.zone_response.specs.Steps.{missing, made_by, stand_in_step, node_step, Takes}
+use Rattle.zone_response.specs.Steps.{missing, as_found_for, stand_in_step, node_step, Takes}
 use Rattle.zone_response.proofs.StepCases.{at_its_end, same_step}
 use Rattle.zone_response.proofs.steps.node_step.Goals as goal
 
@@ -14,7 +14,7 @@ returns-in_ok-answer-in-Own-clause-ok g c =
     (record {
       answers =
           c.in_ok-answer-in-Own.ensures.answers
-          ∙ (λ i. sent_sets c.args.so_far.now.answers ++ as_it_is (c.own_part-part.ensures i) (made_by (c.keeps.ensures i) c.args.star x c.in-Own.set.now) ∷ []);
+          ∙ (λ i. sent_sets c.args.so_far.now.answers ++ as_it_is (c.own_part-part.ensures i) (as_found_for (c.keeps.ensures i) c.args.star x c.in-Own.set.now) ∷ []);
       made = c.in_ok-answer-in-Own.ensures.made;
       next = refl;
     })
@@ -26,7 +26,7 @@ returns-in_ok-after_alias-in-Alias-clause-ok g c =
     (record {
       answers =
           c.in_ok-answer-in-Alias.ensures.answers
-          ∙ (λ i. sent_sets c.args.so_far.now.answers ++ as_it_is (c.part_for-part.ensures i) (made_by (c.keeps-in-Alias.ensures i) c.args.star x c.in-Alias.set.now) ∷ []);
+          ∙ (λ i. sent_sets c.args.so_far.now.answers ++ as_it_is (c.part_for-part.ensures i) (as_found_for (c.keeps-in-Alias.ensures i) c.args.star x c.in-Alias.set.now) ∷ []);
       made = c.in_ok-answer-in-Alias.ensures.made;
       next = c.in_ok-after_alias-in-Alias.ensures.ok;
     })

@@ -5,8 +5,8 @@ use Rattle.zone_proto.specs.Types.{NS}
 use Rattle.zone_map.specs.Zones.{set_at}
 use Rattle.zone_response.specs.Queries.{inquiry_of}
 use Rattle.zone_response.specs.Sections.{sent_sets}
-use Rattle.zone_response.specs.Steps.{referred, name_step, turned_step}
-use Rattle.zone_response.specs.Descent.{turn_at}
+use Rattle.zone_response.specs.Steps.{referred, name_step, diverted_step}
+use Rattle.zone_response.specs.Descent.{diversion_at}
 use Rattle.zone_response.proofs.StepCases.{at_its_end, same_step}
 use Rattle.zone_response.proofs.TurnWalk.{own_turn}
 use Rattle.zone_response.proofs.steps.own_step.Goals as goal
@@ -19,8 +19,8 @@ returns-in-Some-clause-ok g c =
     let before = sent_sets c.args.so_far.now.answers in
     let s = c.in-Some.cut.now in
     let ns : option_copied c.read_node_sets-here.result.ns ≡ set_at m x NS = c.read_node_sets-here.ensures.ns ∙ ap (λ (k : RrKey). set_at m k.name NS) c.in_ok-key.ensures.copy.ok in
-    at_its_end (turned_step q before x (turn_at q.origin m x q.record_type x)) (referred s) c.args.so_far.now _
-    (ap (turned_step q before x) (sym (own_turn q.origin m x q.record_type (Some s) c.requires (ap option_copied (sym c.in-Some.is) ∙ c.own_cut.ensures m ns)))) refl
+    at_its_end (diverted_step q before x (diversion_at q.origin m x q.record_type x)) (referred s) c.args.so_far.now _
+    (ap (diverted_step q before x) (sym (own_turn q.origin m x q.record_type (Some s) c.requires (ap option_copied (sym c.in-Some.is) ∙ c.own_cut.ensures m ns)))) refl
 
 pub returns-clause-ok : goal.returns-clause-ok
 returns-clause-ok g c =
@@ -29,5 +29,5 @@ returns-clause-ok g c =
     let x = c.args.name.now in
     let before = sent_sets c.args.so_far.now.answers in
     let ns : option_copied c.read_node_sets-here.result.ns ≡ set_at m x NS = c.read_node_sets-here.ensures.ns ∙ ap (λ (k : RrKey). set_at m k.name NS) c.in_ok-key.ensures.copy.ok in
-    same_step c.name_step.result c.args.so_far.now c.name_step.new.so_far (turned_step q before x (turn_at q.origin m x q.record_type x)) (name_step q x)
-    (ap (turned_step q before x) (sym (own_turn q.origin m x q.record_type None c.requires (ap option_copied (sym c.in_default.is) ∙ c.own_cut.ensures m ns)))) c.name_step.ensures.ok
+    same_step c.name_step.result c.args.so_far.now c.name_step.new.so_far (diverted_step q before x (diversion_at q.origin m x q.record_type x)) (name_step q x)
+    (ap (diverted_step q before x) (sym (own_turn q.origin m x q.record_type None c.requires (ap option_copied (sym c.in_default.is) ∙ c.own_cut.ensures m ns)))) c.name_step.ensures.ok

@@ -4,9 +4,9 @@ use Rattle.zone_proto.specs.declared.rr_key.RrKey.{RrKey}
 use Rattle.zone_map.specs.Wildcards.{exists}
 use Rattle.zone_response.specs.Nodes.{at_node, node_of}
 use Rattle.zone_response.specs.Queries.{inquiry_of}
-use Rattle.zone_response.specs.Steps.{missing, star_step, node_step}
+use Rattle.zone_response.specs.Steps.{missing, wildcard_step, node_step}
 use Rattle.zone_response.proofs.StepCases.{at_its_end, same_step, starred_step, starless_step}
-use Rattle.zone_response.proofs.steps.star_step.Goals as goal
+use Rattle.zone_response.proofs.steps.wildcard_step.Goals as goal
 
 pub returns-then-not-exists-clause-ok : goal.returns-then-not-exists-clause-ok
 returns-then-not-exists-clause-ok g c =
@@ -14,8 +14,8 @@ returns-then-not-exists-clause-ok g c =
     let x = c.args.name.now in
     let star = c.in-Some.star in
     let absent : exists q.sets star ≡ false = sym (ap (λ (k : RrKey). exists q.sets k.name) c.in_ok-key.ensures.copy.ok) ∙ sym c.exists.ensures ∙ c.if-not-exists.true in
-    at_its_end (star_step q x c.args.star) (missing x (Some star) false) c.args.so_far.now _
-    (ap (star_step q x) c.in-Some.is ∙ starless_step q x star absent) c.in_ok-at_missing-2.ensures.ok
+    at_its_end (wildcard_step q x c.args.star) (missing x (Some star) false) c.args.so_far.now _
+    (ap (wildcard_step q x) c.in-Some.is ∙ starless_step q x star absent) c.in_ok-at_missing-2.ensures.ok
 
 pub returns-clause-ok : goal.returns-clause-ok
 returns-clause-ok g c =
@@ -24,5 +24,5 @@ returns-clause-ok g c =
     let star = c.in-Some.star in
     let there : exists q.sets star ≡ true = sym (ap (λ (k : RrKey). exists q.sets k.name) c.in_ok-key.ensures.copy.ok) ∙ sym c.exists.ensures ∙ c.if-not-exists.false in
     let node = node_of c.in_ok-node.node in
-    same_step c.node_step.result c.args.so_far.now c.node_step.new.so_far (star_step q x c.args.star) (node_step q (Some star) x node)
-    (ap (star_step q x) c.in-Some.is ∙ starred_step q x star node there (c.in_ok-node.ensures.node ∙ ap (λ (k : RrKey). at_node q.sets k.name q.record_type) c.in_ok-key.ensures.copy.ok)) c.node_step.ensures.ok
+    same_step c.node_step.result c.args.so_far.now c.node_step.new.so_far (wildcard_step q x c.args.star) (node_step q (Some star) x node)
+    (ap (wildcard_step q x) c.in-Some.is ∙ starred_step q x star node there (c.in_ok-node.ensures.node ∙ ap (λ (k : RrKey). at_node q.sets k.name q.record_type) c.in_ok-key.ensures.copy.ok)) c.node_step.ensures.ok

@@ -1,0 +1,10 @@
+use Rattle.std.proofs.Common.{subst, arith}
+use Rattle.zone_map.specs.Zones.{Sets}
+use Rattle.zone_response.specs.Neighbours.{NoLongerOwns}
+use Rattle.zone_response.proofs.NextKeys.{none_owns}
+use Rattle.zone_response.proofs.descent.owning_labels.Goals as goal
+
+pub returns-clause-longest : goal.returns-clause-longest
+returns-clause-longest g c =
+    subst (λ (m : Sets). NoLongerOwns m c.args.below.now.name c.max.result) c.as_map.ensures.entries
+    (none_owns c.as_map.result.now.entries c.args.below.now c.labels_before.result c.max.result (omega (arith, c.max.ensures)) c.labels_before.ensures.longest)
