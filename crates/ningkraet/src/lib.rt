@@ -1,9 +1,9 @@
 //! The zones of a server for programs that aren't written in Rattle: what `include/ningkraet.h` declares, each by one call of
-//! `zone_database`. C passes no allocator; a slice is a pointer and a length to it, and a `&mut` a pointer.
+//! `zone_database`. C passes no allocator; to C a slice is a pointer and a length, and a `&mut` a pointer.
 #![tactic(auto)]
 
 ghost use Rattle.std.specs.Prelude.{◌≡◌, [], None};
-ghost use Rattle.zone_database.specs.Calls.{transport_of, AnswersHeld, AsksHeld, ChangesHeld, IsAdded, IsCreated, IsDropped, IsLoaded, IsSerial, IsTold};
+ghost use Rattle.zone_database.specs.Calls.{transport_of, AnswersHeld, AsksHeld, ChangesHeld, IsAdded, IsCreated, IsDropped, IsLoaded, IsSerial, IsReported};
 ghost use Rattle.zone_database.specs.Outcomes.{code_of, Codes};
 
 use std::alloc::Global;
@@ -17,7 +17,7 @@ pub extern "C" fn nk_interface() -> u32
     1
 }
 
-/// Makes a database without zones in the place of what is kept.
+/// Makes a database without zones in place of what is kept.
 #[unsafe(no_mangle)]
 pub extern "C" fn nk_zones_new(alloc: Global, zones: &mut Handle) -> u32
     ensures { Codes result (λ o. IsCreated [] zones.old.held o zones.new.held) }
@@ -25,8 +25,8 @@ pub extern "C" fn nk_zones_new(alloc: Global, zones: &mut Handle) -> u32
     calls::create(alloc, zones).code()
 }
 
-/// Has another hold the same zones, in the place of what it holds. They are in memory once, and each of the two has others put in and
-/// taken out by itself.
+/// Has another hold the same zones, in place of what it holds. They are in memory once, and each of the two has others
+/// put in and taken out by itself.
 #[unsafe(no_mangle)]
 pub extern "C" fn nk_zones_copy(alloc: Global, zones: &mut Handle, other: &mut Handle) -> u32
     ensures copied { Codes result (λ o.
@@ -45,40 +45,40 @@ pub extern "C" fn nk_zones_free(alloc: Global, zones: &mut Handle)
     calls::free(alloc, zones)
 }
 
-/// Puts the zone that a text makes in the place of the one of its origin, or among the others, and writes what is told of the text
-/// into the room.
+/// Puts the zone that a text makes in place of the one of its origin, or among the others, and writes what is reported
+/// about the text into the room.
 #[unsafe(no_mangle)]
 pub extern "C" fn nk_zones_load(
     alloc: Global,
     zones: &mut Handle,
     origin: &[u8],
     text: &[u8],
-    room: &mut [u8],
+    buffer: &mut [u8],
     written: &mut usize,
 ) -> u32
     ensures { Codes result (λ o.
         ChangesHeld (IsLoaded origin.now text.now) zones.old.held o zones.new.held
-        × IsTold o written.new room.old room.new) }
+        × IsReported o written.new buffer.old buffer.new) }
 {
-    calls::load(alloc, zones, origin, text, room, written).code()
+    calls::load(alloc, zones, origin, text, buffer, written).code()
 }
 
-/// Puts the zone that a text makes among the others, unless there is one of its origin, and writes what is told of the text into
-/// the room.
+/// Puts the zone that a text makes among the others, unless there is one of its origin, and writes what is reported
+/// about the text into the room.
 #[unsafe(no_mangle)]
 pub extern "C" fn nk_zones_add(
     alloc: Global,
     zones: &mut Handle,
     origin: &[u8],
     text: &[u8],
-    room: &mut [u8],
+    buffer: &mut [u8],
     written: &mut usize,
 ) -> u32
     ensures { Codes result (λ o.
         ChangesHeld (IsAdded origin.now text.now) zones.old.held o zones.new.held
-        × IsTold o written.new room.old room.new) }
+        × IsReported o written.new buffer.old buffer.new) }
 {
-    calls::add(alloc, zones, origin, text, room, written).code()
+    calls::add(alloc, zones, origin, text, buffer, written).code()
 }
 
 /// Takes the zone of an origin out.
@@ -115,13 +115,13 @@ pub extern "C" fn nk_zones_answer(
     query: &[u8],
     limit: usize,
     transport: u32,
-    room: &mut [u8],
+    buffer: &mut [u8],
     written: &mut usize,
 ) -> u32
     ensures answer { Codes result (λ o.
         AnswersHeld (transport_of limit transport) query.now zones.old.held o written.new
-        room.old room.new) }
+        buffer.old buffer.new) }
     ensures same { zones.new.held ≡ zones.old.held }
 {
-    calls::answer(alloc, zones, query, limit, transport, room, written).code()
+    calls::answer(alloc, zones, query, limit, transport, buffer, written).code()
 }

@@ -1,5 +1,5 @@
-//! Asks zones questions, and hands messages to servers of zones; tells which of them have another response than the one that stands
-//! below them. Each line of standard input names a file of rows in the folder where the program runs, `data`.
+//! Asks zones questions, and passes messages to servers of zones; reports which of them have another response than the one
+//! given below them. Each line of standard input names a file of rows in the current directory, `data`.
 //!
 //! A file is written like this:
 //!

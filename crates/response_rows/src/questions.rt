@@ -11,7 +11,7 @@ use zone_proto::{DNSClass, RrKey};
 use zone_response::{Question, Response, respond};
 
 /// How often a question is asked at most with memory refused.
-const ROOMS: usize = 1_000;
+const ATTEMPTS: usize = 1_000;
 
 /// By how many octets the memory grows that is left to each.
 const STEP: usize = 16;
@@ -38,7 +38,7 @@ pub fn say_at_last(alloc: Global, zones: &[Zone], words: &mut Words<'_>) -> anyh
     let zone = last_of(zones)?;
     let asked = read_question(alloc, words)?;
     let mut scarce = Scarcity::new(alloc)?;
-    scarce.begin(ROOMS)?;
+    scarce.begin(ATTEMPTS)?;
     let given = scarce.until_given(STEP, || unless_refused(zone, &asked));
     scarce.end();
     let Some((refused, response)) = given else {
@@ -82,7 +82,7 @@ fn response_of<'z>(zone: &'z Zone, asked: &Asked) -> Result<Response<'z>, Lookup
     respond(lent(zone, asked.moment), question, asked.options)
 }
 
-/// The same; none where memory is refused.
+/// The same; none if memory is refused.
 fn unless_refused<'z>(zone: &'z Zone, asked: &Asked) -> Option<Result<Response<'z>, LookupError>> {
     match response_of(zone, asked) {
         Err(LookupError::Memory) => None,

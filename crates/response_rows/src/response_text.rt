@@ -42,7 +42,7 @@ impl fmt::Display for SectionText<'_, '_> {
     }
 }
 
-/// What goes out of a set.
+/// What is sent of a set.
 #[derive(Drop)]
 struct SentText<'r, 'z>(&'r Sent<'z>);
 

@@ -9,7 +9,7 @@ use std::alloc::Global;
 use zone_handler::{AxfrPolicy, ZoneHandler, ZoneType};
 use zone_proto::{NxProofKind, RecordType, Seq};
 use zone_response::ServedZone;
-use zone_server::{Answered, Mode, Server, answer, serve_frames};
+use zone_server::{Answered, ListedZones, Mode, Server, answer, serve_frames};
 use zone_store::InMemoryZoneHandler;
 use zone_store::program::{DemoSigner, Sha1Hash};
 
@@ -129,15 +129,12 @@ pub fn lent(zone: &Zone, moment: u64) -> ServedZone<'_, DemoSigner, Sha1Hash> {
 }
 
 /// The zones as they are served at the moment 0.
-fn served(
-    alloc: Global,
-    zones: &[Zone],
-) -> anyhow::Result<Vec<ServedZone<'_, DemoSigner, Sha1Hash>>> {
+fn served(alloc: Global, zones: &[Zone]) -> anyhow::Result<ListedZones<'_, DemoSigner, Sha1Hash>> {
     let mut served = Vec::new(alloc);
     for zone in zones {
         served.push(lent(zone, 0))?;
     }
-    Ok(served)
+    Ok(ListedZones::new(alloc, served)?)
 }
 
 /// The response to a message by its words.
@@ -150,7 +147,7 @@ pub fn ask(alloc: Global, zones: &[Zone], words: &str) -> anyhow::Result<String>
     let mut out = Vec::new(alloc);
     match answer(
         alloc,
-        &zones.as_slice(),
+        &zones,
         message.as_slice(),
         transport_of(way)?,
         &mut out,
@@ -180,7 +177,7 @@ pub fn serve(
     let mut input = frames.as_slice();
     let mut output = Vec::new(alloc);
     let server = Server {
-        zones: zones.as_slice(),
+        zones: &zones,
         policies,
     };
     if serve_frames(alloc, &server, mode, &mut input, &mut output).is_err() {

@@ -18,7 +18,7 @@ module _ (may : Zone → Bool) where
   in_the_middle P [] rest z h = All-head P z rest h
   in_the_middle P (y ∷ front) rest z h = in_the_middle P front rest z (All-tail P y (front ++ z ∷ rest) h)
 
-  -- of two that are nearest neither stands before the other
+  -- of two that are nearest neither comes before the other
   same : (front rest : List Zone) (z : Zone) (others behind : List Zone) (y : Zone) → front ++ z ∷ rest ≡ others ++ y ∷ behind → may z ≡ true → may y ≡ true
       → All (Shorter z) front → All (NotLonger z) rest → All (Shorter y) others → All (NotLonger y) behind → z ≡ y
   same [] rest z [] behind y e p q a b c d = cc

@@ -20,7 +20,7 @@ use Rattle.zone_server.specs.Answers.{asked_of, records_sent, AreSets, IsAnswer,
 use Rattle.zone_server.specs.Limits.{limit_for}
 use Rattle.zone_server.specs.ServedZones.{IsAnswering}
 use Rattle.response_laws.specs.Contents.{HasContents}
-use Rattle.response_laws.specs.HashedSayings.{told_by, ProvesByHashes}
+use Rattle.response_laws.specs.HashedSayings.{concluded_by, ProvesByHashes}
 use Rattle.response_laws.specs.ProvedSayings.{ProvesWhatItSays}
 use Rattle.response_laws.proofs.LentSets.{lends}
 use Rattle.response_laws.proofs.Responses.{response_has_contents, response_proves_what_it_says, response_proves_by_hashes}
@@ -84,7 +84,7 @@ has_sections limit q s octets m sent reads uncut =
           ∙ ap (λ rs. rs ++ (w.body.helpful ++ opt_of r)) glue_is;
     }
 
--- ---- what goes out proves what is said, or is a failure
+-- ---- what is sent proves what is said, or is a failure
 
 -- it has the sections of what is said, or is a failure
 went_out : (limit : ℕ) (q : ReadQuery) (z : Zone) (s : Sections) (octets : List ℕ) (m : Parts) → IsResponse z (asked_of q) s → GoesOut limit q s octets → message_of octets ≡ Some m → m.header.truncated ≡ false
@@ -149,6 +149,6 @@ answer_proves_by_hashes zs t message octets q z parameters m asked is answering 
           sections = has;
           shown = ap nsec3_records has.authorities ∙ shown_in_sets read_nsec3 nsec3_unsigned said'.sections (each_sent c);
           parameters_found = λ x u apart.
-              ap (λ rs. told_by z rs x u) has.authorities ∙ told_sent z said'.sections (each_sent c) x u ∙ p.parameters_found x u apart;
+              ap (λ rs. concluded_by z rs x u) has.authorities ∙ told_sent z said'.sections (each_sent c) x u ∙ p.parameters_found x u apart;
         })
     by (inr failure) = inr failure

@@ -30,7 +30,7 @@ pub nsec3_unsigned : ReadsNoSignature read_nsec3
 nsec3_unsigned t ttl r (V.RRSIG a) is e = ap (λ d. option_map (nsec3_record r.name) (nsec3_data d)) is
 nsec3_unsigned t ttl r _ is e = absurd (true≢false (sym e))
 
--- a set goes out with one TTL
+-- a set is sent with one TTL
 pub record IsSent (s : RRset) : Type 0 where
   pub part' : Part
   pub ttl : ℕ

@@ -12,7 +12,7 @@ use Rattle.denial_validation.specs.Nsec3Records.{Nsec3Record, nsec3_data, read_n
 use Rattle.zone_response.specs.Queries.{Zone}
 use Rattle.zone_response.specs.Sections.{Sections, with_ttl}
 use Rattle.zone_server.specs.Answers.{records_sent}
-use Rattle.response_laws.specs.HashedSayings.{told_by, shown_records}
+use Rattle.response_laws.specs.HashedSayings.{concluded_by, shown_records}
 use Rattle.response_laws.proofs.HashedCalls.{same_told}
 use Rattle.server_laws.proofs.ShownRecords.{ReadsNoSignature, nsec3_unsigned, IsSent, shown_in_sets}
 
@@ -40,7 +40,7 @@ as_one passes (v ∷ rs) = by (passes v) (as_one passes rs)
     by true more = ap (cons_option (read_nsec3 v)) more
     by false more = more
 
-pub told_sent : (z : Zone) (r : Sections) → ((s : RRset) → Contains r.authorities s → IsSent s) → (x : Name) (t : ℕ) → told_by z (flat_map records_sent r.authorities) x t ≡ told_by z (shown_records r) x t
+pub told_sent : (z : Zone) (r : Sections) → ((s : RRset) → Contains r.authorities s → IsSent s) → (x : Name) (t : ℕ) → concluded_by z (flat_map records_sent r.authorities) x t ≡ concluded_by z (shown_records r) x t
 told_sent z r h =
     same_told z.digest_of z.origin (flat_map records_sent r.authorities) (shown_records r) (shown_in_sets (zone_data z.origin) (data_unsigned z.origin) r h)
     (λ p. as_one (has_parameters z.origin p) (flat_map records_sent r.authorities) ∙ shown_in_sets (passing (has_parameters z.origin p)) (passing_unsigned (has_parameters z.origin p)) r h

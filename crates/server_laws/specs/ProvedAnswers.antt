@@ -17,20 +17,21 @@ use Rattle.zone_server.specs.declared.transport.Transport.{Transport}
 use Rattle.zone_server.specs.Answers.{asked_of, code_number, records_sent, AreUnsendable, IsAnswer}
 use Rattle.zone_server.specs.ServedZones.{IsAnswering}
 use Rattle.response_laws.specs.Contents.{HasContents}
-use Rattle.response_laws.specs.HashedSayings.{DeniesByNsec3, HashesApart, told_by, shown_nsec3, proof_in, ProvesByHashes}
+use Rattle.response_laws.specs.HashedSayings.{DeniesByNsec3, HashesDistinctly, concluded_by, shown_nsec3, proof_in, ProvesByHashes}
 use Rattle.response_laws.specs.ProvedSayings.{DeniesByNsec, ProvesWhatItSays, shown}
 
 -- a zone answers for a name and a type, and no other does
 abbrev pub OneZoneAnswers : Type 0
 OneZoneAnswers = (zs : List Zone) (x : Name) (t : ℕ) (a b : Option Zone) → IsAnswering zs x t a → IsAnswering zs x t b → a ≡ b
 
--- a message has the code, AA, the answer section, the authority section and the glue of what is said; the lower four bits of the code stand in its header (RFC 6891 section 6.1.3)
+-- a message has the code, AA, the answer section, the authority section and the glue of what is said; the lower four
+-- bits of the code are in its header (RFC 6891 section 6.1.3)
 pub record HasSections (said : Sections) (m : Parts) : Type 0 where
   pub code : m.header.response_code ≡ code_number said.code % 16
   pub authoritative : m.header.authoritative ≡ said.authoritative
   pub answers : m.answers ≡ flat_map records_sent said.answers
   pub authorities : m.authorities ≡ flat_map records_sent said.authorities
-  -- the glue is whole, or TC would be set (RFC 9471 section 3.1), and others stand behind it
+  -- the glue is whole, or TC would be set (RFC 9471 section 3.1), and others come after it
   pub others : List Record
   pub glue : m.additionals ≡ flat_map records_sent said.glue ++ others
 
@@ -52,7 +53,7 @@ pub record ProvesByHashesInMessage (z : Zone) (parameters : Nsec3Parameters) (na
   pub sections : HasSections said m
   pub shown : nsec3_records m.authorities ≡ shown_nsec3 said
   -- and it finds the zone's parameters in them
-  pub parameters_found : (x : Name) (t : ℕ) → HashesApart z parameters names x → told_by z m.authorities x t ≡ proof_in z parameters said x t
+  pub parameters_found : (x : Name) (t : ℕ) → HashesDistinctly z parameters names x → concluded_by z m.authorities x t ≡ proof_in z parameters said x t
 
 -- no message has what the zone says, so the server has failed, and says nothing else (RFC 1035 section 4.1.1)
 pub record IsFailure (z : Zone) (q : ReadQuery) (m : Parts) : Type 0 where

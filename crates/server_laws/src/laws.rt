@@ -9,15 +9,16 @@ pub fn one_zone_answers()
     ensures { OneZoneAnswers }
 {}
 
-/// An answer without TC reads back as the message of what the zone says: with its code, its answer section and its authority section,
-/// record by record. From a zone that denies by NSEC what it says is proved to a validator by the NSEC records that stand in the authority section of the message
-/// (`ProvesWhatItSays` of `response_laws`). Only where a record of the zone has data that no octets are, the message is SERVFAIL alone.
+/// An answer without TC reads back as the message of what the zone says: with its code, its answer section and its authority
+/// section, record by record. From a zone that denies by NSEC, what it says is proved to a validator by the NSEC records in the
+/// authority section of the message (`ProvesWhatItSays` of `response_laws`). Only if a record of the zone has data without a
+/// wire form is the message SERVFAIL alone.
 pub fn answers_prove_what_they_say()
     ensures { AnswerProvesWhatItSays }
 {}
 
-/// The same of an answer from a zone that denies by NSEC3, with opt-out or without: what it says is proved by the NSEC3 records that
-/// stand in the authority section of the message (`ProvesByHashes` of `response_laws`).
+/// The same for an answer from a zone that denies by NSEC3, with opt-out or without: what it says is proved by the NSEC3
+/// records in the authority section of the message (`ProvesByHashes` of `response_laws`).
 pub fn hashed_answers_prove_what_they_say()
     ensures { AnswerProvesByHashes }
 {}

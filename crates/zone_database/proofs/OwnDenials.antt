@@ -25,7 +25,7 @@ zones_have_own_denials origin m zone =
     let found = sets_beside kind m zone (has_others kind m) in
     record { zone = found.zone; own = found.own }
 
--- where none stands beside the chain, all sets are its own
+-- where none is beside the chain, all sets are its own
 all_stay : (kind : Option NxProofKind) (m : Sets) → has_others kind m ≡ false → chain_sets kind m ≡ m
 all_stay kind [] h = refl
 all_stay kind (e ∷ m) h = by (stays kind e.0.record_type.0 e.1) (all_stay kind m) h

@@ -1,4 +1,4 @@
--- Zones that stand under their origins: the nearest of them, from the nearest of the entries
+-- Zones that are under their origins: the nearest of them, from the nearest of the entries
 use Rattle.std.proofs.Common.{◌≡◌, ◌<◌, ◌≤◌, true, false, List, [], ◌∷◌, ◌++◌, length, map, refl, sym, ap, subst, ◌∙◌, true≢false}
 use Rattle.std.specs.Prelude.{All, Option, Some, None, Result, Ok, Err, OnOk, OnErr, option_map}
 use Rattle.std.specs.Arc.{arc_value}

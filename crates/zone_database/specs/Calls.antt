@@ -33,7 +33,7 @@ transport_of limit number =
 
 -- ---- what is told in a room of the caller's
 
--- octets stand at the beginning of the room, and what is behind them is as it was
+-- octets are at the beginning of the room, and what is behind them is as it was
 abbrev pub StandsIn : List ℕ → List ℕ → List ℕ → Type 0
 StandsIn octets before after = after ≡ octets ++ drop (length octets) before
 
@@ -41,39 +41,41 @@ StandsIn octets before after = after ≡ octets ++ drop (length octets) before
 abbrev pub IsUntouched : ℕ → List ℕ → List ℕ → Type 0
 IsUntouched written before after = (written ≡ 0) × (after ≡ before)
 
--- a text of so many octets stands at the beginning of the room
+-- a text of so many octets is at the beginning of the room
 abbrev pub HasText : ℕ → List ℕ → List ℕ → Type 0
 HasText written before after = (text : List ℕ) × (written ≡ length text) × StandsIn text before after
 
--- what is told of a text: warnings where the call is done, the fault where the text is bad, and nothing elsewhere
-abbrev pub IsTold : Outcome → ℕ → List ℕ → List ℕ → Type 0
-IsTold Done written before after = HasText written before after
-IsTold BadText written before after = HasText written before after
-IsTold outcome written before after = IsUntouched written before after
+-- what is reported about a text: warnings where the call is done, the fault where the text is bad, and nothing
+-- elsewhere
+abbrev pub IsReported : Outcome → ℕ → List ℕ → List ℕ → Type 0
+IsReported Done written before after = HasText written before after
+IsReported BadText written before after = HasText written before after
+IsReported outcome written before after = IsUntouched written before after
 
--- a response in the room, whose length is told; where it is longer than the room, that is left as it was
+-- a response in the room, whose length is returned; where it is longer than the room, that is left as it was
 abbrev pub IsGiven : List ℕ → Outcome → ℕ → List ℕ → List ℕ → Type 0
 IsGiven octets Done written before after = (written ≡ length octets) × StandsIn octets before after
 IsGiven octets NoRoom written before after = (length before < length octets) × (written ≡ length octets) × (after ≡ before)
 IsGiven octets outcome written before after = ⊥
 
--- ---- what is done to the zones that are there, and what is told of them
+-- ---- what is done to the zones that are there, and what is reported about them
 
--- a zone stands among the others, in the place of the one of its origin if there is one; or no memory was found, and nothing changes
+-- a zone is among the others, in place of the one of its origin if there is one; or no memory was found, and nothing
+-- changes
 abbrev pub PutsZone : Zone → List Zone → Outcome → List Zone → Type 0
 PutsZone z old Done new = new ≡ with_zone z old
 PutsZone z old NoMemory new = new ≡ old
 PutsZone z old outcome new = ⊥
 
--- the zone that a text makes stands among the others, in the place of the one of its origin if there is one; or nothing changes: the text makes no zone, or no
--- memory was found
+-- the zone that a text makes is among the others, in place of the one of its origin if there is one; or nothing
+-- changes: the text makes no zone, or no memory was found
 abbrev pub IsPut : Name → List ℕ → List Zone → Outcome → List Zone → Type 0
 IsPut origin text old Done new = (z : Zone) × IsZoneOfText origin text z × (new ≡ with_zone z old)
 IsPut origin text old BadText new = (e : TextFault) × IsTextFault origin text e × (e ≢ fault.Memory) × (new ≡ old)
 IsPut origin text old NoMemory new = new ≡ old
 IsPut origin text old outcome new = ⊥
 
--- the same where there is no zone of this origin; where there is one, nothing changes
+-- the same where there is no zone of this origin; if there is one, nothing changes
 abbrev pub IsPutBeside : Bool → Name → List ℕ → List Zone → Outcome → List Zone → Type 0
 IsPutBeside false origin text old outcome new = IsPut origin text old outcome new
 IsPutBeside true origin text old outcome new = ((outcome ≡ ZoneExists) ⊎ (outcome ≡ NoMemory)) × (new ≡ old)

@@ -5,7 +5,7 @@ use Rattle.zone_proto.specs.declared.nx_proof_kind.NxProofKind.{NxProofKind}
 use Rattle.zone_map.specs.Zones.{Sets}
 use Rattle.zone_denial.specs.Chains.{stays, chain_sets}
 
--- a set of denial stands in the zone that doesn't belong to its chain
+-- a set of denial is in the zone that doesn't belong to its chain
 abbrev pub has_others : Option NxProofKind → Sets → Bool
 has_others kind m = list_any (λ e. not (stays kind e.0.record_type.0 e.1)) m
 

@@ -25,6 +25,7 @@ has_zone origin zs = is_some (find (begins_at origin) zs)
 abbrev pub without : Name → List Zone → List Zone
 without origin zs = remove_key (begins_at origin) zs
 
--- zones in the canonical order of their origins with one more at its place among them, or in the place of the one of its origin
+-- zones in the canonical order of their origins with one more at its place among them, or in place of the one of its
+-- origin
 abbrev pub with_zone : Zone → List Zone → List Zone
 with_zone z zs = put_in_order (λ (y : Zone). y.origin) z zs

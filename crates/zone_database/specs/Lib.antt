@@ -5,4 +5,5 @@ pub mod Holding
 pub mod Origins
 pub mod Outcomes
 pub mod Texts
+pub mod Files
 pub mod Zones

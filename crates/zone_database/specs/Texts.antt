@@ -11,7 +11,7 @@ use Rattle.zone_builder.specs.Sets.{loaded_set}
 use Rattle.zone_database.specs.declared.reading.TextFault.{TextFault}
 use Rattle.zone_database.specs.declared.reading.TextFault.TheVariants as fault
 use Rattle.zone_database.specs.declared.zone.Zone.{Zone}
-use Rattle.zone_database.specs.Zones.{denial_kind}
+use Rattle.zone_database.specs.Zones.{zone_of_records}
 
 -- a record of a text, as a zone is made of it
 abbrev pub given_of : PlacedRecord → GivenRecord
@@ -28,12 +28,12 @@ pub record IsLoaded (origin : Name) (gs : List GivenRecord) (loaded : Loaded) : 
   pub sets : (n : Name) (t : ℕ) → set_at loaded.records n t ≡ loaded_set origin gs n t
   pub zone : IsZone loaded.records
 
--- a zone has the sets that these records make, and denies as they say
+-- a zone has the sets that these records make, and denies as they say; nobody signs it
 pub record IsZoneOf (origin : Name) (gs : List GivenRecord) (z : Zone) : Type 0 where
   pub faultless : IsFaultless origin gs
-  pub at : z.origin ≡ origin
+  pub made : z ≡ zone_of_records origin z.inner.records
   pub sets : (n : Name) (t : ℕ) → set_at z.inner.records n t ≡ loaded_set origin gs n t
-  pub denial : z.nx_proof_kind ≡ denial_kind z.origin z.inner.records
+  pub zone : IsZone z.inner.records
 
 -- the same of a text
 pub record IsZoneOfText (origin : Name) (text : List ℕ) (z : Zone) : Type 0 where

@@ -1,23 +1,23 @@
 //! What a program that isn't written in Rattle asks of the zones that it keeps: the calls of `ningkraet`.
 ghost use Rattle.std.specs.Prelude.{◌≡◌, [], None};
 ghost use Rattle.zone_database.specs.Databases.{zones_in};
-ghost use Rattle.zone_database.specs.Calls.{transport_of, AnswersHeld, AsksHeld, ChangesHeld, IsAdded, IsAnswered, IsCreated, IsDropped, IsLoaded, IsSerial, IsTold};
+ghost use Rattle.zone_database.specs.Calls.{transport_of, AnswersHeld, AsksHeld, ChangesHeld, IsAdded, IsAnswered, IsCreated, IsDropped, IsLoaded, IsSerial, IsReported};
 
+use crate::buffer::{give, tell};
 use crate::database::ZoneDatabase;
 use crate::handle::Handle;
 use crate::loads::{add_zone, load_zone, remove_zone};
 use crate::outcome::Outcome;
-use crate::room::{give, tell};
 use crate::serials::serial_of;
 use std::alloc::Global;
 use std::mem;
 use zone_server::{Answered, Transport};
 
 /// How many octets a response has room for before more is taken.
-const FIRST_ROOM: usize = 512;
+const FIRST_BUFFER: usize = 512;
 
-/// Makes a database without zones in the place of what a handle holds, whose memory is given back. Where no memory is found, what it
-/// holds stays.
+/// Makes a database without zones in place of what a handle holds, whose memory is given back. Where there isn't enough
+/// memory, what it holds stays.
 pub fn create(alloc: Global, zones: &mut Handle) -> Outcome
     ensures { IsCreated [] zones.old.held result zones.new.held }
 {
@@ -37,8 +37,8 @@ pub fn free(alloc: Global, zones: &mut Handle)
     drop(mem::replace(zones, Handle::empty(alloc)));
 }
 
-/// Has another handle hold the same zones, in the place of what it holds. The zones are in memory once, and each of the two handles
-/// has others put in and taken out by itself. Where no memory is found, what the other holds stays.
+/// Has another handle hold the same zones, in place of what it holds. The zones are in memory once, and each of the two
+/// handles has others put in and taken out by itself. Where there isn't enough memory, what the other holds stays.
 pub fn copy(alloc: Global, zones: &mut Handle, other: &mut Handle) -> Outcome
     ensures copied { AsksHeld (λ zs o. IsCreated zs other.old.held o other.new.held)
         (other.new.held ≡ other.old.held) zones.old.held result }
@@ -70,23 +70,23 @@ fn put_copy(alloc: Global, database: &ZoneDatabase, other: &mut Handle) -> Outco
     }
 }
 
-/// Puts the zone of an origin that the text of a zone file makes in the place of the one of this origin, or among the others, and
-/// writes what is told of the text into the room.
+/// Puts the zone of an origin that the text of a zone file makes in place of the one of this origin, or among the
+/// others, and writes what is reported about the text into the room.
 pub fn load(
     alloc: Global,
     zones: &mut Handle,
     origin: &[u8],
     text: &[u8],
-    room: &mut [u8],
+    buffer: &mut [u8],
     written: &mut usize,
 ) -> Outcome
     ensures zones { ChangesHeld (IsLoaded origin.now text.now) zones.old.held result
         zones.new.held }
-    ensures told { IsTold result written.new room.old room.new }
+    ensures told { IsReported result written.new buffer.old buffer.new }
 {
     let mut told = String::new(alloc);
     let outcome = load_held(alloc, zones, origin, text, &mut told);
-    *written = tell(outcome, told.as_bytes(), room);
+    *written = tell(outcome, told.as_bytes(), buffer);
     outcome
 }
 
@@ -111,23 +111,23 @@ fn load_held(
     }
 }
 
-/// Puts the zone of an origin that the text of a zone file makes among the others, unless there is one of this origin, and writes
-/// what is told of the text into the room.
+/// Puts the zone of an origin that the text of a zone file makes among the others, unless there is one of this origin,
+/// and writes what is reported about the text into the room.
 pub fn add(
     alloc: Global,
     zones: &mut Handle,
     origin: &[u8],
     text: &[u8],
-    room: &mut [u8],
+    buffer: &mut [u8],
     written: &mut usize,
 ) -> Outcome
     ensures zones { ChangesHeld (IsAdded origin.now text.now) zones.old.held result
         zones.new.held }
-    ensures told { IsTold result written.new room.old room.new }
+    ensures told { IsReported result written.new buffer.old buffer.new }
 {
     let mut told = String::new(alloc);
     let outcome = add_held(alloc, zones, origin, text, &mut told);
-    *written = tell(outcome, told.as_bytes(), room);
+    *written = tell(outcome, told.as_bytes(), buffer);
     outcome
 }
 
@@ -183,22 +183,22 @@ pub fn serial(alloc: Global, zones: &mut Handle, origin: &[u8], serial: &mut u32
     }
 }
 
-/// Answers a message from the zones, and writes the response into the room. The way by UDP takes `limit` octets.
+/// Answers a message from the zones, and writes the response into the room. The way over UDP takes `limit` octets.
 pub fn answer(
     alloc: Global,
     zones: &mut Handle,
     message: &[u8],
     limit: usize,
     transport: u32,
-    room: &mut [u8],
+    buffer: &mut [u8],
     written: &mut usize,
 ) -> Outcome
     ensures answer { AnswersHeld (transport_of limit transport) message.now zones.old.held result
-        written.new room.old room.new }
+        written.new buffer.old buffer.new }
     ensures same { zones.new.held ≡ zones.old.held }
 {
     let (outcome, count) = match transport_of(limit, transport) {
-        Some(transport) => answer_held(alloc, zones, message, transport, room),
+        Some(transport) => answer_held(alloc, zones, message, transport, buffer),
         None => (Outcome::BadTransport, 0),
     };
     *written = count;
@@ -224,15 +224,15 @@ fn answer_held(
     zones: &mut Handle,
     message: &[u8],
     transport: Transport,
-    room: &mut [u8],
+    buffer: &mut [u8],
 ) -> (Outcome, usize)
     ensures answer { AnswersHeld (Some transport) message.now zones.old.held result.0 result.1
-        room.old room.new }
+        buffer.old buffer.new }
     ensures same { zones.new.held ≡ zones.old.held }
 {
     match zones.take(alloc) {
         Some(database) => {
-            let answer = answer_from(alloc, &database, message, transport, room);
+            let answer = answer_from(alloc, &database, message, transport, buffer);
             zones.put(database);
             answer
         }
@@ -246,16 +246,16 @@ fn answer_from(
     database: &ZoneDatabase,
     message: &[u8],
     transport: Transport,
-    room: &mut [u8],
+    buffer: &mut [u8],
 ) -> (Outcome, usize)
     ensures { IsAnswered (zones_in database.now) transport message.now result.0 result.1
-        room.old room.new }
+        buffer.old buffer.new }
 {
-    let Ok(mut out) = Vec::with_capacity(alloc, FIRST_ROOM) else {
+    let Ok(mut out) = Vec::with_capacity(alloc, FIRST_BUFFER) else {
         return (Outcome::NoMemory, 0);
     };
     match database.answer(alloc, message, transport, &mut out) {
-        Ok(Answered::Response) => give(out.as_slice(), room),
+        Ok(Answered::Response) => give(out.as_slice(), buffer),
         Ok(Answered::Nothing) => (Outcome::Ignored, 0),
         Err(_) => (Outcome::NoMemory, 0),
     }

@@ -1,18 +1,17 @@
 //! The sets in which a zone's denials are looked up, where it has NSEC or NSEC3 sets of several chains.
 ghost use Rattle.std.specs.Prelude.{◌≡◌, IfOk, IsOkUnless, OnOk, option_copied};
-ghost use Rattle.zone_map.specs.Upserts.{is_denial_type};
 ghost use Rattle.zone_map.specs.Zones.{put, IsStoredAt};
-ghost use Rattle.zone_denial.specs.Chains.{chain_sets, is_of_chain, stays};
+ghost use Rattle.zone_denial.specs.Chains.{chain_sets};
 ghost use Rattle.zone_database.specs.ChainsBeside.{chain_beside, has_others};
 
 use std::alloc::Global;
-use zone_builder::has_parameters;
+use zone_denial::chain_sets::stays;
 use zone_map::RecordMap;
-use zone_proto::{NxProofKind, ProtoError, RecordSet, RecordType, RrKey};
+use zone_proto::{NxProofKind, ProtoError, RecordSet, RrKey};
 
-/// A zone's sets without the NSEC and NSEC3 sets that don't belong to the chain by which it denies: those of another chain, or of
-/// the remains of one, with which a proof mustn't be mixed (RFC 5155 section 7.3). None where it has none of these. Refused by
-/// `Memory` alone.
+/// A zone's sets without the NSEC and NSEC3 sets that don't belong to the chain by which it denies: those of another
+/// chain, or of the remains of one, with which a proof mustn't be mixed (RFC 5155 section 7.3). None if it has none of
+/// these. Its only error is `Memory`.
 pub(crate) fn chain_beside(
     alloc: Global,
     kind: Option<&NxProofKind>,
@@ -70,40 +69,5 @@ fn put_copy(sets: &mut RecordMap, key: &RrKey, set: &RecordSet) -> Result<(), Pr
     match sets.put(key.clone()?, set.clone()?) {
         Ok(_) => Ok(()),
         Err(_) => Err(ProtoError::Memory),
-    }
-}
-
-/// Whether a set of a type stays where those of the chain alone deny: it is no set of denial, or it belongs to the chain.
-fn stays(kind: Option<&NxProofKind>, record_type: RecordType, set: &RecordSet) -> bool
-    ensures { result ≡ stays (option_copied kind.entry) record_type.0 set.now }
-{
-    !is_denial_type(record_type) || is_of_chain(kind, record_type, set)
-}
-
-/// Whether sets of a type deny.
-fn is_denial_type(record_type: RecordType) -> bool
-    ensures { result ≡ is_denial_type record_type.0 }
-{
-    record_type == RecordType::NSEC || record_type == RecordType::NSEC3
-}
-
-/// Whether a set of denial belongs to the chain of a zone that denies so.
-fn is_of_chain(kind: Option<&NxProofKind>, record_type: RecordType, set: &RecordSet) -> bool
-    ensures { result ≡ is_of_chain (option_copied kind.entry) record_type.0 set.now }
-{
-    match kind {
-        None => false,
-        Some(NxProofKind::Nsec) => record_type == RecordType::NSEC,
-        Some(
-            NxProofKind::Nsec3 {
-                algorithm,
-                salt,
-                iterations,
-                ..
-            },
-        ) => {
-            record_type == RecordType::NSEC3
-                && has_parameters(*algorithm, salt.as_slice(), *iterations, set)
-        }
     }
 }

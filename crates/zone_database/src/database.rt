@@ -19,11 +19,11 @@ pub struct ZoneDatabase {
 impl ZoneDatabase {
     ghost use Rattle.std.specs.Prelude.{◌≡◌, [], IfOk, OnOk, OnErr, map, option_copied};
     ghost use Rattle.std.specs.List.{find};
-    ghost use Rattle.zone_server.specs.Answers.{IsAnswer, Tells};
+    ghost use Rattle.zone_server.specs.Answers.{IsAnswer, SaysWhether};
     ghost use Rattle.zone_database.specs.Databases.{begins_at, has_zone, with_zone, without, zones_in};
     ghost use Rattle.zone_database.specs.Zones.{served_zone};
 
-    /// No zones. Takes no memory.
+    /// No zones. Doesn't allocate.
     pub fn new(alloc: Global) -> ZoneDatabase
         ensures { zones_in result ≡ [] }
     {
@@ -32,7 +32,7 @@ impl ZoneDatabase {
         }
     }
 
-    /// The zone of an origin. Takes no memory.
+    /// The zone of an origin. Doesn't allocate.
     pub fn get(&self, origin: &LowerName) -> Option<&Zone>
         ensures { option_copied result ≡ find (begins_at origin.now) (zones_in self.now) }
     {
@@ -42,14 +42,14 @@ impl ZoneDatabase {
         }
     }
 
-    /// Whether there is a zone of an origin. Takes no memory.
+    /// Whether there is a zone of an origin. Doesn't allocate.
     pub fn contains(&self, origin: &LowerName) -> bool
         ensures { result ≡ has_zone origin.now (zones_in self.now) }
     {
         self.zones.contains_key(origin)
     }
 
-    /// Puts a zone among the others, in the place of the one of its origin, if there is one. Refused for want of memory alone, and
+    /// Puts a zone among the others, replacing the one with its origin, if there is one. Fails only for lack of memory, and
     /// then the zones are as they were.
     pub fn put(&mut self, alloc: Global, zone: Zone) -> Result<(), AllocError>
         ensures put { OnOk result (zones_in self.new ≡ with_zone zone (zones_in self.old)) }
@@ -67,7 +67,7 @@ impl ZoneDatabase {
         }
     }
 
-    /// Takes the zone of an origin out, and tells whether there was one. Takes no memory.
+    /// Takes the zone of an origin out, and says whether there was one. Doesn't allocate.
     pub fn remove(&mut self, origin: &LowerName) -> bool
         ensures left { zones_in self.new ≡ without origin.now (zones_in self.old) }
         ensures found { result ≡ has_zone origin.now (zones_in self.old) }
@@ -75,7 +75,7 @@ impl ZoneDatabase {
         self.zones.remove(origin).is_some()
     }
 
-    /// A further database of the same zones, which are in memory once. Refused for want of memory alone.
+    /// A further database of the same zones, which are in memory once. Fails only for lack of memory.
     pub fn copy(&self, alloc: Global) -> Result<ZoneDatabase, AllocError>
         ensures { IfOk result (λ other. zones_in other ≡ zones_in self.now) }
     {
@@ -89,8 +89,8 @@ impl ZoneDatabase {
         Ok(ZoneDatabase { zones })
     }
 
-    /// Answers a message from the zones, as `zone_server` does. How long it takes grows with the logarithm of how many zones there
-    /// are. Refused for want of memory alone.
+    /// Answers a message from the zones, as `zone_server` does. How long it takes grows with the logarithm of how many
+    /// zones there are. Fails only for lack of memory.
     pub fn answer(
         &self,
         alloc: Global,
@@ -101,7 +101,7 @@ impl ZoneDatabase {
         ensures answer { OnOk result
             (IsAnswer (map served_zone (zones_in self.now)) transport message.now
             out.new.items) }
-        ensures told { IfOk result (λ told. Tells told out.new.items) }
+        ensures told { IfOk result (λ told. SaysWhether told out.new.items) }
     {
         answer(alloc, self, message, transport, out)
     }

@@ -9,7 +9,7 @@ use std::alloc::Global;
 use std::marker::Model;
 use std::{mem, ptr};
 
-/// A database behind a pointer, which is null where there is none. In memory it is that pointer alone.
+/// A database behind a pointer, which is null if there is none. In memory it is that pointer alone.
 #[repr(C)]
 pub struct Handle {
     ptr: *mut u8,
@@ -64,7 +64,7 @@ impl Handle {
         }
     }
 
-    /// Puts a database in the place of what is held.
+    /// Puts a database in place of what is held.
     pub fn put(&mut self, database: Box<ZoneDatabase>)
         ensures { self.new.held ≡ Some database.value }
     {

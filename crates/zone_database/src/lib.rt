@@ -1,7 +1,8 @@
-//! The zones that a server has: read from the text of zone files, put beside one another, and asked by the octets of queries;
-//! and a handle, by which a program that isn't written in Rattle keeps them.
+//! The zones that a server has: read from the text of zone files, kept side by side, and queried with the octets of messages;
+//! and a handle with which a program that isn't written in Rattle keeps them.
 #![tactic(auto)]
 
+mod buffer;
 pub mod calls;
 mod chain;
 mod database;
@@ -12,10 +13,9 @@ mod nearest_zone;
 mod outcome;
 mod raw_box;
 mod reading;
-mod room;
+mod reporting;
 mod serials;
 mod static_signer;
-mod telling;
 mod zone;
 
 pub use database::ZoneDatabase;

@@ -7,14 +7,14 @@ ghost use Rattle.zone_database.specs.Texts.{IsTextFault, IsZoneOfText};
 use crate::database::ZoneDatabase;
 use crate::outcome::Outcome;
 use crate::reading::{ReadZone, TextFault, read_zone};
-use crate::telling::{tell_fault, tell_warnings};
+use crate::reporting::{tell_fault, tell_warnings};
 use std::alloc::Global;
 use std::str;
 use zone_proto::{LowerName, Name, ProtoError};
 use zone_tokens::read_name_under;
 
-/// Puts the zone of an origin that a text makes in the place of the one of this origin, or among the others. What is told of the
-/// text is put behind `told`.
+/// Puts the zone of an origin that a text makes in place of the one of this origin, or among the others. What is
+/// reported about the text is put behind `told`.
 #[tactic(auto, using(crate::proofs::CallFacts::unread, crate::proofs::CallFacts::read_on))]
 pub(crate) fn load_zone(
     alloc: Global,
@@ -78,7 +78,7 @@ pub(crate) fn origin_of(alloc: Global, origin: &[u8]) -> Result<Name, Outcome>
     }
 }
 
-/// What stands for the name of a file before what is told of a text: the origin, as it is spelled.
+/// What stands for the name of a file before what is reported about a text: the origin, as it is spelled.
 fn label_of(origin: &[u8]) -> &str {
     match str::from_utf8(origin) {
         Ok(label) => label,
@@ -106,7 +106,7 @@ fn put_new(
     put_text(alloc, database, origin, label, text, told)
 }
 
-/// Puts the zone that a text makes in the place of the one of its origin, or among the others.
+/// Puts the zone that a text makes in place of the one of its origin, or among the others.
 fn put_text(
     alloc: Global,
     database: &mut ZoneDatabase,
@@ -124,7 +124,7 @@ fn put_text(
     }
 }
 
-/// Puts a zone that was read in the place of the one of its origin, or among the others.
+/// Puts a zone that was read in place of the one of its origin, or among the others.
 fn put_read(
     alloc: Global,
     database: &mut ZoneDatabase,

@@ -1,4 +1,4 @@
-//! A box taken apart, so that its pointer can stand in another struct.
+//! A box taken apart, so that its pointer can be in another struct.
 ghost use Rattle.std.specs.Prelude.{◌≡◌};
 ghost use Rattle.std_alloc.specs.Box.Ownership.{box_owns};
 

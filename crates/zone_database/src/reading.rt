@@ -28,16 +28,16 @@ pub enum TextFault {
 pub struct ReadZone {
     /// The zone.
     pub zone: Zone,
-    /// What of the records isn't taken as it stands.
+    /// What of the records isn't taken as it is.
     pub warnings: Vec<LoadWarning>,
 }
 
-/// Makes the zone of an origin of the text of a zone file (RFC 1035 section 5), whose relative names the origin completes.
+/// Makes the zone of an origin from the text of a zone file (RFC 1035 section 5), whose relative names the origin completes.
 ///
 /// # Errors
 ///
-/// The first fault of the text; where it has none, what keeps its records from being a zone, as `load` says it. `Memory` may come
-/// in place of any of these.
+/// The first fault of the text; if it has none, what keeps its records from being a zone, as `load` says. `Memory` may come in
+/// place of any of these.
 #[tactic(auto, using(crate::proofs::TextFacts::made_so, crate::proofs::TextFacts::wrong_so))]
 pub fn read_zone(alloc: Global, origin: Name, text: &[u8]) -> Result<ReadZone, TextFault>
     ensures zone { IfOk result (λ read. IsZoneOfText origin text.now read.zone) }

@@ -29,9 +29,10 @@ pub struct Zone {
     pub denials: Option<RecordMap>,
 }
 
-/// The zone of an origin that has these sets. It denies as [`denial_kind`] says: by the first chain of hashed names that its
-/// NSEC3PARAM set announces, else by NSEC where its origin owns NSEC; and by the sets of that chain alone, where sets of another
-/// one stand beside them (RFC 5155 section 7.3), or those that are left of an old one. Refused by `Memory` alone.
+/// The zone of an origin that has these sets. It denies as [`denial_kind`] says: by the first chain of hashed names
+/// that its NSEC3PARAM set announces, else by NSEC where its origin owns NSEC; and by the sets of that chain alone,
+/// where sets of another one are beside them (RFC 5155 section 7.3), or those that are left of an old one. Its only
+/// error is `Memory`.
 pub fn zone_of(alloc: Global, origin: LowerName, records: RecordMap) -> Result<Zone, ProtoError>
     requires { IsZone records }
     ensures zone { IfOk result (λ z. z ≡ zone_of_records origin records) }
@@ -47,7 +48,7 @@ pub fn zone_of(alloc: Global, origin: LowerName, records: RecordMap) -> Result<Z
     })
 }
 
-/// Zones as they are asked. Refused for want of memory alone.
+/// Zones as they are asked. Fails only for lack of memory.
 pub fn served(
     alloc: Global,
     zones: &[Zone],

@@ -19,7 +19,7 @@ pub enum Call<'r> {
     Answer(Vec<u8>, usize, u32),
 }
 
-/// Reads a call; none where it isn't one.
+/// Reads a call; none if it isn't one.
 pub fn read_call(alloc: Global, words: &str) -> Result<Option<Call<'_>>, AllocError> {
     let (verb, rest) = words.split_once(' ').unwrap_or((words, ""));
     let (first, behind) = rest.split_once(' ').unwrap_or((rest, ""));
@@ -37,7 +37,7 @@ pub fn read_call(alloc: Global, words: &str) -> Result<Option<Call<'_>>, AllocEr
     }
 }
 
-/// Reads the call that answers a message: its limit and its octets stand behind the transport.
+/// Reads the call that answers a message: its limit and its octets come after the transport.
 fn read_answer<'r>(
     alloc: Global,
     transport: &str,

@@ -9,7 +9,7 @@ use zone_database::Outcome;
 /// The octet of which a room is full before a call. No row has a text or a response that ends with it.
 const FULL: u8 = 255;
 
-/// What stands in the place of a number before a call.
+/// What stands in place of a number before a call.
 const BEFORE: u32 = 999;
 
 /// The places that a call may write.

@@ -1,5 +1,5 @@
-//! Makes the calls of `zone_database` that `ningkraet` hands to C, as rows of text write them, and tells which of them end otherwise
-//! or leave something else. Each line of standard input names a file of rows in the folder where the program runs, `data`.
+//! Makes the calls of `zone_database` that `ningkraet` offers to C, as rows of text describe them, and reports which of them
+//! end differently or leave something else. Each line of standard input names a file of rows in the current directory, `data`.
 //!
 //! A row is `HANDLE CALL => ANSWER`; a line without `=>` is a comment, and spaces within answers are passed over. There are two
 //! handles, `one` and `two`, and both hold nothing where a file begins. The calls:
@@ -15,7 +15,7 @@
 //! before; and for `load`, `add` and `answer` the count that it wrote, and the room up to the last octet that it changed: lines of
 //! text, or octets in hex, `-` for none.
 //!
-//! What stands before a row and `: ` says how it is made:
+//! What comes before a row and `: ` says how it is made:
 //!
 //! - `room 20: ` in a room of so many octets, else it has 1232;
 //! - `without memory: ` where every growth is refused;

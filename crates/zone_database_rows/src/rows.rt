@@ -7,7 +7,7 @@ use std::alloc::{AllocError, Global};
 use zone_database::{Handle, Outcome};
 
 /// How many octets a room has where a row doesn't say it.
-const ROOM: usize = 1_232;
+const DEFAULT_BUFFER: usize = 1_232;
 
 /// How much more memory a call gets each time, in octets, and how often it is made at most.
 const STEP: usize = 48;
@@ -80,7 +80,7 @@ fn call_answer(
     other: &mut Handle,
 ) -> Result<String, AllocError> {
     let (kind, number) = way.split_once(' ').unwrap_or((way, ""));
-    let mut left = Left::new(alloc, number.parse::<usize>().unwrap_or(ROOM))?;
+    let mut left = Left::new(alloc, number.parse::<usize>().unwrap_or(DEFAULT_BUFFER))?;
     let tries = match kind {
         "without" => 1,
         "after" => TRIES,

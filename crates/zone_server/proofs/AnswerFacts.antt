@@ -66,7 +66,7 @@ response_some zs limit q octets h = gone_some limit q h.said octets h.goes_out
 pub response_short : (zs : List Zone) (t : Transport) (e : Option Extension) (q : ReadQuery) (octets : List ℕ) → IsResponseTo zs (limit_for t e) q octets → length octets < 65536
 response_short zs t e q octets h = gone_short t e q h.said octets h.goes_out
 
--- what a zone says goes out
+-- what a zone says is sent
 pub said_goes_out : (zs : List Zone) (limit : ℕ) (q : ReadQuery) (z : Zone) (s : Sections) (octets : List ℕ) (r : Result (Unit {0}) AllocError)
     → IsAnswering zs (asked_of q).name (asked_of q).record_type (Some z) → IsResponse z (asked_of q) s → OnOk r (GoesOut limit q s octets)
     → OnOk r (IsResponseTo zs limit q octets)
@@ -87,19 +87,19 @@ twelve_some octets e none = absurd (omega (arith, e, ap length none))
 
 -- ---- what is answered to octets is what is answered to what is read of them
 
--- where a message was answered by what was read of it, it is read so: want of memory has no answer
+-- where a message was answered by what was read of it, it is read so: lack of memory has no answer
 pub read_whole : (zs : List Zone) (t : Transport) (message : List ℕ) (read : Result ReadQuery ReadError) (octets : List ℕ) → ReadsQuery read (query_of message)
     → IsAnswerTo zs t read octets → query_of message ≡ read
-read_whole zs t message (Ok q) octets told h = told
-read_whole zs t message (Err NoHeader) octets told h = told
-read_whole zs t message (Err NoQuery) octets told h = told
-read_whole zs t message (Err (NotImplemented header)) octets told h = told
-read_whole zs t message (Err (Malformed header)) octets told h = told
-read_whole zs t message (Err (BadVersion q)) octets told h = told
-read_whole zs t message (Err Memory) octets told h = absurd h
+read_whole zs t message (Ok q) octets reported h = reported
+read_whole zs t message (Err NoHeader) octets reported h = reported
+read_whole zs t message (Err NoQuery) octets reported h = reported
+read_whole zs t message (Err (NotImplemented header)) octets reported h = reported
+read_whole zs t message (Err (Malformed header)) octets reported h = reported
+read_whole zs t message (Err (BadVersion q)) octets reported h = reported
+read_whole zs t message (Err Memory) octets reported h = absurd h
 
 pub answers_octets : (zs : List Zone) (t : Transport) (message : List ℕ) (read : Result ReadQuery ReadError) (r : Result Answered AllocError) (octets : List ℕ)
     → ReadsQuery read (query_of message) → OnOk r (IsAnswerTo zs t read octets) → OnOk r (IsAnswer zs t message octets)
-answers_octets zs t message read (Err e) octets told h = tt
-answers_octets zs t message read (Ok a) octets told h =
-    subst (λ (x : Result ReadQuery ReadError). IsAnswerTo zs t x octets) (sym (read_whole zs t message read octets told h)) h
+answers_octets zs t message read (Err e) octets reported h = tt
+answers_octets zs t message read (Ok a) octets reported h =
+    subst (λ (x : Result ReadQuery ReadError). IsAnswerTo zs t x octets) (sym (read_whole zs t message read octets reported h)) h

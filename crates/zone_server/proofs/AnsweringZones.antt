@@ -10,14 +10,6 @@ use Rattle.zone_server.specs.ServedZones.{has_parent, is_parents, may_answer_for
 
 -- ---- tests
 
-pub both_tests : (a l r : Bool) → a ≡ true → r ≡ l → r ≡ (a && l)
-both_tests true l r e h = h
-both_tests false l r e h = absurd (true≢false (sym e))
-
-pub first_test : (a l r : Bool) → r ≡ a → r ≡ false → r ≡ (a && l)
-first_test true l r e h = absurd (true≢false (sym e ∙ h))
-first_test false l r e h = h
-
 pub not_so : (b r : Bool) → r ≡ not b → r ≡ true → b ≡ false
 not_so true r e h = absurd (true≢false (sym h ∙ e))
 not_so false r e h = refl

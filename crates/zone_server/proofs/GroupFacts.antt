@@ -1,4 +1,4 @@
--- Groups of what goes out of sets
+-- Groups of what is sent of sets
 use Rattle.std.proofs.Common.{◌≡◌, ◌&&◌, Bool, true, false, cond, List, [], ◌∷◌, refl, ap, ◌∙◌, true≢false, sym}
 use Rattle.std.specs.Prelude.{filter}
 use Rattle.std.specs.List.{list_all}

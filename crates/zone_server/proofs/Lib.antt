@@ -1,5 +1,7 @@
 pub mod AnsweringZones
-pub mod NearestZones
+pub mod ZonesAsked
+pub mod FirstPlaces
+pub mod NearestListed
 pub mod BareHeaderBack
 pub mod QueryFacts
 pub mod GroupFacts
@@ -9,4 +11,3 @@ pub mod FrameLaws
 pub mod ServedFrames
 pub mod TransferFacts
 pub mod TransferRuns
-pub mod ZonesAsked

@@ -38,11 +38,11 @@ code_number code.NotImp = 4
 code_number code.Refused = 5
 code_number (code.Other n) = n
 
--- the records of a set as it goes out, and behind them its signatures
+-- the records of a set as it is sent, and behind them its signatures
 abbrev pub records_sent : RRset → List Record
 records_sent s = s.records ++ s.signatures
 
--- groups of records are these sets as they go out, each group one set, in order
+-- groups of records are these sets as they are sent, each group one set, in order
 abbrev pub AreSets : List Group → List RRset → Type 0
 AreSets gs ss = map records_of gs ≡ map records_sent ss
 
@@ -71,7 +71,7 @@ records_in s = flat_map records_sent (s.answers ++ (s.authorities ++ (s.glue ++ 
 abbrev pub AreUnsendable : Sections → Type 0
 AreUnsendable s = HasUnwritable (records_in s) ⊎ (4095 < code_number s.code)
 
--- the response goes out; where none can, the server has failed
+-- the response is sent; where none can, the server has failed
 abbrev pub GoesOut : ℕ → ReadQuery → Sections → List ℕ → Type 0
 GoesOut limit q s octets = IsSent limit q s octets ⊎ (AreUnsendable s × IsSent limit q (bare code.ServFail) octets)
 
@@ -86,7 +86,7 @@ asked_of q = record {
   signed = option_map_or (λ e. e.dnssec_ok) q.extension false;
 }
 
--- the zone that answers says so; where there is none, the server refuses (RFC 1035 section 4.1.1)
+-- the zone that answers says so; if there is none, the server refuses (RFC 1035 section 4.1.1)
 abbrev pub Says : Option Zone → Query → Sections → Type 0
 Says (Some z) q s = IsResponse z q s
 Says None q s = s ≡ bare code.Refused
@@ -127,6 +127,6 @@ abbrev pub IsAnswer : List Zone → Transport → List ℕ → List ℕ → Type
 IsAnswer zs t message octets = IsAnswerTo zs t (query_of message) octets
 
 -- a call told whether there is one
-abbrev pub Tells : Answered → List ℕ → Type 0
-Tells answered.Nothing octets = octets ≡ []
-Tells answered.Response octets = octets ≢ []
+abbrev pub SaysWhether : Answered → List ℕ → Type 0
+SaysWhether answered.Nothing octets = octets ≡ []
+SaysWhether answered.Response octets = octets ≢ []

@@ -1,4 +1,5 @@
 pub mod ServedZones
+pub mod ListedZones
 pub mod Limits
 pub mod BareHeaders
 pub mod Answers

@@ -10,9 +10,9 @@ use Rattle.zone_server.specs.declared.transport.Transport.TheVariants as transpo
 abbrev pub datagram_size : ℕ
 datagram_size = 1232
 
--- By UDP 512 where the query has no OPT record, and else the least of what the client takes, what the way takes and what the server
--- sends, but 512 at least (RFC 1035 section 4.2.1, RFC 6891 sections 6.2.3 to 6.2.5). By TCP as many as two octets count (RFC 1035
--- section 4.2.2).
+-- Over UDP 512 where the query has no OPT record, and else the least of what the client takes, what the way takes and
+-- what the server sends, but 512 at least (RFC 1035 section 4.2.1, RFC 6891 sections 6.2.3 to 6.2.5). Over TCP as many
+-- as two octets count (RFC 1035 section 4.2.2).
 abbrev pub limit_for : Transport → Option Extension → ℕ
 limit_for (transports.Udp limit) extension = limit_of extension (min limit datagram_size)
 limit_for transports.Tcp extension = 65535

@@ -10,23 +10,23 @@ use Rattle.zone_server.specs.declared.sections.GroupedSections.{GroupedSections}
 use Rattle.zone_server.specs.declared.sections.OutgoingSections.{OutgoingSections}
 use Rattle.zone_server.specs.Answers.{records_sent, AreSets}
 
--- the signatures of a set that go out
+-- the signatures of a set that are sent
 abbrev pub signatures_outgoing : Signatures → List Record
 signatures_outgoing (signatures.Lent s) = s.now
 signatures_outgoing (signatures.Own v) = v.items
 
--- the records of a set that go out, and behind them its signatures
+-- the records of a set that are sent, and behind them its signatures
 abbrev pub records_outgoing : Outgoing → List Record
 records_outgoing o = map (with_ttl o.ttl) (o.records.now ++ signatures_outgoing o.signatures)
 
--- this goes out of these sections
+-- this is sent of these sections
 pub record AreOutgoing (s : Sections) (o : OutgoingSections) : Type 0 where
   pub answers : map records_outgoing o.answers.items ≡ map records_sent s.answers
   pub authorities : map records_outgoing o.authorities.items ≡ map records_sent s.authorities
   pub glue : map records_outgoing o.glue.items ≡ map records_sent s.glue
   pub additionals : map records_outgoing o.additionals.items ≡ map records_sent s.additionals
 
--- these are the groups of what goes out
+-- these are the groups of what is sent
 pub record AreGroupsOf (o : OutgoingSections) (g : GroupedSections) : Type 0 where
   pub answers : map records_of g.answers.items ≡ map records_outgoing o.answers.items
   pub authorities : map records_of g.authorities.items ≡ map records_outgoing o.authorities.items

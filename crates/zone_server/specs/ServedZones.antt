@@ -1,5 +1,5 @@
 -- Which of a server's zones answers a query
-use Rattle.std.specs.Prelude.{◌≡◌, ℕ, ◌<◌, ◌≤◌, Bool, true, false, ◌&&◌, ◌==◌, nat_lt, if◌then◌else◌, List, ◌∷◌, ◌++◌, All, length, Option, Some, None}
+use Rattle.std.specs.Prelude.{◌≡◌, ℕ, ◌<◌, ◌≤◌, Bool, true, false, ◌&&◌, ◌==◌, if◌then◌else◌, List, ◌∷◌, ◌++◌, All, length, Option, Some, None}
 use Rattle.std.specs.List.{list_any}
 use Rattle.zone_proto.specs.Names.{Name, is_above, is_at_or_above}
 use Rattle.zone_proto.specs.Types.{DS}
@@ -9,8 +9,8 @@ use Rattle.zone_response.specs.Queries.{Zone}
 abbrev pub has_parent : List Zone → Name → Bool
 has_parent zs x = list_any (λ (z : Zone). is_above z.origin x) zs
 
--- DS stands at the parent's side of a cut (RFC 4035 section 3.1.4.1): the zone at the name itself answers for it only where the server
--- has none above
+-- DS is at the parent's side of a cut (RFC 4035 section 3.1.4.1): the zone at the name itself answers for it only where
+-- the server has none above
 abbrev pub is_parents : List Zone → Name → ℕ → Bool
 is_parents zs x t = (t == DS) && has_parent zs x
 
@@ -32,7 +32,7 @@ pub record IsNearest (may : Zone → Bool) (zs : List Zone) (z : Zone) : Type 0 
   pub before : All (λ (y : Zone). may y ≡ true → length y.origin < length z.origin) front
   pub behind : All (λ (y : Zone). may y ≡ true → length y.origin ≤ length z.origin) rest
 
--- the nearest of the zones that may answer; none where none may
+-- the nearest of the zones that may answer; none if none may
 abbrev pub IsNearestIfAny : (Zone → Bool) → List Zone → Option Zone → Type 0
 IsNearestIfAny may zs (Some z) = IsNearest may zs z
 IsNearestIfAny may zs None = All (λ (z : Zone). may z ≡ false) zs
@@ -43,12 +43,7 @@ IsAnswering zs x t = IsNearestIfAny (may_answer zs x t) zs
 
 -- ---- as the program finds it
 
--- the zone of the parent, where it answers for a name and a type; none where it doesn't
+-- the zone of the parent, where it answers for a name and a type; none if it doesn't
 abbrev pub IsParentsZone : List Zone → Name → ℕ → Option Zone → Type 0
 IsParentsZone zs x t (Some z) = (is_parents zs x t ≡ true) × IsNearest (may_answer_for true x) zs z
 IsParentsZone zs x t None = is_parents zs x t ≡ false
-
--- the origin of a zone is longer than that of another, if there is one
-abbrev pub is_longer : Zone → Option Zone → Bool
-is_longer z None = true
-is_longer z (Some y) = nat_lt (length y.origin) (length z.origin)

@@ -77,8 +77,8 @@ pub record Puts (Is : List ℕ → Type 0) (waited waiting : List ℕ) (held_bef
   pub is : Is text
   pub moved : Moves (waited ++ text) held_before held_after waiting
 
--- the frames at the front of octets were answered, and these octets are left; the answers were put behind those that waited, of which some
--- were written
+-- the frames at the start of octets were answered, and these octets are left; the answers were put behind those that
+-- waited, of which some were written
 pub record TakesFrames (s : Served) (mode : Mode) (octets left waited waiting : List ℕ) (held_before held_after : Option (List ℕ)) : Type 0 where
   pub frames : List Framed
   pub text : List ℕ

@@ -1,9 +1,7 @@
 -- How far a transfer has come
-use Rattle.std.specs.Prelude.{◌≡◌, ℕ, ◌≤◌, List, [], ◌∷◌, ◌++◌, length, take, drop, Option, Result, Ok, Err}
+use Rattle.std.specs.Prelude.{◌≡◌, ℕ, ◌≤◌, List, ◌++◌, length, take, drop, Option, Result, Ok, Err}
 use Rattle.zone_proto.specs.declared.record.Record.{Record}
 use Rattle.message_reading.specs.declared.query.Query.{Query as ReadQuery}
-use Rattle.zone_handler.specs.declared.axfr_policy.AxfrPolicy.{AxfrPolicy}
-use Rattle.zone_handler.specs.declared.axfr_policy.AxfrPolicy.TheVariants.{Deny}
 use Rattle.message_writing.specs.declared.error.WriteError.{WriteError}
 use Rattle.message_writing.specs.declared.error.WriteError.TheVariants as errors
 use Rattle.message_writing.specs.declared.response.Group.{Group}
@@ -81,8 +79,3 @@ reply_kept (replies.Whole soa sets) = by_zone soa.now sets.now.entries
 abbrev pub HasSmallCode : TransferReply → Type 0
 HasSmallCode (replies.Code c) = code_number c ≤ 4095
 HasSmallCode _ = Unit {0}
-
--- the first of some policies, Deny where there is none, and the others
-abbrev pub first_policy : List AxfrPolicy → AxfrPolicy × List AxfrPolicy
-first_policy [] = (Deny, [])
-first_policy (p ∷ ps) = (p, ps)

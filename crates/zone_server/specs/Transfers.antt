@@ -39,7 +39,7 @@ records_together s = map (with_ttl s.ttl) (s.records ++ s.signatures)
 abbrev pub soa_alone : RRset → RRset
 soa_alone soa = record soa { signatures = [] }
 
--- a set as it stands between the two SOA records: of an SOA the signatures alone (RFC 5936 section 2.2)
+-- a set as it is between the two SOA records: of an SOA the signatures alone (RFC 5936 section 2.2)
 abbrev pub between : RRset → RRset
 between s = if s.record_type == SOA then record s { records = [] } else s
 
@@ -74,7 +74,7 @@ transfer_header q answers additionals = record {
   additionals = additionals;
 }
 
--- the message with the question as it came, these answers, and an OPT record if and only if the query has one
+-- the message with the question as it came (RFC 5936 section 2.2.2), these answers, and an OPT record if and only if the query has one (section 2.2.5)
 abbrev pub transfer_parts : ReadQuery → List Record → Parts
 transfer_parts q records = record {
   header = transfer_header q (length records) (length (opt_for datagram_size 0 q.extension));
@@ -191,13 +191,13 @@ pub data Reply : Type 0 where
 abbrev pub not_authoritative : ResponseCode
 not_authoritative = code.Other 9
 
--- by TCP, so that a message follows another
+-- over TCP, so that a message follows another
 abbrev pub is_stream : Transport → Bool
 is_stream transports.Tcp = true
 is_stream (transports.Udp limit) = false
 
--- IXFR asks for the changes since a serial. The zone is sent whole to a client whose serial is older, by TCP; else the SOA alone, by which
--- a client that asks by UDP sees whether it has to ask by TCP (RFC 1995 sections 2 and 4).
+-- IXFR asks for the changes since a serial. The zone is sent whole to a client whose serial is older, over TCP; else
+-- the SOA alone, by which a client that asks over UDP sees whether it has to ask over TCP (RFC 1995 sections 2 and 4).
 abbrev pub changes_reply : Transport → Option ℕ → RRset → Sets → Reply
 changes_reply t None soa m = by_code code.FormErr
 changes_reply t (Some theirs) soa m = if is_stream t && is_older theirs (serial_of soa) then by_zone soa m else by_soa soa
@@ -226,7 +226,7 @@ reply_to zs ps t message q = reply_of t message q (zone_asked zs ps q)
 abbrev pub soa_sections : RRset → Sections
 soa_sections soa = record (bare code.NoError) { authoritative = true; answers = as_it_is part.Records soa ∷ [] }
 
--- one message that goes out, behind its length
+-- one message that is sent, behind its length
 pub record IsOneMessage (limit : ℕ) (q : ReadQuery) (s : Sections) (text : List ℕ) : Type 0 where
   pub octets : List ℕ
   pub goes_out : GoesOut limit q s octets
@@ -237,6 +237,6 @@ Replies t q (by_code c) text = IsOneMessage (limit_for t q.extension) q (bare c)
 Replies t q (by_soa soa) text = IsOneMessage (limit_for t q.extension) q (soa_sections soa) text
 Replies t q (by_zone soa m) text = AreSentWhole q (groups_sent soa m) text ⊎ AreBrokenOff q (groups_sent soa m) text
 
--- IXFR asks for a transfer, and AXFR does by TCP; by UDP it isn't defined (RFC 5936 section 4.2)
+-- IXFR asks for a transfer, and AXFR does over TCP; over UDP it isn't defined (RFC 5936 section 4.2)
 abbrev pub asks_for_transfer : Transport → ReadQuery → Bool
 asks_for_transfer t q = (q.question.query_type.0 == IXFR) || ((q.question.query_type.0 == AXFR) && is_stream t)

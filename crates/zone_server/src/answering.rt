@@ -1,7 +1,7 @@
 //! From the octets of a query to those of its response.
 ghost use Rattle.std.specs.Prelude.{◌≡◌, ◌<◌, ◌≤◌, length, IfOk, OnOk};
 ghost use Rattle.zone_response.specs.Responses.{bare};
-ghost use Rattle.zone_server.specs.Answers.{asked_of, bad_version, IsAnswer, IsAnswerTo, IsResponseTo, IsSent, Tells};
+ghost use Rattle.zone_server.specs.Answers.{asked_of, bad_version, IsAnswer, IsAnswerTo, IsResponseTo, IsSent, SaysWhether};
 ghost use Rattle.zone_server.specs.BareHeaders.{HasOpcode, IsBareHeader};
 ghost use Rattle.zone_server.specs.Limits.{limit_for};
 
@@ -36,17 +36,17 @@ pub enum Answered {
 /// Answers a message from some zones, in place of the octets of `out`.
 ///
 /// - Fewer than 12 octets and a response are answered by nothing. Another opcode than that of a standard query gets NOTIMP, and
-///   what isn't of the form of a query FORMERR, by a header alone (RFC 1035 section 4.1.1; RFC 9619 section 4 for more than one
+///   what isn't of the form of a query FORMERR, by a header alone, without OPT (RFC 1035 section 4.1.1; RFC 9619 section 4 for more than one
 ///   question); a version of EDNS other than 0 gets BADVERS (RFC 6891 section 6.1.3).
 /// - The zone of the longest origin at or above the name answers, as `respond` says; for DS the one of the longest origin above
 ///   the name, if there is one (RFC 4035 section 3.1.4.1). Where there is none the code is `Refused`.
-/// - Identifier, RD, CD and the question are copied as they came; the response has an OPT record if and only if the query has one
-///   (RFC 6891 section 6.1.1), with its DO and without options; AD and RA are clear.
-/// - By UDP the response has at most as many octets as client and way take, and 1,232, but 512 without an OPT record and never
-///   fewer; by TCP at most 65,535. What is required and goes over is cut with TC (RFC 2181 section 9).
+/// - Identifier, RD and the question are copied as they came; a response with a question has an OPT record if and only if the query
+///   has one (RFC 6891 section 6.1.1), with its DO bit and without options; AD, CD and RA are clear (RFC 4035 section 3.1.6).
+/// - Over UDP the response has at most as many octets as client and way take, and 1,232, but 512 without an OPT record
+///   and never fewer; over TCP at most 65,535. What is required and goes over is cut with TC (RFC 2181 section 9).
 /// - Where a record has data that no octets are, the code is `ServFail`.
 ///
-/// Refused for want of memory alone.
+/// Fails only for lack of memory.
 pub fn answer<Z: ServedZones>(
     alloc: Global,
     zones: &Z,
@@ -57,7 +57,7 @@ pub fn answer<Z: ServedZones>(
     ensures answer { OnOk result
         (IsAnswer (Z.zones zones.now) transport message.now
         out.new.items) }
-    ensures told { IfOk result (λ told. Tells told out.new.items) }
+    ensures reported { IfOk result (λ reported. SaysWhether reported out.new.items) }
     ensures short { OnOk result (length out.new.items < 65536) }
 {
     let read = read_query(alloc, message);
@@ -76,7 +76,7 @@ pub(crate) fn answer_read<Z: ServedZones>(
     ensures answer { OnOk result
         (IsAnswerTo (Z.zones zones.now) transport read
         out.new.items) }
-    ensures told { IfOk result (λ told. Tells told out.new.items) }
+    ensures reported { IfOk result (λ reported. SaysWhether reported out.new.items) }
     ensures short { OnOk result (length out.new.items < 65536) }
 {
     match read {
@@ -97,7 +97,7 @@ fn answer_header(header: Header, code: u8, out: &mut Vec<u8>) -> Result<Answered
     requires opcode { header.opcode < 16 }
     requires code { code < 16 }
     ensures answer { OnOk result (IsBareHeader header code out.new.items) }
-    ensures told { IfOk result (λ told. Tells told out.new.items) }
+    ensures reported { IfOk result (λ reported. SaysWhether reported out.new.items) }
     ensures short { OnOk result (length out.new.items < 65536) }
 {
     write_bare_header(out, header, code)?;
@@ -113,7 +113,7 @@ fn answer_version(
 ) -> Result<Answered, AllocError>
     ensures answer { OnOk result (IsSent (limit_for transport query.now.extension) query.now
         (bare bad_version) out.new.items) }
-    ensures told { IfOk result (λ told. Tells told out.new.items) }
+    ensures reported { IfOk result (λ reported. SaysWhether reported out.new.items) }
     ensures short { OnOk result (length out.new.items < 65536) }
 {
     let limit = limit_for(transport, query);
@@ -131,7 +131,7 @@ fn answer_query<Z: ServedZones>(
 ) -> Result<Answered, AllocError>
     ensures answer { OnOk result (IsResponseTo (Z.zones zones.now)
         (limit_for transport query.now.extension) query.now out.new.items) }
-    ensures told { IfOk result (λ told. Tells told out.new.items) }
+    ensures reported { IfOk result (λ reported. SaysWhether reported out.new.items) }
     ensures short { OnOk result (length out.new.items < 65536) }
 {
     let limit = limit_for(transport, query);

@@ -6,13 +6,13 @@ ghost use Rattle.zone_server.specs.Frames.{frame_of, framed, framed_of, length_t
 use crate::transport::Transport;
 use std::alloc::AllocError;
 
-/// How messages stand in a stream.
+/// How messages are in a stream.
 #[derive(Clone, Copy, PartialEq, Eq, Debug)]
 pub enum Mode {
     /// As on TCP: each behind two octets of length.
     Stream,
-    /// The same, and before the length of a query two octets of how long its answer may be by its way: a datagram of so many
-    /// octets; or 65,535, where it came by TCP.
+    /// The same, and before the length of a query two octets of how long its answer may be by its way: a datagram of so
+    /// many octets; or 65,535, where it came over TCP.
     Limits,
 }
 
@@ -23,7 +23,7 @@ pub(crate) struct Frame<'o> {
     pub(crate) message: &'o [u8],
 }
 
-/// The frame at the front of octets, and what stands after it; none where it isn't whole.
+/// The frame at the start of octets, and what follows it; none if it isn't whole.
 pub(crate) fn frame_of(mode: Mode, octets: &[u8]) -> Option<(Frame<'_>, &[u8])>
     ensures { option_map (λ x. (framed_of x.0, x.1.now)) result ≡ frame_of mode octets.now }
 {
@@ -36,7 +36,7 @@ pub(crate) fn frame_of(mode: Mode, octets: &[u8]) -> Option<(Frame<'_>, &[u8])>
     }
 }
 
-/// A message behind its length, and what stands after it; none where it isn't whole.
+/// A message behind its length, and what follows it; none if it isn't whole.
 fn message_then(transport: Transport, octets: &[u8]) -> Option<(Frame<'_>, &[u8])>
     ensures { option_map (λ x. (framed_of x.0, x.1.now)) result
         ≡ message_then transport octets.now }
@@ -46,7 +46,7 @@ fn message_then(transport: Transport, octets: &[u8]) -> Option<(Frame<'_>, &[u8]
     Some((Frame { transport, message }, rest))
 }
 
-/// A number of two octets, and what stands after it.
+/// A number of two octets, and what follows it.
 fn short_of(octets: &[u8]) -> Option<(u16, &[u8])>
     ensures { option_map (λ x. (x.0, x.1.now)) result ≡ short_of octets.now }
 {
@@ -56,7 +56,7 @@ fn short_of(octets: &[u8]) -> Option<(u16, &[u8])>
     }
 }
 
-/// So many octets, and what stands after them.
+/// So many octets, and what follows them.
 fn octets_of(count: usize, octets: &[u8]) -> Option<(&[u8], &[u8])>
     ensures { option_map (λ x. (x.0.now, x.1.now)) result ≡ octets_of count octets.now }
 {
@@ -78,7 +78,7 @@ fn transport_by(limit: u16) -> Transport
     }
 }
 
-/// Appends an answer behind its length; nothing where there is none. An answer has at most 65,535 octets.
+/// Appends an answer behind its length; nothing if there is none. An answer has at most 65,535 octets.
 pub(crate) fn push_framed(out: &mut Vec<u8>, answer: &[u8]) -> Result<(), AllocError>
     requires { length answer.now < 65536 }
     ensures { OnOk result (out.new.items ≡ out.old.items ++ framed answer.now) }

@@ -1,4 +1,4 @@
-//! The sets of a response as groups of records, each of which goes out whole or not at all.
+//! The sets of a response as groups of records, each of which is sent whole or not at all.
 ghost use Rattle.std.specs.Prelude.{◌≡◌, map, IfOk};
 ghost use Rattle.std.specs.List.{list_all};
 ghost use Rattle.zone_proto.specs.declared.record.Record.{Record as RecordData};
@@ -13,7 +13,7 @@ use std::alloc::{AllocError, Global};
 use zone_proto::{ProtoError, Record};
 use zone_response::{Part, Sent};
 
-/// What goes out of a set.
+/// What is sent of a set.
 #[derive(Drop)]
 pub(crate) struct Outgoing<'s> {
     pub(crate) records: &'s [Record],
@@ -21,7 +21,7 @@ pub(crate) struct Outgoing<'s> {
     pub(crate) ttl: u32,
 }
 
-/// The signatures of a set that go out.
+/// The signatures of a set that are sent.
 #[derive(Drop)]
 pub(crate) enum Signatures<'s> {
     /// All that the set has, or none.
@@ -30,7 +30,7 @@ pub(crate) enum Signatures<'s> {
     Own(Vec<Record>),
 }
 
-/// What goes out of the sets of a section.
+/// What is sent of the sets of a section.
 pub(crate) fn outgoing_sets<'s>(
     alloc: Global,
     section: &'s [Sent<'_>],
@@ -45,7 +45,7 @@ pub(crate) fn outgoing_sets<'s>(
     Ok(all)
 }
 
-/// What goes out of a set.
+/// What is sent of a set.
 fn outgoing_of<'s>(alloc: Global, sent: &'s Sent<'_>) -> Result<Outgoing<'s>, ProtoError>
     ensures { IfOk result (λ o. records_outgoing o ≡ records_sent (sent_set sent.now)) }
 {
@@ -56,7 +56,7 @@ fn outgoing_of<'s>(alloc: Global, sent: &'s Sent<'_>) -> Result<Outgoing<'s>, Pr
     })
 }
 
-/// The records of a set that go out.
+/// The records of a set that are sent.
 fn records_out<'s>(sent: &'s Sent<'_>) -> &'s [Record]
     ensures { map (with_ttl sent.now.ttl) result.now ≡ (sent_set sent.now).records }
 {
@@ -66,7 +66,7 @@ fn records_out<'s>(sent: &'s Sent<'_>) -> &'s [Record]
     }
 }
 
-/// The signatures of a set that go out.
+/// The signatures of a set that are sent.
 fn signatures_out<'s>(alloc: Global, sent: &'s Sent<'_>) -> Result<Signatures<'s>, ProtoError>
     ensures { IfOk result (λ s. map (with_ttl sent.now.ttl) (signatures_outgoing s)
         ≡ (sent_set sent.now).signatures) }
@@ -127,7 +127,7 @@ impl Signatures<'_> {
     }
 }
 
-/// The groups of what goes out, each of one set.
+/// The groups of what is sent, each of one set.
 pub(crate) fn groups<'g>(
     alloc: Global,
     outgoing: &'g [Outgoing<'_>],

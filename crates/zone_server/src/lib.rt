@@ -9,6 +9,7 @@ mod answering;
 mod bare_header;
 mod frames;
 mod groups;
+mod listed_zones;
 mod sections;
 mod sending;
 mod server;
@@ -22,6 +23,7 @@ mod zones;
 
 pub use answering::{Answered, answer};
 pub use frames::Mode;
+pub use listed_zones::ListedZones;
 pub use server::Server;
 pub use serving::serve_frames;
 pub use transport::Transport;

@@ -9,7 +9,7 @@ use std::alloc::{AllocError, Global};
 use zone_proto::ProtoError;
 use zone_response::Response;
 
-/// What goes out of the sets of a response, by its sections.
+/// What is sent of the sets of a response, by its sections.
 #[derive(Drop)]
 pub(crate) struct OutgoingSections<'s> {
     pub(crate) answers: Vec<Outgoing<'s>>,
@@ -27,7 +27,7 @@ pub(crate) struct GroupedSections<'g> {
     pub(crate) additionals: Vec<Group<'g>>,
 }
 
-/// What goes out of the sets of a response.
+/// What is sent of the sets of a response.
 pub(crate) fn outgoing_sections<'s>(
     alloc: Global,
     response: &'s Response<'_>,
@@ -42,7 +42,7 @@ pub(crate) fn outgoing_sections<'s>(
     })
 }
 
-/// The groups of what goes out.
+/// The groups of what is sent.
 pub(crate) fn grouped_sections<'g>(
     alloc: Global,
     outgoing: &'g OutgoingSections<'_>,

@@ -20,23 +20,24 @@ use zone_proto::{Nsec3Hash, Signer};
 /// How many octets are read at once.
 const CHUNK: usize = 65_536;
 
-/// Answers the frames of an input from the zones of a server, up to the end of the input. A message without an answer has no frame in
-/// the output, and of a last frame that isn't whole nothing is read.
+/// Answers the frames of an input from the zones of a server, up to the end of the input. A message without an answer has no
+/// frame in the output, and a last frame that isn't complete is ignored.
 ///
-/// Each message is answered by one, as [`answer`](crate::answer) does, but for queries for a zone: AXFR by TCP (RFC 5936) and IXFR
-/// (RFC 1995). Where the name is the origin of no zone, or the class isn't IN, the code is NOTAUTH; where its policy isn't `AllowAll`,
-/// `Refused`; where it has no SOA, `ServFail`.
+/// Each message is answered with one, as [`answer`](crate::answer) does, except queries for a zone: AXFR over TCP (RFC 5936)
+/// and IXFR (RFC 1995). If the name isn't the origin of a zone, or the class isn't IN, the code is NOTAUTH; if the zone's
+/// policy isn't `AllowAll`, `Refused`; if it has no SOA, `ServFail`.
 ///
-/// - To AXFR the zone is sent in messages of up to 65,535 octets, each in a frame: the SOA, all sets in the order of their keys, each
-///   with its signatures, and the SOA again (RFC 5936 section 2.2). A set is whole in a message, but where no message has room for
-///   it. Each message has the question, and TC is never set.
-/// - To IXFR the same is sent by TCP where the serial of the SOA in the query's authority section is older than the zone's (RFC 1982);
-///   else, and by UDP, the SOA alone (RFC 1995 section 2). Without an SOA there the code is `FormErr`.
-/// - Where a record can't be sent, a message of `ServFail` ends the transfer (RFC 5936 section 2.2).
+/// - In answer to AXFR the zone is sent in messages of up to 65,535 octets, each in a frame: the SOA, all sets in the order of
+///   their keys, each with its signatures, and the SOA again (RFC 5936 section 2.2). A set is whole in a message unless no
+///   message has room for it. Each message has the question (section 2.2.2), and TC is never set.
+/// - In answer to IXFR the same is sent over TCP if the serial of the SOA in the query's authority section is older than the
+///   zone's (RFC 1982); otherwise, and over UDP, the SOA alone (RFC 1995 section 2). Without an SOA there the code is
+///   `FormErr`.
+/// - If a record can't be sent, a message with `ServFail` ends the transfer (RFC 5936 section 2.2).
 ///
-/// Frames are answered as soon as no whole one is left of what was read, all of them by one write, and before the input is read
-/// again: so a client that waits for an answer gets it. Where what waits has 65,536 octets or more, it is written before: so at most
-/// two messages wait, and a transfer is written as it is made, out of the zone's own records.
+/// Frames are answered as soon as no complete one is left of what was read, all of them with one write, and before the input is
+/// read again: so a client that waits for an answer gets it. If 65,536 octets or more are waiting, they are written before: so
+/// at most two messages wait, and a transfer is written as it is made, from the zone's own records.
 ///
 /// # Errors
 /// The first cause that ends it before the input does. The answers that weren't written by then are lost.
@@ -107,7 +108,7 @@ fn serve_waiting<S: Signer, H: Nsec3Hash, W: Write>(
     Ok(())
 }
 
-/// Answers all whole frames, and gives what stands behind these. The last answers wait to be written.
+/// Answers all whole frames, and gives what follows these. The last answers wait to be written.
 fn answer_frames<'o, S: Signer, H: Nsec3Hash, W: Write>(
     alloc: Global,
     server: &Server<'_, '_, S, H>,
@@ -131,7 +132,7 @@ fn answer_frames<'o, S: Signer, H: Nsec3Hash, W: Write>(
     Ok(rest)
 }
 
-/// Puts what answers a message behind what waits, and writes this where it is much. `out` is for an answer.
+/// Appends what answers a message to what waits, and writes this where it is much. `out` is for an answer.
 fn answer_frame<S: Signer, H: Nsec3Hash, W: Write>(
     alloc: Global,
     server: &Server<'_, '_, S, H>,
@@ -151,7 +152,7 @@ fn answer_frame<S: Signer, H: Nsec3Hash, W: Write>(
     }
 }
 
-/// Puts what answers a query behind what waits.
+/// Appends what answers a query to what waits.
 fn answer_query<S: Signer, H: Nsec3Hash, W: Write>(
     alloc: Global,
     server: &Server<'_, '_, S, H>,
@@ -173,7 +174,7 @@ fn answer_query<S: Signer, H: Nsec3Hash, W: Write>(
     answer_once(alloc, server, frame, Ok(query), out, answers, output)
 }
 
-/// Puts the one answer to a message behind what waits.
+/// Appends the one answer to a message to what waits.
 fn answer_once<S: Signer, H: Nsec3Hash, W: Write>(
     alloc: Global,
     server: &Server<'_, '_, S, H>,
@@ -190,7 +191,7 @@ fn answer_once<S: Signer, H: Nsec3Hash, W: Write>(
         (W.contents output.old) (W.contents output.new)) }
     ensures read { OnOk result (query_of frame.entry.message.now ≡ read) }
 {
-    answer_read(alloc, &server.zones, read, frame.transport, out)?;
+    answer_read(alloc, server.zones, read, frame.transport, out)?;
     put_answer(out.as_slice(), answers, output)
 }
 

@@ -1,13 +1,14 @@
 //! What a query for a whole zone, or for a zone's changes, is answered with (RFC 5936, RFC 1995).
-ghost use Rattle.std.specs.Prelude.{◌≡◌, IfOk, map, option_map};
+ghost use Rattle.std.specs.Prelude.{◌≡◌, IfOk, map, option_map, slice_index_or};
 ghost use Rattle.zone_proto.specs.Keys.{key as key_at};
 ghost use Rattle.zone_proto.specs.Sets.{first_serial, soa_serial};
 ghost use Rattle.zone_proto.specs.Types.{SOA};
 ghost use Rattle.zone_map.specs.Zones.{set_at};
 ghost use Rattle.zone_response.specs.Queries.{zone_of};
 ghost use Rattle.zone_server.specs.Transfers.{asks_for_transfer, client_serial, is_older, is_stream, policy_reply, allowed_reply, reply_to, serial_of, zone_at, zone_asked, changes_reply};
-ghost use Rattle.zone_server.specs.TransferSteps.{first_policy, reply_kept, HasSmallCode};
+ghost use Rattle.zone_server.specs.TransferSteps.{reply_kept, HasSmallCode};
 
+use crate::listed_zones::ListedZones;
 use crate::transport::Transport;
 use message_reading::{Query, read_first_authority};
 use std::alloc::{AllocError, Global};
@@ -39,7 +40,8 @@ pub(crate) enum TransferReply<'z> {
     Whole(&'z RecordSet, &'z BTreeMap<RrKey, RecordSet>),
 }
 
-/// Whether a query is answered by a transfer: IXFR is, and AXFR by TCP. By UDP AXFR isn't defined (RFC 5936 section 4.2).
+/// Whether a query is answered by a transfer: IXFR is, and AXFR over TCP. Over UDP AXFR isn't defined (RFC 5936 section
+/// 4.2).
 pub(crate) fn asks_for_transfer(transport: Transport, query: &Query) -> bool
     ensures { result ≡ asks_for_transfer transport query.now }
 {
@@ -47,7 +49,7 @@ pub(crate) fn asks_for_transfer(transport: Transport, query: &Query) -> bool
     query_type == IXFR || (query_type == RecordType::AXFR && is_stream(transport))
 }
 
-/// Whether messages may follow one another: by TCP.
+/// Whether messages may follow one another: over TCP.
 fn is_stream(transport: Transport) -> bool
     ensures { result ≡ is_stream transport }
 {
@@ -57,11 +59,11 @@ fn is_stream(transport: Transport) -> bool
     }
 }
 
-/// What a query for a transfer, which `message` is read as, is answered with. `policies` tells of each of the zones who may transfer
-/// it, in their order. Refused for want of memory alone.
+/// What a query for a transfer, which `message` is read as, is answered with. `policies` tells of each of the zones who
+/// may transfer it, in their order. Fails only for lack of memory.
 pub(crate) fn reply_to<'z, S: Signer, H: Nsec3Hash>(
     alloc: Global,
-    zones: &[ServedZone<'z, S, H>],
+    zones: &ListedZones<'z, S, H>,
     policies: &[AxfrPolicy],
     transport: Transport,
     message: &[u8],
@@ -85,7 +87,7 @@ pub(crate) fn reply_to<'z, S: Signer, H: Nsec3Hash>(
 
 /// The zone that a query asks for, and who may transfer it.
 fn zone_asked<'s, 'z, S: Signer, H: Nsec3Hash>(
-    zones: &'s [ServedZone<'z, S, H>],
+    zones: &'s ListedZones<'z, S, H>,
     policies: &[AxfrPolicy],
     query: &Query,
 ) -> Result<Option<(&'s ServedZone<'z, S, H>, AxfrPolicy)>, AllocError>
@@ -104,31 +106,24 @@ fn zone_asked<'s, 'z, S: Signer, H: Nsec3Hash>(
 
 /// The zone of this origin, and who may transfer it.
 fn zone_at<'s, 'z, S: Signer, H: Nsec3Hash>(
-    zones: &'s [ServedZone<'z, S, H>],
+    zones: &'s ListedZones<'z, S, H>,
     policies: &[AxfrPolicy],
     origin: &LowerName,
 ) -> Option<(&'s ServedZone<'z, S, H>, AxfrPolicy)>
     ensures { option_map (λ x. (zone_of S.signature_of H.digest_of x.0.now, x.1)) result
         ≡ zone_at (map (zone_of S.signature_of H.digest_of) zones.now) policies.now origin.now }
 {
-    let mut left = policies;
-    for zone in zones {
-        let (policy, others) = first_policy(left);
-        if zone.origin == origin {
-            return Some((zone, policy));
-        }
-        left = others;
-    }
-    None
+    let (place, zone) = zones.at(origin)?;
+    Some((zone, policy_at(policies, place)))
 }
 
-/// The first of some policies, that nobody may transfer a zone where there is none, and the others.
-fn first_policy(policies: &[AxfrPolicy]) -> (AxfrPolicy, &[AxfrPolicy])
-    ensures { (result.0, result.1.now) ≡ first_policy policies.now }
+/// The policy at an index: that nobody may transfer the zone, if there is none.
+fn policy_at(policies: &[AxfrPolicy], place: usize) -> AxfrPolicy
+    ensures { result ≡ slice_index_or policies.now place AxfrPolicy.Deny }
 {
-    match policies {
-        [first, others @ ..] => (*first, others),
-        [] => (AxfrPolicy::Deny, &[]),
+    match policies.get(place) {
+        Some(policy) => *policy,
+        None => AxfrPolicy::Deny,
     }
 }
 
@@ -184,8 +179,8 @@ fn changes_reply<'z>(
     }
 }
 
-/// The serial of the SOA with which the authority section of a query for changes begins (RFC 1995 section 3); none where it begins
-/// with another record, or with none. Records behind that one are not read.
+/// The serial of the SOA with which the authority section of a query for changes begins (RFC 1995 section 3); none if
+/// it begins with another record, or with none. Records behind that one are not read.
 fn client_serial(alloc: Global, message: &[u8]) -> Result<Option<u32>, AllocError>
     ensures { IfOk result (λ serial. serial ≡ client_serial message.now) }
 {

@@ -1,24 +1,25 @@
-//! `zoned [--check] [--limits] [ZONE..] [--transfers ZONE..]`: answers the frames of messages on standard input from zone files, up to
-//! the end of the input, on standard output. It opens no socket: something else lays one on its streams.
+//! `zoned [--check] [--limits] [ZONE..] [--transfers ZONE..]`: answers the frames of messages on standard input from zone
+//! files, up to the end of the input, on standard output. It opens no socket: another program connects one to its streams.
 //!
-//! A ZONE is `FILE`, whose origin is the owner of its first SOA, or `ORIGIN=FILE`; two of one origin are refused. With `--limits` each
-//! query stands behind the limit of its answer. The zones behind `--transfers` are sent whole to whoever asks for them (AXFR, RFC
-//! 5936), and the others to nobody. With `--check` the program ends once the zones are loaded, and writes their origins.
+//! A ZONE is `FILE`, whose origin is the owner of its first SOA, or `ORIGIN=FILE`; two of one origin are refused. With
+//! `--limits` each query comes after the limit of its answer. The zones behind `--transfers` are sent whole to whoever
+//! asks for them (AXFR, RFC 5936), and the others to nobody. With `--check` the program ends once the zones are loaded,
+//! and writes their origins.
 #![tactic(auto)]
 
 ghost use Rattle.std.specs.Prelude.{◌≤◌};
 
+mod reporting;
 mod serving;
-mod telling;
 mod wanted;
 mod zones;
 
+use reporting::tell;
 use serving::serve;
 use std::alloc::{AllocError, Global};
 use std::io::Write;
 use std::process::ExitCode;
 use std::{env, io};
-use telling::tell;
 use wanted::{Wanted, wanted_by};
 use zone_database::Zone;
 use zones::{load_zones, policies};

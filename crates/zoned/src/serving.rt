@@ -3,15 +3,15 @@ ghost use Rattle.std.specs.Prelude.{◌≡◌, ◌≤◌, OnOk};
 ghost use Rattle.zone_server.specs.Serving.{Serves};
 ghost use Rattle.zoned.specs.Zones.{server_of};
 
-use crate::telling::tell;
+use crate::reporting::tell;
 use std::alloc::Global;
 use std::io::{Read, Write};
 use zone_database::{Zone, served};
 use zone_handler::AxfrPolicy;
-use zone_server::{Mode, Server, Stop, serve_frames};
+use zone_server::{ListedZones, Mode, Server, Stop, serve_frames};
 
-/// Answers the frames of an input from zones, each with who may transfer it, and gives the status of the program: 0 at the end of the
-/// input, and 2 where no memory is found, or a read or a write fails; why is told.
+/// Answers the frames of an input from zones, each with who may transfer it, and gives the status of the program: 0 at
+/// the end of the input, and 2 where there isn't enough memory, or a read or a write fails; why is told.
 pub fn serve<R: Read, W: Write, E: Write>(
     alloc: Global,
     zones: &[Zone],
@@ -47,9 +47,9 @@ fn serve_zones<R: Read, W: Write>(
         (R.remaining input.old) (R.remaining input.new)
         (W.contents output.old) (W.contents output.new)) }
 {
-    let zones = served(alloc, zones)?;
+    let zones = ListedZones::new(alloc, served(alloc, zones)?)?;
     let server = Server {
-        zones: zones.as_slice(),
+        zones: &zones,
         policies,
     };
     serve_frames(alloc, &server, mode, input, output)

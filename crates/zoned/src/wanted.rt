@@ -30,8 +30,8 @@ pub struct Wanted<'w> {
     pub zones: Vec<WantedZone<'w>>,
 }
 
-/// What words ask for: `--check` or nothing, `--limits` or nothing, and zones, before one of which `--transfers` may stand. None
-/// where they aren't that.
+/// What words ask for: `--check` or nothing, `--limits` or nothing, and zones, before one of which `--transfers` may
+/// stand. None if they aren't that.
 pub fn wanted_by(alloc: Global, words: &[String]) -> Result<Option<Wanted<'_>>, ProtoError> {
     let (is_check, words) = flag(words, "--check");
     let (is_limits, words) = flag(words, "--limits");
@@ -56,8 +56,8 @@ fn flag<'w>(words: &'w [String], wanted: &str) -> (bool, &'w [String]) {
     }
 }
 
-/// The zones that words ask for, those behind `--transfers` for anybody to transfer. None where no zone is asked for, or none behind
-/// `--transfers`, or a word is no zone.
+/// The zones that words ask for, those behind `--transfers` for anybody to transfer. None if no zone is asked for, or
+/// none behind `--transfers`, or a word is no zone.
 fn wanted_zones(
     alloc: Global,
     words: &[String],
@@ -80,8 +80,8 @@ fn wanted_zones(
     Ok(if is_due { None } else { Some(zones) })
 }
 
-/// The zone that a word asks for: a file, or an origin and a file. None where the origin is no name, and where a word begins as a
-/// flag does.
+/// The zone that a word asks for: a file, or an origin and a file. None if the origin is no name, and where a word
+/// begins as a flag does.
 fn wanted_zone(
     alloc: Global,
     word: &str,

@@ -1,13 +1,14 @@
-//! The zones of files, with what is told of each.
+//! The zones of files, with what is reported about each.
 ghost use Rattle.std.specs.Prelude.{◌≡◌, List, ℕ, [], Some, map, IfOk, IfSome, option_copied, unwrap_or};
 ghost use Rattle.std.specs.List.{find};
 ghost use Rattle.zone_proto.specs.Names.{lower};
 ghost use Rattle.zone_map.specs.Zones.{IsZone};
+ghost use Rattle.zone_database.specs.Files.{is_soa, origin_of, IsZoneOfFile};
 ghost use Rattle.zone_database.specs.Texts.{given_of, IsLoaded, IsText};
 ghost use Rattle.zone_database.specs.Zones.{zone_of_records};
-ghost use Rattle.zoned.specs.Zones.{is_soa, origin_of, policy_of, IsZoneOfFile};
+ghost use Rattle.zoned.specs.Zones.{policy_of};
 
-use crate::telling::{tell, tell_at};
+use crate::reporting::{tell, tell_at};
 use crate::wanted::WantedZone;
 use std::alloc::{AllocError, Global};
 use std::collections::BTreeMap;
@@ -19,7 +20,7 @@ use zone_file::{FaultText, InputError, PlacedRecord, read_zone};
 use zone_handler::AxfrPolicy;
 use zone_proto::{LowerName, Name, ProtoError, RecordType, RrKey};
 
-/// Loads the zones that are wanted. None where one can't be loaded, or two have one origin; why is told.
+/// Loads the zones that are wanted. None if one can't be loaded, or two have one origin; why is told.
 pub fn load_zones<E: Write>(
     rt: &HostRuntime,
     alloc: Global,
@@ -46,7 +47,7 @@ pub fn load_zones<E: Write>(
     Some(zones)
 }
 
-/// Puts a zone behind others, and its file under its origin.
+/// Appends a zone to others, and its file under its origin.
 fn put<'w>(
     zones: &mut Vec<Zone>,
     files: &mut BTreeMap<LowerName, &'w str>,
@@ -96,7 +97,7 @@ fn load_zone<R: Read, E: Write>(
     }
 }
 
-/// The zone that was loaded, as it is served, with what is told of its file.
+/// The zone that was loaded, as it is served, with what is reported about its file.
 fn told_zone<E: Write>(
     alloc: Global,
     loaded: Loaded,
@@ -115,8 +116,8 @@ fn told_zone<E: Write>(
     zone_of(alloc, origin, records)
 }
 
-/// Tells what of a file isn't taken as it stands: records that are left out, and all NSEC3PARAM records but one. Each stands for a
-/// whole chain, of which a server may take any (RFC 5155 section 7.3); it takes the first that is there.
+/// Tells what of a file isn't taken as it is: records that are left out, and all NSEC3PARAM records but one. Each
+/// stands for a whole chain, of which a server may take any (RFC 5155 section 7.3); it takes the first that is there.
 fn warn<E: Write>(loaded: &Loaded, file: &str, fault: &mut E) -> Result<(), ProtoError> {
     for warning in loaded.warnings.iter() {
         tell_at(fault, file, warning.place(), warning);

@@ -5,7 +5,7 @@ use Rattle.zone_denial.specs.Chains.{chain_sets}
 use Rattle.zone_database.proofs.PutsInOrder.{put_each}
 use Rattle.zone_database.proofs.chain.chain_sets.Given as goal
 
--- the sets that are left stand under their keys; with those of them that stay the map is as with all that stay
+-- the sets that are left are under their keys; with those of them that stay the map is as with all that stay
 abbrev pub invariant-loop-key : goal.invariant-loop-key
 invariant-loop-key l =
     record {

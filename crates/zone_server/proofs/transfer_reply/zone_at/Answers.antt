@@ -1,21 +1,17 @@
-use Rattle.std.proofs.Common.{◌+◌, drop, map, sym, ◌∙◌}
-use Rattle.std.specs.Prelude.{Some}
+use Rattle.std.proofs.Common.{Bor, sym, ap, ◌∙◌}
+use Rattle.std.specs.Prelude.{Some, option_map}
+use Rattle.zone_handler.specs.declared.axfr_policy.AxfrPolicy.{AxfrPolicy}
+use Rattle.zone_response.specs.declared.question.ServedZone.{ServedZone}
 use Rattle.zone_response.specs.Queries.{zone_of}
-use Rattle.zone_server.specs.Transfers.{zone_at}
-use Rattle.zone_server.proofs.ZonesAsked.{zone_here, zone_later}
+use Rattle.zone_server.proofs.ZonesAsked.{at_no_place, at_place}
 use Rattle.zone_server.proofs.transfer_reply.zone_at.Goals as goal
 
-pub returns-then-eq : goal.returns-then-eq
-returns-then-eq g c =
-    (λ i. Some (zone_of g.S.Signer.signature_of g.H.Nsec3Hash.digest_of c.zone-item.result, (c.first_policy-policy.ensures i).0))
-    ∙ (sym (zone_here g.S.Signer.signature_of g.H.Nsec3Hash.digest_of c.args.zones.now c.loop-zone.zone-index c.zone-item.result c.loop-zone.left.now c.args.origin.now
-    c.eq.result c.loop-zone-test.true c.zone-item.is c.eq.ensures c.if-eq.true)
-    ∙ c.loop-zone.invariant)
+pub returns-in_err-place : goal.returns-in_err-place
+returns-in_err-place g c =
+    ap (option_map (λ (x : Bor (ServedZone g.row.S.Denot g.row.H.Denot) × AxfrPolicy). (zone_of g.S.Signer.signature_of g.H.Nsec3Hash.digest_of x.0.now, x.1))) c.from_residual.ensures
+    ∙ sym (at_no_place g.S.Signer.signature_of g.H.Nsec3Hash.digest_of c.args.origin.now c.args.zones.now c.args.policies.now c.in_err-place.ensures)
 
-pub loop-zone-preserved : goal.loop-zone-preserved
-loop-zone-preserved g c =
-    let zs = map (zone_of {S = g.row.S.Denot} {H = g.row.H.Denot} g.S.Signer.signature_of g.H.Nsec3Hash.digest_of) (drop (c.loop-zone.zone-index + 1) c.args.zones.now) in
-    (λ i. zone_at zs (c.first_policy-policy.ensures i).1 c.args.origin.now)
-    ∙ (sym (zone_later g.S.Signer.signature_of g.H.Nsec3Hash.digest_of c.args.zones.now c.loop-zone.zone-index c.zone-item.result c.loop-zone.left.now c.args.origin.now
-    c.eq.result c.loop-zone-test.true c.zone-item.is c.eq.ensures c.if-eq.false)
-    ∙ c.loop-zone.invariant)
+pub returns : goal.returns
+returns g c =
+    ap (λ p. Some (zone_of g.S.Signer.signature_of g.H.Nsec3Hash.digest_of c.in_ok-place.zone.now, p)) c.policy_at.ensures
+    ∙ sym (at_place g.S.Signer.signature_of g.H.Nsec3Hash.digest_of c.args.origin.now c.args.zones.now c.args.policies.now c.in_ok-place.place c.in_ok-place.zone.now c.in_ok-place.ensures.0 c.in_ok-place.ensures.1)

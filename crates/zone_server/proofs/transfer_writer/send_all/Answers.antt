@@ -10,10 +10,10 @@ loop-left-init g c =
 
 pub returns-in_err-count-clause-halted : goal.returns-in_err-count-clause-halted
 returns-in_err-count-clause-halted g c =
-    let told = sets_halt c.args.query.now (map records_of c.args.waiting.now) (map records_of c.loop-left.left.now) c.args.answers.now.items
+    let reported = sets_halt c.args.query.now (map records_of c.args.waiting.now) (map records_of c.loop-left.left.now) c.args.answers.now.items
     c.loop-left.answers.items c.send_first.new.answers.items (g.W.Write.contents c.args.output.now) (g.W.Write.contents c.loop-left.output)
     (g.W.Write.contents c.send_first.new.output) c.in_err-count.field-0.0 c.loop-left.invariant c.in_err-count.ensures.halted in
-    search (rules, told)
+    search (rules, reported)
 
 pub loop-left-preserved : goal.loop-left-preserved
 loop-left-preserved g c =

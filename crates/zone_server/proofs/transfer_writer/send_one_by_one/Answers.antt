@@ -17,10 +17,10 @@ returns-in_err-count-clause-halted g c =
     let v = g.W.Write.contents c.loop-left.output in
     let w = g.W.Write.contents c.send_message.new.output in
     let e = c.in_err-count.field-0.0 in
-    let told = halts_of q (joined (one_by_one rs)) rs a d u w e (joined_one_by_one rs)
+    let reported = halts_of q (joined (one_by_one rs)) rs a d u w e (joined_one_by_one rs)
     (pieces_halt q (one_by_one rs) (map records_of left) a b d u v w e c.loop-left.invariant
     (halts_of q (all_records left) (joined (map records_of left)) b d v w e (sym (joined_groups left)) c.in_err-count.ensures.halted)) in
-    search (rules, told)
+    search (rules, reported)
 
 pub returns-then-count-eq0-clause-halted : goal.returns-then-count-eq0-clause-halted
 returns-then-count-eq0-clause-halted g c =

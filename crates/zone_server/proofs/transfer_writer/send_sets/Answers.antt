@@ -21,9 +21,9 @@ returns-in_err-add-clause-halted g c =
     let none = map records_of c.new-waiting.result.items in
     let is : none ++ set ∷ more ≡ all =
     ap (λ (xs : List Group). map records_of xs ++ set ∷ more) c.new-waiting.ensures.items ∙ ap (λ (x : List Record). x ∷ more) c.soa_alone.ensures in
-    let told = set_halts q all none all more set a a c.add.new.answers.items u u (g.W.Write.contents c.add.new.output) c.in_err-add.field-0.0 (sym is)
+    let reported = set_halts q all none all more set a a c.add.new.answers.items u u (g.W.Write.contents c.add.new.output) c.in_err-add.field-0.0 (sym is)
     (no_sets_yet q all all a u refl) c.in_err-add.ensures.halted in
-    search (rules, told)
+    search (rules, reported)
 
 pub loop-set-init : goal.loop-set-init
 loop-set-init g c =
@@ -70,11 +70,11 @@ returns-in_err-add-2-clause-halted g c =
     let set = records_of c.between.result in
     let is : w ++ (map f c.loop-set.set-iterator ++ soa ∷ []) ≡ w ++ set ∷ more =
     ap (λ (xs : List RRset). w ++ (map f xs ++ soa ∷ [])) c.in-Some.ensures.steps ∙ ap (λ (x : List Record). w ++ x ∷ more) (sym c.between.ensures) in
-    let told = set_halts q all w (w ++ (map f c.loop-set.set-iterator ++ soa ∷ [])) more set
+    let reported = set_halts q all w (w ++ (map f c.loop-set.set-iterator ++ soa ∷ [])) more set
     c.args.answers.now.items c.loop-set.answers.items c.add-in-loop-set.new.answers.items (g.W.Write.contents c.args.output.now)
     (g.W.Write.contents c.loop-set.output) (g.W.Write.contents c.add-in-loop-set.new.output) c.in_err-add-2.field-0.0 is c.loop-set.invariant
     c.in_err-add-2.ensures.halted in
-    search (rules, told)
+    search (rules, reported)
 
 pub returns-in_err-add-3-clause-halted : goal.returns-in_err-add-3-clause-halted
 returns-in_err-add-3-clause-halted g c =
@@ -86,11 +86,11 @@ returns-in_err-add-3-clause-halted g c =
     let set = records_of c.soa_alone-2.result in
     let is : w ++ (map f c.loop-set.set-iterator ++ soa ∷ []) ≡ w ++ set ∷ [] =
     ap (λ (xs : List RRset). w ++ (map f xs ++ soa ∷ [])) c.in-None.ensures.steps.0 ∙ ap (λ (x : List Record). w ++ x ∷ []) (sym c.soa_alone-2.ensures) in
-    let told = set_halts q all w (w ++ (map f c.loop-set.set-iterator ++ soa ∷ [])) [] set
+    let reported = set_halts q all w (w ++ (map f c.loop-set.set-iterator ++ soa ∷ [])) [] set
     c.args.answers.now.items c.loop-set.answers.items c.add-2.new.answers.items (g.W.Write.contents c.args.output.now)
     (g.W.Write.contents c.loop-set.output) (g.W.Write.contents c.add-2.new.output) c.in_err-add-3.field-0.0 is c.loop-set.invariant
     c.in_err-add-3.ensures.halted in
-    search (rules, told)
+    search (rules, reported)
 
 pub returns-clause-sent : goal.returns-clause-sent
 returns-clause-sent g c =

@@ -6,7 +6,7 @@ use Rattle.zoned.proofs.serving.serve_zones.Goals as goal
 
 pub returns : goal.returns
 returns g c =
-    let served = subst (IsServed c.args.zones.now) (sym c.as_slice.ensures.value) c.in_ok-zones.ensures in
+    let served = subst (IsServed c.args.zones.now) (sym c.in_ok-zones.ensures) c.in_ok-served.ensures in
     subst
     (λ zs. OnOk c.serve_frames.result
     (Serves (record { zones = zs; policies = c.args.policies.now }) c.args.mode (g.R.Read.remaining c.args.input.now)

@@ -1,4 +1,4 @@
-//! Lines that tell what of a text is wrong, or isn't taken as it stands.
+//! Lines that tell what of a text is wrong, or isn't taken as it is.
 
 use crate::reading::TextFault;
 use std::alloc::AllocError;
@@ -7,7 +7,7 @@ use zone_builder::LoadWarning;
 use zone_file::FaultText;
 use zone_scanner::Place;
 
-/// Puts the line of a fault behind a text, with a label in the place of a file's name: label, line, column and reason.
+/// Appends the line of a fault to a text, with a label in place of a file's name: label, line, column and reason.
 pub(crate) fn tell_fault(
     fault: &TextFault,
     label: &str,
@@ -20,7 +20,7 @@ pub(crate) fn tell_fault(
     }
 }
 
-/// Puts the lines of warnings behind a text.
+/// Appends the lines of warnings to a text.
 pub(crate) fn tell_warnings(
     warnings: &[LoadWarning],
     label: &str,
@@ -32,7 +32,7 @@ pub(crate) fn tell_warnings(
     Ok(())
 }
 
-/// Puts the line of something at a place behind a text, or of the whole where the place isn't known.
+/// Appends the line of something at a place to a text, or of the whole where the place isn't known.
 fn tell_at<T: Display>(
     label: &str,
     place: Option<Place>,
