@@ -30,7 +30,8 @@ past_string octets place = if nat_le (length octets) place then place else place
 abbrev pub strings_length : List ℕ → ℕ
 strings_length octets = past_string octets (past_string octets (past_string octets 4))
 
--- where the names begin in the data of a type without a case of its own, which go to the end; none where no name is put in lower case
+-- where the names begin in the data of a type without a case of its own, which go to the end; none if no name is put in
+-- lower case
 abbrev pub names_from : ℕ → List ℕ → Option ℕ
 names_from t octets =
     if is_names t then Some 0
@@ -62,6 +63,10 @@ abbrev pub with_octets : List ℕ → List (List ℕ) → List (List ℕ)
 with_octets x [] = x ∷ []
 with_octets x (y ∷ ys) = match_ordering (octets_cmp y x) (y ∷ with_octets x ys) (y ∷ ys) (x ∷ y ∷ ys)
 
--- the canonical forms of the data of a set, ascending as octet strings, each once
+-- octet strings, ascending, each once
+abbrev pub in_order : List (List ℕ) → List (List ℕ)
+in_order forms = fold (λ set x. with_octets x set) [] forms
+
+-- the canonical forms of the data of a set
 abbrev pub canonical_set : List Record → List (List ℕ)
-canonical_set records = fold (λ set (r : Record). with_octets (canonical_octets r.rdata) set) [] records
+canonical_set records = in_order (map (λ (r : Record). canonical_octets r.rdata) records)

@@ -1,8 +1,9 @@
 pub mod Canonical
 pub mod SignedData
-pub mod Frames
-pub mod LeftOut
 pub mod Blank
+pub mod Frames
+pub mod Faults
 pub mod Filling
 pub mod Answering
 pub mod PlanLaws
+pub mod ReadBack

@@ -1,10 +1,12 @@
 //! Data in canonical form (RFC 4034 section 6.2, as corrected by RFC 6840 section 5.1).
-ghost use Rattle.std.specs.Prelude.{◌≡◌, ◌++◌, IfOk, OnOk, map, take, drop};
+ghost use Rattle.std.specs.Prelude.{◌≡◌, ◌++◌, IfOk, IfErr, OnOk, map, take, drop};
 ghost use Rattle.std.specs.Char.{to_ascii_lowercase};
 ghost use Rattle.zone_proto.specs.Names.{lower};
 ghost use Rattle.zone_proto.specs.Results.{IsCopy};
+ghost use Rattle.message_writing.specs.DataText.{IsWritable};
 ghost use Rattle.message_writing.specs.PlainText.{plain_text};
 ghost use Rattle.zone_planning.specs.Canonical.{canonical_octets, canonical_soa, lowered_from, names_from, past_string, strings_length};
+ghost use Rattle.zone_planning.specs.Faults.{IsUnwritableUnless};
 
 use crate::fault::PlanFault;
 use message_writing::push_plain_data;
@@ -14,7 +16,8 @@ use zone_proto::{LowerName, MX, Name, OtherData, ProtoError, RData, SOA, SRV, Se
 /// The canonical form of data: in wire form, with the names in lower case in the types that RFC 4034 lists. Refused by
 /// `Unwritable` for data that no octets are, and by `Memory`.
 pub(crate) fn canonical_octets(alloc: Global, rdata: &RData) -> Result<Seq<u8>, PlanFault>
-    ensures { IfOk result (λ octets. octets ≡ canonical_octets rdata.now) }
+    ensures ok { IfOk result (λ octets. octets ≡ canonical_octets rdata.now) }
+    ensures err { IfErr result (λ e. IsUnwritableUnless e (IsWritable rdata.now)) }
 {
     match rdata {
         RData::NS(name) => plain(alloc, &RData::NS(lower_copy(name)?)),
@@ -56,8 +59,8 @@ pub(crate) fn canonical_octets(alloc: Global, rdata: &RData) -> Result<Seq<u8>, 
 
 /// Data in wire form.
 fn plain(alloc: Global, rdata: &RData) -> Result<Seq<u8>, PlanFault>
-    ensures { IfOk result
-        (λ octets. octets ≡ plain_text rdata.now) }
+    ensures ok { IfOk result (λ octets. octets ≡ plain_text rdata.now) }
+    ensures err { IfErr result (λ e. IsUnwritableUnless e (IsWritable rdata.now)) }
 {
     let mut out = Vec::new(alloc);
     push_plain_data(alloc, &mut out, rdata)?;
@@ -89,7 +92,8 @@ fn lower_soa(soa: &SOA) -> Result<SOA, ProtoError>
 /// The canonical form of data of a type without a case of its own: their octets, where names stand to the end in lower case.
 fn canonical_other(alloc: Global, rdata: &RData, other: &OtherData) -> Result<Seq<u8>, PlanFault>
     requires { rdata.now ≡ RData.Other other.now }
-    ensures { IfOk result (λ octets. octets ≡ canonical_octets rdata.now) }
+    ensures ok { IfOk result (λ octets. octets ≡ canonical_octets rdata.now) }
+    ensures err { IfErr result (λ e. IsUnwritableUnless e (IsWritable rdata.now)) }
 {
     let mut out = Vec::new(alloc);
     push_plain_data(alloc, &mut out, rdata)?;
@@ -124,8 +128,8 @@ fn push_lower(out: &mut Vec<u8>, octets: &[u8]) -> Result<(), AllocError>
     Ok(())
 }
 
-/// How many octets stand before the names, which go to the end, in the data of a type; none where its data have no names that are
-/// put in lower case.
+/// How many octets come before the names, which go to the end, in the data of a type; none if its data have no names
+/// that are put in lower case.
 fn names_from(record_type: u16, octets: &[u8]) -> Option<usize>
     ensures { result ≡ names_from record_type octets.now }
 {
@@ -137,7 +141,7 @@ fn names_from(record_type: u16, octets: &[u8]) -> Option<usize>
     }
 }
 
-/// How many octets stand before the name of NAPTR: two numbers, and three strings behind the octets that count them.
+/// How many octets come before the name of NAPTR: two numbers, and three strings behind the octets that count them.
 fn strings_length(octets: &[u8]) -> usize
     ensures { result ≡ strings_length octets.now }
 {

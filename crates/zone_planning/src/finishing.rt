@@ -1,21 +1,29 @@
 //! Signatures put into a plan.
-ghost use Rattle.std.specs.Prelude.{◌≡◌, ◌⊎◌, IfOk, IfErr, OnOk, [], length};
+ghost use Rattle.std.specs.Prelude.{◌≡◌, ◌+◌, ◌^◌, ◌<◌, ◌≤◌, ◌⊎◌, ℕ, List, [], None, Some, IfOk, IfErr, OnOk, length};
+ghost use Rattle.zone_proto.specs.declared.record.Record.{Record as Signature};
+ghost use Rattle.zone_proto.specs.Results.{IsCopy};
 ghost use Rattle.zone_proto.specs.Sets.{AreSignatures};
 ghost use Rattle.zone_map.specs.Renewals.{with_signatures, AreHanded};
 ghost use Rattle.zone_map.specs.Zones.{AreStored, IsZone};
-ghost use Rattle.zone_planning.specs.Filling.{blank_count, filled, filled_list, filled_record};
+ghost use Rattle.zone_planning.specs.Filling.{blanks, filled, filled_list, filled_record, finish_fault, first_fault, is_as_long, numbers_in, signature_fault, signatures_text};
 
+use crate::blank::blank_number;
 use crate::fault::FinishFault;
 use crate::plans::Plan;
 use std::alloc::Global;
 use zone_keys::signature_length;
 use zone_map::RecordMap;
-use zone_proto::{DNSKEY, LowerName, RData, RRSIG, Record, RecordType, RrKey, Rrsigs, Seq};
+use zone_proto::{DNSKEY, LowerName, ProtoError, RData, Record, RecordType, RrKey, Rrsigs, Seq};
 
-/// The signatures that stand in octets one after the other, each behind two octets that count its octets. Refused by `BadForm` for
-/// other octets, and by `Memory`.
+/// The signatures that are in octets one after the other, each behind two octets that count its octets. Refused by
+/// `BadForm` for other octets, and by `Memory`.
 pub fn read_signatures(alloc: Global, octets: &[u8]) -> Result<Vec<Seq<u8>>, FinishFault>
-    ensures { IfErr result (λ e. (e ≡ FinishFault.Memory) ⊎ (e ≡ FinishFault.BadForm)) }
+    ensures ok { IfOk result
+        (λ signatures. signatures_text signatures.items ≡ octets.now) }
+    ensures err { IfErr result
+        (λ e. (e ≡ FinishFault.Memory)
+        ⊎ ((e ≡ FinishFault.BadForm)
+        × ((signatures : List (List ℕ)) → signatures_text signatures ≡ octets.now → ⊥))) }
 {
     let mut signatures = Vec::new(alloc);
     let mut left = octets;
@@ -34,19 +42,61 @@ pub fn read_signatures(alloc: Global, octets: &[u8]) -> Result<Vec<Seq<u8>>, Fin
     Ok(signatures)
 }
 
-/// The zone of a plan with these signatures in the places of the blank ones, in order. Refused by `WrongLength` for the first one
-/// that isn't as long as its key makes them, by `TooFew` and `TooMany`, and by `Memory`.
-pub fn finish(alloc: Global, plan: Plan, signatures: &[Seq<u8>]) -> Result<RecordMap, FinishFault>
+/// A plan into which no signatures are put, and why.
+#[derive(Drop)]
+pub struct Unfinished {
+    /// The plan, as it was.
+    pub plan: Plan,
+    /// Why.
+    pub fault: FinishFault,
+}
+
+/// The zone of a plan with these signatures in the places of the blank ones, in order.
+///
+/// # Errors
+///
+/// Refused by `TooFew` and `TooMany`; for the first signature with which something is wrong by `UnknownKey` where the number in its
+/// place is that of no key, and by `WrongLength` where it isn't as long as its key makes them; and by `Memory`. The plan is handed back.
+pub fn finish(alloc: Global, plan: Plan, signatures: &[Seq<u8>]) -> Result<RecordMap, Unfinished>
     ensures filled { IfOk result
         (λ zone. zone ≡ with_signatures plan.records (filled plan.records signatures.now)) }
-    ensures count { OnOk result (length signatures.now ≡ blank_count plan.records) }
     ensures zone { IfOk result (λ zone. IsZone zone) }
+    ensures faultless { OnOk result
+        (finish_fault plan.keys.items plan.records signatures.now ≡ None) }
+    ensures fault { IfErr result
+        (λ e. (e.fault ≡ FinishFault.Memory)
+        ⊎ (finish_fault plan.keys.items plan.records signatures.now ≡ Some e.fault)) }
+    ensures same { IfErr result (λ e. e.plan ≡ plan) }
 {
+    match filled(alloc, &plan.records, plan.keys.as_slice(), signatures) {
+        Ok(lists) => renew(alloc, plan, lists),
+        Err(fault) => Err(Unfinished { plan, fault }),
+    }
+}
+
+/// The zone of a plan with these lists of signatures, one for each set.
+fn renew(alloc: Global, plan: Plan, lists: Vec<Option<Rrsigs>>) -> Result<RecordMap, Unfinished>
+    requires handed { (made : List (List Signature))
+        × AreHanded plan.records made lists.items [] }
+    requires stored { AreStored plan.records }
+    ensures sets { IfOk result
+        (λ zone. (made : List (List Signature)) → AreHanded plan.records made lists.items []
+        → zone ≡ with_signatures plan.records made) }
+    ensures zone { IfOk result (λ zone. IsZone zone) }
+    ensures err { IfErr result
+        (λ e. (e.fault ≡ FinishFault.Memory) × (e.plan ≡ plan)) }
+{
+    let Ok(exchanged) = Rrsigs::with_capacity(alloc, 0) else {
+        return Err(Unfinished {
+            plan,
+            fault: FinishFault::Memory,
+        });
+    };
     let Plan { mut records, keys } = plan;
-    let lists = filled(alloc, &records, keys.as_slice(), signatures)?;
+    drop(keys);
     // No set stands under this key, so that no serial is stepped.
     let none = RrKey::new(LowerName::root(alloc), RecordType(0));
-    records.renew(&none, lists, Rrsigs::with_capacity(alloc, 0)?);
+    records.renew(&none, lists, exchanged);
     Ok(records)
 }
 
@@ -59,28 +109,77 @@ fn filled(
 ) -> Result<Vec<Option<Rrsigs>>, FinishFault>
     ensures handed { IfOk result
         (λ lists. AreHanded records.now (filled records.now signatures.now) lists.items []) }
-    ensures count { OnOk result (length signatures.now ≡ blank_count records.now) }
     ensures stored { OnOk result (AreStored records.now) }
+    ensures faultless { OnOk result (finish_fault keys.now records.now signatures.now ≡ None) }
+    ensures fault { IfErr result
+        (λ e. (e ≡ FinishFault.Memory)
+        ⊎ (finish_fault keys.now records.now signatures.now ≡ Some e)) }
 {
-    let mut lists = Vec::with_capacity(alloc, records.len())?;
-    let mut left = signatures;
+    check_count(records, signatures.len())?;
+    fill(alloc, records, keys, signatures)
+}
+
+/// Whether there are as many signatures as blank ones. Refused by `TooFew` and `TooMany`.
+fn check_count(records: &RecordMap, count: usize) -> Result<(), FinishFault>
+    ensures ok { OnOk result (count ≡ length (blanks records.now)) }
+    ensures err { IfErr result
+        (λ e. ((e ≡ FinishFault.TooFew) × (count < length (blanks records.now)))
+        ⊎ ((e ≡ FinishFault.TooMany) × (length (blanks records.now) < count))) }
+{
+    let mut left = count;
     for (_, set) in records.iter() {
-        let blanks = set.rrsigs();
-        if left.len() < blanks.len() {
+        let blank = count_of(set.rrsigs());
+        if left < blank {
             return Err(FinishFault::TooFew);
         }
-        let (part, rest) = left.split_at(blanks.len());
-        lists.push(Some(filled_list(
-            alloc,
-            keys,
-            blanks,
-            part,
-            signatures.len().saturating_sub(left.len()),
-        )?))?;
-        left = rest;
+        left -= blank;
     }
-    if !left.is_empty() {
+    if left > 0 {
         return Err(FinishFault::TooMany);
+    }
+    Ok(())
+}
+
+/// How many of these signatures are blank.
+fn count_of(signatures: &[Record]) -> usize
+    ensures { result ≡ length (numbers_in signatures.now) }
+{
+    let mut count = 0;
+    for signature in signatures {
+        if blank_number(signature).is_some() {
+            count += 1;
+        }
+    }
+    count
+}
+
+/// The same where there are as many signatures as blank ones.
+fn fill(
+    alloc: Global,
+    records: &RecordMap,
+    keys: &[DNSKEY],
+    signatures: &[Seq<u8>],
+) -> Result<Vec<Option<Rrsigs>>, FinishFault>
+    requires { length signatures.now ≡ length (blanks records.now) }
+    ensures handed { IfOk result
+        (λ lists. AreHanded records.now (filled records.now signatures.now) lists.items []) }
+    ensures stored { OnOk result (AreStored records.now) }
+    ensures faultless { OnOk result
+        (first_fault keys.now 0 (blanks records.now) signatures.now ≡ None) }
+    ensures fault { IfErr result
+        (λ e. (e ≡ FinishFault.Memory)
+        ⊎ (first_fault keys.now 0 (blanks records.now) signatures.now ≡ Some e)) }
+{
+    let mut lists = Vec::with_capacity(alloc, records.len())?;
+    let mut place = 0;
+    for (_, set) in records.iter() {
+        let (_, left) = signatures.split_at(place);
+        let list = match filled_list(alloc, keys, set.rrsigs(), left, place) {
+            Ok(list) => list,
+            Err(fault) => return Err(fault),
+        };
+        lists.push(Some(list))?;
+        place += count_of(set.rrsigs());
     }
     Ok(lists)
 }
@@ -91,57 +190,78 @@ fn filled_list(
     keys: &[DNSKEY],
     blanks: &[Record],
     signatures: &[Seq<u8>],
-    start: usize,
+    place: usize,
 ) -> Result<Rrsigs, FinishFault>
-    requires { AreSignatures blanks.now }
-    ensures { IfOk result (λ list. list ≡ filled_list blanks.now signatures.now) }
+    requires kind { AreSignatures blanks.now }
+    requires many { length (numbers_in blanks.now) ≤ length signatures.now }
+    requires room { place + length signatures.now < 2 ^ 64 }
+    ensures ok { IfOk result (λ list. list ≡ filled_list blanks.now signatures.now) }
+    ensures faultless { OnOk result
+        (first_fault keys.now place (numbers_in blanks.now) signatures.now ≡ None) }
+    ensures fault { IfErr result
+        (λ e. (e ≡ FinishFault.Memory)
+        ⊎ (first_fault keys.now place (numbers_in blanks.now) signatures.now ≡ Some e)) }
 {
     let mut list = Rrsigs::with_capacity(alloc, blanks.len())?;
-    let mut left = signatures;
+    let mut taken = 0;
     for blank in blanks {
-        let Some((signature, others)) = left.split_first() else {
-            return Ok(list);
-        };
-        let place = start.saturating_add(list.len());
-        list.push(filled_record(keys, blank, signature, place)?)?;
-        left = others;
+        match blank_number(blank) {
+            Some(number) => {
+                check_signature(keys, number, &signatures[taken], place + taken)?;
+                list.push(filled_record(blank, &signatures[taken])?)?;
+                taken += 1;
+            }
+            None => list.push(blank.clone()?)?,
+        }
     }
     Ok(list)
 }
 
-/// A record of a blank signature, with the signature of this number in its place.
-fn filled_record(
-    keys: &[DNSKEY],
-    given: &Record,
-    signature: &Seq<u8>,
-    place: usize,
-) -> Result<Record, FinishFault>
-    ensures { IfOk result (λ made. made ≡ filled_record given.now signature.now) }
+/// A record of a blank signature, with this one in its place.
+fn filled_record(blank: &Record, signature: &Seq<u8>) -> Result<Record, ProtoError>
+    ensures { IsCopy result (filled_record blank.now signature.now) }
 {
-    let RData::RRSIG(blank) = &given.rdata else {
-        return Ok(given.clone()?);
+    let rdata = match &blank.rdata {
+        RData::RRSIG(rrsig) => {
+            let mut rrsig = rrsig.clone()?;
+            rrsig.signature = signature.clone()?;
+            RData::RRSIG(rrsig)
+        }
+        other => other.clone()?,
     };
-    if !is_as_long(keys, blank, signature) {
-        return Err(FinishFault::WrongLength(place));
-    }
-    let mut rrsig = blank.clone()?;
-    rrsig.signature = signature.clone()?;
     Ok(Record {
-        name: given.name.clone()?,
-        dns_class: given.dns_class,
-        ttl: given.ttl,
-        rdata: RData::RRSIG(rrsig),
+        name: blank.name.clone()?,
+        dns_class: blank.dns_class,
+        ttl: blank.ttl,
+        rdata,
     })
 }
 
-/// Whether a signature is as long as those of the key whose number stands in its place, where its algorithm tells that.
-fn is_as_long(keys: &[DNSKEY], rrsig: &RRSIG, signature: &Seq<u8>) -> bool {
-    let Some(number) = rrsig.signature.as_slice().first() else {
-        return false;
+/// Whether a signature can stand in place of one with this key's number. Refused by `UnknownKey` and `WrongLength`, with the
+/// number of the signature.
+fn check_signature(
+    keys: &[DNSKEY],
+    number: u8,
+    signature: &Seq<u8>,
+    place: usize,
+) -> Result<(), FinishFault>
+    ensures ok { OnOk result (signature_fault keys.now number signature.now place ≡ None) }
+    ensures err { IfErr result
+        (λ e. signature_fault keys.now number signature.now place ≡ Some e) }
+{
+    let Some(key) = keys.get(usize::from(number)) else {
+        return Err(FinishFault::UnknownKey(place));
     };
-    let Some(key) = keys.get(usize::from(*number)) else {
-        return false;
-    };
+    if !is_as_long(key, signature) {
+        return Err(FinishFault::WrongLength(place));
+    }
+    Ok(())
+}
+
+/// Whether a signature is as long as those of a key, if its algorithm fixes that.
+fn is_as_long(key: &DNSKEY, signature: &Seq<u8>) -> bool
+    ensures { result ≡ is_as_long key.now signature.now }
+{
     match signature_length(key) {
         Some(length) => signature.as_slice().len() == length,
         None => true,

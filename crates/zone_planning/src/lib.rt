@@ -1,4 +1,4 @@
-//! Zones signed with keys that never enter the program: what has to be signed is written out, and signatures are put in.
+//! Zones signed with keys that never enter the program: it writes what has to be signed, and puts the signatures in.
 //!
 //! `make_plan` of `zone_planner` secures a zone by signers whose signatures are blank ([`PlanSigner`]). For each of these, in order,
 //! [`push_frames`] gives the octets that its signature is to be made of. [`finish`] puts signatures in the places of the blank
@@ -15,12 +15,11 @@ mod ordering;
 mod plans;
 mod signed_data;
 mod signer;
-mod unsigned;
 
+pub use blank::blank_number;
 pub use fault::{FinishFault, PlanFault};
-pub use finishing::{finish, read_signatures};
-pub use frames::push_frames;
+pub use finishing::{Unfinished, finish, read_signatures};
+pub use frames::{push_end, push_frames};
 pub use plans::Plan;
 pub use signed_data::push_signed_data;
 pub use signer::PlanSigner;
-pub use unsigned::left_out;

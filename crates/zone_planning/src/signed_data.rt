@@ -1,19 +1,24 @@
 //! The octets that a signature is made of (RFC 4034 section 3.1.8.1).
-ghost use Rattle.std.specs.Prelude.{◌≡◌, ◌++◌, OnOk};
+ghost use Rattle.std.specs.Prelude.{◌≡◌, ◌≤◌, ◌++◌, length, OnOk, IfErr, IsOkUnless};
 ghost use Rattle.message_writing.specs.DataText.{fixed_text, short_text, long_text};
+ghost use Rattle.zone_planning.specs.Canonical.{canonical_set};
+ghost use Rattle.zone_planning.specs.Faults.{AreShort, AreWritable, IsUnwritableUnless};
 ghost use Rattle.zone_planning.specs.SignedData.{front_text, record_text, records_text, set_text, signed_data};
 
 use crate::fault::PlanFault;
 use crate::ordering::canonical_set;
-use std::alloc::{AllocError, Global};
-use zone_proto::{RRSIG, RecordSet, Seq};
+use std::alloc::AllocError;
+use zone_proto::{ProtoError, RRSIG, RecordSet, Seq};
 
 /// Appends what the signature of a set is made of: the data of its RRSIG record up to the signer, whose name is in lower case,
 /// and the records of the set in canonical form and order. Refused by `Unwritable` for data that no octets are, and by
 /// `Memory`.
 #[tactic(auto, unfolding(crate::specs::SignedData::signed_data))]
 pub fn push_signed_data(out: &mut Vec<u8>, rrsig: &RRSIG, set: &RecordSet) -> Result<(), PlanFault>
-    ensures { OnOk result (out.new.items ≡ out.old.items ++ signed_data rrsig.now set.now) }
+    ensures ok { OnOk result (out.new.items ≡ out.old.items ++ signed_data rrsig.now set.now) }
+    ensures err { IfErr result
+        (λ e. IsUnwritableUnless e
+        (AreWritable set.now.records × AreShort (canonical_set set.now.records))) }
 {
     push_front(out, rrsig)?;
     push_set(out, rrsig.original_ttl, set)
@@ -21,8 +26,9 @@ pub fn push_signed_data(out: &mut Vec<u8>, rrsig: &RRSIG, set: &RecordSet) -> Re
 
 /// Appends the data of an RRSIG record up to the signature.
 #[tactic(auto, unfolding(crate::specs::SignedData::front_text))]
-fn push_front(out: &mut Vec<u8>, rrsig: &RRSIG) -> Result<(), PlanFault>
-    ensures { OnOk result (out.new.items ≡ out.old.items ++ front_text rrsig.now) }
+fn push_front(out: &mut Vec<u8>, rrsig: &RRSIG) -> Result<(), ProtoError>
+    ensures ok { OnOk result (out.new.items ≡ out.old.items ++ front_text rrsig.now) }
+    ensures err { IsOkUnless result ProtoError.Memory }
 {
     let signer = rrsig.signer_name.wire_lower()?;
     push_fixed(out, rrsig)?;
@@ -33,7 +39,10 @@ fn push_front(out: &mut Vec<u8>, rrsig: &RRSIG) -> Result<(), PlanFault>
 /// Appends the records of a set in canonical form and order, with this TTL.
 #[tactic(auto, unfolding(crate::specs::SignedData::set_text))]
 fn push_set(out: &mut Vec<u8>, ttl: u32, set: &RecordSet) -> Result<(), PlanFault>
-    ensures { OnOk result (out.new.items ≡ out.old.items ++ set_text ttl set.now) }
+    ensures ok { OnOk result (out.new.items ≡ out.old.items ++ set_text ttl set.now) }
+    ensures err { IfErr result
+        (λ e. IsUnwritableUnless e
+        (AreWritable set.now.records × AreShort (canonical_set set.now.records))) }
 {
     let texts = canonical_set(*out.allocator(), set.as_slice())?;
     let owner = set.name().wire_lower()?;
@@ -54,8 +63,9 @@ fn push_records(
     ttl: u32,
     texts: &[Seq<u8>],
 ) -> Result<(), PlanFault>
-    ensures { OnOk result
+    ensures ok { OnOk result
         (out.new.items ≡ out.old.items ++ records_text owner.now record_type ttl texts.now) }
+    ensures err { IfErr result (λ e. IsUnwritableUnless e (AreShort texts.now)) }
 {
     for octets in texts {
         push_record(out, owner, record_type, ttl, octets.as_slice())?;
@@ -85,9 +95,10 @@ fn push_record(
     ttl: u32,
     octets: &[u8],
 ) -> Result<(), PlanFault>
-    ensures { OnOk result
+    ensures ok { OnOk result
         (out.new.items
         ≡ out.old.items ++ record_text owner.now record_type ttl octets.now) }
+    ensures err { IfErr result (λ e. IsUnwritableUnless e (length octets.now ≤ 65535)) }
 {
     if octets.len() > 65535 {
         return Err(PlanFault::Unwritable);

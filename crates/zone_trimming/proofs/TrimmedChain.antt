@@ -1,5 +1,5 @@
 -- A zone that gets its NSEC sets with trimmed lists has a chain of them
-use Rattle.std.proofs.Common.{◌≡◌, ◌≢◌, ◌↔◌, ℕ, Bool, true, false, not, ◌&&◌, ◌||◌, cond, List, [], ◌∷◌, length, map, refl, sym, ap, ◌∙◌, subst, true≢false, ◌⊎◌, inl, inr, arith, eqb-true}
+use Rattle.std.proofs.Common.{◌≡◌, ◌≢◌, ◌↔◌, ℕ, Bool, true, false, not, ◌&&◌, ◌||◌, cond, List, [], length, map, refl, sym, ap, ◌∙◌, subst, true≢false, ◌⊎◌, inl, inr, arith, eqb-true}
 use Rattle.std.specs.Prelude.{Option, Some, None, filter, is_some, unwrap_or, option_map, ◌==◌}
 use Rattle.std.specs.Cmp.{both_ways}
 use Rattle.std.specs.List.{Contains}
@@ -15,21 +15,21 @@ use Rattle.zone_map.specs.Zones.{Sets, IsZone, set_at, owns, owners, names_of}
 use Rattle.zone_map.proofs.Lists.{owner_lowered}
 use Rattle.zone_map.proofs.Owned.{name_owned, owner_in, owner_owned}
 use Rattle.zone_denial.specs.Authority.{is_authoritative, authoritative_names, is_below_cut, owns_besides}
-use Rattle.zone_denial.specs.Chains.{is_delegation, is_told_at_delegation, IsRightList, next_owner}
+use Rattle.zone_denial.specs.Chains.{is_delegation, is_stated_at_delegation, IsRightList, next_owner}
 use Rattle.zone_denial.specs.NsecCircle.{first_nsec, nsec_next}
-use Rattle.zone_denial.specs.NsecSets.{nsec_set, nsec_set_at}
+use Rattle.zone_denial.specs.NsecSets.{nsec_set}
 use Rattle.zone_denial.specs.TypeLists.{nsec_types}
 use Rattle.zone_denial.proofs.Chain.NsecLists.{list_has, from_list}
 use Rattle.zone_denial.proofs.Chain.NsecSecured.{same_next, same_types}
 use Rattle.zone_denial.proofs.InOrder.{flipped}
 use Rattle.zone_denial.proofs.Names.AuthoritativeNames.{same_authority, authoritative_from, authoritative_listed, besides_from, origin_uncut}
-use Rattle.zone_trimming.specs.Trimming.{trimmed_set, trimmed_at}
+use Rattle.zone_trimming.specs.Trimming.{trimmed_set}
 use Rattle.zone_trimming.specs.TrimmedChains.{HasTrimmedNsecSets, TrimmedIsNsecChain}
 use Rattle.zone_trimming.proofs.TrimmedLists.{has, cuts, stays, left, same_left, has_from, from_has, from_left, in_left, all_left}
 
 -- a type of which a list tells at a delegation isn't another one of which it doesn't
-told_apart : (t u : ℕ) → is_told_at_delegation t ≡ true → is_told_at_delegation u ≡ false → t ≢ u
-told_apart t u h k e = true≢false (sym h ∙ ap is_told_at_delegation e ∙ k)
+told_apart : (t u : ℕ) → is_stated_at_delegation t ≡ true → is_stated_at_delegation u ≡ false → t ≢ u
+told_apart t u h k e = true≢false (sym h ∙ ap is_stated_at_delegation e ∙ k)
 
 and_false : (a b : Bool) → b ≡ true → a && not b ≡ false
 and_false true b e = ap not e
@@ -129,7 +129,7 @@ module _ (origin : Name) (m after : Sets) (ttl serial : ℕ) (zone : IsZone m) (
         by (inl q) = and_false (owns after n NS) (owns after n SOA) (ap (λ x. owns after x SOA) (sym q) ∙ h.others origin SOA refl ∙ soa)
         by (inr w) = sym (ap (λ b. b && (owns after n NS && not (owns after n SOA))) ((above_test origin n).1 w)) ∙ e
 
-    told_stays : is_delegation origin after n ≡ true → (t : ℕ) → is_told_at_delegation t ≡ true → owns after n t ≡ true → stays listed t ≡ true
+    told_stays : is_delegation origin after n ≡ true → (t : ℕ) → is_stated_at_delegation t ≡ true → owns after n t ≡ true → stays listed t ≡ true
     told_stays d t told k = by (t == NS) (t == CNAME) (t == SOA) (t == DS) refl told
       where
         no_soa : owns after n SOA ≡ false
@@ -145,9 +145,12 @@ module _ (origin : Name) (m after : Sets) (ttl serial : ℕ) (zone : IsZone m) (
     right_list : IsRightList origin after n (left listed)
     right_list = record {
       at_delegation = λ d t told. (λ c. owned_of t (told_apart t RRSIG told refl) (from_left listed t c), λ k. in_left listed t (listed_of t k) (told_stays d t told k));
-      exact = λ d t a b. subst (λ xs. Contains xs t ↔ (owns after n t ≡ true)) (sym (all_left listed (untouched d))) (owned_of t a, listed_of t);
+      exact = λ d t a b x. subst (λ xs. Contains xs t ↔ (owns after n t ≡ true)) (sym (all_left listed (untouched d))) (owned_of t a, listed_of t);
       signed = λ d s. subst (λ xs. Contains xs RRSIG) (sym (all_left listed (untouched d))) (list_has after n RRSIG (inr (inl refl)));
     }
+
+    own_listed : is_delegation origin after n ≡ false → Contains (left listed) NSEC
+    own_listed d = subst (λ xs. Contains xs NSEC) (sym (all_left listed (untouched d))) (listed_of NSEC on)
 
 pub trimmed_is_nsec_chain : TrimmedIsNsecChain
 trimmed_is_nsec_chain origin m after ttl serial zone stands low soa h =
@@ -171,6 +174,7 @@ trimmed_is_nsec_chain origin m after ttl serial zone stands low soa h =
                 ap (λ rs. option_map (λ a. map (λ t. t.0) a.types) (first_nsec rs)) records
                 ∙ ap Some (same_left (nsec_types m n) ∙ ap left (sym (same_types origin m after h.others n)));
             right = right_list origin m after ttl serial zone low soa h n on;
+            own = own_listed origin m after ttl serial zone low soa h n on;
             hashed = (
               λ c. owned_of origin m after ttl serial zone low soa h n on NSEC3 (λ e. omega (arith, e)) (from_left (nsec_types after n) NSEC3 c),
               λ k. in_left (nsec_types after n) NSEC3 (listed_of origin m after ttl serial zone low soa h n on NSEC3 k) refl,

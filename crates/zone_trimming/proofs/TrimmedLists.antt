@@ -1,10 +1,10 @@
 -- Lists of types by their numbers, and what is left of them at a delegation
-use Rattle.std.proofs.Common.{◌≡◌, ℕ, Bool, true, false, not, ◌&&◌, ◌||◌, cond, List, [], ◌∷◌, map, refl, sym, ap, ◌∙◌, subst, eqb-true, eq-eqb}
+use Rattle.std.proofs.Common.{◌≡◌, ℕ, Bool, true, false, not, ◌&&◌, ◌||◌, cond, List, [], ◌∷◌, map, refl, ap, ◌∙◌, subst, eqb-true, eq-eqb}
 use Rattle.std.specs.Prelude.{filter, ◌==◌}
 use Rattle.std.specs.List.{Contains, list_any}
 use Rattle.zone_proto.specs.declared.record_type.RecordType.{RecordType}
 use Rattle.zone_proto.specs.Types.{NS, CNAME, SOA, DS, RRSIG, NSEC, NSEC3}
-use Rattle.zone_proto.proofs.Members.{In, In-Contains, Contains-In, In-filter, In-from_filter, In-from_any, any_from_In}
+use Rattle.zone_proto.proofs.Members.{In-Contains, Contains-In, In-filter, In-from_filter, In-from_any, any_from_In}
 use Rattle.zone_denial.proofs.Chain.NsecSecured.{numbers_back}
 use Rattle.zone_trimming.specs.Trimming.{has_type, stays_listed, trimmed_types}
 

@@ -1,6 +1,6 @@
--- Sets of denial with trimmed lists stand under the keys of those that they are made of
+-- Sets of denial with trimmed lists are under the keys of those that they are made of
 use Rattle.std.proofs.Common.{◌≡◌, ℕ, suc, ◌+◌, ◌<◌, arith, Bool, true, false, List, [], ◌∷◌, ◌++◌, length, get_or, take, map, refl, sym, ap, ◌∙◌, subst}
-use Rattle.std.specs.Prelude.{if◌then◌else◌, nat_lt, fold, Option, Some, None, unwrap_or, option_map}
+use Rattle.std.specs.Prelude.{if◌then◌else◌, nat_lt, fold, Option, Some, None, unwrap_or}
 use Rattle.std.specs.List.{All}
 use Rattle.std.proofs.Math.Seq.{take-suc}
 use Rattle.std.proofs.lemmas.List.{map-append}
@@ -10,7 +10,7 @@ use Rattle.zone_proto.specs.declared.rdata.RData.{RData}
 use Rattle.zone_proto.specs.declared.rdata.RData.TheVariants as V
 use Rattle.zone_proto.specs.declared.record.Record.{Record}
 use Rattle.zone_proto.specs.Data.{type_of}
-use Rattle.zone_proto.specs.Names.{Name, IsName, lower, same_name}
+use Rattle.zone_proto.specs.Names.{Name, IsName, lower}
 use Rattle.zone_proto.specs.Sets.{RRset, empty_set, record_of, inserted, inserted_by, soa_inserted, first_serial, stores, replaced, appended, with_records}
 use Rattle.zone_map.specs.Zones.{IsStoredAt}
 use Rattle.zone_map.proofs.Upserting.{inserted_stored, IsSet-empty}

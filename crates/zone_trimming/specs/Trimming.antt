@@ -1,11 +1,10 @@
 -- The denials of a zone that is to be signed as the standards have them at delegations and in NSEC3PARAM (RFC 4035 section 2.3, RFC 5155 sections 4.1.2 and 7.1)
-use Rattle.std.specs.Prelude.{ℕ, ◌==◌, ◌&&◌, ◌||◌, not, Bool, false, List, map, filter, fold, cond, Option, option_map}
+use Rattle.std.specs.Prelude.{ℕ, ◌==◌, ◌&&◌, ◌||◌, not, Bool, false, List, map, filter, fold, cond, option_map}
 use Rattle.std.specs.List.{list_any}
 use Rattle.zone_proto.specs.declared.rdata.RData.{RData}
 use Rattle.zone_proto.specs.declared.rdata.RData.TheVariants as V
 use Rattle.zone_proto.specs.declared.record.Record.{Record}
 use Rattle.zone_proto.specs.declared.record_type.RecordType.{RecordType}
-use Rattle.zone_proto.specs.Names.{Name}
 use Rattle.zone_proto.specs.Sets.{RRset, empty_set, record_of}
 use Rattle.zone_proto.specs.Types.{NS, CNAME, SOA, DS, NSEC, NSEC3, RRSIG}
 use Rattle.zone_denial.specs.Nsec3Sets.{with_taken}

@@ -1,5 +1,5 @@
-//! The sets of denial of a zone that goes to other servers and to validators, as the standards have them where those that are made
-//! for a zone of this library have more: the lists of types at delegations (RFC 4035 section 2.3, RFC 5155 section 7.1), and
+//! The NSEC and NSEC3 sets of a zone that goes to other servers and to validators, as the standards require them where those
+//! made for a zone of this library have more: the type lists at delegations (RFC 4035 section 2.3, RFC 5155 section 7.1), and
 //! NSEC3PARAM, which has no flags (RFC 5155 section 4.1.2).
 #![tactic(auto)]
 

@@ -13,7 +13,7 @@ use zone_proto::{
     NSEC, NSEC3, NSEC3PARAM, ProtoError, RData, Record, RecordSet, RecordType, RrKey, Seq,
 };
 
-/// Sets of denial, each as the standards have it. Refused by `Memory` alone.
+/// Sets of denial, each as the standards have it. Its only error is `Memory`.
 pub fn trimmed(alloc: Global, sets: NewSets) -> Result<NewSets, ProtoError>
     ensures ok { IfOk result
         (λ made. (n : Name) (t : ℕ) → set_at made n t ≡ trimmed_at (set_at sets) n t) }

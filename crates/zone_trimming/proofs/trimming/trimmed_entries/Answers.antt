@@ -1,4 +1,4 @@
-use Rattle.std.proofs.Common.{◌≡◌, List, [], ◌∷◌, ◌++◌, map, sym, ap, ◌∙◌, subst, append_assoc}
+use Rattle.std.proofs.Common.{[], ◌∷◌, ◌++◌, sym, ap, ◌∙◌, subst, append_assoc}
 use Rattle.std.proofs.lemmas.List.Elements.{All-head, All-tail, All-push}
 use Rattle.zone_proto.specs.declared.rr_key.RrKey.{RrKey}
 use Rattle.zone_proto.specs.Sets.{RRset}
@@ -6,7 +6,7 @@ use Rattle.zone_map.specs.Zones.{Sets, AreStored, IsStoredAt}
 use Rattle.zone_trimming.proofs.TrimmedFound.{turned}
 use Rattle.zone_trimming.proofs.trimming.trimmed_entries.Goals as goal
 
--- what stands under a key may stand there
+-- what is under a key may be there
 abbrev Stands : RrKey × RRset → Type 0
 Stands e = IsStoredAt e.0.name e.0.record_type.0 e.1
 

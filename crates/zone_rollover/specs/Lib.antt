@@ -1,0 +1,10 @@
+pub mod KeyUses
+pub mod Chains
+pub mod Caches
+pub mod Waits
+pub mod Steps
+pub mod ZskRollovers
+pub mod KskRollovers
+pub mod AlgorithmRollovers
+pub mod RolloverLaws
+pub mod Wholeness

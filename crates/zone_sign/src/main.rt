@@ -1,0 +1,61 @@
+//! `zone_sign MODE FILE [--origin NAME] --from N --until N [--jitter N] [--key-ttl N] [--cds] [--nsec3 SALT ITERATIONS [--opt-out]]
+//! --key FILE..`: writes what has to be signed in a zone file, and puts the signatures into it, without reading a private key.
+//!
+//! MODE is `plan`, which writes a frame for each signature: the number of its key, from 0, in one octet, a length in four octets, and
+//! so many octets, which are to be signed (RFC 4034 section 3.1.8.1); a frame without octets comes last. `sign` does the same, then
+//! reads the signatures until the end of its input, each preceded by its length in two octets, and writes the signed zone. `ds` writes
+//! the DS records of the keys. Moments are in seconds since 1970. Signatures expire up to `--jitter` seconds before the last moment,
+//! those at one name together; `--key-ttl` is the TTL of the records of keys, otherwise 3600; with `--cds` the zone has CDS and
+//! CDNSKEY records (RFC 7344).
+#![tactic(auto)]
+
+ghost use Rattle.std.specs.Prelude.{◌≤◌};
+
+mod digests;
+mod keys;
+mod reading;
+mod reporting;
+mod signing;
+mod wanted;
+
+use reporting::tell;
+use std::alloc::AllocError;
+use std::io::Write;
+use std::process::ExitCode;
+use std::{env, io};
+use wanted::{Mode, Wanted, wanted_by};
+
+const USAGE: &[u8] =
+    b"usage: zone_sign plan|sign|ds FILE [--origin NAME] --from N --until N [--jitter N] [--key-ttl N] [--cds] [--nsec3 SALT ITERATIONS [--opt-out]] --key FILE..\n";
+
+fn main(rt: HostRuntime) -> ExitCode {
+    let alloc = rt.alloc();
+    let args = match env::args(&rt) {
+        Ok(words) => words.skip(1).collect::<Vec<String>>(alloc),
+        // Arguments that aren't text are as wrong as none.
+        Err(e) if e.kind() == io::ErrorKind::InvalidData => Ok(Vec::new(alloc)),
+        Err(_) => Err(AllocError),
+    };
+    let mut fault = rt.stderr();
+    let Ok(args) = args else {
+        return ExitCode::from(tell(&mut fault, b"out of memory\n"));
+    };
+    let status = match wanted_by(alloc, args.as_slice()) {
+        Ok(Some(wanted)) => run(&rt, &wanted),
+        Ok(None) => tell(&mut fault, USAGE),
+        Err(_) => tell(&mut fault, b"out of memory\n"),
+    };
+    ExitCode::from(status)
+}
+
+/// Does what is wanted, and gives the exit status of the program: 0, or 1 if it fails.
+fn run(rt: &HostRuntime, wanted: &Wanted<'_>) -> u8
+    ensures { result ≤ 1 }
+{
+    let mut fault = rt.stderr();
+    let done = match wanted.mode {
+        Mode::Ds => digests::write_digests(rt, wanted, &mut fault),
+        Mode::Plan | Mode::Sign => signing::sign(rt, wanted, &mut fault),
+    };
+    if done.is_some() { 0 } else { 1 }
+}

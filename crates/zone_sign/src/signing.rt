@@ -1,0 +1,168 @@
+//! Signing a zone: what has to be signed is written, the signatures are read, and the zone is written.
+ghost use Rattle.std.specs.Prelude.{◌≡◌, IfSome};
+ghost use Rattle.zone_map.specs.Zones.{IsZone};
+
+use crate::keys::read_keys;
+use crate::reading::read_zone_of;
+use crate::reporting::refuse;
+use crate::wanted::{Mode, Wanted};
+use std::alloc::{AllocError, Global};
+use std::io;
+use std::io::{BufWriter, Read, Write};
+use zone_builder::Loaded;
+use zone_file_writer::MasterText;
+use zone_map::RecordMap;
+use zone_planner::{Request, make_plan, planned_by_flags};
+use zone_planning::{Plan, PlanFault, finish, push_end, push_frames, read_signatures};
+use zone_proto::{DNSKEY, LowerName, ProtoError, RecordSet, RecordType, RrKey};
+
+/// Writes what has to be signed, and unless only that is wanted reads the signatures and writes the zone. None if that fails, which is
+/// reported.
+pub fn sign<E: Write>(rt: &HostRuntime, wanted: &Wanted<'_>, fault: &mut E) -> Option<()> {
+    let alloc = rt.alloc();
+    let loaded = read_zone_of(rt, wanted, fault)?;
+    let keys = read_keys(rt, wanted, &loaded.origin, fault)?;
+    let Ok(apex) = apex_of(&loaded.origin) else {
+        return refuse(fault, wanted.file, &"out of memory");
+    };
+    let planned = plan(alloc, wanted, loaded, keys, fault)?;
+    let Ok(mut output) = BufWriter::new(alloc, io::writer(rt)) else {
+        return refuse(fault, wanted.file, &"out of memory");
+    };
+    match write_plan(alloc, &mut output, &planned.records) {
+        Ok(()) => {}
+        Err(Stop::Plan(why)) => return refuse(fault, wanted.file, &why),
+        Err(Stop::Output) => return refuse(fault, wanted.file, &"write failed"),
+    }
+    if wanted.mode == Mode::Plan {
+        return Some(());
+    }
+    let records = signed(rt, wanted, planned, fault)?;
+    match write_zone(alloc, &mut output, &apex, &records) {
+        Ok(()) => Some(()),
+        Err(_) => refuse(fault, wanted.file, &"write failed"),
+    }
+}
+
+/// The key of the SOA of a zone.
+fn apex_of(origin: &LowerName) -> Result<RrKey, ProtoError> {
+    Ok(RrKey::new(origin.clone()?, RecordType::SOA))
+}
+
+/// The zone as it is planned to be signed. None if it is refused, which is reported.
+fn plan<E: Write>(
+    alloc: Global,
+    wanted: &Wanted<'_>,
+    loaded: Loaded,
+    keys: Vec<DNSKEY>,
+    fault: &mut E,
+) -> Option<Plan>
+    ensures { IfSome result (λ plan. IsZone plan.records) }
+{
+    let Ok(nx_proof_kind) = wanted.nx_proof_kind.clone() else {
+        return refuse(fault, wanted.file, &"out of memory");
+    };
+    let Ok(keys) = planned_by_flags(alloc, keys.as_slice(), wanted.asks_parent) else {
+        return refuse(fault, wanted.file, &"out of memory");
+    };
+    let request = Request {
+        inception: wanted.inception,
+        expiration: wanted.expiration,
+        jitter: wanted.jitter,
+        key_ttl: wanted.key_ttl,
+        nx_proof_kind,
+    };
+    match make_plan(alloc, loaded.origin, loaded.records, keys, &request) {
+        Ok(planned) => Some(planned),
+        Err(why) => refuse(fault, wanted.file, &why),
+    }
+}
+
+/// The planned zone with the signatures that are read. None if they are refused, which is reported.
+fn signed<E: Write>(
+    rt: &HostRuntime,
+    wanted: &Wanted<'_>,
+    planned: Plan,
+    fault: &mut E,
+) -> Option<RecordMap>
+    ensures { IfSome result IsZone }
+{
+    let alloc = rt.alloc();
+    let mut octets = Vec::new(alloc);
+    let Ok(_) = rt.reader().read_to_end(&mut octets) else {
+        return refuse(fault, wanted.file, &"the signatures can't be read");
+    };
+    let signatures = match read_signatures(alloc, octets.as_slice()) {
+        Ok(signatures) => signatures,
+        Err(why) => return refuse(fault, wanted.file, &why),
+    };
+    match finish(alloc, planned, signatures.as_slice()) {
+        Ok(records) => Some(records),
+        Err(unfinished) => refuse(fault, wanted.file, &unfinished.fault),
+    }
+}
+
+/// Why the frames aren't written.
+#[derive(Drop)]
+enum Stop {
+    Plan(PlanFault),
+    Output,
+}
+
+impl From<PlanFault> for Stop {
+    fn from(why: PlanFault) -> Stop {
+        Stop::Plan(why)
+    }
+}
+
+impl From<AllocError> for Stop {
+    fn from(_: AllocError) -> Stop {
+        Stop::Plan(PlanFault::Memory)
+    }
+}
+
+impl From<io::Error> for Stop {
+    fn from(_: io::Error) -> Stop {
+        Stop::Output
+    }
+}
+
+/// Writes the frames of a zone, and after them the end.
+fn write_plan<W: Write>(alloc: Global, output: &mut W, records: &RecordMap) -> Result<(), Stop> {
+    for (_, set) in records.iter() {
+        let mut octets = Vec::new(alloc);
+        push_frames(&mut octets, set)?;
+        output.write_all(octets.as_slice())?;
+    }
+    let mut end = Vec::new(alloc);
+    push_end(&mut end)?;
+    output.write_all(end.as_slice())?;
+    output.flush()?;
+    Ok(())
+}
+
+/// Writes the zone: the SOA first, then all sets in order, each followed by its signatures.
+fn write_zone<W: Write>(
+    alloc: Global,
+    output: &mut W,
+    apex: &RrKey,
+    records: &RecordMap,
+) -> io::Result<()> {
+    if let Some(set) = records.get(apex) {
+        write_set(alloc, output, set)?;
+    }
+    for (key, set) in records.iter() {
+        if !apex.same_as(key) {
+            write_set(alloc, output, set)?;
+        }
+    }
+    output.flush()
+}
+
+/// Writes the records of a set and its signatures, a line each.
+fn write_set<W: Write>(alloc: Global, output: &mut W, set: &RecordSet) -> io::Result<()> {
+    for record in set.records(true) {
+        write!(output, "{}\n", MasterText(alloc, record))?;
+    }
+    Ok(())
+}
