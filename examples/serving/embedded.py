@@ -1,6 +1,6 @@
 #!/usr/bin/env python3
-"""embedded.py LIBRARY PORT ORIGIN=FILE..: answers DNS over UDP and TCP on 127.0.0.1, by the library ningkraet, for trying it out: one TCP
-client after the other. LIBRARY is libningkraet.so of the folder that `./build ningkraet` makes."""
+"""embedded.py LIBRARY PORT ORIGIN=FILE..: answers DNS over UDP and TCP on 127.0.0.1 with the library ningkraet, for trying it out: one TCP
+client after the other. LIBRARY is libningkraet.so in the directory that `./build ningkraet` makes."""
 import contextlib
 import pathlib
 import socketserver
@@ -48,6 +48,11 @@ class Stream(socketserver.StreamRequestHandler):
                     self.wfile.write(struct.pack("!H", len(response)) + response)
 
 
+class Streams(socketserver.TCPServer):
+    # (it can be started again while connections of the last run are still being forgotten)
+    allow_reuse_address = True
+
+
 if __name__ == "__main__":
     LIBRARY, here = CDLL(sys.argv[1]), ("127.0.0.1", int(sys.argv[2]))
     ZONES = [Zones(), Zones()]
@@ -56,5 +61,5 @@ if __name__ == "__main__":
     for word in sys.argv[3:]:
         ZONES[UDP].load(*word.split("=", 1))
     if LIBRARY.nk_zones_copy(byref(ZONES[UDP].kept), byref(ZONES[TCP].kept)) == DONE:
-        threading.Thread(target=socketserver.TCPServer(here, Stream).serve_forever, daemon=True).start()
+        threading.Thread(target=Streams(here, Stream).serve_forever, daemon=True).start()
         socketserver.UDPServer(here, Datagram).serve_forever()

@@ -1,313 +1,150 @@
-/* front PORT ORIGIN=FILE..: answers DNS over UDP and TCP on 127.0.0.1 and ::1, from zone files, by the library ningkraet.
+/* front PORT ORIGIN=FILE..: answers DNS over UDP and TCP on 127.0.0.1 and ::1, from zone files, with the library ningkraet.
  *
- *     cc -O2 front.c $(pkg-config --cflags --libs ningkraet) -o front
+ *     cc -O2 -pthread front.c $(pkg-config --cflags --libs ningkraet) -o front
  *     ./front 5300 example.com.=example.zone
  *
- * One process, one poll loop, whose turns end by the time that answers took: the datagrams of IPv4, those of IPv6 and all connections
- * together have SHARE each, and of that a connection has SLICE. SIGHUP reads the zone files anew, and a zone whose file is bad stays as it
- * is; SIGTERM and SIGINT end it.
+ * An example of a program over the library: each thread answers from its own copy of the zones, over UDP or over one TCP
+ * connection after the other. SIGHUP rereads the zone files, and a zone whose file is bad stays as it is; SIGTERM and
+ * SIGINT stop it. The server to run is ningkraetd, in server/.
  */
-#define _GNU_SOURCE
-#include <arpa/inet.h>
 #include <errno.h>
+#include <netdb.h>
 #include <netinet/tcp.h>
 #include <ningkraet.h>
-#include <poll.h>
+#include <pthread.h>
 #include <signal.h>
 #include <stdio.h>
 #include <stdlib.h>
 #include <string.h>
-#include <sys/socket.h>
+#include <sys/stat.h>
 #include <time.h>
 #include <unistd.h>
 
 enum {
-    DATAGRAM = 1232,       /* octets of a response by UDP, at most */
-    QUERY = 4096,          /* octets of a query by UDP, at most: what is longer is cut, and is no query then */
-    BATCH = 64,            /* datagrams that are read and sent by one call of the kernel */
-    FRAME = 2 + 65535,     /* octets of a message by TCP with its length, at most */
-    SHARE = 2000,          /* microseconds that answers of one kind take before those of the others have their turn: one answer at least */
-    SLICE = 200,           /* microseconds that answers to one connection take before the next one has its turn: one answer at least */
-    TURN = 1 << 16,        /* octets of responses to one connection before the next one has its turn */
-    CONNECTIONS = 1024,    /* TCP connections at once; one more takes the place of the one that has asked nothing for longest */
-    IDLE = 10              /* seconds without an octet either way after which a connection is closed (RFC 7766 section 6.2.3) */
+    DATAGRAM = 1232,   /* octets of a UDP response, at most */
+    QUERY = 4096,      /* octets of a UDP query, at most: a longer one isn't answered */
+    MESSAGE = 65535,   /* octets of a TCP message, at most */
+    STREAMS = 16,      /* TCP connections at once, to each address: further ones wait until one of these ends */
+    IDLE = 5           /* seconds in which a TCP query has to come, and its response to be read */
 };
 
-/* A TCP connection. `unsent` are responses that the client hasn't read yet: until it has, no more of its queries are answered. */
-struct connection {
-    int fd, ended;         /* -1: none; whether the client has closed its half, and what it asked is still answered (section 6.2.4) */
-    uint64_t moved;        /* the microsecond in which an octet went either way */
-    unsigned long asked;   /* its place in the order in which connections were accepted or sent a whole query */
-    uint8_t *in, *unsent;
-    size_t have, left, sent;
-};
+/* The zones that are served, with a lock, and how often they have changed; what a thread copied last, and when. */
+static nk_zones loaded = NK_ZONES_NONE;
+static pthread_mutex_t lock = PTHREAD_MUTEX_INITIALIZER;
+static _Atomic unsigned long renewed;
+static _Thread_local nk_zones own = NK_ZONES_NONE;
+static _Thread_local unsigned long seen;
 
-/* Datagrams that were read by one call, of which those from `at` on are still to be answered. */
-struct datagrams {
-    uint8_t octets[BATCH][QUERY];
-    struct sockaddr_storage clients[BATCH];
-    struct mmsghdr read[BATCH];
-    int count, at;
-};
-
-static nk_zones zones = NK_ZONES_NONE;
-static struct datagrams datagrams[2];
-static struct connection connections[CONNECTIONS];
-static int in_use;             /* behind the last of them that is open: the kernel looks at no more */
-static unsigned long order;
-static struct pollfd polled[4 + CONNECTIONS];
-static volatile sig_atomic_t stopped, renewed;
-
-static void on_signal(int number) { *(number == SIGHUP ? &renewed : &stopped) = 1; }
-
-/* A clock that nobody sets, in microseconds. */
-static uint64_t microseconds(void) {
-    struct timespec now;
-    clock_gettime(CLOCK_MONOTONIC, &now);
-    return (uint64_t)now.tv_sec * 1000000 + now.tv_nsec / 1000;
+/* Gives this thread the zones that are served now. Without memory for that, it keeps what it has. */
+static void renew(void) {
+    nk_zones fresh = NK_ZONES_NONE;
+    if (seen == renewed) return;
+    pthread_mutex_lock(&lock);
+    unsigned long copied = renewed;
+    uint32_t code = nk_zones_copy(&loaded, &fresh);
+    pthread_mutex_unlock(&lock);
+    if (code != NK_DONE) return;
+    nk_zones_free(&own);   /* without the lock, since freeing a large zone takes a while */
+    own = fresh;
+    seen = copied;
 }
 
-/* The octets of a file, or NULL. */
-static uint8_t *octets_of(const char *path, size_t *length) {
-    FILE *file = fopen(path, "rb");
-    size_t room = 1 << 16, count;
-    uint8_t *octets = malloc(room);
-    *length = 0;
-    while (file && octets && (count = fread(octets + *length, 1, room - *length, file)) > 0)
-        if ((*length += count) == room) {
-            uint8_t *more = realloc(octets, room *= 2);
-            if (!more) free(octets);
-            octets = more;
-        }
-    if (!file || !octets || ferror(file)) {
-        free(octets);
-        octets = NULL;
+static _Noreturn void *serve_datagrams(void *fd) {
+    uint8_t query[QUERY] = {0}, response[DATAGRAM] = {0};
+    struct sockaddr_storage client;
+    for (size_t written;;) {
+        socklen_t size = sizeof client;
+        ssize_t length = recvfrom((intptr_t)fd, query, QUERY, MSG_TRUNC, (struct sockaddr *)&client, &size);
+        renew();   /* without a query too, once in IDLE seconds, so that old zones are freed */
+        if (length >= 0 && length <= QUERY &&
+            nk_zones_answer(&own, time(NULL), query, length, DATAGRAM, NK_UDP, response, DATAGRAM, &written) == NK_DONE)
+            sendto((intptr_t)fd, response, written, 0, (struct sockaddr *)&client, size);
     }
-    if (file) fclose(file);
-    return octets;
 }
 
-/* Loads the zone of a word ORIGIN=FILE, and tells whether it is served now. */
-static int load(const char *word) {
+/* Answers what comes by TCP, where two octets with its length precede each message (RFC 1035 section 4.2.2). */
+static _Noreturn void *serve_streams(void *listener) {
+    uint8_t prefix[2], query[MESSAGE] = {0}, response[2 + MESSAGE] = {0};
+    for (size_t written;;) {
+        int fd = accept((intptr_t)listener, NULL, NULL);
+        for (renew(); fd >= 0 && recv(fd, prefix, 2, MSG_WAITALL) == 2; renew()) {
+            ssize_t length = prefix[0] << 8 | prefix[1];
+            if (length && recv(fd, query, length, MSG_WAITALL) != length) break;
+            if (nk_zones_answer(&own, time(NULL), query, length, MESSAGE, NK_TCP, response + 2, MESSAGE, &written) != NK_DONE) break;
+            response[0] = written >> 8, response[1] = written;
+            if (send(fd, response, 2 + written, 0) != (ssize_t)(2 + written)) break;
+        }
+        if (fd >= 0) close(fd);
+    }
+}
+
+/* Starts the threads that serve an address by UDP or TCP. Returns whether it is served. */
+static int serve(const char *host, const char *port, int kind) {
+    struct addrinfo *found, wanted = {.ai_flags = AI_NUMERICHOST | AI_NUMERICSERV, .ai_socktype = kind};
+    struct timeval idle = {IDLE, 0};
+    int one = 1, is_tcp = kind == SOCK_STREAM;
+    if (getaddrinfo(host, port, &wanted, &found)) return 0;
+    int fd = socket(found->ai_family, kind, 0);
+    setsockopt(fd, SOL_SOCKET, SO_RCVTIMEO, &idle, sizeof idle);   /* connections have the options of their listener */
+    setsockopt(fd, SOL_SOCKET, SO_SNDTIMEO, &idle, sizeof idle);
+    if (is_tcp) setsockopt(fd, SOL_SOCKET, SO_REUSEADDR, &one, sizeof one);
+    if (is_tcp) setsockopt(fd, IPPROTO_TCP, TCP_NODELAY, &one, sizeof one);
+    int fault = bind(fd, found->ai_addr, found->ai_addrlen) || (is_tcp && listen(fd, SOMAXCONN)) ? errno : 0;
+    freeaddrinfo(found);
+    pthread_t threads[STREAMS];
+    for (int i = 0; !fault && i < (is_tcp ? STREAMS : 1); i++)
+        fault = pthread_create(&threads[i], NULL, is_tcp ? serve_streams : serve_datagrams, (void *)(intptr_t)fd);
+    fprintf(stderr, "front: %s %s port %s: %s\n", is_tcp ? "TCP" : "UDP", host, port, fault ? strerror(fault) : "listening");
+    return !fault;
+}
+
+/* Loads the zone of an argument ORIGIN=FILE. Returns whether it did. */
+static int load(nk_zones *zones, const char *word) {
     static uint8_t told[4096];
-    const char *path = strchr(word, '=');
-    size_t length, written = 0;
-    uint8_t *text = path ? octets_of(path + 1, &length) : NULL;
-    if (!text) {
-        fprintf(stderr, "front: %s: no file that can be read\n", word);
-        return 0;
-    }
-    uint32_t code = nk_zones_load(&zones, (const uint8_t *)word, path - word, text, length, told, sizeof told, &written);
-    fwrite(told, 1, written, stderr);
-    if (code != NK_DONE) fprintf(stderr, "front: %s isn't loaded: %u\n", word, (unsigned)code);
+    struct stat status;
+    const char *path = strchr(word, '='), *why = path ? NULL : "ORIGIN= is missing";
+    FILE *file = path ? fopen(path + 1, "rb") : NULL;
+    uint8_t *text = file && !fstat(fileno(file), &status) ? malloc(status.st_size + 1) : NULL;
+    size_t written = 0, length = text ? fread(text, 1, status.st_size, file) : 0;
+    if (!why && (!text || ferror(file))) why = strerror(errno);
+    uint32_t code = why ? NK_DONE : nk_zones_load(zones, (const uint8_t *)word, path - word, text, length, told, sizeof told, &written);
+    fwrite(told, 1, written, stderr);   /* the fault, or warnings */
+    if (code != NK_DONE) why = code == NK_BAD_TEXT ? "its file is bad" : code == NK_BAD_NAME ? "its origin isn't a name" : "out of memory";
+    if (why) fprintf(stderr, "front: %s isn't loaded: %s\n", word, why);
+    if (file) fclose(file);
     free(text);
-    return code == NK_DONE;
+    return !why;
 }
 
-/* Reads datagrams that have come, up to BATCH, once those of before are answered. */
-static void read_datagrams(struct datagrams *d, int fd) {
-    struct iovec rooms[BATCH];
-    for (int i = 0; i < BATCH; i++) {
-        rooms[i] = (struct iovec){d->octets[i], QUERY};
-        d->read[i].msg_hdr = (struct msghdr){.msg_name = &d->clients[i], .msg_namelen = sizeof d->clients[i], .msg_iov = &rooms[i], .msg_iovlen = 1};
-    }
-    d->count = recvmmsg(fd, d->read, BATCH, MSG_DONTWAIT, NULL);
-    d->at = 0;
-}
-
-/* Answers datagrams that have come, until none is left of those that were read, or their time is over. */
-static void answer_datagrams(struct datagrams *d, int fd, time_t now) {
-    static uint8_t responses[BATCH][DATAGRAM];
-    struct mmsghdr out[BATCH];
-    struct iovec to_send[BATCH];
-    int answers = 0;
-    if (d->at >= d->count) read_datagrams(d, fd);
-    for (uint64_t until = microseconds() + SHARE; d->at < d->count;) {
-        struct msghdr *client = &d->read[d->at].msg_hdr;
-        size_t written;
-        uint32_t code = nk_zones_answer(&zones, now, d->octets[d->at], d->read[d->at].msg_len, DATAGRAM, NK_UDP, responses[answers], DATAGRAM, &written);
-        d->at++;
-        if (code == NK_DONE) {
-            to_send[answers] = (struct iovec){responses[answers], written};
-            out[answers].msg_hdr = (struct msghdr){.msg_name = client->msg_name, .msg_namelen = client->msg_namelen, .msg_iov = &to_send[answers], .msg_iovlen = 1};
-            answers++;
-        }
-        if (microseconds() >= until) break;
-    }
-    for (int sent = 0, more; sent < answers; sent += more)
-        if ((more = sendmmsg(fd, out + sent, answers - sent, MSG_DONTWAIT)) <= 0) more = 1;   /* one that can't be sent is lost, as by a network */
-}
-
-static void close_connection(struct connection *c) {
-    close(c->fd);
-    free(c->in);
-    free(c->unsent);
-    *c = (struct connection){.fd = -1};
-}
-
-/* Takes a new connection, if need be in the place of the one that has asked nothing for longest. Tells whether there was one. */
-static int take_connection(int listener) {
-    int fd = accept4(listener, NULL, NULL, SOCK_NONBLOCK | SOCK_CLOEXEC), one = 1;
-    if (fd < 0) return 0;
-    struct connection *c = connections;
-    for (struct connection *other = connections; other < connections + CONNECTIONS; other++)
-        if (c->fd >= 0 && (other->fd < 0 || other->asked < c->asked)) c = other;
-    if (c->fd >= 0) close_connection(c);
-    *c = (struct connection){.fd = fd, .moved = microseconds(), .asked = ++order, .in = malloc(FRAME)};
-    if (in_use <= c - connections) in_use = c - connections + 1;
-    if (!c->in) close_connection(c);
-    else setsockopt(fd, IPPROTO_TCP, TCP_NODELAY, &one, sizeof one);
-    return 1;
-}
-
-/* Answers whole queries that were read, until none is left, the client has TURN octets to read, or its time is over. Tells whether the
- * connection goes on. */
-static int answer_frames(struct connection *c, time_t now) {
-    static uint8_t out[TURN + FRAME];
-    size_t at = 0, made = 0, written;
-    for (uint64_t until = microseconds() + SLICE; made < TURN && c->have - at >= 2 && (!at || microseconds() < until);) {
-        size_t length = c->in[at] << 8 | c->in[at + 1];
-        if (c->have - at - 2 < length) break;
-        uint32_t code = nk_zones_answer(&zones, now, c->in + at + 2, length, 65535, NK_TCP, out + made + 2, 65535, &written);
-        at += 2 + length;
-        c->asked = ++order;
-        if (code == NK_IGNORED) continue;
-        if (code != NK_DONE) return 0;
-        out[made] = written >> 8;
-        out[made + 1] = written;
-        made += 2 + written;
-    }
-    memmove(c->in, c->in + at, c->have -= at);
-    ssize_t sent = made ? send(c->fd, out, made, MSG_DONTWAIT | MSG_NOSIGNAL) : 0;
-    if (sent < 0 && errno != EAGAIN && errno != EINTR) return 0;
-    if (sent < 0) sent = 0;
-    c->left = made - sent;
-    c->sent = 0;
-    if (c->left && !(c->unsent = malloc(c->left))) return 0;
-    if (c->left) memcpy(c->unsent, out + sent, c->left);
-    return 1;
-}
-
-/* Whether a whole query waits in what was read. */
-static int has_frame(const struct connection *c) { return c->have >= 2 && c->have - 2 >= (size_t)(c->in[0] << 8 | c->in[1]); }
-
-/* Moves octets of a connection, as far as that goes without waiting. Tells whether it goes on. */
-static int move_octets(struct connection *c, short events, time_t now) {
-    if (c->left && events & (POLLOUT | POLLERR | POLLHUP)) {
-        ssize_t count = send(c->fd, c->unsent + c->sent, c->left, MSG_DONTWAIT | MSG_NOSIGNAL);
-        if (count < 0) return errno == EAGAIN || errno == EINTR;
-        c->moved = microseconds();
-        c->sent += count;
-        if ((c->left -= count)) return 1;
-        free(c->unsent);
-        c->unsent = NULL;
-    }
-    if (c->left) return 1;
-    if (!c->ended && !has_frame(c) && events & (POLLIN | POLLERR | POLLHUP)) {
-        ssize_t count = recv(c->fd, c->in + c->have, FRAME - c->have, MSG_DONTWAIT);
-        if (count < 0) return errno == EAGAIN || errno == EINTR;
-        c->ended = count == 0;
-        c->have += count;
-        c->moved = microseconds();
-    }
-    if (has_frame(c) && !answer_frames(c, now)) return 0;
-    return !(c->ended && !c->left && !has_frame(c));
-}
-
-/* A socket of a kind at the loopback address of a family, or -1. */
-static int socket_at(int family, int kind, int port) {
-    struct sockaddr_in v4 = {.sin_family = AF_INET, .sin_port = htons(port), .sin_addr.s_addr = htonl(INADDR_LOOPBACK)};
-    struct sockaddr_in6 v6 = {.sin6_family = AF_INET6, .sin6_port = htons(port), .sin6_addr = IN6ADDR_LOOPBACK_INIT};
-    int fd = socket(family, kind | SOCK_NONBLOCK | SOCK_CLOEXEC, 0), one = 1, room = 1 << 20;
-    if (fd < 0) return -1;
-    setsockopt(fd, SOL_SOCKET, kind == SOCK_STREAM ? SO_REUSEADDR : SO_RCVBUF, kind == SOCK_STREAM ? &one : &room, sizeof one);
-    int bound = family == AF_INET ? bind(fd, (void *)&v4, sizeof v4) : bind(fd, (void *)&v6, sizeof v6);
-    if (bound || (kind == SOCK_STREAM && listen(fd, SOMAXCONN))) {
-        fprintf(stderr, "front: %s port %d: %s\n", family == AF_INET ? "127.0.0.1" : "::1", port, strerror(errno));
-        close(fd);
-        return -1;
-    }
-    return fd;
-}
-
-/* Moves octets of connections and answers their queries, from the one of this number on round to the one before it, until their time is
- * over. Gives the number of the one whose turn is next. */
-static int answer_connections(int first, time_t now) {
-    uint64_t began = microseconds();
-    for (int count = 0; count < in_use; count++) {
-        int i = (first + count) % in_use;
-        struct connection *c = &connections[i];
-        if (c->fd < 0) continue;
-        uint64_t moment = microseconds();
-        if (moment - began >= SHARE) return i;
-        if ((polled[4 + i].revents || (!c->left && has_frame(c))) && !move_octets(c, polled[4 + i].revents, now)) close_connection(c);
-        else if (moment > c->moved && moment - c->moved > IDLE * 1000000ull) close_connection(c);
-    }
-    return first;
-}
-
-/* Whether something that was read waits for its answer. */
-static int has_more(void) {
-    for (int i = 0; i < 2; i++)
-        if (datagrams[i].at < datagrams[i].count) return 1;
-    for (int i = 0; i < in_use; i++)
-        if (connections[i].fd >= 0 && !connections[i].left && has_frame(&connections[i])) return 1;
-    return 0;
-}
-
-/* Serves until a signal ends it. */
-static void serve(char **words, sigset_t *waiting) {
-    for (int next = 0; !stopped;) {
-        while (in_use && connections[in_use - 1].fd < 0) in_use--;
-        for (int i = 0; i < in_use; i++) polled[4 + i] = (struct pollfd){connections[i].fd, connections[i].left ? POLLOUT : POLLIN, 0};
-        struct timespec wait = {has_more() ? 0 : 1, 0};
-        int ready = ppoll(polled, 4 + in_use, &wait, waiting);
-        time_t now = time(NULL);
-        if (renewed) {
-            renewed = 0;
-            for (char **word = words; *word; word++) load(*word);
-        }
-        if (ready < 0) continue;
-        for (int i = 0; i < 2; i++)
-            if (polled[i].revents || datagrams[i].at < datagrams[i].count) answer_datagrams(&datagrams[i], polled[i].fd, now);
-        next = answer_connections(next, now);
-        for (int i = 2; i < 4; i++)
-            for (int taken = 0; polled[i].revents && taken < BATCH && take_connection(polled[i].fd); taken++) {}
-    }
+/* Loads all zones into a copy of those that are served, and serves that. Returns whether each was loaded. */
+static int load_all(char **words) {
+    nk_zones fresh = NK_ZONES_NONE, old;
+    pthread_mutex_lock(&lock);
+    int is_good = nk_zones_copy(&loaded, &fresh) == NK_DONE;
+    pthread_mutex_unlock(&lock);
+    if (!is_good) return 0;
+    for (; *words; words++) is_good &= load(&fresh, *words);
+    pthread_mutex_lock(&lock);
+    old = loaded, loaded = fresh, renewed++;
+    pthread_mutex_unlock(&lock);
+    nk_zones_free(&old);
+    return is_good;
 }
 
 int main(int argc, char **argv) {
-    int port = argc > 2 ? atoi(argv[1]) : 0, served = 1, listening = 0;
-    if (port < 1 || port > 65535) {
+    sigset_t handled;
+    char *end = "";
+    long served = 0, port = argc > 2 ? strtol(argv[1], &end, 10) : 0;
+    if (port < 1 || port > 65535 || *end) {
         fprintf(stderr, "usage: front PORT ORIGIN=FILE..\n");
         return 2;
     }
-    if (nk_interface() != NK_INTERFACE || nk_zones_new(&zones) != NK_DONE) {
-        fprintf(stderr, "front: no memory, or a library of another interface than %d\n", NK_INTERFACE);
-        return 2;
-    }
-    for (char **word = argv + 2; *word; word++) served &= load(*word);
-    for (int i = 0; i < CONNECTIONS; i++) connections[i].fd = -1;
-    for (int i = 0; served && i < 4; i++) {
-        int fd = socket_at(i % 2 ? AF_INET6 : AF_INET, i < 2 ? SOCK_DGRAM : SOCK_STREAM, port);
-        polled[i] = (struct pollfd){fd, POLLIN, 0};
-        listening += fd >= 0;
-    }
-    /* Signals come only while it waits, so that none comes unseen before it does. */
-    sigset_t handled, waiting;
+    signal(SIGPIPE, SIG_IGN);
     sigemptyset(&handled);
-    for (int i = 0; i < 3; i++) {
-        int number = (int[]){SIGHUP, SIGINT, SIGTERM}[i];
-        sigaddset(&handled, number);
-        sigaction(number, &(struct sigaction){.sa_handler = on_signal}, NULL);
-    }
-    sigprocmask(SIG_BLOCK, &handled, &waiting);
-    if (listening) {
-        fprintf(stderr, "front: listening on 127.0.0.1 and ::1, port %d, UDP and TCP\n", port);
-        serve(argv + 2, &waiting);
-    }
-    for (int i = 0; i < CONNECTIONS; i++)
-        if (connections[i].fd >= 0) close_connection(&connections[i]);
-    nk_zones_free(&zones);
-    return listening ? 0 : 1;
+    for (int i = 0; i < 3; i++) sigaddset(&handled, (int[]){SIGHUP, SIGINT, SIGTERM}[i]);
+    pthread_sigmask(SIG_BLOCK, &handled, NULL);   /* in all threads: this one waits for them */
+    if (nk_interface() != NK_INTERFACE || nk_zones_new(&loaded) != NK_DONE || !load_all(argv + 2)) return 2;
+    for (int i = 0; i < 4; i++) served += serve(i < 2 ? "127.0.0.1" : "::1", argv[1], i % 2 ? SOCK_STREAM : SOCK_DGRAM);
+    for (int number; served && !sigwait(&handled, &number) && number == SIGHUP;) load_all(argv + 2);
+    return served ? 0 : 1;
 }

@@ -1,13 +1,14 @@
 #!/usr/bin/env python3
-"""front.py PORT PROGRAM WORD..: answers DNS over UDP and TCP on 127.0.0.1 and ::1, by a program that answers frames.
+"""front.py PORT PROGRAM WORD..: answers DNS over UDP and TCP on 127.0.0.1 and ::1, with a program that answers frames.
 
-The program is started once, as `zoned --limits ZONE..`. Each query goes to its standard input behind two octets that say how long
-the response may be (65535 where it came by TCP) and two octets of length, under an identifier of the front's own; responses come from
-its standard output behind two octets of length. The front reads of a message no more than its header's first three octets. By TCP
-several may answer a query, as a whole zone does: so a header alone is asked behind each, and once it is answered, all came.
+The program is started once, as `zoned --limits ZONE..`. Each query goes to its standard input, preceded by two octets that say how long
+the response may be (65535 if it came over TCP) and two octets of length, with an identifier of the front end's own; responses come from
+its standard output, preceded by two octets of length. The front end reads only the first three octets of a message's header. Over TCP
+a query may have several answers, for example a whole zone; so a header alone is sent after each query, and once that is answered, all
+answers have come.
 
-The program answers in order, so what waits for it is what a datagram waits for. So no more than TURNS queries by TCP wait for it at a time,
-and connections get their turns in the order in which they ask.
+The program answers in order, so a datagram waits for everything that is queued before it. So at most TURNS queries from TCP are queued at
+a time, and connections take turns in the order in which they ask. Nobody waits for a client to read.
 """
 import asyncio
 import contextlib
@@ -21,10 +22,10 @@ DATAGRAM, STREAM = 4096, 65535
 WAITING = 32768
 # How many queries by TCP may wait for the program at a time, over all connections.
 TURNS = 2
-# Seconds: how long a TCP connection may be idle (RFC 7766 section 6.2.3), and how long answers are waited for once it is half closed.
-IDLE, LINGER = 10, 5
-# Octets: what a TCP client may leave unread; all others wait LINGER seconds for it to read before its connection is closed.
-UNREAD = 1 << 20
+# Seconds: how long a TCP client may ask nothing (RFC 7766 section 6.2.3), and how long it may take to read what it asked for.
+IDLE, READS = 10, 60
+# Octets that a TCP client may leave unread: as many as a large zone has.
+UNREAD = 1 << 28
 
 
 class Program:
@@ -42,17 +43,14 @@ class Program:
         """Hands a message on, if it is answered: what has no header, or is a response, isn't. `end` is called behind several answers."""
         if len(message) < 12 or message[2] & 0x80 or len(self.waiting) + bool(end) >= WAITING:
             return False
-        self.last = (self.last + 1) % 65536
-        while self.last in self.waiting:
-            self.last = (self.last + 1) % 65536
-        number = self.last
+        number = self.last = next(it % 65536 for it in range(self.last + 1, self.last + 65537) if it % 65536 not in self.waiting)
         self.waiting[number] = (message[:2], give, end)
         self.process.stdin.write(struct.pack("!HHH", limit, len(message), number) + message[2:])
-        return not end or self.ask(bytes(12), limit, lambda response: end(self.waiting.pop(number)))
+        return not end or self.ask(bytes(12), limit, lambda _: end(self.waiting.pop(number)))
 
     async def read(self):
         """Gives each response to its client, until the program ends."""
-        try:
+        with contextlib.suppress(asyncio.IncompleteReadError):
             while True:
                 (length,) = struct.unpack("!H", await self.process.stdout.readexactly(2))
                 response = await self.process.stdout.readexactly(length)
@@ -60,9 +58,8 @@ class Program:
                 own, give, end = self.waiting[number]
                 if not end:
                     del self.waiting[number]
-                await give(own + response[2:])
-        except asyncio.IncompleteReadError:
-            return await self.process.wait()
+                give(own + response[2:])
+        return await self.process.wait()
 
     async def end(self):
         self.process.stdin.close()
@@ -77,37 +74,31 @@ class Datagrams(asyncio.DatagramProtocol):
         self.transport = transport
 
     def datagram_received(self, message, client):
-        async def give(response):
-            self.transport.sendto(response, client)
-
-        self.program.ask(message, DATAGRAM, give)
+        self.program.ask(message, DATAGRAM, lambda response: self.transport.sendto(response, client))
 
 
 class Connection:
     """A TCP connection, over which several queries may come before the first response (RFC 7766 section 6.2.1.1)."""
 
     def __init__(self, program, reader, writer):
-        self.program, self.reader, self.writer = program, reader, writer
-        self.open, self.answered = 0, asyncio.Event()
-        writer.transport.set_write_buffer_limits(UNREAD)
+        self.program, self.reader, self.writer, self.open, self.answered = program, reader, writer, 0, asyncio.Event()
+        writer.transport.set_write_buffer_limits(0)
 
-    async def give(self, response):
-        self.answered.set()
-        try:
-            if not self.writer.is_closing():
-                self.writer.write(struct.pack("!H", len(response)) + response)
-            await asyncio.wait_for(self.writer.drain(), LINGER)
-        except (asyncio.TimeoutError, ConnectionError):
+    def give(self, response):
+        if not self.writer.is_closing():
+            self.writer.write(struct.pack("!H", len(response)) + response)
+        if self.writer.transport.get_write_buffer_size() > UNREAD:
             self.writer.transport.abort()
 
     async def ask(self, message):
         await self.program.turns.acquire()
-        if self.program.ask(message, STREAM, self.give, self.end):
-            self.open += 1
-        else:
+        is_asked = self.program.ask(message, STREAM, self.give, self.end)
+        self.open += is_asked
+        if not is_asked:
             self.program.turns.release()
+        return is_asked
 
-    async def end(self, answered):
+    def end(self, _):
         self.program.turns.release()
         self.open -= 1
         self.answered.set()
@@ -118,17 +109,15 @@ class Connection:
 
     async def serve(self):
         with contextlib.suppress(asyncio.IncompleteReadError, asyncio.TimeoutError, ConnectionError):
-            while True:
-                message = await asyncio.wait_for(self.message(), IDLE)
-                await self.ask(message)
-                await self.writer.drain()
+            while await self.ask(await asyncio.wait_for(self.message(), IDLE)):
+                await asyncio.wait_for(self.writer.drain(), READS)
         # What was asked before the client closed its half is still answered (RFC 7766 section 6.2.4).
+        while self.open:
+            self.answered.clear()
+            await self.answered.wait()
         with contextlib.suppress(asyncio.TimeoutError, ConnectionError):
-            while self.open:
-                self.answered.clear()
-                await asyncio.wait_for(self.answered.wait(), LINGER)
-            await self.writer.drain()
-        self.writer.close()
+            await asyncio.wait_for(self.writer.drain(), READS)
+        self.writer.transport.abort()
 
 
 async def main(port, words):
@@ -144,20 +133,18 @@ async def main(port, words):
             listening.append(host)
         except OSError as error:
             print(f"front.py: {host} port {port}: {error.strerror}", file=sys.stderr)
-    if not listening:
-        await program.end()
-        return 1
-    print(f"front.py: listening on {' and '.join(listening)}, port {port}, UDP and TCP", file=sys.stderr, flush=True)
     reading, stopped = loop.create_task(program.read()), loop.create_task(stop.wait())
-    await asyncio.wait((reading, stopped), return_when=asyncio.FIRST_COMPLETED)
+    if listening:
+        print(f"front.py: listening on {' and '.join(listening)}, port {port}, UDP and TCP", file=sys.stderr, flush=True)
+        await asyncio.wait((reading, stopped), return_when=asyncio.FIRST_COMPLETED)
     if reading.done():
         print(f"front.py: {words[0]} ended with the status {reading.result()}", file=sys.stderr)
-        return 1
-    await program.end()
-    return 0
+    else:
+        await program.end()
+    return 0 if stopped.done() else 1
 
 
 if __name__ == "__main__":
-    if len(sys.argv) < 3 or not sys.argv[1].isdecimal():
+    if len(sys.argv) < 3 or not sys.argv[1].isdecimal() or int(sys.argv[1]) > 65535:
         sys.exit(__doc__)
     sys.exit(asyncio.run(main(int(sys.argv[1]), sys.argv[2:])))

@@ -1,0 +1,184 @@
+/* Reads the configuration file. */
+#include "config.h"
+
+#include <arpa/inet.h>
+#include <errno.h>
+#include <netinet/in.h>
+#include <stdarg.h>
+#include <stdio.h>
+#include <stdlib.h>
+#include <string.h>
+
+enum { WORDS = 4, LINE = 4096 };
+
+/* Where a fault is told. */
+struct place {
+    const char *path;
+    unsigned line;
+};
+
+static int fault(const struct place *place, const char *format, ...) {
+    va_list values;
+    va_start(values, format);
+    fprintf(stderr, "%s:%u: ", place->path, place->line);
+    vfprintf(stderr, format, values);
+    fputc('\n', stderr);
+    va_end(values);
+    return -1;
+}
+
+/* Cuts a line into words, which blanks separate; a word in double quotes may have blanks. What follows # is a comment. Returns how many
+ * there are, WORDS + 1 where there are more than WORDS, or -1 where a quote isn't closed. */
+static int cut(char *line, char *words[WORDS]) {
+    int count = 0;
+    for (char *at = line; *at && *at != '#';) {
+        if (strchr(" \t\r\n", *at)) {
+            at++;
+            continue;
+        }
+        if (count == WORDS) return WORDS + 1;
+        int is_quoted = *at == '"';
+        words[count++] = at += is_quoted;
+        at += strcspn(at, is_quoted ? "\"" : " \t\r\n#");
+        if (is_quoted && *at != '"') return -1;
+        int is_comment = *at == '#';
+        if (*at) *at++ = 0;
+        if (is_comment) break;
+    }
+    return count;
+}
+
+/* One more element at the end of an array, or NULL. */
+static void *one_more(void *array, size_t *count, size_t size) {
+    void **start = array;
+    char *grown = realloc(*start, (*count + 1) * size);
+    if (!grown) return NULL;
+    *start = grown;
+    return memset(grown + (*count)++ * size, 0, size);
+}
+
+static int set_text(const struct place *place, char **to, const char *word) {
+    free(*to);
+    return (*to = strdup(word)) ? 0 : fault(place, "out of memory");
+}
+
+static int set_number(const struct place *place, unsigned *to, const char *word, unsigned least, unsigned most) {
+    char *end;
+    errno = 0;
+    unsigned long value = strtoul(word, &end, 10);
+    if (*word < '0' || *word > '9' || *end || errno || value < least || value > most)
+        return fault(place, "'%s' isn't a number from %u to %u", word, least, most);
+    *to = value;
+    return 0;
+}
+
+static int set_switch(const struct place *place, unsigned *to, const char *word) {
+    if (strcmp(word, "on") && strcmp(word, "off")) return fault(place, "'%s' is neither on nor off", word);
+    *to = !strcmp(word, "on");
+    return 0;
+}
+
+static int add_address(const struct place *place, struct config *config, const char *host, const char *port_word) {
+    unsigned port = 53;
+    if (port_word && set_number(place, &port, port_word, 1, 65535)) return -1;
+    struct address *address = one_more(&config->listen, &config->listen_count, sizeof *address);
+    if (!address) return fault(place, "out of memory");
+    struct sockaddr_in *v4 = (void *)&address->socket;
+    struct sockaddr_in6 *v6 = (void *)&address->socket;
+    if (inet_pton(AF_INET, host, &v4->sin_addr) == 1) {
+        v4->sin_family = AF_INET;
+        v4->sin_port = htons(port);
+        address->length = sizeof *v4;
+    } else if (inet_pton(AF_INET6, host, &v6->sin6_addr) == 1) {
+        v6->sin6_family = AF_INET6;
+        v6->sin6_port = htons(port);
+        address->length = sizeof *v6;
+    } else {
+        return fault(place, "'%s' isn't an IPv4 or IPv6 address", host);
+    }
+    snprintf(address->text, sizeof address->text, "%.46s port %u", host, port);
+    return 0;
+}
+
+static int add_zone(const struct place *place, struct config *config, const char *origin, const char *path) {
+    struct zone_line *zone = one_more(&config->zones, &config->zone_count, sizeof *zone);
+    if (!zone || !(zone->origin = strdup(origin)) || !(zone->path = strdup(path))) return fault(place, "out of memory");
+    return 0;
+}
+
+static int add_folder(const struct place *place, struct config *config, const char *path) {
+    char **folder = one_more(&config->folders, &config->folder_count, sizeof *folder);
+    return folder && (*folder = strdup(path)) ? 0 : fault(place, "out of memory");
+}
+
+/* Takes a directive with its values. */
+static int take(const struct place *place, struct config *config, char **words, int count) {
+    const char *name = words[0], *value = words[1];
+    static const struct { const char *name; int least, most; } directives[] = {
+        {"listen", 1, 2}, {"zone", 2, 2}, {"zones", 1, 1}, {"workers", 1, 1}, {"user", 1, 1}, {"chroot", 1, 1}, {"control", 1, 1},
+        {"log", 1, 1}, {"query-log", 2, 2}, {"watch", 1, 1}, {"udp-size", 1, 1}, {"tcp-connections", 1, 1},
+        {"tcp-client-connections", 1, 1}, {"tcp-idle", 1, 1}, {"rate-limit", 1, 1}, {"rate-slip", 1, 1}, {"rate-prefixes", 2, 2}};
+    size_t at = 0, all = sizeof directives / sizeof *directives;
+    while (at < all && strcmp(directives[at].name, name)) at++;
+    if (at == all) return fault(place, "'%s' isn't a directive", name);
+    if (count - 1 < directives[at].least) return fault(place, "%s needs a value more", name);
+    if (count - 1 > directives[at].most) return fault(place, "%s has a value too many", name);
+    if (!strcmp(name, "listen")) return add_address(place, config, value, count > 2 ? words[2] : NULL);
+    if (!strcmp(name, "zone")) return add_zone(place, config, value, words[2]);
+    if (!strcmp(name, "zones")) return add_folder(place, config, value);
+    if (!strcmp(name, "workers")) return set_number(place, &config->workers, value, 0, 256);
+    if (!strcmp(name, "user")) return set_text(place, &config->user, value);
+    if (!strcmp(name, "chroot")) return set_text(place, &config->chroot, value);
+    if (!strcmp(name, "control")) return set_text(place, &config->control, value);
+    if (!strcmp(name, "log")) return set_text(place, &config->log, value);
+    if (!strcmp(name, "watch")) return set_switch(place, &config->watch, value);
+    if (!strcmp(name, "udp-size")) return set_number(place, &config->udp_size, value, 512, 1232);
+    if (!strcmp(name, "tcp-connections")) return set_number(place, &config->tcp_connections, value, 1, 1000000);
+    if (!strcmp(name, "tcp-client-connections")) return set_number(place, &config->tcp_client_connections, value, 1, 1000000);
+    if (!strcmp(name, "tcp-idle")) return set_number(place, &config->tcp_idle, value, 1, 3600);
+    if (!strcmp(name, "rate-limit")) return set_number(place, &config->rate_limit, value, 0, 60000);
+    if (!strcmp(name, "rate-slip")) return set_number(place, &config->rate_slip, value, 0, 1000);
+    if (!strcmp(name, "rate-prefixes"))
+        return set_number(place, &config->rate_prefix_v4, value, 1, 32) || set_number(place, &config->rate_prefix_v6, words[2], 1, 64) ? -1 : 0;
+    return set_text(place, &config->query_log, value) || set_number(place, &config->query_log_every, words[2], 1, 1000000000) ? -1 : 0;
+}
+
+int config_read(struct config *config, const char *path) {
+    *config = (struct config){.udp_size = 1232, .tcp_connections = 1000, .tcp_client_connections = 100, .tcp_idle = 10, .rate_slip = 2,
+                              .rate_prefix_v4 = 24, .rate_prefix_v6 = 56, .watch = 1};
+    FILE *file = fopen(path, "r");
+    if (!file) {
+        fprintf(stderr, "%s: %s\n", path, strerror(errno));
+        return -1;
+    }
+    struct place place = {path, 0};
+    char line[LINE], *words[WORDS];
+    int is_bad = 0;
+    while (!is_bad && fgets(line, sizeof line, file)) {
+        place.line++;
+        if (!strchr(line, '\n') && !feof(file)) is_bad = fault(&place, "the line has more than %d octets", LINE - 2);
+        int count = is_bad ? 0 : cut(line, words);
+        if (count < 0) is_bad = fault(&place, "a quote isn't closed");
+        else if (count > WORDS) is_bad = fault(&place, "%s has too many values", words[0]);
+        else if (count && take(&place, config, words, count)) is_bad = -1;
+    }
+    if (!is_bad && ferror(file)) is_bad = fault(&place, "the file can't be read: %s", strerror(errno));
+    fclose(file);
+    place.line = place.line ? place.line : 1;
+    if (!is_bad && !config->zone_count && !config->folder_count) is_bad = fault(&place, "there is neither a zone nor a folder of zones");
+    return is_bad;
+}
+
+void config_free(struct config *config) {
+    for (size_t i = 0; i < config->zone_count; i++) {
+        free(config->zones[i].origin);
+        free(config->zones[i].path);
+    }
+    for (size_t i = 0; i < config->folder_count; i++) free(config->folders[i]);
+    char *texts[] = {config->user, config->chroot, config->control, config->log, config->query_log};
+    for (size_t i = 0; i < sizeof texts / sizeof *texts; i++) free(texts[i]);
+    free(config->listen);
+    free(config->zones);
+    free(config->folders);
+    *config = (struct config){0};
+}

@@ -1,0 +1,39 @@
+/* The configuration of ningkraetd: one file, a directive on each line. */
+#ifndef CONFIG_H
+#define CONFIG_H
+
+#include <stddef.h>
+#include <sys/socket.h>
+
+struct address {
+    struct sockaddr_storage socket;
+    socklen_t length;
+    char text[64];                 /* as "192.0.2.1 port 53" */
+};
+
+/* A zone that is configured by its origin and file. */
+struct zone_line {
+    char *origin, *path;
+};
+
+struct config {
+    struct address *listen;        /* the addresses at which queries are answered, by UDP and TCP */
+    struct zone_line *zones;
+    char **folders;                /* each file NAME.zone there is the zone NAME */
+    size_t listen_count, zone_count, folder_count;
+    char *user, *chroot, *control, *log, *query_log;   /* NULL where there is none */
+    unsigned workers;              /* threads that answer; 0: one for each processor */
+    unsigned udp_size;             /* octets of a response by UDP, at most */
+    unsigned tcp_connections, tcp_client_connections, tcp_idle;   /* in all, of one client, seconds */
+    unsigned rate_limit, rate_slip, rate_prefix_v4, rate_prefix_v6;   /* responses a second, one in so many cut, bits */
+    unsigned query_log_every;      /* one query in so many is logged */
+    unsigned watch;                /* whether zones are read again when their files change */
+};
+
+/* Reads a configuration. Returns 0, or -1 once the first fault is printed on standard error, with its file and line. What was read is
+ * freed by config_free in both cases. */
+int config_read(struct config *config, const char *path);
+
+void config_free(struct config *config);
+
+#endif

@@ -1,0 +1,103 @@
+/* Carries out commands of ningkraetctl. */
+#include "control.h"
+
+#include <errno.h>
+#include <poll.h>
+#include <stdio.h>
+#include <stdlib.h>
+#include <string.h>
+#include <sys/socket.h>
+#include <sys/stat.h>
+#include <sys/un.h>
+#include <unistd.h>
+
+#include "log.h"
+#include "zones.h"
+
+enum { COMMAND = 8192, REPLY = 1 << 22, PATIENCE = 2000 };   /* PATIENCE: milliseconds that a command may take to come, and its reply to go */
+
+int control_listen(const char *path) {
+    struct sockaddr_un address = {.sun_family = AF_UNIX};
+    if (strlen(path) >= sizeof address.sun_path) {
+        log_line("%s: the path of a socket has at most %zu octets", path, sizeof address.sun_path - 1);
+        return -1;
+    }
+    strcpy(address.sun_path, path);
+    int fd = socket(AF_UNIX, SOCK_STREAM | SOCK_CLOEXEC | SOCK_NONBLOCK, 0);
+    unlink(path);
+    mode_t old = umask(0177);
+    int is_bad = fd < 0 || bind(fd, (struct sockaddr *)&address, sizeof address) || listen(fd, 8);
+    umask(old);
+    if (!is_bad) return fd;
+    log_line("%s: %s", path, strerror(errno));
+    if (fd >= 0) close(fd);
+    return -1;
+}
+
+/* Reads the line of a command. Returns whether it came whole. */
+static int read_line(int fd, char *line) {
+    size_t have = 0;
+    struct pollfd waiting = {fd, POLLIN, 0};
+    while (have < COMMAND - 1 && poll(&waiting, 1, PATIENCE) > 0) {
+        ssize_t more = read(fd, line + have, COMMAND - 1 - have);
+        if (more <= 0) return 0;
+        have += more;
+        line[have] = 0;
+        char *end = strchr(line, '\n');
+        if (!end) continue;
+        *end = 0;
+        return 1;
+    }
+    return 0;
+}
+
+static void write_all(int fd, const char *text, size_t length) {
+    struct pollfd waiting = {fd, POLLOUT, 0};
+    while (length && poll(&waiting, 1, PATIENCE) > 0) {
+        ssize_t sent = send(fd, text, length, MSG_NOSIGNAL);
+        if (sent <= 0) return;
+        text += sent;
+        length -= sent;
+    }
+}
+
+/* Writes the reply to a command: its first word is ok or error. */
+static size_t reply_to(char *line, char *reply, struct worker *workers, size_t worker_count, int *is_over) {
+    char *rest = line, *name = strsep(&rest, " "), *first = rest ? strsep(&rest, " ") : NULL, *second = rest;
+    struct counters *counters[worker_count];
+    for (size_t i = 0; i < worker_count; i++) counters[i] = &workers[i].counters;
+    const char *why = NULL;
+    size_t length = sprintf(reply, "ok\n");
+    if (!strcmp(name, "status") && !first) {
+        length += sprintf(reply + length, "%12zu zones\n%12zu workers\n", zones_count(), worker_count);
+        return length + counters_print(reply + length, REPLY - length, counters, worker_count, 0);
+    }
+    if (!strcmp(name, "metrics") && !first) return length + counters_print(reply + length, REPLY - length, counters, worker_count, 1);
+    if (!strcmp(name, "zones") && !first) return length + zones_print(reply + length, REPLY - length);
+    if (!strcmp(name, "reload") && !first) {
+        size_t faults = zones_renew(1);
+        return faults ? (size_t)sprintf(reply, "error\n%zu zones have a file that is bad: ningkraetctl zones has them\n", faults) : length;
+    }
+    if (!strcmp(name, "stop") && !first) {
+        *is_over = 1;
+        return length;
+    }
+    if (!strcmp(name, "add") && second) {
+        why = zones_add(first, second);
+        if (!why && zones_renew(0)) why = "its file is bad, or another's: ningkraetctl zones has the faults";
+    } else if (!strcmp(name, "drop") && first && !second) {
+        why = zones_drop(first);
+    } else {
+        why = "the commands are: status, metrics, zones, reload, add ORIGIN FILE, drop ORIGIN, stop";
+    }
+    return why ? (size_t)sprintf(reply, "error\n%s\n", why) : length;
+}
+
+int control_take(int listener, struct worker *workers, size_t worker_count) {
+    char line[COMMAND], *reply = malloc(REPLY);
+    int is_over = 0, fd = accept4(listener, NULL, NULL, SOCK_CLOEXEC | SOCK_NONBLOCK);
+    if (fd >= 0 && reply && read_line(fd, line)) write_all(fd, reply, reply_to(line, reply, workers, worker_count, &is_over));
+    if (fd >= 0) close(fd);
+    free(reply);
+    return is_over;
+}

@@ -1,0 +1,51 @@
+/* What is counted, by each worker for itself; and what kind of answer a response is. */
+#ifndef COUNTERS_H
+#define COUNTERS_H
+
+#include <stdatomic.h>
+#include <stddef.h>
+#include <stdint.h>
+
+/* What an answer was, by which it is counted and limited. */
+enum kind { ANSWER, REFERRAL, NO_DATA, NAME_ERROR, REFUSED, FAILED, OTHER, KINDS };
+
+extern const char *const kind_names[KINDS];
+
+#define COUNTERS(X)                                                                                                                          \
+    X(udp_queries, "queries by UDP")                                                                                                         \
+    X(tcp_queries, "queries by TCP")                                                                                                         \
+    X(octets_in, "octets of queries")                                                                                                        \
+    X(octets_out, "octets of responses")                                                                                                     \
+    X(ignored, "messages without an answer: too short, too long, or responses")                                                              \
+    X(truncated, "responses with TC")                                                                                                        \
+    X(limited, "responses withheld by the rate limit")                                                                                       \
+    X(slipped, "responses cut to a header and question by the rate limit")                                                                   \
+    X(no_memory, "queries dropped for want of memory")                                                                                       \
+    X(unsent, "responses that the system did not take")                                                                                      \
+    X(tcp_accepted, "TCP connections accepted")                                                                                              \
+    X(tcp_refused, "TCP connections closed at once: the client has too many")                                                                \
+    X(tcp_evicted, "TCP connections closed for newer ones")                                                                                  \
+    X(tcp_idle, "TCP connections closed for being idle")
+
+struct counters {
+#define X(name, text) atomic_ullong name;
+    COUNTERS(X)
+#undef X
+    atomic_ullong rcodes[16], kinds[KINDS];
+};
+
+/* Adds to a counter of which this thread is the only writer. */
+static inline void count(atomic_ullong *counter, unsigned long long by) {
+    atomic_store_explicit(counter, atomic_load_explicit(counter, memory_order_relaxed) + by, memory_order_relaxed);
+}
+
+/* What kind of answer a response is, as its header and sections tell. */
+enum kind kind_of(const uint8_t *response, size_t length);
+
+/* Counts a response. */
+void count_response(struct counters *counters, const uint8_t *response, size_t length, enum kind kind);
+
+/* Writes the sums over these workers, for a reader or in the text form of Prometheus. Returns the length, less than `size`. */
+size_t counters_print(char *text, size_t size, struct counters *const *workers, size_t worker_count, int for_prometheus);
+
+#endif

@@ -1,0 +1,118 @@
+/* Limits for clients.
+ *
+ * Both tables are of counters at the hash of a client, under a key that is drawn at each start, so that nobody can choose whom to meet
+ * there. Two clients that meet share a limit for as long. */
+#include "limits.h"
+
+#include <netinet/in.h>
+#include <stdatomic.h>
+#include <stdlib.h>
+#include <string.h>
+#include <sys/random.h>
+#include <time.h>
+
+enum { TALLIES = 1 << 16, BUCKETS = 1 << 20 };
+
+struct tally {
+    atomic_uint connections;
+};
+
+static const struct config *config;
+static struct tally *tallies;
+static _Atomic uint64_t *buckets;      /* 32 bits of the hash, 16 of the second, 16 of the responses in it */
+static atomic_uint connections;
+static uint64_t key[2];
+
+static uint64_t rotated(uint64_t x, int by) { return x << by | x >> (64 - by); }
+
+/* SipHash-2-4 (Aumasson and Bernstein, 2012). */
+static uint64_t hash_of(const uint8_t *octets, size_t length) {
+    uint64_t v[4] = {key[0] ^ 0x736f6d6570736575, key[1] ^ 0x646f72616e646f6d, key[0] ^ 0x6c7967656e657261, key[1] ^ 0x7465646279746573};
+    for (size_t at = 0;; at += 8) {
+        uint64_t word = (uint64_t)length << 56;
+        size_t left = length - at;
+        for (size_t i = 0; i < (left < 8 ? left : 8); i++) word = i == 7 ? (word & 0x00ffffffffffffff) | (uint64_t)octets[at + i] << 56 : word | (uint64_t)octets[at + i] << 8 * i;
+        v[3] ^= word;
+        for (int round = 0; round < (left < 8 ? 2 + 4 : 2); round++) {
+            if (left < 8 && round == 2) {
+                v[0] ^= word;
+                v[2] ^= 0xff;
+            }
+            v[0] += v[1], v[1] = rotated(v[1], 13) ^ v[0], v[0] = rotated(v[0], 32);
+            v[2] += v[3], v[3] = rotated(v[3], 16) ^ v[2];
+            v[0] += v[3], v[3] = rotated(v[3], 21) ^ v[0];
+            v[2] += v[1], v[1] = rotated(v[1], 17) ^ v[2], v[2] = rotated(v[2], 32);
+        }
+        if (left < 8) return v[0] ^ v[1] ^ v[2] ^ v[3];
+        v[0] ^= word;
+    }
+}
+
+/* Writes the first bits of a client's address. Returns how many octets that takes: 5 or 9. */
+static size_t put_prefix(uint8_t *to, const struct sockaddr *client, unsigned bits_v4, unsigned bits_v6) {
+    int is_v4 = client->sa_family == AF_INET;
+    unsigned bits = is_v4 ? bits_v4 : bits_v6;
+    const uint8_t *octets = is_v4 ? (const uint8_t *)&((const struct sockaddr_in *)client)->sin_addr : ((const struct sockaddr_in6 *)client)->sin6_addr.s6_addr;
+    *to++ = is_v4 ? 4 : 6;
+    for (unsigned i = 0; i < (is_v4 ? 4u : 8u); i++) to[i] = bits >= 8 * (i + 1) ? octets[i] : bits > 8 * i ? octets[i] & 0xff << (8 * (i + 1) - bits) : 0;
+    return is_v4 ? 5 : 9;
+}
+
+int limits_begin(const struct config *given) {
+    config = given;
+    tallies = calloc(TALLIES, sizeof *tallies);
+    buckets = config->rate_limit ? calloc(BUCKETS, sizeof *buckets) : NULL;
+    return tallies && (buckets || !config->rate_limit) && getrandom(key, sizeof key, 0) == sizeof key ? 0 : -1;
+}
+
+/* The question's name in lower case, of which a name error counts without its first label: names that are made up share what is above them. */
+static size_t put_name(uint8_t *to, const uint8_t *query, size_t length, enum kind kind) {
+    size_t at = 12, made = 0;
+    if (kind == NAME_ERROR && at < length && query[at] < 64) at += 1 + query[at];
+    while (at < length && query[at] && query[at] < 64 && made < 255) {
+        uint8_t c = query[at++];
+        to[made++] = c >= 'A' && c <= 'Z' ? c + 32 : c;
+    }
+    return made;
+}
+
+enum verdict limits_take(const struct sockaddr *client, enum kind kind, const uint8_t *query, size_t query_length) {
+    if (!buckets) return SEND;
+    uint8_t octets[10 + 256];
+    size_t length = put_prefix(octets, client, config->rate_prefix_v4, config->rate_prefix_v6);
+    octets[length++] = kind;
+    if (kind <= NAME_ERROR) length += put_name(octets + length, query, query_length, kind);
+    struct timespec now;
+    clock_gettime(CLOCK_MONOTONIC_COARSE, &now);
+    uint64_t hash = hash_of(octets, length), mark = (hash & 0xffffffff00000000) | (uint64_t)(now.tv_sec & 0xffff) << 16;
+    _Atomic uint64_t *bucket = &buckets[hash % BUCKETS];
+    uint64_t old = atomic_load_explicit(bucket, memory_order_relaxed), new;
+    do new = (old & ~0xffffull) != mark ? mark | 1 : (old & 0xffff) == 0xffff ? old : old + 1;
+    while (!atomic_compare_exchange_weak_explicit(bucket, &old, new, memory_order_relaxed, memory_order_relaxed));
+    unsigned responses = new & 0xffff;
+    if (responses <= config->rate_limit) return SEND;
+    return config->rate_slip && (responses - config->rate_limit) % config->rate_slip == 0 ? CUT : WITHHOLD;
+}
+
+struct tally *limits_enter(const struct sockaddr *client) {
+    uint8_t octets[9];
+    struct tally *tally = &tallies[hash_of(octets, put_prefix(octets, client, 32, 64)) % TALLIES];
+    if (atomic_fetch_add(&tally->connections, 1) < config->tcp_client_connections) {
+        atomic_fetch_add(&connections, 1);
+        return tally;
+    }
+    atomic_fetch_sub(&tally->connections, 1);
+    return NULL;
+}
+
+void limits_leave(struct tally *tally) {
+    atomic_fetch_sub(&tally->connections, 1);
+    atomic_fetch_sub(&connections, 1);
+}
+
+int limits_room(void) { return atomic_load(&connections) <= config->tcp_connections; }
+
+void limits_free(void) {
+    free(tallies);
+    free((void *)buckets);
+}

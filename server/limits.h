@@ -1,0 +1,32 @@
+/* How much one client may have: TCP connections at once, and responses a second by UDP. Shared by all workers. */
+#ifndef LIMITS_H
+#define LIMITS_H
+
+#include <stddef.h>
+#include <stdint.h>
+#include <sys/socket.h>
+
+#include "config.h"
+#include "counters.h"
+
+/* Makes the tables. Returns 0, or -1 where there is no memory. */
+int limits_begin(const struct config *config);
+
+/* What becomes of a response by UDP. */
+enum verdict { SEND, CUT, WITHHOLD };
+
+/* Counts a response to a client, by the client's prefix, the kind of answer and the name that was asked for, of which a name error counts
+ * without its first label. */
+enum verdict limits_take(const struct sockaddr *client, enum kind kind, const uint8_t *query, size_t query_length);
+
+/* Counts a TCP connection of a client, and tells whether it may have one more: its counter, or NULL. */
+struct tally *limits_enter(const struct sockaddr *client);
+
+void limits_leave(struct tally *tally);
+
+/* Whether there are no more connections than may be in all. */
+int limits_room(void);
+
+void limits_free(void);
+
+#endif

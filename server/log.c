@@ -1,0 +1,91 @@
+/* Logs. */
+#include "log.h"
+
+#include <arpa/inet.h>
+#include <errno.h>
+#include <fcntl.h>
+#include <netinet/in.h>
+#include <stdarg.h>
+#include <stdio.h>
+#include <string.h>
+#include <time.h>
+#include <unistd.h>
+
+static int to = STDERR_FILENO, queries_to = -1;
+static unsigned sample;        /* set before the workers start */
+static atomic_uint queries;
+
+/* Opens a file to append to, and lets its descriptor be `*fd`, so that who writes there meanwhile writes to the one or the other. */
+static int reopen(int *fd, const char *path, int is_standard) {
+    int opened = open(path, O_WRONLY | O_APPEND | O_CREAT | O_CLOEXEC, 0640);
+    if (opened < 0) {
+        log_line("%s: %s", path, strerror(errno));
+        return -1;
+    }
+    if (*fd >= 0 && !is_standard) {
+        dup3(opened, *fd, O_CLOEXEC);
+        close(opened);
+    } else {
+        *fd = opened;
+    }
+    return 0;
+}
+
+int log_open(const char *path, const char *query_path, unsigned every) {
+    if (query_path && !sample) sample = every;
+    int is_bad = path && reopen(&to, path, to == STDERR_FILENO);
+    return (query_path && reopen(&queries_to, query_path, 0)) || is_bad ? -1 : 0;
+}
+
+void log_line(const char *format, ...) {
+    char line[2048];
+    size_t length = 0;
+    if (to != STDERR_FILENO) {
+        time_t now = time(NULL);
+        struct tm parts;
+        length = strftime(line, sizeof line, "%Y-%m-%dT%H:%M:%SZ ", gmtime_r(&now, &parts));
+    }
+    length += snprintf(line + length, sizeof line - length, "ningkraetd: ");
+    va_list values;
+    va_start(values, format);
+    int more = vsnprintf(line + length, sizeof line - length - 1, format, values);
+    va_end(values);
+    length += more < 0 ? 0 : (size_t)more < sizeof line - length - 1 ? (size_t)more : sizeof line - length - 2;
+    line[length++] = '\n';
+    if (write(to, line, length) < 0) return;   /* a log that can't be written stops nothing */
+}
+
+/* Writes the name of a question as text, each octet outside of letters, digits, - and _ as \\DDD, so that it is JSON too. */
+static size_t put_name(char *text, const uint8_t *query, size_t query_length, size_t *behind) {
+    size_t length = 0, at = 12;
+    while (at < query_length && query[at] && query[at] < 64 && at + query[at] < query_length) {
+        for (uint8_t left = query[at++]; left; left--, at++) {
+            int c = query[at];
+            int is_plain = (c >= 'a' && c <= 'z') || (c >= 'A' && c <= 'Z') || (c >= '0' && c <= '9') || c == '-' || c == '_' || c == '*';
+            length += sprintf(text + length, is_plain ? "%c" : "\\\\%03d", c);
+        }
+        text[length++] = '.';
+    }
+    if (!length) text[length++] = '.';
+    text[length] = 0;
+    *behind = at + 1;
+    return length;
+}
+
+void log_query(const struct sockaddr *client, int transport, const uint8_t *query, size_t query_length, const uint8_t *response,
+               size_t response_length, enum kind kind) {
+    if (!sample || query_length < 17 || atomic_fetch_add_explicit(&queries, 1, memory_order_relaxed) % sample) return;
+    char name[5 * 255 + 2], host[INET6_ADDRSTRLEN] = "", line[2048];
+    size_t behind;
+    put_name(name, query, query_length, &behind);
+    unsigned type = behind + 2 <= query_length ? query[behind] << 8 | query[behind + 1] : 0;
+    const void *octets = client->sa_family == AF_INET ? (const void *)&((const struct sockaddr_in *)client)->sin_addr : &((const struct sockaddr_in6 *)client)->sin6_addr;
+    inet_ntop(client->sa_family, octets, host, sizeof host);
+    struct timespec now;
+    clock_gettime(CLOCK_REALTIME, &now);
+    int length = snprintf(line, sizeof line,
+                          "{\"time\":%lld.%03ld,\"client\":\"%s\",\"transport\":\"%s\",\"name\":\"%s\",\"type\":%u,\"kind\":\"%s\",\"rcode\":%d,\"size\":%zu,\"truncated\":%s}\n",
+                          (long long)now.tv_sec, now.tv_nsec / 1000000, host, transport ? "tcp" : "udp", name, type, kind_names[kind],
+                          response_length > 3 ? response[3] & 15 : -1, response_length, response_length > 2 && response[2] & 2 ? "true" : "false");
+    if (write(queries_to, line, length) < 0) return;
+}

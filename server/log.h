@@ -1,0 +1,21 @@
+/* What ningkraetd tells an operator: lines on standard error or in a file, and sampled queries as JSON in another. */
+#ifndef LOG_H
+#define LOG_H
+
+#include <stddef.h>
+#include <stdint.h>
+#include <sys/socket.h>
+
+#include "counters.h"
+
+/* Opens the files, or opens them again under the same names, as after a rotation. NULL: standard error; no queries. Returns 0 or -1. */
+int log_open(const char *path, const char *queries, unsigned every);
+
+/* Writes one line, with its time where it goes to a file. */
+void log_line(const char *format, ...) __attribute__((format(printf, 1, 2)));
+
+/* Counts a query, and logs it where it is the next of its sample: a line of JSON with the moment, client, transport, question and outcome. */
+void log_query(const struct sockaddr *client, int transport, const uint8_t *query, size_t query_length, const uint8_t *response,
+               size_t response_length, enum kind kind);
+
+#endif

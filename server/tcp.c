@@ -1,0 +1,254 @@
+/* Queries by TCP (RFC 7766): a connection may ask many at once, is answered in turns by time, and is closed once it is idle. */
+#include "tcp.h"
+
+#include <errno.h>
+#include <netinet/in.h>
+#include <netinet/tcp.h>
+#include <stdlib.h>
+#include <string.h>
+#include <sys/epoll.h>
+#include <sys/socket.h>
+#include <time.h>
+#include <unistd.h>
+
+#include "limits.h"
+#include "log.h"
+
+enum {
+    FIRST = 512,          /* octets of a new connection's buffer, which grows with what is sent */
+    FRAME = 2 + 65535,    /* octets of a message with its length, at most */
+    TURN = 1 << 16,       /* octets of responses to one connection before the next one has its turn */
+    ACCEPTED = 64,        /* connections that are taken in one turn */
+    GRACE = 1000000       /* microseconds that a client has to ask, before others make room sooner than it */
+};
+
+struct connection {
+    struct source source;
+    struct connection *next, *previous;
+    struct connection *next_busy;
+    struct queue *list;
+    struct tally *tally;
+    struct sockaddr_storage client;
+    uint64_t moved;           /* the microsecond in which a whole query came, or octets went out: no client holds it by octets alone */
+    uint32_t events;          /* those that the kernel is asked for */
+    unsigned is_busy : 1, is_ended : 1;   /* a query waits in `in`; the client has closed its half, and is still answered (section 6.2.4) */
+    uint8_t *in, *unsent;     /* of `unsent` the client hasn't read `left` octets from `sent` on: until it has, no more of its queries are answered */
+    size_t size, have, left, sent;
+};
+
+static void leave(struct connection *c) {
+    *(c->previous ? &c->previous->next : &c->list->first) = c->next;
+    *(c->next ? &c->next->previous : &c->list->last) = c->previous;
+}
+
+static void enter(struct connection *c, struct queue *list) {
+    c->list = list;
+    c->next = NULL;
+    c->previous = list->last;
+    *(list->last ? &list->last->next : &list->first) = c;
+    list->last = c;
+}
+
+/* Puts a connection behind those that wait to be answered. */
+static void wait_busy(struct worker *worker, struct connection *c) {
+    if (c->is_busy) return;
+    c->is_busy = 1;
+    c->next_busy = NULL;
+    *(worker->busy.last ? &worker->busy.last->next_busy : &worker->busy.first) = c;
+    worker->busy.last = c;
+}
+
+static void leave_busy(struct worker *worker, struct connection *c) {
+    if (!c->is_busy) return;
+    struct connection *before = NULL, *at = worker->busy.first;
+    for (; at != c; at = at->next_busy) before = at;
+    *(before ? &before->next_busy : &worker->busy.first) = c->next_busy;
+    if (worker->busy.last == c) worker->busy.last = before;
+    c->is_busy = 0;
+}
+
+static void close_connection(struct worker *worker, struct connection *c) {
+    leave_busy(worker, c);
+    leave(c);
+    limits_leave(c->tally);
+    close(c->source.fd);
+    free(c->in);
+    free(c->unsent);
+    free(c);
+}
+
+/* Makes room for a connection: closes another, the one that has been silent for longest, or else the one whose last query is the oldest;
+ * and that first where the silent ones have come within GRACE, and it has asked nothing for as long. */
+static int evict(struct worker *worker, const struct connection *newest) {
+    struct connection *silent = worker->silent.first == newest ? NULL : worker->silent.first, *asking = worker->asking.first;
+    uint64_t before = microseconds() - GRACE;
+    struct connection *c = silent && (!asking || silent->moved < before || asking->moved >= before) ? silent : asking;
+    if (!c) return 0;
+    count(&worker->counters.tcp_evicted, 1);
+    close_connection(worker, c);
+    return 1;
+}
+
+/* Takes the next client and turns it away, by the descriptor that is kept for that: otherwise it would wake the worker for ever. */
+static void turn_away(struct worker *worker, struct source *listener) {
+    close(worker->spare);
+    int fd = accept4(listener->fd, NULL, NULL, SOCK_CLOEXEC);
+    if (fd >= 0) close(fd);
+    worker->spare = dup(worker->epoll);
+}
+
+void tcp_accept(struct worker *worker, struct source *listener) {
+    for (int taken = 0; taken < ACCEPTED; taken++) {
+        struct sockaddr_storage client;
+        socklen_t length = sizeof client;
+        int one = 1, fd = accept4(listener->fd, (struct sockaddr *)&client, &length, SOCK_NONBLOCK | SOCK_CLOEXEC);
+        int is_short = fd < 0 && (errno == EMFILE || errno == ENFILE || errno == ENOMEM || errno == ENOBUFS);
+        if (is_short && evict(worker, NULL)) continue;
+        if (is_short) turn_away(worker, listener);
+        if (fd < 0) return;
+        struct tally *tally = limits_enter((struct sockaddr *)&client);
+        if (!tally) {
+            count(&worker->counters.tcp_refused, 1);
+            close(fd);
+            continue;
+        }
+        struct connection *c = calloc(1, sizeof *c);
+        uint8_t *in = malloc(FIRST);
+        if (!c || !in) {
+            count(&worker->counters.no_memory, 1);
+            limits_leave(tally);
+            close(fd);
+            free(c);
+            free(in);
+            return;
+        }
+        *c = (struct connection){.source = {SOURCE_CONNECTION, fd}, .client = client, .tally = tally, .moved = microseconds(), .events = EPOLLIN, .in = in, .size = FIRST};
+        enter(c, &worker->silent);
+        setsockopt(fd, IPPROTO_TCP, TCP_NODELAY, &one, sizeof one);
+        count(&worker->counters.tcp_accepted, 1);
+        if (worker_watch(worker, &c->source, EPOLLIN, 1)) close_connection(worker, c);
+        else while (!limits_room() && evict(worker, c)) {}
+    }
+}
+
+/* Whether a whole query waits in what was read. */
+static int has_frame(const struct connection *c) { return c->have >= 2 && c->have - 2 >= (size_t)(c->in[0] << 8 | c->in[1]); }
+
+/* Answers whole queries that were read, until none is left, the client has TURN octets to read, or SLICE is over. Tells whether the
+ * connection goes on. */
+static int answer_frames(struct worker *worker, struct connection *c) {
+    static _Thread_local uint8_t out[TURN + FRAME];
+    size_t at = 0, made = 0, written;
+    time_t now = time(NULL);
+    for (uint64_t until = microseconds() + SLICE; made < TURN && c->have - at >= 2 && (!at || microseconds() < until);) {
+        size_t length = c->in[at] << 8 | c->in[at + 1];
+        if (c->have - at - 2 < length) break;
+        const uint8_t *query = c->in + at + 2;
+        uint32_t code = nk_zones_answer(&worker->zones, now, query, length, 65535, NK_TCP, out + made + 2, 65535, &written);
+        at += 2 + length;
+        count(&worker->counters.tcp_queries, 1);
+        count(&worker->counters.octets_in, length);
+        if (code != NK_DONE) count(code == NK_IGNORED ? &worker->counters.ignored : &worker->counters.no_memory, 1);
+        if (code == NK_IGNORED) continue;
+        if (code != NK_DONE) return 0;
+        enum kind kind = kind_of(out + made + 2, written);
+        count_response(&worker->counters, out + made + 2, written, kind);
+        log_query((struct sockaddr *)&c->client, 1, query, length, out + made + 2, written, kind);
+        out[made] = written >> 8;
+        out[made + 1] = written;
+        made += 2 + written;
+    }
+    memmove(c->in, c->in + at, c->have -= at);
+    if (made) {   /* messages without an answer, such as those of no octets, hold no connection */
+        c->moved = microseconds();
+        leave(c);
+        enter(c, &worker->asking);
+    }
+    ssize_t sent = made ? send(c->source.fd, out, made, MSG_DONTWAIT | MSG_NOSIGNAL) : 0;
+    if (sent < 0 && errno != EAGAIN && errno != EINTR) return 0;
+    if (sent < 0) sent = 0;
+    c->left = made - sent;
+    c->sent = 0;
+    if (c->left && !(c->unsent = malloc(c->left))) return 0;
+    if (c->left) memcpy(c->unsent, out + sent, c->left);
+    return 1;
+}
+
+/* Reads more, into a buffer that has room for the message whose length is known. Tells whether the connection goes on. */
+static int read_more(struct connection *c) {
+    size_t need = c->have < 2 ? FIRST : (size_t)(c->in[0] << 8 | c->in[1]) + 2;
+    if (need > c->size) {
+        uint8_t *grown = realloc(c->in, need);
+        if (!grown) return 0;
+        c->in = grown;
+        c->size = need;
+    }
+    ssize_t count = recv(c->source.fd, c->in + c->have, c->size - c->have, MSG_DONTWAIT);
+    if (count < 0) return errno == EAGAIN || errno == EINTR;
+    c->is_ended = count == 0;
+    c->have += count;
+    return 1;
+}
+
+static int send_more(struct connection *c) {
+    ssize_t count = send(c->source.fd, c->unsent + c->sent, c->left, MSG_DONTWAIT | MSG_NOSIGNAL);
+    if (count < 0) return errno == EAGAIN || errno == EINTR;
+    c->moved = microseconds();
+    c->sent += count;
+    if ((c->left -= count)) return 1;
+    free(c->unsent);
+    c->unsent = NULL;
+    return 1;
+}
+
+/* What a connection waits for is asked of the kernel; one that is answered to its end is closed. */
+static void go_on(struct worker *worker, struct connection *c, int goes_on) {
+    int waits = goes_on && !c->left && has_frame(c);
+    if (!goes_on || (c->is_ended && !c->left && !waits)) {
+        close_connection(worker, c);
+        return;
+    }
+    if (waits) wait_busy(worker, c);
+    uint32_t events = c->left ? EPOLLOUT : waits || c->is_ended ? 0 : EPOLLIN;
+    if (events != c->events && !worker_watch(worker, &c->source, events, 0)) c->events = events;
+}
+
+void tcp_event(struct worker *worker, struct source *source, uint32_t events) {
+    struct connection *c = (struct connection *)source;
+    int goes_on = 1;
+    if (c->left) goes_on = send_more(c);
+    else if (!has_frame(c)) goes_on = read_more(c);
+    else if (events & (EPOLLERR | EPOLLHUP)) goes_on = 0;
+    go_on(worker, c, goes_on);
+}
+
+void tcp_answer(struct worker *worker, uint64_t began) {
+    do {
+        struct connection *c = worker->busy.first;
+        if (!c) return;
+        leave_busy(worker, c);
+        go_on(worker, c, answer_frames(worker, c));
+    } while (microseconds() - began < SHARE);
+}
+
+void tcp_close_idle(struct worker *worker) {
+    uint64_t now = microseconds(), most = worker->config->tcp_idle * 1000000ull;
+    for (int i = 0; i < 2; i++)
+        for (struct connection *c = (i ? &worker->asking : &worker->silent)->first, *next; c; c = next) {
+            next = c->next;
+            if (c->is_busy || c->moved + most >= now) continue;
+            count(&worker->counters.tcp_idle, 1);
+            close_connection(worker, c);
+        }
+}
+
+void tcp_close_all(struct worker *worker) {
+    while (worker->silent.first) close_connection(worker, worker->silent.first);
+    while (worker->asking.first) close_connection(worker, worker->asking.first);
+}
+
+int tcp_has_unsent(const struct worker *worker) {
+    for (const struct connection *c = worker->asking.first; c; c = c->next)
+        if (c->left || c->is_busy) return 1;
+    return 0;
+}

@@ -1,0 +1,128 @@
+/* Queries by UDP: read and answered in batches, each answer from the address that its query was sent to. */
+#include "udp.h"
+
+#include <netinet/in.h>
+#include <stdlib.h>
+#include <string.h>
+#include <time.h>
+
+#include "limits.h"
+#include "log.h"
+
+enum {
+    BATCH = 32,
+    QUERY = 4096,      /* octets of a query that are read: a longer one is dropped */
+    CONTROL = CMSG_SPACE(sizeof(struct in6_pktinfo)) > CMSG_SPACE(sizeof(struct in_pktinfo)) ? CMSG_SPACE(sizeof(struct in6_pktinfo)) : CMSG_SPACE(sizeof(struct in_pktinfo))
+};
+
+struct udp {
+    struct source source;
+    int count, at;                     /* datagrams that were read by one call, of which those from `at` on are still to be answered */
+    struct mmsghdr read[BATCH];
+    struct iovec rooms[BATCH];
+    struct sockaddr_storage clients[BATCH];
+    _Alignas(struct cmsghdr) uint8_t controls[BATCH][CONTROL];
+    uint8_t octets[BATCH][QUERY], responses[BATCH][1232];
+};
+
+struct udp *udp_new(const int *sockets, size_t count) {
+    struct udp *udp = calloc(count, sizeof *udp);
+    for (size_t at = 0; udp && at < count; at++) udp[at].source = (struct source){SOURCE_UDP, sockets[2 * at]};
+    return udp;
+}
+
+struct source *udp_source(struct udp *udp, size_t at) { return &udp[at].source; }
+
+void udp_free(struct udp *udp) { free(udp); }
+
+int udp_waits(const struct udp *udp, size_t at) { return udp[at].at < udp[at].count; }
+
+static void read_datagrams(struct udp *udp) {
+    for (int i = 0; i < BATCH; i++) {
+        udp->rooms[i] = (struct iovec){udp->octets[i], QUERY};
+        udp->read[i].msg_hdr = (struct msghdr){.msg_name = &udp->clients[i], .msg_namelen = sizeof udp->clients[i], .msg_iov = &udp->rooms[i],
+                                               .msg_iovlen = 1, .msg_control = udp->controls[i], .msg_controllen = CONTROL};
+    }
+    int count = recvmmsg(udp->source.fd, udp->read, BATCH, MSG_DONTWAIT, NULL);
+    udp->count = count < 0 ? 0 : count;   /* (an error of an earlier response, as ICMP brings it, is one of the kernel's calls) */
+    udp->at = 0;
+}
+
+/* Has a response go out from the address that its query was sent to, by whichever way leads to the client. */
+static void keep_address(struct msghdr *message) {
+    for (struct cmsghdr *control = CMSG_FIRSTHDR(message); control; control = CMSG_NXTHDR(message, control)) {
+        if (control->cmsg_level == IPPROTO_IP && control->cmsg_type == IP_PKTINFO) {
+            struct in_pktinfo *info = (void *)CMSG_DATA(control);
+            *info = (struct in_pktinfo){.ipi_spec_dst = info->ipi_addr};
+        } else if (control->cmsg_level == IPPROTO_IPV6 && control->cmsg_type == IPV6_PKTINFO) {
+            struct in6_pktinfo *info = (void *)CMSG_DATA(control);
+            if (!IN6_IS_ADDR_LINKLOCAL(&info->ipi6_addr)) info->ipi6_ifindex = 0;
+        }
+    }
+}
+
+/* Cuts a response to its header and question, with TC, so that an honest client asks again by TCP. */
+static size_t cut(uint8_t *response, const uint8_t *query, size_t query_length) {
+    size_t at = 12;
+    while (at < query_length && query[at] && query[at] < 64) at += 1 + query[at];
+    size_t end = at + 5;
+    if (response[5] != 1 || end > query_length) end = 12;
+    response[2] |= 2;
+    memset(response + 6, 0, 6);
+    return end;
+}
+
+/* Answers one datagram. Returns the length of its response, or 0 where none goes out. */
+static size_t answer(struct worker *worker, struct udp *udp, int at, uint8_t *response, time_t now) {
+    struct mmsghdr *read = &udp->read[at];
+    struct sockaddr *client = (void *)&udp->clients[at];
+    size_t length = read->msg_len, written;
+    count(&worker->counters.udp_queries, 1);
+    count(&worker->counters.octets_in, length);
+    uint32_t code = read->msg_hdr.msg_flags & MSG_TRUNC ? (uint32_t)NK_IGNORED
+                  : nk_zones_answer(&worker->zones, now, udp->octets[at], length, worker->config->udp_size, NK_UDP, response, sizeof udp->responses[0], &written);
+    if (code != NK_DONE) {
+        count(code == NK_IGNORED ? &worker->counters.ignored : &worker->counters.no_memory, 1);
+        return 0;
+    }
+    enum kind kind = kind_of(response, written);
+    enum verdict verdict = limits_take(client, kind, udp->octets[at], length);
+    if (verdict == WITHHOLD) {
+        count(&worker->counters.limited, 1);
+        return 0;
+    }
+    if (verdict == CUT) {
+        count(&worker->counters.slipped, 1);
+        written = cut(response, udp->octets[at], length);
+    }
+    count_response(&worker->counters, response, written, kind);
+    log_query(client, 0, udp->octets[at], length, response, written, kind);
+    return written;
+}
+
+void udp_answer(struct worker *worker, struct udp *all, size_t which) {
+    struct udp *udp = &all[which];
+    struct mmsghdr out[BATCH];
+    struct iovec to_send[BATCH];
+    int answers = 0;
+    time_t now = time(NULL);
+    if (udp->at >= udp->count) read_datagrams(udp);
+    for (uint64_t until = microseconds() + SHARE; udp->at < udp->count;) {
+        struct msghdr *client = &udp->read[udp->at].msg_hdr;
+        size_t written = answer(worker, udp, udp->at, udp->responses[answers], now);
+        udp->at++;
+        if (written) {
+            keep_address(client);
+            to_send[answers] = (struct iovec){udp->responses[answers], written};
+            out[answers].msg_hdr = (struct msghdr){.msg_name = client->msg_name, .msg_namelen = client->msg_namelen, .msg_iov = &to_send[answers], .msg_iovlen = 1,
+                                                   .msg_control = client->msg_control, .msg_controllen = client->msg_controllen};
+            answers++;
+        }
+        if (microseconds() >= until) break;
+    }
+    for (int sent = 0, more; sent < answers; sent += more)
+        if ((more = sendmmsg(udp->source.fd, out + sent, answers - sent, MSG_DONTWAIT)) <= 0) {
+            count(&worker->counters.unsent, 1);   /* lost, as by a network */
+            more = 1;
+        }
+}

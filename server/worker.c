@@ -1,0 +1,108 @@
+/* The loop of a worker. */
+#include "worker.h"
+
+#include <errno.h>
+#include <netinet/in.h>
+#include <stdatomic.h>
+#include <stdlib.h>
+#include <string.h>
+#include <sys/epoll.h>
+#include <sys/socket.h>
+#include <time.h>
+#include <unistd.h>
+
+#include "log.h"
+#include "tcp.h"
+#include "udp.h"
+#include "zones.h"
+
+enum { EVENTS = 256, SECOND = 1000000, DRAINING = SECOND };   /* DRAINING: how long responses that wait are still sent at the end */
+
+static atomic_int stopping;
+
+void workers_stop(void) { atomic_store(&stopping, 1); }
+
+uint64_t microseconds(void) {
+    struct timespec now;
+    clock_gettime(CLOCK_MONOTONIC, &now);
+    return (uint64_t)now.tv_sec * SECOND + now.tv_nsec / 1000;
+}
+
+int worker_watch(struct worker *worker, struct source *source, uint32_t events, int is_new) {
+    struct epoll_event event = {.events = events, .data.ptr = source};
+    return epoll_ctl(worker->epoll, is_new ? EPOLL_CTL_ADD : EPOLL_CTL_MOD, source->fd, &event);
+}
+
+int worker_begin(struct worker *worker, const struct config *config, const int *sockets, size_t address_count) {
+    *worker = (struct worker){.config = config, .zones = NK_ZONES_NONE, .seen = -1ul, .address_count = address_count, .epoll = epoll_create1(EPOLL_CLOEXEC)};
+    worker->spare = dup(worker->epoll);
+    worker->udp = udp_new(sockets, address_count);
+    worker->listeners = calloc(address_count, sizeof *worker->listeners);
+    if (nk_zones_new(&worker->zones) != NK_DONE || worker->epoll < 0 || !worker->udp || !worker->listeners) {
+        log_line("a worker can't be made: %s", worker->epoll < 0 ? strerror(errno) : "out of memory");
+        return -1;
+    }
+    for (size_t i = 0; i < address_count; i++) {
+        worker->listeners[i] = (struct source){SOURCE_LISTENER, sockets[2 * i + 1]};
+        if (worker_watch(worker, udp_source(worker->udp, i), EPOLLIN | EPOLLEXCLUSIVE, 1) || worker_watch(worker, &worker->listeners[i], EPOLLIN | EPOLLEXCLUSIVE, 1)) {
+            log_line("a socket can't be watched: %s", strerror(errno));
+            return -1;
+        }
+    }
+    return 0;
+}
+
+/* Answers what has come. Connections are accepted last, since that may close others. */
+static void take_turn(struct worker *worker, struct epoll_event *events, int ready) {
+    uint8_t is_readable[worker->address_count];
+    memset(is_readable, 0, worker->address_count);
+    uint64_t began = microseconds();
+    for (int i = 0; i < ready; i++) {
+        struct source *source = events[i].data.ptr;
+        if (source->kind == SOURCE_CONNECTION) tcp_event(worker, source, events[i].events);
+        else if (source->kind == SOURCE_UDP)
+            for (size_t at = 0; at < worker->address_count; at++) is_readable[at] |= source == udp_source(worker->udp, at);
+    }
+    tcp_answer(worker, began);
+    for (size_t at = 0; at < worker->address_count; at++)
+        if (is_readable[at] || udp_waits(worker->udp, at)) udp_answer(worker, worker->udp, at);
+    for (int i = 0; i < ready; i++) {
+        struct source *source = events[i].data.ptr;
+        for (size_t at = 0; at < worker->address_count; at++)
+            if (source == &worker->listeners[at]) tcp_accept(worker, source);
+    }
+}
+
+static int has_more(const struct worker *worker) {
+    for (size_t at = 0; at < worker->address_count; at++)
+        if (udp_waits(worker->udp, at)) return 1;
+    return worker->busy.first != NULL;
+}
+
+static void *run(void *given) {
+    struct worker *worker = given;
+    struct epoll_event events[EVENTS];
+    uint64_t looked = microseconds(), ends = 0;
+    while (!ends || (microseconds() < ends && (has_more(worker) || tcp_has_unsent(worker)))) {
+        int ready = epoll_wait(worker->epoll, events, EVENTS, has_more(worker) ? 0 : ends ? 50 : 500);
+        zones_take(&worker->zones, &worker->seen);
+        take_turn(worker, events, ready < 0 ? 0 : ready);
+        if (microseconds() - looked >= SECOND) {
+            tcp_close_idle(worker);
+            looked = microseconds();
+        }
+        if (!ends && atomic_load(&stopping)) ends = microseconds() + DRAINING;
+    }
+    tcp_close_all(worker);
+    return NULL;
+}
+
+int worker_start(struct worker *worker) { return pthread_create(&worker->thread, NULL, run, worker); }
+
+void worker_free(struct worker *worker) {
+    nk_zones_free(&worker->zones);
+    udp_free(worker->udp);
+    free(worker->listeners);
+    if (worker->epoll >= 0) close(worker->epoll);
+    if (worker->spare >= 0) close(worker->spare);
+}

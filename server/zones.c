@@ -1,0 +1,299 @@
+/* Zones and their files. */
+#include "zones.h"
+
+#include <ctype.h>
+#include <dirent.h>
+#include <errno.h>
+#include <pthread.h>
+#include <stdatomic.h>
+#include <stdio.h>
+#include <stdlib.h>
+#include <string.h>
+#include <sys/stat.h>
+#include <time.h>
+
+#include "log.h"
+
+enum { TOLD = 1 << 16, TRIES = 100 };
+
+struct zone {
+    char *origin, *path, *fault;      /* the origin in lower case and without its final dot */
+    struct stat read;                 /* what its file was when it was read last */
+    uint32_t serial;
+    unsigned is_served : 1, is_of_folder : 1, is_there : 1;
+};
+
+static const struct config *config;
+static struct zone **zones;           /* by origin */
+static size_t zone_count;
+static nk_zones loaded = NK_ZONES_NONE;
+static pthread_mutex_t lock = PTHREAD_MUTEX_INITIALIZER;   /* of `loaded` */
+static atomic_ulong renewed;
+static atomic_int holders, behind;    /* workers that have zones, and those of them that have yet to take the new ones */
+
+static char *lower(const char *origin) {
+    char *copy = strdup(origin);
+    if (!copy) return NULL;
+    for (char *at = copy; *at; at++) *at = tolower((unsigned char)*at);
+    size_t length = strlen(copy);
+    if (length > 1 && copy[length - 1] == '.' && copy[length - 2] != '\\') copy[length - 1] = 0;
+    return copy;
+}
+
+/* The place of an origin in the list: that of its zone, or where it would stand. */
+static size_t place_of(const char *origin) {
+    size_t low = 0, high = zone_count;
+    while (low < high) {
+        size_t middle = (low + high) / 2;
+        if (strcmp(zones[middle]->origin, origin) < 0) low = middle + 1;
+        else high = middle;
+    }
+    return low;
+}
+
+static struct zone *find(const char *origin) {
+    size_t at = place_of(origin);
+    return at < zone_count && !strcmp(zones[at]->origin, origin) ? zones[at] : NULL;
+}
+
+static void free_zone(struct zone *zone) {
+    free(zone->origin);
+    free(zone->path);
+    free(zone->fault);
+    free(zone);
+}
+
+/* Puts a zone that isn't there yet into the list, with no file read. NULL: no memory. */
+static struct zone *put(const char *origin, const char *path, int is_of_folder) {
+    struct zone *zone = calloc(1, sizeof *zone), **grown = realloc(zones, (zone_count + 1) * sizeof *zones);
+    if (grown) zones = grown;
+    if (!zone || !grown || !(zone->origin = strdup(origin)) || !(zone->path = strdup(path))) {
+        if (zone) free_zone(zone);
+        log_line("%s: out of memory", origin);
+        return NULL;
+    }
+    zone->is_of_folder = is_of_folder;
+    zone->is_there = 1;
+    size_t at = place_of(origin);
+    memmove(zones + at + 1, zones + at, (zone_count++ - at) * sizeof *zones);
+    return zones[at] = zone;
+}
+
+static void set_fault(struct zone *zone, const char *text) {
+    free(zone->fault);
+    zone->fault = text ? strdup(text) : NULL;
+    if (text) log_line("%s (%s): %s%s", zone->path, zone->origin, text, zone->is_served ? "; the zone stays as it was" : "");
+}
+
+/* The octets of a file, or NULL with errno. */
+static uint8_t *octets_of(const char *path, size_t *length) {
+    FILE *file = fopen(path, "rb");
+    if (!file) return NULL;
+    size_t room = 1 << 16, count;
+    uint8_t *octets = malloc(room);
+    *length = 0;
+    while (octets && (count = fread(octets + *length, 1, room - *length, file)) > 0)
+        if ((*length += count) == room) {
+            uint8_t *more = realloc(octets, room *= 2);
+            if (!more) free(octets);
+            octets = more;
+        }
+    if (octets && ferror(file)) {
+        int kept = errno;
+        free(octets);
+        octets = NULL;
+        errno = kept;
+    }
+    fclose(file);
+    return octets;
+}
+
+/* Logs the lines that a call of the library told, and cuts the last line feed off. */
+static void log_lines(const struct zone *zone, char *told, size_t length) {
+    told[length] = 0;
+    for (char *rest = told, *line; (line = strsep(&rest, "\n")) && *line;) log_line("%s: %s", zone->path, line);
+}
+
+/* Reads the file of a zone, and loads it. Tells whether it is served now as the file has it. */
+static int load(nk_zones *into, struct zone *zone) {
+    static char told[TOLD + 1];
+    size_t length, written = 0;
+    uint8_t *text = octets_of(zone->path, &length);
+    if (!text) {
+        set_fault(zone, strerror(errno));
+        zone->read = (struct stat){0};   /* it is tried again, also if it doesn't change */
+        return 0;
+    }
+    uint32_t code = nk_zones_load(into, (uint8_t *)zone->origin, strlen(zone->origin), text, length, (uint8_t *)told, TOLD, &written);
+    free(text);
+    if (code == NK_DONE) {
+        log_lines(zone, told, written);
+        set_fault(zone, NULL);
+        zone->is_served = 1;
+        nk_zones_serial(into, (uint8_t *)zone->origin, strlen(zone->origin), &zone->serial);
+        return 1;
+    }
+    told[written && told[written - 1] == '\n' ? written - 1 : written] = 0;
+    if (code == NK_NO_MEMORY) zone->read = (struct stat){0};
+    set_fault(zone, code == NK_BAD_TEXT ? told : code == NK_BAD_NAME ? "its origin isn't a domain name" : "out of memory");
+    return 0;
+}
+
+static int is_changed(const struct stat *old, const struct stat *new) {
+    return old->st_mtim.tv_sec != new->st_mtim.tv_sec || old->st_mtim.tv_nsec != new->st_mtim.tv_nsec || old->st_size != new->st_size || old->st_ino != new->st_ino;
+}
+
+/* Takes the files of a folder into the list: NAME.zone is that of the zone NAME. Tells whether it could be read. */
+static int look_into(const char *folder) {
+    DIR *opened = opendir(folder);
+    if (!opened) {
+        log_line("%s: %s", folder, strerror(errno));
+        return 0;
+    }
+    for (struct dirent *entry; (entry = readdir(opened));) {
+        size_t length = strlen(entry->d_name);
+        if (entry->d_name[0] == '.' || length < 6 || strcmp(entry->d_name + length - 5, ".zone")) continue;
+        char path[4096];
+        snprintf(path, sizeof path, "%s/%s", folder, entry->d_name);
+        entry->d_name[length - 5] = 0;
+        char *origin = lower(entry->d_name);
+        struct zone *zone = origin ? find(origin) : NULL;
+        if (zone) zone->is_there = 1;
+        else if (origin) put(origin, path, 1);
+        free(origin);
+    }
+    closedir(opened);
+    return 1;
+}
+
+size_t zones_renew(int all) {
+    nk_zones fresh = NK_ZONES_NONE, old;
+    pthread_mutex_lock(&lock);
+    uint32_t code = nk_zones_copy(&loaded, &fresh);
+    pthread_mutex_unlock(&lock);
+    size_t changes = 0, faults = 0, kept = 0;
+    int can_see = 1;
+    for (size_t i = 0; i < zone_count; i++) zones[i]->is_there = !zones[i]->is_of_folder;
+    for (size_t i = 0; i < config->folder_count; i++) can_see &= look_into(config->folders[i]);
+    for (size_t i = 0; i < zone_count && code == NK_DONE; i++) {
+        struct zone *zone = zones[i];
+        struct stat now = {0};
+        int is_gone = !zone->is_there && can_see;
+        uint32_t dropped = is_gone && zone->is_served ? nk_zones_drop(&fresh, (uint8_t *)zone->origin, strlen(zone->origin)) : (uint32_t)NK_NO_ZONE;
+        if (is_gone && dropped != NK_NO_MEMORY) {
+            log_line("%s isn't served any more", zone->origin);
+            changes += dropped == NK_DONE;
+            free_zone(zone);
+            continue;
+        }
+        zones[kept++] = zone;
+        int is_seen = !stat(zone->path, &now);
+        if (all || !is_seen || is_changed(&zone->read, &now)) {
+            zone->read = now;
+            changes += load(&fresh, zone);
+        }
+        faults += zone->fault != NULL;
+    }
+    if (code != NK_DONE) {
+        log_line("zones can't be read: out of memory");
+        return zone_count;
+    }
+    zone_count = kept;
+    if (changes) {
+        pthread_mutex_lock(&lock);
+        old = loaded;
+        loaded = fresh;
+        fresh = old;
+        atomic_store(&behind, atomic_load(&holders));
+        atomic_fetch_add(&renewed, 1);
+        pthread_mutex_unlock(&lock);
+        /* The last to let go of a large zone takes a while to free it: rather this thread than a worker. */
+        for (int i = 0; i < TRIES && atomic_load(&behind) > 0; i++) nanosleep(&(struct timespec){0, 10000000}, NULL);
+    }
+    nk_zones_free(&fresh);
+    return faults;
+}
+
+int zones_begin(const struct config *given) {
+    config = given;
+    if (nk_interface() != NK_INTERFACE || nk_zones_new(&loaded) != NK_DONE) {
+        log_line("no memory, or a library of another interface than %d", NK_INTERFACE);
+        return -1;
+    }
+    for (size_t i = 0; i < config->zone_count; i++) {
+        const char *why = zones_add(config->zones[i].origin, config->zones[i].path);
+        if (!why) continue;
+        log_line("%s: %s", config->zones[i].origin, why);
+        return -1;
+    }
+    return 0;
+}
+
+const char *zones_add(const char *origin, const char *path) {
+    char *name = lower(origin);
+    const char *why = !name ? "out of memory" : find(name) ? "there is a zone of this origin" : NULL;
+    if (!why && !put(name, path, 0)) why = "out of memory";
+    free(name);
+    return why;
+}
+
+const char *zones_drop(const char *origin) {
+    char *name = lower(origin);
+    struct zone *zone = name ? find(name) : NULL;
+    free(name);
+    if (!zone) return "there is no zone of this origin";
+    if (zone->is_of_folder) return "its file is in a folder of zones: take the file away";
+    zone->is_of_folder = 1;   /* as one that has left its folder */
+    zones_renew(0);
+    return NULL;
+}
+
+size_t zones_print(char *text, size_t size) {
+    size_t length = 0;
+    for (size_t i = 0; i < zone_count; i++) {
+        struct zone *zone = zones[i];
+        char serial[16] = "-";
+        if (zone->is_served) snprintf(serial, sizeof serial, "%u", zone->serial);
+        int more = snprintf(text + length, size - length, "%s %s %s%s%s\n", zone->origin, serial, zone->path, zone->fault ? " FAULT " : "", zone->fault ? zone->fault : "");
+        if (more < 0 || (size_t)more >= size - length) break;
+        length += more;
+    }
+    text[length] = 0;
+    return length;
+}
+
+size_t zones_count(void) { return zone_count; }
+
+void zones_folders(void (*take)(const char *path)) {
+    for (size_t i = 0; i < config->folder_count; i++) take(config->folders[i]);
+    for (size_t i = 0; i < zone_count; i++) {
+        char folder[4096];
+        char *slash = strrchr(zones[i]->path, '/');
+        if (zones[i]->is_of_folder) continue;
+        snprintf(folder, sizeof folder, "%.*s", slash ? (int)(slash - zones[i]->path) + (slash == zones[i]->path) : 1, slash ? zones[i]->path : ".");
+        take(folder);
+    }
+}
+
+void zones_take(nk_zones *own, unsigned long *seen) {
+    nk_zones fresh = NK_ZONES_NONE, old = *own;
+    if (atomic_load(&renewed) == *seen) return;
+    pthread_mutex_lock(&lock);
+    unsigned long now = atomic_load(&renewed);
+    uint32_t code = nk_zones_copy(&loaded, &fresh);
+    if (code == NK_DONE && *seen == -1ul) atomic_fetch_add(&holders, 1);
+    pthread_mutex_unlock(&lock);
+    if (code != NK_DONE) return;
+    *own = fresh;
+    nk_zones_free(&old);
+    if (*seen != -1ul) atomic_fetch_sub(&behind, 1);
+    *seen = now;
+}
+
+void zones_free(void) {
+    for (size_t i = 0; i < zone_count; i++) free_zone(zones[i]);
+    free(zones);
+    zones = NULL;
+    zone_count = 0;
+    nk_zones_free(&loaded);
+}

@@ -1,0 +1,394 @@
+#!/usr/bin/env python3
+"""tools/compare/daemon_test.py [FOLDER]: tries the server `server/` as an operator and as an attacker would: its configuration's faults, both
+transports and families, the address that answers, reloads while clients ask, zones that come and go, limits for clients, clients that don't
+read or say nothing, floods of datagrams and connections, and many zones; once as it is built and once under the sanitizers of the compiler.
+FOLDER is what `./build ningkraet` made; where none is named it is what `tools/build/program path ningkraet` gives. No part of the gate: it
+needs cc, and opens sockets on loopback. It ends what it starts."""
+import contextlib
+import ctypes
+import json
+import os
+import random
+import re
+import resource
+import signal
+import socket
+import struct
+import subprocess
+import sys
+import tempfile
+import threading
+import time
+
+sys.dont_write_bytecode = True
+sys.path.append(os.path.dirname(os.path.dirname(os.path.realpath(__file__))))
+
+import frames
+import peers
+
+# Flags of the compiler, and how many seconds stand between two datagrams of a flood: what overflows the kernel's buffers tries nothing here.
+SANITIZERS = {"plain": (["-O2"], 0), "sanitized": (["-O1", "-fsanitize=address,undefined", "-fno-sanitize-recover=all"], 0.0003),
+              "threads": (["-O1", "-fsanitize=thread"], 0.001)}
+# (what was freed isn't kept for long, so that memory that grows is seen)
+os.environ["ASAN_OPTIONS"] = "quarantine_size_mb=4"
+ZONE = "$ORIGIN {origin}\n$TTL 60\n@ SOA ns host {serial} 2 3 4 5\n@ NS ns\nns A 192.0.2.53\nwww A 192.0.2.{last}\n* TXT any\nsub NS ns.sub\nns.sub A 192.0.2.54\n"
+# Seconds that an answer may take.
+PATIENCE = 5
+# How many descriptors a server has that has few; and two numbers of prctl(2) and capabilities(7).
+DESCRIPTORS, PR_CAPBSET_DROP, CAP_SYS_RESOURCE = 60, 24, 24
+FAULTS = {
+    "listen 127.0.0.1 0\n": ":1: '0' isn't a number from 1 to 65535",
+    "listen localhost\n": ":1: 'localhost' isn't an IPv4 or IPv6 address",
+    "# one\nzone example.com\n": ":2: zone needs a value more",
+    "workers 1 2\n": ":1: workers has a value too many",
+    "color red\n": ":1: 'color' isn't a directive",
+    'zones "/tmp\n': ":1: a quote isn't closed",
+    "watch maybe\n": ":1: 'maybe' is neither on nor off",
+    "listen 127.0.0.1 5300\n": ":1: there is neither a zone nor a folder of zones",
+    "zone a b c d e\n": ":1: zone has too many values",
+}
+
+
+def need(holds, what):
+    if not holds:
+        raise AssertionError(what)
+
+
+class Server:
+    """A running server in a folder of its own."""
+
+    def __init__(self, room, *lines, zones=("example.com",), workers=2, before=None):
+        self.folder, self.before = tempfile.mkdtemp(dir=room), before
+        self.room, self.port = room, peers.free_port()
+        os.mkdir(f"{self.folder}/zones")
+        for origin in zones:
+            self.write(origin)
+        with open(f"{self.folder}/conf", "w", encoding="ascii") as it:
+            it.write(f"listen 127.0.0.1 {self.port}\nlisten ::1 {self.port}\nzones {self.folder}/zones\nworkers {workers}\ncontrol {self.folder}/control\n")
+            it.write("".join(f"{line}\n" for line in lines).format(folder=self.folder, port=self.port))
+
+    def write(self, origin, serial=1, last=80, more=""):
+        with open(f"{self.folder}/new", "w", encoding="ascii") as it:
+            it.write(ZONE.format(origin="." if origin == "." else f"{origin}.", serial=serial, last=last) + more)
+        os.rename(f"{self.folder}/new", f"{self.folder}/zones/{origin}.zone")
+
+    def __enter__(self):
+        self.log = open(f"{self.folder}/log", "w+", encoding="utf-8")
+        self.process = subprocess.Popen([f"{self.room}/ningkraetd", "-c", f"{self.folder}/conf"], stderr=self.log, preexec_fn=self.before)
+        ends = time.monotonic() + 60
+        while "serving " not in self.text() and time.monotonic() < ends:
+            need(self.process.poll() is None, f"it ended: {self.text()}")
+            time.sleep(0.02)
+        return self
+
+    def text(self):
+        with open(f"{self.folder}/log", encoding="utf-8") as it:
+            return it.read()
+
+    def __exit__(self, kind, *_):
+        if self.process.poll() is None:
+            self.process.send_signal(signal.SIGTERM)
+        status = self.process.wait(20)
+        self.log.close()
+        need(kind or status == 0, f"it ended with {status}: {self.text()[-3000:]}")
+
+    def control(self, *words):
+        done = subprocess.run([f"{self.room}/ningkraetctl", "-s", f"{self.folder}/control", *words], capture_output=True, text=True)
+        return done.returncode, done.stdout + done.stderr
+
+    def counter(self, words):
+        return sum(int(it.split()[0]) for it in self.control("status")[1].splitlines() if it.endswith(words))
+
+    def resident(self):
+        with open(f"/proc/{self.process.pid}/status", encoding="ascii") as it:
+            return int(re.search(r"VmRSS:\s+(\d+)", it.read())[1])
+
+    def seconds(self):
+        """Seconds of a processor that it has had."""
+        with open(f"/proc/{self.process.pid}/stat", encoding="ascii") as it:
+            words = it.read().rpartition(")")[2].split()
+        return (int(words[11]) + int(words[12])) / os.sysconf("SC_CLK_TCK")
+
+    def udp(self, host="127.0.0.1", to=None):
+        it = socket.socket(socket.AF_INET6 if ":" in host else socket.AF_INET, socket.SOCK_DGRAM)
+        it.settimeout(PATIENCE)
+        it.connect((to or host, self.port))
+        return it
+
+    def tcp(self, host="127.0.0.1"):
+        it = socket.create_connection((host, self.port), PATIENCE)
+        return it
+
+
+def ask(stream, *words):
+    """The lines of what is answered to a query."""
+    message = frames.query([*words, "id=7"])
+    if stream.type == socket.SOCK_STREAM:
+        return list(frames.message_lines(peers.asked(stream, message)))
+    stream.send(message)
+    return list(frames.message_lines(stream.recv(65535)))
+
+
+def address(stream, name="www.example.com.", tries=1):
+    """The address of a name; a datagram may be lost in a flood, and is sent again then."""
+    try:
+        return [it.split()[-1] for it in ask(stream, name, "A") if " IN A " in it][:1]
+    except TimeoutError:
+        return address(stream, name, tries - 1) if tries > 1 else []
+
+
+def faults_are_told(room):
+    for text, told in FAULTS.items():
+        with open(f"{room}/bad", "w", encoding="ascii") as it:
+            it.write(text)
+        done = subprocess.run([f"{room}/ningkraetd", "-t", "-c", f"{room}/bad"], capture_output=True, text=True)
+        need(done.returncode == 2 and done.stderr == f"{room}/bad{told}\n", f"{text!r}: {done.stderr!r}")
+    with Server(room) as server:
+        words = [f"{room}/ningkraetd", "-t", "-c", f"{server.folder}/conf"]
+        need(subprocess.run(words, capture_output=True).returncode == 0, "a right configuration")
+        server.write("example.com", more="@ garbage\n")
+        done = subprocess.run(words, capture_output=True, text=True)
+        need(done.returncode == 1 and "example.com:10:3:" in done.stderr, done.stderr)
+
+
+def both_ways_are_answered(room):
+    with Server(room, "listen 0.0.0.0 {other}".replace("{other}", str(peers.free_port()))) as server:
+        for host in ("127.0.0.1", "::1"):
+            for stream in (server.udp(host), server.tcp(host)):
+                with stream:
+                    need(address(stream) == ["192.0.2.80"], f"{host}: {stream.type}")
+        with server.udp() as stream:
+            need("NXDOMAIN" in ask(stream, "a.b.www.example.com.", "A")[0], "a name error")
+            need("REFUSED" in ask(stream, "example.org.", "A")[0], "a name of no zone")
+            need(any("ns.sub" in it for it in ask(stream, "x.sub.example.com.", "A")), "a referral")
+        need(server.counter("queries by UDP") == 5 and server.counter("queries by TCP") == 2, server.control("status")[1])
+
+
+def the_address_that_was_asked_answers(room):
+    port = peers.free_port()
+    with Server(room, f"listen 0.0.0.0 {port}") as server, socket.socket(socket.AF_INET, socket.SOCK_DGRAM) as it:
+        it.settimeout(PATIENCE)
+        it.sendto(frames.query(["www.example.com.", "A"]), ("127.0.0.7", port))
+        need(it.recvfrom(4096)[1] == ("127.0.0.7", port), "another address answered")
+
+
+def reloads_lose_nothing(room):
+    wrong, over = [], threading.Event()
+
+    def client(server, number):
+        with (server.udp() if number % 2 else server.tcp()) as stream:
+            while not over.is_set():
+                try:
+                    if len(address(stream)) != 1:
+                        wrong.append("no answer")
+                except OSError as error:
+                    wrong.append(error)
+
+    with Server(room) as server:
+        clients = [threading.Thread(target=client, args=(server, it)) for it in range(4)]
+        for it in clients:
+            it.start()
+        for serial in range(2, 26):
+            server.write("example.com", serial, last=serial)
+            if serial % 3 == 0:
+                server.process.send_signal(signal.SIGHUP)
+            elif serial % 3 == 1:
+                need(server.control("reload")[0] == 0, "a reload by command")
+            ends, stands = time.monotonic() + PATIENCE, []
+            while stands != [f"192.0.2.{serial}"] and time.monotonic() < ends:
+                time.sleep(0.02)
+                with server.udp() as stream:
+                    stands = address(stream)
+            need(stands == [f"192.0.2.{serial}"], f"serial {serial} isn't served: {stands}")
+        over.set()
+        for it in clients:
+            it.join()
+    need(not wrong, f"{len(wrong)} answers were wrong or lost: {wrong[:3]}")
+
+
+def zones_come_and_go(room):
+    with Server(room) as server:
+        server.write("example.org")
+        need(server.control("reload")[0] == 0, "a zone more")
+        with server.udp() as stream:
+            need("NOERROR" in ask(stream, "www.example.org.", "A")[0], "a zone that came isn't served")
+            server.write("example.org", more="@ garbage\n")
+            need(server.control("reload")[0] == 1, "a bad file has to be told")
+            need("NOERROR" in ask(stream, "www.example.org.", "A")[0], "a zone whose file is bad isn't served any more")
+            need("FAULT example.org:10:3" in server.control("zones")[1], server.control("zones")[1])
+            os.remove(f"{server.folder}/zones/example.org.zone")
+            need(server.control("reload")[0] == 0 and "REFUSED" in ask(stream, "www.example.org.", "A")[0], "a zone that went is served")
+            with open(f"{server.folder}/other", "w", encoding="ascii") as it:
+                it.write(ZONE.format(origin="example.net.", serial=9, last=9))
+            need(server.control("add", "Example.NET.", f"{server.folder}/other") == (0, ""), "a zone by command")
+            need("NOERROR" in ask(stream, "www.example.net.", "A")[0] and "example.net 9 " in server.control("zones")[1], "it isn't served")
+            need(server.control("add", "example.net", "x")[0] == 1 and server.control("drop", "example.com")[0] == 1, "what can't be done")
+            need(server.control("drop", "example.net")[0] == 0 and "REFUSED" in ask(stream, "www.example.net.", "A")[0], "it is served still")
+        need(server.control("sing")[0] == 1, "a command that isn't one")
+        need('ningkraetd_responses_total{kind="refused"} 2' in server.control("metrics")[1], server.control("metrics")[1])
+
+
+def clients_have_limits(room):
+    with Server(room, "tcp-connections 40", "tcp-client-connections 30", "tcp-idle 2", workers=1) as server:
+        streams = [server.tcp() for _ in range(35)]
+        served = 0
+        for it in streams:
+            with contextlib.suppress(OSError, struct.error):
+                served += address(it) == ["192.0.2.80"]
+        need(served == 30, f"{served} of 30 connections were served")
+        time.sleep(0.2)
+        need(server.counter("the client has too many") == 5, server.control("status")[1])
+        for _ in range(7):
+            with contextlib.suppress(OSError):
+                streams[0].send(bytes(2))   # (a message of no octets doesn't count)
+            time.sleep(0.5)
+        need(server.counter("for being idle") == 30, server.control("status")[1])
+        others = [server.tcp("::1") for _ in range(25)] + [server.tcp() for _ in range(25)]
+        time.sleep(0.3)
+        with server.tcp() as late:
+            need(address(late) == ["192.0.2.80"], "a late client")
+        need(server.counter("closed for newer ones") >= 10, server.control("status")[1])
+        for it in streams + others:
+            it.close()
+
+
+def few_descriptors():
+    """Has a process that is to start have few descriptors, and no right to more (CAP_SYS_RESOURCE)."""
+    ctypes.CDLL(None).prctl(PR_CAPBSET_DROP, CAP_SYS_RESOURCE, 0, 0, 0)
+    resource.setrlimit(resource.RLIMIT_NOFILE, (DESCRIPTORS, DESCRIPTORS))
+
+
+def descriptors_run_out(room):
+    with Server(room, workers=2, before=few_descriptors) as server:
+        need(f"no more than {DESCRIPTORS} descriptors" in server.text(), server.text())
+        streams = [server.tcp() for _ in range(2 * DESCRIPTORS)]
+        time.sleep(0.5)
+        before = server.seconds()
+        time.sleep(1)
+        need(server.seconds() < before + 0.5, "it doesn't wait")
+        with server.udp() as stream:
+            need(address(stream) == ["192.0.2.80"], "a client by UDP")
+        for it in streams:
+            it.close()
+        time.sleep(0.2)
+        with server.tcp() as late:
+            need(address(late) == ["192.0.2.80"], "a late client by TCP")
+
+
+def responses_have_a_rate(room):
+    with Server(room, "rate-limit 20", "rate-slip 2") as server, server.udp() as stream:
+        while time.time() % 1 > 0.1:
+            time.sleep(0.01)
+        stream.settimeout(0.3)
+        for number in range(100):
+            stream.send(frames.query([f"n{number}.sub.www.example.com.", "A"]))
+        answers = cut = 0
+        with contextlib.suppress(TimeoutError):
+            while True:
+                message = stream.recv(4096)
+                answers, cut = answers + (not message[2] & 2), cut + (message[2] >> 1 & 1)
+        need(20 <= answers <= 42 and 20 <= cut <= 42, f"{answers} answers and {cut} cut ones")
+        with server.tcp() as by_tcp:
+            need(address(by_tcp) == ["192.0.2.80"], "by TCP nothing is limited")
+
+
+def floods_are_survived(room, pause):
+    """Datagrams that no client sends, connections that are dropped, and some that don't read; an honest client beside them."""
+    with Server(room, "tcp-connections 200", "tcp-client-connections 150") as server:
+        over, slowest, counted = threading.Event(), [0.0], [0]
+
+        def flood():
+            source = random.Random(1)
+            with server.udp() as stream:
+                right = frames.query(["www.example.com.", "A", "edns=1232", "do"])
+                while not over.is_set():
+                    octets = bytearray(right)
+                    for _ in range(source.randrange(6)):
+                        octets[source.randrange(len(octets))] = source.randrange(256)
+                    with contextlib.suppress(OSError):
+                        stream.send(octets[: source.randrange(len(octets) + 1)] if source.random() < 0.2 else octets)
+                    counted[0] += 1
+                    if pause:
+                        time.sleep(pause)
+
+        def rude():
+            query = peers.framed(frames.query(["www.example.com.", "A"]))
+            while not over.is_set():
+                with contextlib.suppress(OSError):
+                    with server.tcp("::1") as stream:
+                        stream.setblocking(False)
+                        stream.send(query * 200 if random.random() < 0.5 else query[:5])
+                        time.sleep(0.001)
+
+        def greedy():
+            query = peers.framed(frames.query(["www.example.com.", "A"]))
+            with contextlib.suppress(OSError), server.tcp("::1") as stream:
+                stream.settimeout(0.2)
+                while not over.is_set():
+                    with contextlib.suppress(TimeoutError):
+                        stream.send(query * 1000)
+
+        threads = [threading.Thread(target=it) for it in [flood, flood, rude, rude, greedy, greedy]]
+        for it in threads:
+            it.start()
+        began, before = time.monotonic(), None
+        while time.monotonic() - began < 8:
+            moment = time.monotonic()
+            with server.udp() as stream:
+                stream.settimeout(1)
+                need(address(stream, tries=PATIENCE) == ["192.0.2.80"], "an honest client by UDP")
+            with server.tcp() as stream:
+                need(address(stream) == ["192.0.2.80"], "an honest client by TCP")
+            slowest[0] = max(slowest[0], time.monotonic() - moment)
+            if time.monotonic() - began > 2 and before is None:
+                before = server.resident()
+            time.sleep(0.02)
+        over.set()
+        for it in threads:
+            it.join()
+        after = server.resident()
+        print(f"  {counted[0]} datagrams, the slowest honest answers in {1000 * slowest[0]:.0f} ms, resident {before} and then {after} kB")
+        need(after < before + 20_000, "memory grows")
+
+
+def many_zones_start_soon(room):
+    zones = [f"z{number}.example" for number in range(10_000)]
+    server = Server(room, zones=zones)
+    began = time.monotonic()
+    with server:
+        print(f"  10,000 zones are served after {time.monotonic() - began:.1f} s, {server.resident()} kB")
+        with server.udp() as stream:
+            need(address(stream, "www.z7777.example.") == ["192.0.2.80"], "the last of many zones")
+
+
+def queries_are_logged(room):
+    with Server(room, "query-log {folder}/queries 1") as server, server.udp() as stream:
+        ask(stream, "w\\034\\092.example.com.", "TXT")
+        time.sleep(0.1)
+        with open(f"{server.folder}/queries", encoding="ascii") as it:
+            line = json.loads(it.read())
+        need(line["name"] == "w\\034\\092.example.com." and line["type"] == 16 and line["kind"] == "answer" and line["client"] == "127.0.0.1", line)
+
+
+TESTS = [faults_are_told, both_ways_are_answered, the_address_that_was_asked_answers, reloads_lose_nothing, zones_come_and_go, clients_have_limits,
+         descriptors_run_out, responses_have_a_rate, queries_are_logged, floods_are_survived, many_zones_start_soon]
+
+
+def main(folder=None):
+    folder, failed = folder or peers.program("ningkraet"), 0
+    for way, (flags, pause) in SANITIZERS.items():
+        with tempfile.TemporaryDirectory(prefix="daemon-") as room:
+            peers.ningkraetd(folder, room, *flags)
+            for test in TESTS:
+                try:
+                    test(room, *([pause] if test is floods_are_survived else []))
+                    print(f"{way}: {test.__name__}: ok", flush=True)
+                except (AssertionError, OSError) as wrong:
+                    failed += 1
+                    print(f"{way}: {test.__name__}: FAILED: {wrong}", flush=True)
+    print(f"{len(SANITIZERS) * len(TESTS) - failed} passed, {failed} failed")
+    return 1 if failed else 0
+
+
+if __name__ == "__main__":
+    peers.called(main, __doc__, most=1)
