@@ -1,10 +1,13 @@
-"""Runs other commands so that none of them outlives this one, and lets this one end by a signal as it would have without them."""
+"""Runs other commands such that none of them outlives this one, and lets a signal end this one as it would have without them."""
 
 import contextlib
 import os
 import signal
 import subprocess
 import sys
+
+# The signals that ask a command to end.
+STOPS = (signal.SIGHUP, signal.SIGINT, signal.SIGTERM)
 
 
 class Stopped(BaseException):
@@ -17,7 +20,7 @@ def stop(number, _):
 
 def ending_well(main, *words):
     """The status of main, which takes words; where a signal asks to end, this ends by that signal once main has put all away."""
-    for number in (signal.SIGHUP, signal.SIGINT, signal.SIGTERM):
+    for number in STOPS:
         signal.signal(number, stop)
     try:
         return main(*words)
@@ -31,8 +34,16 @@ def ending_well(main, *words):
 @contextlib.contextmanager
 def begun(words, **how):
     """A command that was begun, in a group of its own, which has ended when this ends."""
-    ran = subprocess.Popen(words, stdin=subprocess.DEVNULL, start_new_session=True, **how)
+    # A signal that came while the command runs but isn't known here yet would leave it running, so signals wait that long.
+    before = signal.pthread_sigmask(signal.SIG_BLOCK, STOPS)
+    let_through = lambda: signal.pthread_sigmask(signal.SIG_SETMASK, before)
     try:
+        ran = subprocess.Popen(words, stdin=subprocess.DEVNULL, start_new_session=True, preexec_fn=let_through, **how)
+    except BaseException:
+        let_through()
+        raise
+    try:
+        let_through()
         yield ran
     finally:
         if ran.poll() is None:
