@@ -1,12 +1,12 @@
-"""hostile.py PROGRAM: times a program in zones that were made to be slow, each beside a plain zone of the same size.
+"""hostile.py PROGRAM: times a program with zones that were made to be slow, each beside a plain zone of the same size.
 
-Each zone is made twice, the second time with four times as many names, types or records. Times are taken as measure.py says.
+Each zone is made twice, the second time with four times as many names, types or records. Times are measured as measure.py says.
 A record that is added is dropped with its set at once, and the figure is the mean of the two commands.
 
-Before it is timed, the program has to give the right answers in a small zone of each kind.
+Before it is timed, the program has to give the right answers for a small zone of each kind.
 
-Behind the zones come queries: the dearest ones that are known for zoned, where ZONED names it, each beside a plain one of its kind, in
-microseconds of a processor. tools/compare/dear_queries.py has them.
+After the zones come queries: the most expensive ones that are known for zoned, if ZONED names it, each beside a plain one of its kind, in
+microseconds of processor time. They are in tools/compare/dear_queries.py.
 """
 
 import os

@@ -1,4 +1,4 @@
-"""Zones that were made to be slow, and plain ones beside them: what fills each, and what is asked of it."""
+"""Zones that were made to be slow, with plain ones beside them: what fills each, and what is asked about it."""
 
 import bisect
 from typing import NamedTuple

@@ -1,19 +1,17 @@
 """measure.py PROGRAM [OTHER_PROGRAM..]: times programs of the command language from outside.
 
-A program reads its commands from a pipe. After the commands of a phase comes padding: comment lines, more of them
-than the pipe and a reader's buffer hold. Once the pipe has taken the padding, the program has carried out all
-commands of the phase. What the padding costs by itself is measured before each time, and taken off.
+A program reads its commands from a pipe. After the commands of a phase comes padding: comment lines, more of them than the pipe and a
+reader's buffer hold. Once the pipe has accepted the padding, the program has carried out all commands of the phase. The cost of the
+padding itself is measured before each time, and subtracted.
 
-Each figure is taken over at least a fifth of a second. A zone is loaded by so many new processes; of queries so many
-are asked, the same ones again where there are too few; and changes are made in so many rounds, each of which leaves
-the zone as it was.
+Each figure is measured over at least a fifth of a second. A zone is loaded by as many new processes as that takes; as many queries are
+asked, the same ones again if there are too few; and changes are made in as many rounds, each of which leaves the zone as it was.
 
-Before a program is timed, it has to answer all phases in a small zone. Where it doesn't give the right answers, its
-figure is left out.
+Before a program is timed, it has to answer all phases for a small zone. If it doesn't give the right answers, its figure is left out.
 
-A zone that takes long to secure by NSEC or NSEC3 is made in the first run alone. hickory-server goes over all cuts for each
-set: with a fifth of the names cuts it takes a minute or more for 100,000 names by NSEC, and would take hours for a million.
-So other programs secure no zone of more than 100,000 names by these, or of more than DENIED names.
+A zone that takes long to secure with NSEC or NSEC3 is made only in the first run. hickory-server goes over all zone cuts for each RRset:
+with a fifth of the names zone cuts it takes a minute or more for 100,000 names with NSEC, and would take hours for a million. So other
+programs secure no zone of more than 100,000 names with these, or of more than DENIED names.
 """
 
 import itertools

@@ -1,4 +1,4 @@
-"""The zones of the benchmark, and the commands of each phase with what they are to be answered."""
+"""The zones of the benchmark, and the commands of each phase with the expected answers."""
 
 import bisect
 import os

@@ -1,11 +1,11 @@
 #!/usr/bin/env python3
 """Frames of messages as text, and text as frames: what the program zoned reads and writes (RFC 1035 section 4.2.2).
 
-  tools/frames.py make [--limits] < TEXT  writes the frames of queries, a line each: `NAME TYPE` and words for what else a query has
+  tools/frames.py make [--limits] < TEXT  writes the frames of queries, one per line: `NAME TYPE` and words for what else a query has
                                           (id=, opcode=, class=, rd, ad, cd, edns= and the size, version=, do, serial= of an SOA in
                                           the authority section), or `hex` and its octets; with --limits the limit of the answer
-                                          stands before. `# ` begins a comment. An octet of a label may stand as \\DDD
-  tools/frames.py print < FRAMES          prints the messages of frames in the words of dig, one space for each tab
+                                          comes first. `# ` begins a comment. An octet of a label may be written as \\DDD
+  tools/frames.py print < FRAMES          prints the messages of frames in the words of dig, with one space for each tab
 """
 import ipaddress
 import re

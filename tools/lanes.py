@@ -1,4 +1,4 @@
-"""How many checks rt ci is to run at once."""
+"""How many checks rt ci should run at once."""
 
 import os
 import re

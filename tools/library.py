@@ -1,5 +1,5 @@
-"""The folder of a static library as C programs use it: archive, heap object, header and pkg-config file, and where cc is there a shared
-object beside them. It has all that a program needs to be linked; no part of the toolchain does so then."""
+"""The directory of a static library as C programs use it: archive, heap object, header and pkg-config file, and a shared object if cc is
+available. It has everything needed to link a program, without any part of the toolchain."""
 
 import os
 import re
@@ -26,8 +26,8 @@ Libs: -L${{libdir}} -l{name} -l{name}_heap
 """
 
 # What the header of a library that was compiled without its proofs begins with.
-UNPROVED = """/* NOT PROVED: this library was compiled from its sources without their proofs, so what is said below of proofs doesn't hold
- * for it. `./build {name}` proves and builds the other one. */
+UNPROVED = """/* NOT PROVED: this library was compiled from its sources without their proofs, so what is said below about proofs doesn't
+ * apply to it. `./build {name}` proves and builds the other one. */
 """
 
 

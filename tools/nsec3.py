@@ -1,4 +1,4 @@
-"""The digests of names by which NSEC3 records stand (RFC 5155 section 5). A name is text as in frames.py."""
+"""The digests of names that are the owners of NSEC3 records (RFC 5155 section 5). A name is text as in frames.py."""
 
 import hashlib
 

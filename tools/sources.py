@@ -1,5 +1,5 @@
-"""What stands in the sources of the crates, for the checks of the documents: the functions with their clauses, the types and
-traits, the definitions, and the files. Sources are in the layout of `rt fmt`, so that a line tells what it begins."""
+"""The contents of the sources of the crates, for the checks of the documents: the functions with their clauses, the types and
+traits, the definitions, and the files. Sources are formatted by `rt fmt`, so a line shows what it begins."""
 
 import os
 import re

@@ -1,4 +1,4 @@
-"""Builds the archive of a static library over what rt ci has just proved in a checkout."""
+"""Builds the archive of a static library from what rt ci has just proved in a checkout."""
 
 import os
 import shutil

@@ -1,8 +1,9 @@
-"""Where the programs are that were made of the sources as they are now.
+"""Where the programs are that were made from the sources as they are now.
 
-A program is kept in the folder out/ at the top, or where nothing can be written there in the user's own cache folder. Its name
-there ends with a checksum of what it was made of: so one that is found is of these sources, whatever the times of files say, and
-it is put there whole, or not at all."""
+A program is kept in the directory out/ at the top, or, if that isn't writable, in the user's cache directory. Its name there ends with a
+checksum of what it was made from: so one that is found belongs to these sources, whatever the times of files say; and it is put there
+whole, or not at all.
+"""
 
 import contextlib
 import fcntl

@@ -1,21 +1,22 @@
 #!/usr/bin/env python3
-"""Has zone_check and dnssec-verify look at zones that dnssec-signzone, ldns-signzone and kzonesign sign: random ones with delegations,
-signed and not, glue and text at cuts and below, wildcards, empty names between, DNAME with names below and without, names with octets
-that are no letters and of either case, one or several chains, and root zones. A zone has to be found closed, without a warning, exactly
-where dnssec-verify passes it. Each is then spoiled in one place, which both have to see. It is no part of the gate.
+"""Has zone_check and dnssec-verify check zones that dnssec-signzone, ldns-signzone and kzonesign sign: random ones with delegations,
+signed and not, glue and text at zone cuts and below, wildcards, empty non-terminals, DNAME with and without names below, names with
+octets that aren't letters and in either case, one or several chains, and root zones. zone_check has to report a closed chain, without a
+warning, exactly if dnssec-verify accepts the zone. Each zone is then spoiled in one place, which both have to notice. Not part of the
+gate.
 
   tools/compare/closed_zones.py [SEED [COUNT [FOLDER]]]
 
-Makes 300 zones, or so many. Prints what each signer's zones of each kind came to, and each that the two differ on, with what is told of
-it; with a folder, its file is kept there. The status is 1 where they differ. The tools are Debian's packages bind9-utils, ldnsutils and
-knot-dnssecutils; a signer that isn't there is left out, and a line says so.
+Makes 300 zones, or COUNT. Prints the result for the zones of each signer and kind, and each zone on which the two disagree, with what
+they say about it; with FOLDER, its file is kept there. The status is 1 if they disagree. The tools are Debian's packages bind9-utils,
+ldnsutils and knot-dnssecutils; a signer that isn't installed is left out, and a line says so.
 
-dnssec-verify looks at the signatures too, which zone_check doesn't, so those of a zone that isn't spoiled are right. It takes an NSEC record
-for a type that the lists of NSEC3 records have to name, though a chain of either kind may stand while it is made or taken down (RFC 5155
-sections 10.4 and 10.5). So where both stand it is asked of the zone without NSEC records. And it refuses names below a DNAME in a chain,
-which kzonesign puts there. They may be there or not, as nothing is found below a DNAME (RFC 6672 section 2.4); so these zones are held to
-be right as kzonesign writes them. Where names have an octet 0 kzonesign now and then writes a chain in another order than that of RFC
-4034 section 6.1, which both have to refuse.
+dnssec-verify checks the signatures too, which zone_check doesn't, so those of a zone that isn't spoiled are valid. It considers an NSEC
+record a type that the lists of NSEC3 records have to name, although a chain of either kind may exist while it is being made or removed
+(RFC 5155 sections 10.4 and 10.5). So if both exist, it is given the zone without NSEC records. And it rejects names below a DNAME in a
+chain, which kzonesign puts there. They may be there or not, since nothing is found below a DNAME (RFC 6672 section 2.4); so these zones
+are taken to be right as kzonesign writes them. If names have an octet 0, kzonesign now and then writes a chain in an order other than
+that of RFC 4034 section 6.1, which both have to reject.
 """
 import collections
 import os
@@ -164,15 +165,18 @@ def look_at(sums, number, way, checker):
         except subprocess.CalledProcessError as error:
             sums.not_signed.append(f"zone {number}, {way}: {' '.join((error.stderr or '').split()[-20:])}")
             return
-        is_right = way.signer == "kzonesign" and has_names_below_dnames(records) or verifies(origin, path, lines, way)
+        is_right = way.signer == "kzonesign" and has_names_below_dnames(lines) or verifies(origin, path, lines, way)
         sums.add(f"{number}, {origin}", way, path, is_right, *told(checker, origin, path))
         lines, what = spoiled(lines, way)
         signed_zones.keep(path, lines)
         sums.add(f"{number}, {origin}", way, path, verifies(origin, path, lines, way), *told(checker, origin, path), what)
 
 
-def has_names_below_dnames(records):
-    return any(random_zones.is_below(name, owner) for owner in random_zones.dnames(records) for name, _, _ in records)
+def has_names_below_dnames(lines):
+    """Whether the zone as it was signed has these: kzonesign writes some names with an octet 0 as others."""
+    owners = {it.split()[0].lower() for it in lines}
+    dnames = {it.split()[0].lower() for it in lines if signed_zones.type_of(it)[0] == "DNAME"}
+    return any(random_zones.is_below(name, owner) for owner in dnames for name in owners)
 
 
 def main(seed="1", count="300", folder=None):

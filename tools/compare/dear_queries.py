@@ -1,18 +1,36 @@
-"""The dearest queries for zoned that are known, each beside a plain one of its kind: what hostile_messages.py hands over one by one, and
-`bench/run hostile` times.
+#!/usr/bin/env python3
+"""The most expensive queries for zoned that are known, each beside a plain one of its kind: hostile_messages.py sends them one by one, and
+`bench/run hostile` has their table. They are measured in instructions if valgrind is installed, and otherwise in microseconds of a
+processor, which other work of the machine makes longer.
 
-They are for names of 110 labels and more, of 255 octets, and with an octet 0 in each label: names that aren't there, without signatures, with
-NSEC and with NSEC3; names made of a wildcard, below a cut and below a DNAME; deep names that are there, deep empty ones, and names beside
-these; and IXFR with an authority section as large as a message has room for. The signed zones are made by dnssec-signzone.
+  tools/compare/dear_queries.py
+
+Has NSD and Knot DNS answer them over UDP, with one worker each, and prints the microseconds of a processor that each query takes them
+outside the kernel.
+
+They are for names of 110 labels and more, of 255 octets, and with an octet 0 in each label: names that don't exist, without signatures,
+with NSEC and with NSEC3; names that a wildcard answers for, below a zone cut and below a DNAME; deep names that exist, deep empty
+non-terminals, and names beside these; and IXFR with an authority section as large as a message allows. The signed zones are made by
+dnssec-signzone.
 """
 import dataclasses
+import glob
 import os
+import re
+import socket
 import struct
 import subprocess
+import sys
+import tempfile
+import time
+
+sys.dont_write_bytecode = True
+sys.path.append(os.path.dirname(os.path.dirname(os.path.realpath(__file__))))
 
 import frames
+import peers
 import signed_zones
-from peers import received
+from peers import found, received
 
 # No response should take more than so many times what a plain one of its kind takes.
 BOUND = 8
@@ -72,25 +90,6 @@ ASKED = [
 # Microseconds that a time is taken over at least, and how many times, of which the least counts.
 ENOUGH, RUNS = 20_000, 5
 
-# Where the bound doesn't hold yet: what is asked, what is dear of it, and in which zones. Elsewhere a query beyond it is a fault.
-ALL, WITHOUT_ITERATIONS = (*SIGNED,), ("unsigned", "NSEC", "NSEC3")
-NOT_YET = {
-    ("a name that isn't there", LABELS): ALL,
-    ("a name that isn't there", ZEROS): ALL,
-    ("a name that isn't there", BELOW_EMPTY): WITHOUT_ITERATIONS,
-    ("a name that isn't there", ZEROS_BELOW): ALL,
-    ("no data", EMPTY): ("unsigned", "NSEC3"),
-    ("no data", DEEP_NAME): ("unsigned", "NSEC3"),
-    ("an address", DEEP_NAME): ALL,
-    ("a wildcard's", LABELS): ALL,
-    ("a wildcard's", ZEROS): ALL,
-    ("a referral", LABELS): ("unsigned", "NSEC"),
-    ("a referral", ZEROS): WITHOUT_ITERATIONS,
-    ("below a DNAME", LABELS): ALL,
-    ("below a DNAME", ZEROS): ALL,
-    ("IXFR", LARGE): ("unsigned",),
-}
-
 
 @dataclasses.dataclass(frozen=True)
 class Part:
@@ -101,10 +100,6 @@ class Part:
     dear: str
     plain_message: bytes
     dear_message: bytes
-
-    @property
-    def holds(self):
-        return self.zone not in NOT_YET.get((self.kind, self.dear), ())
 
 
 def incremental(count):
@@ -139,7 +134,50 @@ def files(folder):
     return found
 
 
-# ---- times
+# ---- what a message takes
+
+
+class Measured:
+    """A zoned, and what messages take it."""
+
+    def __init__(self, before, zoned, path):
+        words = [*before, zoned, "--limits", "--transfers", f"{ORIGIN}={path}"]
+        self.process = subprocess.Popen(words, stdin=subprocess.PIPE, stdout=subprocess.PIPE, stderr=subprocess.DEVNULL)
+        self.ask(frames.query([ORIGIN, "SOA"]), 1)
+
+    def ask(self, message, count):
+        """Hands over a message so many times, and reads what is answered."""
+        self.process.stdin.write((struct.pack("!HH", 65535, len(message)) + message) * count)
+        self.process.stdin.flush()
+        for _ in range(count):
+            received(self.process.stdout.read)
+
+    def end(self):
+        self.process.stdin.close()
+        self.process.wait()
+
+
+class Counted(Measured):
+    """Measured by the instructions of a message, as callgrind counts them."""
+
+    UNIT, COUNT = "Instructions", 5
+
+    def __init__(self, zoned, path):
+        self.counts = f"{path}.counts"
+        super().__init__(["valgrind", "--tool=callgrind", f"--callgrind-out-file={self.counts}"], zoned, path)
+
+    def control(self, word):
+        subprocess.run(["callgrind_control", word, str(self.process.pid)], stdout=subprocess.DEVNULL, stderr=subprocess.DEVNULL, check=True)
+
+    def cost(self, message):
+        self.control("--zero")
+        self.ask(message, self.COUNT)
+        self.control("--dump")
+        [dumped] = glob.glob(f"{glob.escape(self.counts)}.*")
+        with open(dumped, encoding="utf-8", errors="replace") as it:
+            total = int(re.search(r"^totals: (\d+)", it.read(), re.M)[1])
+        os.remove(dumped)
+        return total / self.COUNT
 
 
 def worked(process):
@@ -148,56 +186,111 @@ def worked(process):
         return int(it.read().split()[0])
 
 
-class Timed:
-    """A zoned, and what messages take it."""
+class Timed(Measured):
+    """Measured by the microseconds of a processor that a message takes."""
+
+    UNIT = "Microseconds"
 
     def __init__(self, zoned, path):
-        self.process = subprocess.Popen([zoned, "--limits", "--transfers", f"{ORIGIN}={path}"], stdin=subprocess.PIPE, stdout=subprocess.PIPE)
-        self.asked(frames.query([ORIGIN, "SOA"]), 1)
+        super().__init__([], zoned, path)
 
-    def asked(self, message, count):
-        """The microseconds of a processor for a message, of so many that are handed over together."""
+    def time(self, message, count):
+        """Those of one message, of so many that are handed over together."""
         before = worked(self.process)
-        self.process.stdin.write((struct.pack("!HH", 65535, len(message)) + message) * count)
-        self.process.stdin.flush()
-        for _ in range(count):
-            received(self.process.stdout.read)
+        self.ask(message, count)
         return (worked(self.process) - before) / count / 1000
 
-    def least(self, message):
+    def cost(self, message):
         """The least of some times, each of so many messages that they take ENOUGH microseconds, and together have no more than the pipe holds."""
         count = 1
-        while count < (1 << 15) // len(message) and self.asked(message, count) * count < ENOUGH:
+        while count < (1 << 15) // len(message) and self.time(message, count) * count < ENOUGH:
             count *= 2
-        return min(self.asked(message, count) for _ in range(RUNS))
-
-    def end(self):
-        self.process.stdin.close()
-        self.process.wait()
+        return min(self.time(message, count) for _ in range(RUNS))
 
 
-def times(zoned, folder):
-    """Each part, with the microseconds that its plain query and its dear one take zoned."""
+def costs(measure, zoned, folder):
+    """Each part, with what its plain query and its dear one take zoned."""
     plain = {}
     for zone, path in files(folder).items():
-        timed = Timed(zoned, path)
+        measured = measure(zoned, path)
         for part in (it for it in parts() if it.zone == zone):
             key = zone, part.kind
-            plain[key] = plain.get(key) or timed.least(part.plain_message)
-            dear = timed.least(part.dear_message)
+            plain[key] = plain.get(key) or measured.cost(part.plain_message)
+            dear = measured.cost(part.dear_message)
             # (other work of the machine makes a time longer, and none shorter)
-            yield part, plain[key], dear if dear <= BOUND * plain[key] or not part.holds else min(dear, timed.least(part.dear_message))
-        timed.end()
+            yield part, plain[key], dear if dear <= BOUND * plain[key] else min(dear, measured.cost(part.dear_message))
+        measured.end()
 
 
 def told(zoned, folder):
-    """Prints the table, and gives whether each part is within the bound where that holds today."""
-    print("| Zone | What is asked | What is dear of it | Microseconds | of a plain one | Ratio | |")
+    """Prints the table, and gives whether each part is within the bound."""
+    measure = Counted if found("valgrind") else Timed
+    print(f"| Zone | What is asked | What is dear of it | {measure.UNIT} | of a plain one | Ratio | |")
     print("|---|---|---|---|---|---|---|", flush=True)
     is_well = True
-    for part, plain, dear in times(zoned, folder):
+    for part, plain, dear in costs(measure, zoned, folder):
         is_within = dear <= BOUND * plain
-        verdict = f"within {BOUND}" if is_within else f"beyond {BOUND}" + ("" if part.holds else ", which is known")
+        verdict = f"{'within' if is_within else 'beyond'} {BOUND}"
         print(f"| {part.zone} | {part.kind} | {part.dear} | {dear:,.1f} | {plain:,.1f} | {dear / plain:,.1f} | {verdict} |", flush=True)
-        is_well = is_well and (is_within or not part.holds)
+        is_well = is_well and is_within
     return is_well
+
+
+# ---- other servers
+
+# The other servers, and what has each work with one process or thread.
+OTHERS = {
+    "nsd": lambda text: text.replace("server:\n", "server:\n server-count: 1\n", 1),
+    "knotd": lambda text: text.replace("server:\n", "server:\n udp-workers: 1\n tcp-workers: 1\n background-workers: 1\n", 1),
+}
+# How many queries are sent for a figure, and how many of them wait for an answer at a time.
+SENT, WAITING = 100_000, 50
+
+
+def user_seconds(pid):
+    """The seconds that a process and those below it have worked outside the kernel."""
+    with open(f"/proc/{pid}/stat", encoding="ascii", errors="replace") as it:
+        ticks = int(it.read().rpartition(")")[2].split()[11])
+    with open(f"/proc/{pid}/task/{pid}/children", encoding="ascii") as it:
+        return ticks / os.sysconf("SC_CLK_TCK") + sum(map(user_seconds, it.read().split()))
+
+
+def microseconds(server, client, message):
+    before = user_seconds(server.pid)
+    for _ in range(SENT // WAITING):
+        for _ in range(WAITING):
+            client.send(message)
+        for _ in range(WAITING):
+            client.recv(65535)
+    return (user_seconds(server.pid) - before) / SENT * 1e6
+
+
+def others_costs(name, zone, path, folder):
+    """Each part of a zone, with the microseconds that its plain query and its dear one take another server."""
+    port = peers.free_port()
+    server = peers.begun(peers.configured(name, f"{folder}/{name}-{port}", port, peers.zones_text(name, {ORIGIN: path}), OTHERS[name]))
+    try:
+        peers.connected(port).close()
+        time.sleep(1)
+        with socket.socket(socket.AF_INET, socket.SOCK_DGRAM) as client:
+            client.settimeout(10)
+            client.connect(("127.0.0.1", port))
+            for part in (it for it in parts() if it.zone == zone and it.kind != "IXFR"):
+                yield part, *(microseconds(server, client, it) for it in (part.plain_message, part.dear_message))
+    finally:
+        peers.end(server)
+
+
+def main():
+    print("| Server | Zone | What is asked | What is dear of it | Microseconds | of a plain one |")
+    print("|---|---|---|---|---|---|", flush=True)
+    with tempfile.TemporaryDirectory() as folder:
+        made = files(folder)
+        for name in (it for it in OTHERS if found(it)):
+            for zone, path in made.items():
+                for part, plain, dear in others_costs(name, zone, path, folder):
+                    print(f"| {name} | {zone} | {part.kind} | {part.dear} | {dear:.1f} | {plain:.1f} |", flush=True)
+
+
+if __name__ == "__main__":
+    main()

@@ -1,17 +1,17 @@
 #!/usr/bin/env python3
-"""Hands zoned messages that no client should send, a million unless another count is named: random octets, queries of which some octets
-are turned, for transfers too, and fronts of good queries, each with a limit of its own. Every answer has to come in order, under the
-identifier of its message, with its opcode and RD, without AD and CD, within its limit, and to what has a header and is no response alone.
-It is no part of the gate.
+"""Sends zoned messages that no client should send, a million unless another count is given: random octets, queries with some octets
+changed, also for transfers, and prefixes of good queries, each with a limit of its own. Answers have to come in order, only to messages
+that have a header and aren't responses, with the message's identifier, opcode and RD, without AD and CD, and within its limit. Not part
+of the gate.
 
   tools/compare/hostile_messages.py [COUNT [SEED]]
 
-Prints how long it took, in a process that also makes and checks the messages, and how much memory the program had at its most, for a
-tenth of them and for all: the two figures of memory should be alike. The tenth goes out one by one, and the processor time of the one that
-took longest is told. With them go the dearest queries that are known (dear_queries.py), each by itself: a table has the processor time of
-each beside that of a plain one of its kind. The status is 1 where an answer isn't as it has to be, or where a dear query takes more than
-eight times the plain one's; but for those of which the table says that this is known. Signed zones are made by dnssec-signzone, of Debian's
-package bind9-utils; without it the unsigned one alone is asked.
+Prints how long it took, in a process that also makes and checks the messages, and how much memory the program had at its peak, for a
+tenth of them and for all: the two figures of memory should be alike. The tenth is sent one by one, and the processor time of the slowest
+is printed. With them go the most expensive queries that are known (dear_queries.py), each by itself: a table has what each costs beside a
+plain one of its kind. The status is 1 if an answer is wrong, or if an expensive query costs more than eight times as much as the plain
+one. Signed zones are made by dnssec-signzone, of Debian's package
+bind9-utils; without it only the unsigned zone is queried.
 """
 import os
 import random

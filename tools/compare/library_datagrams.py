@@ -1,5 +1,5 @@
-"""Datagrams that no client would send, for the server over the library for C: each front of good queries, these with octets turned, put
-in and left out, and octets by chance. Each that has a header and isn't a response has to be answered, once and by its own identifier."""
+"""Datagrams that no client would send, for the server over the C library: every prefix of good queries, these with octets changed, inserted
+and removed, and random octets. Each one that has a header and isn't a response has to be answered, once and with its own identifier."""
 import random
 import socket
 import struct

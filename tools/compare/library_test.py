@@ -1,9 +1,10 @@
 #!/usr/bin/env python3
-"""tools/compare/library_test.py [FOLDER]: tries the library for C from C: each refusal, each allocation failing in turn, threads that answer from
-the same zones while these are renewed, and the server over it with clients that are slow, rude or many, and with a million datagrams that no
-client would send; once more under the sanitizers of the compiler, and under valgrind. FOLDER is what `./build ningkraet` made;
-where none is named it is what `tools/build/program path ningkraet` gives. No part of the gate: it needs cc, opens sockets on loopback, and leaves
-out, and says so, what a machine without valgrind can't do. It ends what it starts."""
+"""tools/compare/library_test.py [FOLDER]: tries the C library from C: each refusal, each allocation failing in turn, threads that answer
+from the same zones while these are reloaded, and ningkraetd, the server over it, with clients that are slow, rude or many, and with a
+million datagrams that no client would send; then again with the compiler's sanitizers, and with valgrind. FOLDER is what `./build ningkraet`
+made; by default what `tools/build/program path ningkraet` prints. Not part of the gate: it needs cc, opens sockets on loopback, and
+leaves out, and says so, what a machine without valgrind can't do. It ends what it starts.
+"""
 import contextlib
 import os
 import shutil
@@ -24,7 +25,8 @@ import peers
 from library_datagrams import flood
 from sources import TOP
 
-PORT = 5390
+# The port of the server, and how many connections it takes.
+PORT, CONNECTIONS = 5390, 1000
 # What a memory checker reports ends with this status.
 VALGRIND = ["valgrind", "-q", "--error-exitcode=9", "--leak-check=full"]
 
@@ -109,7 +111,7 @@ def others_dont_wait_for_one_octet_a_second():
         assert is_answer(received(slow))
 
 
-def a_client_that_does_not_read_is_bounded(front):
+def a_client_that_does_not_read_is_bounded(server):
     with connected() as it:
         it.setblocking(False)
         try:
@@ -119,15 +121,16 @@ def a_client_that_does_not_read_is_bounded(front):
             pass
         time.sleep(1)
         datagrams_are_answered()
-        assert kilobytes(front) < 20_000, kilobytes(front)
+        assert kilobytes(server) < 20_000, kilobytes(server)
 
 
 def a_thousand_connections_are_served():
-    streams = [connected() for _ in range(1000)]
+    streams = [connected() for _ in range(CONNECTIONS)]
     for it in streams:
         it.sendall(peers.framed(QUERY))
     assert all(is_answer(received(it)) for it in streams)
-    # More than there may be: the first, which have asked nothing for longest, give way.
+    # More than there may be: the first, whose queries are more than a second old, give way.
+    time.sleep(1.5)
     more = [connected() for _ in range(100)]
     for it in more:
         it.sendall(peers.framed(QUERY))
@@ -136,13 +139,13 @@ def a_thousand_connections_are_served():
         it.close()
 
 
-def a_changed_file_is_served(front, file):
+def a_changed_file_is_served(server, file):
     with open(file, encoding="utf-8") as it:
         text = it.read()
     for changed, serial in ((text.replace("192.0.2.80", "192.0.2"), 1), (text.replace(" 1 ", " 2 ", 1), 2)):
         with open(file, "w", encoding="utf-8") as it:
             it.write(changed)
-        front.send_signal(signal.SIGHUP)
+        server.send_signal(signal.SIGHUP)
         time.sleep(0.5)
         with connected() as it:
             it.sendall(peers.framed(QUERY))
@@ -173,21 +176,24 @@ def try_threads(way, folder, room):
 
 
 @contextlib.contextmanager
-def front_of(way, folder, room):
+def server_of(way, folder, room):
     """The server over the library, and the file of its zone. It has to end well, with nothing reported."""
-    file = f"{room}/example.zone"
+    file, path = f"{room}/example.zone", peers.ningkraetd(folder, room, "-O2", *way.flags)
     shutil.copyfile(f"{TOP}/examples/example.zone", file)
-    words = [*way.before, compiled(way, folder, "examples/serving/front.c", room), str(PORT), f"example.com.={file}"]
-    front = subprocess.Popen(words, stderr=subprocess.PIPE)
+    lines = [f"listen ::1 {PORT}", "watch off", f"tcp-connections {CONNECTIONS}", f"tcp-client-connections {2 * CONNECTIONS}"]
+    server = subprocess.Popen([*way.before, *peers.daemon(path, PORT, {"example.com.": file}, *lines)], stderr=subprocess.PIPE)
     try:
-        assert b"listening" in front.stderr.readline()
-        yield front, file
-        front.terminate()
-        said = front.communicate(timeout=60)[1].decode()
-        assert front.returncode == 0, said
+        said = b""
+        while b"serving" not in said:
+            said = server.stderr.readline()
+            assert said, "it ended"
+        yield server, file
+        server.terminate()
+        said = server.communicate(timeout=60)[1].decode()
+        assert server.returncode == 0, said
     finally:
-        front.kill()
-        front.wait()
+        server.kill()
+        server.wait()
 
 
 def kilobytes(process):
@@ -196,23 +202,23 @@ def kilobytes(process):
 
 
 def try_datagrams(way, folder, room):
-    with front_of(way, folder, room) as (front, _):
+    with server_of(way, folder, room) as (server, _):
         flood(PORT, 10_000, seed=2)
-        before = kilobytes(front)
+        before = kilobytes(server)
         answered = flood(PORT, way.datagrams)
         # (a memory checker keeps what was given back for a while)
-        assert way.flags or way.before or kilobytes(front) <= before + 100, (before, kilobytes(front))
+        assert way.flags or way.before or kilobytes(server) <= before + 100, (before, kilobytes(server))
     print(f"library_test: of {way.datagrams} datagrams {answered} were to be answered, and were", flush=True)
 
 
-def try_front(folder, room):
-    with front_of(WAYS[0], folder, room) as (front, file):
+def try_server(folder, room):
+    with server_of(WAYS[0], folder, room) as (server, file):
         for test in (datagrams_are_answered, queries_of_one_write_are_answered, half_closed_connections_are_answered):
             tried(test, test)
         tried("others_dont_wait", others_dont_wait_for_one_octet_a_second)
-        tried("a_slow_reader_is_bounded", a_client_that_does_not_read_is_bounded, front)
+        tried("a_slow_reader_is_bounded", a_client_that_does_not_read_is_bounded, server)
         tried("a_thousand_connections", a_thousand_connections_are_served)
-        tried("a_changed_file_is_served", a_changed_file_is_served, front, file)
+        tried("a_changed_file_is_served", a_changed_file_is_served, server, file)
 
 
 def main(words):
@@ -226,7 +232,7 @@ def main(words):
                 continue
             for test in (try_calls, try_threads, try_datagrams):
                 tried(f"{test.__name__}, {way.name}", test, way, folder, room)
-        try_front(folder, room)
+        try_server(folder, room)
     return 0
 
 

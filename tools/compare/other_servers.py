@@ -1,23 +1,22 @@
 #!/usr/bin/env python3
-"""Compares what zoned answers with what NSD, Knot DNS and BIND answer, section by section, on random zones and queries that are made
-here. Where a tool isn't there, what needs it is left out, and a line says so. It is no part of the gate.
+"""Compares what zoned answers with what NSD, Knot DNS and BIND answer, section by section, for random zones and queries that are made
+here. If a tool is missing, what needs it is left out, and a line says so. Not part of the gate.
 
   tools/compare/other_servers.py [SEED [ROUNDS]]
 
-The zones are those of random_zones.py: glue and text at cuts, MINIMUM above the TTL of the SOA, names with octets that are no letters,
-and of either case. They have no signatures, or are signed by dnssec-signzone, ldns-signzone or kzonesign, with NSEC, with NSEC3, or with
-opt-out; and some with NSEC3 have a second chain, the rest of an old one or NSEC records beside it (signed_zones.py). A round has twelve
-zones without DNAME, four with some, four with records below these too, and four of which the origin owns one; two zones with three
-children each, one of them with its DS, one signed without, and one unsigned; and, by themselves, a root zone and a child of it. Each
-question is asked with DNSSEC and without, names below DNAME among them; now and then by UDP too, where TC has to be set by what has no
-room.
+The zones are those of random_zones.py: glue and text at zone cuts, MINIMUM above the TTL of the SOA, names with octets that aren't
+letters, and in either case. They are unsigned, or signed by dnssec-signzone, ldns-signzone or kzonesign, with NSEC, with NSEC3, or with
+opt-out; and some with NSEC3 have a second chain, the rest of an old one or NSEC records as well (signed_zones.py). A round has twelve
+zones without DNAME, four with some, four with records below these too, and four whose origin owns one; two zones with three children
+each, one of them with its DS, one signed without, and one unsigned; and, by themselves, a root zone and a child of it. Each question is
+asked with DNSSEC and without, for names below DNAME too; now and then over UDP as well, where TC has to be set for what doesn't fit.
 
-BIND gets the zones that named-checkzone passes: it refuses hosts of an NS set that have no address. NSD and Knot refuse records below a
-DNAME, which RFC 6672 section 2.4 forbids, so BIND alone is asked for these. Knot doesn't load each zone with two NSEC3PARAM records, and
-takes names with an octet 0 in another order than that of RFC 4034 section 6.1 now and then, so it gets neither.
+BIND gets the zones that named-checkzone accepts: it rejects hosts of an NS set that have no address. NSD and Knot reject records below a
+DNAME, which RFC 6672 section 2.4 forbids, so only BIND is asked about these. Knot doesn't load every zone with two NSEC3PARAM records,
+and now and then orders names with an octet 0 differently from RFC 4034 section 6.1, so it gets neither.
 
-The tools are Debian's packages nsd, knot, bind9, bind9-utils, ldnsutils and knot-dnssecutils. The status is 1 where an answer differs
-otherwise than by what a server may choose, as server_choices.py lists it, or where zoned denies by several chains at once.
+The tools are Debian's packages nsd, knot, bind9, bind9-utils, ldnsutils and knot-dnssecutils. The status is 1 if an answer differs in more
+than what a server may choose, as server_choices.py lists it, or if zoned denies by several chains at once.
 """
 import collections
 import os

@@ -1,14 +1,14 @@
 #!/usr/bin/env python3
 """Compares what zone_check reads with what the tools of other servers read, on zone files that are made here: written ones, random
-ones and one with the shape of the root zone, as they are and signed with NSEC and with NSEC3. Where a tool isn't there, what needs
-it is left out, and a line says so. It is no part of the gate.
+ones and one with the shape of the root zone, as they are and signed with NSEC and with NSEC3. If a tool is missing, what needs it is
+left out, and a line says so. Not part of the gate.
 
   tools/compare/other_tools.py [SEED]
 
-What zone_check prints of a file has to be what named-compilezone prints of it, line by line once both are sorted, but for the spelling
-that NAMES and the lists behind it tell of; and read by named-compilezone it has to give the same as the file itself. Files with a
-fault have to be refused by zone_check and by the checkers of BIND, NSD and Knot, but for a list of those that one of them takes. The
-tools are Debian's packages bind9-utils, ldnsutils, nsd, knot and knot-dnssecutils. The status is 1 where something differs.
+What zone_check prints for a file has to be what named-compilezone prints for it, line by line once both are sorted, except for the
+spelling that NAMES and the lists after it describe; and when named-compilezone reads it, it has to give the same as the file itself.
+Files with a fault have to be rejected by zone_check and by the checkers of BIND, NSD and Knot, except for a list of those that one of
+them accepts. The tools are Debian's packages bind9-utils, ldnsutils, nsd, knot and knot-dnssecutils. The status is 1 if anything differs.
 """
 import ipaddress
 import os

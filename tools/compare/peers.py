@@ -1,5 +1,5 @@
-"""What runs beside zoned and is asked the same: where a tool or a program is, how NSD, Knot DNS, BIND and the fronts of zoned are started,
-and how one of them is asked by TCP."""
+"""What runs beside zoned and is asked the same: where a tool or a program is, how NSD, Knot DNS, BIND, ningkraetd and the front end of
+zoned are started, and how one of them is queried over TCP."""
 import os
 import shutil
 import socket
@@ -9,6 +9,7 @@ import sys
 import time
 
 import frames
+import library
 from sources import TOP
 
 NSD = """server:
@@ -116,6 +117,23 @@ def front(zoned, port, files, *flags):
     """The words that start zoned behind front.py."""
     zones = [f"{origin}={path}" for origin, path in files.items()]
     return [sys.executable, f"{TOP}/examples/serving/front.py", str(port), zoned, "--limits", *flags, *zones]
+
+
+def ningkraetd(folder, room, *flags):
+    """Compiles ningkraetd, and ningkraetctl, over the library of a folder, with flags for the compiler, and gives the path of the first."""
+    words = ["cc", "-std=gnu11", "-D_GNU_SOURCE", "-g", "-Wall", "-Wextra", "-Werror", "-pthread", *flags]
+    here = sorted(it for it in os.listdir(f"{TOP}/server") if it.endswith(".c") and it != "ningkraetctl.c")
+    subprocess.run([*words, *(f"{TOP}/server/{it}" for it in here), *library.flags(folder), "-o", f"{room}/ningkraetd"], check=True)
+    subprocess.run([*words, f"{TOP}/server/ningkraetctl.c", "-o", f"{room}/ningkraetctl"], check=True)
+    return f"{room}/ningkraetd"
+
+
+def daemon(path, port, files, *lines):
+    """The words that start ningkraetd with one worker, by a configuration that stands beside it; `lines` are more of that."""
+    zones = [f'zone {origin} "{file}"' for origin, file in files.items()]
+    with open(f"{path}.conf", "w", encoding="utf-8") as it:
+        it.write("\n".join(["workers 1", f"listen 127.0.0.1 {port}", *zones, *lines, ""]))
+    return [path, "-c", f"{path}.conf"]
 
 
 def end(*processes):

@@ -1,4 +1,4 @@
-"""Questions for zoned and other servers, as messages, and what is read of the answers. Names are text as in random_zones.py."""
+"""Questions for zoned and other servers, as messages, and what is read from the answers. Names are text as in random_zones.py."""
 import random
 
 import frames

@@ -1,7 +1,8 @@
-"""Random zones, and random zones with DNAME, of which other_servers.py, secondaries.py, validating_resolver.py and closed_zones.py ask.
+"""Random zones, and random zones with DNAME, which other_servers.py, secondaries.py, validating_resolver.py and closed_zones.py use.
 
-A name is text as tools/frames.py writes it: octets that are no letter, digit, `-`, `_` or `*` stand as `\\DDD`, a dot within a label too, so that
-its labels are what stands between dots."""
+A name is text as tools/frames.py writes it: octets other than letters, digits, `-`, `_` and `*` are `\\DDD`, including a dot within a
+label, so that its labels are what is between dots.
+"""
 import random
 
 # The target of a DNAME; below it LABEL makes a name of 255 octets, which no name may have more of (RFC 1035 section 2.3.4).

@@ -1,15 +1,15 @@
 #!/usr/bin/env python3
-"""Has real clients ask ./serve: dig, drill, kdig and dnspython, by UDP and by TCP, with DNSSEC and without, behind front.py and, where cc
-is there, behind front.c. Each has to read the code, AA, the answer and the kind of the authority section that stand in the table below;
-by UDP what is too large for it has to come by TCP. Behind front.py each also takes the zones by AXFR, and has to have each record of
-the files. Then delv, a client that validates, asks for the same with the key of each zone: what it says has to be `fully validated`, or
-`unsigned answer` where the zone gives no proof. Where a tool isn't there, it is left out, and a line says so. It is no part of the gate.
+"""Has real clients query ./serve: dig, drill, kdig and dnspython, over UDP and TCP, with DNSSEC and without, behind front.py and, if cc
+and make are available, by ningkraetd. Each has to read the code, AA, the answer and the kind of authority section given in the table below;
+what is too large for UDP has to come over TCP. Behind front.py each also fetches the zones by AXFR, and has to get each record of the
+files. Then delv, a client that validates, asks the same with the key of each zone: it has to say `fully validated`, or `unsigned
+answer` where the zone gives no proof. If a tool is missing, it is left out, and a line says so. Not part of the gate.
 
   tools/compare/real_clients.py
 
 The zones are made here and signed by dnssec-signzone: with NSEC, with NSEC3, and with NSEC3 and opt-out; each has a signed child and an
 unsigned one that are served too, and one of each that isn't. The tools are Debian's packages bind9-dnsutils, ldnsutils, knot-dnsutils,
-python3-dnspython and bind9-utils. The status is 1 where a client reads otherwise.
+python3-dnspython and bind9-utils. The status is 1 if a client reads anything else.
 """
 import contextlib
 import dataclasses
@@ -289,14 +289,16 @@ def fronts(folder, files):
     zones = [f"{origin}={path}" for origin, path in files.items()]
     port = free_port()
     yield "front.py", port, [f"{TOP}/serve", *zones, "--port", str(port), "--transfers"]
-    made_by = subprocess.run([f"{TOP}/tools/build/program", "path", "ningkraet"], stdout=subprocess.PIPE, text=True) if shutil.which("cc") else None
-    if not made_by or made_by.returncode:
-        print("real_clients: cc, or the library, isn't there, so nothing is asked of front.c")
+    found = subprocess.run([f"{TOP}/tools/build/program", "path", "ningkraet"], stdout=subprocess.PIPE, text=True) if shutil.which("cc") else None
+    if not found or found.returncode:
+        print("real_clients: cc, or the library, isn't there, so nothing is asked of ningkraetd")
         return
-    words = [f"{TOP}/examples/serving/front.c", *library.flags(made_by.stdout.strip())]
-    subprocess.run(["cc", "-O2", "-o", f"{folder}/front", *words], check=True)
+    words = ["make", "-s", "-C", f"{TOP}/server", f"OUT={folder}/daemon", "LIBRARY=" + " ".join(library.flags(found.stdout.strip())), f"{folder}/daemon/ningkraetd"]
+    subprocess.run(words, check=True)
     port = free_port()
-    yield "front.c", port, [f"{folder}/front", str(port), *zones]
+    with open(f"{folder}/conf", "w", encoding="utf-8") as it:
+        it.write(f"listen 127.0.0.1 {port}\nlisten ::1 {port}\n" + "".join(f"zone {origin} {path}\n" for origin, path in files.items()))
+    yield "ningkraetd", port, [f"{folder}/daemon/ningkraetd", "-c", f"{folder}/conf"]
 
 
 @contextlib.contextmanager

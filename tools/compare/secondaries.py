@@ -1,13 +1,13 @@
 #!/usr/bin/env python3
-"""Has NSD and Knot DNS, as secondaries, take zones from zoned by AXFR, and then, told by NOTIFY, a later version of each by IXFR. Their
-copies are compared with what the same server reads of the zone files as a primary. The zones are made here: random ones without
-signatures, with NSEC and with NSEC3; one of many names, which takes several messages; and one with a set that no message has room for.
-Where a server isn't there, it is left out, and a line says so. It is no part of the gate.
+"""Has NSD and Knot DNS, as secondaries, fetch zones from zoned by AXFR, and then, after a NOTIFY, a later version of each by IXFR. Their
+copies are compared with what the same server reads from the zone files as a primary. The zones are made here: random ones without
+signatures, with NSEC and with NSEC3; one with many names, which takes several messages; and one with an RRset that doesn't fit into a
+message. If a server is missing, it is left out, and a line says so. Not part of the gate.
 
   tools/compare/secondaries.py [SEED [ROUNDS]]
 
-The servers are Debian's packages nsd and knot; zones are signed by those of signed_zones.py. The status is 1 where a copy differs
-from its zone, or doesn't come.
+The servers are Debian's packages nsd and knot; zones are signed by the signers of signed_zones.py. The status is 1 if a copy differs
+from its zone, or doesn't arrive.
 """
 import dataclasses
 import os

@@ -1,4 +1,4 @@
-"""Zones that are served, alone or a parent beside its children: their records, how each is signed, and their files."""
+"""Zones that are served, alone or a parent together with its children: their records, how each is signed, and their files."""
 import dataclasses
 import random
 

@@ -1,39 +1,39 @@
-"""What servers may choose, so that answers of NSD, Knot DNS and BIND that differ from those of zoned by it aren't told of:
+"""What servers may choose, so that differences between the answers of NSD, Knot DNS and BIND and those of zoned aren't reported:
 
-- NSD puts the zone's NS set and its servers' addresses beside positive answers, which RFC 2181 section 5 leaves to the server.
-- NSD puts addresses that a wildcard gives a host beside an answer or a referral, now and then under the wildcard's own name. RFC 4592
-  has wildcards answer queries, and asks for none beside them.
-- NSD writes an alias twice that a wildcard leads back to itself, and Knot a DNAME set that is asked for, where a name below it leads
-  back to its owner. RFC 2181 section 5 has a set stand once.
-- Knot puts addresses at a cut and below it beside answers that name such a host. They are glue, which RFC 1034 section 4.2.1 has for
+- NSD adds the zone's NS set and its servers' addresses to positive answers, which is up to the server.
+- NSD adds addresses that a wildcard gives a host to an answer or a referral, now and then under the wildcard's own name. By RFC 4592
+  wildcards answer queries; it doesn't require any additional records from them.
+- NSD sends an alias twice if a wildcard leads it back to itself, and Knot sends a DNAME set twice if it is asked for and a name below it
+  leads back to its owner. By RFC 2181 section 5.5 an RRset appears once.
+- Knot adds addresses at a zone cut and below it to answers that name such a host. They are glue, which RFC 1034 section 4.2.1 intends for
   referrals.
-- For a name that begins with `*` and has no data, and an alias's target that does, NSD sends one NSEC3 set more than the one that RFC 5155
-  section 7.2.3 asks for, as if a wildcard had answered; where a wildcard does answer for such a name, Knot leaves out the sets that deny
-  the name itself (section 7.2.5 and RFC 4035 section 3.1.3.4). So NSEC and NSEC3 sets aren't compared there.
-- Below an empty name that opt-out leaves out NSD takes that name for the encloser, though no NSEC3 set matches it, where zoned takes the
-  closest provable one (RFC 5155 section 7.2.1). So the NSEC3 sets of zones with opt-out aren't compared.
-- BIND now and then leaves out the addresses of a referral's servers that don't stand at or below the cut, behind an alias too, and glue
-  beside answers, so these aren't compared with it. It answers aliases that lead round in a circle by SERVFAIL.
-- Where such a name isn't there and a wildcard stands above the empty one, no NSEC3 sets prove that; Knot sends a code alone then, with
-  DNSSEC. So that isn't compared.
-- Of ANY below a DNAME NSD and Knot go on at the new name (RFC 6672 section 3.2). zoned and BIND stop at the CNAME that the DNAME makes,
-  which is an answer to ANY (RFC 8482 section 4.1). So BIND alone is asked for ANY.
-- Beside YXDOMAIN Knot puts the SOA, and with DNSSEC sets of denial. RFC 2308 section 3 has the SOA for name errors and no data, and the
-  DNAME shows by itself that the name gets too long (RFC 6672 section 2.2). So that authority section isn't compared with Knot.
-- Where an alias or another DNAME leads to a name that gets too long, NSD answers NOERROR, though the code is that of the last name (RFC
+- For a name that begins with `*` and has no data, and for an alias's target that does, NSD sends one NSEC3 record more than the one that
+  RFC 5155 section 7.2.3 requires, as if a wildcard had answered; if a wildcard does answer for such a name, Knot leaves out the records
+  that deny the name itself (section 7.2.5 and RFC 4035 section 3.1.3.4). So NSEC and NSEC3 records aren't compared there.
+- Below an empty non-terminal that opt-out leaves out, NSD takes that name for the encloser, although no NSEC3 record matches it, whereas
+  zoned takes the closest provable one (RFC 5155 section 7.2.1). So the NSEC3 records of zones with opt-out aren't compared.
+- BIND now and then leaves out the addresses of a referral's servers that aren't at or below the zone cut, behind an alias too, and glue
+  with answers, so these aren't compared with it. It answers aliases that form a loop with SERVFAIL.
+- If such a name doesn't exist and there is a wildcard above the empty non-terminal, no NSEC3 records prove that; Knot then sends a code
+  alone, with DNSSEC. So that isn't compared.
+- For ANY below a DNAME, NSD and Knot continue at the new name (RFC 6672 section 3.2). zoned and BIND stop at the CNAME synthesized from
+  the DNAME, which is an answer to ANY (RFC 8482 section 4.1). So only BIND is asked for ANY.
+- With YXDOMAIN, Knot sends the SOA, and with DNSSEC denials. RFC 2308 section 3 requires the SOA for name errors and no data, and the
+  DNAME itself shows that the name gets too long (RFC 6672 section 2.2). So that authority section isn't compared with Knot.
+- If an alias or another DNAME leads to a name that gets too long, NSD answers NOERROR, although the code is that of the last name (RFC
   6604 section 3). So this isn't compared with NSD.
-- For the name that a DNAME gives NSD sends another NSEC set than the one that covers it, or none (RFC 4035 sections 3.1.3.2 to 3.1.3.4).
-  So NSEC sets below a DNAME aren't compared with NSD.
-- Where a label stands in order before `*`, NSD now and then denies a wildcard beside it by the set of a name before that label, though names
-  below it stand between. So NSEC sets of zones with such labels aren't compared with NSD.
-- Of two chains, and of NSEC and NSEC3 records in one zone, a server takes what it chooses (RFC 5155 section 7.3). So sets of denial of
-  different chains aren't compared; but those of one response have to be of one chain.
-- BIND puts no addresses beside the NS set of the root.
-- Knot takes names with an octet 0 for others now and then, as for one that a wildcard answers. So they aren't compared with it.
-- An alias that leads into another zone that is served ends there here, and in Knot. NSD and BIND go on in that zone, as RFC 1034 section
-  4.3.2 step 3a has it. So such aliases aren't compared.
-- RFC 1034 section 3.6.2 has chains of aliases followed, and doesn't say how far; zoned stops behind 8 names. So chains of 8 aliases and
-  more, as by a DNAME that leads below itself, aren't compared.
+- For the name that a DNAME gives, NSD sends another NSEC record than the one that covers it, or none (RFC 4035 sections 3.1.3.2 to
+  3.1.3.4). So NSEC records below a DNAME aren't compared with NSD.
+- If a label comes before `*` in the canonical order, NSD now and then denies a sibling wildcard with the record of a name before that
+  label, although names below the label are in between. So NSEC records of zones with such labels aren't compared with NSD.
+- Of two chains, and of NSEC and NSEC3 records in one zone, a server uses the one it chooses (RFC 5155 section 7.3). So denials from
+  different chains aren't compared; but those of one response have to be from one chain.
+- BIND adds no addresses to the NS set of the root.
+- Knot now and then mistakes names with an octet 0 for others, such as for one that a wildcard answers. So they aren't compared with it.
+- An alias that leads into another zone that is served ends there here, and in Knot. NSD and BIND continue in that zone, as RFC 1034
+  section 4.3.2 step 3a says. So such aliases aren't compared.
+- RFC 1034 section 3.6.2 requires chains of aliases to be followed, but doesn't say how far; zoned stops after 8 names. So chains of 8
+  aliases and more, such as with a DNAME that leads below itself, aren't compared.
 """
 import frames
 from questions import chains, zone_of

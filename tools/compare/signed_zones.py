@@ -1,9 +1,9 @@
 """Zone files as signers write them: dnssec-signzone of BIND, ldns-signzone and Knot's kzonesign, with NSEC, with NSEC3 and with opt-out;
-and with what stands beside a chain while another takes its place: a second one, what an old one left, or NSEC records beside NSEC3.
-Other tools ask of them, and look at them.
+and with what exists beside a chain while another replaces it: a second one, the rest of an old one, or NSEC records beside NSEC3.
+Other tools make queries about them, and check them.
 
 The signers are those of Debian's packages bind9-utils, ldnsutils and knot-dnssecutils; keys are made by dnssec-keygen of bind9-utils and
-handed to kzonesign by keymgr of knot-dnssecutils.
+passed to kzonesign by keymgr of knot-dnssecutils.
 """
 import dataclasses
 import glob

@@ -1,31 +1,31 @@
 #!/usr/bin/env python3
-"""Has validators ask zoned: Unbound, a resolver, by ./serve's front, and delv. Each response has to be one that Unbound finds secure, and
-answers in its turn with the same code and the same records; one of a zone with opt-out may stay without AD (RFC 5155 section 9.2), but has to
-be no bogus one. Where a tool isn't there, what needs it is left out, and a line says so. It is no part of the gate.
+"""Has validators query zoned: Unbound, a resolver, through the front end of ./serve, and delv. Unbound has to find each response secure, and
+answer in turn with the same code and the same records; a response from a zone with opt-out may lack AD (RFC 5155 section 9.2), but must
+not be bogus. If a tool is missing, what needs it is left out, and a line says so. Not part of the gate.
 
   tools/compare/validating_resolver.py [SEED [ROUNDS]]
 
 The zones are random ones (random_zones.py) that dnssec-signzone, ldns-signzone and kzonesign sign, with NSEC, and with NSEC3, with opt-out
-and without; some with NSEC3 have a second chain, the rest of an old one, or NSEC records beside it (signed_zones.py). A round has twelve
-of them, two with DNAME, and two with three children each, which are served beside them: of one the parent has the DS record, so that Unbound
-has to find it secure by the parent's key; one is signed without, and one isn't signed, so that it has to find these insecure, by proof. A
-root zone with such a child is asked by itself. Of zones with something beside their chain delv is asked 40 questions each, and has to
-say `fully validated`.
+and without; some with NSEC3 have a second chain, the rest of an old one, or NSEC records as well (signed_zones.py). A round has twelve of
+them, two with DNAME, and two with three children each, which are served too: one has its DS record in the parent, so Unbound has to find
+it secure by the parent's key; one is signed without DS, and one is unsigned, so Unbound has to find these insecure, by proof. A root zone
+with such a child is queried by itself. delv is asked 40 questions about each zone that has something beside its chain, and has to say
+`fully validated`.
 
-The tools are Debian's packages unbound, bind9-utils, bind9-dnsutils, ldnsutils and knot-dnssecutils. The status is 1 where a validator answers
-otherwise. These questions are left out:
+The tools are Debian's packages unbound, bind9-utils, bind9-dnsutils, ldnsutils and knot-dnssecutils. The status is 1 if a validator answers
+anything else. These questions are left out:
 
-- those that lead out of the zone, to a zone cut or round in a circle, as no server is there that could answer them, or as an alias into
-  another zone ends where it does;
-- with opt-out, those for names that aren't there below an empty name that no NSEC3 set matches, where a wildcard stands above that. RFC
-  5155 has no proof of such a name error: the wildcard would have to be denied. What BIND sends of it Unbound finds bogus as well;
-- with opt-out, those for no data of an empty name that no NSEC3 set matches, where the set that covers it, or the name above it that is
-  next closer, is that of the wildcard beside it, and the wildcard owns the type or an alias. No other set covers the name, and Unbound
-  takes that one for the wildcard's, which has what is asked for. Which questions these are is computed from the digests of the names of
-  the zone;
-- those whose aliases lead below one DNAME twice, and those for CNAME, DNAME or ANY below one: Unbound answers SERVFAIL or goes on, with
-  what BIND sends of them too; and those for DNAME of a name that gets too long, whose response it leaves without AD;
-- those that a wildcard answers under a name that itself begins with `*`, which Unbound takes for the wildcard's own; delv doesn't.
+- those that lead out of the zone, to a zone cut or into a loop, because there is no server there that could answer them, or because an
+  alias into another zone ends where it does;
+- with opt-out, those for names that don't exist below an empty non-terminal that no NSEC3 record matches, if there is a wildcard above
+  that. RFC 5155 has no proof of such a name error: the wildcard would have to be denied. Unbound finds what BIND sends for it bogus too;
+- with opt-out, those for no data at an empty non-terminal that no NSEC3 record matches, if the record that covers it, or its next closer
+  name, is that of the sibling wildcard, and the wildcard owns the type or an alias. No other record covers the name, and Unbound takes
+  that one for the wildcard's, which has what is asked for. Which questions these are is computed from the digests of the zone's names;
+- those whose aliases lead below one DNAME twice, and those for CNAME, DNAME or ANY below one: Unbound answers SERVFAIL or continues, with
+  what BIND sends for them too; and those for DNAME at a name that gets too long, whose response it leaves without AD;
+- those that a wildcard answers under a name that itself begins with `*`, which Unbound takes for the wildcard's own; delv doesn't;
+- of delv, those for DS at an origin, which it asks for in the parent zone, and that isn't served.
 """
 import dataclasses
 import os
@@ -201,6 +201,7 @@ def look_at(sums, zones, origin, anchored, served, resolver):
 def delve(sums, zones, origin, anchors, served, stream):
     """Asks delv for a zone."""
     asks = [(name, kind) for name, kind, words in queries(origin, zones[origin].records) if words and zone_of(name, kind, zones) == origin]
+    asks = [it for it in asks if it != (origin, "DS")]
     for name, kind in random.sample(asks, min(DELVED, len(asks))):
         (_, code), parts = sections(asked(stream, frames.query([name, kind, "edns=4096", "do"])))
         if is_left_out(origin, name, kind, code, parts, zones):

@@ -1,13 +1,14 @@
 #!/usr/bin/env python3
-"""Tries the library for C, as it is handed to its users.
+"""Tries the C library in the form in which its users get it.
 
-  tools/gate/c_library.py program FOLDER    the program of the README, compiled by the lines of the documents, answers
-  tools/gate/c_library.py calls FOLDER      each call tells of each refusal, and of each allocation that fails (library_test.c)
-  tools/gate/c_library.py front.c FOLDER    a query is answered by UDP and by TCP, of the zone of the README's tour
+  tools/gate/c_library.py program FOLDER    the program of the README, compiled with the commands of the documents, answers
+  tools/gate/c_library.py calls FOLDER      each call reports each refusal, and each failing allocation (library_test.c)
+  tools/gate/c_library.py front.c FOLDER    a query for the zone of the README's tour is answered over UDP and TCP
   tools/gate/c_library.py front.py PROGRAM  the same by zoned
+  tools/gate/c_library.py server FOLDER     the same by ningkraetd, which says so where a configuration is wrong, and ends as it is told to
 
 FOLDER is one that `./build ningkraet` or `tools/build/program path ningkraet` made; its header has to say which of the two. All but
-the last need cc. Says what goes wrong, and ends with status 1 where something does.
+the last need cc. Reports what goes wrong, and ends with status 1 if anything does.
 """
 import os
 import re
@@ -32,6 +33,8 @@ from sources import TOP
 ADDRESS = "192.0.2.80"
 # The lines of the documents that compile a program over the library; and the one that is a server.
 LINE, SERVER = re.compile(r"^cc .*?(\S+\.c) \$\(pkg-config --cflags --libs ningkraet\) -o \w+", re.M), "examples/serving/front.c"
+# The sources of ningkraetd.
+DAEMON = sorted(it for it in os.listdir(f"{TOP}/server") if it.endswith(".c") and it != "ningkraetctl.c")
 # Datagrams with octets turned, as many as take a second, and the seconds that an answer may take.
 DATAGRAMS, PATIENCE = 10_000, 10
 # What is asked of the zone of the README's tour.
@@ -88,8 +91,8 @@ def compiled(source, folder, room):
 def says_what_it_is(folder):
     """The header of the folder says that the library isn't proved, where it isn't."""
     with open(f"{folder}/{library.HEADER}", encoding="utf-8") as it:
-        is_told = it.read().startswith(library.UNPROVED.split(":")[0])
-    need(is_told == ("-proved-" not in os.path.basename(folder)), f"the header of {folder} says that it is the other of a proved and an unproved one")
+        is_said = it.read().startswith(library.UNPROVED.split(":")[0])
+    need(is_said == ("-proved-" not in os.path.basename(folder)), f"the header of {folder} says that it is the other of a proved and an unproved one")
 
 
 def program(folder, room):
@@ -117,7 +120,27 @@ def front_py(path, room):
     asked_of(port, peers.front(path, port, {ORIGIN: f"{TOP}/{ZONE}"}))
 
 
-def asked_of(port, words):
+def server(folder, room):
+    flags = ["cc", "-std=gnu11", "-D_GNU_SOURCE", "-O2", "-Wall", "-Wextra", "-Werror", "-pthread"]
+    for name, sources_of in (("ningkraetd", DAEMON), ("ningkraetctl", ["ningkraetctl.c"])):
+        ran([*flags, *(f"{TOP}/server/{it}" for it in sources_of), *library.flags(folder), "-o", f"{room}/{name}"])
+    port = peers.free_port()
+    with open(f"{room}/conf", "w", encoding="utf-8") as it:
+        it.write(f"listen 127.0.0.1 {port}\nzone {ORIGIN} {TOP}/{ZONE}\nworkers 2\ncontrol {room}/control\nlisten nowhere\n")
+    tested = subprocess.run([f"{room}/ningkraetd", "-t", "-c", f"{room}/conf"], capture_output=True, text=True)
+    need(tested.returncode != 0 and "conf:5: 'nowhere' isn't an IPv4 or IPv6 address" in tested.stderr, f"of a wrong configuration it says {tested}")
+    ran(["sed", "-i", "$d", f"{room}/conf"])
+    asked_of(port, [f"{room}/ningkraetd", "-c", f"{room}/conf"], lambda: zones_and_stop(room))
+
+
+def zones_and_stop(room):
+    """The zones that the running server says it has, and its end."""
+    control = [f"{room}/ningkraetctl", "-s", f"{room}/control"]
+    need(ran([*control, "zones"]).startswith(f"{ORIGIN.rstrip('.')}"), "ningkraetctl zones doesn't begin with the zone")
+    ran([*control, "stop"])
+
+
+def asked_of(port, words, at_last=lambda: None):
     """Starts a server, and asks it by either way."""
     server = peers.begun(words)
     try:
@@ -129,6 +152,7 @@ def asked_of(port, words):
             it.connect(("127.0.0.1", port))
             it.send(frames.query(QUERY))
             by_udp = it.recv(65535)
+        at_last()
     finally:
         peers.end(server)
     for way, message in (("TCP", by_tcp), ("UDP", by_udp)):
@@ -137,7 +161,7 @@ def asked_of(port, words):
         need(is_answer, f"by {way}: {lines}")
 
 
-TRIES = {"program": program, "calls": calls, "front.c": front_c, "front.py": front_py}
+TRIES = {"program": program, "calls": calls, "front.c": front_c, "front.py": front_py, "server": server}
 
 
 def main(words):

@@ -1,6 +1,6 @@
-"""The pictures of the circles of NSEC and NSEC3 sets, of the zones of RFC 4035 and RFC 5155: the names on them, a name that is
-denied, and the sets that deny it. The names are found anew in the lines of examples/, by the rules of the standards, and have to
-be those that the program has there (examples/answers)."""
+"""The pictures of the chains of NSEC and NSEC3 records, for the zones of RFC 4035 and RFC 5155: the names on them, a name that is
+denied, and the records that deny it. The names are computed from the lines of examples/, by the rules of the standards, and have to
+be those that the program gives there (examples/answers)."""
 
 import math
 import re
@@ -143,16 +143,16 @@ def draw_nsec():
     denied, star = labels("ml.example."), labels("*.example.")
     order = canonical(names + [denied, star])
     gap = {name: names.index(order[order.index(name) - 1]) for name in (denied, star)}
-    picture = svg.Picture(WIDTH, FOOT + 40, "The NSEC circle of the zone of RFC 4035: the two sets that deny ml.example.")
+    picture = svg.Picture(WIDTH, FOOT + 40, "The NSEC chain of the zone of RFC 4035: the two records that deny ml.example.")
     ring(picture, [[text_of(it)] for it in names], {gap[denied]: svg.RED, gap[star]: svg.ORANGE})
     between(picture, names, gap[denied], [text_of(denied)], svg.RED)
     between(picture, names, gap[star], [text_of(star)], svg.ORANGE)
-    title(picture, ["NSEC circle", "in canonical order", "hollow: not there"])
+    title(picture, ["NSEC chain", "in canonical order", "hollow: doesn't exist"])
     legend(
         picture,
         [
-            (svg.RED, f"covers {text_of(denied)}, which is asked for: the NSEC set of {text_of(names[gap[denied]])}"),
-            (svg.ORANGE, f"covers its wildcard, under the closest encloser {text_of(ORIGIN)}: the set of {text_of(names[gap[star]])}"),
+            (svg.RED, f"covers {text_of(denied)}, which is asked for: the NSEC record of {text_of(names[gap[denied]])}"),
+            (svg.ORANGE, f"covers its wildcard, at the closest encloser {text_of(ORIGIN)}: the record of {text_of(names[gap[star]])}"),
         ],
     )
     return picture.svg()
@@ -164,18 +164,18 @@ def draw_nsec3():
     denied, closer, encloser = labels("a.c.x.w.example."), labels("c.x.w.example."), labels("x.w.example.")
     star = ("*",) + encloser
     gap = {name: gap_of(digests, digest_5155(name)) for name in (closer, star)}
-    picture = svg.Picture(WIDTH, FOOT + 62, "The NSEC3 circle of the zone of RFC 5155: the three sets that deny a.c.x.w.example.")
+    picture = svg.Picture(WIDTH, FOOT + 62, "The NSEC3 chain of the zone of RFC 5155: the three records that deny a.c.x.w.example.")
     owners = [[text_of(name) if len(name[0]) < 32 else "a host by a digest", f"{it[:8]}.."] for it, name in hashed]
     ring(picture, owners, {gap[closer]: svg.RED, gap[star]: svg.ORANGE, names.index(encloser): svg.GREEN})
     between(picture, names, gap[closer], [text_of(closer), f"{digest_5155(closer)[:8]}.."], svg.RED)
     between(picture, names, gap[star], [text_of(star), f"{digest_5155(star)[:8]}.."], svg.ORANGE)
-    title(picture, ["NSEC3 circle", "in the order of digests", "hollow: not there"])
+    title(picture, ["NSEC3 chain", "in the order of digests", "hollow: doesn't exist"])
     legend(
         picture,
         [
-            (svg.GREEN, f"the set of {text_of(encloser)}, the closest encloser of {text_of(denied)}, which is asked for"),
-            (svg.RED, f"covers the next closer name {text_of(closer)}: the set of {text_of(names[gap[closer]])}"),
-            (svg.ORANGE, f"covers the wildcard {text_of(star)}: the set of {text_of(names[gap[star]])}"),
+            (svg.GREEN, f"the record of {text_of(encloser)}, the closest encloser of {text_of(denied)}, which is asked for"),
+            (svg.RED, f"covers the next closer name {text_of(closer)}: the record of {text_of(names[gap[closer]])}"),
+            (svg.ORANGE, f"covers the wildcard {text_of(star)}: the record of {text_of(names[gap[star]])}"),
         ],
     )
     return picture.svg()

@@ -1,8 +1,8 @@
 #!/usr/bin/env python3
 """Checks that no line of a contract has more than 100 columns: of `requires` and `ensures`, and of the ghost fields and members
-that stand for them in types and traits. A longer clause is laid on several lines, or its fact gets a name in specs/.
+that correspond to them in types and traits. A longer clause is split into several lines, or its fact gets a name in specs/.
 
-Tells of each such line, and ends with status 1 where there is one.
+Reports each such line, and ends with status 1 if there is one.
 """
 import os
 import re

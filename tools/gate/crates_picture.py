@@ -1,5 +1,5 @@
-"""The picture of the crates by their layers, and what stands on what, drawn from crates.txt without the crates of tests: a crate
-stands above those that it uses. A line that others imply is left out, as that of a crate to one which a crate between the two uses."""
+"""The picture of the crates by layers, and of their dependencies, drawn from crates.txt without the crates of tests: a crate is
+above those that it uses. A line that others imply is omitted, such as that to a crate which a crate between the two uses."""
 
 import os
 
@@ -17,9 +17,12 @@ PLACES = {
     "message_reading": (190, 2),
     "zone_scanner": (312, 2),
     "zone_tokens": (75, 3),
-    "zone_file": (170, 4),
+    "record_fields": (75, 4),
     "message_writing": (300, 4),
-    "zone_file_writer": (85, 5),
+    "message_hmac": (315, 5),
+    "message_tsig": (262, 6),
+    "zone_file": (170, 5),
+    "zone_file_writer": (85, 6),
     "zone_handler": (450, 2),
     "zone_map": (580, 2),
     "zone_denial": (480, 3),
@@ -32,6 +35,7 @@ PLACES = {
     "zone_trimming": (640, 7),
     "zone_planning": (640, 9),
     "zone_planner": (640, 10),
+    "zone_rollover": (640, 11),
     "zone_sign": (440, 12),
     "denial_validation": (810, 2),
     "denial_laws": (810, 5),
@@ -57,6 +61,7 @@ BENDS = {
     ("zonectl_commands", "line_text"): [(721, 11), (721, 1.3), (95, 1.3)],
     ("zonectl_commands", "zone_handler"): [(721, 11), (721, 1.3), (470, 1.3)],
     ("zone_database", "zone_builder"): [(330, 7)],
+    ("zone_server", "message_writing"): [(375, 6.4), (375, 4.7)],
     ("zone_origins", "zone_proto"): [(372, 6), (372, 1)],
     ("zone_check", "zone_verify"): [(190, 9), (345, 6.2)],
     ("zone_verify", "zone_denial"): [(525, 4)],

@@ -1,10 +1,11 @@
 #!/usr/bin/env python3
-"""Writes what the documents have from the sources alone: the crates, with what each stands on, by crates.txt and the heads of their
-files; and the laws, by their comments. Such a part stands between two lines, `<!-- NAME: tools/gate/derived.py -->` and `<!-- end -->`.
+"""Writes what the documents have from the sources alone: the crates, with their dependencies, from crates.txt and the comments at the top
+of their files; and the laws, from their comments. Such a part is between two lines, `<!-- NAME: tools/gate/derived.py -->` and
+`<!-- end -->`.
 
     tools/gate/derived.py                  writes these parts
-    tools/gate/derived.py --check          writes nothing, and tells which of them aren't as they would be written
-    tools/gate/derived.py modules CRATE    prints what each file of a crate is about, by the comment that it begins with"""
+    tools/gate/derived.py --check          writes nothing, and reports which of them aren't up to date
+    tools/gate/derived.py modules CRATE    prints what each file of a crate is about, from the comment with which it begins"""
 
 import os
 import re
@@ -18,9 +19,10 @@ import sources
 # The layers of the crates, the lowest first.
 LAYERS = {
     "names and data": ["zone_proto", "zone_sha1"],
-    "text and wire": ["message_reading", "message_writing", "line_text", "zone_scanner", "zone_tokens", "zone_file", "zone_file_writer"],
+    "text and wire": ["message_reading", "message_writing", "message_hmac", "message_tsig", "line_text", "zone_scanner", "zone_tokens", "record_fields",
+                      "zone_file", "zone_file_writer"],
     "the zone": ["zone_handler", "zone_map", "zone_signing", "zone_denial", "zone_verify", "zone_builder", "zone_lookup", "zone_in_memory"],
-    "signing": ["zone_keys", "zone_trimming", "zone_planning", "zone_planner"],
+    "signing": ["zone_keys", "zone_trimming", "zone_planning", "zone_planner", "zone_rollover"],
     "what it proves": ["denial_validation", "denial_laws", "response_laws", "server_laws"],
     "the server": ["zone_origins", "zone_response", "zone_server", "zone_database", "ningkraet"],
     "programs": ["zonectl_commands", "zonectl_session", "zonectl", "zone_check", "zone_sign", "zoned", "zone_store"],
@@ -60,7 +62,8 @@ def first_sentence(text):
 
 
 def in_cell(text):
-    return text.replace("|", "\\|")
+    """A text for a cell, its links to items as names."""
+    return re.sub(r"\[(`[^`]+`)\](?![(\[])", r"\1", text).replace("|", "\\|")
 
 
 def head_of_crate(crate):
@@ -75,7 +78,7 @@ def crates():
     parts = []
     for name, below in by_layers().items():
         rows = [f"| `{it}` | {first_sentence(head_of_crate(it))} | {code_words(sources.crates()[it])} |" for it in below]
-        parts.append("\n".join([f"**{name[0].upper()}{name[1:]}**", "", "| Crate | Holds | Stands on |", "|---|---|---|", *rows]))
+        parts.append("\n".join([f"**{name[0].upper()}{name[1:]}**", "", "| Crate | Contents | Depends on |", "|---|---|---|", *rows]))
     return "\n\n".join(parts)
 
 

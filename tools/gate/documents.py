@@ -1,18 +1,20 @@
 #!/usr/bin/env python3
-"""Checks that the documents are true, as far as their text can be laid beside the sources. Prints what isn't, each with its file
-and line, and ends with status 1 where something is.
+"""Checks that the documents are true, as far as their text can be compared with the sources. Prints what isn't, with file and line,
+and ends with status 1 if anything isn't.
 
-- The README's first path is the example's, and its answers are those of examples/answers; it has at most 160 lines, and docs/ 4,500.
+- The README's first session is the example's, and its answers are those of examples/answers; it has at most 160 lines, and docs/ 4,500.
 - Blocks of Rattle are lines of a source: those of the README and of DENIALS of crates/library_example.
 - The README's list of crates is what crates.txt has below library_example, and its toolchain has the logic that `rt version` prints.
 - README and PROMISES name each crate of the toolchain that is trusted.
-- Each contract, clause, word of the definitions, lemma, crate and file that a table names is there, and each name that is marked
-  as code stands somewhere in the sources.
-- DEFINITIONS has each file of definitions, and each crate has a layer (tools/gate/derived.py writes what the documents have from the
+- Each contract, clause, word of the definitions, lemma, crate and file that a table names exists, and each name that is marked as code
+  occurs somewhere in the sources. A row of a table has as many cells as the table's head.
+- If a table shows the way from a rule to its body, the body's file uses the definition (or a word that begins with it), and RFCS names
+  it for that section.
+- DEFINITIONS has each crate with definitions, and each crate has a layer (tools/gate/derived.py writes what the documents have from the
   sources alone).
 - RFCS names definitions of the crates that it says, its rows are in order, and each section that is cited elsewhere has a row, or
   its RFC is one of those without.
-- Links lead to files and headings that are there. Prose has at most 120 characters a line."""
+- Links lead to files and headings that exist. Prose has at most 120 characters a line."""
 
 import functools
 import os
@@ -262,6 +264,8 @@ def crate_of(table, row):
 def check_tables(path):
     for table in markdown.tables(path):
         for number, row in table.rows:
+            if len(row) != len(table.head):
+                yield number, f"{len(row)} cells below a head of {len(table.head)}"
             for head, cell in zip(table.head, row):
                 if head in COLUMNS and (head != "Part" or path == DEFINITIONS):
                     yield from ((number, it) for it in COLUMNS[head](cell, crate_of(table, row)))
@@ -280,16 +284,29 @@ def check_layers(path):
 
 
 def check_definitions(path):
-    """Each file of definitions is named: with its crate, or behind one that is, or as one `of` a crate."""
+    """Each crate that has definitions is named."""
     if path != DEFINITIONS:
         return
-    named, crate = set(), ""
-    for line in markdown.lines(path):
-        for part, file, other in re.findall(r"`(?:crates/(\w+)/specs/)?(\w+)\.antt`(?: of `(\w+)`)?", line.text):
-            crate = part or crate
-            named.add(f"crates/{other or crate}/specs/{file}.antt")
-    there = {it for crate in crates() for it in sources.files_below(f"crates/{crate}/specs", ".antt") if not it.endswith("/Lib.antt")}
-    yield from ((1, f"{it} isn't named") for it in sorted(there - named))
+    named = {it for line in markdown.lines(path) for it in markdown.spans(line.text)}
+    there = {it for it in crates() if any(not file.endswith("/Lib.antt") for file in sources.files_below(f"crates/{it}/specs", ".antt"))}
+    yield from ((1, f"{it}, which has definitions, isn't named") for it in sorted(there - named))
+
+
+def check_ways(path):
+    """A row that names a definition and the file of a body: the file uses one of the definitions, and a row of RFCS about the sections
+    that the row cites names each."""
+    for table in markdown.tables(path):
+        if not {"RFC", "Definition", "Body"} <= set(table.head):
+            continue
+        for number, row in table.rows:
+            rfc, definition, body = (row[table.head.index(it)] for it in ("RFC", "Definition", "Body"))
+            words = [it for it in markdown.spans(definition) if it not in crates()]
+            files = [it for it in markdown.spans(body) if os.path.exists(f"{sources.TOP}/{it}")]
+            if not any(re.search(rf"\b{it}", sources.read(file)) for it in words for file in files):
+                yield number, f"{body} uses none of {', '.join(words)}"
+            cited = set(rfcs.cited_in_text(rfc))
+            named = {it for told in rfcs.rows(RFCS) if any((told.rfc, one) in cited for one in told.sections) for it in markdown.spans(told.named)}
+            yield from ((number, f"no row of {RFCS} about {rfc} names {it}") for it in words if it not in named)
 
 
 # ---- the table of RFCs
@@ -316,6 +333,7 @@ def check_citations(path):
     if path != RFCS:
         return
     told = rfcs.told_in(path)
+    yield from ((1, f"RFC {it} has rows, and stands among those without") for it in sorted(told.without & set(told.sections)))
     for cited in sources.files_below(".", ".md", ".rt", ".antt", ".py", ".c", ".h", ".rs"):
         for rfc, section in rfcs.cited_in(cited) if cited != path else ():
             if not told.has(rfc, section):
@@ -376,6 +394,7 @@ CHECKS = [
     check_tables,
     check_layers,
     check_definitions,
+    check_ways,
     check_rfcs,
     check_citations,
     check_names,

@@ -1,8 +1,8 @@
 #!/usr/bin/env python3
-"""Checks that the first path that is computed by the definitions is the one that the README shows.
+"""Checks that the first session that is computed from the definitions is the one that the README shows.
 
 The texts `input` and `output` of crates/zonectl_session/proofs/FirstPath.antt have to be those of examples/first-path.txt and of
-its answers. Prints what differs, and ends with status 1 where something does.
+its answers. Prints what differs, and ends with status 1 if anything does.
 """
 import os
 import re

@@ -1,7 +1,7 @@
 #!/usr/bin/env python3
-"""Whether include/ningkraet.h declares what the static library has: the same names, in its order, with as many parameters of the same
-kinds, the same codes by the same numbers, and the same number of the interface. Where cc is there, the header is also compiled as C
-and as C++. Says what differs, and ends with the status 1 then."""
+"""Checks that include/ningkraet.h declares what the static library has: the same names, in the same order, with as many parameters of the
+same kinds, the same codes with the same numbers, and the same interface number. If cc is available, the header is also compiled as C
+and as C++. Prints what differs, and then ends with status 1."""
 import os
 import re
 import shutil

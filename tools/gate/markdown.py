@@ -1,6 +1,6 @@
 """Documents in Markdown, for the check of the documents: their lines by kind, and their tables, blocks of code, links and
-headings. They are of the plain forms that this repository uses: headings with `#`, fences with three backticks, tables with a
-line for each row."""
+headings. They have the plain forms that this repository uses: headings with `#`, fences of three backticks, tables with one line
+per row."""
 
 import re
 from typing import NamedTuple

@@ -1,13 +1,13 @@
 #!/usr/bin/env python3
-"""Checks the lists of public calls that take memory and of those that take none, calls-with-memory.txt and
-calls-without-memory.txt of crates/library_rows.
+"""Checks the lists of public calls that allocate and of those that don't, calls-with-memory.txt and calls-without-memory.txt of
+crates/library_rows.
 
-A line there is `CALL: ROW`, `CALL: by ROW` or `CALL: transcript NAME`, as the heads of the lists say. Each public call has to
-stand in one of the lists, and once, and what a line names has to be there: a row of crates/library_rows/data that refuses memory
-to the call, or a transcript of crates/zonectl_rows that refuses memory to its lines. The file that makes the calls of a row
-has to name the call, if the line doesn't say that another call makes it; of a transcript's call a source of the program has to,
-and beside it the type or module that has the call.
-Prints what is wrong, and ends with status 1 where something is.
+A line there is `CALL: ROW`, `CALL: by ROW` or `CALL: transcript NAME`, as the comments at the top of the lists say. Each public call has
+to be in exactly one of the lists, once, and what a line names has to exist: a row of crates/library_rows/data in which the call's
+allocations fail, or a transcript of crates/zonectl_rows in which those of its lines do. The file that makes the calls of a row has to
+name the call, unless the line says that another call makes it; for a call of a transcript a source of the program has to name it,
+together with the type or module that has the call.
+Prints what is wrong, and ends with status 1 if anything is.
 """
 import glob
 import os

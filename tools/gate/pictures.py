@@ -1,6 +1,6 @@
 #!/usr/bin/env python3
-"""Draws the pictures of the documents into docs/pictures, from crates.txt, the sources and the examples; `tools/gate/pictures.py --check` draws none,
-and tells which of them aren't as they would be drawn."""
+"""Draws the pictures of the documents into docs/pictures, from crates.txt, the sources and the examples; `tools/gate/pictures.py --check`
+draws none, and reports which of them aren't up to date."""
 
 import os
 import sys

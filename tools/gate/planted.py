@@ -1,14 +1,14 @@
 #!/usr/bin/env python3
-"""Wrong bodies as data: planted/CRATE/NAME.edit says how a body of a crate is turned, which the check has to refuse.
+"""Wrong bodies as data: planted/CRATE/NAME.edit says how to break a body of a crate, which the check has to refuse.
 
-  by: the clause of `f`      what refuses it, in names of the crate; where it isn't said, tools/gate/plant tells
+  by: the clause of `f`      what refuses it, in names of the crate; if it is missing, tools/gate/plant tells
   file: src/transfer.rt      a file of the crate
-  old: a line of it          what stands there once
-  new: another line          what is put in its place
+  old: a line of it          what occurs there once
+  new: another line          what replaces it
 
-More pairs of old and new, and more files, may follow. As a program, this checks that each can be applied: each old text stands
-once in its file, the names behind `by` are there, and docs/PROOFS.md has as many of each crate as there are. It prints what is
-wrong, and ends with status 1 where something is. tools/gate/plant tries them.
+More pairs of old and new, and more files, may follow. As a program, this checks that each can be applied: each old text occurs exactly
+once in its file, the names after `by` exist, and docs/PROOFS.md has the right number. It prints what is wrong, and ends with status 1 if
+anything is. tools/gate/plant tries them.
 """
 import functools
 import os
@@ -18,7 +18,6 @@ import sys
 sys.dont_write_bytecode = True
 sys.path.append(os.path.dirname(os.path.dirname(os.path.realpath(__file__))))
 
-import markdown
 import sources
 
 PROOFS = "docs/PROOFS.md"
@@ -100,20 +99,16 @@ def complaints():
     return found
 
 
-def counts():
-    """How many wrong bodies each crate has."""
-    return {crate: len(os.listdir(f"{sources.TOP}/planted/{crate}")) for crate in crates_with_planted()}
-
-
 def miscounted():
-    """What the table of PROOFS says otherwise of their numbers."""
-    tables = [it for it in markdown.tables(PROOFS) if it.head[:2] == ["Crate", "Wrong bodies"]]
-    stated = {row[0].strip("`"): int(row[1]) for it in tables for _, row in it.rows}
-    return [f"{PROOFS}: {crate} has {its}" for crate, its in counts().items() if stated.get(crate) != its]
+    """What PROOFS says otherwise of their number."""
+    there = sum(len(os.listdir(f"{sources.TOP}/planted/{crate}")) for crate in crates_with_planted())
+    stated = re.search(r"`planted/` has (\d+) wrong bodies", sources.read(PROOFS))
+    if not stated or int(stated[1]) != there:
+        yield f"{PROOFS}: planted/ has {there}"
 
 
 def main():
-    found = complaints() + miscounted()
+    found = [*complaints(), *miscounted()]
     for it in found:
         print(f"planted: {it}")
     return 1 if found else 0

@@ -1,5 +1,5 @@
-"""The picture of a query's way through the crates, from the octets that come to those that go: each box a crate with what it does
-and by which call, each arrow what is handed on. The calls have to be there."""
+"""The picture of a query's way through the crates, from the octets that arrive to those that leave: each box is a crate with what it does
+and in which call, each arrow what is passed on. The calls have to exist."""
 
 import sources
 import svg
@@ -10,16 +10,16 @@ WIDTH, HEIGHT, GAP = 214, 92, 60
 WAY = [
     ("message_reading", "read_query", ["octets become a query,", "or the first cause why not"]),
     ("zone_server", "zone_for", ["the zone of the longest", "origin at or above the name"]),
-    ("zone_response", "walk", ["the descent to the first cut", "or DNAME, aliases, the star"]),
-    ("zone_response", "respond", ["code, AA and sections; what", "proves it; hosts and glue"]),
-    ("message_writing", "write_response", ["groups within the limit,", "compressed; TC if one is cut"]),
+    ("zone_response", "walk", ["the descent to the first cut or", "DNAME, aliases, the wildcard"]),
+    ("zone_response", "respond", ["code, AA and sections; what", "proves it; addresses and glue"]),
+    ("message_writing", "write_response", ["groups within the limit,", "compressed; TC if one is left out"]),
 ]
 HANDED = ["query", "zone", "path", "sections"]
 # What is asked on the way, and by which boxes of it.
 BESIDE = [
     ("zone_database", "served", ["the zones that were loaded,", "and how each denies"], 1),
     ("zone_map", "exists", ["the sets of the zone in one", "map, in canonical order"], 2),
-    ("zone_denial", "closest_nsec", ["the NSEC or NSEC3 sets", "that deny a name"], 3),
+    ("zone_denial", "closest_nsec", ["the closest NSEC record", "at or before a name"], 3),
 ]
 
 
@@ -44,10 +44,10 @@ def arrow(picture, tail, tip):
 
 def draw():
     step = WIDTH + GAP
-    picture = svg.Picture(step * 3 + 30, 560, "A query's way through the crates, from the octets that come to those that go")
+    picture = svg.Picture(step * 3 + 30, 560, "A query's way through the crates, from the octets that arrive to those that leave")
     # Three boxes from left to right, and below them two back.
     places = [(20, 70), (20 + step, 70), (20 + 2 * step, 70), (20 + 2 * step, 300), (20 + step, 300)]
-    picture.text(20, 30, "ningkraet (C) or serve_frames of zone_server (zoned) hand in the octets of a query", 13, svg.BLACK, "start")
+    picture.text(20, 30, "ningkraet (C) or serve_frames of zone_server (zoned) pass in the octets of a query", 13, svg.BLACK, "start")
     arrow(picture, (20 + WIDTH / 2, 38), (20 + WIDTH / 2, 68))
     for (crate, call, words), (x, y) in zip(WAY, places):
         card(picture, x, y, crate, call, words, "#e8f0fa")
@@ -69,5 +69,5 @@ def draw():
         tip = (over[0] + 40, over[1] + HEIGHT + 2) if over[1] < y else (over[0] + 40, over[1])
         tail = (min(max(over[0] + 40, x + 20), x + WIDTH - 20), y)
         picture.path([tail, tip], svg.GREY, 1.2, "4 3")
-    picture.text(20, 545, "blue: the way; green: what is asked on it", 12, svg.GREY, "start")
+    picture.text(20, 545, "blue: the way of the query; green: what is asked on the way", 12, svg.GREY, "start")
     return picture.svg()

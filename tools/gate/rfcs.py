@@ -1,7 +1,7 @@
-"""RFCs and their sections, for the check of the documents: the rows of the table that tells which are kept, and what is cited.
+"""RFCs and their sections, for the check of the documents: the rows of the table that says which are followed, and what is cited.
 
-A section is the tuple of its parts, as (4, 3, 2); that of an appendix begins with the place of its letter behind all numbers. No
-section is the empty tuple, and stands for the whole RFC."""
+A section is the tuple of its parts, such as (4, 3, 2); that of an appendix begins with the position of its letter, after all numbers.
+The empty tuple stands for the whole RFC."""
 
 import re
 from typing import NamedTuple
@@ -75,7 +75,11 @@ def told_in(path):
     return told
 
 
-def cited_in(path):
-    """The RFCs that a file cites, each with a section, the empty one where it names none."""
-    for rfc, sections, appendix in CITED.findall(MARGIN.sub(" ", sources.read(path))):
+def cited_in_text(text):
+    """The RFCs that a text cites, each with a section, the empty one where it names none."""
+    for rfc, sections, appendix in CITED.findall(MARGIN.sub(" ", text)):
         yield from ((int(rfc), it) for it in sections_in(sections or appendix) or [()])
+
+
+def cited_in(path):
+    return cited_in_text(sources.read(path))
