@@ -39,10 +39,12 @@ def static_libraries():
 
 def standing_below(name, listed):
     """A crate and the crates of the repository that it stands on, in the order of crates.txt."""
-    needed = {name}
-    for it in reversed(listed):
-        if it in needed:
-            needed.update(listed[it])
+    needed, left = set(), [name]
+    while left:
+        crate = left.pop()
+        if crate in listed and crate not in needed:
+            needed.add(crate)
+            left += listed[crate]
     return [it for it in listed if it in needed]
 
 
