@@ -37,6 +37,7 @@ PLACES = {
     "zone_planner": (640, 10),
     "zone_rollover": (640, 11),
     "zone_sign": (440, 12),
+    "journal_frames": (1000, 2),
     "denial_validation": (810, 2),
     "denial_laws": (810, 5),
     "response_laws": (810, 8),
@@ -104,7 +105,7 @@ def draw():
     if missing := [it for it in uses if it not in PLACES]:
         raise SystemExit(f"crates_picture: no place is stated for {', '.join(missing)}")
     height = ROW * 15 + 60
-    picture = svg.Picture(920, height, "The crates by layers: each stands above those that it uses")
+    picture = svg.Picture(1100, height, "The crates by layers: each stands above those that it uses")
 
     def y(row):
         return height - 62 - ROW * row
