@@ -21,6 +21,7 @@ PLACES = {
     "message_writing": (300, 4),
     "message_hmac": (315, 5),
     "message_tsig": (262, 6),
+    "message_cookies": (400, 6),
     "zone_file": (170, 5),
     "zone_file_writer": (85, 6),
     "zone_handler": (450, 2),

@@ -1,0 +1,3 @@
+mod Padding
+mod Law
+mod CodeExamples
