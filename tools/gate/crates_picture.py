@@ -22,6 +22,7 @@ PLACES = {
     "message_hmac": (315, 5),
     "message_tsig": (262, 6),
     "message_cookies": (400, 6),
+    "ready_answers": (245, 7),
     "zone_file": (170, 5),
     "zone_file_writer": (85, 6),
     "zone_handler": (450, 2),
