@@ -36,7 +36,7 @@ impl ZoneHandler for Parked {
     ghost use Rattle.zone_handler.specs.declared.axfr_policy.AxfrPolicy.TheVariants.{AllowSigned};
     ghost use Rattle.zone_handler.specs.ControlFlow.{is_break};
     ghost use Rattle.zone_handler.specs.declared.control_flow.LookupControlFlow.TheVariants.{Break, Skip};
-    ghost use Rattle.zone_handler.specs.declared.lookup_error.LookupError.TheVariants.{NameExists};
+    ghost use Rattle.lookup_types.specs.declared.lookup_error.LookupError.TheVariants.{NameExists};
     ghost use Rattle.std.specs.Prelude.{◌≡◌, ◌==◌, true, Err, None};
     ghost use Rattle.zone_proto.specs.Types.{AXFR};
 

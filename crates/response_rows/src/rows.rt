@@ -4,7 +4,7 @@ use crate::questions::{say, say_at_last};
 use crate::zones::{Zone, add, ask, read_policy, read_zone, secure, serve, take_denials};
 use line_text::Words;
 use std::alloc::Global;
-use zone_handler::AxfrPolicy;
+use zone_server::TransferPolicy;
 
 /// What has been read of a file.
 #[derive(Drop)]
@@ -12,7 +12,7 @@ struct Reader<'t> {
     /// The zones of the server.
     zones: Vec<Zone>,
     /// Who may transfer them.
-    policies: Vec<AxfrPolicy>,
+    policies: Vec<TransferPolicy>,
     /// The line of the messages that are to be answered.
     asked: Option<&'t str>,
     /// The responses that are wanted.
@@ -113,7 +113,7 @@ fn judge(alloc: Global, reader: &mut Reader<'_>) -> anyhow::Result<()> {
 fn came_of(
     alloc: Global,
     zones: &[Zone],
-    policies: &[AxfrPolicy],
+    policies: &[TransferPolicy],
     asked: &str,
 ) -> anyhow::Result<String> {
     if let Some(words) = asked.strip_prefix("= ") {

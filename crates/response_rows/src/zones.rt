@@ -9,7 +9,7 @@ use std::alloc::Global;
 use zone_handler::{AxfrPolicy, ZoneHandler, ZoneType};
 use zone_proto::{NxProofKind, RecordType, Seq};
 use zone_response::ServedZone;
-use zone_server::{Answered, ListedZones, Mode, Server, answer, serve_frames};
+use zone_server::{Answered, ListedZones, Mode, Server, TransferPolicy, answer, serve_frames};
 use zone_store::InMemoryZoneHandler;
 use zone_store::program::{DemoSigner, Sha1Hash};
 
@@ -57,11 +57,11 @@ pub fn take_denials(zones: &mut Vec<Zone>) -> anyhow::Result<()> {
 }
 
 /// Who may transfer a zone, by its word.
-pub fn read_policy(word: &str) -> anyhow::Result<AxfrPolicy> {
+pub fn read_policy(word: &str) -> anyhow::Result<TransferPolicy> {
     match word {
-        "Deny" => Ok(AxfrPolicy::Deny),
-        "AllowAll" => Ok(AxfrPolicy::AllowAll),
-        "AllowSigned" => Ok(AxfrPolicy::AllowSigned),
+        "Deny" => Ok(TransferPolicy::Deny),
+        "AllowAll" => Ok(TransferPolicy::AllowAll),
+        "AllowSigned" => Ok(TransferPolicy::AllowSigned),
         _ => bail!("no policy"),
     }
 }
@@ -161,7 +161,7 @@ pub fn ask(alloc: Global, zones: &[Zone], words: &str) -> anyhow::Result<String>
 pub fn serve(
     alloc: Global,
     zones: &[Zone],
-    policies: &[AxfrPolicy],
+    policies: &[TransferPolicy],
     words: &str,
 ) -> anyhow::Result<String> {
     let Some((mode, hex)) = words.split_once(" ") else {

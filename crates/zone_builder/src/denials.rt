@@ -5,8 +5,8 @@ ghost use Rattle.zone_denial.specs.Nsec3Zones.{hash_with};
 ghost use Rattle.zone_builder.specs.DenialKinds.{announced_kind, chain_kind, denial_kind, first_kind, hashed_kind, named_kind, nsec3_set_of};
 
 use crate::nsec3_data::opts_out;
+use lookup_types::Nsec3QueryInfo;
 use zone_denial::chain_sets::has_parameters;
-use zone_handler::Nsec3QueryInfo;
 use zone_map::RecordMap;
 use zone_proto::{
     LowerName, NSEC3PARAM, Nsec3Hash, NxProofKind, ProtoError, RData, Record, RecordSet,

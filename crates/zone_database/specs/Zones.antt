@@ -11,14 +11,14 @@ use Rattle.zone_response.specs.Queries.{zone_of, HasOwnDenials}
 use Rattle.zone_response.specs.Queries as queries
 use Rattle.zone_builder.specs.DenialKinds as kinds
 use Rattle.zone_sha1.specs.declared.sha1_hash.Sha1Hash.{Sha1Hash}
-use Rattle.zone_database.specs.declared.static_signer.StaticSigner.{StaticSigner}
+use Rattle.zone_lookup.specs.declared.no_signer.NoSigner.{NoSigner}
 use Rattle.zone_database.specs.declared.zone.Zone.{Zone}
 use Rattle.zone_database.specs.ChainsBeside.{chain_beside}
 use Rattle.zone_sha1.specs.Digests.{name_digest}
 use Rattle.zone_signing.specs.Signatures.{answer_signatures}
 
 -- no signer of these zones signs
-abbrev pub never_signed : StaticSigner → SignedPart → ℕ → ℕ → Option RRSIG
+abbrev pub never_signed : NoSigner → SignedPart → ℕ → ℕ → Option RRSIG
 never_signed signer part inception class = None
 
 -- a zone as a query finds it: its denials are looked up among the sets of one chain, where there are others besides
@@ -26,7 +26,7 @@ abbrev pub served_zone : Zone → queries.Zone
 served_zone z = record { origin = z.origin; sets = z.inner.records; denials = unwrap_or z.denials z.inner.records; nx_proof_kind = z.nx_proof_kind; digest_of = name_digest; sign = λ signed. answer_signatures never_signed 0 signed z.inner.signers }
 
 -- zones as they are asked
-abbrev pub IsServed : List Zone → List (ServedZone StaticSigner Sha1Hash) → Type 0
+abbrev pub IsServed : List Zone → List (ServedZone NoSigner Sha1Hash) → Type 0
 IsServed zs served = map (zone_of never_signed (λ h. name_digest)) served ≡ map served_zone zs
 
 -- by what the zone of an origin with these sets denies, whose names are hashed by SHA-1 (RFC 5155 section 11)

@@ -15,12 +15,11 @@ mod raw_box;
 mod reading;
 mod reporting;
 mod serials;
-mod static_signer;
 mod zone;
 
 pub use database::ZoneDatabase;
 pub use handle::Handle;
 pub use outcome::Outcome;
 pub use reading::{ReadZone, TextFault, load_records, read_zone};
-pub use static_signer::StaticSigner;
 pub use zone::{Zone, served, zone_of};
+pub use zone_lookup::NoSigner;

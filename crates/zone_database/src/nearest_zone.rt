@@ -4,9 +4,9 @@ ghost use Rattle.zone_database.specs.Databases.{zones_in};
 ghost use Rattle.zone_database.specs.Zones.{served_zone};
 
 use crate::database::ZoneDatabase;
-use crate::static_signer::StaticSigner;
 use crate::zone::lent;
 use std::alloc::AllocError;
+use zone_lookup::NoSigner;
 use zone_origins::nearest;
 use zone_proto::LowerName;
 use zone_response::ServedZone;
@@ -14,7 +14,7 @@ use zone_server::ServedZones;
 use zone_sha1::Sha1Hash;
 
 impl ServedZones for ZoneDatabase {
-    type Signer = StaticSigner;
+    type Signer = NoSigner;
 
     type Hash = Sha1Hash;
 
@@ -23,7 +23,7 @@ impl ServedZones for ZoneDatabase {
     fn nearest(
         &self,
         name: &LowerName,
-    ) -> Result<Option<ServedZone<'_, StaticSigner, Sha1Hash>>, AllocError> {
+    ) -> Result<Option<ServedZone<'_, NoSigner, Sha1Hash>>, AllocError> {
         match nearest(&self.zones, name)? {
             Some((_, zone)) => Ok(Some(lent(zone))),
             None => Ok(None),

@@ -6,10 +6,9 @@ ghost use Rattle.zone_sha1.specs.Digests.{name_digest};
 ghost use Rattle.zone_database.specs.Zones.{never_signed, served_zone, zone_of_records, IsServed};
 
 use crate::chain::chain_beside;
-use crate::static_signer::StaticSigner;
 use std::alloc::{AllocError, Global};
 use zone_builder::denial_kind;
-use zone_lookup::InnerInMemory;
+use zone_lookup::{InnerInMemory, NoSigner};
 use zone_map::RecordMap;
 use zone_proto::{LowerName, NxProofKind, ProtoError};
 use zone_response::ServedZone;
@@ -21,7 +20,7 @@ pub struct Zone {
     /// The name at its top.
     pub origin: LowerName,
     /// Its record sets.
-    pub inner: InnerInMemory<StaticSigner>,
+    pub inner: InnerInMemory<NoSigner>,
     /// How it denies what it doesn't hold.
     pub nx_proof_kind: Option<NxProofKind>,
     /// Where it has NSEC or NSEC3 sets that don't belong to the chain by which it denies: its sets without these, in which its
@@ -52,7 +51,7 @@ pub fn zone_of(alloc: Global, origin: LowerName, records: RecordMap) -> Result<Z
 pub fn served(
     alloc: Global,
     zones: &[Zone],
-) -> Result<Vec<ServedZone<'_, StaticSigner, Sha1Hash>>, AllocError>
+) -> Result<Vec<ServedZone<'_, NoSigner, Sha1Hash>>, AllocError>
     ensures { IfOk result (λ served. IsServed zones.now served.items) }
 {
     let mut served = Vec::with_capacity(alloc, zones.len())?;
@@ -63,7 +62,7 @@ pub fn served(
 }
 
 /// A zone as it is asked.
-pub(crate) fn lent(zone: &Zone) -> ServedZone<'_, StaticSigner, Sha1Hash>
+pub(crate) fn lent(zone: &Zone) -> ServedZone<'_, NoSigner, Sha1Hash>
     ensures { zone_of never_signed (λ h. name_digest) result ≡ served_zone zone.now }
 {
     ServedZone {

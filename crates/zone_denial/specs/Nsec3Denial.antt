@@ -74,7 +74,7 @@ module _ {E : Type 0} (m : Sets) (hashed : Name → Result Name E) where
   abbrev pub enclosed : Bool → Name → Option Name → Result (List Name) E
   enclosed wildcard q None = Ok []
   enclosed wildcard q (Some a) =
-      result_and_then (λ closer. cond wildcard (Ok closer) (result_and_then (λ encloser. result_and_then (λ star. Ok (encloser ++ closer ++ star)) (wildcard_part a)) (match_of a)))
+      result_and_then (λ closer. cond wildcard (Ok closer) (result_and_then (λ encloser. result_and_then (λ at_wildcard. Ok (encloser ++ closer ++ at_wildcard)) (wildcard_part a)) (match_of a)))
       (option_map_or cover_of (next_closer q a) (Ok []))
 
   -- the owners of the sets that deny, ascending, each once: the name's own, unless a wildcard answered; else those with an encloser

@@ -7,8 +7,8 @@ use Rattle.zone_proto.specs.Names.{Name, name_cmp, caseless_cmp}
 use Rattle.zone_proto.specs.Sets.{RRset}
 use Rattle.zone_proto.specs.Types.{NSEC3}
 use Rattle.zone_map.specs.Zones.{Sets, set_at}
-use Rattle.zone_handler.specs.Hashing.{digest_for}
-use Rattle.zone_handler.specs.declared.nsec3_query_info.Nsec3QueryInfo.{Nsec3QueryInfo}
+use Rattle.lookup_types.specs.Hashing.{digest_for}
+use Rattle.lookup_types.specs.declared.nsec3_query_info.Nsec3QueryInfo.{Nsec3QueryInfo}
 use Rattle.zone_denial.specs.Nsec3Denial.{result_and_then, enclosed, nsec3_denial}
 use Rattle.zone_denial.specs.TypeLists.{joined, in_order}
 

@@ -13,8 +13,8 @@ use Rattle.zone_proto.specs.HashedOwners.{hashed_owner}
 use Rattle.zone_proto.specs.Names.{Name, name_cmp, name_eq, octets_cmp}
 use Rattle.zone_proto.specs.Sets.{RRset, empty_set, inserted}
 use Rattle.zone_proto.specs.Types.{IN, NSEC3, NSEC3PARAM}
-use Rattle.zone_handler.specs.declared.secure_error.SecureError.{SecureError}
-use Rattle.zone_handler.specs.declared.secure_error.SecureError.TheVariants as error
+use Rattle.lookup_types.specs.declared.secure_error.SecureError.{SecureError}
+use Rattle.lookup_types.specs.declared.secure_error.SecureError.TheVariants as error
 use Rattle.zone_map.specs.Zones.{Sets, set_at, owns}
 use Rattle.zone_denial.specs.Covering.{next_around}
 use Rattle.zone_denial.specs.Nsec3Circle.{nsec3_data, nsec3_types}

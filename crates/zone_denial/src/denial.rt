@@ -76,8 +76,8 @@ fn closest_beside<'m>(
     if !origin.zone_of(&name) {
         return closest_nsec_knowing(records, origin, closest, &mut Reads::new());
     }
-    let star = enclosed_wildcard(records, origin, name)?;
-    closest_nsec_knowing(records, &star, closest, &mut Reads::new())
+    let wildcard = enclosed_wildcard(records, origin, name)?;
+    closest_nsec_knowing(records, &wildcard, closest, &mut Reads::new())
 }
 
 /// The wildcard at the closest encloser of a name below the origin. Its only error is `Memory`.

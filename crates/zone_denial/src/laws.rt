@@ -110,7 +110,7 @@ pub fn next_below_empty()
 /// begins with `*` nor exists (RFC 4592 section 3.3.1). This holds if no name owns NSEC3.
 pub fn enclosers_agree()
     ensures encloser { EnclosersAgree }
-    ensures star { ProvedWildcardIsAsked }
+    ensures wildcard { ProvedWildcardIsAsked }
 {}
 
 /// For a name in the zone that doesn't begin with `*`, if neither it nor a name below it owns a set nor the wildcard that is
@@ -180,7 +180,7 @@ pub fn nsec3_denials_agree()
 /// holds if no name owns NSEC.
 pub fn nsec3_enclosers_agree()
     ensures encloser { Nsec3EnclosersAgree }
-    ensures star { Nsec3ProvedWildcardIsAsked }
+    ensures wildcard { Nsec3ProvedWildcardIsAsked }
 {}
 
 /// The same as [`absent_wildcard_is_denied`], for denials by NSEC3 without opt-out: if there is no such name, the wildcard at its
@@ -225,7 +225,7 @@ pub fn circles_are_chains()
 /// leave out names below a DNAME.
 pub fn nsec_chains_deny()
     ensures found_or_covered { ChainFindsOrCovers }
-    ensures star { ChainProvesWildcard }
+    ensures wildcard { ChainProvesWildcard }
     ensures listed { ChainListsAllOwned }
     ensures agree { ChainDenialsAgree }
     ensures absent { ChainNoNextBelowAbsent }
@@ -240,7 +240,7 @@ pub fn nsec_chains_deny()
 /// sets that `nsec3_denial` finds holds where the origin isn't the root: that call never looks up the root's set.
 pub fn nsec3_chains_deny()
     ensures found_or_enclosed { Nsec3ChainFindsOrEncloses }
-    ensures star { Nsec3ChainProvesWildcard }
+    ensures wildcard { Nsec3ChainProvesWildcard }
     ensures denied { Nsec3ChainDenies }
     ensures closer { Nsec3ChainCoversCloser }
     ensures listed { Nsec3ChainListsAllOwned }

@@ -6,7 +6,7 @@ ghost use Rattle.zone_denial.specs.Nsec3Lent.{hashed_for, query_denial, sets_of,
 
 use crate::nsec3_keys::{Hashing, Matched, covering, matching, matching_or_covering};
 use crate::owner_order::in_owner_order;
-use zone_handler::Nsec3QueryInfo;
+use lookup_types::Nsec3QueryInfo;
 use zone_map::RecordMap;
 use zone_proto::{LowerName, Nsec3Hash, ProtoError, RecordSet};
 
@@ -173,8 +173,8 @@ fn enclosed<'m, H: Nsec3Hash>(
     }
     // Name error or wildcard no data, distinguished by whether a set matches the wildcard.
     let wildcard_owner = wildcard_owner(hashing, next_closer, closer_owner)?;
-    let star = matching_or_covering(records, &wildcard_owner)?;
-    in_owner_order(alloc, Some(set), closer, star)
+    let wildcard_set = matching_or_covering(records, &wildcard_owner)?;
+    in_owner_order(alloc, Some(set), closer, wildcard_set)
 }
 
 /// The hashed owner of the wildcard at the encloser, which is the next closer name with `*` for its first label. Where

@@ -7,7 +7,7 @@ ghost use Rattle.zone_map.specs.Zones.{set_at, IsZone};
 ghost use Rattle.zone_denial.specs.Nsec3Denial.{match_owner, cover_owner};
 ghost use Rattle.zone_denial.specs.Nsec3Lent.{hashed_for};
 
-use zone_handler::Nsec3QueryInfo;
+use lookup_types::Nsec3QueryInfo;
 use zone_map::{Reads, RecordMap};
 use zone_proto::{LowerName, Nsec3Hash, ProtoError, RecordSet, RecordType, RrKey};
 

@@ -23,7 +23,7 @@ ghost use Rattle.zone_denial.specs.Nsec3Zones.{hash_with};
 use crate::hashed_names::{HashedName, hashed_names};
 use crate::nsec3_names::nsec3_names;
 use crate::nsec3_standing::{is_announced, nsec3_sets_stand};
-use zone_handler::SecureError;
+use lookup_types::SecureError;
 use zone_map::{NewSets, RecordMap};
 use zone_proto::{
     LowerName, NSEC3, NSEC3PARAM, Name, Nsec3Hash, ProtoError, RData, Record, RecordSet,

@@ -3,7 +3,7 @@ use Rattle.std.specs.Prelude.{◌≡◌, List, [], ◌∷◌, reverse}
 use Rattle.std.specs.Slice.Iter.{iter_rest}
 use Rattle.zone_proto.specs.declared.record.Record.{Record}
 use Rattle.zone_proto.specs.Sets.{RRset}
-use Rattle.zone_handler.specs.declared.lookup_options.LookupOptions.{LookupOptions}
+use Rattle.lookup_types.specs.declared.lookup_options.LookupOptions.{LookupOptions}
 use Rattle.zone_handler.specs.declared.lookup_records.LookupRecords.{LookupRecords}
 use Rattle.zone_handler.specs.declared.lookup_records.LookupRecords.TheVariants as L
 use Rattle.zone_handler.specs.declared.lookup_records_iter.LookupRecordsIter.{LookupRecordsIter}

@@ -4,8 +4,8 @@ use Rattle.zone_proto.specs.declared.response_code.ResponseCode.{ResponseCode}
 use Rattle.zone_proto.specs.declared.response_code.ResponseCode.TheVariants.{NotImp}
 use Rattle.zone_handler.specs.declared.auth_lookup.AuthLookup.{AuthLookup}
 use Rattle.zone_handler.specs.declared.control_flow.LookupControlFlow.{LookupControlFlow}
-use Rattle.zone_handler.specs.declared.lookup_error.LookupError.{LookupError}
-use Rattle.zone_handler.specs.declared.lookup_error.LookupError.TheVariants as error
+use Rattle.lookup_types.specs.declared.lookup_error.LookupError.{LookupError}
+use Rattle.lookup_types.specs.declared.lookup_error.LookupError.TheVariants as error
 use Rattle.zone_handler.specs.declared.tsig_response_context.TSigResponseContext.{TSigResponseContext}
 use Rattle.zone_handler.specs.declared.zone_transfer.ZoneTransfer.{ZoneTransfer}
 

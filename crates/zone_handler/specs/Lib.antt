@@ -1,8 +1,8 @@
+pub use Rattle.lookup_types.specs.Errors
+pub use Rattle.lookup_types.specs.Hashing
 pub mod ControlFlow
 pub mod Sets
-pub mod Errors
 pub mod Answers
 pub mod AuthLookup
 pub mod Transfers
 pub mod Defaults
-pub mod Hashing

@@ -5,7 +5,7 @@ use Rattle.zone_proto.specs.declared.record.Record.{Record}
 use Rattle.zone_proto.specs.Data.{type_of}
 use Rattle.zone_proto.specs.Sets.{RRset, lent}
 use Rattle.zone_proto.specs.Types.{SOA}
-use Rattle.zone_handler.specs.declared.lookup_options.LookupOptions.{LookupOptions}
+use Rattle.lookup_types.specs.declared.lookup_options.LookupOptions.{LookupOptions}
 
 -- one set: its records in order, and after them its signatures where the client asked for DNSSEC (RFC 4035 section 3.1.1)
 abbrev pub set_records : LookupOptions → RRset → List Record

@@ -4,9 +4,9 @@ use Rattle.std.specs.Borrow.{Bor}
 use Rattle.zone_handler.specs.declared.auth_lookup.AuthLookup.{AuthLookup}
 use Rattle.zone_handler.specs.declared.control_flow.LookupControlFlow.{LookupControlFlow}
 use Rattle.zone_handler.specs.declared.control_flow.LookupControlFlow.TheVariants.{Break}
-use Rattle.zone_handler.specs.declared.lookup_error.LookupError.{LookupError}
-use Rattle.zone_handler.specs.declared.lookup_error.LookupError.TheVariants as error
-use Rattle.zone_handler.specs.declared.net_error.NetError.TheVariants as net
+use Rattle.lookup_types.specs.declared.lookup_error.LookupError.{LookupError}
+use Rattle.lookup_types.specs.declared.lookup_error.LookupError.TheVariants as error
+use Rattle.lookup_types.specs.declared.net_error.NetError.TheVariants as net
 use Rattle.zone_handler.specs.declared.zone_transfer.ZoneTransfer.{ZoneTransfer}
 use Rattle.zone_proto.specs.declared.record.Record.{Record}
 use Rattle.zone_handler.specs.Answers.{records_in}

@@ -3,8 +3,8 @@ ghost use Rattle.std.specs.Prelude.{◌≡◌};
 ghost use Rattle.zone_handler.specs.Sets.{without_soa, axfr_records};
 
 use crate::axfr_records_iter::AxfrRecordsIter;
-use crate::lookup_options::LookupOptions;
 use crate::lookup_records::LookupRecords;
+use lookup_types::LookupOptions;
 use std::marker::Model;
 use zone_proto::{Record, RecordSet};
 

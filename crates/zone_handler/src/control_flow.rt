@@ -4,7 +4,7 @@ ghost use Rattle.std.specs.Option.{ForSome};
 ghost use Rattle.zone_handler.specs.ControlFlow.{is_continue, is_break, inner_result, flow_text, ok_value, err_value, KeepsCase, MapsOk, MapsErr};
 
 use crate::auth_lookup::AuthLookup;
-use crate::lookup_error::LookupError;
+use lookup_types::LookupError;
 use std::fmt;
 use std::fmt::Display;
 

@@ -1,11 +1,11 @@
 //! What a zone can be told about its signing.
 ghost use Rattle.std.specs.Prelude.{ℕ, Result};
 ghost use Rattle.zone_handler.specs.declared.key_error.KeyError.{KeyError};
-ghost use Rattle.zone_handler.specs.declared.secure_error.SecureError.{SecureError};
+ghost use Rattle.lookup_types.specs.declared.secure_error.SecureError.{SecureError};
 
 use crate::handler::ZoneHandler;
 use crate::key_error::KeyError;
-use crate::secure_error::SecureError;
+use lookup_types::SecureError;
 
 /// A zone that signers of type `S` sign (DNSSEC, RFC 4035 section 2).
 pub trait DnssecZoneHandler<S>: ZoneHandler {

@@ -8,11 +8,11 @@ ghost use Rattle.zone_proto.specs.declared.nx_proof_kind.NxProofKind.{NxProofKin
 ghost use Rattle.zone_proto.specs.declared.response_code.ResponseCode.{ResponseCode};
 ghost use Rattle.zone_handler.specs.declared.zone_type.ZoneType.{ZoneType};
 ghost use Rattle.zone_handler.specs.declared.axfr_policy.AxfrPolicy.{AxfrPolicy};
-ghost use Rattle.zone_handler.specs.declared.lookup_options.LookupOptions.{LookupOptions};
-ghost use Rattle.zone_handler.specs.declared.lookup_error.LookupError.{LookupError};
+ghost use Rattle.lookup_types.specs.declared.lookup_options.LookupOptions.{LookupOptions};
+ghost use Rattle.lookup_types.specs.declared.lookup_error.LookupError.{LookupError};
 ghost use Rattle.zone_handler.specs.declared.auth_lookup.AuthLookup.{AuthLookup};
 ghost use Rattle.zone_handler.specs.declared.control_flow.LookupControlFlow.{LookupControlFlow};
-ghost use Rattle.zone_handler.specs.declared.nsec3_query_info.Nsec3QueryInfo.{Nsec3QueryInfo};
+ghost use Rattle.lookup_types.specs.declared.nsec3_query_info.Nsec3QueryInfo.{Nsec3QueryInfo};
 ghost use Rattle.zone_handler.specs.declared.request.Request.{Request};
 ghost use Rattle.zone_handler.specs.declared.tsig_response_context.TSigResponseContext.{TSigResponseContext};
 ghost use Rattle.zone_handler.specs.declared.zone_transfer.ZoneTransfer.{ZoneTransfer};
@@ -22,14 +22,12 @@ ghost use Rattle.zone_handler.specs.Transfers.{IsNoLookup};
 use crate::auth_lookup::AuthLookup;
 use crate::axfr_policy::AxfrPolicy;
 use crate::control_flow::LookupControlFlow;
-use crate::lookup_error::LookupError;
-use crate::lookup_options::LookupOptions;
-use crate::nsec3_query_info::Nsec3QueryInfo;
 use crate::request::Request;
 use crate::request_info::RequestInfo;
 use crate::tsig_response_context::TSigResponseContext;
 use crate::zone_transfer::ZoneTransfer;
 use crate::zone_type::ZoneType;
+use lookup_types::{LookupError, LookupOptions, Nsec3QueryInfo};
 use zone_proto::{LowerName, NxProofKind, RecordType, ResponseCode};
 
 /// A zone that a server answers from.

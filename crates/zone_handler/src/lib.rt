@@ -1,8 +1,9 @@
-//! What a server asks a zone and what it gets: the handler's trait, the control flow of a chain of handlers, the options of a
-//! client, errors, and answers and transfers that lend their records in order.
+//! What a server asks a zone and what it gets: the handler's trait, the control flow of a chain of handlers, and answers and
+//! transfers that lend their records in order. The options of a client, the errors of a lookup and the query for an NSEC3
+//! denial are those of `lookup_types`, and are re-exported here.
 //!
-//! No call of this crate takes memory but those that hash a name: answers keep what they are handed, and reading them lends
-//! it. Contracts see an answer as the list of records that it gives a reader.
+//! No call of this crate takes memory: answers keep what they are handed, and reading them lends it. Contracts see an answer as
+//! the list of records that it gives a reader.
 #![tactic(auto)]
 
 mod auth_lookup;
@@ -14,15 +15,10 @@ mod control_flow;
 mod dnssec_handler;
 mod handler;
 mod key_error;
-mod lookup_error;
-mod lookup_options;
 mod lookup_records;
 mod lookup_records_iter;
-mod net_error;
-mod nsec3_query_info;
 mod request;
 mod request_info;
-mod secure_error;
 mod sets_iter;
 mod tsig_response_context;
 mod zone_transfer;
@@ -38,15 +34,13 @@ pub use control_flow::LookupControlFlow;
 pub use dnssec_handler::DnssecZoneHandler;
 pub use handler::ZoneHandler;
 pub use key_error::KeyError;
-pub use lookup_error::LookupError;
-pub use lookup_options::LookupOptions;
 pub use lookup_records::LookupRecords;
 pub use lookup_records_iter::LookupRecordsIter;
-pub use net_error::{NetError, NoRecords};
-pub use nsec3_query_info::Nsec3QueryInfo;
+pub use lookup_types::{
+    LookupError, LookupOptions, NetError, NoRecords, Nsec3QueryInfo, SecureError,
+};
 pub use request::Request;
 pub use request_info::RequestInfo;
-pub use secure_error::SecureError;
 pub use sets_iter::SetsIter;
 pub use tsig_response_context::TSigResponseContext;
 pub use zone_transfer::ZoneTransfer;

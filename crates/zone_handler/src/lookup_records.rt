@@ -3,9 +3,9 @@ ghost use Rattle.std.specs.Prelude.{◌≡◌, ◌↔◌, [], IsTrue};
 ghost use Rattle.zone_handler.specs.Sets.{set_records, sets_records};
 ghost use Rattle.zone_handler.specs.Answers.{records_in, left_in, sets_in, KeepsMany};
 
-use crate::lookup_options::LookupOptions;
 use crate::lookup_records_iter::LookupRecordsIter;
 use crate::sets_iter::SetsIter;
+use lookup_types::LookupOptions;
 use zone_proto::{Record, RecordSet};
 
 /// The records of one section of an answer (RFC 1035 section 4.1). The default is empty.

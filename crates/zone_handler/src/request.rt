@@ -1,8 +1,8 @@
 //! A request as a zone sees it: its questions.
 ghost use Rattle.std.specs.Prelude.{◌≡◌, ◌↔◌, ◌∷◌, [], length, IsOk, IfOk, IfErr};
 
-use crate::lookup_error::LookupError;
 use crate::request_info::RequestInfo;
+use lookup_types::LookupError;
 use zone_proto::Query;
 
 /// What a client asks of a server.

@@ -3,7 +3,7 @@ ghost use Rattle.std.specs.Prelude.{◌≡◌, ◌↔◌, [], reverse, IsNone, I
 ghost use Rattle.std.specs.Iterator.{YieldsFirstRef, item_count};
 ghost use Rattle.zone_handler.specs.Sets.{sets_records};
 
-use crate::lookup_options::LookupOptions;
+use lookup_types::LookupOptions;
 use std::marker::Model;
 use zone_proto::{Record, RecordSet, RrsetRecords};
 

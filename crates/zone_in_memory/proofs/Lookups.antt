@@ -7,14 +7,15 @@ use Rattle.zone_proto.specs.Sets.{RRset}
 use Rattle.zone_handler.specs.declared.auth_lookup.AuthLookup.{AuthLookup}
 use Rattle.zone_handler.specs.declared.control_flow.LookupControlFlow.{LookupControlFlow}
 use Rattle.zone_handler.specs.declared.control_flow.LookupControlFlow.TheVariants.{Continue}
-use Rattle.zone_handler.specs.declared.lookup_error.LookupError.{LookupError}
-use Rattle.zone_handler.specs.declared.lookup_options.LookupOptions.{LookupOptions}
+use Rattle.lookup_types.specs.declared.lookup_error.LookupError.{LookupError}
+use Rattle.lookup_types.specs.declared.lookup_options.LookupOptions.{LookupOptions}
 use Rattle.zone_map.specs.Zones.{Sets, owns, owns_at_or_below}
 use Rattle.zone_map.specs.Wildcards.{exists, asked_wildcard_exists, found}
 use Rattle.zone_map.specs.AnyTypes.{searched_type}
 use Rattle.zone_lookup.specs.Flattening.{last_set, beside}
 use Rattle.zone_lookup.specs.FoundSets.{exists_or_wildcard}
-use Rattle.zone_lookup.specs.Replies.{negative_answer, is_present, Reply, answered, negative, answer_sets, answer_section, IsAnswer, IsReplyFor, SaysAnswer}
+use Rattle.zone_lookup.specs.Replies.{negative_answer, is_present, Reply, answered, negative, answer_sets, answer_section, IsAnswer, IsReplyFor}
+use Rattle.zone_in_memory.specs.KeptReplies.{SaysAnswer}
 use Rattle.zone_in_memory.specs.Lookup.{error_of, Says, SaysOrMemory, IsAnswered}
 use Rattle.zone_map.proofs.AnyTypes.{found_owned, searched_owned}
 use Rattle.zone_map.proofs.ExistingNames.{owned_where_existing}

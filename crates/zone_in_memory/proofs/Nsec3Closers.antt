@@ -14,9 +14,9 @@ use Rattle.zone_proto.proofs.Names.NameTree.{above_test, is_at_or_above_complete
 use Rattle.zone_proto.proofs.Names.Tree.{name_order}
 use Rattle.zone_handler.specs.declared.auth_lookup.AuthLookup.{AuthLookup}
 use Rattle.zone_handler.specs.declared.control_flow.LookupControlFlow.{LookupControlFlow}
-use Rattle.zone_handler.specs.declared.lookup_error.LookupError.{LookupError}
-use Rattle.zone_handler.specs.declared.lookup_options.LookupOptions.{LookupOptions}
-use Rattle.zone_handler.specs.declared.nsec3_query_info.Nsec3QueryInfo.{Nsec3QueryInfo}
+use Rattle.lookup_types.specs.declared.lookup_error.LookupError.{LookupError}
+use Rattle.lookup_types.specs.declared.lookup_options.LookupOptions.{LookupOptions}
+use Rattle.lookup_types.specs.declared.nsec3_query_info.Nsec3QueryInfo.{Nsec3QueryInfo}
 use Rattle.zone_map.specs.Zones.{Sets, set_at, owns}
 use Rattle.zone_map.proofs.Delegations.{found_above}
 use Rattle.zone_denial.specs.Nsec3Circle.{digests, next_digest}

@@ -7,8 +7,8 @@ use Rattle.zone_proto.specs.Types.{A, AAAA, IN}
 use Rattle.zone_handler.specs.declared.auth_lookup.AuthLookup.{AuthLookup}
 use Rattle.zone_handler.specs.declared.control_flow.LookupControlFlow.{LookupControlFlow}
 use Rattle.zone_handler.specs.declared.control_flow.LookupControlFlow.TheVariants.{Continue, Break}
-use Rattle.zone_handler.specs.declared.lookup_error.LookupError.{LookupError}
-use Rattle.zone_handler.specs.declared.lookup_error.LookupError.TheVariants.{BadQueryCount, NameExists}
+use Rattle.lookup_types.specs.declared.lookup_error.LookupError.{LookupError}
+use Rattle.lookup_types.specs.declared.lookup_error.LookupError.TheVariants.{BadQueryCount, NameExists}
 use Rattle.zone_in_memory.specs.Requests.{IsSearch}
 use Rattle.zone_lookup.proofs.Examples.{at_apex}
 

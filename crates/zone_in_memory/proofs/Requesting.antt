@@ -6,8 +6,8 @@ use Rattle.zone_proto.specs.Names.{Name}
 use Rattle.zone_handler.specs.declared.auth_lookup.AuthLookup.{AuthLookup}
 use Rattle.zone_handler.specs.declared.control_flow.LookupControlFlow.{LookupControlFlow}
 use Rattle.zone_handler.specs.declared.control_flow.LookupControlFlow.TheVariants.{Break}
-use Rattle.zone_handler.specs.declared.lookup_error.LookupError.{LookupError}
-use Rattle.zone_handler.specs.declared.lookup_error.LookupError.TheVariants.{BadQueryCount}
+use Rattle.lookup_types.specs.declared.lookup_error.LookupError.{LookupError}
+use Rattle.lookup_types.specs.declared.lookup_error.LookupError.TheVariants.{BadQueryCount}
 use Rattle.zone_in_memory.specs.Requests.{IsSearch}
 
 module _ (IsAnswer : Name → ℕ → LookupControlFlow AuthLookup LookupError → Type 0) where

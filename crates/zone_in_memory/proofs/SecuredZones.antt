@@ -16,8 +16,8 @@ use Rattle.zone_proto.specs.Signing.{SignedPart}
 use Rattle.zone_proto.specs.Stepping.{stepped, stepped_soa, stepped_data, stepped_records}
 use Rattle.zone_proto.specs.Types.{SOA, CNAME, NSEC, NSEC3, NSEC3PARAM}
 use Rattle.zone_proto.proofs.Ordering.KeyOrder.{key_itself, key_same}
-use Rattle.zone_handler.specs.declared.secure_error.SecureError.{SecureError}
-use Rattle.zone_handler.specs.declared.secure_error.SecureError.TheVariants as secure_error
+use Rattle.lookup_types.specs.declared.secure_error.SecureError.{SecureError}
+use Rattle.lookup_types.specs.declared.secure_error.SecureError.TheVariants as secure_error
 use Rattle.zone_map.specs.Upserts.{is_denial_type, CnamesStandAlone}
 use Rattle.zone_map.specs.Zones.{Sets, set_at, owns, IsZone}
 use Rattle.zone_denial.specs.Authority.{owns_besides}

@@ -10,7 +10,7 @@ use Rattle.zone_proto.specs.Keys.{key}
 use Rattle.zone_proto.specs.Sets.{RRset}
 use Rattle.zone_proto.specs.Types.{NS, SOA, IN, AXFR}
 use Rattle.zone_handler.specs.declared.axfr_policy.AxfrPolicy.TheVariants.{Deny, AllowAll, AllowSigned}
-use Rattle.zone_handler.specs.declared.lookup_error.LookupError.TheVariants as error
+use Rattle.lookup_types.specs.declared.lookup_error.LookupError.TheVariants as error
 use Rattle.zone_handler.specs.Sets.{axfr_records}
 use Rattle.zone_map.specs.Zones.{Sets}
 use Rattle.zone_in_memory.specs.Transfers.{refusal}

@@ -23,7 +23,7 @@ use Rattle.zone_proto.proofs.Ordering.KeyLaws.{key_cmp_total}
 use Rattle.zone_proto.proofs.Ordering.KeyOrder.{equal_of, key_same, key_itself}
 use Rattle.zone_proto.proofs.Members.{In, In-Contains, Contains-In, In-filter, In-from_filter, In-map, In-from_map, In-flat_map, In-from_flat_map, and_left, and_right, not_true}
 use Rattle.zone_proto.proofs.Names.Tree.{name_order}
-use Rattle.zone_handler.specs.declared.lookup_options.LookupOptions.{LookupOptions}
+use Rattle.lookup_types.specs.declared.lookup_options.LookupOptions.{LookupOptions}
 use Rattle.zone_handler.specs.declared.lookup_records.LookupRecords.{LookupRecords}
 use Rattle.zone_handler.specs.declared.zone_transfer.ZoneTransfer.{ZoneTransfer}
 use Rattle.zone_handler.specs.Answers.{records_in}
@@ -35,10 +35,11 @@ use Rattle.zone_map.specs.Wildcards.{found, wildcard}
 use Rattle.zone_map.specs.Zones.{Sets, set_at, owns, IsStoredAt, IsZone}
 use Rattle.zone_map.proofs.Delegations.{found_above}
 use Rattle.zone_lookup.specs.Flattening.{last_set, stands_for_addresses, alone}
-use Rattle.zone_lookup.specs.Replies.{one_set, chained, negative, negative_answer, is_followed, answer_section, IsAnswer, KeepsAnswers}
+use Rattle.zone_lookup.specs.Replies.{one_set, chained, negative, negative_answer, is_followed, answer_section, IsAnswer}
+use Rattle.zone_in_memory.specs.KeptReplies.{KeepsAnswers}
 use Rattle.zone_in_memory.specs.Transfers.{plain, HasAnswers, IsSoaPart, IsTransfer}
 use Rattle.zone_in_memory.specs.TransferLaws.{HasSoa}
-use Rattle.zone_lookup.proofs.Replies.{stays_alone}
+use Rattle.zone_in_memory.proofs.Answering.{stays_alone}
 
 refuted : (b : Bool) → (b ≡ true → ⊥) → b ≡ false
 refuted true h = absurd (h refl)

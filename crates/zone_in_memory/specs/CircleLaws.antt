@@ -7,7 +7,7 @@ use Rattle.zone_proto.specs.declared.record.Record.{Record}
 use Rattle.zone_proto.specs.Names.{Name}
 use Rattle.zone_proto.specs.Signing.{SignedPart}
 use Rattle.zone_handler.specs.declared.key_error.KeyError.{KeyError}
-use Rattle.zone_handler.specs.declared.secure_error.SecureError.{SecureError}
+use Rattle.lookup_types.specs.declared.secure_error.SecureError.{SecureError}
 use Rattle.zone_denial.specs.NsecLaws.{IsNsecZone}
 use Rattle.zone_denial.specs.Nsec3Zones.{IsNsec3Zone}
 use Rattle.zone_lookup.specs.declared.zone_error.ZoneError.{ZoneError}

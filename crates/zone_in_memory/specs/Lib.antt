@@ -15,6 +15,7 @@ pub mod Handlers
 pub mod Insertions
 pub mod Construction
 pub mod Refusals
+pub mod KeptReplies
 pub mod Lookup
 pub mod AnsweredSets
 pub mod NsecAnswers

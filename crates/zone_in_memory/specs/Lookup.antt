@@ -9,12 +9,13 @@ use Rattle.zone_proto.specs.Types.{AXFR}
 use Rattle.zone_handler.specs.declared.auth_lookup.AuthLookup.{AuthLookup}
 use Rattle.zone_handler.specs.declared.control_flow.LookupControlFlow.{LookupControlFlow}
 use Rattle.zone_handler.specs.declared.control_flow.LookupControlFlow.TheVariants.{Continue}
-use Rattle.zone_handler.specs.declared.lookup_error.LookupError.{LookupError}
-use Rattle.zone_handler.specs.declared.lookup_error.LookupError.TheVariants as error
-use Rattle.zone_handler.specs.declared.lookup_options.LookupOptions.{LookupOptions}
+use Rattle.lookup_types.specs.declared.lookup_error.LookupError.{LookupError}
+use Rattle.lookup_types.specs.declared.lookup_error.LookupError.TheVariants as error
+use Rattle.lookup_types.specs.declared.lookup_options.LookupOptions.{LookupOptions}
 use Rattle.zone_handler.specs.Transfers.{IsNoLookup}
 use Rattle.zone_signing.specs.Signatures.{answer_signatures}
-use Rattle.zone_lookup.specs.Replies.{NegativeAnswer, name_exists, nx_domain, refused, Reply, negative, answered, IsReply, HasSections}
+use Rattle.zone_lookup.specs.Replies.{NegativeAnswer, name_exists, nx_domain, refused, Reply, negative, answered, IsReply}
+use Rattle.zone_in_memory.specs.KeptReplies.{HasSections}
 use Rattle.zone_in_memory.specs.Handlers.{Zone}
 
 -- the negative answers as errors

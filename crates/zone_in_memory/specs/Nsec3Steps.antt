@@ -7,13 +7,13 @@ use Rattle.zone_handler.specs.declared.auth_lookup.AuthLookup.{AuthLookup}
 use Rattle.zone_handler.specs.declared.auth_lookup.AuthLookup.TheVariants as answer
 use Rattle.zone_handler.specs.declared.control_flow.LookupControlFlow.{LookupControlFlow}
 use Rattle.zone_handler.specs.declared.control_flow.LookupControlFlow.TheVariants.{Continue}
-use Rattle.zone_handler.specs.declared.lookup_error.LookupError.{LookupError}
-use Rattle.zone_handler.specs.declared.lookup_error.LookupError.TheVariants as error
-use Rattle.zone_handler.specs.declared.lookup_options.LookupOptions.{LookupOptions}
+use Rattle.lookup_types.specs.declared.lookup_error.LookupError.{LookupError}
+use Rattle.lookup_types.specs.declared.lookup_error.LookupError.TheVariants as error
+use Rattle.lookup_types.specs.declared.lookup_options.LookupOptions.{LookupOptions}
 use Rattle.zone_handler.specs.declared.lookup_records.LookupRecords.{LookupRecords}
-use Rattle.zone_handler.specs.declared.nsec3_query_info.Nsec3QueryInfo.{Nsec3QueryInfo}
+use Rattle.lookup_types.specs.declared.nsec3_query_info.Nsec3QueryInfo.{Nsec3QueryInfo}
 use Rattle.zone_handler.specs.Answers.{sets_in, KeepsMany}
-use Rattle.zone_handler.specs.Errors.{error_of_proto}
+use Rattle.lookup_types.specs.Errors.{error_of_proto}
 use Rattle.zone_denial.specs.Nsec3Lent.{query_denial}
 use Rattle.zone_in_memory.specs.Handlers.{Zone}
 

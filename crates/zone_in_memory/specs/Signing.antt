@@ -12,8 +12,8 @@ use Rattle.zone_proto.specs.Stepping.{stepped_soa}
 use Rattle.zone_proto.specs.Types.{IN, NSEC}
 use Rattle.zone_handler.specs.declared.key_error.KeyError.{KeyError}
 use Rattle.zone_handler.specs.declared.key_error.KeyError.TheVariants as key_error
-use Rattle.zone_handler.specs.declared.secure_error.SecureError.{SecureError}
-use Rattle.zone_handler.specs.declared.secure_error.SecureError.TheVariants as secure_error
+use Rattle.lookup_types.specs.declared.secure_error.SecureError.{SecureError}
+use Rattle.lookup_types.specs.declared.secure_error.SecureError.TheVariants as secure_error
 use Rattle.zone_map.specs.Upserts.{upserted, CnamesStandAlone}
 use Rattle.zone_denial.specs.Authority.{owns_besides}
 use Rattle.zone_denial.specs.NsecLaws.{IsNsecZone}

@@ -7,7 +7,7 @@ use Rattle.zone_proto.specs.Names.{Name, IsAbove}
 use Rattle.zone_proto.specs.Records.{same_record}
 use Rattle.zone_proto.specs.Sets.{RRset}
 use Rattle.zone_proto.specs.Types.{CNAME, SOA}
-use Rattle.zone_handler.specs.declared.lookup_options.LookupOptions.{LookupOptions}
+use Rattle.lookup_types.specs.declared.lookup_options.LookupOptions.{LookupOptions}
 use Rattle.zone_handler.specs.declared.zone_transfer.ZoneTransfer.{ZoneTransfer}
 use Rattle.zone_handler.specs.Sets.{set_records}
 use Rattle.zone_handler.specs.Transfers.{transfer_records}

@@ -11,9 +11,9 @@ use Rattle.zone_proto.specs.Signing.{SignedPart}
 use Rattle.zone_proto.specs.Types.{SOA, AXFR}
 use Rattle.zone_handler.specs.declared.axfr_policy.AxfrPolicy.{AxfrPolicy}
 use Rattle.zone_handler.specs.declared.axfr_policy.AxfrPolicy.TheVariants.{AllowAll}
-use Rattle.zone_handler.specs.declared.lookup_error.LookupError.{LookupError}
-use Rattle.zone_handler.specs.declared.lookup_error.LookupError.TheVariants as error
-use Rattle.zone_handler.specs.declared.lookup_options.LookupOptions.{LookupOptions}
+use Rattle.lookup_types.specs.declared.lookup_error.LookupError.{LookupError}
+use Rattle.lookup_types.specs.declared.lookup_error.LookupError.TheVariants as error
+use Rattle.lookup_types.specs.declared.lookup_options.LookupOptions.{LookupOptions}
 use Rattle.zone_handler.specs.declared.lookup_records.LookupRecords.{LookupRecords}
 use Rattle.zone_handler.specs.declared.lookup_records.LookupRecords.TheVariants as section
 use Rattle.zone_handler.specs.declared.tsig_response_context.TSigResponseContext.{TSigResponseContext}
@@ -21,7 +21,8 @@ use Rattle.zone_handler.specs.declared.zone_transfer.ZoneTransfer.{ZoneTransfer}
 use Rattle.zone_handler.specs.Sets.{axfr_records}
 use Rattle.zone_map.specs.Zones.{Sets}
 use Rattle.zone_in_memory.specs.Handlers.{Zone}
-use Rattle.zone_lookup.specs.Replies.{Reply, answered, IsReply, KeepsAnswers}
+use Rattle.zone_lookup.specs.Replies.{Reply, answered, IsReply}
+use Rattle.zone_in_memory.specs.KeptReplies.{KeepsAnswers}
 use Rattle.zone_signing.specs.Signatures.{answer_signatures}
 
 -- anybody may have the zone; no signature of a request is tested, so a policy that asks for one lets nobody have it

@@ -17,6 +17,7 @@ mod denial;
 mod handler;
 mod signing;
 
+use crate::answering::answer;
 use crate::construction;
 use std::collections::BTreeMap;
 use std::marker::Model;
@@ -244,9 +245,15 @@ impl<S: Signer, H: Nsec3Hash> InMemoryZoneHandler<S, H> {
         let mut searches = Searches::new();
         let inner = &self.inner;
         match inner.find(name, record_type, lookup_options, &mut searches)? {
-            Outcome::Found(found) => {
-                Ok(inner.answer(name, record_type, found, lookup_options, now, &mut searches)?)
-            }
+            Outcome::Found(found) => Ok(answer(
+                inner,
+                name,
+                record_type,
+                found,
+                lookup_options,
+                now,
+                &mut searches,
+            )?),
             Outcome::NoData => Err(LookupError::for_name_exists()),
             Outcome::NoName => Err(self.negative_answer(name)?),
         }
@@ -270,7 +277,7 @@ impl<S: Signer, H: Nsec3Hash> InMemoryZoneHandler<S, H> {
 
     /// The negative answer for a name that has no wildcard which exists. Its only error is `Memory`.
     fn negative_answer(&self, name: &LowerName) -> Result<LookupError, LookupError>
-        requires no_star { asked_wildcard_exists self.now.inner.records name.now ≡ false }
+        requires no_wildcard { asked_wildcard_exists self.now.inner.records name.now ≡ false }
         ensures answer { IfOk result
             (λ error. error
             ≡ error_of (negative_answer self.now.origin self.now.inner.records name.now)) }

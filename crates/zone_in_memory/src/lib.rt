@@ -9,6 +9,7 @@
 //! insertion that answers false, and any call that is refused, leaves the zone as it was.
 #![tactic(auto)]
 
+mod answering;
 mod construction;
 mod in_memory_zone_handler;
 pub mod laws;

@@ -9,7 +9,6 @@ pub mod SeenNames
 pub mod ListedSets
 pub mod SecuredRecords
 pub mod KeptDenials
-pub mod Replies
 pub mod NegativeReplies
 pub mod Examples
 pub mod SearchExamples

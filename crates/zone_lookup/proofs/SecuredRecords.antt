@@ -1,8 +1,8 @@
 -- The record sets of a zone after a call that secures them
 use Rattle.std.proofs.Common.{◌≡◌, ◌⊎◌, inl, inr, Bool, false, sym, ap, ◌∙◌, subst}
 use Rattle.std.specs.Prelude.{Result, Ok, Err, Option, Some, cond, OnOk, OnErr}
-use Rattle.zone_handler.specs.declared.secure_error.SecureError.{SecureError}
-use Rattle.zone_handler.specs.declared.secure_error.SecureError.TheVariants as error
+use Rattle.lookup_types.specs.declared.secure_error.SecureError.{SecureError}
+use Rattle.lookup_types.specs.declared.secure_error.SecureError.TheVariants as error
 use Rattle.zone_map.specs.Zones.{Sets, IsZone}
 
 -- a map that is changed into the sets of a zone, or stays as it was, has those of a zone

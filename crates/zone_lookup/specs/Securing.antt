@@ -6,8 +6,8 @@ use Rattle.zone_proto.specs.declared.nx_proof_kind.NxProofKind.TheVariants as ki
 use Rattle.zone_proto.specs.declared.rdata.denial.NSEC3PARAM.{NSEC3PARAM as Nsec3Parameters}
 use Rattle.zone_proto.specs.Names.{Name}
 use Rattle.zone_proto.specs.Types.{CNAME, NSEC, NSEC3}
-use Rattle.zone_handler.specs.declared.secure_error.SecureError.{SecureError}
-use Rattle.zone_handler.specs.declared.secure_error.SecureError.TheVariants as error
+use Rattle.lookup_types.specs.declared.secure_error.SecureError.{SecureError}
+use Rattle.lookup_types.specs.declared.secure_error.SecureError.TheVariants as error
 use Rattle.zone_map.specs.Zones.{Sets, set_at, owns}
 use Rattle.zone_denial.specs.NsecSets.{nsec_set_at}
 use Rattle.zone_denial.specs.Nsec3Sets.{nsec3_sets_at, nsec3_fault}

@@ -14,7 +14,7 @@ use crate::found::Found;
 use crate::inner_in_memory::InnerInMemory;
 use crate::listed_sets::ListedSets;
 use crate::seen_names::SeenNames;
-use zone_handler::{LookupError, LookupOptions};
+use lookup_types::{LookupError, LookupOptions};
 use zone_map::Searches;
 use zone_map::direct::is_address;
 use zone_proto::{LowerName, Name, ProtoError, RData, RecordSet, RecordType, Signer};

@@ -7,7 +7,7 @@ ghost use Rattle.zone_map.specs.Counts.{counted_more};
 
 use crate::found::Found;
 use crate::inner_in_memory::InnerInMemory;
-use zone_handler::{LookupError, LookupOptions};
+use lookup_types::{LookupError, LookupOptions};
 use zone_map::Searches;
 use zone_proto::{LowerName, ProtoError, RData, RecordSet, RecordType, Signer};
 
@@ -89,8 +89,8 @@ pub fn cname_target(set: &RecordSet) -> Result<Option<LowerName>, ProtoError>
     }
 }
 
-/// The sets themselves: lent ones are copied, made ones handed out.
-pub(crate) fn into_sets(chain: Vec<Found<'_>>) -> Result<Vec<RecordSet>, LookupError>
+/// The sets themselves: lent ones are copied, made ones handed out. Its only error is `Memory`.
+pub fn into_sets(chain: Vec<Found<'_>>) -> Result<Vec<RecordSet>, LookupError>
     ensures sets { IfOk result (λ sets. sets.items ≡ map found_set chain.entry.items) }
     ensures err { IsOkUnless result LookupError.Memory }
 {

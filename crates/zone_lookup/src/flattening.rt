@@ -3,7 +3,7 @@ ghost use Rattle.std.specs.Prelude.{◌≡◌, IfOk, IsOkUnless};
 ghost use Rattle.zone_lookup.specs.Flattening.{flattened, stands_for_addresses, unsigned_flattened};
 ghost use Rattle.zone_signing.specs.Signatures.{answer_signatures};
 
-use zone_handler::LookupOptions;
+use lookup_types::LookupOptions;
 use zone_map::direct::is_address;
 use zone_proto::{ProtoError, RecordSet, RecordType, Signer};
 use zone_signing::signatures::{LAST_MOMENT, sign_set};
@@ -53,7 +53,7 @@ fn unsigned_flattened(
 }
 
 /// Whether a set is an ANAME set where addresses are asked for.
-pub(crate) fn stands_for_addresses(record_type: RecordType, set: &RecordSet) -> bool
+pub fn stands_for_addresses(record_type: RecordType, set: &RecordSet) -> bool
     ensures { result ≡ stands_for_addresses record_type.0 set.now }
 {
     set.record_type() == RecordType::ANAME && is_address(record_type)

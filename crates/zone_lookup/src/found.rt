@@ -2,7 +2,7 @@
 ghost use Rattle.std.specs.Prelude.{◌≡◌, IfOk, IsOkUnless};
 ghost use Rattle.zone_lookup.specs.FoundSets.{found_set, outcome_found};
 
-use zone_handler::LookupError;
+use lookup_types::LookupError;
 use zone_proto::RecordSet;
 
 /// A record set that a search found in a zone.

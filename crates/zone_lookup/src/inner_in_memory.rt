@@ -10,7 +10,7 @@ ghost use Rattle.zone_denial.specs.NsecCircle.{IsNsecCircle};
 ghost use Rattle.zone_denial.specs.OwnersRead.{owners_read, GrewByAtMost};
 ghost use Rattle.zone_proto.specs.Names.{Name, wildcard_of};
 ghost use Rattle.zone_proto.specs.declared.error.ProtoError.{ProtoError};
-ghost use Rattle.zone_handler.specs.Errors.{error_of_proto};
+ghost use Rattle.lookup_types.specs.Errors.{error_of_proto};
 ghost use Rattle.zone_lookup.specs.FoundSets.{found_set, lent_set, IsOutcome};
 ghost use Rattle.zone_map.specs.Direct.{direct};
 ghost use Rattle.zone_map.specs.Wildcards.{asked_wildcard, exists, found};
@@ -22,12 +22,12 @@ mod securing;
 
 use crate::found::{Found, Outcome};
 use crate::zone_error::ZoneError;
+use lookup_types::{LookupError, LookupOptions, Nsec3QueryInfo};
 use std::alloc::Global;
 use std::collections::BTreeMap;
 use std::marker::Model;
 use zone_denial::denial::{self, NsecDenial};
 use zone_denial::{closest, nsec3_denial};
-use zone_handler::{LookupError, LookupOptions, Nsec3QueryInfo};
 use zone_map::direct::{self, Direct};
 use zone_map::{DenialOwners, Reads, RecordMap, Searches, wildcard};
 use zone_proto::{
@@ -340,7 +340,7 @@ impl<S: Signer> InnerInMemory<S> {
         next_closer: LowerName,
     ) -> Result<Outcome<'_>, LookupError>
         requires none { direct self.now.records name.now record_type.0 ≡ None }
-        requires star { asked_wildcard self.now.records name.now ≡ Some (wildcard_of next_closer) }
+        requires asked { asked_wildcard self.now.records name.now ≡ Some (wildcard_of next_closer) }
         ensures outcome { IfOk result
             (λ outcome. IsOutcome self.now.records lookup_options.dnssec_ok name.now record_type.0
             outcome) }

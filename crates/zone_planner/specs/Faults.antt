@@ -4,8 +4,8 @@ use Rattle.std.specs.Option.{option_or}
 use Rattle.zone_proto.specs.declared.nx_proof_kind.NxProofKind.{NxProofKind}
 use Rattle.zone_proto.specs.declared.nx_proof_kind.NxProofKind.TheVariants as kind
 use Rattle.zone_proto.specs.Names.{Name}
-use Rattle.zone_handler.specs.declared.secure_error.SecureError.{SecureError}
-use Rattle.zone_handler.specs.declared.secure_error.SecureError.TheVariants as error
+use Rattle.lookup_types.specs.declared.secure_error.SecureError.{SecureError}
+use Rattle.lookup_types.specs.declared.secure_error.SecureError.TheVariants as error
 use Rattle.zone_map.specs.Zones.{Sets}
 use Rattle.zone_sha1.specs.Digests.{name_digest}
 use Rattle.zone_denial.specs.Nsec3Sets.{nsec3_fault}

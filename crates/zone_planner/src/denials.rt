@@ -13,10 +13,10 @@ ghost use Rattle.zone_planning.specs.Answering.{plans};
 ghost use Rattle.zone_planner.specs.Faults.{denial_fault, hash_fault};
 ghost use Rattle.zone_planner.specs.Plans.{denial_ttl, denied_by, denied_by_hashes, denied_by_names};
 
+use lookup_types::SecureError;
 use std::alloc::Global;
 use zone_denial::nsec_sets::nsec_sets;
 use zone_denial::nsec3_sets::nsec3_sets;
-use zone_handler::SecureError;
 use zone_lookup::start_of_authority::first_soa;
 use zone_map::{NewSets, RecordMap};
 use zone_planning::{PlanFault, PlanSigner};

@@ -8,8 +8,8 @@ use Rattle.zone_proto.specs.declared.response_code.ResponseCode.TheVariants as c
 use Rattle.zone_proto.specs.Names.{Name}
 use Rattle.zone_proto.specs.Sets.{RRset}
 use Rattle.zone_proto.specs.Types.{SOA}
-use Rattle.zone_handler.specs.declared.lookup_error.LookupError.{LookupError}
-use Rattle.zone_handler.specs.declared.lookup_error.LookupError.TheVariants as error
+use Rattle.lookup_types.specs.declared.lookup_error.LookupError.{LookupError}
+use Rattle.lookup_types.specs.declared.lookup_error.LookupError.TheVariants as error
 use Rattle.zone_map.specs.Zones.{set_at}
 use Rattle.zone_response.specs.declared.response.Response.{Response}
 use Rattle.zone_response.specs.Paths.{Path, path}

@@ -8,7 +8,7 @@ use Rattle.zone_proto.specs.declared.nx_proof_kind.NxProofKind.TheVariants as ki
 use Rattle.zone_proto.specs.Names.{Name, is_at_or_above, proper_ancestors, wildcard_under, suffixes}
 use Rattle.zone_proto.specs.Sets.{RRset}
 use Rattle.zone_proto.specs.Types.{NSEC3}
-use Rattle.zone_handler.specs.declared.nsec3_query_info.Nsec3QueryInfo.{Nsec3QueryInfo}
+use Rattle.lookup_types.specs.declared.nsec3_query_info.Nsec3QueryInfo.{Nsec3QueryInfo}
 use Rattle.zone_map.specs.Zones.{Sets, set_at}
 use Rattle.zone_denial.specs.Nsec3Denial.{cover_owner}
 use Rattle.zone_denial.specs.Nsec3Lent.{hashed_for, owner_cmp}

@@ -10,7 +10,7 @@ use crate::lists::send_made;
 use crate::names::is_at_or_above;
 use crate::response::is_signed;
 use crate::steps::{Asked, End, Next, SoFar, add_made, at_missing, found_for, keeps, part_for};
-use zone_handler::{LookupError, LookupOptions};
+use lookup_types::{LookupError, LookupOptions};
 use zone_lookup::{Found, InnerInMemory, flattened, next_name, run_target};
 use zone_map::Searches;
 use zone_proto::{LowerName, ProtoError, RecordSet, RecordType, Signer};

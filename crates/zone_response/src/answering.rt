@@ -13,8 +13,8 @@ use crate::question::{Question, ServedZone};
 use crate::response::{Response, Sent};
 use crate::sections::{authorities, code_at, fails, is_authority, left_at, send_additionals};
 use crate::steps::Asked;
+use lookup_types::{LookupError, LookupOptions};
 use std::alloc::Global;
-use zone_handler::{LookupError, LookupOptions};
 use zone_lookup::InnerInMemory;
 use zone_map::Counter;
 use zone_proto::{

@@ -16,8 +16,8 @@ use crate::question::ServedZone;
 use crate::response::{Part, Sent};
 use crate::steps::End;
 use crate::wildcards::source_of_synthesis;
+use lookup_types::{LookupError, Nsec3QueryInfo};
 use zone_denial::closest::closest_nsec;
-use zone_handler::{LookupError, Nsec3QueryInfo};
 use zone_map::{Counter, RecordMap};
 use zone_proto::{LowerName, Nsec3Hash, NxProofKind, ProtoError, RecordSet, RecordType, Signer};
 

@@ -13,8 +13,8 @@ use crate::covering::{covering, matching, matching_or_covering};
 use crate::lists::push;
 use crate::names::{is_at_or_above, same_name};
 use crate::question::ServedZone;
+use lookup_types::{LookupError, Nsec3QueryInfo};
 use zone_denial::owner_order::in_owner_order;
-use zone_handler::{LookupError, Nsec3QueryInfo};
 use zone_map::{Counter, RecordMap};
 use zone_proto::{LowerName, Nsec3Hash, ProtoError, RecordSet, Signer};
 

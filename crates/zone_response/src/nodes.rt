@@ -9,7 +9,7 @@ ghost use Rattle.zone_response.specs.NodeSets.{StandsAt};
 use crate::node_sets::NodeSets;
 use crate::query_types::asks_any;
 use crate::response::is_signed;
-use zone_handler::LookupError;
+use lookup_types::LookupError;
 use zone_lookup::InnerInMemory;
 use zone_map::direct::is_address;
 use zone_proto::{RecordSet, RecordType, RrKey, Signer};

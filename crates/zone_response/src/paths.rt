@@ -12,7 +12,7 @@ use crate::names::has_name;
 use crate::node_sets::NodeSets;
 use crate::response::Sent;
 use crate::steps::{Asked, End, Next, SoFar, step};
-use zone_handler::LookupError;
+use lookup_types::LookupError;
 use zone_lookup::InnerInMemory;
 use zone_proto::{LowerName, Signer};
 

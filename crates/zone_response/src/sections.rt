@@ -12,7 +12,7 @@ use crate::lists::{lend, lend_for};
 use crate::question::ServedZone;
 use crate::response::{Part, Sent};
 use crate::steps::{Asked, End, part_for};
-use zone_handler::LookupError;
+use lookup_types::LookupError;
 use zone_lookup::InnerInMemory;
 use zone_lookup::start_of_authority::first_soa;
 use zone_map::Counter;

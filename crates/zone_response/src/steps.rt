@@ -21,7 +21,7 @@ use crate::node_sets::{NodeSets, exists, read_node_sets};
 use crate::nodes::{Node, at_node};
 use crate::response::{Part, Sent};
 use crate::wildcards::source_of_synthesis;
-use zone_handler::LookupError;
+use lookup_types::LookupError;
 use zone_lookup::{Found, InnerInMemory, cname_target};
 use zone_map::wildcard::renamed;
 use zone_proto::{LowerName, Name, ProtoError, RecordSet, RecordType, RrKey, Signer};

@@ -4,8 +4,8 @@ use Rattle.std.specs.Prelude.{Option, Some, None, option_map, unwrap_or}
 use Rattle.zone_proto.specs.Names.{Name, name_eq}
 use Rattle.zone_proto.specs.declared.rdata.signing.RRSIG.{RRSIG}
 use Rattle.zone_proto.specs.Signing.{SignedPart}
-use Rattle.zone_handler.specs.declared.axfr_policy.AxfrPolicy.{AxfrPolicy}
-use Rattle.zone_handler.specs.declared.axfr_policy.AxfrPolicy.TheVariants.{Deny}
+use Rattle.zone_server.specs.declared.transfer_policy.TransferPolicy.{TransferPolicy}
+use Rattle.zone_server.specs.declared.transfer_policy.TransferPolicy.TheVariants.{Deny}
 use Rattle.zone_response.specs.Queries.{Zone, zone_of}
 use Rattle.zone_response.specs.declared.question.ServedZone.{ServedZone}
 use Rattle.zone_server.specs.ListedZones.{origins, place_of}
@@ -33,23 +33,23 @@ module _ {S H : Type 0} (signature_of : S → SignedPart → ℕ → ℕ → Opt
   abbrev kept : ServedZone S H → Zone
   kept = zone_of signature_of digest_of
 
-  pub at_no_place : (zs : List (ServedZone S H)) (ps : List AxfrPolicy) → place_of (origins zs) x ≡ None → zone_at (map kept zs) ps x ≡ None
+  pub at_no_place : (zs : List (ServedZone S H)) (ps : List TransferPolicy) → place_of (origins zs) x ≡ None → zone_at (map kept zs) ps x ≡ None
   at_no_place [] ps h = refl
   at_no_place (z ∷ zs) ps h = by (name_eq z.origin.now x) refl h ps (λ qs k. at_no_place zs qs k)
     where
       by : (b : Bool) → name_eq z.origin.now x ≡ b → cond b (Some 0) (option_map suc (place_of (origins zs) x)) ≡ None
-          → (ps : List AxfrPolicy) → ((qs : List AxfrPolicy) → place_of (origins zs) x ≡ None → zone_at (map kept zs) qs x ≡ None)
+          → (ps : List TransferPolicy) → ((qs : List TransferPolicy) → place_of (origins zs) x ≡ None → zone_at (map kept zs) qs x ≡ None)
           → zone_at (kept z ∷ map kept zs) ps x ≡ None
       by true e h ps rest = absurd cc
       by false e h [] rest = ap (λ b. cond b (Some (kept z, Deny)) (zone_at (map kept zs) [] x)) e ∙ rest [] (none_more (place_of (origins zs) x) h)
       by false e h (p ∷ qs) rest = ap (λ b. cond b (Some (kept z, p)) (zone_at (map kept zs) qs x)) e ∙ rest qs (none_more (place_of (origins zs) x) h)
 
-  pub at_place : (zs : List (ServedZone S H)) (ps : List AxfrPolicy) (i : ℕ) (z : ServedZone S H) → place_of (origins zs) x ≡ Some i → z ≡ get_or zs i z
+  pub at_place : (zs : List (ServedZone S H)) (ps : List TransferPolicy) (i : ℕ) (z : ServedZone S H) → place_of (origins zs) x ≡ Some i → z ≡ get_or zs i z
       → zone_at (map kept zs) ps x ≡ Some (kept z, get_or ps i Deny)
   at_place [] ps i z h is = absurd cc
   at_place (y ∷ zs) ps i z h is = by (name_eq y.origin.now x) refl h ps (λ qs j k e. at_place zs qs j z k e)
     where
-      here : (ps : List AxfrPolicy) → i ≡ 0 → name_eq y.origin.now x ≡ true → zone_at (kept y ∷ map kept zs) ps x ≡ Some (kept z, get_or ps i Deny)
+      here : (ps : List TransferPolicy) → i ≡ 0 → name_eq y.origin.now x ≡ true → zone_at (kept y ∷ map kept zs) ps x ≡ Some (kept z, get_or ps i Deny)
       here [] at e =
           ap (λ b. cond b (Some (kept y, Deny)) (zone_at (map kept zs) [] x)) e
           ∙ ap (λ (w : ServedZone S H). Some (kept w, Deny)) (sym (is ∙ ap (λ k. get_or (y ∷ zs) k z) at))
@@ -58,8 +58,8 @@ module _ {S H : Type 0} (signature_of : S → SignedPart → ℕ → ℕ → Opt
           ∙ ap (λ (w : ServedZone S H). Some (kept w, p)) (sym (is ∙ ap (λ k. get_or (y ∷ zs) k z) at))
           ∙ ap (λ k. Some (kept z, get_or (p ∷ qs) k Deny)) (sym at)
 
-      later : (ps : List AxfrPolicy) (m : IsMore (place_of (origins zs) x) i) → name_eq y.origin.now x ≡ false
-          → ((qs : List AxfrPolicy) (j : ℕ) → place_of (origins zs) x ≡ Some j → z ≡ get_or zs j z → zone_at (map kept zs) qs x ≡ Some (kept z, get_or qs j Deny))
+      later : (ps : List TransferPolicy) (m : IsMore (place_of (origins zs) x) i) → name_eq y.origin.now x ≡ false
+          → ((qs : List TransferPolicy) (j : ℕ) → place_of (origins zs) x ≡ Some j → z ≡ get_or zs j z → zone_at (map kept zs) qs x ≡ Some (kept z, get_or qs j Deny))
           → zone_at (kept y ∷ map kept zs) ps x ≡ Some (kept z, get_or ps i Deny)
       later [] m e rest =
           ap (λ b. cond b (Some (kept y, Deny)) (zone_at (map kept zs) [] x)) e
@@ -70,7 +70,7 @@ module _ {S H : Type 0} (signature_of : S → SignedPart → ℕ → ℕ → Opt
           ∙ ap (λ k. Some (kept z, get_or (p ∷ qs) k Deny)) m.more
 
       by : (b : Bool) → name_eq y.origin.now x ≡ b → cond b (Some 0) (option_map suc (place_of (origins zs) x)) ≡ Some i
-          → (ps : List AxfrPolicy) → ((qs : List AxfrPolicy) (j : ℕ) → place_of (origins zs) x ≡ Some j → z ≡ get_or zs j z → zone_at (map kept zs) qs x ≡ Some (kept z, get_or qs j Deny))
+          → (ps : List TransferPolicy) → ((qs : List TransferPolicy) (j : ℕ) → place_of (origins zs) x ≡ Some j → z ≡ get_or zs j z → zone_at (map kept zs) qs x ≡ Some (kept z, get_or qs j Deny))
           → zone_at (kept y ∷ map kept zs) ps x ≡ Some (kept z, get_or ps i Deny)
       by true e h ps rest = here ps (sym (ap (λ o. unwrap_or o 0) h)) e
       by false e h ps rest = later ps (some_more (place_of (origins zs) x) i h) e rest

@@ -5,7 +5,7 @@ use Rattle.std.specs.Io.KnownBytes.{Appends, Consumes, IsAtEnd}
 use Rattle.message_reading.specs.declared.error.ReadError.{ReadError}
 use Rattle.message_reading.specs.declared.query.Query.{Query as ReadQuery}
 use Rattle.message_reading.specs.Queries.{query_of}
-use Rattle.zone_handler.specs.declared.axfr_policy.AxfrPolicy.{AxfrPolicy}
+use Rattle.zone_server.specs.declared.transfer_policy.TransferPolicy.{TransferPolicy}
 use Rattle.zone_proto.specs.Names.{Name}
 use Rattle.zone_proto.specs.declared.rdata.signing.RRSIG.{RRSIG}
 use Rattle.zone_proto.specs.Signing.{SignedPart}
@@ -19,7 +19,7 @@ use Rattle.zone_server.specs.Transfers.{asks_for_transfer, reply_to, Replies}
 -- the zones that are served, and beside them who may transfer each
 pub record Served : Type 0 where
   pub zones : List Zone
-  pub policies : List AxfrPolicy
+  pub policies : List TransferPolicy
 
 -- the answer to a message, behind its length
 pub record IsOneAnswer (s : Served) (f : Framed) (text : List ℕ) : Type 0 where

@@ -13,8 +13,8 @@ use Rattle.message_reading.specs.declared.header.Header.{Header}
 use Rattle.message_reading.specs.declared.query.Query.{Query as ReadQuery}
 use Rattle.message_reading.specs.Messages.{Parts, first_authority_of, message_of}
 use Rattle.message_reading.specs.Octets.{◌>>=◌}
-use Rattle.zone_handler.specs.declared.axfr_policy.AxfrPolicy.{AxfrPolicy}
-use Rattle.zone_handler.specs.declared.axfr_policy.AxfrPolicy.TheVariants.{AllowAll, Deny}
+use Rattle.zone_server.specs.declared.transfer_policy.TransferPolicy.{TransferPolicy}
+use Rattle.zone_server.specs.declared.transfer_policy.TransferPolicy.TheVariants.{AllowAll, Deny}
 use Rattle.zone_map.specs.Zones.{Sets, set_at}
 use Rattle.zone_response.specs.declared.response.Part.TheVariants as part
 use Rattle.zone_response.specs.Queries.{Zone}
@@ -152,13 +152,13 @@ pub record AreBrokenOff (q : ReadQuery) (sets : List (List Record)) (text : List
 -- ---- which zone, and who may have it
 
 -- the zone of this origin and its policy, of zones with their policies in the same order; one that has none is transferred to nobody
-abbrev pub zone_at : List Zone → List AxfrPolicy → Name → Option (Zone × AxfrPolicy)
+abbrev pub zone_at : List Zone → List TransferPolicy → Name → Option (Zone × TransferPolicy)
 zone_at [] policies x = None
 zone_at (z ∷ zs) [] x = if name_eq z.origin x then Some (z, Deny) else zone_at zs [] x
 zone_at (z ∷ zs) (p ∷ ps) x = if name_eq z.origin x then Some (z, p) else zone_at zs ps x
 
 -- the zone that a query asks for, by the name and the class of its question
-abbrev pub zone_asked : List Zone → List AxfrPolicy → ReadQuery → Option (Zone × AxfrPolicy)
+abbrev pub zone_asked : List Zone → List TransferPolicy → ReadQuery → Option (Zone × TransferPolicy)
 zone_asked zs ps q = if q.question.query_class.0 == IN then zone_at zs ps (lower q.question.name) else None
 
 -- ---- a query for a zone's changes
@@ -208,16 +208,16 @@ allowed_reply t message q m None = by_code code.ServFail
 allowed_reply t message q m (Some soa) = if q.question.query_type.0 == AXFR then by_zone soa m else changes_reply t (client_serial message) soa m
 
 -- Anybody may have the zone; no signature of a query is tested, so a policy that asks for one lets nobody have it.
-abbrev pub policy_reply : Transport → List ℕ → ReadQuery → Zone → AxfrPolicy → Reply
+abbrev pub policy_reply : Transport → List ℕ → ReadQuery → Zone → TransferPolicy → Reply
 policy_reply t message q z AllowAll = allowed_reply t message q z.sets (set_at z.sets z.origin SOA)
 policy_reply t message q z _ = by_code code.Refused
 
-abbrev pub reply_of : Transport → List ℕ → ReadQuery → Option (Zone × AxfrPolicy) → Reply
+abbrev pub reply_of : Transport → List ℕ → ReadQuery → Option (Zone × TransferPolicy) → Reply
 reply_of t message q None = by_code not_authoritative
 reply_of t message q (Some x) = policy_reply t message q x.0 x.1
 
 -- the reply of a server of these zones to a query that octets are read as
-abbrev pub reply_to : List Zone → List AxfrPolicy → Transport → List ℕ → ReadQuery → Reply
+abbrev pub reply_to : List Zone → List TransferPolicy → Transport → List ℕ → ReadQuery → Reply
 reply_to zs ps t message q = reply_of t message q (zone_asked zs ps q)
 
 -- ---- what is written

@@ -9,9 +9,9 @@ use crate::bare_header::write_bare_header;
 use crate::sending::{send, send_code};
 use crate::transport::{Transport, limit_for};
 use crate::zones::{ServedZones, zone_for};
+use lookup_types::LookupOptions;
 use message_reading::{Header, Query, ReadError, read_query};
 use std::alloc::{AllocError, Global};
-use zone_handler::LookupOptions;
 use zone_proto::{LowerName, ResponseCode};
 use zone_response::{Question, respond};
 

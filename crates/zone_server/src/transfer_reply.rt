@@ -9,11 +9,11 @@ ghost use Rattle.zone_server.specs.Transfers.{asks_for_transfer, client_serial, 
 ghost use Rattle.zone_server.specs.TransferSteps.{reply_kept, HasSmallCode};
 
 use crate::listed_zones::ListedZones;
+use crate::transfer_policy::TransferPolicy;
 use crate::transport::Transport;
 use message_reading::{Query, read_first_authority};
 use std::alloc::{AllocError, Global};
 use std::collections::BTreeMap;
-use zone_handler::AxfrPolicy;
 use zone_proto::{
     DNSClass, LowerName, Nsec3Hash, ProtoError, RData, Record, RecordSet, RecordType, ResponseCode,
     RrKey, Signer,
@@ -64,7 +64,7 @@ fn is_stream(transport: Transport) -> bool
 pub(crate) fn reply_to<'z, S: Signer, H: Nsec3Hash>(
     alloc: Global,
     zones: &ListedZones<'z, S, H>,
-    policies: &[AxfrPolicy],
+    policies: &[TransferPolicy],
     transport: Transport,
     message: &[u8],
     query: &Query,
@@ -76,10 +76,10 @@ pub(crate) fn reply_to<'z, S: Signer, H: Nsec3Hash>(
 {
     match zone_asked(zones, policies, query)? {
         None => Ok(TransferReply::Code(NOT_AUTHORITATIVE)),
-        Some((zone, AxfrPolicy::AllowAll)) => {
+        Some((zone, TransferPolicy::AllowAll)) => {
             allowed_reply(alloc, zone, transport, message, query)
         }
-        Some((_, AxfrPolicy::Deny | AxfrPolicy::AllowSigned)) => {
+        Some((_, TransferPolicy::Deny | TransferPolicy::AllowSigned)) => {
             Ok(TransferReply::Code(ResponseCode::Refused))
         }
     }
@@ -88,9 +88,9 @@ pub(crate) fn reply_to<'z, S: Signer, H: Nsec3Hash>(
 /// The zone that a query asks for, and who may transfer it.
 fn zone_asked<'s, 'z, S: Signer, H: Nsec3Hash>(
     zones: &'s ListedZones<'z, S, H>,
-    policies: &[AxfrPolicy],
+    policies: &[TransferPolicy],
     query: &Query,
-) -> Result<Option<(&'s ServedZone<'z, S, H>, AxfrPolicy)>, AllocError>
+) -> Result<Option<(&'s ServedZone<'z, S, H>, TransferPolicy)>, AllocError>
     ensures { IfOk result
         (λ asked. option_map (λ x. (zone_of S.signature_of H.digest_of x.0.now, x.1)) asked
         ≡ zone_asked (map (zone_of S.signature_of H.digest_of) zones.now) policies.now query.now) }
@@ -107,9 +107,9 @@ fn zone_asked<'s, 'z, S: Signer, H: Nsec3Hash>(
 /// The zone of this origin, and who may transfer it.
 fn zone_at<'s, 'z, S: Signer, H: Nsec3Hash>(
     zones: &'s ListedZones<'z, S, H>,
-    policies: &[AxfrPolicy],
+    policies: &[TransferPolicy],
     origin: &LowerName,
-) -> Option<(&'s ServedZone<'z, S, H>, AxfrPolicy)>
+) -> Option<(&'s ServedZone<'z, S, H>, TransferPolicy)>
     ensures { option_map (λ x. (zone_of S.signature_of H.digest_of x.0.now, x.1)) result
         ≡ zone_at (map (zone_of S.signature_of H.digest_of) zones.now) policies.now origin.now }
 {
@@ -118,12 +118,12 @@ fn zone_at<'s, 'z, S: Signer, H: Nsec3Hash>(
 }
 
 /// The policy at an index: that nobody may transfer the zone, if there is none.
-fn policy_at(policies: &[AxfrPolicy], place: usize) -> AxfrPolicy
-    ensures { result ≡ slice_index_or policies.now place AxfrPolicy.Deny }
+fn policy_at(policies: &[TransferPolicy], place: usize) -> TransferPolicy
+    ensures { result ≡ slice_index_or policies.now place TransferPolicy.Deny }
 {
     match policies.get(place) {
         Some(policy) => *policy,
-        None => AxfrPolicy::Deny,
+        None => TransferPolicy::Deny,
     }
 }
 

@@ -3,7 +3,7 @@ use Rattle.std.specs.Prelude.{ℕ, ◌==◌, List, [], ◌∷◌, Bool, Option, 
 use Rattle.zone_proto.specs.declared.nx_proof_kind.NxProofKind.{NxProofKind}
 use Rattle.zone_proto.specs.declared.nx_proof_kind.NxProofKind.TheVariants as kind
 use Rattle.zone_proto.specs.Names.{lower}
-use Rattle.zone_handler.specs.declared.lookup_options.LookupOptions.{LookupOptions}
+use Rattle.lookup_types.specs.declared.lookup_options.LookupOptions.{LookupOptions}
 use Rattle.line_text.specs.Hex.{hex_word}
 use Rattle.line_text.specs.Reading.{WordList, Reading, next_word, next_flag, next_key, next_name, next_type, next_u16, next_u64, read_as, then_read}
 use Rattle.line_text.specs.Records.{next_record}

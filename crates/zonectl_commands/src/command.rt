@@ -6,9 +6,9 @@ ghost use Rattle.line_text.specs.Reading.{next_word};
 ghost use Rattle.zonectl_commands.specs.Commands.{begins_comment, command_of_words, forms, kind_by_word, next_hashed_kind, next_kind, next_options, next_query, read_by, said_by};
 
 use line_text::{TextError, Words, read_hex, read_key, read_name, read_record, read_type};
+use lookup_types::LookupOptions;
 use std::alloc::Global;
 use std::str;
-use zone_handler::LookupOptions;
 use zone_proto::{LowerName, NxProofKind, Record, RecordType, RrKey, Seq};
 
 /// The number of SHA-1 among the hash algorithms of NSEC3 records (RFC 5155 section 11).

@@ -5,7 +5,7 @@ use Rattle.std.specs.Map.{lookup, remove_entry}
 use Rattle.zone_proto.specs.declared.nx_proof_kind.NxProofKind.{NxProofKind}
 use Rattle.zone_proto.specs.declared.record.Record.{Record}
 use Rattle.zone_proto.specs.declared.rr_key.RrKey.{RrKey}
-use Rattle.zone_handler.specs.declared.secure_error.SecureError.{SecureError}
+use Rattle.lookup_types.specs.declared.secure_error.SecureError.{SecureError}
 use Rattle.zone_proto.specs.Keys.{key, key_eq}
 use Rattle.zone_map.specs.Upserts.{upserted}
 use Rattle.zone_map.specs.Zones.{Sets, set_at}

@@ -3,8 +3,8 @@ use Rattle.std.proofs.Common.{◌≡◌, [], ◌∷◌, codes, refl}
 use Rattle.std.specs.Fmt.{digits}
 use Rattle.zone_proto.specs.declared.rdata.RData.TheVariants as V
 use Rattle.zone_proto.specs.declared.record.Record.{Record}
-use Rattle.zone_handler.specs.declared.lookup_error.LookupError.TheVariants as lookup_error
-use Rattle.zone_handler.specs.declared.secure_error.SecureError.TheVariants as secure_error
+use Rattle.lookup_types.specs.declared.lookup_error.LookupError.TheVariants as lookup_error
+use Rattle.lookup_types.specs.declared.secure_error.SecureError.TheVariants as secure_error
 use Rattle.zone_proto.specs.declared.response_code.ResponseCode.TheVariants as code
 use Rattle.zonectl_session.specs.Replies.{yes, secured, refused, failed, answered, listed, reply_text, secure_word, lookup_word}
 

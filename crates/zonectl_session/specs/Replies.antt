@@ -7,10 +7,10 @@ use Rattle.zone_proto.specs.Names.{Name}
 use Rattle.zone_proto.specs.Text.{name_text}
 use Rattle.zone_proto.specs.TypeText.{response_code_text}
 use Rattle.line_text.specs.Records.{record_text}
-use Rattle.zone_handler.specs.declared.lookup_error.LookupError.{LookupError}
-use Rattle.zone_handler.specs.declared.lookup_error.LookupError.TheVariants as lookup_error
-use Rattle.zone_handler.specs.declared.secure_error.SecureError.{SecureError}
-use Rattle.zone_handler.specs.declared.secure_error.SecureError.TheVariants as secure_error
+use Rattle.lookup_types.specs.declared.lookup_error.LookupError.{LookupError}
+use Rattle.lookup_types.specs.declared.lookup_error.LookupError.TheVariants as lookup_error
+use Rattle.lookup_types.specs.declared.secure_error.SecureError.{SecureError}
+use Rattle.lookup_types.specs.declared.secure_error.SecureError.TheVariants as secure_error
 
 -- what answers to a command
 pub data Reply : Type 0 where

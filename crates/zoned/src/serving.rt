@@ -7,15 +7,14 @@ use crate::reporting::tell;
 use std::alloc::Global;
 use std::io::{Read, Write};
 use zone_database::{Zone, served};
-use zone_handler::AxfrPolicy;
-use zone_server::{ListedZones, Mode, Server, Stop, serve_frames};
+use zone_server::{ListedZones, Mode, Server, Stop, TransferPolicy, serve_frames};
 
 /// Answers the frames of an input from zones, each with who may transfer it, and gives the status of the program: 0 at
 /// the end of the input, and 2 where there isn't enough memory, or a read or a write fails; why is told.
 pub fn serve<R: Read, W: Write, E: Write>(
     alloc: Global,
     zones: &[Zone],
-    policies: &[AxfrPolicy],
+    policies: &[TransferPolicy],
     mode: Mode,
     input: &mut R,
     output: &mut W,
@@ -38,7 +37,7 @@ pub fn serve<R: Read, W: Write, E: Write>(
 fn serve_zones<R: Read, W: Write>(
     alloc: Global,
     zones: &[Zone],
-    policies: &[AxfrPolicy],
+    policies: &[TransferPolicy],
     mode: Mode,
     input: &mut R,
     output: &mut W,

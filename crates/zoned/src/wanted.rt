@@ -1,9 +1,8 @@
 //! What the words behind the program's name ask for.
 
 use std::alloc::Global;
-use zone_handler::AxfrPolicy;
 use zone_proto::{Name, ProtoError};
-use zone_server::Mode;
+use zone_server::{Mode, TransferPolicy};
 
 /// The word behind which the zones stand that are transferred.
 const TRANSFERS: &str = "--transfers";
@@ -16,7 +15,7 @@ pub struct WantedZone<'w> {
     /// The name of the file.
     pub file: &'w str,
     /// Who may transfer the zone.
-    pub policy: AxfrPolicy,
+    pub policy: TransferPolicy,
 }
 
 /// What is wanted of the program.
@@ -63,11 +62,11 @@ fn wanted_zones(
     words: &[String],
 ) -> Result<Option<Vec<WantedZone<'_>>>, ProtoError> {
     let mut zones = Vec::new(alloc);
-    let mut policy = AxfrPolicy::Deny;
+    let mut policy = TransferPolicy::Deny;
     let mut is_due = true;
     for word in words {
-        if policy == AxfrPolicy::Deny && word.as_str() == TRANSFERS {
-            policy = AxfrPolicy::AllowAll;
+        if policy == TransferPolicy::Deny && word.as_str() == TRANSFERS {
+            policy = TransferPolicy::AllowAll;
             is_due = true;
             continue;
         }
@@ -85,7 +84,7 @@ fn wanted_zones(
 fn wanted_zone(
     alloc: Global,
     word: &str,
-    policy: AxfrPolicy,
+    policy: TransferPolicy,
 ) -> Result<Option<WantedZone<'_>>, ProtoError> {
     if word.starts_with("--") {
         return Ok(None);

@@ -17,8 +17,8 @@ use std::io::{Read, Write};
 use zone_builder::{LoadFault, Loaded};
 use zone_database::{Zone, load_records, zone_of};
 use zone_file::{FaultText, InputError, PlacedRecord, read_zone};
-use zone_handler::AxfrPolicy;
 use zone_proto::{LowerName, Name, ProtoError, RecordType, RrKey};
+use zone_server::TransferPolicy;
 
 /// Loads the zones that are wanted. None if one can't be loaded, or two have one origin; why is told.
 pub fn load_zones<E: Write>(
@@ -235,7 +235,7 @@ fn first_soa(records: &[PlacedRecord]) -> Option<&PlacedRecord>
 }
 
 /// Who may transfer each of the zones that are wanted, in their order.
-pub fn policies(alloc: Global, wanted: &[WantedZone<'_>]) -> Result<Vec<AxfrPolicy>, AllocError>
+pub fn policies(alloc: Global, wanted: &[WantedZone<'_>]) -> Result<Vec<TransferPolicy>, AllocError>
     ensures { IfOk result (λ policies. policies.items ≡ map policy_of wanted.now) }
 {
     let mut policies = Vec::with_capacity(alloc, wanted.len())?;

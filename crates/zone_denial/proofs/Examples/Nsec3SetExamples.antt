@@ -8,7 +8,7 @@ use Rattle.zone_proto.specs.HashedOwners.{hashed_owner}
 use Rattle.zone_proto.specs.Names.{Name}
 use Rattle.zone_proto.specs.Sets.{RRset}
 use Rattle.zone_proto.specs.Types.{A, NS, SOA, AAAA, DS, RRSIG, DNSKEY, NSEC3, NSEC3PARAM, IN}
-use Rattle.zone_handler.specs.declared.secure_error.SecureError.TheVariants as error
+use Rattle.lookup_types.specs.declared.secure_error.SecureError.TheVariants as error
 use Rattle.zone_map.specs.Zones.{Sets}
 use Rattle.zone_denial.specs.Nsec3Sets.{nsec3_fault, nsec3_sets_at}
 use Rattle.zone_denial.proofs.Examples.NsecExamples.{origin, record_with, entry, address, start, public_key}

@@ -6,7 +6,7 @@ ghost use Rattle.zone_proto.specs.Types.{SOA, AXFR, NSEC, NSEC3};
 ghost use Rattle.zone_denial.specs.NsecLaws.{IsNsecZone};
 ghost use Rattle.zone_denial.specs.Nsec3Zones.{IsNsec3Zone, IsCircleName, IsHashed, HasDistinctDigests};
 ghost use Rattle.zone_denial.specs.WildcardLaws.{OwnsNone, DeniesWildcard, Nsec3DeniesWildcard};
-ghost use Rattle.zone_handler.specs.Hashing.{digest_for};
+ghost use Rattle.lookup_types.specs.Hashing.{digest_for};
 ghost use Rattle.zone_handler.specs.Transfers.{IsNoLookup};
 ghost use Rattle.zone_lookup.specs.Replies.{negative_answer};
 ghost use Rattle.zone_in_memory.specs.Lookup.{IsLookup, IsAnswered, IsNameError};
@@ -217,7 +217,7 @@ impl<S: Signer, H: Nsec3Hash> ZoneHandler for InMemoryZoneHandler<S, H> {
         ensures proof { IsNsecZone self.now.origin self.now.inner.records
             → IsTrue (is_at_or_above self.now.origin name.now)
             → HasNsecProof self.now.origin self.now.inner.records name.now result }
-        ensures star { IsNsecZone self.now.origin self.now.inner.records
+        ensures enclosed_wildcard { IsNsecZone self.now.origin self.now.inner.records
             → IsTrue (is_at_or_above self.now.origin name.now)
             → IsFalse (owns self.now.inner.records name.now NSEC)
             → HasWildcardProof self.now.origin self.now.inner.records name.now result }
@@ -271,7 +271,7 @@ impl<S: Signer, H: Nsec3Hash> ZoneHandler for InMemoryZoneHandler<S, H> {
             → HasNsec3Proof self.now.origin self.now.inner.records
             (digest_for (H.digest_of self.now.hash) info.entry) parameters.opt_out
             info.entry.qname.now result }
-        ensures star { (parameters : Nsec3Parameters)
+        ensures enclosed_wildcard { (parameters : Nsec3Parameters)
             → IsNsec3Zone self.now.origin self.now.inner.records
             (digest_for (H.digest_of self.now.hash) info.entry) parameters
             → info.entry.has_wildcard_match ≡ false

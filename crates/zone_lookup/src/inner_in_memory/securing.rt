@@ -10,8 +10,8 @@ ghost use Rattle.zone_lookup.specs.Securing.{denied_by, with_nsec3_sets, denial_
 
 use crate::inner_in_memory::InnerInMemory;
 use crate::start_of_authority::first_soa;
+use lookup_types::SecureError;
 use zone_denial::{nsec_sets, nsec3_sets};
-use zone_handler::SecureError;
 use zone_map::{NewSets, RecordMap};
 use zone_proto::{NSEC3PARAM, Nsec3Hash, NxProofKind, ProtoError, RecordType, RrKey, Signer};
 use zone_signing::{keeping, securing};

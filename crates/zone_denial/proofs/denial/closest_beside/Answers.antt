@@ -30,5 +30,5 @@ returns-clause-found c =
     let m = c.args.records.now in
     let below = below_other c.args.origin.now c.args.name (sym c.eq.ensures ∙ c.if-eq.false) (c.zone_of.ensures.0 c.if-not-zone_of.false) in
     IfOk-weaker c.closest_nsec_knowing-2.result _ _
-    (λ set is. is ∙ ap (closest_nsec m) c.in_ok-star.ensures.ok ∙ ap (option_and_then (closest_nsec m)) (sym (beside_below c.args.origin.now m c.args.name below)))
+    (λ set is. is ∙ ap (closest_nsec m) c.in_ok-wildcard.ensures.ok ∙ ap (option_and_then (closest_nsec m)) (sym (beside_below c.args.origin.now m c.args.name below)))
     c.closest_nsec_knowing-2.ensures.found

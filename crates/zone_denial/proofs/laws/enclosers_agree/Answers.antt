@@ -4,5 +4,5 @@ use Rattle.zone_denial.proofs.laws.enclosers_agree.Goals as goal
 pub returns-clause-encloser : goal.returns-clause-encloser
 returns-clause-encloser c = enclosers_agree
 
-pub returns-clause-star : goal.returns-clause-star
-returns-clause-star c = proved_star_is_asked
+pub returns-clause-wildcard : goal.returns-clause-wildcard
+returns-clause-wildcard c = proved_star_is_asked

@@ -8,8 +8,8 @@ use Rattle.zone_denial.proofs.laws.nsec3_chains_deny.Goals as goal
 pub returns-clause-found_or_enclosed : goal.returns-clause-found_or_enclosed
 returns-clause-found_or_enclosed c = finds_or_encloses
 
-pub returns-clause-star : goal.returns-clause-star
-returns-clause-star c = proves_star
+pub returns-clause-wildcard : goal.returns-clause-wildcard
+returns-clause-wildcard c = proves_star
 
 pub returns-clause-denied : goal.returns-clause-denied
 returns-clause-denied c = denies

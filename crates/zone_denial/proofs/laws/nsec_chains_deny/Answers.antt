@@ -8,8 +8,8 @@ use Rattle.zone_denial.proofs.laws.nsec_chains_deny.Goals as goal
 pub returns-clause-found_or_covered : goal.returns-clause-found_or_covered
 returns-clause-found_or_covered c = finds_or_covers
 
-pub returns-clause-star : goal.returns-clause-star
-returns-clause-star c = proves_star
+pub returns-clause-wildcard : goal.returns-clause-wildcard
+returns-clause-wildcard c = proves_star
 
 pub returns-clause-listed : goal.returns-clause-listed
 returns-clause-listed c = lists_all_owned

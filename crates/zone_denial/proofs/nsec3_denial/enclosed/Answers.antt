@@ -13,9 +13,9 @@ returns-clause-ok g c =
     let q = c.args.hashing.now.query.now.qname.now in
     let n = c.args.encloser.next_closer in
     let closer_set = option_to_list (option_copied c.in_ok-closer.closer) in
-    let wildcard_set = option_to_list (option_copied c.in_ok-star.star) in
+    let wildcard_set = option_to_list (option_copied c.in_ok-wildcard_set.wildcard_set) in
     let closer = sets_covering m hashed n c.args.encloser.closer_owner closer_set c.requires.owner c.in_ok-closer.ensures.ok in
-    let star = star_found m hashed q n c.requires.closer c.in_ok-wildcard_owner.wildcard_owner wildcard_set c.in_ok-wildcard_owner.ensures.ok c.in_ok-star.ensures.ok in
+    let star = star_found m hashed q n c.requires.closer c.in_ok-wildcard_owner.wildcard_owner wildcard_set c.in_ok-wildcard_owner.ensures.ok c.in_ok-wildcard_set.ensures.ok in
     IfOk-weaker c.in_owner_order-2.result _ _
     (λ sets is.
     ap (λ b. enclosed_sets m hashed b q (Some (base_name n))) c.if-hashing.false

@@ -1,6 +1,6 @@
 use Rattle.std.proofs.Common.{◌≡◌, ◌≤◌, ◌+◌, ◌⊎◌, List, true, false, length, ap, ◌∙◌, subst}
 use Rattle.zone_proto.specs.Names.{Name}
-use Rattle.zone_handler.specs.declared.lookup_error.LookupError.TheVariants.{Memory}
+use Rattle.lookup_types.specs.declared.lookup_error.LookupError.TheVariants.{Memory}
 use Rattle.zone_response.specs.Paths.{path_of}
 use Rattle.zone_response.specs.Queries.{zone_of, inquiry_of}
 use Rattle.zone_response.specs.Responses.{authority_sets, hashed_for, lacks_proofs}

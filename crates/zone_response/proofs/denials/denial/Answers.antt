@@ -3,7 +3,7 @@ use Rattle.std.specs.Prelude.{OnOk, IfErr, option_copied}
 use Rattle.std.proofs.lemmas.Result.{IfOk-weaker}
 use Rattle.zone_proto.specs.Names.{Name, base_name}
 use Rattle.zone_proto.specs.Sets.{RRset}
-use Rattle.zone_handler.specs.declared.lookup_error.LookupError.TheVariants.{Memory}
+use Rattle.lookup_types.specs.declared.lookup_error.LookupError.TheVariants.{Memory}
 use Rattle.zone_response.specs.Denials.{denial, have_owners_by}
 use Rattle.zone_response.specs.HashedDenials.{absent_sets, absent_hashed, present_sets, present_hashed, hashed_by}
 use Rattle.zone_response.specs.Queries.{zone_of}

@@ -2,7 +2,7 @@ use Rattle.std.proofs.Common.{◌≡◌, ◌⊎◌, true, false, [], length, sym
 use Rattle.std.specs.Prelude.{Some, None, Ok, IsErr, option_copied}
 use Rattle.zone_proto.specs.Names.{base_name, is_at_or_above, suffixes}
 use Rattle.zone_proto.specs.Types.{NSEC3}
-use Rattle.zone_handler.specs.declared.lookup_error.LookupError.TheVariants.{Memory}
+use Rattle.lookup_types.specs.declared.lookup_error.LookupError.TheVariants.{Memory}
 use Rattle.zone_map.specs.Zones.{set_at}
 use Rattle.zone_response.specs.HashedDenials.{tried, hash_of, hashed_by, have_owners}
 use Rattle.zone_response.proofs.LabelCounts.{counted_last, counted_on}

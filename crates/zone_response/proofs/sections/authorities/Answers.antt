@@ -2,7 +2,7 @@ use Rattle.std.proofs.Common.{◌≡◌, ◌≤◌, ◌+◌, ◌⊎◌, List, tr
 use Rattle.std.specs.Prelude.{IfOk, IfErr, OnOk}
 use Rattle.zone_proto.specs.Names.{Name}
 use Rattle.zone_proto.specs.Sets.{RRset}
-use Rattle.zone_handler.specs.declared.lookup_error.LookupError.TheVariants.{Memory}
+use Rattle.lookup_types.specs.declared.lookup_error.LookupError.TheVariants.{Memory}
 use Rattle.zone_response.specs.Queries.{zone_of}
 use Rattle.zone_response.specs.Responses.{ds_at, authority_sets_with, hashed_with, lacks_proofs_with}
 use Rattle.zone_response.specs.Sections.{sent_sets}

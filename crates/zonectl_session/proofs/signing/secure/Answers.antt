@@ -1,5 +1,5 @@
 use Rattle.std.proofs.Common.{◌≡◌, ◌++◌, Result, OnErr, codes, decimal, sym, refl, ap, subst}
-use Rattle.zone_handler.specs.declared.secure_error.SecureError.{SecureError}
+use Rattle.lookup_types.specs.declared.secure_error.SecureError.{SecureError}
 use Rattle.zone_lookup.specs.StartOfAuthority.{serial}
 use Rattle.zonectl_session.specs.declared.session.Served.{Served}
 use Rattle.zonectl_session.specs.Replies.{Reply, secured, refused, secure_word}

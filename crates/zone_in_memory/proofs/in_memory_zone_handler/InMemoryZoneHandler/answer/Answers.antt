@@ -2,7 +2,8 @@ use Rattle.std.proofs.Common.{◌≡◌, ap, sym, ◌∙◌, cond, subst}
 use Rattle.std.specs.Prelude.{Ok, Err, option_map}
 use Rattle.zone_handler.specs.declared.control_flow.LookupControlFlow.TheVariants.{Continue}
 use Rattle.zone_lookup.specs.FoundSets.{exists_or_wildcard, found_set, outcome_found, SaysExists}
-use Rattle.zone_lookup.specs.Replies.{name_exists, absent, IsAnswer, IsReplyFor, SaysAnswer}
+use Rattle.zone_lookup.specs.Replies.{name_exists, absent, IsAnswer, IsReplyFor}
+use Rattle.zone_in_memory.specs.KeptReplies.{SaysAnswer}
 use Rattle.zone_in_memory.specs.Lookup.{error_of, SaysOrMemory}
 use Rattle.zone_signing.specs.Signatures.{answer_signatures}
 use Rattle.zone_map.specs.Wildcards.{found}
@@ -36,7 +37,7 @@ pub negative_answer-requires : goal.negative_answer-requires
 negative_answer-requires g c =
     let inside : c.self.inside.inner.records ≡ c.args.self.now.inner.records = ap (λ z. z.inner.records) c.self.view_is in
     let exists = subst (SaysExists (exists_or_wildcard c.self.inside.inner.records c.args.name.now)) c.in-NoName.is c.in_ok-found.ensures.outcome.existence in
-    record { no_star = no_star_exists c.args.self.now.inner.records c.args.name.now (ap (λ (m : Sets). exists_or_wildcard m c.args.name.now) (sym inside) ∙ exists) }
+    record { no_wildcard = no_star_exists c.args.self.now.inner.records c.args.name.now (ap (λ (m : Sets). exists_or_wildcard m c.args.name.now) (sym inside) ∙ exists) }
 
 pub returns-in_ok-negative_answer-in-NoName : goal.returns-in_ok-negative_answer-in-NoName
 returns-in_ok-negative_answer-in-NoName g c =

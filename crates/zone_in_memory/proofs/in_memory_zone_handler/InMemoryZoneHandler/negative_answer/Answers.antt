@@ -15,7 +15,7 @@ returns-clause-answer g c =
     let inside : c.self.inside.inner.records ≡ m = ap (λ z. z.inner.records) c.self.view_is in
     let top : c.self.inside.apex.name ≡ origin = ap (λ z. z.origin) c.self.view_is in
     let there : is_present m n ≡ c.in_ok-is_present.is_present =
-    present_by_owned m n c.requires.no_star ∙ ap (λ (k : Sets). owns_at_or_below k n) (sym inside) ∙ sym c.in_ok-is_present.ensures.answer in
+    present_by_owned m n c.requires.no_wildcard ∙ ap (λ (k : Sets). owns_at_or_below k n) (sym inside) ∙ sym c.in_ok-is_present.ensures.answer in
     elim c.if-is_present.branch [
       | then-is_present w ↦ w.result-is ∙ w.for_name_exists.ensures ∙ sym (ap (λ b. error_of (cond b name_exists (absent origin n))) (there ∙ w.if-is_present.true))
       | else-is_present+then-zone_of w ↦

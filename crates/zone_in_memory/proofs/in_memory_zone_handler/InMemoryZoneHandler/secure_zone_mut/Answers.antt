@@ -2,7 +2,7 @@ use Rattle.std.proofs.Common.{◌≡◌, ◌⊎◌, subst}
 use Rattle.zone_in_memory.specs.Handlers.{Zone}
 use Rattle.std.specs.Prelude.{Option, Some, None, IfErr, OnOk}
 use Rattle.zone_proto.specs.declared.nx_proof_kind.NxProofKind.{NxProofKind}
-use Rattle.zone_handler.specs.declared.secure_error.SecureError.TheVariants as error
+use Rattle.lookup_types.specs.declared.secure_error.SecureError.TheVariants as error
 use Rattle.zone_signing.specs.Secured.{IsSecured}
 use Rattle.zone_lookup.specs.Securing.{denied_by, with_denials, denial_fault}
 use Rattle.zone_in_memory.specs.Signing.{IsSecuring}

@@ -1,6 +1,6 @@
 use Rattle.std.proofs.Common.{ap, subst, ◌≡◌, ◌∙◌}
 use Rattle.std.specs.Map.{values_of}
-use Rattle.zone_handler.specs.declared.lookup_options.LookupOptions.{LookupOptions}
+use Rattle.lookup_types.specs.declared.lookup_options.LookupOptions.{LookupOptions}
 use Rattle.zone_handler.specs.Sets.{without_soa, sets_records}
 use Rattle.zone_map.specs.Zones.{Sets}
 use Rattle.zone_signing.specs.Signatures.{answer_signatures}

@@ -1,7 +1,7 @@
 use Rattle.std.proofs.Common.{◌≡◌, ◌⊎◌, sym, ap, subst, ◌∙◌, rules}
 use Rattle.std.specs.Prelude.{Some}
 use Rattle.zone_proto.specs.Types.{CNAME}
-use Rattle.zone_handler.specs.declared.secure_error.SecureError.TheVariants as error
+use Rattle.lookup_types.specs.declared.secure_error.SecureError.TheVariants as error
 use Rattle.zone_denial.specs.Nsec3Sets.{nsec3_fault}
 use Rattle.zone_denial.specs.Nsec3Zones.{hash_with}
 use Rattle.zone_map.specs.Zones.{owns}

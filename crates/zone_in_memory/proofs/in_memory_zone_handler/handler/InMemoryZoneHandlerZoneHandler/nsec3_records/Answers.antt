@@ -7,8 +7,8 @@ use Rattle.zone_in_memory.proofs.in_memory_zone_handler.handler.InMemoryZoneHand
 pub returns-clause-proof : goal.returns-clause-proof
 returns-clause-proof g c = nsec3_answer_proves g.H.Nsec3Hash.digest_of c.args.self.now c.args.info c.args.lookup_options (Continue c.nsec3_answer.result) c.nsec3_answer.ensures
 
-pub returns-clause-star : goal.returns-clause-star
-returns-clause-star g c = nsec3_star_proves g.H.Nsec3Hash.digest_of c.args.self.now c.args.info c.args.lookup_options (Continue c.nsec3_answer.result) c.nsec3_answer.ensures
+pub returns-clause-enclosed_wildcard : goal.returns-clause-enclosed_wildcard
+returns-clause-enclosed_wildcard g c = nsec3_star_proves g.H.Nsec3Hash.digest_of c.args.self.now c.args.info c.args.lookup_options (Continue c.nsec3_answer.result) c.nsec3_answer.ensures
 
 pub returns-clause-closer : goal.returns-clause-closer
 returns-clause-closer g c = nsec3_closer_covered g.H.Nsec3Hash.digest_of c.args.self.now c.args.info c.args.lookup_options (Continue c.nsec3_answer.result) c.nsec3_answer.ensures

@@ -4,11 +4,11 @@ use Rattle.zone_proto.specs.declared.error.ProtoError.{ProtoError}
 use Rattle.zone_proto.specs.declared.error.ProtoError.TheVariants as P
 use Rattle.zone_proto.specs.declared.response_code.ResponseCode.{ResponseCode}
 use Rattle.zone_proto.specs.declared.response_code.ResponseCode.TheVariants.{NXDomain}
-use Rattle.zone_handler.specs.declared.net_error.NetError.{NetError}
-use Rattle.zone_handler.specs.declared.net_error.NetError.TheVariants as N
-use Rattle.zone_handler.specs.declared.net_error.NoRecords.{NoRecords}
-use Rattle.zone_handler.specs.declared.lookup_error.LookupError.{LookupError}
-use Rattle.zone_handler.specs.declared.lookup_error.LookupError.TheVariants as L
+use Rattle.lookup_types.specs.declared.net_error.NetError.{NetError}
+use Rattle.lookup_types.specs.declared.net_error.NetError.TheVariants as N
+use Rattle.lookup_types.specs.declared.net_error.NoRecords.{NoRecords}
+use Rattle.lookup_types.specs.declared.lookup_error.LookupError.{LookupError}
+use Rattle.lookup_types.specs.declared.lookup_error.LookupError.TheVariants as L
 
 -- lack of memory stays that; any other refusal of the data is an error of the net
 abbrev pub error_of_proto : ProtoError → LookupError

@@ -1,7 +1,7 @@
 use Rattle.std.proofs.Common.{◌≡◌, ap, ◌∙◌}
 use Rattle.zone_proto.specs.Base32.{base32_text}
-use Rattle.zone_handler.proofs.HashedOwners.{made_owner, refused_owner}
-use Rattle.zone_handler.proofs.nsec3_query_info.Nsec3QueryInfo.hashed_owner_name.Goals as goal
+use Rattle.lookup_types.proofs.HashedOwners.{made_owner, refused_owner}
+use Rattle.lookup_types.proofs.nsec3_query_info.Nsec3QueryInfo.hashed_owner_name.Goals as goal
 
 pub returns-clause-ok : goal.returns-clause-ok
 returns-clause-ok g c =

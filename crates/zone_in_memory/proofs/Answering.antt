@@ -9,11 +9,12 @@ use Rattle.zone_handler.specs.declared.auth_lookup.AuthLookup.TheVariants as ans
 use Rattle.zone_handler.specs.declared.lookup_records.LookupRecords.{LookupRecords}
 use Rattle.zone_handler.specs.declared.lookup_records.LookupRecords.TheVariants as section
 use Rattle.zone_handler.specs.Answers.{KeepsMany}
-use Rattle.zone_handler.specs.declared.lookup_options.LookupOptions.{LookupOptions}
+use Rattle.lookup_types.specs.declared.lookup_options.LookupOptions.{LookupOptions}
 use Rattle.zone_map.specs.Zones.{Sets}
 use Rattle.zone_map.specs.Chains.{chain}
 use Rattle.zone_lookup.specs.Flattening.{last_set, stands_for_addresses, flattened, alone, beside}
-use Rattle.zone_lookup.specs.Replies.{one_set, chained, answered, is_followed, answer_sets, answer_section, AreFrom, IsAnswer, KeepsAdditionals, HasSections, SaysAnswer}
+use Rattle.zone_lookup.specs.Replies.{one_set, chained, answered, is_followed, answer_sets, answer_section, AreFrom, IsAnswer}
+use Rattle.zone_in_memory.specs.KeptReplies.{KeepsAdditionals, HasSections, SaysAnswer}
 
 module _ (sign : RRset → List Record) (m : Sets) (n : Name) (t : ℕ) (options : LookupOptions) where
   -- a set alone

@@ -1,7 +1,7 @@
 //! What an NSEC3 denial is asked for (RFC 5155 section 7.2).
 ghost use Rattle.std.specs.Prelude.{◌≡◌, ◌⊎◌, Some, None, Ok, Err, IfOk, IfErr};
 ghost use Rattle.zone_proto.specs.HashedOwners.{owner_or_refusal};
-ghost use Rattle.zone_handler.specs.Hashing.{digest_for, wildcard_owner_or_refusal};
+ghost use Rattle.lookup_types.specs.Hashing.{digest_for, wildcard_owner_or_refusal};
 
 use zone_proto::{LowerName, Nsec3Hash, ProtoError, RecordType, base32_dnssec};
 
@@ -83,7 +83,7 @@ impl Nsec3QueryInfo<'_> {
             ⊎ (wildcard_owner_or_refusal (H.digest_of hash.now) self.now encloser.now zone.now
             ≡ Err e)) }
     {
-        let star = encloser.prepend_label(b"*")?;
-        self.hashed_owner_name(hash, &star, zone)
+        let wildcard = encloser.prepend_label(b"*")?;
+        self.hashed_owner_name(hash, &wildcard, zone)
     }
 }

@@ -1,10 +1,10 @@
 -- The digests of names with the parameters of a query, and the hashed owner of the wildcard at a name
-use Rattle.std.specs.Prelude.{ℕ, List, ◌∷◌, Option, Some, None, Result, Err}
+use Rattle.std.specs.Prelude.{ℕ, List, Option, Some, None, Result, Err}
 use Rattle.zone_proto.specs.declared.error.ProtoError.{ProtoError}
 use Rattle.zone_proto.specs.Faults.{fault_of}
 use Rattle.zone_proto.specs.HashedOwners.{owner_or_refusal}
 use Rattle.zone_proto.specs.Names.{Name, wildcard_under}
-use Rattle.zone_handler.specs.declared.nsec3_query_info.Nsec3QueryInfo.{Nsec3QueryInfo}
+use Rattle.lookup_types.specs.declared.nsec3_query_info.Nsec3QueryInfo.{Nsec3QueryInfo}
 
 -- of a hash by algorithm, salt, name and iterations, its digest of a name with those that a query has
 abbrev pub digest_for : (ℕ → List ℕ → Name → ℕ → Option (List ℕ)) → Nsec3QueryInfo → Name → Option (List ℕ)

@@ -1,7 +1,7 @@
 //! Why a lookup has no records to answer.
 ghost use Rattle.std.specs.Prelude.{◌≡◌, ◌↔◌, IsTrue, IsSome, option_and_then};
 ghost use Rattle.std.specs.Option.{option_map, option_copied};
-ghost use Rattle.zone_handler.specs.Errors.{is_nx_domain, no_records_of};
+ghost use Rattle.lookup_types.specs.Errors.{is_nx_domain, no_records_of};
 
 use crate::net_error::NetError;
 use std::io;
@@ -87,7 +87,7 @@ impl LookupError {
 
 impl From<ResponseCode> for LookupError {
     ghost use Rattle.std.specs.Prelude.{◌≡◌};
-    ghost use Rattle.zone_handler.specs.declared.lookup_error.LookupError.TheVariants.{ResponseCode};
+    ghost use Rattle.lookup_types.specs.declared.lookup_error.LookupError.TheVariants.{ResponseCode};
 
     ghost from_gives = { λ code e. e ≡ ResponseCode code };
 
@@ -99,7 +99,7 @@ impl From<ResponseCode> for LookupError {
 
 impl From<NetError> for LookupError {
     ghost use Rattle.std.specs.Prelude.{◌≡◌};
-    ghost use Rattle.zone_handler.specs.declared.lookup_error.LookupError.TheVariants.{NetError};
+    ghost use Rattle.lookup_types.specs.declared.lookup_error.LookupError.TheVariants.{NetError};
 
     ghost from_gives = { λ error e. e ≡ NetError error };
 
@@ -111,7 +111,7 @@ impl From<NetError> for LookupError {
 
 impl From<io::Error> for LookupError {
     ghost use Rattle.std.specs.Prelude.{◌≡◌};
-    ghost use Rattle.zone_handler.specs.declared.lookup_error.LookupError.TheVariants.{Io};
+    ghost use Rattle.lookup_types.specs.declared.lookup_error.LookupError.TheVariants.{Io};
 
     ghost from_gives = { λ error e. e ≡ Io error };
 
@@ -123,7 +123,7 @@ impl From<io::Error> for LookupError {
 
 impl From<ProtoError> for LookupError {
     ghost use Rattle.std.specs.Prelude.{◌≡◌};
-    ghost use Rattle.zone_handler.specs.Errors.{error_of_proto};
+    ghost use Rattle.lookup_types.specs.Errors.{error_of_proto};
 
     ghost from_gives = { λ refusal e. e ≡ error_of_proto refusal };
 

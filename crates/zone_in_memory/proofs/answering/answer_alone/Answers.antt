@@ -4,13 +4,13 @@ use Rattle.zone_handler.specs.declared.auth_lookup.AuthLookup.TheVariants as ans
 use Rattle.zone_lookup.specs.Flattening.{last_set, flattened}
 use Rattle.zone_signing.specs.Signatures.{answer_signatures}
 use Rattle.zone_lookup.proofs.Chasing.{no_value}
-use Rattle.zone_lookup.proofs.Replies.{has_one, stays_alone, nothing_before, stays_without, none_beside, is_flattened, stands_first, some_left}
-use Rattle.zone_lookup.proofs.inner_in_memory.InnerInMemory.answer_alone.Goals as goal
-use Rattle.zone_lookup.proofs.inner_in_memory.InnerInMemory.answer_alone.Goals.{in_default-via-in-Some+else-stands_for_addresses, in_default-via-in_default}
+use Rattle.zone_in_memory.proofs.Answering.{has_one, stays_alone, nothing_before, stays_without, none_beside, is_flattened, stands_first, some_left}
+use Rattle.zone_in_memory.proofs.answering.answer_alone.Goals as goal
+use Rattle.zone_in_memory.proofs.answering.answer_alone.Goals.{in_default-via-in-Some+else-stands_for_addresses, in_default-via-in_default}
 
 pub returns-in_default-clause-answer : goal.returns-in_default-clause-answer
 returns-in_default-clause-answer g c =
-    let sign = (answer_signatures g.S.Signer.signature_of c.args.now c.args.lookup_options.dnssec_ok c.args.self.now.signers) in
+    let sign = (answer_signatures g.S.Signer.signature_of c.args.now c.args.lookup_options.dnssec_ok c.args.zone.now.signers) in
     let more = c.in_ok-more.more.items in
     let section = c.with_additionals.ensures in (
       more,
@@ -27,7 +27,7 @@ returns-in_default-clause-answer g c =
 
 pub returns-clause-answer : goal.returns-clause-answer
 returns-clause-answer g c =
-    let sign = (answer_signatures g.S.Signer.signature_of c.args.now c.args.lookup_options.dnssec_ok c.args.self.now.signers) in
+    let sign = (answer_signatures g.S.Signer.signature_of c.args.now c.args.lookup_options.dnssec_ok c.args.zone.now.signers) in
     let more = c.in_ok-more.more.items in
     let section = c.with_additionals-2.ensures in
     let stands = sym c.stands_for_addresses.ensures ∙ c.if-stands_for_addresses.true in

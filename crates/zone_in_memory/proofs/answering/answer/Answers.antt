@@ -5,15 +5,16 @@ use Rattle.zone_proto.specs.Sets.{RRset}
 use Rattle.zone_handler.specs.declared.auth_lookup.AuthLookup.{AuthLookup}
 use Rattle.zone_lookup.specs.Flattening.{last_set, alone, beside}
 use Rattle.zone_lookup.specs.FoundSets.{found_set}
-use Rattle.zone_lookup.specs.Replies.{one_set, chained, is_followed, AreFrom, IsAnswer, HasSections, SaysAnswer}
+use Rattle.zone_lookup.specs.Replies.{one_set, chained, is_followed, AreFrom, IsAnswer}
+use Rattle.zone_in_memory.specs.KeptReplies.{HasSections, SaysAnswer}
 use Rattle.zone_signing.specs.Signatures.{answer_signatures}
-use Rattle.zone_lookup.proofs.Replies.{alone_answers, chain_answers}
-use Rattle.zone_lookup.proofs.inner_in_memory.InnerInMemory.answer.Goals as goal
+use Rattle.zone_in_memory.proofs.Answering.{alone_answers, chain_answers}
+use Rattle.zone_in_memory.proofs.answering.answer.Goals as goal
 
 pub returns-clause-answer : goal.returns-clause-answer
 returns-clause-answer g c =
-    let sign = answer_signatures g.S.Signer.signature_of c.args.now c.args.lookup_options.dnssec_ok c.args.self.now.signers in
-    let m = c.args.self.now.records in
+    let sign = answer_signatures g.S.Signer.signature_of c.args.now c.args.lookup_options.dnssec_ok c.args.zone.now.signers in
+    let m = c.args.zone.now.records in
     let t = c.args.record_type.0 in
     let n = c.args.name.now in
     let s = c.in_ok-set.set in
@@ -28,8 +29,8 @@ returns-clause-answer g c =
 
 pub returns-then-is_followed-clause-answer : goal.returns-then-is_followed-clause-answer
 returns-then-is_followed-clause-answer g c =
-    let sign = answer_signatures g.S.Signer.signature_of c.args.now c.args.lookup_options.dnssec_ok c.args.self.now.signers in
-    let m = c.args.self.now.records in
+    let sign = answer_signatures g.S.Signer.signature_of c.args.now c.args.lookup_options.dnssec_ok c.args.zone.now.signers in
+    let m = c.args.zone.now.records in
     let t = c.args.record_type.0 in
     let n = c.args.name.now in
     let s = found_set c.args.found in

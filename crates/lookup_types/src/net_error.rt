@@ -1,6 +1,6 @@
 //! Why a forwarded lookup has no records.
 ghost use Rattle.std.specs.Prelude.{◌≡◌, ◌↔◌, IsTrue, IsSome};
-ghost use Rattle.zone_handler.specs.Errors.{no_records_of_net, is_nx_domain_net};
+ghost use Rattle.lookup_types.specs.Errors.{no_records_of_net, is_nx_domain_net};
 
 use thiserror::Error;
 use zone_proto::{ProtoError, Record, ResponseCode, SoaRecord};
@@ -51,7 +51,7 @@ impl NetError {
 
 impl From<&'static str> for NetError {
     ghost use Rattle.std.specs.Prelude.{◌≡◌};
-    ghost use Rattle.zone_handler.specs.declared.net_error.NetError.TheVariants.{Message};
+    ghost use Rattle.lookup_types.specs.declared.net_error.NetError.TheVariants.{Message};
 
     ghost from_gives = { λ text e. e ≡ Message text };
 
@@ -63,7 +63,7 @@ impl From<&'static str> for NetError {
 
 impl From<ProtoError> for NetError {
     ghost use Rattle.std.specs.Prelude.{◌≡◌};
-    ghost use Rattle.zone_handler.specs.declared.net_error.NetError.TheVariants.{Proto};
+    ghost use Rattle.lookup_types.specs.declared.net_error.NetError.TheVariants.{Proto};
 
     ghost from_gives = { λ refusal e. e ≡ Proto refusal };
 

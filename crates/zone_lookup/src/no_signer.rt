@@ -5,9 +5,9 @@ use zone_proto::{DNSClass, DNSKEY, ProtoError, RRSIG, RecordSet, Signer};
 
 /// Signs nothing: a zone file has its signatures, or it has none.
 #[derive(Drop)]
-pub struct StaticSigner;
+pub struct NoSigner;
 
-impl Signer for StaticSigner {
+impl Signer for NoSigner {
     ghost key_of = { λ _. None };
 
     ghost signature_of = { λ _ _ _ _. None };
