@@ -25,6 +25,7 @@ PLACES = {
     "ready_answers": (245, 7),
     "zone_file": (170, 5),
     "zone_file_writer": (85, 6),
+    "file_origins": (120, 7),
     "lookup_types": (450, 2),
     "zone_handler": (600, 5),
     "zone_map": (580, 2),

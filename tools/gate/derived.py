@@ -20,7 +20,7 @@ import sources
 LAYERS = {
     "names and data": ["zone_proto", "zone_sha1"],
     "text and wire": ["message_reading", "message_writing", "message_hmac", "message_tsig", "message_cookies", "ready_answers", "line_text", "zone_scanner", "zone_tokens", "record_fields",
-                      "zone_file", "zone_file_writer"],
+                      "zone_file", "file_origins", "zone_file_writer"],
     "the zone": ["lookup_types", "zone_handler", "zone_map", "zone_signing", "zone_denial", "zone_verify", "zone_builder", "zone_lookup", "zone_in_memory"],
     "signing": ["zone_keys", "zone_trimming", "zone_planning", "zone_planner", "zone_rollover"],
     "changes": ["journal_frames"],

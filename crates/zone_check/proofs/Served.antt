@@ -40,7 +40,8 @@ use Rattle.zone_builder.specs.Records.{given_at, is_data_of, is_of_set, is_signa
 use Rattle.zone_builder.specs.Sets.{loaded_serial, signed_set_of}
 use Rattle.zone_sha1.specs.Digests.{name_digest}
 use Rattle.zone_database.specs.declared.zone.Zone.{Zone}
-use Rattle.zone_database.specs.Files.{origin_of, IsZoneOfFile}
+use Rattle.file_origins.specs.Origins.{origin_of}
+use Rattle.zone_database.specs.Files.{IsZoneOfFile}
 use Rattle.zone_database.specs.Texts.{given_of, IsLoaded, IsText, IsZoneOf}
 use Rattle.zone_database.specs.Zones.{denial_kind, served_zone, zone_of_records}
 use Rattle.zone_database.proofs.OwnDenials.{zones_lend_their_chain}

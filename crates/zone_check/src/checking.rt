@@ -1,5 +1,5 @@
 //! Reads a zone file, and tells what is wrong with it, or what it has.
-ghost use Rattle.std.specs.Prelude.{◌≡◌, ◌≤◌, ℕ, List, [], Some, IfOk, IsFalse, IsOkUnless, unwrap_or};
+ghost use Rattle.std.specs.Prelude.{◌≡◌, ◌≤◌, ℕ, List, Some, IsFalse};
 ghost use Rattle.zone_database.specs.declared.zone.Zone.{Zone};
 ghost use Rattle.zone_database.specs.Files.{IsZoneOfFile};
 ghost use Rattle.zone_database.specs.Zones.{served_zone};
@@ -8,13 +8,14 @@ ghost use Rattle.zone_check.specs.Denials.{DeniesRightly};
 use crate::reporting::tell;
 use crate::wanted::Wanted;
 use crate::zone::check_zone;
+use file_origins::first_origin;
 use std::alloc::Global;
 use std::cmp::Ordering;
 use std::io;
 use std::io::{ErrorKind, Read, Write};
 use zone_file::{FaultText, InputError, PlacedRecord, ZoneFault, read_zone};
 use zone_file_writer::MasterText;
-use zone_proto::{Name, ProtoError, Record, RecordType};
+use zone_proto::{Record, RecordType};
 
 /// Reads a zone file from `input`, and gives the status of the program: 0 where a zone can be made of it, and the
 /// sets by which it denies, if it has any, are a closed chain; 1 where that isn't so, and 2 where it can't be told.
@@ -39,7 +40,7 @@ pub fn check<R: Read, W: Write, E: Write>(
         → (z : Zone) → IsZoneOfFile wanted.now.origin text z
         → DeniesRightly (served_zone z) }
 {
-    let Ok(origin) = first_origin(alloc, wanted) else {
+    let Ok(origin) = first_origin(alloc, &wanted.origin) else {
         return tell(fault, b"out of memory\n");
     };
     match read_zone(alloc, origin, input) {
@@ -52,17 +53,6 @@ pub fn check<R: Read, W: Write, E: Write>(
         Err(InputError::Memory) => tell(fault, b"out of memory\n"),
         Err(InputError::Input(_)) => tell(fault, b"read failed\n"),
         Err(InputError::Fault(found)) => tell_fault(fault, wanted.file, &found),
-    }
-}
-
-/// The origin that the file begins with: the one that is named, or the root. Its only error is `Memory`.
-fn first_origin(alloc: Global, wanted: &Wanted<'_>) -> Result<Name, ProtoError>
-    ensures ok { IfOk result (λ origin. origin ≡ unwrap_or wanted.now.origin []) }
-    ensures err { IsOkUnless result ProtoError.Memory }
-{
-    match &wanted.origin {
-        Some(origin) => origin.clone(),
-        None => Ok(Name::root(alloc)),
     }
 }
 

@@ -1,10 +1,9 @@
 //! The zone that the records of a file make, and what is reported about it.
-ghost use Rattle.std.specs.Prelude.{◌≡◌, ◌≤◌, map, IfOk, IsOkUnless, option_copied};
-ghost use Rattle.std.specs.List.{find};
+ghost use Rattle.std.specs.Prelude.{◌≡◌, ◌≤◌, map};
 ghost use Rattle.zone_proto.specs.Names.{lower};
 ghost use Rattle.zone_map.specs.Zones.{IsZone};
 ghost use Rattle.zone_database.specs.declared.zone.Zone.{Zone};
-ghost use Rattle.zone_database.specs.Files.{is_soa, origin_of};
+ghost use Rattle.file_origins.specs.Origins.{origin_of};
 ghost use Rattle.zone_database.specs.Texts.{given_of, IsZoneOf};
 ghost use Rattle.zone_database.specs.Zones.{served_zone};
 ghost use Rattle.response_laws.specs.ProvedSayings.{IsUnreferred};
@@ -13,6 +12,7 @@ ghost use Rattle.zone_check.specs.Denials.{DeniesRightly, served};
 use crate::denial::{Denial, tell_denial};
 use crate::reporting::{Warning, tell, tell_at};
 use crate::wanted::Wanted;
+use file_origins::zone_origin;
 use std::alloc::Global;
 use std::io::Write;
 use std::{fmt, io};
@@ -20,7 +20,7 @@ use zone_builder::{LoadFault, Loaded};
 use zone_database::load_records;
 use zone_file::PlacedRecord;
 use zone_map::RecordMap;
-use zone_proto::{LowerName, Name, ProtoError, RecordType};
+use zone_proto::LowerName;
 
 /// Makes the zone of the records, and gives the status of the program: 0 where one is made, and the sets by which it
 /// denies, if it has any, are a closed chain; 1 where that isn't so, and 2 where it can't be told. Warnings don't
@@ -43,7 +43,7 @@ pub fn check_zone<W: Write, E: Write>(
         → DeniesRightly (served_zone z) }
 {
     let count = records.len();
-    let Ok(origin) = zone_origin(alloc, wanted, records.as_slice()) else {
+    let Ok(origin) = zone_origin(alloc, &wanted.origin, records.as_slice()) else {
         return tell(fault, b"out of memory\n");
     };
     match load_records(alloc, origin, records) {
@@ -54,34 +54,6 @@ pub fn check_zone<W: Write, E: Write>(
             1
         }
     }
-}
-
-/// The origin of the zone: the one that is named, or else the owner of the first SOA of the file, or the root. Its
-/// only error is `Memory`.
-fn zone_origin(
-    alloc: Global,
-    wanted: &Wanted<'_>,
-    records: &[PlacedRecord],
-) -> Result<Name, ProtoError>
-    ensures ok { IfOk result (λ origin. origin ≡ origin_of wanted.now.origin records.now) }
-    ensures err { IsOkUnless result ProtoError.Memory }
-{
-    if let Some(origin) = &wanted.origin {
-        return origin.clone();
-    }
-    match first_soa(records) {
-        Some(placed) => placed.given.name.clone(),
-        None => Ok(Name::root(alloc)),
-    }
-}
-
-/// The first SOA among records.
-fn first_soa(records: &[PlacedRecord]) -> Option<&PlacedRecord>
-    ensures { option_copied result ≡ find is_soa records.now }
-{
-    records
-        .iter()
-        .find(|placed| placed.given.record_type() == RecordType::SOA)
 }
 
 /// Tells of a zone that was made, and gives the status for it.

@@ -1,21 +1,9 @@
 -- The zone of a file that is to be signed
-use Rattle.std.specs.Prelude.{ℕ, Bool, ◌==◌, ◌||◌, not, List, [], filter, map, Option, Some, None}
-use Rattle.std.specs.List.{find}
-use Rattle.std.specs.Option.{option_map_or}
+use Rattle.std.specs.Prelude.{ℕ, Bool, ◌==◌, ◌||◌, not, List, filter, map, Some}
 use Rattle.zone_proto.specs.Data.{type_of}
-use Rattle.zone_proto.specs.Names.{Name}
-use Rattle.zone_proto.specs.Types.{SOA, DNSKEY, RRSIG, NSEC, NSEC3, NSEC3PARAM}
+use Rattle.zone_proto.specs.Types.{DNSKEY, RRSIG, NSEC, NSEC3, NSEC3PARAM}
 use Rattle.zone_file.specs.declared.placed.PlacedRecord.{PlacedRecord}
 use Rattle.zone_builder.specs.declared.given.GivenRecord.{GivenRecord}
-
--- a record of a file is an SOA
-abbrev pub is_soa : PlacedRecord → Bool
-is_soa p = type_of p.given.rdata == SOA
-
--- the origin of a zone: the one that is named, or else the owner of the first SOA, or the root
-abbrev pub origin_of : Option Name → List PlacedRecord → Name
-origin_of (Some n) ps = n
-origin_of None ps = option_map_or (λ (p : PlacedRecord). p.given.name) (find is_soa ps) []
 
 -- the types whose records are made anew when a zone is signed: signatures, denials, the parameters of NSEC3, and keys
 abbrev pub is_made : ℕ → Bool

@@ -1,17 +1,18 @@
 //! The records of a zone, read from its file.
-ghost use Rattle.std.specs.Prelude.{◌≡◌, [], IfOk, IsOkUnless, IfSome, option_copied, unwrap_or};
-ghost use Rattle.std.specs.List.{find};
+ghost use Rattle.std.specs.Prelude.{◌≡◌, IfOk, IfSome};
+ghost use Rattle.std.specs.List.{};
 ghost use Rattle.zone_map.specs.Zones.{IsZone};
-ghost use Rattle.zone_sign.specs.Zones.{given_of, is_made, is_soa, origin_of, unsigned};
+ghost use Rattle.zone_sign.specs.Zones.{given_of, is_made, unsigned};
 
 use crate::reporting::{refuse, refuse_at};
 use crate::wanted::Wanted;
+use file_origins::{first_origin, zone_origin};
 use std::alloc::{AllocError, Global};
 use std::fs;
 use std::io::Write;
 use zone_builder::{GivenRecord, LoadFault, Loaded, load};
 use zone_file::{FaultText, InputError, PlacedRecord, read_zone};
-use zone_proto::{Name, ProtoError, RecordType};
+use zone_proto::RecordType;
 
 /// The zone in the file, without its signatures, denials and keys. None if there is none, which is reported.
 pub fn read_zone_of<E: Write>(
@@ -25,7 +26,7 @@ pub fn read_zone_of<E: Write>(
     let Ok(mut input) = fs::open(rt, wanted.file) else {
         return refuse(fault, wanted.file, &"the file can't be read");
     };
-    let Ok(origin) = first_origin(alloc, wanted) else {
+    let Ok(origin) = first_origin(alloc, &wanted.origin) else {
         return refuse(fault, wanted.file, &"out of memory");
     };
     match read_zone(alloc, origin, &mut input) {
@@ -52,7 +53,7 @@ fn load_unsigned<E: Write>(
 ) -> Option<Loaded>
     ensures { IfSome result (λ loaded. IsZone loaded.records) }
 {
-    let Ok(origin) = zone_origin(alloc, wanted, records.as_slice()) else {
+    let Ok(origin) = zone_origin(alloc, &wanted.origin, records.as_slice()) else {
         return refuse(fault, wanted.file, &"out of memory");
     };
     let Ok(given) = unsigned(alloc, records) else {
@@ -63,45 +64,6 @@ fn load_unsigned<E: Write>(
         Err(LoadFault::Memory) => refuse(fault, wanted.file, &"out of memory"),
         Err(found) => refuse_at(fault, wanted.file, found.place(), &found),
     }
-}
-
-/// The origin at the beginning of the file: the one that is given, or the root. Its only error is `Memory`.
-fn first_origin(alloc: Global, wanted: &Wanted<'_>) -> Result<Name, ProtoError>
-    ensures ok { IfOk result (λ origin. origin ≡ unwrap_or wanted.now.origin []) }
-    ensures err { IsOkUnless result ProtoError.Memory }
-{
-    match &wanted.origin {
-        Some(origin) => origin.clone(),
-        None => Ok(Name::root(alloc)),
-    }
-}
-
-/// The origin of the zone: the one that is given, otherwise the owner of the first SOA in the file, or the root. Its only error is
-/// `Memory`.
-fn zone_origin(
-    alloc: Global,
-    wanted: &Wanted<'_>,
-    records: &[PlacedRecord],
-) -> Result<Name, ProtoError>
-    ensures ok { IfOk result (λ origin. origin ≡ origin_of wanted.now.origin records.now) }
-    ensures err { IsOkUnless result ProtoError.Memory }
-{
-    if let Some(origin) = &wanted.origin {
-        return origin.clone();
-    }
-    match first_soa(records) {
-        Some(placed) => placed.given.name.clone(),
-        None => Ok(Name::root(alloc)),
-    }
-}
-
-/// The first SOA among records.
-fn first_soa(records: &[PlacedRecord]) -> Option<&PlacedRecord>
-    ensures { option_copied result ≡ find is_soa records.now }
-{
-    records
-        .iter()
-        .find(|placed| placed.given.record_type() == RecordType::SOA)
 }
 
 /// The records without those that are made anew: signatures, denials and keys.

@@ -1,15 +1,16 @@
 //! The zones of files, with what is reported about each.
-ghost use Rattle.std.specs.Prelude.{◌≡◌, List, ℕ, [], Some, map, IfOk, IfSome, option_copied, unwrap_or};
-ghost use Rattle.std.specs.List.{find};
+ghost use Rattle.std.specs.Prelude.{◌≡◌, List, ℕ, [], Some, map, IfOk, IfSome, unwrap_or};
 ghost use Rattle.zone_proto.specs.Names.{lower};
 ghost use Rattle.zone_map.specs.Zones.{IsZone};
-ghost use Rattle.zone_database.specs.Files.{is_soa, origin_of, IsZoneOfFile};
+ghost use Rattle.file_origins.specs.Origins.{origin_of};
+ghost use Rattle.zone_database.specs.Files.{IsZoneOfFile};
 ghost use Rattle.zone_database.specs.Texts.{given_of, IsLoaded, IsText};
 ghost use Rattle.zone_database.specs.Zones.{zone_of_records};
 ghost use Rattle.zoned.specs.Zones.{policy_of};
 
 use crate::reporting::{tell, tell_at};
 use crate::wanted::WantedZone;
+use file_origins::{first_origin, zone_origin};
 use std::alloc::{AllocError, Global};
 use std::collections::BTreeMap;
 use std::fs;
@@ -17,7 +18,7 @@ use std::io::{Read, Write};
 use zone_builder::{LoadFault, Loaded};
 use zone_database::{Zone, load_records, zone_of};
 use zone_file::{FaultText, InputError, PlacedRecord, read_zone};
-use zone_proto::{LowerName, Name, ProtoError, RecordType, RrKey};
+use zone_proto::{LowerName, ProtoError, RecordType, RrKey};
 use zone_server::TransferPolicy;
 
 /// Loads the zones that are wanted. None if one can't be loaded, or two have one origin; why is told.
@@ -171,16 +172,6 @@ fn read_records<R: Read, E: Write>(
     }
 }
 
-/// The origin that a file begins with: the one that is named, or the root.
-fn first_origin(alloc: Global, named: &Option<Name>) -> Result<Name, ProtoError>
-    ensures { IfOk result (λ origin. origin ≡ unwrap_or named.now []) }
-{
-    match named {
-        Some(origin) => origin.clone(),
-        None => Ok(Name::root(alloc)),
-    }
-}
-
 /// Makes the zone of the records of a file.
 fn loaded_of<E: Write>(
     alloc: Global,
@@ -206,32 +197,6 @@ fn loaded_of<E: Write>(
             None
         }
     }
-}
-
-/// The origin of a zone: the one that is named, or else the owner of the first SOA of the file, or the root.
-fn zone_origin(
-    alloc: Global,
-    named: &Option<Name>,
-    records: &[PlacedRecord],
-) -> Result<Name, ProtoError>
-    ensures { IfOk result (λ origin. origin ≡ origin_of named.now records.now) }
-{
-    if let Some(origin) = named {
-        return origin.clone();
-    }
-    match first_soa(records) {
-        Some(placed) => placed.given.name.clone(),
-        None => Ok(Name::root(alloc)),
-    }
-}
-
-/// The first SOA among records.
-fn first_soa(records: &[PlacedRecord]) -> Option<&PlacedRecord>
-    ensures { option_copied result ≡ find is_soa records.now }
-{
-    records
-        .iter()
-        .find(|placed| placed.given.record_type() == RecordType::SOA)
 }
 
 /// Who may transfer each of the zones that are wanted, in their order.

@@ -1,7 +1,7 @@
 use Rattle.std.proofs.Common.{◌≡◌, List, map, sym, ap, ◌∙◌, subst}
 use Rattle.zone_proto.specs.Names.{Name, lower}
 use Rattle.zone_builder.specs.declared.given.GivenRecord.{GivenRecord}
-use Rattle.zone_database.specs.Files.{origin_of}
+use Rattle.file_origins.specs.Origins.{origin_of}
 use Rattle.zone_database.specs.Texts.{given_of, IsZoneOf}
 use Rattle.zone_check.proofs.Served.{served_rightly, unreferred}
 use Rattle.zone_check.proofs.zone.check_zone.Goals as goal
