@@ -41,7 +41,8 @@ PLACES = {
     "zone_planner": (640, 10),
     "zone_rollover": (640, 11),
     "zone_sign": (440, 12),
-    "journal_frames": (1000, 2),
+    "journal_frames": (1000, 6),
+    "zone_difference": (1000, 3),
     "denial_validation": (810, 2),
     "denial_laws": (810, 5),
     "response_laws": (810, 8),
@@ -77,6 +78,7 @@ BENDS = {
     ("zone_trimming", "zone_signing"): [(682, 6.4), (668, 5), (668, 4)],
     ("zone_trimming", "zone_denial"): [(534, 6.45), (534, 4.8), (525, 4)],
     ("zonectl_session", "zone_in_memory"): [(555, 11), (555, 7)],
+    ("zone_difference", "zone_map"): [(905, 1.45), (640, 1.45)],
 }
 
 

@@ -1,0 +1,4 @@
+pub mod Copies
+pub mod Found
+pub mod Leading
+pub mod Steps

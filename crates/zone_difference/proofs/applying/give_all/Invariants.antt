@@ -1,0 +1,8 @@
+use Rattle.std.proofs.Common.{◌≡◌}
+use Rattle.std.specs.Vec.Iter.{into_iter_items}
+use Rattle.zone_difference.specs.Differences.{with_each, with_given}
+use Rattle.zone_difference.proofs.applying.give_all.Given as goal
+
+-- what is left leads to where all lead
+abbrev pub invariant-loop-set : goal.invariant-loop-set
+invariant-loop-set l = with_each with_given l.records (into_iter_items l.set-iterator) ≡ with_each with_given l.fn.records l.fn.given.items
