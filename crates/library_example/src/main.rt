@@ -2,18 +2,18 @@
 #![tactic(auto)]
 
 mod judged;
-mod unsigned;
+mod no_hash;
 
 use judged::judge_a_denial;
 use line_text::{RecordText, Words, read_record};
+use no_hash::NoHash;
 use std::alloc::Global;
-use unsigned::{NoHash, NoSigner};
 use zone_handler::{
     AuthLookup, AxfrPolicy, LookupError, LookupOptions, Request, ZoneHandler, ZoneTransfer,
     ZoneType,
 };
 use zone_proto::{DNSClass, LowerName, Name, Query, RData, Record, RecordType};
-use zone_store::InMemoryZoneHandler;
+use zone_store::{InMemoryZoneHandler, NoSigner};
 
 /// A zone that is never signed.
 type Zone = InMemoryZoneHandler<NoSigner, NoHash>;

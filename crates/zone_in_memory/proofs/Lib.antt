@@ -2,7 +2,7 @@ pub mod Denials
 pub mod SecuredDenials
 pub mod SecuredZones
 pub mod KeptCircles
-pub mod Answering
+pub mod AnswerSections
 pub mod Lookups
 pub mod CircleAgreement
 pub mod Nsec3Agreement

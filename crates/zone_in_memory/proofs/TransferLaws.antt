@@ -39,7 +39,7 @@ use Rattle.zone_lookup.specs.Replies.{one_set, chained, negative, negative_answe
 use Rattle.zone_in_memory.specs.KeptReplies.{KeepsAnswers}
 use Rattle.zone_in_memory.specs.Transfers.{plain, HasAnswers, IsSoaPart, IsTransfer}
 use Rattle.zone_in_memory.specs.TransferLaws.{HasSoa}
-use Rattle.zone_in_memory.proofs.Answering.{stays_alone}
+use Rattle.zone_in_memory.proofs.AnswerSections.{stays_alone}
 
 refuted : (b : Bool) → (b ≡ true → ⊥) → b ≡ false
 refuted true h = absurd (h refl)

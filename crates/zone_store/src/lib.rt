@@ -8,7 +8,8 @@
 //!   [`PutRefused`] says why a set was not stored.
 //! - [`InnerInMemory`] is what a zone lends for reading: its record sets by name and type, and its signers. [`Found`] is a set
 //!   that was found, and [`ZoneError`] says why there is none. [`DenialOwners`] lends the owners of its sets of denial. A
-//!   [`Counter`] counts what is searched ([`Searches`]) and what is read ([`Reads`]).
+//!   [`Counter`] counts what is searched ([`Searches`]) and what is read ([`Reads`]). [`NoSigner`] is the signer of zones that
+//!   nobody signs.
 //! - [`program`] has the command language of `zonectl` over any reader and writer, with the signer and the hash of its
 //!   demonstrations.
 //! - [`laws`] has laws of the definitions: contracts of functions that do nothing. What the contracts of all these
@@ -24,5 +25,5 @@ pub mod program {
 }
 
 pub use zone_in_memory::{InMemoryZoneHandler, PutRefused, laws};
-pub use zone_lookup::{Found, InnerInMemory, Searches, ZoneError};
+pub use zone_lookup::{Found, InnerInMemory, NoSigner, Searches, ZoneError};
 pub use zone_map::{Counter, DenialOwners, Reads};

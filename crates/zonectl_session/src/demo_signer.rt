@@ -91,6 +91,6 @@ impl Signer for DemoSigner {
 fn signed_labels(owner: &Name) -> u8
     ensures { result ≡ signed_labels owner.now }
 {
-    let stars = if owner.is_wildcard() { 1 } else { 0 };
-    owner.num_labels().saturating_sub(stars) as u8
+    let asterisks = if owner.is_wildcard() { 1 } else { 0 };
+    owner.num_labels().saturating_sub(asterisks) as u8
 }

@@ -8,7 +8,7 @@ use Rattle.zone_lookup.specs.FoundSets.{found_set}
 use Rattle.zone_lookup.specs.Replies.{one_set, chained, is_followed, AreFrom, IsAnswer}
 use Rattle.zone_in_memory.specs.KeptReplies.{HasSections, SaysAnswer}
 use Rattle.zone_signing.specs.Signatures.{answer_signatures}
-use Rattle.zone_in_memory.proofs.Answering.{alone_answers, chain_answers}
+use Rattle.zone_in_memory.proofs.AnswerSections.{alone_answers, chain_answers}
 use Rattle.zone_in_memory.proofs.answering.answer.Goals as goal
 
 pub returns-clause-answer : goal.returns-clause-answer

@@ -4,7 +4,7 @@ use Rattle.zone_handler.specs.declared.auth_lookup.AuthLookup.TheVariants as ans
 use Rattle.zone_lookup.specs.Flattening.{last_set, flattened}
 use Rattle.zone_signing.specs.Signatures.{answer_signatures}
 use Rattle.zone_lookup.proofs.Chasing.{no_value}
-use Rattle.zone_in_memory.proofs.Answering.{has_one, stays_alone, nothing_before, stays_without, none_beside, is_flattened, stands_first, some_left}
+use Rattle.zone_in_memory.proofs.AnswerSections.{has_one, stays_alone, nothing_before, stays_without, none_beside, is_flattened, stands_first, some_left}
 use Rattle.zone_in_memory.proofs.answering.answer_alone.Goals as goal
 use Rattle.zone_in_memory.proofs.answering.answer_alone.Goals.{in_default-via-in-Some+else-stands_for_addresses, in_default-via-in_default}
 

@@ -6,7 +6,7 @@ use Rattle.zone_proto.specs.Sets.{RRset}
 use Rattle.zone_lookup.specs.Flattening.{last_set, beside}
 use Rattle.zone_lookup.specs.Replies.{AreFrom}
 use Rattle.zone_lookup.proofs.Chasing.{no_value}
-use Rattle.zone_in_memory.proofs.Answering.{has_many, nothing_before, nothing_beside, stands_first, no_length}
+use Rattle.zone_in_memory.proofs.AnswerSections.{has_many, nothing_before, nothing_beside, stands_first, no_length}
 use Rattle.zone_in_memory.proofs.answering.answer_by_chain.Goals as goal
 use Rattle.zone_in_memory.proofs.answering.answer_by_chain.Goals.{in-Some+in_ok-more+then-stands_for_addresses+then-not-is_empty+in_ok-clone+in_ok-put_first, in-Some+in_ok-more+else-stands_for_addresses, else-stands_for_addresses-via-then-stands_for_addresses+else-not-is_empty, else-stands_for_addresses-via-else-stands_for_addresses, in_default}
 
