@@ -1,4 +1,5 @@
 mod Passing
 mod AlgorithmNames
 pub mod Authentic
+pub mod AuthenticResponses
 pub mod SignedLengths

@@ -10,9 +10,10 @@ use Rattle.message_tsig.specs.declared.key.Key.{Key}
 use Rattle.message_tsig.specs.declared.tsig.Tsig.{Tsig}
 use Rattle.message_tsig.specs.Keys.{algorithm_name}
 use Rattle.message_tsig.specs.Replies.{header_text}
+use Rattle.message_tsig.specs.Requests.{request_mac, request_stamp, signed_request}
 use Rattle.message_tsig.specs.Signing.{Signing, response_mac, response_stamp, signed_message, text_in, tsig_size}
 use Rattle.message_tsig.specs.Texts.{short_at, with_additionals}
-use Rattle.message_tsig.specs.Tsigs.{data_text, record_text}
+use Rattle.message_tsig.specs.Tsigs.{data_text, record_text, request_text}
 
 -- ---- a TSIG record
 
@@ -56,6 +57,16 @@ length_of_signed k now s m =
     let mac : length (response_mac k now s m) ≡ size_by k.algorithm = length_of_mac k.algorithm k.secret (text_in s.prior (response_stamp k now s) m) in
     let both : length (signed_message k now s m) ≡ length front + length (record_text t) = length-append front (record_text t) in
     added (length (signed_message k now s m)) (length front) (length (record_text t)) (12 + (length m - 12)) (tsig_size k) both header (omega (arith, own, mac))
+
+pub length_of_request : (k : Key) (now fudge : ℕ) (m : List ℕ) → length (signed_request k now fudge m) ≤ 12 + (length m - 12) + tsig_size k
+length_of_request k now fudge m =
+    let t : Tsig = record (request_stamp k now fudge m) { mac = request_mac k now fudge m } in
+    let front : List ℕ = with_additionals ((short_at 10 m + 1) % 65536) m in
+    let header : length front ≤ 12 + (length m - 12) = length_of_header ((short_at 10 m + 1) % 65536) m in
+    let own : length (record_text t) ≡ wire_length k.name + wire_length (algorithm_name k.algorithm) + length (request_mac k now fudge m) + 0 + 26 = length_of_record t in
+    let mac : length (request_mac k now fudge m) ≡ size_by k.algorithm = length_of_mac k.algorithm k.secret (request_text (request_stamp k now fudge m) m) in
+    let both : length (signed_request k now fudge m) ≡ length front + length (record_text t) = length-append front (record_text t) in
+    added (length (signed_request k now fudge m)) (length front) (length (record_text t)) (12 + (length m - 12)) (tsig_size k) both header (omega (arith, own, mac))
 
 -- ---- a header alone
 

@@ -6,3 +6,6 @@ pub mod Verdicts
 pub mod Checking
 pub mod Replies
 pub mod Signing
+pub mod Requests
+pub mod Checkings
+pub mod Responses

@@ -2,7 +2,7 @@
 ghost use Rattle.std.specs.Prelude.{◌≡◌, IfOk, option_copied};
 ghost use Rattle.std.specs.List.{find, list_any};
 ghost use Rattle.zone_proto.specs.Names.{Name as LabelsOf, wire_form};
-ghost use Rattle.message_tsig.specs.Keys.{algorithm_name, are_same, has_zone, is_named, key_for, may_have};
+ghost use Rattle.message_tsig.specs.Keys.{algorithm_name, are_same, has_zone, is_named, key_for, may_have, names_key};
 
 use crate::tsig::Tsig;
 use message_hmac::{Algorithm, Secret, same_octets};
@@ -88,6 +88,15 @@ pub(crate) fn key_for<'k>(tsig: &Tsig, keys: &'k [Key]) -> Result<Option<&'k Key
     let name = LowerName::new(&tsig.name)?;
     let algorithm = tsig.algorithm.wire_lower()?;
     Ok(find_named(&name, algorithm.as_slice(), keys))
+}
+
+/// Whether a TSIG names a key.
+pub(crate) fn names_key(tsig: &Tsig, key: &Key) -> Result<bool, ProtoError>
+    ensures { IfOk result (λ named. named ≡ names_key tsig.now key.now) }
+{
+    let name = LowerName::new(&tsig.name)?;
+    let algorithm = tsig.algorithm.wire_lower()?;
+    Ok(is_named(&name, algorithm.as_slice(), key))
 }
 
 /// The first of some keys that has this name and algorithm.

@@ -212,7 +212,14 @@ fn mac_behind(
 }
 
 /// A TSIG of these names at a moment, without its MAC.
-fn stamp(alloc: Global, name: Name, algorithm: Name, original_id: u16, now: u64, error: u16) -> Tsig
+pub(crate) fn stamp(
+    alloc: Global,
+    name: Name,
+    algorithm: Name,
+    original_id: u16,
+    now: u64,
+    error: u16,
+) -> Tsig
     ensures { result ≡ stamp name algorithm original_id now error }
 {
     Tsig {
@@ -228,7 +235,7 @@ fn stamp(alloc: Global, name: Name, algorithm: Name, original_id: u16, now: u64,
 }
 
 /// A message with a TSIG behind its records.
-fn with_tsig(alloc: Global, message: &[u8], tsig: &Tsig) -> Result<Vec<u8>, ProtoError>
+pub(crate) fn with_tsig(alloc: Global, message: &[u8], tsig: &Tsig) -> Result<Vec<u8>, ProtoError>
     ensures { IfOk result (λ text. text.items ≡ with_tsig message.now tsig.now) }
 {
     let count = short_at(message, 10).wrapping_add(1);

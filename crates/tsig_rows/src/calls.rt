@@ -1,5 +1,6 @@
 //! Calls of rows.
 
+use crate::asking::{answers_answer, ask_answer};
 use crate::checking::{changed_answer, check_answer, fronts_answer, place_answer};
 use crate::keys::{read_algorithm, read_key, read_octets};
 use crate::responding::{refuse_answer, respond_answer};
@@ -48,6 +49,8 @@ fn call_answer(alloc: Global, keys: &[Key], verb: &str, words: &str) -> Result<S
         "fronts" => fronts_answer(alloc, keys, words),
         "respond" => respond_answer(alloc, keys, words),
         "refuse" => refuse_answer(alloc, keys, words),
+        "ask" => ask_answer(alloc, keys, words),
+        "answers" => answers_answer(alloc, keys, words),
         _ => Err(TextError::BadText),
     }
 }

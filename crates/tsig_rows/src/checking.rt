@@ -44,7 +44,7 @@ pub fn check_answer(
 }
 
 /// The word of an error (RFC 8945 section 3).
-fn error_word(error: TsigError) -> &'static str {
+pub fn error_word(error: TsigError) -> &'static str {
     match error {
         TsigError::BadSig => "BADSIG",
         TsigError::BadKey => "BADKEY",
