@@ -1,0 +1,4 @@
+pub mod Serials
+pub mod Waits
+pub mod States
+pub mod StateLaws
