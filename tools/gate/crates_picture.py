@@ -23,6 +23,7 @@ PLACES = {
     "message_tsig": (262, 6),
     "message_notify": (365, 3),
     "message_cookies": (400, 6),
+    "message_options": (190, 6),
     "ready_answers": (245, 7),
     "zone_file": (170, 5),
     "zone_file_writer": (85, 6),
