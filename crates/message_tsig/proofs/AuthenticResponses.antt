@@ -1,6 +1,6 @@
 -- A message of a response that is found signed is authentic: its MAC is the one that the standard defines, under the key of the request,
 -- its error is 0, and the moment is within its fudge
-use Rattle.std.proofs.Common.{◌≡◌, ℕ, ◌≤◌, ◌<◌, Bool, true, false, cond, List, refl, sym, ap, ◌∙◌, arith}
+use Rattle.std.proofs.Common.{◌≡◌, ℕ, Bool, true, false, cond, List, refl, sym, ap, ◌∙◌, arith}
 use Rattle.std.specs.Prelude.{Option, Some, None, nat_lt}
 use Rattle.std.proofs.lemmas.Bool.Decides.{nat_tests}
 use Rattle.message_tsig.specs.declared.key.Key.{Key}
@@ -17,7 +17,7 @@ use Rattle.message_tsig.specs.declared.verdict.Verdict.TheVariants.{Right, Malfo
 use Rattle.message_tsig.specs.Checkings.{Checking}
 use Rattle.message_tsig.specs.Keys.{names_key}
 use Rattle.message_tsig.specs.Places.{place_of, without}
-use Rattle.message_tsig.specs.Responses.{checked_text, Found, found_by_place, found_by_tsig, found_by_verdict, found_kept, found_of, found_unsigned, found_unverified, IsAuthenticResponse, IsAuthenticResponseIfSigned, is_refusal, may_be_unsigned, refused, refused_unsigned, signed, unsigned, wrong}
+use Rattle.message_tsig.specs.Responses.{checked_text, found_by_place, found_by_tsig, found_by_verdict, found_kept, found_of, found_unverified, IsAuthenticResponse, IsAuthenticResponseIfSigned, is_refusal, may_be_unsigned, refused, refused_unsigned, signed, unsigned, wrong}
 use Rattle.message_tsig.specs.Texts.{short_at}
 use Rattle.message_tsig.specs.Tsigs.{tsig_at}
 use Rattle.message_tsig.specs.Verdicts.{mac_under, verdict_of}

@@ -1,5 +1,5 @@
 -- What the messages of a response are found to be by those who signed the request (RFC 8945 sections 5.3.1 and 5.4)
-use Rattle.std.specs.Prelude.{◌≡◌, ℕ, ◌+◌, ◌≤◌, ◌%◌, ◌==◌, ◌&&◌, Bool, true, false, List, [], ◌++◌, slice_index, nat_lt, Option, Some, None, if◌then◌else◌}
+use Rattle.std.specs.Prelude.{◌≡◌, ℕ, ◌+◌, ◌≤◌, ◌%◌, ◌==◌, ◌&&◌, Bool, true, List, [], ◌++◌, slice_index, nat_lt, Option, Some, None, if◌then◌else◌}
 use Rattle.message_tsig.specs.declared.key.Key.{Key}
 use Rattle.message_tsig.specs.declared.place.Place.{Place}
 use Rattle.message_tsig.specs.declared.place.Place.TheVariants as at
