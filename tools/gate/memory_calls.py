@@ -21,7 +21,7 @@ import sources
 from sources import TOP, read
 
 # The crates whose items all are the library's, and those of which zone_store hands items on.
-OWN = ["zone_proto", "line_text", "denial_validation", "zone_handler"]
+OWN = ["zone_proto", "line_text", "denial_validation", "lookup_types", "zone_handler"]
 HANDED_ON = ["zone_map", "zone_lookup", "zone_in_memory", "zonectl_session"]
 
 # The calls that a type has by these traits are listed too; those of the library's own traits stand under the trait.
