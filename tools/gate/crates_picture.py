@@ -44,6 +44,7 @@ PLACES = {
     "zone_rollover": (640, 11),
     "zone_sign": (440, 12),
     "journal_frames": (1000, 6),
+    "update_policy": (1000, 1),
     "zone_secondary": (1000, 2),
     "zone_difference": (1000, 3),
     "denial_validation": (810, 2),
@@ -81,6 +82,7 @@ BENDS = {
     ("zone_trimming", "zone_signing"): [(682, 6.4), (668, 5), (668, 4)],
     ("zone_trimming", "zone_denial"): [(534, 6.45), (534, 4.8), (525, 4)],
     ("zonectl_session", "zone_in_memory"): [(555, 11), (555, 7)],
+    ("update_policy", "zone_proto"): [(905, 0.5)],
     ("zone_difference", "zone_map"): [(905, 1.45), (640, 1.45)],
 }
 

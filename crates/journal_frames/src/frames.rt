@@ -91,7 +91,8 @@ pub fn push_frame(journal: &mut Vec<u8>, message: &[u8]) -> Result<(), AllocErro
 fn push_parts(journal: &mut Vec<u8>, message: &[u8]) -> Result<(), AllocError>
     requires { length message.now < 2 ^ 32 }
     ensures ok { OnOk result (journal.new.items ≡ journal.old.items ++ framed message.now) }
-    ensures front { OnErr result (take (length journal.old.items) journal.new.items ≡ journal.old.items) }
+    ensures front { OnErr result
+        (take (length journal.old.items) journal.new.items ≡ journal.old.items) }
 {
     let count = message.len();
     let digest = checksum(message);
