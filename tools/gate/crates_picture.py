@@ -1,90 +1,32 @@
-"""The picture of the crates by layers, and of their dependencies, drawn from crates.txt without the crates of tests: a crate is
-above those that it uses. A line that others imply is omitted, such as that to a crate which a crate between the two uses."""
+"""The picture of the crates and of their dependencies, drawn from crates.txt without the crates of tests: a crate is above those that it
+uses. A line that others imply is omitted, such as that to a crate which a crate between the two uses. Where crates stand is found here
+too: a row for each, an order within the rows in which few lines cross, and places in which they are short. A line that passes a row has
+a place of its own in it, so that none goes through a crate."""
 
+import functools
 import os
 
 import derived
 import sources
 import svg
 
-ROW, HEIGHT, MARGIN = 54, 28, 16
+ROW, HEIGHT, MARGIN, GAP, LINE = 54, 26, 14, 14, 12
+# How many crates a row has at most.
+MOST = 7
+SWEEPS = 40
 
-# Where each crate stands: its middle, and its row from below.
-PLACES = {
-    "zone_proto": (520, 0),
-    "zone_sha1": (380, 0),
-    "line_text": (75, 2),
-    "message_reading": (190, 2),
-    "zone_scanner": (312, 2),
-    "zone_tokens": (75, 3),
-    "record_fields": (75, 4),
-    "message_writing": (300, 4),
-    "message_hmac": (315, 5),
-    "message_tsig": (262, 6),
-    "message_notify": (365, 3),
-    "message_cookies": (400, 6),
-    "message_options": (190, 6),
-    "ready_answers": (245, 7),
-    "zone_file": (170, 5),
-    "zone_file_writer": (85, 6),
-    "file_origins": (120, 7),
-    "lookup_types": (450, 2),
-    "zone_handler": (600, 5),
-    "zone_map": (580, 2),
-    "zone_denial": (480, 3),
-    "zone_signing": (610, 3),
-    "zone_verify": (480, 5),
-    "zone_builder": (455, 4),
-    "zone_lookup": (585, 4),
-    "zone_in_memory": (600, 6),
-    "zone_keys": (632, 8),
-    "zone_trimming": (640, 7),
-    "zone_planning": (640, 9),
-    "zone_planner": (640, 10),
-    "zone_rollover": (640, 11),
-    "zone_sign": (440, 12),
-    "journal_frames": (1000, 6),
-    "update_policy": (1000, 1),
-    "zone_secondary": (1000, 2),
-    "zone_difference": (1000, 3),
-    "denial_validation": (810, 2),
-    "denial_laws": (810, 5),
-    "response_laws": (810, 8),
-    "server_laws": (810, 9),
-    "zone_origins": (160, 8),
-    "zone_response": (470, 7),
-    "zone_server": (410, 8),
-    "zone_database": (280, 9),
-    "ningkraet": (280, 10),
-    "zone_check": (85, 12),
-    "zoned": (230, 12),
-    "zonectl_commands": (810, 12),
-    "zonectl_session": (620, 13),
-    "zonectl": (560, 14),
-    "zone_store": (680, 14),
+# The colours of the layers.
+COLOURS = {
+    "names and data": "#dfe7f3",
+    "text and wire": "#d9efe4",
+    "the zone": "#fdf1dc",
+    "signing": "#f3e1ef",
+    "changes": "#e4e4f7",
+    "what it proves": "#fbe3df",
+    "the server": "#dff0f5",
+    "programs": "#f6f3cf",
 }
-
-# The bends of lines that would pass through a crate.
-BENDS = {
-    ("zone_database", "zone_sha1"): [(380, 6), (380, 1)],
-    ("zonectl_session", "zone_sha1"): [(713, 11), (713, 0.75), (420, 0.75)],
-    ("zonectl_commands", "line_text"): [(721, 11), (721, 1.3), (95, 1.3)],
-    ("zonectl_commands", "lookup_types"): [(721, 11), (721, 1.3), (470, 1.3)],
-    ("zone_handler", "lookup_types"): [(516, 4.45), (516, 3.75), (543, 3.35), (543, 2.7)],
-    ("zone_in_memory", "zone_lookup"): [(660, 5.45), (660, 4.6)],
-    ("zone_database", "zone_builder"): [(330, 7)],
-    ("zone_server", "message_writing"): [(375, 6.4), (375, 4.7)],
-    ("zone_origins", "zone_proto"): [(372, 6), (372, 1)],
-    ("zone_check", "zone_verify"): [(190, 9), (345, 6.2)],
-    ("zone_verify", "zone_denial"): [(525, 4)],
-    ("zone_keys", "message_writing"): [(550, 6.6)],
-    ("zone_planning", "zone_signing"): [(702, 8.5), (702, 6.6), (668, 5), (668, 4)],
-    ("zone_trimming", "zone_signing"): [(682, 6.4), (668, 5), (668, 4)],
-    ("zone_trimming", "zone_denial"): [(534, 6.45), (534, 4.8), (525, 4)],
-    ("zonectl_session", "zone_in_memory"): [(555, 11), (555, 7)],
-    ("update_policy", "zone_proto"): [(905, 0.5)],
-    ("zone_difference", "zone_map"): [(905, 1.45), (640, 1.45)],
-}
+OTHER = "#eeeeee"
 
 
 def used(listed):
@@ -106,39 +48,179 @@ def plain_uses(uses):
 
 
 def width_of(name):
-    return 16 + 7.6 * len(name)
+    return 14 + 7.1 * len(name)
 
 
 def is_program(name):
     return os.path.exists(f"{sources.TOP}/crates/{name}/src/main.rt")
 
 
+def rows_of(uses, users):
+    """The row of each crate, above those that it uses: row after row takes those above which the most rows have to come, and no more than
+    fit in it; then crates that more crates use than they use go up as far as they can."""
+    heights = {}
+    for name in reversed(list(uses)):
+        heights[name] = 1 + max((heights[it] for it in users[name]), default=-1)
+    rows, row = {}, 0
+    while len(rows) < len(uses):
+        free = [name for name in uses if name not in rows and all(rows.get(it, row) < row for it in uses[name])]
+        free.sort(key=lambda name: (-heights[name], -len(users[name])))
+        rows.update({name: row for name in free[:MOST]})
+        row += 1
+    for name in reversed(list(uses)):
+        if users[name] and len(users[name]) >= len(uses[name]):
+            for higher in range(min(rows[it] for it in users[name]) - 1, rows[name], -1):
+                if list(rows.values()).count(higher) < MOST:
+                    rows[name] = higher
+                    break
+    return rows
+
+
+def ways_of(uses, rows):
+    """The places that each line goes through, from the upper crate to the lower: a crate is its name, and a place in a row between is the
+    two crates and the row."""
+    return {(name, it): [name, *((name, it, row) for row in range(rows[name] - 1, rows[it], -1)), it] for name, below in uses.items() for it in below}
+
+
+def mean(values, other):
+    return sum(values) / len(values) if values else other
+
+
+def crossings(orders, above, below):
+    """How many pairs of lines cross."""
+    count = 0
+    for lower, upper in zip(orders, orders[1:]):
+        place = {it: number for number, it in enumerate(lower)}
+        ends = [place[other] for it in upper for other in sorted(below[it], key=place.get)]
+        count += sum(ends[i] > ends[j] for i in range(len(ends)) for j in range(i + 1, len(ends)))
+    return count
+
+
+def ordered(orders, above, below):
+    """The rows in an order in which few lines cross: each place goes where the middle of its neighbours is, up and down in turns."""
+    best = (crossings(orders, above, below), orders)
+    for sweep in range(SWEEPS):
+        orders = [list(row) for row in orders]
+        rows = range(1, len(orders)) if sweep % 2 == 0 else range(len(orders) - 2, -1, -1)
+        for row in rows:
+            near, by = (orders[row - 1], below) if sweep % 2 == 0 else (orders[row + 1], above)
+            place = {it: number / max(1, len(near) - 1) for number, it in enumerate(near)}
+            own = {it: number / max(1, len(orders[row]) - 1) for number, it in enumerate(orders[row])}
+            orders[row].sort(key=lambda it: mean([place[other] for other in by[it]], own[it]))
+        exchanged(orders, above, below)
+        count = crossings(orders, above, below)
+        if count < best[0]:
+            best = (count, [list(row) for row in orders])
+    return best[1]
+
+
+def exchanged(orders, above, below):
+    """Exchanges neighbours where fewer lines cross then."""
+    for number, row in enumerate(orders):
+        places = []
+        for other, by in ((number - 1, below), (number + 1, above)):
+            if 0 <= other < len(orders):
+                places.append(({it: at for at, it in enumerate(orders[other])}, by))
+
+        def crossed(left, right):
+            return sum(place[a] > place[b] for place, by in places for a in by[left] for b in by[right])
+
+        for at in range(len(row) - 1):
+            if crossed(row[at], row[at + 1]) > crossed(row[at + 1], row[at]):
+                row[at], row[at + 1] = row[at + 1], row[at]
+
+
+def space(it):
+    return width_of(it) + GAP if isinstance(it, str) else LINE
+
+
+def placed(orders, above, below):
+    """How far to the right each place stands: near the middle of its neighbours, and beside the others of its row."""
+    x = {}
+    for row in orders:
+        at = 0.0
+        for it in row:
+            x[it] = at + space(it) / 2
+            at += space(it)
+    for sweep in range(3 * SWEEPS):
+        for row in orders if sweep % 2 == 0 else orders[::-1]:
+            # lines stay straight before all
+            centre = mean([x[it] for it in row], 0)
+            wanted = {it: mean([x[other] for other in [*above[it], *below[it]]], centre) for it in row}
+            packed(row, wanted, x)
+    least = min(x[it] - space(it) / 2 for it in x)
+    return {it: at - least + MARGIN for it, at in x.items()}
+
+
+def packed(row, wanted, x):
+    """Puts the places of a row where they are wanted, or as near as their order and their widths allow: those that would stand in one
+    another are moved together, to where they are on average."""
+    groups = []
+    for it in row:
+        groups.append([[it], wanted[it] - space(it) / 2, space(it), 1])
+        while len(groups) > 1 and groups[-2][1] + groups[-2][2] > groups[-1][1]:
+            right, left = groups.pop(), groups.pop()
+            count = left[3] + right[3]
+            start = (left[1] * left[3] + (right[1] - left[2]) * right[3]) / count
+            groups.append([left[0] + right[0], start, left[2] + right[2], count])
+    for items, start, _, _ in groups:
+        at = start
+        for it in items:
+            x[it] = at + space(it) / 2
+            at += space(it)
+
+
+@functools.cache
+def layout():
+    """The rows of the crates, how far to the right each place stands, and the ways of the lines."""
+    listed = {name: below for name, below in sources.crates().items() if derived.layer_of(name) != derived.TESTS}
+    uses = plain_uses(used(listed))
+    users = {name: [it for it in uses if name in uses[it]] for name in uses}
+    rows = rows_of(uses, users)
+    ways = ways_of(uses, rows)
+    above, below = {it: [] for it in uses}, {it: [] for it in uses}
+    for way in ways.values():
+        for upper, lower in zip(way, way[1:]):
+            above.setdefault(lower, []).append(upper)
+            below.setdefault(upper, []).append(lower)
+            above.setdefault(upper, []), below.setdefault(lower, [])
+    orders = [[] for _ in range(max(rows.values()) + 1)]
+    layers = list(derived.LAYERS)
+    for it in sorted(above, key=lambda it: (layers.index(derived.layer_of(it if isinstance(it, str) else it[0])), str(it))):
+        orders[rows[it] if isinstance(it, str) else it[2]].append(it)
+    orders = ordered(orders, above, below)
+    return rows, placed(orders, above, below), ways
+
+
 def draw():
-    uses = used({name: below for name, below in sources.crates().items() if derived.layer_of(name) != derived.TESTS})
-    if missing := [it for it in uses if it not in PLACES]:
-        raise SystemExit(f"crates_picture: no place is stated for {', '.join(missing)}")
-    height = ROW * 15 + 60
-    picture = svg.Picture(1100, height, "The crates by layers: each stands above those that it uses")
+    rows, x, ways = layout()
+    width = max(x[it] + space(it) / 2 for it in x) + MARGIN
+    height = ROW * (max(rows.values()) + 1) + 56
+    picture = svg.Picture(round(width), height, "The crates: each stands above those that it uses")
 
     def y(row):
-        return height - 62 - ROW * row
+        return height - 76 - ROW * row
 
-    for layer, crates in derived.by_layers().items():
-        if layer != derived.TESTS:
-            left = min(PLACES[it][0] - width_of(it) / 2 for it in crates) - 10
-            right = max(PLACES[it][0] + width_of(it) / 2 for it in crates) + 10
-            top, bottom = y(max(PLACES[it][1] for it in crates)), y(min(PLACES[it][1] for it in crates))
-            picture.box(left, top - 36, right - left, bottom - top + 58, "#f7f7f7", svg.LIGHT)
-            picture.text(left + 8, top - 21, layer, 12, svg.GREY, "start", True)
-    for name, below in plain_uses(uses).items():
-        for it in below:
-            bends = BENDS.get((name, it), [])
-            picture.path([(x, y(row)) for x, row in [PLACES[name], *bends, PLACES[it]]], "#a8a8a8")
-    for name in uses:
-        x, row = PLACES[name]
-        fill = "#fdf1dc" if is_program(name) else "#e8f0fa"
-        picture.box(x - width_of(name) / 2, y(row) - HEIGHT / 2, width_of(name), HEIGHT, fill)
-        picture.text(x, y(row) + 4.5, name, 12.5)
-    words = "blue: libraries; yellow: programs. A crate stands above those that it uses; what others imply isn't drawn."
-    picture.text(MARGIN, height - 10, words, 12, svg.GREY, "start")
+    def end(name, near, side):
+        """Where a line leaves a crate, below or above it, on its way to a place."""
+        most = width_of(name) / 2 - 12
+        return x[name] + max(-most, min(most, (x[near] - x[name]) / 4)), y(rows[name]) + side * HEIGHT / 2
+
+    for way in ways.values():
+        points = [end(way[0], way[1], 1)]
+        for it in way[1:-1]:
+            # (beside the crates of its row a line goes straight down)
+            points += [(x[it], y(it[2]) - HEIGHT / 2), (x[it], y(it[2]) + HEIGHT / 2)]
+        picture.path([*points, end(way[-1], way[-2], -1)], "#9a9a9a")
+    for name, row in rows.items():
+        colour = svg.BLACK if is_program(name) else svg.GREY
+        picture.box(x[name] - width_of(name) / 2, y(row) - HEIGHT / 2, width_of(name), HEIGHT, COLOURS.get(derived.layer_of(name), OTHER), colour)
+        picture.text(x[name], y(row) + 4, name, 11.5, bold=is_program(name))
+    at = MARGIN
+    for layer in derived.LAYERS:
+        picture.box(at, height - 44, 13, 13, COLOURS.get(layer, OTHER))
+        picture.text(at + 18, height - 33, layer, 11.5, svg.BLACK, "start")
+        at += 34 + 6.6 * len(layer)
+    words = "A crate stands above those that it uses; what others imply isn't drawn. In bold: programs."
+    picture.text(MARGIN, height - 12, words, 11.5, svg.GREY, "start")
     return picture.svg()
