@@ -1,0 +1,7 @@
+pub mod Dates
+pub mod Delegations
+pub mod Findings
+pub mod Names
+pub mod Signatures
+pub mod Targets
+pub mod Warnings
