@@ -2,11 +2,15 @@ pub mod NameTests
 pub mod StarWalk
 pub mod TurnWalk
 pub mod NextKeys
+pub mod TreeKeys
+pub mod SearchCounts
 pub mod NodeCases
 pub mod StandInFacts
 pub mod StepCases
 pub mod NewNames
 pub mod PathSteps
+pub mod PathNames
+pub mod FewSearches
 pub mod NearSets
 pub mod HostFacts
 pub mod SetLists

@@ -10,6 +10,8 @@ pub mod Aname
 pub mod Dname
 pub mod Steps
 pub mod Paths
+pub mod Searches
+pub mod SearchLaws
 pub mod HashedDenials
 pub mod Denials
 pub mod Additional

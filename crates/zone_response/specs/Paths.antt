@@ -39,6 +39,11 @@ abbrev pub searched : (Name → Path) → Next → Path
 searched search (on x) = search x
 searched search (ends e) = ended e
 
+-- the names that are searched from what comes next on
+abbrev pub names_on : (Name → List Name) → Next → List Name
+names_on search (on x) = search x
+names_on search (ends e) = []
+
 module _ (q : Inquiry) where
   -- what comes next behind the step from x
   abbrev pub next_behind : List RRset → Name → Next
@@ -53,6 +58,15 @@ module _ (q : Inquiry) where
   -- a chain has 8 names at most
   unfoldable pub path : Name → Path
   path = path_from 8 [] []
+
+  -- the names that are searched on it
+  abbrev pub names_from : ℕ → List Name → List RRset → Name → List Name
+  names_from zero seen before x = []
+  names_from (suc k) seen before x = cond (list_any (name_eq x) seen) []
+      (x ∷ names_on (names_from k (seen ++ x ∷ []) (before ++ (step q before x).answers)) (next_behind before x))
+
+  unfoldable pub path_names : Name → List Name
+  path_names = names_from 8 [] []
 
 -- as the program keeps it
 abbrev pub path_of : KeptPath → Path

@@ -3,6 +3,7 @@ ghost use Rattle.std.specs.Prelude.{◌≡◌, ◌≢◌, ◌≤◌, ◌+◌, �
 ghost use Rattle.zone_response.specs.Paths.{path, path_of};
 ghost use Rattle.zone_response.specs.Queries.{zone_of, query_of, inquiry_of};
 ghost use Rattle.zone_response.specs.Responses.{bare, refusal, outcome_of, outcome_along, outcome_proven, path_hashed, query_hashed, IsResponse, IsResponseTo, IsResponseBy};
+ghost use Rattle.zone_response.specs.Searches.{most_for_path, most_searches};
 ghost use Rattle.zone_response.specs.Sections.{sections, sent_sets};
 
 use crate::names::is_at_or_above;
@@ -61,7 +62,13 @@ pub fn respond<'z, S: Signer, H: Nsec3Hash>(
         (query_of question.entry options.dnssec_ok) (sections r)) }
     ensures err { IsOkUnless result LookupError.Memory }
 {
-    respond_counted(zone, question, options, &mut Counter::new())
+    respond_counted(
+        zone,
+        question,
+        options,
+        &mut Counter::new(),
+        &mut Counter::new(),
+    )
 }
 
 /// The response of [`respond`], and how many names are hashed for it: each adds one to `hashes`. Without DNSSEC there are none,
@@ -69,11 +76,19 @@ pub fn respond<'z, S: Signer, H: Nsec3Hash>(
 /// most three for a name error and for a wildcard without the set that is asked for, and one for absent data and for a referral
 /// without DS. Names that opt-out leaves out of the chain cost more: one for each ancestor of the name that exists without an
 /// NSEC3 set, and two more for a name that has none itself.
+///
+/// And how often the zone's map is searched for the names of the search: each of these searches adds one to `searches`. It is once
+/// for the origin, and for the name that is asked for, and for each that an alias or a DNAME leads on to, at most twelve times,
+/// and twice more for each name between the origin and this one that is in the zone's tree (RFC 4592 section 2.2.2), and three
+/// times more for each of its ancestors at and below which NSEC or NSEC3 sets are all that there is. So names of many labels cost
+/// what others do. Other searches aren't counted: those for the sets that prove what is said, for a child's DS set, for the
+/// targets of an ANAME and for the additional section.
 pub fn respond_counted<'z, S: Signer, H: Nsec3Hash>(
     zone: ServedZone<'z, S, H>,
     question: Question<'_>,
     options: LookupOptions,
     hashes: &mut Counter,
+    searches: &mut Counter,
 ) -> Result<Response<'z>, LookupError>
     ensures response { IfOk result
         (λ r. IsResponse (zone_of S.signature_of H.digest_of zone.entry)
@@ -83,6 +98,10 @@ pub fn respond_counted<'z, S: Signer, H: Nsec3Hash>(
         + length
         (query_hashed (zone_of S.signature_of H.digest_of zone.entry)
         (query_of question.entry options.dnssec_ok)) }
+    ensures searched { searches.new
+        ≤ searches.old
+        + most_searches (zone_of S.signature_of H.digest_of zone.entry)
+        (query_of question.entry options.dnssec_ok) }
     ensures err { IsOkUnless result LookupError.Memory }
 {
     let asked = Asked {
@@ -95,7 +114,7 @@ pub fn respond_counted<'z, S: Signer, H: Nsec3Hash>(
     let name = question.name;
     match refusal(question.query_class, asked, name) {
         Some(code) => Ok(bare(name.alloc(), code)),
-        None => searched(&zone, asked, name, hashes),
+        None => searched(&zone, asked, name, hashes, searches),
     }
 }
 
@@ -112,6 +131,7 @@ fn searched<'z, S: Signer, H: Nsec3Hash>(
     asked: Asked<'_>,
     name: &LowerName,
     hashes: &mut Counter,
+    searches: &mut Counter,
 ) -> Result<Response<'z>, LookupError>
     requires { asked.origin.now ≡ zone.now.origin.now }
     ensures response { IfOk result
@@ -124,15 +144,19 @@ fn searched<'z, S: Signer, H: Nsec3Hash>(
         + length
         (path_hashed (zone_of S.signature_of H.digest_of zone.now) asked.entry.signed
         (path (inquiry_of S.signature_of asked.entry zone.now.inner.now) name.now)) }
+    ensures searched { searches.new
+        ≤ searches.old + 1
+        + most_for_path (inquiry_of S.signature_of asked.entry zone.now.inner.now) name.now }
     ensures err { IsOkUnless result LookupError.Memory }
 {
+    searches.add_one();
     let apex = read_apex(zone.inner, zone.origin)?;
     match apex.first_asked {
         Some(soa) => along(
             zone,
             asked,
             soa,
-            walk(zone.inner, asked, apex, name)?,
+            walk(zone.inner, asked, apex, name, searches)?,
             hashes,
         ),
         None => Ok(bare(name.alloc(), ResponseCode::ServFail)),

@@ -104,7 +104,7 @@ fn wildcard_proof<'z, S: Signer, H: Nsec3Hash>(
         ⊎ (wildcard_has_owners (zone_of S.signature_of H.digest_of zone.now) name.now ≡ false)) }
 {
     match hashed_query(zone.nx_proof_kind, name) {
-        Some(query) => match source_of_synthesis(zone.inner, name)? {
+        Some(query) => match source_of_synthesis(zone.inner, name, &mut Counter::new())? {
             Some(star) => wildcard_sets(zone, query, &star, hashes),
             None => Ok(Vec::new(zone.origin.alloc())),
         },

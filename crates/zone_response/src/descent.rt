@@ -1,17 +1,19 @@
 //! What turns a search on its way from the origin down to a name: the first zone cut or DNAME.
-ghost use Rattle.std.specs.Prelude.{◌≡◌, ◌<◌, ◌≤◌, ℕ, None, cond, length, IfOk, IsOkUnless, option_copied, option_map, true};
+ghost use Rattle.std.specs.Prelude.{◌≡◌, ◌+◌, ◌*◌, ◌<◌, ◌≤◌, ℕ, None, cond, length, IfOk, IsOkUnless, option_copied, option_map, true};
 ghost use Rattle.zone_map.specs.Zones.{Sets, set_at};
 ghost use Rattle.zone_proto.specs.Names.{is_at_or_above, name_eq};
 ghost use Rattle.zone_proto.specs.Types.{NS, SOA};
 ghost use Rattle.zone_response.specs.NodeSets.{StandsAt};
 ghost use Rattle.zone_response.specs.Descent.{cut_at, diversion, diversion_above, diversion_by, diversion_of};
-ghost use Rattle.zone_response.specs.Neighbours.{NoLongerOwns};
+ghost use Rattle.zone_response.specs.Neighbours.{IsInTree, NoLongerOwns};
+ghost use Rattle.zone_response.specs.Searches.{names_between};
 
 use crate::names::same_name;
 use crate::neighbours::labels_before;
 use crate::node_sets::{NodeSets, read_apex, read_node_sets};
 use crate::query_types::DNAME;
 use zone_lookup::InnerInMemory;
+use zone_map::Counter;
 use zone_proto::{LowerName, ProtoError, RecordSet, RecordType, RrKey, Signer};
 
 /// What turns a search.
@@ -47,7 +49,7 @@ pub(crate) fn diversion<'z, S: Signer>(
     }
 }
 
-/// The first turn on the way from the origin down to the parent of a name of the zone.
+/// The first turn on the way from the origin down to the parent of a name of the zone. Its searches aren't counted.
 pub(crate) fn diversion_above<'z, S: Signer>(
     inner: &'z InnerInMemory<S>,
     origin: &LowerName,
@@ -61,17 +63,18 @@ pub(crate) fn diversion_above<'z, S: Signer>(
     ensures err { IsOkUnless result ProtoError.Memory }
 {
     let apex = read_apex(inner, origin)?;
-    diversion_from_apex(inner, origin, apex, name)
+    diversion_from_apex(inner, origin, apex, name, &mut Counter::new())
 }
 
 /// The same by what is at the origin. Going up from the name, it reads only ancestors that own a set, or below which a set
 /// stands before the one that it comes from, by two searches each: so where nothing stands on the way there is one search,
-/// however many labels the name has.
+/// however many labels the name has. It counts the searches.
 pub(crate) fn diversion_from_apex<'z, S: Signer>(
     inner: &'z InnerInMemory<S>,
     origin: &LowerName,
     apex: NodeSets<'z>,
     name: &LowerName,
+    searches: &mut Counter,
 ) -> Result<Option<Diverting<'z>>, ProtoError>
     requires inside { is_at_or_above origin.now name.now ≡ true }
     requires apex { StandsAt inner.now.records origin.now SOA DNAME.0 apex }
@@ -79,17 +82,21 @@ pub(crate) fn diversion_from_apex<'z, S: Signer>(
         → IfOk result
         (λ found. option_map diversion_of found
         ≡ diversion_above origin.now inner.now.records name.now t name.now) }
+    ensures counted { searches.new
+        ≤ searches.old + 1
+        + 2 * length (names_between origin.now inner.now.records name.now) }
     ensures err { IsOkUnless result ProtoError.Memory }
 {
     let depth = origin.num_labels();
     let mut found = None;
     let mut below = RrKey::first_of(name)?;
     while below.name.num_labels() > depth {
-        let labels = owning_labels(inner, depth, &below);
+        let labels = owning_labels(inner, depth, &below, searches);
         if labels == depth {
             return Ok(diversion_by(None, apex.second_asked).or(found));
         }
         let above = RrKey::new(below.name.ancestor(labels)?, RecordType(0));
+        searches.add_one();
         let here = read_node_sets(inner, &above, DNAME, DNAME);
         found = diversion_by(here.ns, here.second_asked).or(found);
         below = above;
@@ -99,16 +106,23 @@ pub(crate) fn diversion_from_apex<'z, S: Signer>(
 
 /// As many labels as an ancestor of a name has at most that owns a set, and at least so many as are given. One search tells,
 /// and none where those are all that an ancestor may have.
-fn owning_labels<S: Signer>(inner: &InnerInMemory<S>, least: usize, below: &RrKey) -> usize
+fn owning_labels<S: Signer>(
+    inner: &InnerInMemory<S>,
+    least: usize,
+    below: &RrKey,
+    searches: &mut Counter,
+) -> usize
     requires { least < length below.now.name }
     ensures least { least ≤ result }
     ensures shorter { result < length below.now.name }
     ensures longest { NoLongerOwns inner.now.records below.now.name result }
+    ensures in_tree { least < result → IsInTree inner.now.records below.now.name result }
+    ensures counted { searches.new ≤ searches.old + 1 }
 {
     if below.name.num_labels() - least == 1 {
         return least;
     }
-    labels_before(inner.as_map(), below).max(least)
+    labels_before(inner.as_map(), below, searches).max(least)
 }
 
 /// What a name turns that owns these sets: a zone cut, or a DNAME.

@@ -18,6 +18,7 @@ mod descent;
 mod dname;
 mod dname_repeats;
 mod hashed_denials;
+pub mod laws;
 mod lists;
 mod names;
 mod neighbours;

@@ -1,5 +1,5 @@
 //! What is at one name, read in one walk of the zone: the sets of a name stand together in it, the least type first.
-ghost use Rattle.std.specs.Prelude.{◌≡◌, ◌≤◌, ◌==◌, IfOk, IsOkUnless, option_copied};
+ghost use Rattle.std.specs.Prelude.{◌≡◌, ◌+◌, ◌≤◌, ◌==◌, IfOk, IsOkUnless, option_copied};
 ghost use Rattle.std.specs.List.Sorted.{IsStrictlySortedBy};
 ghost use Rattle.std.specs.Map.{keys_of};
 ghost use Rattle.std.specs.Option.{option_or};
@@ -15,6 +15,7 @@ use crate::query_types::{DNAME, is_denial_type};
 use std::collections::BTreeMap;
 use std::collections::btree_map::Range;
 use zone_lookup::InnerInMemory;
+use zone_map::Counter;
 use zone_proto::{LowerName, ProtoError, RecordSet, RecordType, RrKey, Signer};
 
 /// The sets of three types that are at a name: NS, and two that are asked for; and the first key from the name's least
@@ -148,13 +149,20 @@ fn last_of(first_asked: RecordType, second_asked: RecordType) -> RecordType
 
 /// Whether the name of its least key exists, where `here` is there: whether it, or a name below it, owns a set of a
 /// type other than those of denial (RFC 4592 section 2.2.2). The first key from there on tells, since the names below a
-/// name stand together after it; only where that key is of a type of denial the zone is searched for a further one.
-pub(crate) fn exists<S: Signer>(inner: &InnerInMemory<S>, least: &RrKey, here: NodeSets<'_>) -> bool
+/// name stand together after it; only where that key is of a type of denial the zone is searched for a further one, which is
+/// counted.
+pub(crate) fn exists<S: Signer>(
+    inner: &InnerInMemory<S>,
+    least: &RrKey,
+    here: NodeSets<'_>,
+    searches: &mut Counter,
+) -> bool
     requires key { least.now.record_type.0 ≡ 0 }
     requires first { option_copied here.first
         ≡ first_key_from inner.now.records least.now.name }
     requires zone { IsZone inner.now.records }
-    ensures { result ≡ exists inner.now.records least.now.name }
+    ensures exists { result ≡ exists inner.now.records least.now.name }
+    ensures counted { searches.new ≤ searches.old + 1 }
 {
     let Some(first) = here.first else {
         return false;
@@ -162,5 +170,9 @@ pub(crate) fn exists<S: Signer>(inner: &InnerInMemory<S>, least: &RrKey, here: N
     if !least.name.zone_of(&first.name) {
         return false;
     }
-    !is_denial_type(first.record_type) || inner.exists(least)
+    if !is_denial_type(first.record_type) {
+        return true;
+    }
+    searches.add_one();
+    inner.exists(least)
 }

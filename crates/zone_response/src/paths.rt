@@ -1,10 +1,11 @@
 //! The path of a query: its name, and the names that its aliases lead on to.
-ghost use Rattle.std.specs.Prelude.{◌≡◌, IfOk, IsOkUnless};
+ghost use Rattle.std.specs.Prelude.{◌≡◌, ◌+◌, ◌≤◌, IfOk, IsOkUnless};
 ghost use Rattle.zone_response.specs.Paths.{path, path_of};
 ghost use Rattle.zone_proto.specs.Types.{SOA};
 ghost use Rattle.zone_response.specs.Queries.{inquiry_of};
 ghost use Rattle.zone_response.specs.NodeSets.{StandsAt};
 ghost use Rattle.zone_response.specs.Descent.{DNAME};
+ghost use Rattle.zone_response.specs.Searches.{most_for_path};
 
 use crate::dname_repeats::unless_answered;
 use crate::lists::push;
@@ -14,6 +15,7 @@ use crate::response::Sent;
 use crate::steps::{Asked, End, Next, SoFar, step};
 use lookup_types::LookupError;
 use zone_lookup::InnerInMemory;
+use zone_map::Counter;
 use zone_proto::{LowerName, Signer};
 
 // How many names a chain has at most.
@@ -30,16 +32,20 @@ pub(crate) struct Path<'z> {
     pub(crate) end: End<'z>,
 }
 
-/// The path from a name, by what is at the zone's origin. Its only error is `Memory`.
+/// The path from a name, by what is at the zone's origin. It counts the searches for its names. Its only error is `Memory`.
 pub(crate) fn walk<'z, S: Signer>(
     inner: &'z InnerInMemory<S>,
     asked: Asked<'_>,
     apex: NodeSets<'z>,
     name: &LowerName,
+    searches: &mut Counter,
 ) -> Result<Path<'z>, LookupError>
     requires { StandsAt inner.now.records asked.origin.now SOA DNAME apex }
     ensures ok { IfOk result
         (λ found. path_of found ≡ path (inquiry_of S.signature_of asked.entry inner.now) name.now) }
+    ensures counted { searches.new
+        ≤ searches.old
+        + most_for_path (inquiry_of S.signature_of asked.entry inner.now) name.now }
     ensures err { IsOkUnless result LookupError.Memory }
 {
     let alloc = name.alloc();
@@ -53,7 +59,7 @@ pub(crate) fn walk<'z, S: Signer>(
         if has_name(&seen, &name) {
             return Ok(ended(so_far, End::Unfollowed));
         }
-        let next = step(inner, asked, apex, &name, &mut so_far)?;
+        let next = step(inner, asked, apex, &name, &mut so_far, searches)?;
         match unless_answered(next, asked.record_type, &so_far.answers)? {
             Next::On(target) => {
                 push(&mut seen, name)?;

@@ -1,5 +1,5 @@
 //! One step of a search: what a name of a chain is answered with.
-ghost use Rattle.std.specs.Prelude.{◌≡◌, ◌++◌, ◌∷◌, [], true, IfOk, OnOk, IsOkUnless};
+ghost use Rattle.std.specs.Prelude.{◌≡◌, ◌+◌, ◌≤◌, ◌++◌, ◌∷◌, [], true, IfOk, OnOk, IsOkUnless};
 ghost use Rattle.zone_map.specs.Chains.{cname_target};
 ghost use Rattle.zone_proto.specs.Names.{is_at_or_above};
 ghost use Rattle.zone_proto.specs.Types.{CNAME, SOA};
@@ -11,6 +11,7 @@ ghost use Rattle.zone_response.specs.Dname.{dname_target};
 ghost use Rattle.zone_response.specs.NodeSets.{StandsAt};
 ghost use Rattle.zone_response.specs.Steps.{step, diverted_step, target_step, new_name_step, after_renaming, name_step, wildcard_step, node_step, keeps, as_found_for, expanded_names, own_part, after_alias, missing as missing_at, ends, next_of, Takes};
 ghost use Rattle.zone_response.specs.Descent.{DNAME, diversion_at};
+ghost use Rattle.zone_response.specs.Searches.{most_for_name, most_for_wildcard};
 
 use crate::aname::stand_in_step;
 use crate::descent::{Diverting, diversion_from_apex, own_cut};
@@ -23,6 +24,7 @@ use crate::response::{Part, Sent};
 use crate::wildcards::source_of_synthesis;
 use lookup_types::LookupError;
 use zone_lookup::{Found, InnerInMemory, cname_target};
+use zone_map::Counter;
 use zone_map::wildcard::renamed;
 use zone_proto::{LowerName, Name, ProtoError, RecordSet, RecordType, RrKey, Signer};
 
@@ -88,29 +90,32 @@ pub(crate) struct SoFar<'z> {
     pub(crate) made: Vec<LowerName>,
 }
 
-/// A step from a name, by what is at the zone's origin: it puts the step's sets and names behind those so far. Its only
-/// error is `Memory`.
+/// A step from a name, by what is at the zone's origin: it puts the step's sets and names behind those so far. It counts the
+/// searches for the name and for its wildcard, but not those for the targets of an ANAME. Its only error is `Memory`.
 pub(crate) fn step<'z, S: Signer>(
     inner: &'z InnerInMemory<S>,
     asked: Asked<'_>,
     apex: NodeSets<'z>,
     name: &LowerName,
     so_far: &mut SoFar<'z>,
+    searches: &mut Counter,
 ) -> Result<Next<'z>, LookupError>
     requires { StandsAt inner.now.records asked.origin.now SOA DNAME apex }
     ensures ok { IfOk result
         (λ next. Takes
         (step (inquiry_of S.signature_of asked.entry inner.now) (sent_sets so_far.old.answers)
         name.now) so_far.old so_far.new next) }
+    ensures counted { searches.new
+        ≤ searches.old + most_for_name asked.entry.origin.now inner.now.records name.now }
     ensures err { IsOkUnless result LookupError.Memory }
 {
     if !is_at_or_above(asked.origin, name) {
         return Ok(Next::Ends(End::Outside(name.clone()?)));
     }
-    match diversion_from_apex(inner, asked.origin, apex, name)? {
+    match diversion_from_apex(inner, asked.origin, apex, name, searches)? {
         Some(Diverting::Cut(cut)) => Ok(Next::Ends(End::Referred(cut))),
         Some(Diverting::Renaming(dname)) => target_step(dname, name, asked, so_far),
-        None => own_step(inner, asked, name, so_far),
+        None => own_step(inner, asked, name, so_far, searches),
     }
 }
 
@@ -120,6 +125,7 @@ fn own_step<'z, S: Signer>(
     asked: Asked<'_>,
     name: &LowerName,
     so_far: &mut SoFar<'z>,
+    searches: &mut Counter,
 ) -> Result<Next<'z>, LookupError>
     requires { is_at_or_above asked.origin.now name.now ≡ true }
     ensures ok { IfOk result
@@ -128,14 +134,17 @@ fn own_step<'z, S: Signer>(
         (sent_sets so_far.old.answers) name.now
         (diversion_at asked.entry.origin.now inner.now.records name.now asked.entry.record_type.0
         name.now)) so_far.old so_far.new next) }
+    ensures counted { searches.new
+        ≤ searches.old + 7 + most_for_wildcard inner.now.records name.now }
     ensures err { IsOkUnless result LookupError.Memory }
 {
     let key = RrKey::first_of(name)?;
+    searches.add_one();
     let here = read_node_sets(inner, &key, asked.record_type, RecordType::CNAME);
     if let Some(cut) = own_cut(here.ns, asked.origin, name, asked.record_type) {
         return Ok(Next::Ends(End::Referred(cut)));
     }
-    name_step(inner, asked, name, key, here, so_far)
+    name_step(inner, asked, name, key, here, so_far, searches)
 }
 
 /// The step from a name below the owner of a DNAME set.
@@ -202,6 +211,7 @@ fn name_step<'z, S: Signer>(
     key: RrKey,
     here: NodeSets<'z>,
     so_far: &mut SoFar<'z>,
+    searches: &mut Counter,
 ) -> Result<Next<'z>, LookupError>
     requires name { key.name ≡ name.now }
     requires least { key.record_type.0 ≡ 0 }
@@ -209,15 +219,17 @@ fn name_step<'z, S: Signer>(
     ensures ok { IfOk result
         (λ next. Takes (name_step (inquiry_of S.signature_of asked.entry inner.now) name.now)
         so_far.old so_far.new next) }
+    ensures counted { searches.new
+        ≤ searches.old + 6 + most_for_wildcard inner.now.records name.now }
     ensures err { IsOkUnless result LookupError.Memory }
 {
     let mut key = key;
-    if exists(inner, &key, here) {
-        let node = at_node(inner, &mut key, asked.record_type, here)?;
+    if exists(inner, &key, here, searches) {
+        let node = at_node(inner, &mut key, asked.record_type, here, searches)?;
         return node_step(inner, node, None, name, asked, so_far);
     }
-    let star = source_of_synthesis(inner, name)?;
-    wildcard_step(inner, asked, name, star, so_far)
+    let star = source_of_synthesis(inner, name, searches)?;
+    wildcard_step(inner, asked, name, star, so_far, searches)
 }
 
 /// The step from a name that doesn't exist, by the wildcard at its closest encloser.
@@ -227,22 +239,25 @@ fn wildcard_step<'z, S: Signer>(
     name: &LowerName,
     star: Option<LowerName>,
     so_far: &mut SoFar<'z>,
+    searches: &mut Counter,
 ) -> Result<Next<'z>, LookupError>
     ensures ok { IfOk result
         (λ next. Takes (wildcard_step (inquiry_of S.signature_of asked.entry inner.now) name.now
         star)
         so_far.old so_far.new next) }
+    ensures counted { searches.new ≤ searches.old + 5 }
     ensures err { IsOkUnless result LookupError.Memory }
 {
     let Some(star) = star else {
         return Ok(at_missing(name, None, false)?);
     };
     let mut key = RrKey::first_of(&star)?;
+    searches.add_one();
     let here = read_node_sets(inner, &key, asked.record_type, RecordType::CNAME);
-    if !exists(inner, &key, here) {
+    if !exists(inner, &key, here, searches) {
         return Ok(at_missing(name, Some(star), false)?);
     }
-    let node = at_node(inner, &mut key, asked.record_type, here)?;
+    let node = at_node(inner, &mut key, asked.record_type, here, searches)?;
     node_step(inner, node, Some(star), name, asked, so_far)
 }
 

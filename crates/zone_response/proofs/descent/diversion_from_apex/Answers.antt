@@ -1,14 +1,16 @@
-use Rattle.std.proofs.Common.{◌≡◌, ◌<◌, ◌≤◌, ◌-◌, cond, drop, length, true, false, sym, ap, ◌∙◌, subst, arith}
+use Rattle.std.proofs.Common.{◌≡◌, suc, ◌+◌, ◌<◌, ◌≤◌, ◌-◌, cond, drop, length, true, false, sym, ap, ◌∙◌, subst, arith}
 use Rattle.std.specs.Prelude.{None, option_map}
 use Rattle.std.specs.Option.{option_or}
 use Rattle.zone_proto.specs.declared.rr_key.RrKey.{RrKey}
 use Rattle.zone_proto.specs.Names.{Name, name_eq, is_at_or_above, IsAbove}
 use Rattle.zone_proto.specs.Types.{NS}
 use Rattle.zone_proto.proofs.Names.NameTree.{is_at_or_above_sound, is_at_or_above_complete}
-use Rattle.zone_map.specs.Zones.{set_at}
+use Rattle.zone_map.specs.Zones.{owns_at_or_below, set_at}
 use Rattle.zone_response.specs.Descent.{DNAME, diversion_above, diversion_by, diversion_of}
 use Rattle.zone_response.specs.Neighbours.{NoLongerOwns}
+use Rattle.zone_response.specs.Searches.{names_between}
 use Rattle.zone_response.proofs.NextKeys.{at_from_above, last_above, last_length, nested}
+use Rattle.zone_response.proofs.SearchCounts.{at_most_one, fewer_between}
 use Rattle.zone_response.proofs.TurnWalk.{other_size, mapped_or, or_none, goes_up, none_left, at_origin}
 use Rattle.zone_response.proofs.descent.diversion_from_apex.Goals as goal
 
@@ -19,6 +21,7 @@ loop-below-init g c =
       left = λ t. sym (ap (λ (k : RrKey). option_or (diversion_above c.args.origin.now c.args.inner.now.records c.args.name.now t k.name) None) copy ∙ or_none (diversion_above c.args.origin.now c.args.inner.now.records c.args.name.now t c.args.name.now));
       inside = ap (λ (k : RrKey). is_at_or_above c.args.origin.now k.name) copy ∙ c.requires.inside;
       no_longer = omega (arith, ap (λ (k : RrKey). length k.name) copy);
+      counted = omega (arith, ap (λ (k : RrKey). length (names_between c.args.origin.now c.args.inner.now.records k.name)) copy);
     }
 
 pub loop-below-preserved : goal.loop-below-preserved
@@ -38,6 +41,9 @@ loop-below-preserved g c =
     is_at_or_above_complete o a (nested o a b (is_at_or_above_sound o b c.loop-below.invariant.inside) (at_from_above a b above) (omega (arith, c.owning_labels-labels.ensures.least, c.num_labels-depth.ensures.count))) in
     let shorter : length a < length x = omega (arith, c.loop-below.invariant.no_longer) in
     let other : name_eq a o ≡ false = other_size a o (λ e. omega (arith, e, long, c.if-labels-depth.false, c.num_labels-depth.ensures.count)) in
+    let more : length o < labels = omega (arith, c.owning_labels-labels.ensures.least, c.if-labels-depth.false, c.num_labels-depth.ensures.count) in
+    let there : owns_at_or_below m a ≡ true = c.owning_labels-labels.ensures.in_tree (omega (arith, more, c.num_labels-depth.ensures.count)) a above long (omega (arith, more)) in
+    let fewer : suc (length (names_between o m a)) ≤ length (names_between o m b) = fewer_between o m a b above inside (omega (arith, more, long)) there in
     let here =
     c.diversion_by-in-loop-below.ensures
     ∙ (λ i. diversion_by (c.read_node_sets-here.ensures.ns i) (c.read_node_sets-here.ensures.second_asked i))
@@ -52,6 +58,16 @@ loop-below-preserved g c =
           ∙ ap (λ n. option_or (diversion_above o m x t n) (option_map diversion_of c.or-found.result)) (sym is);
       inside = ap (is_at_or_above o) is ∙ inside;
       no_longer = omega (arith, ap length is, c.loop-below.invariant.no_longer);
+      counted =
+          omega (
+            arith,
+            ap (λ n. length (names_between o m n)) is,
+            c.loop-below.invariant.counted,
+            fewer,
+            c.owning_labels-labels.ensures.counted,
+            c.add_one.ensures,
+            at_most_one c.owning_labels-labels.new.searches,
+          );
     }
 
 pub returns-then-labels-depth-clause-ok : goal.returns-then-labels-depth-clause-ok

@@ -12,24 +12,23 @@ not_above a n h = by (is_at_or_above a n) refl
     by true g = absurd (h (is_at_or_above_sound a n g))
     by false g = refl
 
-pub returns-then-not-is_denial_type : goal.returns-then-not-is_denial_type
-returns-then-not-is_denial_type g c =
+pub returns-then-not-is_denial_type-clause-exists : goal.returns-then-not-is_denial_type-clause-exists
+returns-then-not-is_denial_type-clause-exists g c =
     let n = c.args.least.now.name in
     let k = c.in-Some.first.now in
     let first = sym (ap option_copied c.in-Some.is) ∙ c.requires.first in
     let below = is_at_or_above_complete n k.name (c.zone_of.ensures.0 c.if-not-zone_of.false) in
-    ap not c.if-not-is_denial_type.true
-    ∙ exists_by_first n c.args.inner.now.records c.requires.zone.ordered k first below (sym c.is_denial_type.ensures ∙ c.if-not-is_denial_type.true)
+    exists_by_first n c.args.inner.now.records c.requires.zone.ordered k first below (sym c.is_denial_type.ensures ∙ c.if-not-is_denial_type.true)
 
-pub returns-then-not-zone_of : goal.returns-then-not-zone_of
-returns-then-not-zone_of g c =
+pub returns-then-not-zone_of-clause-exists : goal.returns-then-not-zone_of-clause-exists
+returns-then-not-zone_of-clause-exists g c =
     let n = c.args.least.now.name in
     let k = c.in-Some.first.now in
     let first = sym (ap option_copied c.in-Some.is) ∙ c.requires.first in
     let apart = not_above n k.name (λ u. true≢false (sym (c.zone_of.ensures.1 u) ∙ c.if-not-zone_of.true)) in
     absent_by_first n c.args.inner.now.records c.requires.zone.ordered k first apart
 
-pub returns-in_default : goal.returns-in_default
-returns-in_default g c =
+pub returns-in_default-clause-exists : goal.returns-in_default-clause-exists
+returns-in_default-clause-exists g c =
     let none = sym (ap option_copied c.in_default.is) ∙ c.requires.first in
     exists_without c.args.least.now.name c.args.inner.now.records c.requires.zone.ordered none

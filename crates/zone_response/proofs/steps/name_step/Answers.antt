@@ -11,7 +11,7 @@ pub returns-then-exists-clause-ok : goal.returns-then-exists-clause-ok
 returns-then-exists-clause-ok g c =
     let q = inquiry_of g.S.Signer.signature_of c.args.asked c.args.inner.now in
     let x = c.args.name.now in
-    let there : exists q.sets x ≡ true = sym (ap (exists q.sets) c.requires.name) ∙ sym c.exists.ensures ∙ c.if-exists.true in
+    let there : exists q.sets x ≡ true = sym (ap (exists q.sets) c.requires.name) ∙ sym c.exists.ensures.exists ∙ c.if-exists.true in
     let node = node_of c.in_ok-node.node in
     same_step c.node_step.result c.args.so_far.now c.node_step.new.so_far (name_step q x) (node_step q None x node)
     (own_step q x node there (c.in_ok-node.ensures.node ∙ ap (λ n. at_node q.sets n q.record_type) c.requires.name)) c.node_step.ensures.ok
@@ -20,6 +20,6 @@ pub returns-clause-ok : goal.returns-clause-ok
 returns-clause-ok g c =
     let q = inquiry_of g.S.Signer.signature_of c.args.asked c.args.inner.now in
     let x = c.args.name.now in
-    let absent : exists q.sets x ≡ false = sym (ap (exists q.sets) c.requires.name) ∙ sym c.exists.ensures ∙ c.if-exists.false in
+    let absent : exists q.sets x ≡ false = sym (ap (exists q.sets) c.requires.name) ∙ sym c.exists.ensures.exists ∙ c.if-exists.false in
     same_step c.wildcard_step.result c.args.so_far.now c.wildcard_step.new.so_far (name_step q x) (wildcard_step q x c.in_ok-star.star)
     (absent_step q x c.in_ok-star.star absent c.in_ok-star.ensures.star) c.wildcard_step.ensures.ok

@@ -1,11 +1,13 @@
-use Rattle.std.proofs.Common.{◌≡◌, ◌+◌, ◌-◌, ◌<◌, suc, false, [], drop, length, sym, ap, ◌∙◌, subst, true≢false, arith}
+use Rattle.std.proofs.Common.{◌≡◌, ◌+◌, ◌-◌, ◌<◌, ◌≤◌, suc, false, [], drop, length, sym, ap, ◌∙◌, subst, true≢false, arith}
 use Rattle.std.specs.Prelude.{Some, find}
 use Rattle.zone_proto.specs.declared.rr_key.RrKey.{RrKey}
 use Rattle.zone_proto.specs.Names.{suffixes, wildcard_of, IsAbove}
 use Rattle.zone_map.specs.Walks.{IsChild}
 use Rattle.zone_map.specs.Wildcards.{exists}
 use Rattle.zone_response.specs.Neighbours.{NoLongerExists}
+use Rattle.zone_response.specs.Searches.{most_for_wildcard}
 use Rattle.zone_response.proofs.NextKeys.{fewer_labels, last_above, last_length}
+use Rattle.zone_response.proofs.SearchCounts.{at_most_one, left_searches, left_at_first, left_above, left_of_absent, some_left}
 use Rattle.zone_response.proofs.StarWalk.{labels_fit, parent_above, above_above, next_longer, none_of_root, begins, at_encloser, at_root, passed}
 use Rattle.zone_response.proofs.wildcards.source_of_synthesis.Goals as goal
 
@@ -21,6 +23,7 @@ loop-above-init g c =
       left = begins c.args.inner.now.records n _ below above;
       above = parent_above n _ below above;
       type_zero = ap (λ (k : RrKey). k.record_type.0) c.in_ok-above.ensures.copy.ok;
+      counted = omega (arith, left_at_first c.args.inner.now.records n _ below above);
     }
 
 pub loop-above-preserved : goal.loop-above-preserved
@@ -40,6 +43,17 @@ loop-above-preserved g c =
       left = ap (λ (k : RrKey). find (exists m) (suffixes k.name)) key ∙ ap (λ n. find (exists m) (suffixes n)) is ∙ passed m c.args.name.now a c.loop-above.invariant.left b above absent none;
       above = subst (λ (k : RrKey). IsAbove k.name c.args.name.now) (sym key) (subst (λ n. IsAbove n c.args.name.now) (sym is) (above_above b a c.args.name.now above c.loop-above.invariant.above));
       type_zero = ap (λ (k : RrKey). k.record_type.0) key;
+      counted =
+          omega (
+            arith,
+            ap (λ (k : RrKey). left_searches m k.name) key,
+            ap (λ n. left_searches m n) is,
+            left_above m a b below absent above (λ some. c.existing_labels-labels.ensures.in_tree b above (last_length labels a (omega arith)) (omega (arith, some, last_length labels a (omega arith)))),
+            c.loop-above.invariant.counted,
+            c.existing_labels-labels.ensures.counted,
+            c.add_one.ensures,
+            at_most_one c.loop-above.searches,
+          );
     }
 
 pub overflow_add-num_labels : goal.overflow_add-num_labels
@@ -57,3 +71,11 @@ returns-then-exists-clause-star g c =
 pub returns-then-is_root-2-clause-star : goal.returns-then-is_root-2-clause-star
 returns-then-is_root-2-clause-star g c =
     at_root c.args.inner.now.records c.args.name.now c.loop-above.above.name c.loop-above.invariant.left (c.is_root-in-loop-above.ensures.0 c.if-is_root-2.true) (sym c.exists.ensures ∙ c.if-exists.false)
+
+pub returns-then-exists-clause-counted : goal.returns-then-exists-clause-counted
+returns-then-exists-clause-counted g c =
+    omega (arith, c.loop-above.invariant.counted, some_left c.args.inner.now.records c.loop-above.above.name, c.add_one.ensures, at_most_one c.loop-above.searches)
+
+pub returns-then-is_root-2-clause-counted : goal.returns-then-is_root-2-clause-counted
+returns-then-is_root-2-clause-counted g c =
+    omega (arith, c.loop-above.invariant.counted, some_left c.args.inner.now.records c.loop-above.above.name, c.add_one.ensures, at_most_one c.loop-above.searches)
