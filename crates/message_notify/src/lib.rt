@@ -5,6 +5,7 @@
 //! (section 4.3). When one is sent again that has no response, and from whom one is taken, is up to those who have the sockets and the clock.
 #![tactic(auto)]
 
+pub mod laws;
 mod notify;
 mod reading;
 mod writing;
