@@ -1,5 +1,5 @@
 -- Worked examples: whole responses of a small zone that denies by NSEC, and of one that denies by NSEC3, computed from the definitions
-use Rattle.std.proofs.Common.{ℕ, ◌+◌, Bool, true, false, cond, List, [], ◌∷◌, length, map, refl}
+use Rattle.std.proofs.Common.{◌≡◌, ℕ, ◌+◌, Bool, true, false, cond, List, [], ◌∷◌, length, map, refl}
 use Rattle.std.specs.Prelude.{◌==◌, codes, Some, None, pos}
 use Rattle.zone_proto.specs.declared.nx_proof_kind.NxProofKind.TheVariants as kind
 use Rattle.zone_proto.specs.declared.rdata.RData.{RData}
@@ -11,9 +11,10 @@ use Rattle.zone_proto.specs.Names.{Name, wildcard_under}
 use Rattle.zone_proto.specs.Sets.{RRset}
 use Rattle.zone_proto.specs.Types.{A, NS, SOA, CNAME, TXT, DS, RRSIG, NSEC, NSEC3, IN}
 use Rattle.zone_map.specs.Zones.{Sets}
-use Rattle.zone_response.specs.Paths.{path}
+use Rattle.zone_response.specs.Paths.{path, path_names}
 use Rattle.zone_response.specs.Queries.{Zone, Query}
 use Rattle.zone_response.specs.Responses.{bare, IsResponse}
+use Rattle.zone_response.specs.Searches.{most_searches}
 use Rattle.zone_response.specs.Sections.{Sections}
 
 -- ---- the zone example: an alias that leads to no name, an unsigned and a signed child, a wildcard, and a host
@@ -133,6 +134,23 @@ of_wildcard = record { code = refl; authoritative = refl; answers = refl; author
 along_alias : IsResponse zone (asked (under (codes "a")) A) (record { code = code.NXDomain; authoritative = true; answers = alias ∷ []; authorities = soa 300 ∷ signed_child_nsec 300 ∷ first_nsec 300 ∷ []; additionals = []; glue = []; left_at = None })
 unfolding path
 along_alias = record { code = refl; authoritative = refl; answers = refl; authorities = refl; additionals = refl; glue = refl; left_at = refl }
+
+-- ---- how often the map is searched for names, at most
+
+-- for one of five labels below names that aren't there, as often as for a host
+for_long_name : most_searches zone (asked (codes "x" ∷ codes "y" ∷ codes "z" ∷ under (codes "no")) A) ≡ most_searches zone (asked (under (codes "www")) A)
+unfolding path_names
+for_long_name = refl
+
+-- below an empty non-terminal twice more
+below_empty_name : most_searches zone (asked (codes "y" ∷ codes "x" ∷ under (codes "w")) A) ≡ 15
+unfolding path_names
+below_empty_name = refl
+
+-- for an alias and its target
+for_alias : most_searches zone (asked (under (codes "a")) A) ≡ 25
+unfolding path_names
+for_alias = refl
 
 -- ---- negative responses
 

@@ -1,5 +1,5 @@
 -- How many searches of the zone's map the walks up a name make
-use Rattle.std.proofs.Common.{◌≡◌, ℕ, suc, ◌+◌, ◌*◌, ◌<◌, ◌≤◌, Bool, true, false, not, cond, List, [], ◌∷◌, ◌++◌, length, drop, refl, sym, ap, subst, arith}
+use Rattle.std.proofs.Common.{◌≡◌, ℕ, suc, ◌+◌, ◌<◌, ◌≤◌, Bool, true, false, not, cond, List, [], ◌∷◌, ◌++◌, length, drop, refl, sym, ap, subst, arith}
 use Rattle.std.specs.Prelude.{filter, ◌&&◌}
 use Rattle.std.proofs.lemmas.Bool.{and_from}
 use Rattle.zone_proto.specs.Names.{Label, Name, is_above, is_at_or_above, IsAbove, suffixes, proper_ancestors}
@@ -7,7 +7,7 @@ use Rattle.zone_proto.proofs.Names.NameTree.{above_test, is_at_or_above_sound}
 use Rattle.zone_map.specs.Counts.{one_more}
 use Rattle.zone_map.specs.Wildcards.{exists}
 use Rattle.zone_map.specs.Zones.{Sets, owns_at_or_below}
-use Rattle.zone_response.specs.Searches.{names_between, names_of_denial, most_for_wildcard}
+use Rattle.zone_response.specs.Searches.{names_between, most_for_wildcard}
 use Rattle.zone_response.proofs.NextKeys.{above_from_shorter}
 
 pub at_most_one : (n : ℕ) → one_more n ≤ n + 1

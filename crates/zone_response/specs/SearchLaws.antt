@@ -1,5 +1,5 @@
 -- Laws of how many searches of the zone's map are made for the names of a response
-use Rattle.std.specs.Prelude.{ℕ, ◌+◌, ◌*◌, ◌≤◌, length, IsTrue}
+use Rattle.std.specs.Prelude.{◌+◌, ◌*◌, ◌≤◌, length, IsTrue}
 use Rattle.zone_proto.specs.Names.{Name, is_at_or_above}
 use Rattle.zone_proto.specs.Types.{SOA}
 use Rattle.zone_map.specs.Zones.{Sets, owns}

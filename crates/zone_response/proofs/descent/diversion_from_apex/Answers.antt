@@ -1,4 +1,4 @@
-use Rattle.std.proofs.Common.{◌≡◌, suc, ◌+◌, ◌<◌, ◌≤◌, ◌-◌, cond, drop, length, true, false, sym, ap, ◌∙◌, subst, arith}
+use Rattle.std.proofs.Common.{◌≡◌, suc, ◌<◌, ◌≤◌, ◌-◌, cond, drop, length, true, false, sym, ap, ◌∙◌, subst, arith}
 use Rattle.std.specs.Prelude.{None, option_map}
 use Rattle.std.specs.Option.{option_or}
 use Rattle.zone_proto.specs.declared.rr_key.RrKey.{RrKey}

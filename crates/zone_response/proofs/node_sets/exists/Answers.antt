@@ -1,4 +1,4 @@
-use Rattle.std.proofs.Common.{◌≡◌, not, Bool, true, false, refl, sym, ap, ◌∙◌, true≢false}
+use Rattle.std.proofs.Common.{◌≡◌, Bool, true, false, refl, sym, ap, ◌∙◌, true≢false}
 use Rattle.std.specs.Prelude.{option_copied}
 use Rattle.zone_proto.specs.Names.{Name, is_at_or_above, IsAtOrAbove}
 use Rattle.zone_proto.proofs.Names.NameTree.{is_at_or_above_sound, is_at_or_above_complete}

@@ -1,13 +1,12 @@
-use Rattle.std.proofs.Common.{◌≡◌, ◌+◌, ◌-◌, ◌<◌, ◌≤◌, suc, false, [], drop, length, sym, ap, ◌∙◌, subst, true≢false, arith}
+use Rattle.std.proofs.Common.{◌≡◌, ◌+◌, ◌-◌, ◌<◌, suc, false, [], drop, length, sym, ap, ◌∙◌, subst, true≢false, arith}
 use Rattle.std.specs.Prelude.{Some, find}
 use Rattle.zone_proto.specs.declared.rr_key.RrKey.{RrKey}
 use Rattle.zone_proto.specs.Names.{suffixes, wildcard_of, IsAbove}
 use Rattle.zone_map.specs.Walks.{IsChild}
 use Rattle.zone_map.specs.Wildcards.{exists}
 use Rattle.zone_response.specs.Neighbours.{NoLongerExists}
-use Rattle.zone_response.specs.Searches.{most_for_wildcard}
 use Rattle.zone_response.proofs.NextKeys.{fewer_labels, last_above, last_length}
-use Rattle.zone_response.proofs.SearchCounts.{at_most_one, left_searches, left_at_first, left_above, left_of_absent, some_left}
+use Rattle.zone_response.proofs.SearchCounts.{at_most_one, left_searches, left_at_first, left_above, some_left}
 use Rattle.zone_response.proofs.StarWalk.{labels_fit, parent_above, above_above, next_longer, none_of_root, begins, at_encloser, at_root, passed}
 use Rattle.zone_response.proofs.wildcards.source_of_synthesis.Goals as goal
 
