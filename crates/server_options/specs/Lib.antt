@@ -1,0 +1,4 @@
+pub mod Asking
+pub mod Completing
+pub mod ServerAnswers
+pub mod Summaries
