@@ -1,0 +1,4 @@
+mod Entries
+mod Places
+mod WordNames
+mod WordRuns
