@@ -1,0 +1,5 @@
+pub mod HashedNames
+pub mod HashedLists
+pub mod HashedSets
+pub mod TrimmedHashed
+pub mod SignedHashed

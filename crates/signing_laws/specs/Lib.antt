@@ -1,0 +1,2 @@
+pub mod TrimmedHashedChains
+pub mod SignedHashedChains
