@@ -1,0 +1,6 @@
+mod Examples
+mod NameTests
+mod TakenSets
+mod Steps
+mod Made
+mod Owned
