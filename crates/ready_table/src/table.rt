@@ -257,7 +257,8 @@ fn octets_at(all: &[u8], place: Place) -> Option<&[u8]>
 /// Whether the question of so many octets of a response is that of a message.
 fn has_question(ready: &[u8], message: &[u8], count: u16) -> bool
     ensures within { IsTrue result → 12 + count ≤ length message.now }
-    ensures same { IsTrue result → take count (drop 12 ready.now) ≡ take count (drop 12 message.now) }
+    ensures same { IsTrue result
+        → take count (drop 12 ready.now) ≡ take count (drop 12 message.now) }
 {
     let end = HEADER + usize::from(count);
     if ready.len() < end || message.len() < end {

@@ -45,7 +45,8 @@ pub fn keep(
     ensures zone { OnOk result (IsZone plan.new.records) }
     ensures keys { plan.new.keys ≡ plan.old.keys }
     ensures same { OnErr result (plan.new.records ≡ plan.old.records) }
-    ensures err { IfErr result (λ e. IsUnwritableUnless e (AllComparable old.now plan.old.records)) }
+    ensures err { IfErr result
+        (λ e. IsUnwritableUnless e (AllComparable old.now plan.old.records)) }
 {
     let usable = usable_keys_of(alloc, plan.keys.as_slice(), origin, old)?;
     let lists = kept_lists(alloc, &plan.records, old, usable.as_slice(), span)?;
@@ -65,8 +66,8 @@ fn kept_lists(
     span: &Span,
 ) -> Result<Vec<Option<Rrsigs>>, PlanFault>
     ensures handed { IfOk result
-        (λ lists. AreHanded records.now (kept_lists span.now usable.now old.now records.now) lists.items
-        []) }
+        (λ lists. AreHanded records.now
+        (kept_lists span.now usable.now old.now records.now) lists.items []) }
     ensures stored { OnOk result (AreStored records.now) }
     ensures err { IfErr result (λ e. IsUnwritableUnless e (AllComparable old.now records.now)) }
 {
@@ -91,7 +92,8 @@ fn kept_list(
 ) -> Result<Rrsigs, PlanFault>
     ensures ok { IfOk result
         (λ list. list ≡ kept_list span.now usable.now (option_copied old.entry) set.now) }
-    ensures err { IfErr result (λ e. IsUnwritableUnless e (IsComparable (option_copied old.entry) set.now)) }
+    ensures err { IfErr result
+        (λ e. IsUnwritableUnless e (IsComparable (option_copied old.entry) set.now)) }
 {
     let mut list = Rrsigs::with_capacity(alloc, set.rrsigs().len())?;
     for record in set.rrsigs() {
@@ -113,7 +115,8 @@ fn kept_record(
         (λ made. made
         ≡ kept_record span.now usable.now (option_copied old.entry) (signed_part set.now)
         record.now) }
-    ensures err { IfErr result (λ e. IsUnwritableUnless e (IsComparable (option_copied old.entry) set.now)) }
+    ensures err { IfErr result
+        (λ e. IsUnwritableUnless e (IsComparable (option_copied old.entry) set.now)) }
 {
     let RData::RRSIG(rrsig) = &record.rdata else {
         return Ok(record.clone()?);
@@ -142,7 +145,8 @@ fn standing_in<'a>(
         (λ found. option_map (λ r. r.now) found
         ≡ standing_in span.now (option_copied key.entry) (option_copied old.entry)
         (signed_part set.now) blank.now) }
-    ensures err { IfErr result (λ e. IsUnwritableUnless e (IsComparable (option_copied old.entry) set.now)) }
+    ensures err { IfErr result
+        (λ e. IsUnwritableUnless e (IsComparable (option_copied old.entry) set.now)) }
 {
     let Some(key) = key else {
         return Ok(None);

@@ -43,7 +43,8 @@ fn push_one(out: &mut Vec<u8>, rrsig: &RRSIG, set: &RecordSet) -> Result<(), Pla
     ensures ok { OnOk result
         (out.new.items
         ≡ out.old.items
-        ++ standing_text (record { octets = signed_data rrsig.now set.now; signature = rrsig.now.signature })) }
+        ++ standing_text
+        (record { octets = signed_data rrsig.now set.now; signature = rrsig.now.signature })) }
     ensures err { IfErr result (λ e. IsUnwritableUnless e (IsVerifiable set.now rrsig.now)) }
 {
     let mut octets = Vec::new(*out.allocator());
