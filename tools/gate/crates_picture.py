@@ -12,7 +12,7 @@ import svg
 
 ROW, HEIGHT, MARGIN, GAP, LINE = 54, 26, 14, 14, 12
 # How many crates a row has at most.
-MOST = 7
+MOST = 9
 SWEEPS = 40
 
 # The colours of the layers.
