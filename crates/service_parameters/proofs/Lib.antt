@@ -1,0 +1,2 @@
+pub mod ItemFacts
+pub mod ValueFacts
