@@ -1,9 +1,10 @@
-//! `zone_check [--print] FILE [ORIGIN]`: reads a zone file and reports what is wrong with it or its zone, or prints its
-//! records.
+//! `zone_check [--print] [--at MOMENT [--soon TIME]] FILE [ORIGIN]`: reads a zone file and reports what is wrong with it or its zone,
+//! or prints its records.
 #![tactic(auto)]
 
 mod checking;
 mod denial;
+mod publication;
 mod reporting;
 mod wanted;
 mod zone;
@@ -11,10 +12,11 @@ mod zone;
 use std::alloc::{AllocError, Global};
 use std::io::{BufWriter, Write};
 use std::process::ExitCode;
+use std::time::SystemTime;
 use std::{env, fs, io};
 use wanted::{Wanted, wanted_by};
 
-const USAGE: &[u8] = b"usage: zone_check [--print] FILE [ORIGIN]\n";
+const USAGE: &[u8] = b"usage: zone_check [--print | --at MOMENT|now [--soon TIME]] FILE [ORIGIN]\n";
 
 fn main(rt: HostRuntime) -> ExitCode {
     let alloc = rt.alloc();
@@ -28,7 +30,11 @@ fn main(rt: HostRuntime) -> ExitCode {
         let _ = rt.stderr().write_all(b"out of memory\n");
         return ExitCode::from(2);
     };
-    let status = match wanted_by(alloc, args.as_slice()) {
+    let Ok(now) = SystemTime::now(&rt) else {
+        let _ = rt.stderr().write_all(b"the clock can't be read\n");
+        return ExitCode::from(2);
+    };
+    let status = match wanted_by(alloc, args.as_slice(), seconds_of(now)) {
         Some(wanted) => check_file(&rt, alloc, &wanted),
         None => {
             let _ = rt.stderr().write_all(USAGE);
@@ -50,4 +56,12 @@ fn check_file(rt: &HostRuntime, alloc: Global, wanted: &Wanted<'_>) -> u8 {
         return 2;
     };
     checking::check(alloc, wanted, &mut input, &mut output, &mut fault)
+}
+
+/// A moment in seconds since 1970, modulo 2^32, as signatures have them (RFC 4034 section 3.1.5).
+fn seconds_of(moment: SystemTime) -> u32 {
+    match moment.duration_since(SystemTime::UNIX_EPOCH) {
+        Ok(since) => (since.as_secs() % 4_294_967_296) as u32,
+        Err(_) => 0,
+    }
 }

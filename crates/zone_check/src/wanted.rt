@@ -2,24 +2,67 @@
 
 use std::alloc::Global;
 use zone_proto::Name;
+use zone_publication::Period;
+use zone_tokens::{read_moment, read_ttl};
+
+/// How soon a signature may end before it is told, in seconds, where nothing else is said: three days.
+const SOON: u32 = 259_200;
 
 /// What is wanted of the program.
 #[derive(Drop)]
 pub struct Wanted<'w> {
     /// Whether the records are printed.
     pub is_printed: bool,
+    /// The moment at which the zone is to be published, if that is asked of.
+    pub period: Option<Period>,
     /// The name of the file.
     pub file: &'w str,
     /// The origin that the file begins with, and that of its zone, if one is named.
     pub origin: Option<Name>,
 }
 
-/// What words ask for: `--print` or nothing, a file, and an origin or nothing. None if they aren't that.
-pub fn wanted_by(alloc: Global, words: &[String]) -> Option<Wanted<'_>> {
-    let (is_printed, words) = match words.split_first() {
-        Some((first, others)) if first.as_str() == "--print" => (true, others),
-        _ => (false, words),
-    };
+/// What words ask for: `--print`, or `--at` and a moment, as signatures have them or `now`, perhaps with `--soon` and a time behind
+/// it, or neither; a file; and an origin or nothing. None if they aren't that.
+pub fn wanted_by(alloc: Global, words: &[String], now: u32) -> Option<Wanted<'_>> {
+    let (first, behind) = words.split_first()?;
+    match first.as_str() {
+        "--print" => named_by(alloc, behind, true, None),
+        "--at" => {
+            let (moment, behind) = behind.split_first()?;
+            let moment = moment_of(moment.as_str(), now)?;
+            let (soon, behind) = soon_of(behind)?;
+            named_by(alloc, behind, false, Some(Period { moment, soon }))
+        }
+        _ => named_by(alloc, words, false, None),
+    }
+}
+
+/// The moment that a word names, in seconds since 1970 modulo 2^32.
+fn moment_of(word: &str, now: u32) -> Option<u32> {
+    if word == "now" {
+        Some(now)
+    } else {
+        read_moment(word.as_bytes())
+    }
+}
+
+/// How many seconds are soon, and the words behind that.
+fn soon_of(words: &[String]) -> Option<(u32, &[String])> {
+    match words {
+        [first, soon, behind @ ..] if first.as_str() == "--soon" => {
+            Some((read_ttl(soon.as_str().as_bytes())?, behind))
+        }
+        _ => Some((SOON, words)),
+    }
+}
+
+/// What is wanted of the file that words name, and of the origin behind it.
+fn named_by(
+    alloc: Global,
+    words: &[String],
+    is_printed: bool,
+    period: Option<Period>,
+) -> Option<Wanted<'_>> {
     let (file, others) = words.split_first()?;
     let origin = match others {
         [] => None,
@@ -28,6 +71,7 @@ pub fn wanted_by(alloc: Global, words: &[String]) -> Option<Wanted<'_>> {
     };
     Some(Wanted {
         is_printed,
+        period,
         file: file.as_str(),
         origin,
     })

@@ -1,5 +1,5 @@
 //! The zone that the records of a file make, and what is reported about it.
-ghost use Rattle.std.specs.Prelude.{◌≡◌, ◌≤◌, map};
+ghost use Rattle.std.specs.Prelude.{◌≡◌, ◌≤◌, map, IsTrue};
 ghost use Rattle.zone_proto.specs.Names.{lower};
 ghost use Rattle.zone_map.specs.Zones.{IsZone};
 ghost use Rattle.zone_database.specs.declared.zone.Zone.{Zone};
@@ -7,9 +7,12 @@ ghost use Rattle.file_origins.specs.Origins.{origin_of};
 ghost use Rattle.zone_database.specs.Texts.{given_of, IsZoneOf};
 ghost use Rattle.zone_database.specs.Zones.{served_zone};
 ghost use Rattle.response_laws.specs.ProvedSayings.{IsUnreferred};
-ghost use Rattle.zone_check.specs.Denials.{DeniesRightly, served};
+ghost use Rattle.zone_response.specs.Queries.{Zone as ServedZone};
+ghost use Rattle.zone_check.specs.Denials.{DeniesRightly, IsReported, served};
+ghost use Rattle.zone_check.specs.Publications.{is_ready};
 
 use crate::denial::{Denial, tell_denial};
+use crate::publication::tell_publication;
 use crate::reporting::{Warning, tell, tell_at};
 use crate::wanted::Wanted;
 use file_origins::zone_origin;
@@ -47,7 +50,7 @@ pub fn check_zone<W: Write, E: Write>(
         return tell(fault, b"out of memory\n");
     };
     match load_records(alloc, origin, records) {
-        Ok(loaded) => tell_loaded(wanted.file, count, &loaded, output, fault),
+        Ok(loaded) => tell_loaded(alloc, wanted, count, &loaded, output, fault),
         Err(LoadFault::Memory) => tell(fault, b"out of memory\n"),
         Err(found) => {
             tell_at(fault, wanted.file, found.place(), &found);
@@ -58,7 +61,8 @@ pub fn check_zone<W: Write, E: Write>(
 
 /// Tells of a zone that was made, and gives the status for it.
 fn tell_loaded<W: Write, E: Write>(
-    file: &str,
+    alloc: Global,
+    wanted: &Wanted<'_>,
     count: usize,
     loaded: &Loaded,
     output: &mut W,
@@ -68,11 +72,17 @@ fn tell_loaded<W: Write, E: Write>(
     requires top { IsUnreferred (served loaded.now) }
     ensures status { result ≤ 2 }
     ensures served { result ≡ 0 → DeniesRightly (served loaded.now) }
+    ensures published { result ≡ 0
+        → IsTrue (is_ready wanted.now.period loaded.now.origin loaded.now.records) }
 {
+    let file = wanted.file;
     for warning in loaded.warnings.iter() {
         tell_at(fault, file, warning.place(), &Warning(warning));
     }
     let Some(denial) = tell_denial(file, loaded, fault) else {
+        return tell(fault, b"out of memory\n");
+    };
+    let Some(is_ready) = tell_publication(alloc, file, loaded, wanted.period, fault) else {
         return tell(fault, b"out of memory\n");
     };
     let summary = Summary {
@@ -81,9 +91,18 @@ fn tell_loaded<W: Write, E: Write>(
         denial,
     };
     match write_summary(output, file, &summary) {
-        Ok(()) => denial.status(),
+        Ok(()) => status_of(denial, is_ready),
         Err(_) => tell(fault, b"write failed\n"),
     }
+}
+
+/// The status for a zone that denies so, and is ready to be published or isn't.
+fn status_of(denial: Denial, is_ready: bool) -> u8
+    ensures status { result ≤ 1 }
+    ensures closed { (z : ServedZone) → result ≡ 0 → IsReported z denial → DeniesRightly z }
+    ensures ready { result ≡ 0 → IsTrue is_ready }
+{
+    if is_ready { denial.status() } else { 1 }
 }
 
 /// How many names own sets.
