@@ -117,7 +117,8 @@ static int take(const struct place *place, struct config *config, char **words, 
     static const struct { const char *name; int least, most; } directives[] = {
         {"listen", 1, 2}, {"zone", 2, 2}, {"zones", 1, 1}, {"workers", 1, 1}, {"user", 1, 1}, {"chroot", 1, 1}, {"control", 1, 1},
         {"log", 1, 1}, {"query-log", 2, 2}, {"watch", 1, 1}, {"udp-size", 1, 1}, {"tcp-connections", 1, 1},
-        {"tcp-client-connections", 1, 1}, {"tcp-idle", 1, 1}, {"rate-limit", 1, 1}, {"rate-slip", 1, 1}, {"rate-prefixes", 2, 2}};
+        {"tcp-client-connections", 1, 1}, {"tcp-idle", 1, 1}, {"rate-limit", 1, 1}, {"rate-slip", 1, 1}, {"rate-prefixes", 2, 2},
+        {"ready-answers", 1, 1}};
     size_t at = 0, all = sizeof directives / sizeof *directives;
     while (at < all && strcmp(directives[at].name, name)) at++;
     if (at == all) return fault(place, "'%s' isn't a directive", name);
@@ -132,6 +133,7 @@ static int take(const struct place *place, struct config *config, char **words, 
     if (!strcmp(name, "control")) return set_text(place, &config->control, value);
     if (!strcmp(name, "log")) return set_text(place, &config->log, value);
     if (!strcmp(name, "watch")) return set_switch(place, &config->watch, value);
+    if (!strcmp(name, "ready-answers")) return set_switch(place, &config->ready_answers, value);
     if (!strcmp(name, "udp-size")) return set_number(place, &config->udp_size, value, 512, 1232);
     if (!strcmp(name, "tcp-connections")) return set_number(place, &config->tcp_connections, value, 1, 1000000);
     if (!strcmp(name, "tcp-client-connections")) return set_number(place, &config->tcp_client_connections, value, 1, 1000000);
@@ -145,7 +147,7 @@ static int take(const struct place *place, struct config *config, char **words, 
 
 int config_read(struct config *config, const char *path) {
     *config = (struct config){.udp_size = 1232, .tcp_connections = 1000, .tcp_client_connections = 100, .tcp_idle = 10, .rate_slip = 2,
-                              .rate_prefix_v4 = 24, .rate_prefix_v6 = 56, .watch = 1};
+                              .rate_prefix_v4 = 24, .rate_prefix_v6 = 56, .watch = 1, .ready_answers = 1};
     FILE *file = fopen(path, "r");
     if (!file) {
         fprintf(stderr, "%s: %s\n", path, strerror(errno));

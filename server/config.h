@@ -28,6 +28,7 @@ struct config {
     unsigned rate_limit, rate_slip, rate_prefix_v4, rate_prefix_v6;   /* responses a second, one in so many cut, bits */
     unsigned query_log_every;      /* one query in so many is logged */
     unsigned watch;                /* whether zones are read again when their files change */
+    unsigned ready_answers;        /* whether the answers that a zone gives most are kept as octets */
 };
 
 /* Reads a configuration. Returns 0, or -1 once the first fault is printed on standard error, with its file and line. What was read is

@@ -131,6 +131,8 @@ static int load(nk_zones *into, struct zone *zone) {
         set_fault(zone, NULL);
         zone->is_served = 1;
         nk_zones_serial(into, (uint8_t *)zone->origin, strlen(zone->origin), &zone->serial);
+        if (config->ready_answers && nk_zones_prepare(into, (uint8_t *)zone->origin, strlen(zone->origin)) == NK_NO_MEMORY)
+            log_line("%s: no memory to keep its answers", zone->origin);
         return 1;
     }
     told[written && told[written - 1] == '\n' ? written - 1 : written] = 0;

@@ -50,6 +50,8 @@ static uint32_t load(nk_zones *zones, int is_new, const char *origin, const char
 
 static uint32_t drop(nk_zones *zones, const char *origin) { return nk_zones_drop(zones, (const uint8_t *)origin, strlen(origin)); }
 
+static uint32_t prepare(nk_zones *zones, const char *origin) { return nk_zones_prepare(zones, (const uint8_t *)origin, strlen(origin)); }
+
 static uint32_t serial(nk_zones *zones, const char *origin, uint32_t *number) { return nk_zones_serial(zones, (const uint8_t *)origin, strlen(origin), number); }
 
 static uint32_t answer(nk_zones *zones, const char *label, int type, uint32_t transport, size_t space, size_t *written) {
@@ -70,16 +72,17 @@ static int refusals(void) {
     memset(room, 85, sizeof room);
     IS(load(&zones, 0, ORIGIN, text, &written) == NK_CLOSED && !written && is_untouched());
     IS(load(&zones, 1, ORIGIN, text, &written) == NK_CLOSED && !written && is_untouched());
-    IS(drop(&zones, ORIGIN) == NK_CLOSED && serial(&zones, ORIGIN, &number) == NK_CLOSED && number == 8);
+    IS(drop(&zones, ORIGIN) == NK_CLOSED && prepare(&zones, ORIGIN) == NK_CLOSED && serial(&zones, ORIGIN, &number) == NK_CLOSED && number == 8);
     IS(answer(&zones, "www", 1, NK_UDP, 1232, &written) == NK_CLOSED && !written && nk_zones_copy(&zones, &other) == NK_CLOSED);
-    IS(nk_zones_new(&zones) == NK_DONE && drop(&zones, ORIGIN) == NK_NO_ZONE && serial(&zones, ORIGIN, &number) == NK_NO_ZONE && number == 8);
+    IS(nk_zones_new(&zones) == NK_DONE && drop(&zones, ORIGIN) == NK_NO_ZONE && prepare(&zones, ORIGIN) == NK_NO_ZONE && serial(&zones, ORIGIN, &number) == NK_NO_ZONE && number == 8);
     IS(load(&zones, 0, "a..b", text, &written) == NK_BAD_NAME && !written && drop(&zones, "a..b") == NK_BAD_NAME && is_untouched());
-    IS(serial(&zones, "a..b", &number) == NK_BAD_NAME && number == 8);
+    IS(serial(&zones, "a..b", &number) == NK_BAD_NAME && number == 8 && prepare(&zones, "a..b") == NK_BAD_NAME);
     IS(load(&zones, 0, ORIGIN, text, &written) == NK_DONE && load(&zones, 1, ORIGIN, text, &written) == NK_ZONE_EXISTS && !written);
     IS(load(&zones, 0, ORIGIN, bad_text, &written) == NK_BAD_TEXT && written > 60 && !memcmp(room, told_of_it, strlen(told_of_it)) && room[written - 1] == '\n');
     IS(load(&zones, 0, "b.example", "@ 1 SOA a b 1 2 3 4 5\n@ 1 NS a\nc.example. 1 A 192.0.2.1\n", &written) == NK_DONE && written);   /* outside of it: a warning */
     IS(load(&zones, 0, "c.example", "b.example. 1 SOA a b 1 2 3 4 5\n", &written) == NK_BAD_TEXT && written);                  /* of another origin */
     IS(serial(&zones, ORIGIN, &number) == NK_DONE && number == 7 && serial(&zones, "c.example", &number) == NK_NO_ZONE && number == 7);
+    IS(prepare(&zones, ORIGIN) == NK_DONE);
     memset(room, 85, sizeof room);
     IS(answer(&zones, "www", 1, 2, 1232, &written) == NK_BAD_TRANSPORT && !written && is_untouched());
     IS(answer(&zones, "www", 1, NK_UDP, 20, &written) == NK_NO_ROOM && written > 20 && is_untouched());
@@ -96,7 +99,7 @@ static int refusals(void) {
 /* The calls of the session, by their numbers; and what is asked for. */
 static const char *const labels[] = {"www", "nowhere", "a.cut", "alias", "a.wild", "www"};
 static const int types[] = {16, 1, 1, 1, 1, 15};
-enum { NEW, LOAD, LOAD_BAD, ADD, SERIAL, COPY, DROP, ANSWER, CALLS = ANSWER + 6 };
+enum { NEW, LOAD, LOAD_BAD, ADD, SERIAL, COPY, DROP, PREPARE, ANSWER, CALLS = ANSWER + 6 };
 
 /* A copy has the zones, or the other stays as it was. */
 static uint32_t copied(nk_zones *zones, nk_zones *other) {
@@ -115,6 +118,7 @@ static uint32_t call(nk_zones *zones, nk_zones *other, int number) {
     memset(room, 85, sizeof room);
     if (number == NEW) return nk_zones_new(zones);
     if (number == DROP) return drop(zones, "other.example");
+    if (number == PREPARE) return prepare(zones, ORIGIN);
     if (number == COPY) return copied(zones, other);
     if (number == SERIAL) return (code = serial(zones, ORIGIN, &of)) == NK_DONE && of != 7 ? 99 : code != NK_DONE && of != 8 ? 98 : code;
     if (number == LOAD || number == LOAD_BAD) code = load(zones, 0, ORIGIN, number == LOAD ? text : bad_text, &written);

@@ -3,7 +3,7 @@
 #![tactic(auto)]
 
 ghost use Rattle.std.specs.Prelude.{◌≡◌, [], None};
-ghost use Rattle.zone_database.specs.Calls.{transport_of, AnswersHeld, AsksHeld, ChangesHeld, IsAdded, IsCreated, IsDropped, IsLoaded, IsSerial, IsReported};
+ghost use Rattle.zone_database.specs.Calls.{transport_of, AnswersHeld, AsksHeld, ChangesHeld, IsAdded, IsCreated, IsDropped, IsLoaded, IsPrepared, IsSerial, IsReported};
 ghost use Rattle.zone_database.specs.Outcomes.{code_of, Codes};
 
 use std::alloc::Global;
@@ -88,6 +88,15 @@ pub extern "C" fn nk_zones_drop(alloc: Global, zones: &mut Handle, origin: &[u8]
         ChangesHeld (IsDropped origin.now) zones.old.held o zones.new.held) }
 {
     calls::remove(alloc, zones, origin).code()
+}
+
+/// Keeps the answers that the zone of an origin gives most, as the octets that go out. No zone and no answer changes.
+#[unsafe(no_mangle)]
+pub extern "C" fn nk_zones_prepare(alloc: Global, zones: &mut Handle, origin: &[u8]) -> u32
+    ensures { Codes result (λ o.
+        ChangesHeld (IsPrepared origin.now) zones.old.held o zones.new.held) }
+{
+    calls::prepare(alloc, zones, origin).code()
 }
 
 /// Writes the serial of the zone of an origin.

@@ -1,6 +1,7 @@
 pub mod CallFacts
 pub mod Handles
 pub mod OwnDenials
+pub mod Preparing
 pub mod PutsInOrder
 pub mod RawBoxes
 pub mod TextFacts

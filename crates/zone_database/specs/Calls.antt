@@ -87,6 +87,10 @@ IsMade origin text old outcome new = IsPutBeside (has_zone (lower origin) old) o
 abbrev pub IsTakenOut : Name → List Zone → Outcome → List Zone → Type 0
 IsTakenOut origin old outcome new = (new ≡ without origin old) × (outcome ≡ (if has_zone origin old then Done else NoZone))
 
+-- answers of the zone of an origin are kept, which changes no zone; or there is none, or no memory was found
+abbrev pub IsPreparedAt : Name → List Zone → Outcome → List Zone → Type 0
+IsPreparedAt origin old outcome new = (new ≡ old) × ((outcome ≡ NoMemory) ⊎ (outcome ≡ (if has_zone origin old then Done else NoZone)))
+
 -- the serial of the zone of an origin is written; or there is none, or no memory was found, and the number stays
 abbrev pub IsSerialOf : Name → ℕ → ℕ → Option Zone → Outcome → Type 0
 IsSerialOf origin before after (Some z) Done = after ≡ serial z.inner.records z.origin
@@ -115,6 +119,9 @@ IsAdded origin text old outcome new = WithName (origin_of origin) (λ name. IsMa
 
 abbrev pub IsDropped : List ℕ → List Zone → Outcome → List Zone → Type 0
 IsDropped origin old outcome new = WithName (origin_of origin) (λ name. IsTakenOut (lower name) old outcome new) (Ends old outcome new)
+
+abbrev pub IsPrepared : List ℕ → List Zone → Outcome → List Zone → Type 0
+IsPrepared origin old outcome new = WithName (origin_of origin) (λ name. IsPreparedAt (lower name) old outcome new) (Ends old outcome new)
 
 abbrev pub IsSerial : List ℕ → ℕ → ℕ → List Zone → Outcome → Type 0
 IsSerial origin before after zs outcome = WithName (origin_of origin) (λ name. IsSerialAt (lower name) before after zs outcome) (Ends before outcome after)

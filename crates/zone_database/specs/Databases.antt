@@ -1,6 +1,5 @@
 -- The zones that a server has
 use Rattle.std.specs.Prelude.{Bool, List, map, is_some}
-use Rattle.std.specs.Arc.{arc_value}
 use Rattle.std.specs.List.{find}
 use Rattle.std.specs.Ordering.{eq_by_cmp}
 use Rattle.std.specs.Set.{remove_key}
@@ -11,7 +10,7 @@ use Rattle.zone_database.specs.declared.zone.Zone.{Zone}
 
 -- the zones of a database in the canonical order of their origins, each of which it may share with others
 abbrev pub zones_in : ZoneDatabase → List Zone
-zones_in c = map (λ e. arc_value e.1) c.zones.entries
+zones_in c = map (λ e. e.1) c.zones.entries
 
 -- a zone is that of an origin, which is in lower case as its own is
 abbrev pub begins_at : Name → Zone → Bool

@@ -3,6 +3,7 @@ pub mod Databases
 pub mod ChainsBeside
 pub mod Holding
 pub mod Origins
+pub mod ReadyZones
 pub mod Outcomes
 pub mod Texts
 pub mod Files

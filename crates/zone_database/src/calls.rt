@@ -1,12 +1,12 @@
 //! What a program that isn't written in Rattle asks of the zones that it keeps: the calls of `ningkraet`.
 ghost use Rattle.std.specs.Prelude.{◌≡◌, [], None};
 ghost use Rattle.zone_database.specs.Databases.{zones_in};
-ghost use Rattle.zone_database.specs.Calls.{transport_of, AnswersHeld, AsksHeld, ChangesHeld, IsAdded, IsAnswered, IsCreated, IsDropped, IsLoaded, IsSerial, IsReported};
+ghost use Rattle.zone_database.specs.Calls.{transport_of, AnswersHeld, AsksHeld, ChangesHeld, IsAdded, IsAnswered, IsCreated, IsDropped, IsLoaded, IsPrepared, IsSerial, IsReported};
 
 use crate::buffer::{give, tell};
 use crate::database::ZoneDatabase;
 use crate::handle::Handle;
-use crate::loads::{add_zone, load_zone, remove_zone};
+use crate::loads::{add_zone, load_zone, prepare_zone, remove_zone};
 use crate::outcome::Outcome;
 use crate::serials::serial_of;
 use std::alloc::Global;
@@ -160,6 +160,22 @@ pub fn remove(alloc: Global, zones: &mut Handle, origin: &[u8]) -> Outcome
     match zones.take(alloc) {
         Some(mut database) => {
             let outcome = remove_zone(alloc, &mut database, origin);
+            zones.put(database);
+            outcome
+        }
+        None => Outcome::Closed,
+    }
+}
+
+/// Keeps the answers that the zone of an origin gives most, as the octets that go out, until the zone is replaced or taken
+/// out. No zone and no answer changes.
+#[tactic(auto, using(crate::proofs::CallFacts::changed))]
+pub fn prepare(alloc: Global, zones: &mut Handle, origin: &[u8]) -> Outcome
+    ensures { ChangesHeld (IsPrepared origin.now) zones.old.held result zones.new.held }
+{
+    match zones.take(alloc) {
+        Some(mut database) => {
+            let outcome = prepare_zone(alloc, &mut database, origin);
             zones.put(database);
             outcome
         }

@@ -15,6 +15,7 @@ mod raw_box;
 mod reading;
 mod reporting;
 mod serials;
+mod stored_zone;
 mod zone;
 
 pub use database::ZoneDatabase;

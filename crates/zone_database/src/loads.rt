@@ -1,7 +1,7 @@
 //! Zones of texts, put among those of a database.
 ghost use Rattle.std.specs.Prelude.{◌≡◌, ◌⊎◌, IfErr, IfOk, IsErr, Ok, OnErr, OnOk};
 ghost use Rattle.zone_database.specs.Databases.{zones_in};
-ghost use Rattle.zone_database.specs.Calls.{origin_of, IsAdded, IsDropped, IsLoaded, IsMade, IsPut, PutsZone};
+ghost use Rattle.zone_database.specs.Calls.{origin_of, IsAdded, IsDropped, IsLoaded, IsMade, IsPrepared, IsPreparedAt, IsPut, PutsZone};
 ghost use Rattle.zone_database.specs.Texts.{IsTextFault, IsZoneOfText};
 
 use crate::database::ZoneDatabase;
@@ -62,6 +62,28 @@ pub(crate) fn remove_zone(alloc: Global, database: &mut ZoneDatabase, origin: &[
             }
         }
         Err(outcome) => outcome,
+    }
+}
+
+/// Keeps the answers that the zone of an origin gives most.
+#[tactic(auto, using(crate::proofs::CallFacts::unread, crate::proofs::CallFacts::read_on))]
+pub(crate) fn prepare_zone(alloc: Global, database: &mut ZoneDatabase, origin: &[u8]) -> Outcome
+    ensures { IsPrepared origin.now (zones_in database.old) result (zones_in database.new) }
+{
+    match origin_of(alloc, origin) {
+        Ok(name) => prepare_at(alloc, database, &LowerName::from(name)),
+        Err(outcome) => outcome,
+    }
+}
+
+/// Keeps the answers that the zone of an origin gives most.
+fn prepare_at(alloc: Global, database: &mut ZoneDatabase, origin: &LowerName) -> Outcome
+    ensures { IsPreparedAt origin.now (zones_in database.old) result (zones_in database.new) }
+{
+    match database.prepare(alloc, origin) {
+        Ok(true) => Outcome::Done,
+        Ok(false) => Outcome::NoZone,
+        Err(_) => Outcome::NoMemory,
     }
 }
 

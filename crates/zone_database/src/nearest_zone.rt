@@ -25,7 +25,7 @@ impl ServedZones for ZoneDatabase {
         name: &LowerName,
     ) -> Result<Option<ServedZone<'_, NoSigner, Sha1Hash>>, AllocError> {
         match nearest(&self.zones, name)? {
-            Some((_, zone)) => Ok(Some(lent(zone))),
+            Some((_, stored)) => Ok(Some(lent(stored.zone()))),
             None => Ok(None),
         }
     }

@@ -15,6 +15,7 @@ pub enum Call<'r> {
     Load(&'r str, String),
     Add(&'r str, String),
     Drop(&'r str),
+    Prepare(&'r str),
     Serial(&'r str),
     Answer(Vec<u8>, usize, u32),
 }
@@ -31,6 +32,7 @@ pub fn read_call(alloc: Global, words: &str) -> Result<Option<Call<'_>>, AllocEr
         "load" => Ok(Some(Call::Load(first, behind.replace(alloc, "|", "\n")?))),
         "add" => Ok(Some(Call::Add(first, behind.replace(alloc, "|", "\n")?))),
         "drop" => Ok(Some(Call::Drop(rest))),
+        "prepare" => Ok(Some(Call::Prepare(rest))),
         "serial" => Ok(Some(Call::Serial(rest))),
         "answer" => read_answer(alloc, first, behind),
         _ => Ok(None),
@@ -81,6 +83,7 @@ pub fn make(
             calls::add(alloc, zones, origin, text, room, written)
         }
         Call::Drop(origin) => calls::remove(alloc, zones, origin.as_bytes()),
+        Call::Prepare(origin) => calls::prepare(alloc, zones, origin.as_bytes()),
         Call::Serial(origin) => { calls::serial(alloc, zones, origin.as_bytes(), &mut left.serial) }
         Call::Answer(message, limit, transport) => calls::answer(
             alloc,

@@ -7,7 +7,7 @@
 //! - `new` and `free`; `copy` has the other handle hold the same zones, and `move` puts what is taken out of the handle into the
 //!   other;
 //! - `load ORIGIN TEXT` and `add ORIGIN TEXT`, of the text of a zone file, in which `|` ends a line;
-//! - `drop ORIGIN` and `serial ORIGIN`;
+//! - `drop ORIGIN`, `prepare ORIGIN` and `serial ORIGIN`;
 //! - `answer TRANSPORT LIMIT HEX` of the octets of a message.
 //!
 //! An answer begins with the code of the call, as `include/ningkraet.h` numbers it: 0 for `free`, which has none, and for `move`

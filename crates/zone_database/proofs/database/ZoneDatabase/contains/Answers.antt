@@ -1,9 +1,8 @@
 use Rattle.std.proofs.Common.{◌∙◌}
-use Rattle.std.specs.Arc.{arc_value}
 use Rattle.zone_origins.proofs.UnderNames.{is_found}
 use Rattle.zone_database.specs.declared.zone.Zone.{Zone}
 use Rattle.zone_database.proofs.database.ZoneDatabase.contains.Goals as goal
 
 pub returns : goal.returns
 returns c =
-    c.contains_key.ensures ∙ is_found arc_value (λ (z : Zone). z.origin) c.args.origin.now c.args.self.now.zones.entries c.args.self.now.under_origins
+    c.contains_key.ensures ∙ is_found (λ (s : Zone). s) (λ (z : Zone). z.origin) c.args.origin.now c.args.self.now.zones.entries c.args.self.now.under_origins

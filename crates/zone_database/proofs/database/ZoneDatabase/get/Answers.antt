@@ -1,5 +1,4 @@
 use Rattle.std.proofs.Common.{◌∙◌, ap}
-use Rattle.std.specs.Arc.{arc_value}
 use Rattle.std.specs.Prelude.{option_map, Some}
 use Rattle.zone_origins.proofs.UnderNames.{found}
 use Rattle.zone_database.specs.declared.zone.Zone.{Zone}
@@ -7,8 +6,8 @@ use Rattle.zone_database.proofs.database.ZoneDatabase.get.Goals as goal
 
 pub returns-in-Some : goal.returns-in-Some
 returns-in-Some c =
-    ap Some c.deref.ensures ∙ ap (option_map arc_value) c.in-Some.ensures.value ∙ found arc_value (λ (z : Zone). z.origin) c.args.origin.now c.args.self.now.zones.entries c.args.self.now.under_origins
+    ap Some c.zone.ensures ∙ ap (option_map (λ (s : Zone). s)) c.in-Some.ensures.value ∙ found (λ (s : Zone). s) (λ (z : Zone). z.origin) c.args.origin.now c.args.self.now.zones.entries c.args.self.now.under_origins
 
 pub returns-in-None : goal.returns-in-None
 returns-in-None c =
-    ap (option_map arc_value) c.in-None.ensures.value ∙ found arc_value (λ (z : Zone). z.origin) c.args.origin.now c.args.self.now.zones.entries c.args.self.now.under_origins
+    ap (option_map (λ (s : Zone). s)) c.in-None.ensures.value ∙ found (λ (s : Zone). s) (λ (z : Zone). z.origin) c.args.origin.now c.args.self.now.zones.entries c.args.self.now.under_origins

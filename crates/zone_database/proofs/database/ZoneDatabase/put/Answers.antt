@@ -1,5 +1,4 @@
-use Rattle.std.proofs.Common.{◌∙◌, ap, sym, subst}
-use Rattle.std.specs.Arc.{arc_value}
+use Rattle.std.proofs.Common.{◌≡◌, ◌∙◌, ap, sym, subst}
 use Rattle.std.specs.Prelude.{map}
 use Rattle.zone_origins.proofs.UnderNames.{put, put_under}
 use Rattle.zone_database.specs.Databases.{with_zone, zones_in}
@@ -13,14 +12,15 @@ invariant_of-self c =
     record {
       under_origins = either_way c.insert.result _ _ _ c.insert.ensures.entries c.insert.ensures.err
           (λ is. subst AreUnderOrigins (sym is)
-          (put_under arc_value (λ (z : Zone). z.origin) c.args.self.now.zones.entries c.in-Ok.origin c.in-Ok-new.shared c.args.self.now.under_origins
-          (ap (λ (z : Zone). z.origin) c.in-Ok-new.ensures.ok ∙ sym c.in-Ok.ensures.copy.ok)))
+          (put_under (λ (s : Zone). s) (λ (z : Zone). z.origin) c.args.self.now.zones.entries c.in-Ok.origin c.new-stored.result c.args.self.now.under_origins
+          (ap (λ (z : Zone). z.origin) (c.new-stored.ensures ∙ c.in-Ok-new.ensures.ok) ∙ sym c.in-Ok.ensures.copy.ok)))
           (λ same. subst AreUnderOrigins (sym same) c.args.self.now.under_origins);
     }
 
 pub returns-in-Ok-insert-clause-put : goal.returns-in-Ok-insert-clause-put
 returns-in-Ok-insert-clause-put c =
-    ap (map (λ e. arc_value e.1)) c.in-Ok-insert.ensures.entries
-    ∙ put arc_value (λ (z : Zone). z.origin) c.args.self.now.zones.entries c.in-Ok.origin c.in-Ok-new.shared c.args.self.now.under_origins
-    (ap (λ (z : Zone). z.origin) c.in-Ok-new.ensures.ok ∙ sym c.in-Ok.ensures.copy.ok)
-    ∙ ap (λ (z : Zone). with_zone z (zones_in c.args.self.now)) c.in-Ok-new.ensures.ok
+    let is : c.new-stored.result ≡ c.args.zone = c.new-stored.ensures ∙ c.in-Ok-new.ensures.ok in
+    ap (map (λ e. e.1)) c.in-Ok-insert.ensures.entries
+    ∙ put (λ (s : Zone). s) (λ (z : Zone). z.origin) c.args.self.now.zones.entries c.in-Ok.origin c.new-stored.result c.args.self.now.under_origins
+    (ap (λ (z : Zone). z.origin) is ∙ sym c.in-Ok.ensures.copy.ok)
+    ∙ ap (λ (z : Zone). with_zone z (zones_in c.args.self.now)) is
