@@ -5,7 +5,7 @@
 
 The zones have delegations with glue at and below the cut, wildcards, CNAME, DNAME, empty non-terminals and names in mixed case; they are
 signed with NSEC, with NSEC3 and with opt-out. dnssec-verify, ldns-verify-zone, kzonecheck and zone_check have to accept what ./sign
-writes; and it has to have the same denials, record by record, as that of each other signer, and the same signatures, by owner, type, key,
+writes, and what it writes if it signs that again; and it has to have the same denials, record by record, as that of each other signer, and the same signatures, by owner, type, key,
 labels and TTL, except for what CHOICES lists. Prints how many were compared. The status is 1 if any of that isn't so.
 
 The tools are Debian's packages bind9-utils, ldnsutils and knot-dnssecutils.
@@ -68,14 +68,28 @@ def judged(path, origin):
             raise Wrong(f"{judge} doesn't accept it:\n{(err or out).strip()[-800:]}")
 
 
-def by_sign(folder, origin, path, way):
-    """The file that ./sign writes."""
+def by_sign(folder, origin, path, way, made, *more):
+    """Has ./sign write a file."""
     hashed = ["--nsec3", way.salt or "-", str(way.iterations)] if way.kind != "nsec" else []
     signed_zones.keys(folder, origin)
-    status, _, err = run(f"{TOP}/sign", path, "--origin", origin, "--keys", folder, *hashed, *(["--opt-out"] if way.opts_out else []), "-o", f"{path}.ours")
+    status, _, err = run(f"{TOP}/sign", path, "--origin", origin, "--keys", folder, *hashed, *(["--opt-out"] if way.opts_out else []), *more, "-o", made)
     if status:
         raise Wrong(f"./sign: {err.strip()[-800:]}")
-    return f"{path}.ours"
+    return made
+
+
+def kept(lines):
+    """The signatures that stay when a zone is signed again: all but those of the SOA."""
+    return {tuple(words) for words in lines if words[3] == "RRSIG" and words[4] != "SOA"}
+
+
+def again(folder, origin, path, way, lines, counts):
+    """Signs a signed zone again."""
+    more = by_sign(folder, origin, path, way, f"{path}.again", "--again", "5d")
+    judged(more, origin)
+    if kept(lines) != kept(printed(more, origin)):
+        raise Wrong("./sign --again: other signatures than that of the SOA were made")
+    counts["signatures that stay"] += len(kept(lines))
 
 
 def printed(path, origin):
@@ -125,10 +139,11 @@ def tried(folder, number, counts):
     for kind in signed_zones.KINDS:
         way = signed_zones.random_way("dnssec-signzone", kind)
         try:
-            ours = by_sign(folder, origin, path, way)
+            ours = by_sign(folder, origin, path, way, f"{path}.ours")
             judged(ours, origin)
             counts["zones accepted by all"] += 1
             lines = printed(ours, origin)
+            again(folder, origin, ours, way, lines, counts)
         except Wrong as error:
             raise Wrong(f"{path}, {kind}: {error}") from error
         for signer in signed_zones.signers():

@@ -1,10 +1,13 @@
 //! `zone_sign MODE FILE [--origin NAME] --from N --until N [--jitter N] [--key-ttl N] [--cds] [--nsec3 SALT ITERATIONS [--opt-out]]
-//! --key FILE..`: writes what has to be signed in a zone file, and puts the signatures into it, without reading a private key.
+//! [--old FILE --again N [--wrong FILE]] --key FILE..`: writes what has to be signed in a zone file, and puts the signatures into it, without reading a private key.
 //!
 //! MODE is `plan`, which writes a frame for each signature: the number of its key, from 0, in one octet, a length in four octets, and
 //! so many octets, which are to be signed (RFC 4034 section 3.1.8.1); a frame without octets comes last. `sign` does the same, then
 //! reads the signatures until the end of its input, each preceded by its length in two octets, and writes the signed zone. `ds` writes
-//! the DS records of the keys. Moments are in seconds since 1970. Signatures expire up to `--jitter` seconds before the last moment,
+//! the DS records of the keys. With `--old`, signatures of that earlier version of the signed zone stay if they are of the same records
+//! and hold from the first moment on for `--again` seconds, except for those in the file of `--wrong`, each preceded by its length in
+//! two octets; `standing` writes what stays: how many octets a signature is made of, in four octets, these octets, its length in two,
+//! and the signature; four octets that are 0 come last. Moments are in seconds since 1970. Signatures expire up to `--jitter` seconds before the last moment,
 //! those at one name together; `--key-ttl` is the TTL of the records of keys, otherwise 3600; with `--cds` the zone has CDS and
 //! CDNSKEY records (RFC 7344).
 #![tactic(auto)]
@@ -12,6 +15,7 @@
 ghost use Rattle.std.specs.Prelude.{◌≤◌};
 
 mod digests;
+mod keeping;
 mod keys;
 mod reading;
 mod reporting;
@@ -26,7 +30,7 @@ use std::{env, io};
 use wanted::{Mode, Wanted, wanted_by};
 
 const USAGE: &[u8] =
-    b"usage: zone_sign plan|sign|ds FILE [--origin NAME] --from N --until N [--jitter N] [--key-ttl N] [--cds] [--nsec3 SALT ITERATIONS [--opt-out]] --key FILE..\n";
+    b"usage: zone_sign plan|sign|standing|ds FILE [--origin NAME] --from N --until N [--jitter N] [--key-ttl N] [--cds] [--nsec3 SALT ITERATIONS [--opt-out]] [--old FILE --again N [--wrong FILE]] --key FILE..\n";
 
 fn main(rt: HostRuntime) -> ExitCode {
     let alloc = rt.alloc();
@@ -55,7 +59,7 @@ fn run(rt: &HostRuntime, wanted: &Wanted<'_>) -> u8
     let mut fault = rt.stderr();
     let done = match wanted.mode {
         Mode::Ds => digests::write_digests(rt, wanted, &mut fault),
-        Mode::Plan | Mode::Sign => signing::sign(rt, wanted, &mut fault),
+        Mode::Plan | Mode::Sign | Mode::Standing => signing::sign(rt, wanted, &mut fault),
     };
     if done.is_some() { 0 } else { 1 }
 }

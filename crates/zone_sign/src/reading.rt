@@ -12,7 +12,7 @@ use std::fs;
 use std::io::Write;
 use zone_builder::{GivenRecord, LoadFault, Loaded, load};
 use zone_file::{FaultText, InputError, PlacedRecord, read_zone};
-use zone_proto::RecordType;
+use zone_proto::{LowerName, Name, RData, Record, RecordType, Seq};
 
 /// The zone in the file, without its signatures, denials and keys. None if there is none, which is reported.
 pub fn read_zone_of<E: Write>(
@@ -23,19 +23,56 @@ pub fn read_zone_of<E: Write>(
     ensures { IfSome result (λ loaded. IsZone loaded.records) }
 {
     let alloc = rt.alloc();
-    let Ok(mut input) = fs::open(rt, wanted.file) else {
-        return refuse(fault, wanted.file, &"the file can't be read");
-    };
     let Ok(origin) = first_origin(alloc, &wanted.origin) else {
         return refuse(fault, wanted.file, &"out of memory");
     };
+    let records = read_records(rt, wanted.file, origin, fault)?;
+    load_unsigned(alloc, wanted, records, fault)
+}
+
+/// The zone of an origin in a file, with its denials and keys, and with its signatures but for the wrong ones, which ascend. None if
+/// there is no zone, which is reported.
+pub fn read_signed_zone<E: Write>(
+    rt: &HostRuntime,
+    file: &str,
+    origin: &LowerName,
+    wrong: &[Seq<u8>],
+    fault: &mut E,
+) -> Option<Loaded>
+    ensures { IfSome result (λ loaded. IsZone loaded.records) }
+{
+    let alloc = rt.alloc();
+    let Ok(first) = origin.clone() else {
+        return refuse(fault, file, &"out of memory");
+    };
+    let records = read_records(rt, file, Name::from(first), fault)?;
+    let Ok(given) = without_wrong(alloc, records, wrong) else {
+        return refuse(fault, file, &"out of memory");
+    };
+    let Ok(origin) = origin.clone() else {
+        return refuse(fault, file, &"out of memory");
+    };
+    load_given(alloc, file, Name::from(origin), given, fault)
+}
+
+/// The records in a file, at whose beginning the origin is this. None if it can't be read, which is reported.
+fn read_records<E: Write>(
+    rt: &HostRuntime,
+    file: &str,
+    origin: Name,
+    fault: &mut E,
+) -> Option<Vec<PlacedRecord>> {
+    let alloc = rt.alloc();
+    let Ok(mut input) = fs::open(rt, file) else {
+        return refuse(fault, file, &"the file can't be read");
+    };
     match read_zone(alloc, origin, &mut input) {
-        Ok(records) => load_unsigned(alloc, wanted, records, fault),
-        Err(InputError::Memory) => refuse(fault, wanted.file, &"out of memory"),
-        Err(InputError::Input(_)) => refuse(fault, wanted.file, &"read failed"),
+        Ok(records) => Some(records),
+        Err(InputError::Memory) => refuse(fault, file, &"out of memory"),
+        Err(InputError::Input(_)) => refuse(fault, file, &"read failed"),
         Err(InputError::Fault(found)) => {
             let text = FaultText {
-                file: wanted.file,
+                file,
                 fault: &found,
             };
             let _ = write!(fault, "{text}\n");
@@ -59,10 +96,23 @@ fn load_unsigned<E: Write>(
     let Ok(given) = unsigned(alloc, records) else {
         return refuse(fault, wanted.file, &"out of memory");
     };
+    load_given(alloc, wanted.file, origin, given, fault)
+}
+
+/// The zone of an origin that records of a file make. None if they make none, which is reported.
+fn load_given<E: Write>(
+    alloc: Global,
+    file: &str,
+    origin: Name,
+    given: Vec<GivenRecord>,
+    fault: &mut E,
+) -> Option<Loaded>
+    ensures { IfSome result (λ loaded. IsZone loaded.records) }
+{
     match load(alloc, origin, given) {
         Ok(loaded) => Some(loaded),
-        Err(LoadFault::Memory) => refuse(fault, wanted.file, &"out of memory"),
-        Err(found) => refuse_at(fault, wanted.file, found.place(), &found),
+        Err(LoadFault::Memory) => refuse(fault, file, &"out of memory"),
+        Err(found) => refuse_at(fault, file, found.place(), &found),
     }
 }
 
@@ -75,6 +125,29 @@ fn unsigned(alloc: Global, records: Vec<PlacedRecord>) -> Result<Vec<GivenRecord
         .filter(|placed| !is_made(placed.given.record_type()))
         .map(given)
         .collect(alloc)
+}
+
+/// The records without the signatures that are wrong, which ascend.
+fn without_wrong(
+    alloc: Global,
+    records: Vec<PlacedRecord>,
+    wrong: &[Seq<u8>],
+) -> Result<Vec<GivenRecord>, AllocError> {
+    let mut kept = Vec::with_capacity(alloc, records.len())?;
+    for placed in records {
+        if !is_wrong(&placed.given, wrong) {
+            kept.push(given(placed))?;
+        }
+    }
+    Ok(kept)
+}
+
+/// Whether a record is a signature that is among those that are wrong, which ascend.
+fn is_wrong(record: &Record, wrong: &[Seq<u8>]) -> bool {
+    match &record.rdata {
+        RData::RRSIG(rrsig) => wrong.binary_search(&rrsig.signature).is_ok(),
+        _ => false,
+    }
 }
 
 /// A record with its place.

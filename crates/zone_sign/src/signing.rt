@@ -2,6 +2,7 @@
 ghost use Rattle.std.specs.Prelude.{◌≡◌, IfSome};
 ghost use Rattle.zone_map.specs.Zones.{IsZone};
 
+use crate::keeping::{keep_standing, write_standing};
 use crate::keys::read_keys;
 use crate::reading::read_zone_of;
 use crate::reporting::refuse;
@@ -26,15 +27,21 @@ pub fn sign<E: Write>(rt: &HostRuntime, wanted: &Wanted<'_>, fault: &mut E) -> O
         return refuse(fault, wanted.file, &"out of memory");
     };
     let planned = plan(alloc, wanted, loaded, keys, fault)?;
+    let planned = keep_standing(rt, wanted, planned, &apex, fault)?;
     let Ok(mut output) = BufWriter::new(alloc, io::writer(rt)) else {
         return refuse(fault, wanted.file, &"out of memory");
     };
-    match write_plan(alloc, &mut output, &planned.records) {
+    let written = if wanted.mode == Mode::Standing {
+        write_standing(alloc, &mut output, &planned.records)
+    } else {
+        write_plan(alloc, &mut output, &planned.records)
+    };
+    match written {
         Ok(()) => {}
         Err(Stop::Plan(why)) => return refuse(fault, wanted.file, &why),
         Err(Stop::Output) => return refuse(fault, wanted.file, &"write failed"),
     }
-    if wanted.mode == Mode::Plan {
+    if wanted.mode != Mode::Sign {
         return Some(());
     }
     let records = signed(rt, wanted, planned, fault)?;
@@ -104,8 +111,10 @@ fn signed<E: Write>(
 
 /// Why the frames aren't written.
 #[derive(Drop)]
-enum Stop {
+pub(crate) enum Stop {
+    /// They can't be made.
     Plan(PlanFault),
+    /// A write failed.
     Output,
 }
 

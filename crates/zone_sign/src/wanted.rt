@@ -13,6 +13,8 @@ pub enum Mode {
     Plan,
     /// The same, then read the signatures and write the signed zone.
     Sign,
+    /// Write the signatures of the old zone that stay, with what they are made of.
+    Standing,
     /// Write the DS records of the zone's keys.
     Ds,
 }
@@ -38,6 +40,12 @@ pub struct Wanted<'w> {
     pub asks_parent: bool,
     /// How the zone denies what it doesn't hold.
     pub nx_proof_kind: NxProofKind,
+    /// The file with an earlier version of the signed zone, if signatures of it are to stay.
+    pub old: Option<&'w str>,
+    /// The file with signatures of it that don't stay, each preceded by its length in two octets.
+    pub wrong: Option<&'w str>,
+    /// For how many seconds from the first moment on a signature has to hold to stay.
+    pub again: u64,
     /// The files with its public keys.
     pub keys: Vec<&'w str>,
 }
@@ -63,6 +71,9 @@ pub fn wanted_by(alloc: Global, words: &[String]) -> Result<Option<Wanted<'_>>, 
         key_ttl: KEY_TTL,
         asks_parent: false,
         nx_proof_kind: NxProofKind::Nsec,
+        old: None,
+        wrong: None,
+        again: 0,
         keys: Vec::new(alloc),
     };
     let mut left = others;
@@ -83,6 +94,7 @@ fn mode_of(word: &str) -> Option<Mode> {
     match word {
         "plan" => Some(Mode::Plan),
         "sign" => Some(Mode::Sign),
+        "standing" => Some(Mode::Standing),
         "ds" => Some(Mode::Ds),
         _ => None,
     }
@@ -221,6 +233,14 @@ fn take_value<'w>(
                 return Ok(None);
             };
             wanted.origin = Some(origin);
+        }
+        "--old" => wanted.old = Some(value),
+        "--wrong" => wanted.wrong = Some(value),
+        "--again" => {
+            let Ok(seconds) = value.parse::<u64>() else {
+                return Ok(None);
+            };
+            wanted.again = seconds;
         }
         "--key" => wanted.keys.push(value)?,
         _ => return Ok(None),
