@@ -2,8 +2,6 @@
 #ifndef LIMITS_H
 #define LIMITS_H
 
-#include <stddef.h>
-#include <stdint.h>
 #include <sys/socket.h>
 
 #include "config.h"

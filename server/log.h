@@ -2,8 +2,6 @@
 #ifndef LOG_H
 #define LOG_H
 
-#include <stddef.h>
-#include <stdint.h>
 #include <sys/socket.h>
 
 #include "counters.h"
