@@ -1,7 +1,7 @@
 -- What a validator makes of the denials by chains of NSEC and NSEC3 sets
 pub mod Readings
 pub mod Gaps
-pub mod Stars
+pub mod Wildcards
 pub mod ShownEnclosers
 pub mod Speaking
 pub mod OwnTypes

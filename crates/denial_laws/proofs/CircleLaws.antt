@@ -27,8 +27,8 @@ in_chain origin m x j = record { zone = nsec_circle_is_chain origin m j.zone; on
 pub name_error_accepted : NameErrorAccepted
 name_error_accepted origin m x j = errors.name_error_accepted origin m x (in_chain origin m x j)
 
-pub starred_error_accepted : WildcardErrorAccepted
-starred_error_accepted origin m x j = errors.starred_error_accepted origin m x (in_chain origin m x j)
+pub wildcard_error_accepted : WildcardErrorAccepted
+wildcard_error_accepted origin m x j = errors.wildcard_error_accepted origin m x (in_chain origin m x j)
 
 pub no_data_accepted : NoDataAccepted
 no_data_accepted origin m signed x t j = empty.no_data_accepted origin m signed x t (in_chain origin m x j)

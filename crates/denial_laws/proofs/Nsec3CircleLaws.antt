@@ -109,9 +109,9 @@ nsec3_wildcard_answer_accepted origin m hash parameters x j answer given =
     accepted.nsec3_wildcard_answer_accepted origin [] m hash parameters (nsec3_names origin m parameters.opt_out) x (in_chain origin m hash parameters x j) answer (of_zone origin m hash parameters true x answer given)
     (closer_covered origin m hash parameters x j answer given)
 
-pub nsec3_starred_error_accepted : Nsec3WildcardErrorAccepted
-nsec3_starred_error_accepted origin m hash parameters x e j is none star answer given =
-    empty.nsec3_starred_error_accepted origin [] m hash parameters (nsec3_names origin m parameters.opt_out) x e (in_chain origin m hash parameters x j) is none star answer
+pub nsec3_wildcard_error_accepted : Nsec3WildcardErrorAccepted
+nsec3_wildcard_error_accepted origin m hash parameters x e j is none wildcard_name answer given =
+    empty.nsec3_wildcard_error_accepted origin [] m hash parameters (nsec3_names origin m parameters.opt_out) x e (in_chain origin m hash parameters x j) is none wildcard_name answer
     (of_zone origin m hash parameters false x answer given) (denied origin m hash parameters x j.zone j.inside j.apart answer given)
 
 pub nsec3_denial_summed_up : Nsec3DenialSummedUp

@@ -99,13 +99,13 @@ opted_out_error = refl
 
 -- ---- a wildcard that owns nothing but NSEC: it doesn't exist, and is on the circle
 
-abbrev foreign_star : Sets
-foreign_star = linked (start ∷ entry (wildcard_under origin) NSEC (V.NSEC (record { next_domain_name = origin; types = [] })) ∷ [])
+abbrev foreign_wildcard : Sets
+foreign_wildcard = linked (start ∷ entry (wildcard_under origin) NSEC (V.NSEC (record { next_domain_name = origin; types = [] })) ∷ [])
 
-foreign_denied : negative_answer origin foreign_star b ≡ nx_domain
+foreign_denied : negative_answer origin foreign_wildcard b ≡ nx_domain
 foreign_denied = refl
 
-foreign_refused : proves_name_error origin hash (call_concludes foreign_star b) b ≡ false
+foreign_refused : proves_name_error origin hash (call_concludes foreign_wildcard b) b ≡ false
 foreign_refused = refl
 
 -- ---- an origin that is a delegation: its record may not be that of an encloser (RFC 5155 section 8.3). A lookup refers such a query

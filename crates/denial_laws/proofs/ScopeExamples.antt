@@ -19,8 +19,8 @@ use Rattle.denial_laws.specs.Scope.{denial_records}
 abbrev below_b : Name
 below_b = codes "x" ∷ b
 
-abbrev star : Name
-star = wildcard_under origin
+abbrev wildcard_name : Name
+wildcard_name = wildcard_under origin
 
 abbrev text : Name → RrKey × RRset
 text n = entry n TXT (V.Other (record { record_type = record { 0 = TXT }; octets = 1 ∷ []; other = refl }))
@@ -82,7 +82,7 @@ stray_refused = refl
 -- (RFC 4592 section 3.3.1)
 
 abbrev asterisk : Sets
-asterisk = linked (start ∷ address star ∷ [])
+asterisk = linked (start ∷ address wildcard_name ∷ [])
 
 starred_denied : negative_answer origin asterisk (wildcard_under b) ≡ nx_domain
 starred_denied = refl
@@ -112,7 +112,7 @@ signatures_refused = refl
 -- ---- ANY where a wildcard with text alone answers: A is searched, and not found
 
 abbrev texts : Sets
-texts = linked (start ∷ text star ∷ [])
+texts = linked (start ∷ text wildcard_name ∷ [])
 
 any_denied : found texts true b (searched_type texts b ANY) ≡ None
 any_denied = refl
@@ -168,21 +168,21 @@ deeper_refused = refl
 abbrev foreign : Name → RrKey × RRset
 foreign n = entry n NSEC3 (V.NSEC3 (nsec3_data parameters [] []))
 
-abbrev foreign_star : Sets
-foreign_star = linked (start ∷ foreign (wildcard_under b) ∷ [])
+abbrev foreign_wildcard : Sets
+foreign_wildcard = linked (start ∷ foreign (wildcard_under b) ∷ [])
 
-foreign_denied : negative_answer origin foreign_star below_b ≡ nx_domain
+foreign_denied : negative_answer origin foreign_wildcard below_b ≡ nx_domain
 foreign_denied = refl
 
-foreign_refused : proves_name_error origin (denial_records origin foreign_star below_b) below_b ≡ false
+foreign_refused : proves_name_error origin (denial_records origin foreign_wildcard below_b) below_b ≡ false
 foreign_refused = refl
 
 -- and here the encloser itself: the wildcard that answers isn't the one that the records show
 
 abbrev foreign_encloser : Sets
-foreign_encloser = linked (start ∷ address star ∷ foreign b ∷ [])
+foreign_encloser = linked (start ∷ address wildcard_name ∷ foreign b ∷ [])
 
-foreign_asked : asked_wildcard foreign_encloser below_b ≡ Some star
+foreign_asked : asked_wildcard foreign_encloser below_b ≡ Some wildcard_name
 foreign_asked = refl
 
 foreign_unproved : proves_wildcard_answer origin (denial_records origin foreign_encloser below_b) below_b origin ≡ false

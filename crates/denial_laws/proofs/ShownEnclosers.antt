@@ -14,5 +14,5 @@ same_name a b u v = by (above_cases a b u) (above_cases b a v)
     by (inr w) (inl e) = sym e
     by (inr w) (inr k) = absurd (asym name_order a b (above_is_less a b w) (above_is_less b a k))
 
-pub above_star : (a e : Name) → IsAbove a (wildcard_under e) → IsAtOrAbove a e
-above_star a e (l, f, q) = (f, ap (drop 1) q)
+pub above_wildcard : (a e : Name) → IsAbove a (wildcard_under e) → IsAtOrAbove a e
+above_wildcard a e (l, f, q) = (f, ap (drop 1) q)

@@ -38,7 +38,7 @@ Nsec3DenialAccepted = (origin : Name) (m : Sets) (hash : Name → Option (List �
 -- records prove that the wildcard at the closest encloser of x may answer, and sum up to that where it does; and what
 -- they prove is so
 pub record IsAskedWildcardAcceptedOn (origin : Name) (m : Sets) (hash : Name → Option (List ℕ)) (names : List Name) (x : Name) (rs : List Nsec3Record) : Type 0 where
-  pub star : (e : Name) → asked_wildcard m x ≡ Some (wildcard_under e) → IsTrue (proves_wildcard_answer origin hash rs x e)
+  pub wildcard_name : (e : Name) → asked_wildcard m x ≡ Some (wildcard_under e) → IsTrue (proves_wildcard_answer origin hash rs x e)
   pub sound : IsNsec3SoundOn origin m hash names x rs
   pub sum : AreAnswersSummedUp origin m hash x rs
 

@@ -53,7 +53,7 @@ EmptySound = (origin : Name) (m : Sets) (rs : List NsecRecord) (x : Name) → Is
 pub record IsWithoutDataByWildcard (origin : Name) (m : Sets) (x : Name) (t : ℕ) : Type 0 where
   pub none : IsWithoutData origin m x t
   pub absent : IsFalse (owns_at_or_below m x)
-  pub star : IsTrue (asked_wildcard_exists m x)
+  pub wildcard_name : IsTrue (asked_wildcard_exists m x)
 
 -- of a name that doesn't begin with `*`, since a lookup asks no wildcard for one that is
 abbrev pub WildcardNoDataSound : Type 0

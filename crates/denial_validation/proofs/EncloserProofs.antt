@@ -16,13 +16,13 @@ alone true = refl
 alone false = refl
 
 -- the wildcard at a next closer name's base is that name with `*` for its first label
-pub base_of_star : (c : Name) → base_name (wildcard_of c) ≡ base_name c
-base_of_star [] = refl
-base_of_star (l ∷ ls) = refl
+pub base_of_wildcard : (c : Name) → base_name (wildcard_of c) ≡ base_name c
+base_of_wildcard [] = refl
+base_of_wildcard (l ∷ ls) = refl
 
-pub star_of_closer : (x e c : Name) → next_closer x e ≡ Some c → wildcard_of c ≡ wildcard_under (base_name (wildcard_of c))
-star_of_closer x e [] h = absurd (true≢false (sym (find_passes (λ (s : Name). length s == suc (length e)) (suffixes x) [] h) ∙ ne_eqb 0 (suc (length e)) (λ k. omega (arith, k))))
-star_of_closer x e (l ∷ ls) h = refl
+pub wildcard_of_closer : (x e c : Name) → next_closer x e ≡ Some c → wildcard_of c ≡ wildcard_under (base_name (wildcard_of c))
+wildcard_of_closer x e [] h = absurd (true≢false (sym (find_passes (λ (s : Name). length s == suc (length e)) (suffixes x) [] h) ∙ ne_eqb 0 (suc (length e)) (λ k. omega (arith, k))))
+wildcard_of_closer x e (l ∷ ls) h = refl
 
 -- what is asked of the hashed owner of a name is asked of the name
 module _ (apex : Name) (hash : Name → Option (List ℕ)) (rs : List Nsec3Record) (n : Name) (o : Option Name) (is : o ≡ owner_of apex hash n) where
@@ -145,7 +145,7 @@ module _ (apex : Name) (hash : Name → Option (List ℕ)) (rs : List Nsec3Recor
         opted_out_is true (list_any (λ r. covers apex hash r c && r.opt_out) rs) zone refl ∙ list_any-both_none (λ r. covers apex hash r c) (λ r. r.opt_out) rs (sym cover ∙ h)
 
   -- what is asked of the wildcard, where the proof stands
-  pub star_rest : (star : Name) → Some (base_name star) ≡ proved_encloser apex hash rs x → star ≡ wildcard_under (base_name star) → (test : Name → Bool)
-      → encloser_and apex hash rs (λ r. true) x (λ e. test (wildcard_under e)) ≡ test star
-  star_rest star proved is test =
+  pub wildcard_rest : (wildcard_name : Name) → Some (base_name wildcard_name) ≡ proved_encloser apex hash rs x → wildcard_name ≡ wildcard_under (base_name wildcard_name) → (test : Name → Bool)
+      → encloser_and apex hash rs (λ r. true) x (λ e. test (wildcard_under e)) ≡ test wildcard_name
+  wildcard_rest wildcard_name proved is test =
       with_rest (λ e. test (wildcard_under e)) ∙ ap (λ o. option_map_or (λ e. test (wildcard_under e)) o false) (sym proved) ∙ ap test (sym is)

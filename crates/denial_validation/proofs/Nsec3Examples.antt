@@ -165,26 +165,26 @@ apex_ds = refl
 next_closer_left_out : proves_name_error apex hash (at_xw ∷ at_a ∷ []) acxw ≡ false
 next_closer_left_out = refl
 
-star_left_out : proves_name_error apex hash (at_apex ∷ at_xw ∷ []) acxw ≡ false
-star_left_out = refl
+wildcard_left_out : proves_name_error apex hash (at_apex ∷ at_xw ∷ []) acxw ≡ false
+wildcard_left_out = refl
 
 -- without the record of x.w the closest encloser seems to be the apex, and nothing covers w
 encloser_left_out : proves_name_error apex hash (at_apex ∷ at_a ∷ []) acxw ≡ false
 encloser_left_out = refl
 
-star_alone : proves_empty_answer apex hash (at_wildcard ∷ []) azw AAAA ≡ false
-star_alone = refl
+wildcard_alone : proves_empty_answer apex hash (at_wildcard ∷ []) azw AAAA ≡ false
+wildcard_alone = refl
 
 nothing : proves_name_error apex hash [] acxw ≡ false
 nothing = refl
 
 -- ---- the wildcard at the parent of the name in place of the one under its closest encloser
 
-parents_star_is_covered : is_covered apex hash (at_apex ∷ at_xw ∷ []) (wildcard_under cxw) ≡ true
-parents_star_is_covered = refl
+parents_wildcard_is_covered : is_covered apex hash (at_apex ∷ at_xw ∷ []) (wildcard_under cxw) ≡ true
+parents_wildcard_is_covered = refl
 
-parents_star : proves_name_error apex hash (at_apex ∷ at_xw ∷ []) acxw ≡ false
-parents_star = refl
+parents_wildcard : proves_name_error apex hash (at_apex ∷ at_xw ∷ []) acxw ≡ false
+parents_wildcard = refl
 
 other_encloser : proves_wildcard_answer apex hash (at_ns2 ∷ []) azw apex ≡ false
 other_encloser = refl
@@ -218,14 +218,14 @@ below_apex = refl
 listed : proves_empty_answer apex hash (at_ns1 ∷ []) ns1 A ≡ false
 listed = refl
 
-listed_star : proves_wildcard_no_data apex hash (at_w ∷ at_ns2 ∷ at_wildcard ∷ []) azw MX ≡ false
-listed_star = refl
+listed_wildcard : proves_wildcard_no_data apex hash (at_w ∷ at_ns2 ∷ at_wildcard ∷ []) azw MX ≡ false
+listed_wildcard = refl
 
 alias : proves_empty_answer apex hash (record at_ns1 { types = CNAME ∷ RRSIG ∷ [] } ∷ []) ns1 MX ≡ false
 alias = refl
 
-alias_star : proves_wildcard_no_data apex hash (at_w ∷ at_ns2 ∷ record at_wildcard { types = CNAME ∷ RRSIG ∷ [] } ∷ []) azw AAAA ≡ false
-alias_star = refl
+alias_wildcard : proves_wildcard_no_data apex hash (at_w ∷ at_ns2 ∷ record at_wildcard { types = CNAME ∷ RRSIG ∷ [] } ∷ []) azw AAAA ≡ false
+alias_wildcard = refl
 
 any_type : proves_empty_answer apex hash (at_ns1 ∷ []) ns1 ANY ≡ false
 any_type = refl

@@ -13,7 +13,7 @@ use Rattle.denial_validation.specs.Nsec3Parameters.{common_parameters, digest_by
 use Rattle.denial_validation.specs.Nsec3Proofs.{denies_type, matches, is_of_unsigned, is_matched, is_denied, is_covered, is_handed_on, shown_encloser, proved_encloser, wildcard_answer, proves_name_error, proves_no_data, proves_wildcard_no_data, proves_opted_out, shows_unsigned_delegation}
 use Rattle.denial_validation.specs.Nsec3Records.{Nsec3Record}
 use Rattle.denial_validation.specs.Nsec3Responses.{Nsec3Response, hash_of, nsec3_response}
-use Rattle.denial_validation.proofs.EncloserProofs.{star_rest, unmatched_by, matched_none, with_rest, hidden_none}
+use Rattle.denial_validation.proofs.EncloserProofs.{wildcard_rest, unmatched_by, matched_none, with_rest, hidden_none}
 use Rattle.denial_validation.proofs.ListTests.{list_any-both_none}
 
 -- what is judged by the records of a response is judged by those that were read
@@ -71,14 +71,14 @@ module _ (apex : Name) (hash : Name → Option (List ℕ)) (rs : List Nsec3Recor
 
   -- where the closest encloser is proved it is what the wildcard shows, or what opt-out leaves out, or a wildcard's
   -- answer
-  pub with_star : (star : Name) → Some (base_name star) ≡ proved_encloser apex hash rs x → star ≡ wildcard_under (base_name star)
-      → (covered denied opted_out : Bool) → covered ≡ is_covered apex hash rs star → denied ≡ is_denied apex hash rs star t → opted_out ≡ proves_opted_out apex hash rs x
+  pub with_wildcard : (wildcard_name : Name) → Some (base_name wildcard_name) ≡ proved_encloser apex hash rs x → wildcard_name ≡ wildcard_under (base_name wildcard_name)
+      → (covered denied opted_out : Bool) → covered ≡ is_covered apex hash rs wildcard_name → denied ≡ is_denied apex hash rs wildcard_name t → opted_out ≡ proves_opted_out apex hash rs x
       → nsec3_proof apex hash rs x t
       ≡ first_of false (t == DS) covered false false denied opted_out (wildcard_answer apex hash rs x)
-  with_star star proved is covered denied opted_out cover deny out =
-      let unmatched = unmatched_by apex hash rs x (base_name star) (sym proved) in
-      let error = star_rest apex hash rs x star proved is (is_covered apex hash rs) ∙ sym cover in
-      let wildcard = star_rest apex hash rs x star proved is (λ n. is_denied apex hash rs n t) ∙ sym deny in
+  with_wildcard wildcard_name proved is covered denied opted_out cover deny out =
+      let unmatched = unmatched_by apex hash rs x (base_name wildcard_name) (sym proved) in
+      let error = wildcard_rest apex hash rs x wildcard_name proved is (is_covered apex hash rs) ∙ sym cover in
+      let wildcard = wildcard_rest apex hash rs x wildcard_name proved is (λ n. is_denied apex hash rs n t) ∙ sym deny in
       λ i. first_of (here i) (t == DS) (error i) (cut_none unmatched i) (own_none unmatched i) (wildcard i) (sym out i) (wildcard_answer apex hash rs x)
 
   -- where no record matches x and no closest encloser is proved, it is a wildcard's answer

@@ -144,8 +144,8 @@ alone = refl
 
 -- of one with a wildcard that owns nothing and is above x.*, one record denies the name, the other shows that the
 -- wildcard is empty
-empty_star : nsec_proof apex (says (codes "x" ∷ wildcard_under apex) apex (A ∷ RRSIG ∷ NSEC ∷ []) ∷ says apex (codes "x" ∷ wildcard_under apex) (SOA ∷ RRSIG ∷ NSEC ∷ []) ∷ []) ml A ≡ Some (WildcardNoData false)
-empty_star = refl
+empty_wildcard : nsec_proof apex (says (codes "x" ∷ wildcard_under apex) apex (A ∷ RRSIG ∷ NSEC ∷ []) ∷ says apex (codes "x" ∷ wildcard_under apex) (SOA ∷ RRSIG ∷ NSEC ∷ []) ∷ []) ml A ≡ Some (WildcardNoData false)
+empty_wildcard = refl
 
 -- the root's own record denies DS of the root, which has no parent
 root_ds : nsec_proof [] (says [] (codes "com" ∷ []) (NS ∷ SOA ∷ RRSIG ∷ NSEC ∷ DNSKEY ∷ []) ∷ []) [] DS ≡ Some NoData

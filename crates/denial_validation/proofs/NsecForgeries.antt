@@ -44,16 +44,16 @@ below_dname = refl
 alias : nsec_proof apex (says ns1 (under (codes "ns2")) (CNAME ∷ RRSIG ∷ NSEC ∷ []) ∷ []) ns1 MX ≡ None
 alias = refl
 
-alias_star : proves_wildcard_no_data apex (at_xyw ∷ says (wildcard_under w) (codes "x" ∷ w) (CNAME ∷ RRSIG ∷ NSEC ∷ []) ∷ []) azw AAAA ≡ false
-alias_star = refl
+alias_wildcard : proves_wildcard_no_data apex (at_xyw ∷ says (wildcard_under w) (codes "x" ∷ w) (CNAME ∷ RRSIG ∷ NSEC ∷ []) ∷ []) azw AAAA ≡ false
+alias_wildcard = refl
 
 -- ---- a type that is there, one that each signed name has (RFC 4035 section 5.4), and any type
 
 listed : nsec_proof apex (at_ns1 ∷ []) ns1 A ≡ None
 listed = refl
 
-listed_star : nsec_proof apex (at_xyw ∷ at_wildcard ∷ []) azw MX ≡ Some (WildcardAnswer 2 false)
-listed_star = refl
+listed_wildcard : nsec_proof apex (at_xyw ∷ at_wildcard ∷ []) azw MX ≡ Some (WildcardAnswer 2 false)
+listed_wildcard = refl
 
 unlisted_signature : nsec_proof apex (says ns1 (under (codes "ns2")) (A ∷ []) ∷ []) ns1 RRSIG ≡ None
 unlisted_signature = refl
@@ -68,17 +68,17 @@ other_owner = refl
 -- ---- the wildcard at the parent of the name, or under the apex, in place of the one under its closest encloser w,
 -- which is there
 
-parents_star_is_denied : denies_name apex at_xyw (wildcard_under (codes "z" ∷ w)) ≡ true
-parents_star_is_denied = refl
+parents_wildcard_is_denied : denies_name apex at_xyw (wildcard_under (codes "z" ∷ w)) ≡ true
+parents_wildcard_is_denied = refl
 
-parents_star : proves_name_error apex (at_xyw ∷ []) azw ≡ false
-parents_star = refl
+parents_wildcard : proves_name_error apex (at_xyw ∷ []) azw ≡ false
+parents_wildcard = refl
 
-apex_star_is_denied : denies_name apex at_apex (wildcard_under apex) ≡ true
-apex_star_is_denied = refl
+apex_wildcard_is_denied : denies_name apex at_apex (wildcard_under apex) ≡ true
+apex_wildcard_is_denied = refl
 
-apex_star : proves_name_error apex (at_xyw ∷ at_apex ∷ []) azw ≡ false
-apex_star = refl
+apex_wildcard : proves_name_error apex (at_xyw ∷ at_apex ∷ []) azw ≡ false
+apex_wildcard = refl
 
 -- an answer that is said to be made from the wildcard at the apex
 other_encloser : proves_wildcard_answer apex (at_xyw ∷ at_apex ∷ []) azw apex ≡ false
@@ -119,8 +119,8 @@ other_first = refl
 -- ---- one record alone
 
 -- that of the wildcard
-star_alone : nsec_proof apex (at_apex ∷ []) ml A ≡ None
-star_alone = refl
+wildcard_alone : nsec_proof apex (at_apex ∷ []) ml A ≡ None
+wildcard_alone = refl
 
 -- that of the name: a wildcard may answer
 name_alone : nsec_proof apex (at_b ∷ []) ml A ≡ Some (WildcardAnswer 1 false)

@@ -163,8 +163,8 @@ fn wildcard_is_denied(
 {
     match nsec.shown_encloser(name) {
         Some(encloser) => {
-            let star = AskedName::wildcard_under(encloser);
-            NsecRecords::among(records).any(|other| other.denies_name(apex, &star))
+            let wildcard_name = AskedName::wildcard_under(encloser);
+            NsecRecords::among(records).any(|other| other.denies_name(apex, &wildcard_name))
         }
         None => false,
     }
@@ -198,9 +198,10 @@ fn wildcard_is_bare(
 {
     match nsec.shown_encloser(name) {
         Some(encloser) => {
-            let star = AskedName::wildcard_under(encloser);
+            let wildcard_name = AskedName::wildcard_under(encloser);
             NsecRecords::among(records).any(|other| {
-                other.denies_type(apex, &star, record_type) || other.shows_empty(apex, &star)
+                other.denies_type(apex, &wildcard_name, record_type)
+                    || other.shows_empty(apex, &wildcard_name)
             })
         }
         None => false,

@@ -23,8 +23,9 @@ pub fn plain_data_of(
     data_of(alloc, record_type, &[], 0, octets)
 }
 
-/// The data of a type, whose octets are at an offset of a message.
-pub(crate) fn data_of(
+/// The data of a type, whose octets are at an offset of a message, with names that may point back into it (RFC 1035 section
+/// 4.1.4); none if the octets are not of the form of the type. `Memory` where none is found.
+pub fn data_of(
     alloc: Global,
     record_type: RecordType,
     message: &[u8],

@@ -28,7 +28,7 @@ mod start_of_authority;
 mod type_map;
 mod unread;
 
-pub use data::plain_data_of;
+pub use data::{data_of, plain_data_of};
 pub use error::{MessageError, ReadError};
 pub use header::Header;
 pub use header_reader::read_header;

@@ -15,7 +15,8 @@ pub struct Group<'r> {
     pub ttl: u32,
 }
 
-/// A response to a query. Identifier, RD, CD, question and DO are the query's. Its groups are lent, and they lend the records.
+/// A response to a query. Identifier, RD, question and DO are the query's; CD is clear. Its groups are lent, and they lend the
+/// records.
 #[derive(Clone, Copy, Debug)]
 pub struct Response<'g, 'r> {
     /// The query that is answered.

@@ -177,7 +177,7 @@ module _ (q : Inquiry) (zone : IsZone q.sets) where
   pub additionals_once : (answers : List RRset) (e : End) → Once [] (glue_at m e ++ additional_sets q answers e)
   additionals_once answers complete = last_once (last_set answers)
   additionals_once answers (referred c) = referral_once c
-  additionals_once answers (missing x star there) = tt
+  additionals_once answers (missing x wildcard_name there) = tt
   additionals_once answers (outside x) = tt
   additionals_once answers unfollowed = tt
   additionals_once answers too_long = tt

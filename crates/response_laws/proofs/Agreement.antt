@@ -31,7 +31,7 @@ use Rattle.zone_response.specs.Wildcards.{is_there}
 use Rattle.zone_response.specs.Aname.{target_sets, addresses}
 use Rattle.zone_response.proofs.StandInFacts.{targets_listed, without_targets}
 use Rattle.response_laws.specs.Agreement.{IsOrdinaryZone, NoStandIn, StandInsLead, IsOrdinaryQuery, IsProvable, unfound_name, searched_names, sets_of, answer_sets_of, code_of, IsNoDenialOwner, Agrees, ResponsesAgree}
-use Rattle.response_laws.proofs.AgreementNames.{star_asked}
+use Rattle.response_laws.proofs.AgreementNames.{wildcard_asked}
 use Rattle.response_laws.proofs.AgreementPaths.{IsAlike, PathAnswers, answers_alone, answers_stood_in, answers_along, answers_none, PathEnds, itself, unfound_by, unfound_searched, path_answers_as_found, path_stood_in}
 use Rattle.response_laws.proofs.AgreementSteps.{no_address}
 use Rattle.response_laws.proofs.StandIns.{AreOfLast, addresses_of_last}
@@ -40,8 +40,8 @@ use Rattle.response_laws.proofs.StandIns.{AreOfLast, addresses_of_last}
 
 module _ (m : Sets) (x : Name) (not_wildcard : exists m x ≡ false → is_wildcard x ≡ false) where
   -- a lookup says the same where neither the name nor one below it owns sets of denial alone
-  star_there : exists m x ≡ false → asked_wildcard_exists m x ≡ is_there m x
-  star_there e = ap (λ o. option_map_or (exists m) o false) (star_asked m x e (not_wildcard e)) ∙ sym (ap (λ b. b || option_map_or (exists m) (option_map wildcard_under (closest_encloser m x)) false) e)
+  wildcard_there : exists m x ≡ false → asked_wildcard_exists m x ≡ is_there m x
+  wildcard_there e = ap (λ o. option_map_or (exists m) o false) (wildcard_asked m x e (not_wildcard e)) ∙ sym (ap (λ b. b || option_map_or (exists m) (option_map wildcard_under (closest_encloser m x)) false) e)
 
   there_alike : IsNoDenialOwner m x → is_present m x ≡ is_there m x
   there_alike owner = by (exists m x) refl
@@ -54,7 +54,7 @@ module _ (m : Sets) (x : Name) (not_wildcard : exists m x ≡ false → is_wildc
       by true e =
           ap (λ b. b || asked_wildcard_exists m x) (owned_where_existing x m e)
           ∙ sym (ap (λ b. b || option_map_or (exists m) (option_map wildcard_under (closest_encloser m x)) false) e)
-      by false e = ap (λ b. b || asked_wildcard_exists m x) (unowned e (owns_at_or_below m x) refl) ∙ star_there e
+      by false e = ap (λ b. b || asked_wildcard_exists m x) (unowned e (owns_at_or_below m x) refl) ∙ wildcard_there e
 
   -- where a lookup says that there is no such name, there is none
   gone : is_present m x ≡ false → is_there m x ≡ false
@@ -62,7 +62,7 @@ module _ (m : Sets) (x : Name) (not_wildcard : exists m x ≡ false → is_wildc
     where
       by : (b : Bool) → owns_at_or_below m x ≡ b → b || asked_wildcard_exists m x ≡ false → is_there m x ≡ false
       by true f g = absurd (true≢false g)
-      by false f g = sym (star_there (absent_where_unowned x m f)) ∙ g
+      by false f g = sym (wildcard_there (absent_where_unowned x m f)) ∙ g
 
 -- ---- the response
 

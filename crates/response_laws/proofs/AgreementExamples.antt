@@ -50,8 +50,8 @@ b = at_origin (codes "b")
 abbrev below_b : Name
 below_b = codes "x" ∷ b
 
-abbrev star : Name
-star = wildcard_under origin
+abbrev wildcard_name : Name
+wildcard_name = wildcard_under origin
 
 abbrev other : Name
 other = codes "b" ∷ codes "other" ∷ []
@@ -85,24 +85,24 @@ inner_refers = record { code = refl; authoritative = refl; answers = refl; autho
 
 -- ---- a name that begins with `*` (RFC 4592 section 2.3)
 
-abbrev other_star : Name
-other_star = wildcard_under (at_origin (codes "q"))
+abbrev other_wildcard : Name
+other_wildcard = wildcard_under (at_origin (codes "q"))
 
-starred_unfound : looked_up (address star ∷ []) other_star A ≡ None
+starred_unfound : looked_up (address wildcard_name ∷ []) other_wildcard A ≡ None
 starred_unfound = refl
 
-starred_answered : IsResponse (zone (address star ∷ [])) (asked other_star A) (answer (renamed false star other_star (address star).1 ∷ []))
+starred_answered : IsResponse (zone (address wildcard_name ∷ [])) (asked other_wildcard A) (answer (renamed false wildcard_name other_wildcard (address wildcard_name).1 ∷ []))
 unfolding path
 starred_answered = record { code = refl; authoritative = refl; answers = refl; authorities = refl; additionals = refl; glue = refl; left_at = refl }
 
 -- ---- a wildcard that is a delegation (RFC 4592 section 4.2)
 
-star_cut_found : looked_up (servers star ∷ []) b A ≡ Some (renamed false star b (servers star).1)
-star_cut_found = refl
+wildcard_cut_found : looked_up (servers wildcard_name ∷ []) b A ≡ Some (renamed false wildcard_name b (servers wildcard_name).1)
+wildcard_cut_found = refl
 
-star_cut_denied : IsResponse (zone (servers star ∷ [])) (asked b A) (negative code.NoError)
+wildcard_cut_denied : IsResponse (zone (servers wildcard_name ∷ [])) (asked b A) (negative code.NoError)
 unfolding path
-star_cut_denied = record { code = refl; authoritative = refl; answers = refl; authorities = refl; additionals = refl; glue = refl; left_at = refl }
+wildcard_cut_denied = record { code = refl; authoritative = refl; answers = refl; authorities = refl; additionals = refl; glue = refl; left_at = refl }
 
 -- ---- a set outside the zone
 
@@ -116,20 +116,20 @@ outside_left = record { code = refl; authoritative = refl; answers = refl; autho
 -- ---- an origin that begins with `*`: a lookup asks it for a name that isn't below it
 
 abbrev apex : RrKey × RRset
-apex = entry star SOA (V.SOA (record { mname = origin; rname = origin; serial = 7; refresh = pos 7200; retry = pos 600; expire = pos 86400; minimum = 300 }))
+apex = entry wildcard_name SOA (V.SOA (record { mname = origin; rname = origin; serial = 7; refresh = pos 7200; retry = pos 600; expire = pos 86400; minimum = 300 }))
 
 abbrev below_apex : Name
-below_apex = codes "a" ∷ star
+below_apex = codes "a" ∷ wildcard_name
 
-abbrev star_zone : Sets
-star_zone = apex ∷ address star ∷ alias below_apex b ∷ []
+abbrev wildcard_zone : Sets
+wildcard_zone = apex ∷ address wildcard_name ∷ alias below_apex b ∷ []
 
-star_origin_found : found star_zone false b A ≡ Some (renamed false star b (address star).1)
-star_origin_found = refl
+wildcard_origin_found : found wildcard_zone false b A ≡ Some (renamed false wildcard_name b (address wildcard_name).1)
+wildcard_origin_found = refl
 
-star_origin_left : IsResponse (zone_at star star_zone) (asked below_apex A) (record (answer ((alias below_apex b).1 ∷ [])) { left_at = Some b })
+wildcard_origin_left : IsResponse (zone_at wildcard_name wildcard_zone) (asked below_apex A) (record (answer ((alias below_apex b).1 ∷ [])) { left_at = Some b })
 unfolding path
-star_origin_left = record { code = refl; authoritative = refl; answers = refl; authorities = refl; additionals = refl; glue = refl; left_at = refl }
+wildcard_origin_left = record { code = refl; authoritative = refl; answers = refl; authorities = refl; additionals = refl; glue = refl; left_at = refl }
 
 -- ---- a CNAME beside another type (RFC 1034 section 3.6.2)
 

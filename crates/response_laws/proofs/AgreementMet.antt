@@ -41,8 +41,8 @@ c = at_origin (codes "c")
 abbrev gone : Name
 gone = at_origin (codes "gone")
 
-abbrev star : Name
-star = wildcard_under (at_origin (codes "w"))
+abbrev wildcard_name : Name
+wildcard_name = wildcard_under (at_origin (codes "w"))
 
 abbrev made : Name
 made = codes "x" ∷ at_origin (codes "w")
@@ -51,7 +51,7 @@ abbrev alias : Name → Name → RrKey × RRset
 alias n target = entry n CNAME (V.CNAME target)
 
 abbrev sets : Sets
-sets = start ∷ alias a made ∷ alias c gone ∷ address star ∷ []
+sets = start ∷ alias a made ∷ alias c gone ∷ address wildcard_name ∷ []
 
 abbrev zone : Zone
 zone = record { origin = origin; sets = sets; denials = sets; nx_proof_kind = None; digest_of = λ algorithm salt n iterations. None; sign = λ signed s. [] }
@@ -65,21 +65,21 @@ a_stored = record { named = name_by_tests a refl refl; owner = refl; record_type
 c_stored : IsStoredAt c CNAME (alias c gone).1
 c_stored = record { named = name_by_tests c refl refl; owner = refl; record_type = refl; filled = λ e. cc; set = IsSet-alone c CNAME _ refl refl }
 
-star_stored : IsStoredAt star A (address star).1
-star_stored = record { named = name_by_tests star refl refl; owner = refl; record_type = refl; filled = λ e. cc; set = IsSet-alone star A _ refl refl }
+wildcard_stored : IsStoredAt wildcard_name A (address wildcard_name).1
+wildcard_stored = record { named = name_by_tests wildcard_name refl refl; owner = refl; record_type = refl; filled = λ e. cc; set = IsSet-alone wildcard_name A _ refl refl }
 
 is_zone : IsZone sets
 is_zone =
-    IsZone-put (start ∷ alias a made ∷ alias c gone ∷ []) (key star A) (address star).1
+    IsZone-put (start ∷ alias a made ∷ alias c gone ∷ []) (key wildcard_name A) (address wildcard_name).1
     (IsZone-put (start ∷ alias a made ∷ []) (key c CNAME) (alias c gone).1
-    (IsZone-put (start ∷ []) (key a CNAME) (alias a made).1 (IsZone-put [] (key origin SOA) start.1 IsZone-none soa_stored) a_stored) c_stored) star_stored
+    (IsZone-put (start ∷ []) (key a CNAME) (alias a made).1 (IsZone-put [] (key origin SOA) start.1 IsZone-none soa_stored) a_stored) c_stored) wildcard_stored
 
 -- what it owns
 data Entry (n : Name) (t : ℕ) : Type 0 where
   the_soa : origin ≡ n → SOA ≡ t → Entry n t
   the_first : a ≡ n → CNAME ≡ t → Entry n t
   the_second : c ≡ n → CNAME ≡ t → Entry n t
-  the_star : star ≡ n → A ≡ t → Entry n t
+  the_wildcard : wildcard_name ≡ n → A ≡ t → Entry n t
 
 entries : (n : Name) (t : ℕ) → owns sets n t ≡ true → Entry n t
 entries n t h = let e = has_entry sets n t h in by e.0 e.1
@@ -88,7 +88,7 @@ entries n t h = let e = has_entry sets n t h in by e.0 e.1
     by s (inl e) = the_soa (ap (λ (e : RrKey × RRset). e.0.name) e) (ap (λ (e : RrKey × RRset). e.0.record_type.0) e)
     by s (inr (inl e)) = the_first (ap (λ (e : RrKey × RRset). e.0.name) e) (ap (λ (e : RrKey × RRset). e.0.record_type.0) e)
     by s (inr (inr (inl e))) = the_second (ap (λ (e : RrKey × RRset). e.0.name) e) (ap (λ (e : RrKey × RRset). e.0.record_type.0) e)
-    by s (inr (inr (inr (inl e)))) = the_star (ap (λ (e : RrKey × RRset). e.0.name) e) (ap (λ (e : RrKey × RRset). e.0.record_type.0) e)
+    by s (inr (inr (inr (inl e)))) = the_wildcard (ap (λ (e : RrKey × RRset). e.0.name) e) (ap (λ (e : RrKey × RRset). e.0.record_type.0) e)
     by s (inr (inr (inr (inr e)))) = absurd e
 
 pub other_type : (t u : ℕ) → (t == u) ≡ false → (u == u) ≡ true → t ≡ u → ⊥
@@ -101,17 +101,17 @@ inside : (n : Name) (t : ℕ) → Entry n t → is_at_or_above origin n ≡ true
 inside n t (the_soa e k) = ap (is_at_or_above origin) (sym e)
 inside n t (the_first e k) = ap (is_at_or_above origin) (sym e)
 inside n t (the_second e k) = ap (is_at_or_above origin) (sym e)
-inside n t (the_star e k) = ap (is_at_or_above origin) (sym e)
+inside n t (the_wildcard e k) = ap (is_at_or_above origin) (sym e)
 
 alone : (n : Name) (t : ℕ) → Entry n CNAME → Entry n t → (t ≡ CNAME) ⊎ (is_denial_type t ≡ true)
 alone n t (the_soa e k) w = absurd (other_type SOA CNAME refl refl k)
-alone n t (the_star e k) w = absurd (other_type A CNAME refl refl k)
+alone n t (the_wildcard e k) w = absurd (other_type A CNAME refl refl k)
 alone n t (the_first e k) (the_soa f l) = absurd (other_name a origin refl (e ∙ sym f))
-alone n t (the_first e k) (the_star f l) = absurd (other_name a star refl (e ∙ sym f))
+alone n t (the_first e k) (the_wildcard f l) = absurd (other_name a wildcard_name refl (e ∙ sym f))
 alone n t (the_first e k) (the_first f l) = inl (sym l)
 alone n t (the_first e k) (the_second f l) = inl (sym l)
 alone n t (the_second e k) (the_soa f l) = absurd (other_name c origin refl (e ∙ sym f))
-alone n t (the_second e k) (the_star f l) = absurd (other_name c star refl (e ∙ sym f))
+alone n t (the_second e k) (the_wildcard f l) = absurd (other_name c wildcard_name refl (e ∙ sym f))
 alone n t (the_second e k) (the_first f l) = inl (sym l)
 alone n t (the_second e k) (the_second f l) = inl (sym l)
 
@@ -142,14 +142,14 @@ ordinary_c : IsOrdinary (inquired c) c
 ordinary_c = record { unturned = refl; not_wildcard = λ k. refl; uncut_wildcard = λ w e. absurd cc; nsec = λ e. absurd (other_type A 47 refl refl e) }
 
 ordinary_made : IsOrdinary (inquired a) made
-ordinary_made = record { unturned = refl; not_wildcard = λ k. refl; uncut_wildcard = λ w e. let same : star ≡ w = cc in ap (λ n. owns sets n NS) (sym same); nsec = λ e. absurd (other_type A 47 refl refl e) }
+ordinary_made = record { unturned = refl; not_wildcard = λ k. refl; uncut_wildcard = λ w e. let same : wildcard_name ≡ w = cc in ap (λ n. owns sets n NS) (sym same); nsec = λ e. absurd (other_type A 47 refl refl e) }
 
 ordinary_gone : (n : Name) → IsOrdinary (inquired n) gone
 ordinary_gone n = record { unturned = refl; not_wildcard = λ k. refl; uncut_wildcard = λ w e. let same : wildcard_under origin ≡ w = cc in ap (λ n. owns sets n NS) (sym same); nsec = λ e. absurd (other_type A 47 refl refl e) }
 
 -- behind a stands the set of the wildcard at the name
 abbrev made_set : RRset
-made_set = renamed false star made (address star).1
+made_set = renamed false wildcard_name made (address wildcard_name).1
 
 no_stand_in : (found s : RRset) → Some found ≡ Some s → stands_for_addresses A found ≡ false → stands_for_addresses A s ≡ false
 no_stand_in found s e h = let same : found ≡ s = cc in ap (stands_for_addresses A) (sym same) ∙ h

@@ -127,9 +127,9 @@ or_none None = refl
 or_none (Some s) = refl
 
 -- the wildcard at the closest encloser of a name that doesn't exist and doesn't begin with `*`
-pub star_asked : (m : Sets) (n : Name) → exists m n ≡ false → is_wildcard n ≡ false → asked_wildcard m n ≡ option_map wildcard_under (closest_encloser m n)
-star_asked m [] e f = refl
-star_asked m (l ∷ n) e f = λ i. cond (f i || e i) None (option_map wildcard_under (closest_encloser m (l ∷ n)))
+pub wildcard_asked : (m : Sets) (n : Name) → exists m n ≡ false → is_wildcard n ≡ false → asked_wildcard m n ≡ option_map wildcard_under (closest_encloser m n)
+wildcard_asked m [] e f = refl
+wildcard_asked m (l ∷ n) e f = λ i. cond (f i || e i) None (option_map wildcard_under (closest_encloser m (l ∷ n)))
 
 module _ (m : Sets) (signed : Bool) (n : Name) (t : ℕ) (unreferred : referral m n t ≡ None) where
   pub direct_is : direct m n t ≡ exact m n t
@@ -142,11 +142,11 @@ module _ (m : Sets) (signed : Bool) (n : Name) (t : ℕ) (unreferred : referral 
       ∙ or_none (direct m n t) ∙ direct_is
 
   -- at a name that doesn't, by its wildcard
-  pub found_by_star : owns m n t ≡ false → exists m n ≡ false → is_wildcard n ≡ false
+  pub found_by_wildcard : owns m n t ≡ false → exists m n ≡ false → is_wildcard n ≡ false
       → found m signed n t ≡ option_and_then (λ s. option_map (renamed signed s n) (direct m s t)) (option_map wildcard_under (closest_encloser m n))
-  found_by_star unowned absent not_wildcard =
+  found_by_wildcard unowned absent not_wildcard =
       ap (λ o. option_or o (wildcard m signed n t)) (direct_is ∙ exact_absent m n t unowned absent)
-      ∙ ap (option_and_then (λ s. option_map (renamed signed s n) (direct m s t))) (star_asked m n absent not_wildcard)
+      ∙ ap (option_and_then (λ s. option_map (renamed signed s n) (direct m s t))) (wildcard_asked m n absent not_wildcard)
 
 -- ---- outside a zone nothing is found
 

@@ -197,9 +197,9 @@ module _ (q : Inquiry) (zone : IsOrdinaryZone q.origin q.sets) (plain : IsOrdina
           (rest_more m q.signed t (suc k) k seen (Some x) x s refl refl e f ∙ ap (λ es. (x, s) ∷ es) (rest_none m q.signed t k (seen ++ x ∷ []) (cname_target s) (no_target other)))
           (by_its (record { answers = as_it_is (part_for q.signed) s ∷ []; made = made; next = ends complete }) e n) (at_last k seen x s made (no_target other))
       at_x goes e i flat (leads_by s made f followed alias n) = leading goes s made followed e f (cname_target s) refl n
-      at_x goes e i flat (stands_in s star f k n) = absurd (true≢false (sym k ∙ flat s f))
-      at_x goes e i flat (lacks star f n) =
-          bare (missing x star (is_there m x)) e f n
+      at_x goes e i flat (stands_in s wildcard_name f k n) = absurd (true≢false (sym k ∙ flat s f))
+      at_x goes e i flat (lacks wildcard_name f n) =
+          bare (missing x wildcard_name (is_there m x)) e f n
           (record {
             answers = refl;
             passes = refl;
@@ -381,9 +381,9 @@ module _ (q : Inquiry) (zone : IsOrdinaryZone q.origin q.sets) (plain : IsOrdina
                 others = λ out. c.others (λ y u. out y (unfound_behind s true e f ∙ led_to_unfound s y u));
               },
             )
-        by (stands_in s star e k n) = absurd (true≢false (sym k ∙ (alike x itself inside).1 s e))
-        by (lacks star e n) =
-            let p : path q x ≡ ended (missing x star (is_there q.sets x)) = is (at_end (missing x star (is_there q.sets x))) n in (
+        by (stands_in s wildcard_name e k n) = absurd (true≢false (sym k ∙ (alike x itself inside).1 s e))
+        by (lacks wildcard_name e n) =
+            let p : path q x ≡ ended (missing x wildcard_name (is_there q.sets x)) = is (at_end (missing x wildcard_name (is_there q.sets x))) n in (
               answers_none e (ap (λ (p : Path). p.answers) p),
               record {
                 passes = ap (λ (p : Path). fails p.end) p;
@@ -416,11 +416,11 @@ module _ (q : Inquiry) (zone : IsOrdinaryZone q.origin q.sets) (plain : IsOrdina
         by : StepAsFound q [] x → PathAnswers q x × PathEnds q x
         by (answers_by r made f g own no_target n) = absurd (true≢false (sym k ∙ ap (stands_for_addresses q.record_type) (sym (same r f)) ∙ own))
         by (leads_by r made f g other n) = absurd (true≢false (sym g ∙ ap (is_followed q.record_type) (same r f) ∙ unfollowed_so))
-        by (lacks star f n) = let p : None ≡ Some s = sym f ∙ e in absurd cc
-        by (stands_in r star f g n) =
-            let to : Step = record { answers = as_it_is (part_for q.signed) v ∷ []; made = expanded_names star x; next = ends complete } in
-            let p : path q x ≡ behind (as_it_is (part_for q.signed) v ∷ []) (expanded_names star x) (ended complete) =
-            is to (n ∙ ap (λ r. stood_in_step q.is_proved q.signed star x (stand_in_answer q x r)) (same r f) ∙ ap (stood_in_step q.is_proved q.signed star x) leads ∙ ap (λ b. cond b (at_end failed) to) answered) in (
+        by (lacks wildcard_name f n) = let p : None ≡ Some s = sym f ∙ e in absurd cc
+        by (stands_in r wildcard_name f g n) =
+            let to : Step = record { answers = as_it_is (part_for q.signed) v ∷ []; made = expanded_names wildcard_name x; next = ends complete } in
+            let p : path q x ≡ behind (as_it_is (part_for q.signed) v ∷ []) (expanded_names wildcard_name x) (ended complete) =
+            is to (n ∙ ap (λ r. stood_in_step q.is_proved q.signed wildcard_name x (stand_in_answer q x r)) (same r f) ∙ ap (stood_in_step q.is_proved q.signed wildcard_name x) leads ∙ ap (λ b. cond b (at_end failed) to) answered) in (
               answers_stood_in s v e unfollowed_so k leads (ap (λ (p : Path). p.answers) p),
               record {
                 passes = ap (λ (p : Path). fails p.end) p;

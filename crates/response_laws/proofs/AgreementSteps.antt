@@ -30,7 +30,7 @@ use Rattle.zone_response.specs.Wildcards.{source_of_synthesis, is_there}
 use Rattle.zone_response.specs.Aname.{stand_in_answer}
 use Rattle.zone_response.specs.Steps.{complete, missing, outside, ends, Step, at_end, as_found_for, expanded_names, after_alias, keeps, stood_in_step, node_step, step_at, wildcard_step, name_step, diverted_step, step}
 use Rattle.response_laws.specs.Agreement.{IsOrdinaryZone, IsOrdinaryType, IsOrdinary}
-use Rattle.response_laws.proofs.AgreementNames.{no_referral, exact_own, exact_alias, exact_stand_in, exact_nothing, exact_absent, direct_is, found_there, found_by_star}
+use Rattle.response_laws.proofs.AgreementNames.{no_referral, exact_own, exact_alias, exact_stand_in, exact_nothing, exact_absent, direct_is, found_there, found_by_wildcard}
 use Rattle.response_laws.proofs.Leads.{no_target, made_target}
 use Rattle.response_laws.proofs.Turned.{unturned, silent_at, not_above}
 
@@ -40,9 +40,9 @@ pub data StepAsFound (q : Inquiry) (before : List RRset) (x : Name) : Type 0 whe
       → step q before x ≡ record { answers = as_it_is (part_for q.signed) s ∷ []; made = made; next = ends complete } → StepAsFound q before x
   leads_by : (s : RRset) (made : List Name) → found q.sets q.signed x q.record_type ≡ Some s → is_followed q.record_type s ≡ true → (q.record_type == CNAME) ≡ false
       → step q before x ≡ record { answers = as_it_is (part_for q.signed) s ∷ []; made = made; next = after_alias (cname_target s) } → StepAsFound q before x
-  stands_in : (s : RRset) (star : Option Name) → found q.sets q.signed x q.record_type ≡ Some s → stands_for_addresses q.record_type s ≡ true
-      → step q before x ≡ stood_in_step q.is_proved q.signed star x (stand_in_answer q x s) → StepAsFound q before x
-  lacks : (star : Option Name) → found q.sets q.signed x q.record_type ≡ None → step q before x ≡ at_end (missing x star (is_there q.sets x)) → StepAsFound q before x
+  stands_in : (s : RRset) (wildcard_name : Option Name) → found q.sets q.signed x q.record_type ≡ Some s → stands_for_addresses q.record_type s ≡ true
+      → step q before x ≡ stood_in_step q.is_proved q.signed wildcard_name x (stand_in_answer q x s) → StepAsFound q before x
+  lacks : (wildcard_name : Option Name) → found q.sets q.signed x q.record_type ≡ None → step q before x ≡ at_end (missing x wildcard_name (is_there q.sets x)) → StepAsFound q before x
 
 -- what is found at a name itself
 data FindsAt (m : Sets) (a : Name) (t : ℕ) : Type 0 where
@@ -183,8 +183,8 @@ module _ (q : Inquiry) (zone : IsOrdinaryZone q.origin q.sets) (plain : IsOrdina
         by a d (inr k) = own_soa a d k (owns m x SOA) refl
 
     -- nor the wildcard at a name above it, if that owns no NS
-    star_unreferred : (e : Name) → IsAbove e x → owns m (wildcard_under e) NS ≡ false → referral m (wildcard_under e) t ≡ None
-    star_unreferred e over uncut = no_referral m (wildcard_under e) t (λ a u d. by a (owns_servers (wildcard_under e) a d) (above_cases a (wildcard_under e) u))
+    wildcard_unreferred : (e : Name) → IsAbove e x → owns m (wildcard_under e) NS ≡ false → referral m (wildcard_under e) t ≡ None
+    wildcard_unreferred e over uncut = no_referral m (wildcard_under e) t (λ a u d. by a (owns_servers (wildcard_under e) a d) (above_cases a (wildcard_under e) u))
       where
         above : (a : Name) → IsAbove a x → (owns m a SOA ≡ true) ⊎ (name_eq a x && (t == DS) ≡ true) → owns m a SOA ≡ true
         above a u (inl k) = k
@@ -205,40 +205,40 @@ module _ (q : Inquiry) (zone : IsOrdinaryZone q.origin q.sets) (plain : IsOrdina
       of None s = s
       of (Some w) s = renamed q.signed w x s
 
-      made_as : (star : Option Name) (s : RRset) → as_found_for (keeps q.signed t) star x s ≡ of star s
+      made_as : (wildcard_name : Option Name) (s : RRset) → as_found_for (keeps q.signed t) wildcard_name x s ≡ of wildcard_name s
       made_as None s = refl
       made_as (Some w) s = ap (λ b. renamed b w x s) (ap (λ b. q.signed || b) signature ∙ right_false q.signed)
 
-      of_type : (star : Option Name) (s : RRset) → (of star s).record_type ≡ s.record_type
+      of_type : (wildcard_name : Option Name) (s : RRset) → (of wildcard_name s).record_type ≡ s.record_type
       of_type None s = refl
       of_type (Some w) s = refl
 
-      of_target : (star : Option Name) (s : RRset) → cname_target (of star s) ≡ cname_target s
+      of_target : (wildcard_name : Option Name) (s : RRset) → cname_target (of wildcard_name s) ≡ cname_target s
       of_target None s = refl
       of_target (Some w) s = made_target q.signed (Some w) x s
 
       -- by what the name itself has, or its wildcard
-      at_a_node : (star : Option Name) (a : Name) → IsAsked a → step q before x ≡ step_at q star x a → found m q.signed x t ≡ option_map (of star) (exact m a t) → is_there m x ≡ true → StepAsFound q before x
-      at_a_node star a at is finds there = by (finds_at a (beside a at))
+      at_a_node : (wildcard_name : Option Name) (a : Name) → IsAsked a → step q before x ≡ step_at q wildcard_name x a → found m q.signed x t ≡ option_map (of wildcard_name) (exact m a t) → is_there m x ≡ true → StepAsFound q before x
+      at_a_node wildcard_name a at is finds there = by (finds_at a (beside a at))
         where
           stepped : AtNode → Step
-          stepped = node_step q star x
+          stepped = node_step q wildcard_name x
 
           by : FindsAt m a t → StepAsFound q before x
           by (at_own s n e k target) =
-              answers_by (of star s) (expanded_names star x) (finds ∙ ap (option_map (of star)) e)
-              (ap (λ u. (u == CNAME) && not (t == CNAME)) (of_type star s ∙ k) ∙ never_both (t == CNAME))
-              (ap (λ u. (u == ANAME) && is_address t) (of_type star s ∙ k) ∙ no_address t)
-              (λ other. of_target star s ∙ target other)
-              (is ∙ ap stepped n ∙ (λ i. record { answers = as_it_is (cond (signature i) part.Signatures (part_for q.signed)) (made_as star s i) ∷ []; made = expanded_names star x; next = ends complete }))
+              answers_by (of wildcard_name s) (expanded_names wildcard_name x) (finds ∙ ap (option_map (of wildcard_name)) e)
+              (ap (λ u. (u == CNAME) && not (t == CNAME)) (of_type wildcard_name s ∙ k) ∙ never_both (t == CNAME))
+              (ap (λ u. (u == ANAME) && is_address t) (of_type wildcard_name s ∙ k) ∙ no_address t)
+              (λ other. of_target wildcard_name s ∙ target other)
+              (is ∙ ap stepped n ∙ (λ i. record { answers = as_it_is (cond (signature i) part.Signatures (part_for q.signed)) (made_as wildcard_name s i) ∷ []; made = expanded_names wildcard_name x; next = ends complete }))
           by (at_alias s n e k other) =
-              leads_by (of star s) (expanded_names star x) (finds ∙ ap (option_map (of star)) e)
-              (λ i. ((of_type star s ∙ k) i == CNAME) && not (other i)) other
-              (is ∙ ap stepped n ∙ (λ i. record { answers = as_it_is (part_for q.signed) (made_as star s i) ∷ []; made = expanded_names star x; next = after_alias (sym (of_target star s) i) }))
+              leads_by (of wildcard_name s) (expanded_names wildcard_name x) (finds ∙ ap (option_map (of wildcard_name)) e)
+              (λ i. ((of_type wildcard_name s ∙ k) i == CNAME) && not (other i)) other
+              (is ∙ ap stepped n ∙ (λ i. record { answers = as_it_is (part_for q.signed) (made_as wildcard_name s i) ∷ []; made = expanded_names wildcard_name x; next = after_alias (sym (of_target wildcard_name s) i) }))
           by (at_stand_in s n e k) =
-              stands_in (of star s) star (finds ∙ ap (option_map (of star)) e) (ap (λ u. (u == ANAME) && is_address t) (of_type star s) ∙ k)
-              (is ∙ ap stepped n ∙ (λ i. stood_in_step q.is_proved q.signed star x (stand_in_answer q x (made_as star s i))))
-          by (at_nothing n e) = lacks star (finds ∙ ap (option_map (of star)) e) (is ∙ ap stepped n ∙ (λ i. at_end (missing x star (sym there i))))
+              stands_in (of wildcard_name s) wildcard_name (finds ∙ ap (option_map (of wildcard_name)) e) (ap (λ u. (u == ANAME) && is_address t) (of_type wildcard_name s) ∙ k)
+              (is ∙ ap stepped n ∙ (λ i. stood_in_step q.is_proved q.signed wildcard_name x (stand_in_answer q x (made_as wildcard_name s i))))
+          by (at_nothing n e) = lacks wildcard_name (finds ∙ ap (option_map (of wildcard_name)) e) (is ∙ ap stepped n ∙ (λ i. at_end (missing x wildcard_name (sym there i))))
 
       unchanged : (o : Option RRset) → o ≡ option_map (of None) o
       unchanged None = refl
@@ -252,15 +252,15 @@ module _ (q : Inquiry) (zone : IsOrdinaryZone q.origin q.sets) (plain : IsOrdina
 
       -- by the encloser of a name that doesn't exist
       absent : exists m x ≡ false → (o : Option Name) → closest_encloser m x ≡ o → StepAsFound q before x
-      absent e o f = by o f (found_by_star m q.signed x t unreferred (unowned x (inl refl) e) e (ordinary.not_wildcard e) ∙ ap (λ o. from (option_map wildcard_under o)) f)
+      absent e o f = by o f (found_by_wildcard m q.signed x t unreferred (unowned x (inl refl) e) e (ordinary.not_wildcard e) ∙ ap (λ o. from (option_map wildcard_under o)) f)
           (named_step ∙ (λ i. cond (e i) (step_at q None x x) (wildcard_step q x (option_map wildcard_under (f i)))))
           (λ i. e i || option_map_or (exists m) (option_map wildcard_under (f i)) false)
         where
           from : Option Name → Option RRset
-          from star = option_and_then (λ s. option_map (renamed q.signed s x) (direct m s t)) star
+          from wildcard_name = option_and_then (λ s. option_map (renamed q.signed s x) (direct m s t)) wildcard_name
 
           starred : (a : Name) → closest_encloser m x ≡ Some a → found m q.signed x t ≡ from (Some (wildcard_under a)) → step q before x ≡ wildcard_step q x (Some (wildcard_under a)) → is_there m x ≡ exists m (wildcard_under a) → (b : Bool) → exists m (wildcard_under a) ≡ b → StepAsFound q before x
-          starred a f finds is there b g = cases b g (finds ∙ ap (option_map (renamed q.signed w x)) (direct_is m q.signed w t (star_unreferred a (longest_is (exists m) x a f).above (ordinary.uncut_wildcard w is_asked))))
+          starred a f finds is there b g = cases b g (finds ∙ ap (option_map (renamed q.signed w x)) (direct_is m q.signed w t (wildcard_unreferred a (longest_is (exists m) x a f).above (ordinary.uncut_wildcard w is_asked))))
             where
               w : Name
               w = wildcard_under a

@@ -26,32 +26,32 @@ use Rattle.response_laws.proofs.LastNames.{dnames_on}
 use Rattle.response_laws.proofs.Leads.{sent_owner, sent_type, asked_stands}
 use Rattle.response_laws.proofs.Origins.{origin_by, origin_in_longer}
 use Rattle.response_laws.proofs.StandIns.{aname_stands, made_signatures, made_ttl}
-use Rattle.response_laws.proofs.Stepped.{NodeOf, has_set, has_alias, has_stand_in, has_nothing, node_of, IsUndiverted, StepOf, leaves, refers, fails, new_name, at_name, no_star, at_wildcard, star_gone, step_of}
+use Rattle.response_laws.proofs.Stepped.{NodeOf, has_set, has_alias, has_stand_in, has_nothing, node_of, IsUndiverted, StepOf, leaves, refers, fails, new_name, at_name, no_wildcard_name, at_wildcard, wildcard_gone, step_of}
 
 -- a name that doesn't exist, for which its wildcard answers
 pub record IsMade (q : Inquiry) (y w : Name) : Type 0 where
   pub unturned : IsUndiverted q y
   pub absent : exists q.sets y ≡ false
-  pub star : source_of_synthesis q.sets y ≡ Some w
+  pub wildcard_name : source_of_synthesis q.sets y ≡ Some w
 
 -- the wildcard's set under that name, as it is found for it
 pub record IsMadeFound (q : Inquiry) (y : Name) (u : ℕ) (found : RRset) : Type 0 where
-  pub star : Name
-  pub made : IsMade q y star
+  pub wildcard_name : Name
+  pub made : IsMade q y wildcard_name
   pub stored : RRset
-  pub stands : set_at q.sets star u ≡ Some stored
-  pub is : found ≡ renamed (keeps q.signed q.record_type) star y stored
+  pub stands : set_at q.sets wildcard_name u ≡ Some stored
+  pub is : found ≡ renamed (keeps q.signed q.record_type) wildcard_name y stored
 
 -- so it is of one of these names
-abbrev pub ByStarOf : Inquiry → List Name → Name → ℕ → RRset → Type 0
-ByStarOf q made y u found = In y made × IsMadeFound q y u found
+abbrev pub ByWildcardOf : Inquiry → List Name → Name → ℕ → RRset → Type 0
+ByWildcardOf q made y u found = In y made × IsMadeFound q y u found
 
 -- a set that answers in a section, where wildcards answered for these names
 abbrev pub IsAnswer : Inquiry → List Name → List RRset → RRset → Type 0
-IsAnswer q made all s = Origin q all (ByStarOf q made) s
+IsAnswer q made all s = Origin q all (ByWildcardOf q made) s
 
 among_more : (q : Inquiry) (made more : List Name) (all : List RRset) (s : RRset) → ((y : Name) → In y made → In y more) → IsAnswer q made all s → IsAnswer q more all s
-among_more q made more all s more_of = origin_by q all s (ByStarOf q made) (ByStarOf q more) (λ n t found k. (more_of n k.0, k.1))
+among_more q made more all s more_of = origin_by q all s (ByWildcardOf q made) (ByWildcardOf q more) (λ n t found k. (more_of n k.0, k.1))
 
 -- a DNAME set as it is sent has the same TTL and the same target, and makes the same CNAME
 sent_ttl : (p : Part) (s : RRset) → (as_it_is p s).ttl ≡ s.ttl
@@ -90,32 +90,32 @@ module _ (q : Inquiry) (zone : IsZone q.sets) where
   -- ---- one step
 
   -- the set of the wildcard of x, as it is found for x
-  star_found : (w x a : Name) → (a ≡ w) × IsMade q x w → (u : ℕ) (s : RRset) → set_at m a u ≡ Some s → IsMadeFound q x u (as_found_for (keeps q.signed t) (Some w) x s)
-  star_found w x a made u s e =
-      record { star = w; made = made.1; stored = s; stands = ap (λ n. set_at m n u) (sym made.0) ∙ e; is = refl }
+  wildcard_found : (w x a : Name) → (a ≡ w) × IsMade q x w → (u : ℕ) (s : RRset) → set_at m a u ≡ Some s → IsMadeFound q x u (as_found_for (keeps q.signed t) (Some w) x s)
+  wildcard_found w x a made u s e =
+      record { wildcard_name = w; made = made.1; stored = s; stands = ap (λ n. set_at m n u) (sym made.0) ∙ e; is = refl }
 
   -- a set as it is found for x, at the name or at its wildcard
-  found_answer : (star : Option Name) (x a : Name) → (star ≡ None → a ≡ x) → ((w : Name) → star ≡ Some w → (a ≡ w) × IsMade q x w) → (u : ℕ) (s : RRset) → set_at m a u ≡ Some s
-      → (p : Part) → IsAnswerPart q p → (all : List RRset) → IsAnswer q (expanded_names star x) all (as_it_is p (as_found_for (keeps q.signed t) star x s))
+  found_answer : (wildcard_name : Option Name) (x a : Name) → (wildcard_name ≡ None → a ≡ x) → ((w : Name) → wildcard_name ≡ Some w → (a ≡ w) × IsMade q x w) → (u : ℕ) (s : RRset) → set_at m a u ≡ Some s
+      → (p : Part) → IsAnswerPart q p → (all : List RRset) → IsAnswer q (expanded_names wildcard_name x) all (as_it_is p (as_found_for (keeps q.signed t) wildcard_name x s))
   found_answer None x a here of u s e p g all = own p g (record { name = a; record_type = u; stored = s; stands = e; sent = refl })
   found_answer (Some w) x a here of u s e p g all =
-      of_wildcard p g (record { name = x; record_type = u; found = as_found_for (keeps q.signed t) (Some w) x s; by_wildcard = (inl refl, star_found w x a (of w refl) u s e); sent = refl })
+      of_wildcard p g (record { name = x; record_type = u; found = as_found_for (keeps q.signed t) (Some w) x s; by_wildcard = (inl refl, wildcard_found w x a (of w refl) u s e); sent = refl })
 
   -- an ANAME set that stands in for addresses of x, at the name or at its wildcard
-  aname_found : (star : Option Name) (x a : Name) → (star ≡ None → a ≡ x) → ((w : Name) → star ≡ Some w → (a ≡ w) × IsMade q x w) → (s : RRset) → set_at m a ANAME ≡ Some s
-      → (set_at m x ANAME ≡ Some (as_found_for (keeps q.signed t) star x s)) ⊎ (In x (expanded_names star x) × IsMadeFound q x ANAME (as_found_for (keeps q.signed t) star x s))
+  aname_found : (wildcard_name : Option Name) (x a : Name) → (wildcard_name ≡ None → a ≡ x) → ((w : Name) → wildcard_name ≡ Some w → (a ≡ w) × IsMade q x w) → (s : RRset) → set_at m a ANAME ≡ Some s
+      → (set_at m x ANAME ≡ Some (as_found_for (keeps q.signed t) wildcard_name x s)) ⊎ (In x (expanded_names wildcard_name x) × IsMadeFound q x ANAME (as_found_for (keeps q.signed t) wildcard_name x s))
   aname_found None x a here of s e = inl (ap (λ n. set_at m n ANAME) (sym (here refl)) ∙ e)
-  aname_found (Some w) x a here of s e = inr (inl refl, star_found w x a (of w refl) ANAME s e)
+  aname_found (Some w) x a here of s e = inr (inl refl, wildcard_found w x a (of w refl) ANAME s e)
 
-  node_answers : (star : Option Name) (x a : Name) → (star ≡ None → a ≡ x) → ((w : Name) → star ≡ Some w → (a ≡ w) × IsMade q x w) → (s : RRset) → In s (step_at q star x a).answers
-      → (all : List RRset) → IsAnswer q (step_at q star x a).made all s
-  node_answers star x a here of s = by (node_of m a t)
+  node_answers : (wildcard_name : Option Name) (x a : Name) → (wildcard_name ≡ None → a ≡ x) → ((w : Name) → wildcard_name ≡ Some w → (a ≡ w) × IsMade q x w) → (s : RRset) → In s (step_at q wildcard_name x a).answers
+      → (all : List RRset) → IsAnswer q (step_at q wildcard_name x a).made all s
+  node_answers wildcard_name x a here of s = by (node_of m a t)
     where
       at : AtNode → Step
-      at = node_step q star x
+      at = node_step q wildcard_name x
 
       kept : RRset → RRset
-      kept = as_found_for (keeps q.signed t) star x
+      kept = as_found_for (keeps q.signed t) wildcard_name x
 
       HasAnswers : Step → Type 0
       HasAnswers v = In s v.answers → (all : List RRset) → IsAnswer q v.made all s
@@ -125,14 +125,14 @@ module _ (q : Inquiry) (zone : IsZone q.sets) where
       only made r h (inr i) all = absurd i
 
       stands_in : (r v : RRset) → set_at m a ANAME ≡ Some r → stand_in_answer q x (kept r) ≡ addresses v → (q.is_proved ≡ true → is_signed v ≡ true) → In s (as_it_is (part_for q.signed) v ∷ [])
-          → (all : List RRset) → IsAnswer q (expanded_names star x) all s
+          → (all : List RRset) → IsAnswer q (expanded_names wildcard_name x) all s
       stands_in r v k f signed =
-          only (expanded_names star x) (as_it_is (part_for q.signed) v)
+          only (expanded_names wildcard_name x) (as_it_is (part_for q.signed) v)
           (λ all.
           of_aname (record {
             name = x;
             aname = kept r;
-            stands = aname_found star x a here of r k;
+            stands = aname_found wildcard_name x a here of r k;
             made = v;
             leads = f;
             signatures = made_signatures q x (kept r) v f;
@@ -143,24 +143,24 @@ module _ (q : Inquiry) (zone : IsZone q.sets) where
 
       -- addresses, which answer unless they are to be proved and aren't signed
       addressed : (r v : RRset) → set_at m a ANAME ≡ Some r → stand_in_answer q x (kept r) ≡ addresses v → (p : Bool) → q.is_proved ≡ p → (b : Bool) → is_signed v ≡ b
-          → HasAnswers (cond (p && not b) (at_end failed) (record { answers = as_it_is (part_for q.signed) v ∷ []; made = expanded_names star x; next = ends complete }))
+          → HasAnswers (cond (p && not b) (at_end failed) (record { answers = as_it_is (part_for q.signed) v ∷ []; made = expanded_names wildcard_name x; next = ends complete }))
       addressed r v k f true e false g = λ i. absurd i
       addressed r v k f true e true g = stands_in r v k f (λ p. g)
       addressed r v k f false e b g = stands_in r v k f (λ p. absurd (true≢false (sym p ∙ e)))
 
-      stood_in : (r : RRset) → set_at m a ANAME ≡ Some r → (w : StandInAnswer) → stand_in_answer q x (kept r) ≡ w → HasAnswers (stood_in_step q.is_proved q.signed star x w)
+      stood_in : (r : RRset) → set_at m a ANAME ≡ Some r → (w : StandInAnswer) → stand_in_answer q x (kept r) ≡ w → HasAnswers (stood_in_step q.is_proved q.signed wildcard_name x w)
       stood_in r k (addresses v) f = addressed r v k f q.is_proved refl (is_signed v) refl
       stood_in r k no_addresses f = λ i. absurd i
       stood_in r k untold f = λ i. absurd i
 
-      by : NodeOf m a t → HasAnswers (step_at q star x a)
+      by : NodeOf m a t → HasAnswers (step_at q wildcard_name x a)
       by (has_set r e f) =
           subst (λ n. HasAnswers (at n)) (sym f)
-          (only (expanded_names star x) (as_it_is (own_part q.signed t) (kept r))
-          (found_answer star x a here of (chosen_type m a t) r (asked_stands m a t r e) (own_part q.signed t) own_goes_out))
+          (only (expanded_names wildcard_name x) (as_it_is (own_part q.signed t) (kept r))
+          (found_answer wildcard_name x a here of (chosen_type m a t) r (asked_stands m a t r e) (own_part q.signed t) own_goes_out))
       by (has_alias r e f g) =
           subst (λ n. HasAnswers (at n)) (sym g)
-          (only (expanded_names star x) (as_it_is (part_for q.signed) (kept r)) (found_answer star x a here of CNAME r f (part_for q.signed) (inl refl)))
+          (only (expanded_names wildcard_name x) (as_it_is (part_for q.signed) (kept r)) (found_answer wildcard_name x a here of CNAME r f (part_for q.signed) (inl refl)))
       by (has_stand_in r e f k g) = subst (λ n. HasAnswers (at n)) (sym g) (stood_in r (aname_stands m a t r k) (stand_in_answer q x (kept r)) refl)
       by (has_nothing e f g) = subst (λ n. HasAnswers (at n)) (sym g) (λ i. absurd i)
 
@@ -211,15 +211,15 @@ module _ (q : Inquiry) (zone : IsZone q.sets) where
       by (fails r f g e) = of (at_end failed) e (λ i. absurd i)
       by (new_name v target o f call_concludes g e) = of (new_name_step q.signed t before x v o) e (new_name_answers before dnames x v target (turned_by q zone x v f) call_concludes o g s)
       by (at_name u there e) = of (step_at q None x x) e (λ i. node_answers None x x (λ k. refl) (λ w k. absurd cc) s i (before ++ (step_at q None x x).answers))
-      by (no_star u absent f e) = of (at_end (missing x None false)) e (λ i. absurd i)
+      by (no_wildcard_name u absent f e) = of (at_end (missing x None false)) e (λ i. absurd i)
       by (at_wildcard w u absent f g e) =
           of (step_at q (Some w) x w) e
-          (λ i. node_answers (Some w) x w (λ k. absurd cc) (λ v k. (same w v k, subst (IsMade q x) (same w v k) (record { unturned = u; absent = absent; star = f }))) s i
+          (λ i. node_answers (Some w) x w (λ k. absurd cc) (λ v k. (same w v k, subst (IsMade q x) (same w v k) (record { unturned = u; absent = absent; wildcard_name = f }))) s i
           (before ++ (step_at q (Some w) x w).answers))
         where
           same : (a b : Name) → Some a ≡ Some b → a ≡ b
           same a b e = cc
-      by (star_gone w u absent f g e) = of (at_end (missing x (Some w) false)) e (λ i. absurd i)
+      by (wildcard_gone w u absent f g e) = of (at_end (missing x (Some w) false)) e (λ i. absurd i)
 
   -- ---- the path
 
@@ -254,7 +254,7 @@ module _ (q : Inquiry) (zone : IsZone q.sets) where
           more_made more more_of = among_more q more (made ++ p.made) ((before ++ answers) ++ p.answers) s more_of
 
           of : In s answers ⊎ In s p.answers → IsAnswer q (made ++ p.made) ((before ++ answers) ++ p.answers) s
-          of (inl u) = more_made made (λ y. In-append_left y made p.made) (origin_in_longer q (before ++ answers) s (ByStarOf q made) p.answers (step_answers before dnames x s u))
+          of (inl u) = more_made made (λ y. In-append_left y made p.made) (origin_in_longer q (before ++ answers) s (ByWildcardOf q made) p.answers (step_answers before dnames x s u))
           of (inr u) = more_made p.made (λ y. In-append_right y made p.made) (h s u)
 
       by : From → (b : Bool) → Answer before (cond b (ended unfollowed) (behind answers made (rest (next_behind q before x))))

@@ -30,7 +30,7 @@ use Rattle.response_laws.proofs.Leads.{same_in_lower, sent_owner, sent_type, mad
 use Rattle.response_laws.proofs.Once.{Once, once_both, unlike, none_alike}
 use Rattle.response_laws.proofs.Said.{none_any}
 use Rattle.response_laws.proofs.StandIns.{aname_stands, addresses_of_last, owned_so, of_asked_type}
-use Rattle.response_laws.proofs.Stepped.{NodeOf, has_set, has_alias, has_stand_in, has_nothing, node_of, StepOf, leaves, refers, fails, new_name, at_name, no_star, at_wildcard, star_gone, step_of}
+use Rattle.response_laws.proofs.Stepped.{NodeOf, has_set, has_alias, has_stand_in, has_nothing, node_of, StepOf, leaves, refers, fails, new_name, at_name, no_wildcard_name, at_wildcard, wildcard_gone, step_of}
 
 no_address : (t : ℕ) → is_address t ≡ true → (t == DNAME) ≡ false
 no_address t e = by (t == DNAME) refl
@@ -154,23 +154,23 @@ module _ (q : Inquiry) (zone : IsZone q.sets) where
         of r (inl same) = inl (x, In-append_right x seen (x ∷ []) (inl refl), ap (λ (k : RRset). lower k.owner) (sym same) ∙ same_in_lower s.owner x owned ∙ lowered)
         of r (inr i) = absurd i
 
-    node_once : (star : Option Name) (a : Name) → (star ≡ None → a ≡ x) → OnceOf (step_at q star x a).answers
-    node_once star a here = by (node_of m a t)
+    node_once : (wildcard_name : Option Name) (a : Name) → (wildcard_name ≡ None → a ≡ x) → OnceOf (step_at q wildcard_name x a).answers
+    node_once wildcard_name a here = by (node_of m a t)
       where
         at : AtNode → Step
-        at = node_step q star x
+        at = node_step q wildcard_name x
 
         kept : RRset → RRset
-        kept = as_found_for (keeps q.signed t) star x
+        kept = as_found_for (keeps q.signed t) wildcard_name x
 
         HasOnce : Step → Type 0
         HasOnce v = OnceOf v.answers
 
         owned : (p : Part) (u : ℕ) (s : RRset) → set_at m a u ≡ Some s → same_name (as_it_is p (kept s)).owner x ≡ true
-        owned p u s e = ap (λ n. same_name n x) (sent_owner p (kept s).ttl (kept s)) ∙ found_owner m zone.stored q.signed t (keeps q.signed t) star x a s here (zone.stored a u s e).owner
+        owned p u s e = ap (λ n. same_name n x) (sent_owner p (kept s).ttl (kept s)) ∙ found_owner m zone.stored q.signed t (keeps q.signed t) wildcard_name x a s here (zone.stored a u s e).owner
 
         typed : (p : Part) (u : ℕ) (s : RRset) → set_at m a u ≡ Some s → (as_it_is p (kept s)).record_type ≡ u
-        typed p u s e = sent_type p (kept s).ttl (kept s) ∙ made_type (keeps q.signed t) star x s ∙ (zone.stored a u s e).record_type
+        typed p u s e = sent_type p (kept s).ttl (kept s) ∙ made_type (keeps q.signed t) wildcard_name x s ∙ (zone.stored a u s e).record_type
 
         -- the set that is asked for
         asks : (s : RRset) → chosen_type m a t ≡ DNAME → asks_alias t ≡ false → ((t == DNAME) ≡ true) ⊎ (((t == RRSIG) ≡ true) × ((as_it_is (own_part q.signed t) (kept s)).records ≡ []))
@@ -191,21 +191,21 @@ module _ (q : Inquiry) (zone : IsZone q.sets) where
 
         -- addresses for which an ANAME set stands in
         addressed : (s v : RRset) → set_at m a ANAME ≡ Some s → is_address t ≡ true → stand_in_answer q x (kept s) ≡ addresses v → (b : Bool)
-            → HasOnce (cond b (at_end failed) (record { answers = as_it_is (part_for q.signed) v ∷ []; made = expanded_names star x; next = ends complete }))
+            → HasOnce (cond b (at_end failed) (record { answers = as_it_is (part_for q.signed) v ∷ []; made = expanded_names wildcard_name x; next = ends complete }))
         addressed s v k g f true = none
         addressed s v k g f false =
             let l = addresses_of_last q x (kept s) v f in
-            let of_x = owned_so q x (kept s) v l (found_owner m zone.stored q.signed t (keeps q.signed t) star x a s here (zone.stored a ANAME s k).owner) in
+            let of_x = owned_so q x (kept s) v l (found_owner m zone.stored q.signed t (keeps q.signed t) wildcard_name x a s here (zone.stored a ANAME s k).owner) in
             only (as_it_is (part_for q.signed) v) of_x
             (plain_once (as_it_is (part_for q.signed) v) of_x
-            (ap (λ u. u == DNAME) (of_asked_type q x (kept s) v l (found_owner m zone.stored q.signed t (keeps q.signed t) star x a s here (zone.stored a ANAME s k).owner)) ∙ no_address t g) before known)
+            (ap (λ u. u == DNAME) (of_asked_type q x (kept s) v l (found_owner m zone.stored q.signed t (keeps q.signed t) wildcard_name x a s here (zone.stored a ANAME s k).owner)) ∙ no_address t g) before known)
 
-        stood_in : (s : RRset) → set_at m a ANAME ≡ Some s → is_address t ≡ true → (w : StandInAnswer) → stand_in_answer q x (kept s) ≡ w → HasOnce (stood_in_step q.is_proved q.signed star x w)
+        stood_in : (s : RRset) → set_at m a ANAME ≡ Some s → is_address t ≡ true → (w : StandInAnswer) → stand_in_answer q x (kept s) ≡ w → HasOnce (stood_in_step q.is_proved q.signed wildcard_name x w)
         stood_in s k g (addresses v) f = addressed s v k g f (q.is_proved && not (is_signed v))
         stood_in s k g no_addresses f = none
         stood_in s k g untold f = none
 
-        by : NodeOf m a t → HasOnce (step_at q star x a)
+        by : NodeOf m a t → HasOnce (step_at q wildcard_name x a)
         by (has_set s e f) =
             let stands = asked_stands m a t s e in
             subst (λ n. HasOnce (at n)) (sym f)
@@ -264,9 +264,9 @@ module _ (q : Inquiry) (zone : IsZone q.sets) where
         by (fails s f g e) = of (at_end failed) e none
         by (new_name s target o f call_concludes g e) = of (new_name_step q.signed t before x s o) e (new_name_once s (turned_by q zone x s f) o)
         by (at_name u there e) = of (step_at q None x x) e (node_once None x (λ k. refl))
-        by (no_star u absent f e) = of (at_end (missing x None false)) e none
+        by (no_wildcard_name u absent f e) = of (at_end (missing x None false)) e none
         by (at_wildcard w u absent f g e) = of (step_at q (Some w) x w) e (node_once (Some w) w (λ k. cc))
-        by (star_gone w u absent f g e) = of (at_end (missing x (Some w) false)) e none
+        by (wildcard_gone w u absent f g e) = of (at_end (missing x (Some w) false)) e none
 
   -- ---- the path
 

@@ -42,8 +42,8 @@ module _ (m : Sets) (zone : IsZone m) where
   -- the SOA of a negative response, or the sets of a referral
   pub front_is : (origin : Name) (soa : RRset) (e : End) → set_at m origin SOA ≡ Some soa → ((c : RRset) → e ≡ referred c → (n : Name) × (set_at m n NS ≡ Some c)) → (s : RRset) → In s (end_sets (ds_at m e) true soa e)
       → IsSentSet m (authority_part s) s
-  front_is origin soa (missing x star there) stands cut s (inl q) = subst (λ (v : RRset). IsSentSet m (authority_part v) v) q (signed_set origin SOA (negative_ttl soa) soa stands refl)
-  front_is origin soa (missing x star there) stands cut s (inr i) = absurd i
+  front_is origin soa (missing x wildcard_name there) stands cut s (inl q) = subst (λ (v : RRset). IsSentSet m (authority_part v) v) q (signed_set origin SOA (negative_ttl soa) soa stands refl)
+  front_is origin soa (missing x wildcard_name there) stands cut s (inr i) = absurd i
   front_is origin soa (referred c) stands cut s (inl q) = let n = cut c refl in subst (λ (v : RRset). IsSentSet m (authority_part v) v) q (servers_set n.0 c n.1)
   front_is origin soa (referred c) stands cut s (inr i) = by (child_ds m c) refl i
     where

@@ -28,12 +28,12 @@ all_apart : (more sets : List RRset) → Apart same_owner [] sets → Apart same
 all_apart [] sets h = h
 all_apart (s ∷ more) sets h = all_apart more (with_new same_owner sets s) (apart_new same_owner sets s h)
 
-stars_apart : (z : Zone) (made : List Name) (sets : List RRset) → Apart same_owner [] sets → Apart same_owner [] (fold (with_wildcard_proof z) sets made)
-stars_apart z [] sets h = h
-stars_apart z (x ∷ made) sets h = stars_apart z made (with_wildcard_proof z sets x) (all_apart (wildcard_proof z x) sets h)
+wildcards_apart : (z : Zone) (made : List Name) (sets : List RRset) → Apart same_owner [] sets → Apart same_owner [] (fold (with_wildcard_proof z) sets made)
+wildcards_apart z [] sets h = h
+wildcards_apart z (x ∷ made) sets h = wildcards_apart z made (with_wildcard_proof z sets x) (all_apart (wildcard_proof z x) sets h)
 
 proofs_apart : (z : Zone) (ds : Option RRset) (made : List Name) (e : End) → Apart same_owner [] (proofs z ds made e)
-proofs_apart z ds made e = all_apart (end_proof z ds e) (fold (with_wildcard_proof z) [] made) (stars_apart z made [] tt)
+proofs_apart z ds made e = all_apart (end_proof z ds e) (fold (with_wildcard_proof z) [] made) (wildcards_apart z made [] tt)
 
 -- as they are sent
 proofs_once : (ttl : ℕ) (before sets : List RRset) → Apart same_owner before sets → Once (map (as_proof ttl) before) (map (as_proof ttl) sets)
@@ -122,7 +122,7 @@ module _ (z : Zone) (zone : IsZone z.sets) (q : Query) (r : Sections) (h : IsMad
           other s (inr i) = absurd i
 
   front : (e : End) → ends ≡ e → IsFront (end_sets (ds_at z.sets e) q.signed h.soa e)
-  front (missing x star there) e = of_negative
+  front (missing x wildcard_name there) e = of_negative
   front (referred c) e = of_referral c e q.signed (child_ds z.sets c) refl
   front complete e = none
   front (outside x) e = none

@@ -18,7 +18,7 @@ use Rattle.zone_response.specs.Denials.{same_owner, hashed_owner_of, wildcard_pr
 use Rattle.zone_response.specs.HashedDenials.{wildcard_sets, absent_sets, present_sets, hashed_by}
 use Rattle.zone_response.specs.Queries.{Zone}
 use Rattle.zone_response.specs.Steps.{End, referred, missing}
-use Rattle.response_laws.proofs.HashedSets.{each_of_both, of_star_sets, of_absent, of_present}
+use Rattle.response_laws.proofs.HashedSets.{each_of_both, of_wildcard_sets, of_absent, of_present}
 use Rattle.response_laws.proofs.NsecSets.{closest_sets, closest_owners}
 
 -- a set of denial that is its owner's
@@ -52,7 +52,7 @@ module _ (z : Zone) (zone : IsZone z.denials) where
   -- by hashed names
   module _ (hashed : Name → Name) where
     wildcard_hashed : (x : Name) (o : Option Name) → AreAll (option_map_or (wildcard_sets z.origin z.denials hashed x) o [])
-    wildcard_hashed x (Some e) = of_star_sets (IsDenial m) m nsec3_set z.origin hashed x e
+    wildcard_hashed x (Some e) = of_wildcard_sets (IsDenial m) m nsec3_set z.origin hashed x e
     wildcard_hashed x None = λ s i. absurd i
 
     absent_hashed : (x e : Name) → AreAll (absent_sets z.origin z.denials hashed x e)
@@ -69,22 +69,22 @@ module _ (z : Zone) (zone : IsZone z.denials) where
       by (Some kind.Nsec) = of_closest x
       by (Some (kind.Nsec3 algorithm salt iterations opt_out)) = wildcard_hashed (hashed_by (hashed_owner_of z algorithm salt iterations)) x (closest_encloser z.sets x)
 
-  denied : (x : Name) (star : Option Name) → AreAll (denial z x star)
-  denied x star = by z.nx_proof_kind star
+  denied : (x : Name) (wildcard_name : Option Name) → AreAll (denial z x wildcard_name)
+  denied x wildcard_name = by z.nx_proof_kind wildcard_name
     where
-      at_wildcard : (star : Option Name) → AreAll (option_to_list (option_and_then (closest_nsec m) star))
+      at_wildcard : (wildcard_name : Option Name) → AreAll (option_to_list (option_and_then (closest_nsec m) wildcard_name))
       at_wildcard (Some w) = of_closest w
       at_wildcard None = λ s i. absurd i
 
-      by : (k : Option NxProofKind) (star : Option Name) → AreAll (denial_by z k x star)
-      by None star = denials_of_both (closest_sets m zone x) (option_to_list (option_and_then (closest_nsec m) star)) (of_closest x) (at_wildcard star)
-      by (Some kind.Nsec) star = denials_of_both (closest_sets m zone x) (option_to_list (option_and_then (closest_nsec m) star)) (of_closest x) (at_wildcard star)
+      by : (k : Option NxProofKind) (wildcard_name : Option Name) → AreAll (denial_by z k x wildcard_name)
+      by None wildcard_name = denials_of_both (closest_sets m zone x) (option_to_list (option_and_then (closest_nsec m) wildcard_name)) (of_closest x) (at_wildcard wildcard_name)
+      by (Some kind.Nsec) wildcard_name = denials_of_both (closest_sets m zone x) (option_to_list (option_and_then (closest_nsec m) wildcard_name)) (of_closest x) (at_wildcard wildcard_name)
       by (Some (kind.Nsec3 algorithm salt iterations opt_out)) (Some (l ∷ e)) = absent_hashed (hashed_by (hashed_owner_of z algorithm salt iterations)) x e
       by (Some (kind.Nsec3 algorithm salt iterations opt_out)) (Some []) = present_hashed (hashed_by (hashed_owner_of z algorithm salt iterations)) x
       by (Some (kind.Nsec3 algorithm salt iterations opt_out)) None = present_hashed (hashed_by (hashed_owner_of z algorithm salt iterations)) x
 
   of_end : (ds : Option RRset) (e : End) → AreAll (end_proof z ds e)
-  of_end ds (missing x star there) = denied x star
+  of_end ds (missing x wildcard_name there) = denied x wildcard_name
   of_end None (referred c) = denied (lower c.owner) None
   of_end (Some s) (referred c) = λ r i. absurd i
   of_end ds _ = λ r i. absurd i
@@ -104,9 +104,9 @@ module _ (z : Zone) (zone : IsZone z.denials) where
   with_all sets [] h k = h
   with_all sets (s ∷ more) h k = with_all (with_new same_owner sets s) more (with_one sets s h (k s (inl refl))) (λ r i. k r (inr i))
 
-  of_stars : (made : List Name) (sets : List RRset) → AreAll sets → AreAll (fold (with_wildcard_proof z) sets made)
-  of_stars [] sets h = h
-  of_stars (x ∷ made) sets h = of_stars made (with_wildcard_proof z sets x) (with_all sets (wildcard_proof z x) h (of_wildcard x))
+  of_wildcards : (made : List Name) (sets : List RRset) → AreAll sets → AreAll (fold (with_wildcard_proof z) sets made)
+  of_wildcards [] sets h = h
+  of_wildcards (x ∷ made) sets h = of_wildcards made (with_wildcard_proof z sets x) (with_all sets (wildcard_proof z x) h (of_wildcard x))
 
   pub proofs_are_denials : (ds : Option RRset) (made : List Name) (e : End) → AreDenials z.denials (proofs z ds made e)
-  proofs_are_denials ds made e = with_all (fold (with_wildcard_proof z) [] made) (end_proof z ds e) (of_stars made [] (λ s i. absurd i)) (of_end ds e)
+  proofs_are_denials ds made e = with_all (fold (with_wildcard_proof z) [] made) (end_proof z ds e) (of_wildcards made [] (λ s i. absurd i)) (of_end ds e)

@@ -17,8 +17,8 @@ use Rattle.response_laws.proofs.Hashings.{unproved}
 use Rattle.response_laws.proofs.Parts.{HowAnswered, by_code_alone, by_parts, how_answered}
 
 no_failure : (e : End) → code_at e ≡ code.ServFail → ⊥
-no_failure (missing x star true) h = absurd cc
-no_failure (missing x star false) h = absurd cc
+no_failure (missing x wildcard_name true) h = absurd cc
+no_failure (missing x wildcard_name false) h = absurd cc
 no_failure (referred c) h = absurd cc
 no_failure complete h = absurd cc
 no_failure (outside x) h = absurd cc

@@ -17,7 +17,7 @@ use Rattle.zone_response.specs.Descent.{renaming}
 use Rattle.response_laws.specs.Failures.{IsFoundAname, Fault, without_target, leads_away, unsigned}
 use Rattle.response_laws.specs.Sayings.{asks_alias}
 use Rattle.response_laws.proofs.StandIns.{aname_stands}
-use Rattle.response_laws.proofs.Stepped.{NodeOf, has_set, has_alias, has_stand_in, has_nothing, node_of, StepOf, leaves, refers, fails, new_name, at_name, no_star, at_wildcard, star_gone, step_of}
+use Rattle.response_laws.proofs.Stepped.{NodeOf, has_set, has_alias, has_stand_in, has_nothing, node_of, StepOf, leaves, refers, fails, new_name, at_name, no_wildcard_name, at_wildcard, wildcard_gone, step_of}
 use Rattle.response_laws.proofs.Turned.{turned_first, renaming_set}
 
 module _ (q : Inquiry) where
@@ -28,28 +28,28 @@ module _ (q : Inquiry) where
   abbrev Faulty : Step → Type 0
   Faulty s = s.next ≡ ends failed → Fault q
 
-  node_fault : (star : Option Name) (x a : Name) → Faulty (step_at q star x a)
-  node_fault star x a = by (node_of q.sets a t)
+  node_fault : (wildcard_name : Option Name) (x a : Name) → Faulty (step_at q wildcard_name x a)
+  node_fault wildcard_name x a = by (node_of q.sets a t)
     where
       at : AtNode → Step
-      at = node_step q star x
+      at = node_step q wildcard_name x
 
       kept : RRset → RRset
-      kept = as_found_for (keeps q.signed t) star x
+      kept = as_found_for (keeps q.signed t) wildcard_name x
 
       found : (s : RRset) → set_at q.sets a ANAME ≡ Some s → IsFoundAname q x (kept s)
-      found s e = record { owner = a; stored = s; stands = e; star = star; found = refl }
+      found s e = record { owner = a; stored = s; stands = e; wildcard_name = wildcard_name; found = refl }
 
-      lacking : ends (missing x star true) ≡ ends failed → Fault q
+      lacking : ends (missing x wildcard_name true) ≡ ends failed → Fault q
       lacking h = absurd cc
 
       addressed : (s v : RRset) → set_at q.sets a ANAME ≡ Some s → stand_in_answer q x (kept s) ≡ addresses v → (p : Bool) → q.is_proved ≡ p → (b : Bool) → is_signed v ≡ b
-          → Faulty (cond (p && not b) (at_end failed) (record { answers = as_it_is (part_for q.signed) v ∷ []; made = expanded_names star x; next = ends complete }))
+          → Faulty (cond (p && not b) (at_end failed) (record { answers = as_it_is (part_for q.signed) v ∷ []; made = expanded_names wildcard_name x; next = ends complete }))
       addressed s v k f true e false g h = unsigned x (kept s) v (found s k) f e g
       addressed s v k f true e true g h = absurd cc
       addressed s v k f false e b g h = absurd cc
 
-      stood_in : (s : RRset) → set_at q.sets a ANAME ≡ Some s → (w : StandInAnswer) → stand_in_answer q x (kept s) ≡ w → Faulty (stood_in_step q.is_proved q.signed star x w)
+      stood_in : (s : RRset) → set_at q.sets a ANAME ≡ Some s → (w : StandInAnswer) → stand_in_answer q x (kept s) ≡ w → Faulty (stood_in_step q.is_proved q.signed wildcard_name x w)
       stood_in s k (addresses v) f = addressed s v k f q.is_proved refl (is_signed v) refl
       stood_in s k no_addresses f = lacking
       stood_in s k untold f = λ h. leads_away x (kept s) (found s k) f
@@ -61,7 +61,7 @@ module _ (q : Inquiry) where
       answered : ends complete ≡ ends failed → Fault q
       answered h = absurd cc
 
-      by : NodeOf q.sets a t → Faulty (step_at q star x a)
+      by : NodeOf q.sets a t → Faulty (step_at q wildcard_name x a)
       by (has_set s e f) = subst (λ n. Faulty (at n)) (sym f) answered
       by (has_alias s e f g) = subst (λ n. Faulty (at n)) (sym g) (goes_on (cname_target s))
       by (has_stand_in s e f k g) = subst (λ n. Faulty (at n)) (sym g) (stood_in s (aname_stands q.sets a t s k) (stand_in_answer q x (kept s)) refl)
@@ -98,9 +98,9 @@ module _ (q : Inquiry) where
           λ h. without_target n.name s (renaming_set q.origin q.sets x t n.name s n.turns).1 g
       by (new_name v target o f call_concludes g e) = of (new_name_step q.signed t before x v o) e (renaming_fault before x v o)
       by (at_name u there e) = of (step_at q None x x) e (node_fault None x x)
-      by (no_star u absent f e) = of (at_end (missing x None false)) e (at (missing x None false) (λ f. absurd cc))
+      by (no_wildcard_name u absent f e) = of (at_end (missing x None false)) e (at (missing x None false) (λ f. absurd cc))
       by (at_wildcard w u absent f g e) = of (step_at q (Some w) x w) e (node_fault (Some w) x w)
-      by (star_gone w u absent f g e) = of (at_end (missing x (Some w) false)) e (at (missing x (Some w) false) (λ f. absurd cc))
+      by (wildcard_gone w u absent f g e) = of (at_end (missing x (Some w) false)) e (at (missing x (Some w) false) (λ f. absurd cc))
 
   fault_from : (k : ℕ) (seen : List Name) (before : List RRset) (x : Name) → (path_from q k seen before x).end ≡ failed → Fault q
   fault_from zero seen before x = λ e. absurd cc

@@ -20,7 +20,7 @@ use Rattle.zone_response.specs.Sections.{Sections, sent, as_it_is, part_for}
 use Rattle.zone_response.specs.Steps.{End, complete, referred, missing, outside, unfollowed, too_long, failed}
 use Rattle.response_laws.specs.Contents.{is_delegated, is_refusal, Origin, IsFoundByItsWildcard, IsNegative, HasToProve, AuthorityOrigin, start, servers, digests, denial, IsGlueOf, IsHelpful, NegativeTtlIsLesser, HasContents}
 use Rattle.response_laws.specs.Sayings.{Saying, data_of, name_error, no_data, referral, saying, SaysEnd}
-use Rattle.response_laws.proofs.Answers.{ByStarOf, path_answers}
+use Rattle.response_laws.proofs.Answers.{ByWildcardOf, path_answers}
 use Rattle.response_laws.proofs.Helpful.{helpful}
 use Rattle.response_laws.proofs.Origins.{origin_by}
 use Rattle.response_laws.proofs.Parts.{path_of, as_proof, IsMadeOf}
@@ -126,8 +126,8 @@ module _ (z : Zone) (zone : IsZone z.sets) (own : HasOwnDenials z) (q : Query) (
   -- ---- AA
 
   no_refusal : (e : End) → is_refusal (code_at e) ≡ false
-  no_refusal (missing x star true) = refl
-  no_refusal (missing x star false) = refl
+  no_refusal (missing x wildcard_name true) = refl
+  no_refusal (missing x wildcard_name false) = refl
   no_refusal (referred c) = refl
   no_refusal complete = refl
   no_refusal (outside x) = refl
@@ -145,9 +145,9 @@ module _ (z : Zone) (zone : IsZone z.sets) (own : HasOwnDenials z) (q : Query) (
 
   answers_are : (s : RRset) → Contains r.answers s → Origin (inquiry z q) r.answers (IsFoundByItsWildcard (inquiry z q)) s
   answers_are s c =
-      origin_by (inquiry z q) r.answers s (ByStarOf (inquiry z q) (path_of z q).made) (IsFoundByItsWildcard (inquiry z q))
-      (λ y u found k. record { absent = k.1.made.absent; star = k.1.star; asked = k.1.made.star; stored = k.1.stored; stands = k.1.stands; made = k.1.is })
-      (subst (λ all. Origin (inquiry z q) all (ByStarOf (inquiry z q) (path_of z q).made) s) (sym h.answers)
+      origin_by (inquiry z q) r.answers s (ByWildcardOf (inquiry z q) (path_of z q).made) (IsFoundByItsWildcard (inquiry z q))
+      (λ y u found k. record { absent = k.1.made.absent; wildcard_name = k.1.wildcard_name; asked = k.1.made.wildcard_name; stored = k.1.stored; stands = k.1.stands; made = k.1.is })
+      (subst (λ all. Origin (inquiry z q) all (ByWildcardOf (inquiry z q) (path_of z q).made) s) (sym h.answers)
       (path_answers (inquiry z q) zone q.name s (subst (In s) h.answers (Contains-In s r.answers c))))
 
   -- ---- the authority section
@@ -172,8 +172,8 @@ module _ (z : Zone) (zone : IsZone z.sets) (own : HasOwnDenials z) (q : Query) (
   child_stands c e = let n = referred_stands z zone q r h c e in ap (λ k. set_at m k NS) (zone.stored n.0 NS c n.1).owner ∙ n.1
 
   front_is : (e : End) → ends ≡ e → (s : RRset) → In s (end_sets (ds_at m e) q.signed h.soa e) → AuthorityOrigin z q r s
-  front_is (missing x star there) f s (inl k) = start h.soa (negative_said x there (says_so (missing x star there) f)) h.stands (sym k)
-  front_is (missing x star there) f s (inr i) = absurd i
+  front_is (missing x wildcard_name there) f s (inl k) = start h.soa (negative_said x there (says_so (missing x wildcard_name there) f)) h.stands (sym k)
+  front_is (missing x wildcard_name there) f s (inr i) = absurd i
   front_is (referred c) f s (inl k) = servers (lower c.owner) c (says_so (referred c) f) (child_stands c f) (sym k)
   front_is (referred c) f s (inr i) = by q.signed refl (child_ds m c) refl i
     where
@@ -192,7 +192,7 @@ module _ (z : Zone) (zone : IsZone z.sets) (own : HasOwnDenials z) (q : Query) (
   to_prove s i = by (proves_what z (ds_at m ends) (path_of z q).made ends h.proofs s (h.given (is_signed' s i)) i)
     where
       at : (e : End) → ends ≡ e → NeedsProof (ds_at m e) e → HasToProve z q r
-      at (missing x star there) f n = inl (negative_said x there (says_so (missing x star there) f))
+      at (missing x wildcard_name there) f n = inl (negative_said x there (says_so (missing x wildcard_name there) f))
       at (referred c) f n = inr (inl (lower c.owner, says_so (referred c) f, without (child_ds m c) n))
         where
           without : (o : Option RRset) → NeedsProof o (referred c) → is_some o ≡ false
@@ -235,7 +235,7 @@ module _ (z : Zone) (zone : IsZone z.sets) (own : HasOwnDenials z) (q : Query) (
       by (says_nothing f) = absurd (subst IsNegative f n)
       by (says_data y sets f g u) = absurd (subst IsNegative f n)
       by (says_referral y c f g u) = absurd (subst IsNegative f n)
-      by (says_missing y star there f g u k) =
+      by (says_missing y wildcard_name there f g u k) =
           subst (In (sent_soa h.soa)) (sym h.authorities)
           (In-append_left (sent_soa h.soa) front (map (as_proof (negative_ttl h.soa)) h.proofs)
           (subst (λ w. In (sent_soa h.soa) (end_sets (ds_at m w) q.signed h.soa w)) (sym g) (inl refl)))
@@ -258,7 +258,7 @@ module _ (z : Zone) (zone : IsZone z.sets) (own : HasOwnDenials z) (q : Query) (
       by : Said z q r → In s r.glue
       by (says_nothing f) = let p : None ≡ Some (referral c) = sym f ∙ e in absurd cc
       by (says_data y sets f k u) = let p : data_of y ≡ referral c = same (data_of y) f in absurd cc
-      by (says_missing y star there f k u n) = absurd (not_negative there y c (same (cond there (no_data y) (name_error y)) f))
+      by (says_missing y wildcard_name there f k u n) = absurd (not_negative there y c (same (cond there (no_data y) (name_error y)) f))
       by (says_referral y v f k u) =
           subst (In s) (sym (h.glue ∙ ap (glue_at m) k))
           (In-flat_map (glue_of m (lower v.owner)) g.host s (hosts v)
@@ -301,7 +301,7 @@ module _ (z : Zone) (zone : IsZone z.sets) (own : HasOwnDenials z) (q : Query) (
                 stands = t.2;
                 sent = sym w.2;
               }
-      by (missing x star there) f i = absurd i
+      by (missing x wildcard_name there) f i = absurd i
       by complete f i = absurd i
       by (outside x) f i = absurd i
       by unfollowed f i = absurd i

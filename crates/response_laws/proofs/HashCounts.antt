@@ -35,7 +35,7 @@ use Rattle.response_laws.specs.HashCounts.{most_for_end, most_hashed, HasDigests
 use Rattle.response_laws.specs.HashedSayings.{zone_hash, DeniesByNsec3, IsReached}
 use Rattle.response_laws.proofs.HashedNames.{there_named, origin_there, uncut_under, plain_under}
 use Rattle.response_laws.proofs.HashedParts.{zone_owner}
-use Rattle.response_laws.proofs.LastNames.{IsMissing, bare, bare_star, starless, gone, EndOf, stops, arrives, PathEnd, path_end, IsReferred}
+use Rattle.response_laws.proofs.LastNames.{IsMissing, bare, bare_wildcard, unsynthesized, gone, EndOf, stops, arrives, PathEnd, path_end, IsReferred}
 use Rattle.response_laws.proofs.LentSets.{exists_kept, reached_kept}
 use Rattle.response_laws.proofs.Parts.{path_of}
 use Rattle.response_laws.proofs.SaidNames.{reached_unturned, reached_cut}
@@ -203,19 +203,19 @@ module _ (z : Zone) (parameters : Nsec3Parameters) (q : Query) (d : DeniesByNsec
 
   -- ---- the end of a search
 
-  missing_few : (x : Name) (star : Option Name) (there : Bool) → IsUndiverted (inquiry z q) x → IsMissing (inquiry z q) x star there → length (denial_hashed z x star) ≤ most_for_end (missing x star there)
-  missing_few x star there u how = by how
+  missing_few : (x : Name) (wildcard_name : Option Name) (there : Bool) → IsUndiverted (inquiry z q) x → IsMissing (inquiry z q) x wildcard_name there → length (denial_hashed z x wildcard_name) ≤ most_for_end (missing x wildcard_name there)
+  missing_few x wildcard_name there u how = by how
     where
       k : IsReached z.origin z.sets x
       k = reached_unturned z q d.top.no_dname x u
 
-      of : (s : Option Name) → star ≡ s → length (denial_hashed z x s) ≤ most_for_end (missing x s there) → length (denial_hashed z x star) ≤ most_for_end (missing x star there)
+      of : (s : Option Name) → wildcard_name ≡ s → length (denial_hashed z x s) ≤ most_for_end (missing x s there) → length (denial_hashed z x wildcard_name) ≤ most_for_end (missing x wildcard_name there)
       of s e h = subst (λ s. length (denial_hashed z x s) ≤ most_for_end (missing x s there)) (sym e) h
 
-      by : IsMissing (inquiry z q) x star there → length (denial_hashed z x star) ≤ most_for_end (missing x star there)
+      by : IsMissing (inquiry z q) x wildcard_name there → length (denial_hashed z x wildcard_name) ≤ most_for_end (missing x wildcard_name there)
       by (bare e f g b) = of None f (one_present x k g)
-      by (bare_star w e f absent g stands b) = of (Some w) f (three_below x k absent w g)
-      by (starless e absent f) = absurd (has_wildcard x k absent f)
+      by (bare_wildcard w e f absent g stands b) = of (Some w) f (three_below x k absent w g)
+      by (unsynthesized e absent f) = absurd (has_wildcard x k absent f)
       by (gone w e f absent g none) = of (Some w) f (three_below x k absent w g)
 
   referred_few : (x : Name) (c : RRset) → IsReferred (inquiry z q) x c → (ds : Option RRset) → length (end_hashed z ds (referred c)) ≤ 1
@@ -227,8 +227,8 @@ module _ (z : Zone) (parameters : Nsec3Parameters) (q : Query) (d : DeniesByNsec
   end_few : (x : Name) (sets : List RRset) (e : End) → EndOf (inquiry z q) (path_of z q).answers x sets e → (ds : Option RRset) → length (end_hashed z ds e) ≤ most_for_end e
   end_few x sets complete h ds = omega arith
   end_few x sets (referred c) h ds = referred_few x c h.0 ds
-  end_few x sets (missing y star there) h ds =
-      subst (λ (n : Name). length (end_hashed z ds (missing n star there)) ≤ most_for_end (missing n star there)) (sym h.2) (missing_few x star there h.0 h.1)
+  end_few x sets (missing y wildcard_name there) h ds =
+      subst (λ (n : Name). length (end_hashed z ds (missing n wildcard_name there)) ≤ most_for_end (missing n wildcard_name there)) (sym h.2) (missing_few x wildcard_name there h.0 h.1)
   end_few x sets (outside y) h ds = omega arith
   end_few x sets unfollowed h ds = omega arith
   end_few x sets too_long h ds = omega arith

@@ -116,30 +116,30 @@ module _ {origin : Name} {beside m : Sets} {hash : Name → Option (List ℕ)} {
     closer_hashed : IsHashedOn names x c
     closer_hashed = hashed_at a enclosed_by.is_encloser c enclosed_by.closer_at enclosed_by.closer_below
 
-    abbrev star : Name
-    star = wildcard_under a
+    abbrev wildcard_name : Name
+    wildcard_name = wildcard_under a
 
-    -- the set of w tells of the star
-    record TellsOfStar (w : Name) : Type 0 where
+    -- the set of w tells of the wildcard
+    record TellsOfWildcard (w : Name) : Type 0 where
       pub on : In w names
       pub found : wildcard_set origin m named_owner a ≡ Some (set_of_named zone apart w on).0
-      pub at_wildcard : In star names → w ≡ star
-      pub off_star : (In star names → ⊥) → IsCover zone apart star w
+      pub at_wildcard : In wildcard_name names → w ≡ wildcard_name
+      pub off_wildcard : (In wildcard_name names → ⊥) → IsCover zone apart wildcard_name w
 
-    told_star : (w : Name) × TellsOfStar w
-    told_star = by (is_named names star) refl
+    told_wildcard : (w : Name) × TellsOfWildcard w
+    told_wildcard = by (is_named names wildcard_name) refl
       where
-        h : IsHashedOn names x star
+        h : IsHashedOn names x wildcard_name
         h = wildcard_hashed zone apart a c enclosed_by
 
-        by : (b : Bool) → is_named names star ≡ b → (w : Name) × TellsOfStar w
+        by : (b : Bool) → is_named names wildcard_name ≡ b → (w : Name) × TellsOfWildcard w
         by true e =
-            let i = named_in names star e in
-            (star, record { on = i; found = ap (λ s. option_or s (covering origin m named_owner star)) (matched star i); at_wildcard = λ j. refl; off_star = λ off. absurd (off i) })
+            let i = named_in names wildcard_name e in
+            (wildcard_name, record { on = i; found = ap (λ s. option_or s (covering origin m named_owner wildcard_name)) (matched wildcard_name i); at_wildcard = λ j. refl; off_wildcard = λ off. absurd (off i) })
         by false e =
-            let off = λ (i : In star names). true≢false (sym (in_named names star i) ∙ e) in
-            let k = has_cover zone apart star h off in
-            (k.0, record { on = k.1.on; found = ap (λ s. option_or s (covering origin m named_owner star)) (none_matches star h e) ∙ covering_is star k.0 h k.1; at_wildcard = λ i. absurd (off i); off_star = λ away. k.1 })
+            let off = λ (i : In wildcard_name names). true≢false (sym (in_named names wildcard_name i) ∙ e) in
+            let k = has_cover zone apart wildcard_name h off in
+            (k.0, record { on = k.1.on; found = ap (λ s. option_or s (covering origin m named_owner wildcard_name)) (none_matches wildcard_name h e) ∙ covering_is wildcard_name k.0 h k.1; at_wildcard = λ i. absurd (off i); off_wildcard = λ away. k.1 })
 
     -- what is found for x with e, its closest encloser by names, as the search knows it
     module _ (e : Name) (above : IsAbove e x) (below : IsAtOrAbove a e) where
@@ -150,24 +150,24 @@ module _ {origin : Name} {beside m : Sets} {hash : Name → Option (List ℕ)} {
       answer = absent_sets origin m named_owner x e
 
       abbrev owners : List Name
-      owners = owner zone apart a ∷ owner zone apart k.0 ∷ owner zone apart told_star.0 ∷ []
+      owners = owner zone apart a ∷ owner zone apart k.0 ∷ owner zone apart told_wildcard.0 ∷ []
 
-      sets_are : filter_map (look m) owners ≡ (set_of_named zone apart a enclosed_by.on).0 ∷ (set_of_named zone apart k.0 k.1.on).0 ∷ (set_of_named zone apart told_star.0 told_star.1.on).0 ∷ []
+      sets_are : filter_map (look m) owners ≡ (set_of_named zone apart a enclosed_by.on).0 ∷ (set_of_named zone apart k.0 k.1.on).0 ∷ (set_of_named zone apart told_wildcard.0 told_wildcard.1.on).0 ∷ []
       sets_are =
           λ i. cons_option ((set_of_named zone apart a enclosed_by.on).1 i)
-          (cons_option ((set_of_named zone apart k.0 k.1.on).1 i) (cons_option ((set_of_named zone apart told_star.0 told_star.1.on).1 i) []))
+          (cons_option ((set_of_named zone apart k.0 k.1.on).1 i) (cons_option ((set_of_named zone apart told_wildcard.0 told_wildcard.1.on).1 i) []))
 
       own : (o : Name) → In o owners → owns m o NSEC3 ≡ true
       own o (inl q) = ap (λ n. owns m n NSEC3) (sym q) ∙ named_owns zone apart a enclosed_by.on
       own o (inr (inl q)) = ap (λ n. owns m n NSEC3) (sym q) ∙ named_owns zone apart k.0 k.1.on
-      own o (inr (inr (inl q))) = ap (λ n. owns m n NSEC3) (sym q) ∙ named_owns zone apart told_star.0 told_star.1.on
+      own o (inr (inr (inl q))) = ap (λ n. owns m n NSEC3) (sym q) ∙ named_owns zone apart told_wildcard.0 told_wildcard.1.on
       own o (inr (inr (inr i))) = absurd i
 
       answer_is : absent_sets origin m named_owner x e ≡ filter_map (look m) (in_order name_cmp owners)
       answer_is =
           ap (λ o. option_map_or (absent_below origin m named_owner x) o []) (provable_from a e enclosed_by.is_encloser above below)
           ∙ (λ i. in_order owner_cmp
-          (option_to_list (matched a enclosed_by.on i) ++ option_to_list ((ap (option_and_then (covering origin m named_owner)) enclosed_by.is_closer ∙ covering_is c k.0 closer_hashed k.1) i) ++ option_to_list (told_star.1.found i)))
+          (option_to_list (matched a enclosed_by.on i) ++ option_to_list ((ap (option_and_then (covering origin m named_owner)) enclosed_by.is_closer ∙ covering_is c k.0 closer_hashed k.1) i) ++ option_to_list (told_wildcard.1.found i)))
           ∙ ap (in_order owner_cmp) (sym sets_are) ∙ sym (sets_in_order m zone.zone owners own)
 
       has : (o : Name) → In o owners → Has zone apart answer o
@@ -186,12 +186,12 @@ module _ {origin : Name} {beside m : Sets} {hash : Name → Option (List ℕ)} {
                 cover = has_cover_of zone apart c k.0 closer_hashed k.1 answer (has (owner zone apart k.0) (inr (inl refl)));
               };
               matches = has_set zone apart a enclosed_by.on answer (has (owner zone apart a) (inl refl));
-              star_on = λ on.
-                  let i = Contains-In star names on in
-                  has_set zone apart star i answer (subst (λ n. Has zone apart answer (owner zone apart n)) (told_star.1.at_wildcard i) (has (owner zone apart told_star.0) (inr (inr (inl refl)))));
-              star_off = λ away.
-                  has_cover_of zone apart star told_star.0 (wildcard_hashed zone apart a c enclosed_by) (told_star.1.off_star (λ i. away (In-Contains star names i))) answer
-                  (has (owner zone apart told_star.0) (inr (inr (inl refl))));
+              wildcard_on = λ on.
+                  let i = Contains-In wildcard_name names on in
+                  has_set zone apart wildcard_name i answer (subst (λ n. Has zone apart answer (owner zone apart n)) (told_wildcard.1.at_wildcard i) (has (owner zone apart told_wildcard.0) (inr (inr (inl refl)))));
+              wildcard_off = λ away.
+                  has_cover_of zone apart wildcard_name told_wildcard.0 (wildcard_hashed zone apart a c enclosed_by) (told_wildcard.1.off_wildcard (λ i. away (In-Contains wildcard_name names i))) answer
+                  (has (owner zone apart told_wildcard.0) (inr (inr (inl refl))));
             };
       }
 

@@ -31,7 +31,7 @@ use Rattle.response_laws.proofs.HashedProved.{same_name, no_nsec, records_proved
 use Rattle.response_laws.proofs.HashedShown.{IsEncloserShown}
 use Rattle.response_laws.proofs.HashedSummed.{sum_of_error}
 use Rattle.response_laws.proofs.HashedTold.{IsHashedName, away, below, enclosed, not_handed, opted_out_is, error_proved}
-use Rattle.response_laws.proofs.LastNames.{IsMissing, bare, bare_star, starless, gone}
+use Rattle.response_laws.proofs.LastNames.{IsMissing, bare, bare_wildcard, unsynthesized, gone}
 use Rattle.response_laws.proofs.LentSets.{exists_kept, encloser_kept}
 use Rattle.response_laws.proofs.Parts.{path_of, IsMadeOf}
 use Rattle.response_laws.proofs.SaidNames.{reached_unturned, IsMissingName, missing_said}
@@ -107,8 +107,8 @@ module _ (z : Zone) (parameters : Nsec3Parameters) (q : Query) (r : Sections) (d
       pub closer : Name
       pub is : IsEnclosed names x encloser closer
       pub shown : IsEncloserShown j.zone j.apart encloser closer rs
-      pub star_on : In (wildcard_under encloser) names → In (record_of j.zone j.apart (wildcard_under encloser)) rs
-      pub star_off : (In (wildcard_under encloser) names → ⊥) → (c : Name) × IsCovering j.zone j.apart (wildcard_under encloser) c × In (record_of j.zone j.apart c) rs
+      pub wildcard_on : In (wildcard_under encloser) names → In (record_of j.zone j.apart (wildcard_under encloser)) rs
+      pub wildcard_off : (In (wildcard_under encloser) names → ⊥) → (c : Name) × IsCovering j.zone j.apart (wildcard_under encloser) c × In (record_of j.zone j.apart c) rs
       pub agrees : parameters.opt_out ≡ false → wildcard_under encloser ≡ w
 
     pub absent_shown : (w : Name) (there : Bool) → (path_of z q).end ≡ missing x (Some w) there → exists z.sets x ≡ false → source_of_synthesis z.sets x ≡ Some w → IsAbsentShown w
@@ -118,8 +118,8 @@ module _ (z : Zone) (parameters : Nsec3Parameters) (q : Query) (r : Sections) (d
       closer = n.1;
       is = n.2;
       shown = encloser_shown (absent_sets o m (zone_owner z parameters) x asked.encloser) among n.0 n.1 (record { encloser = call_concludes.encloser; cover = call_concludes.cover; is_cover = call_concludes.is_cover; has_cover = call_concludes.has_cover });
-      star_on = λ i. shown_there (absent_sets o m (zone_owner z parameters) x asked.encloser) among (record_of j.zone j.apart (wildcard_under n.0)) (call_concludes.star_on i);
-      star_off = λ out. let c = call_concludes.star_off out in (c.0, c.1, shown_there (absent_sets o m (zone_owner z parameters) x asked.encloser) among (record_of j.zone j.apart c.0) c.2);
+      wildcard_on = λ i. shown_there (absent_sets o m (zone_owner z parameters) x asked.encloser) among (record_of j.zone j.apart (wildcard_under n.0)) (call_concludes.wildcard_on i);
+      wildcard_off = λ out. let c = call_concludes.wildcard_off out in (c.0, c.1, shown_there (absent_sets o m (zone_owner z parameters) x asked.encloser) among (record_of j.zone j.apart c.0) c.2);
       agrees = λ all_in.
           ap wildcard_under
           (encloser_agrees o z.sets m hash parameters names d.chain (no_nsec z parameters q r d signed h) x (below j away_x) n.0 n.2.is_encloser asked.encloser found all_in j.reached.uncut
@@ -156,17 +156,17 @@ module _ (z : Zone) (parameters : Nsec3Parameters) (q : Query) (r : Sections) (d
       pub out_is : proves_opted_out z.origin (zone_hash z parameters) (shown_nsec3 r) x ≡ parameters.opt_out
       out_is = opted_out_is j rs of_zone s.off_chain s.encloser s.closer s.is s.shown
 
-      star_error : exists z.sets (wildcard_under s.encloser) ≡ false → proves_name_error o hash rs x ≡ true
-      star_error none =
-          let c = s.star_off (away j (wildcard_under s.encloser) (off z parameters q r d signed h (wildcard_under s.encloser) none)) in
+      wildcard_name_error : exists z.sets (wildcard_under s.encloser) ≡ false → proves_name_error o hash rs x ≡ true
+      wildcard_name_error none =
+          let c = s.wildcard_off (away j (wildcard_under s.encloser) (off z parameters q r d signed h (wildcard_under s.encloser) none)) in
           error_proved j rs of_zone s.off_chain s.encloser s.closer s.is s.shown c.0 c.1 c.2
 
       error_shown : exists z.sets w ≡ false → HasErrorProof z parameters names x → proves_name_error o hash rs x ≡ true
       error_shown none has = by parameters.opt_out refl
         where
           by : (b : Bool) → parameters.opt_out ≡ b → proves_name_error o hash rs x ≡ true
-          by true f = star_error (has f s.encloser s.is.is_encloser)
-          by false f = star_error (ap (exists z.sets) (s.agrees f) ∙ none)
+          by true f = wildcard_name_error (has f s.encloser s.is.is_encloser)
+          by false f = wildcard_name_error (ap (exists z.sets) (s.agrees f) ∙ none)
 
       -- what is there is left out
       out_by : (b : Bool) → parameters.opt_out ≡ b → exists z.sets w ≡ false → proves_name_error o hash rs x || proves_opted_out o hash rs x || proves_wildcard_no_data o hash rs x t ≡ true
@@ -193,8 +193,8 @@ module _ (z : Zone) (parameters : Nsec3Parameters) (q : Query) (r : Sections) (d
   error_said x e apart = by (missing_said z q r zone signed h false x e)
     where
       -- a name below the origin has a wildcard
-      has_star : (x : Name) → IsUndiverted (inquiry z q) x → HashesDistinctly z parameters names x → exists z.sets x ≡ false → source_of_synthesis z.sets x ≡ None → ⊥
-      has_star x u apart absent f =
+      has_wildcard_name : (x : Name) → IsUndiverted (inquiry z q) x → HashesDistinctly z parameters names x → exists z.sets x ≡ false → source_of_synthesis z.sets x ≡ None → ⊥
+      has_wildcard_name x u apart absent f =
           let j = hashed_name z parameters q r d signed h x (reached_unturned z q d.top.no_dname x u) apart in
           let there = sym (exists_kept z d.denials o) ∙ origin_there o z.sets m hash parameters names d.chain (no_nsec z parameters q r d signed h) in
           let e = longest_above (exists z.sets) x o (below j (off z parameters q r d signed h x absent)) there in
@@ -204,11 +204,11 @@ module _ (z : Zone) (parameters : Nsec3Parameters) (q : Query) (r : Sections) (d
       at_wildcard : (w : Name) → (path_of z q).end ≡ missing x (Some w) false → exists z.sets x ≡ false → source_of_synthesis z.sets x ≡ Some w → exists z.sets w ≡ false → IsUndiverted (inquiry z q) x → IsHashedError z parameters names r x
       at_wildcard w end absent source none u = error_told x u apart w (absent_shown x u apart w false end absent source) false end source none
 
-      of : (star : Option Name) → (path_of z q).end ≡ missing x star false → IsUndiverted (inquiry z q) x → IsMissing (inquiry z q) x star false → IsHashedError z parameters names r x
-      of star end u (bare e f g b) = absurd (true≢false (sym e))
-      of star end u (bare_star w e f absent g there b) = absurd (true≢false (sym e))
-      of star end u (starless e absent f) = absurd (has_star x u apart absent f)
-      of star end u (gone w e f absent g none) = at_wildcard w (end ∙ ap (λ s. missing x s false) f) absent g none u
+      of : (wildcard_name : Option Name) → (path_of z q).end ≡ missing x wildcard_name false → IsUndiverted (inquiry z q) x → IsMissing (inquiry z q) x wildcard_name false → IsHashedError z parameters names r x
+      of wildcard_name end u (bare e f g b) = absurd (true≢false (sym e))
+      of wildcard_name end u (bare_wildcard w e f absent g there b) = absurd (true≢false (sym e))
+      of wildcard_name end u (unsynthesized e absent f) = absurd (has_wildcard_name x u apart absent f)
+      of wildcard_name end u (gone w e f absent g none) = at_wildcard w (end ∙ ap (λ s. missing x s false) f) absent g none u
 
       by : IsMissingName z q r zone signed h x false → IsHashedError z parameters names r x
-      by s = of s.star s.end s.unturned s.how
+      by s = of s.wildcard_name s.end s.unturned s.how

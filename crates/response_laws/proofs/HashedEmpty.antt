@@ -33,14 +33,14 @@ use Rattle.response_laws.specs.ProvedSayings.{IsEmptyProof}
 use Rattle.response_laws.specs.Sayings.{no_data, saying}
 use Rattle.response_laws.proofs.BareNames.{bare_unowned, lent_not_any, lent_unowned, lent_alias, lent_beside_soa}
 use Rattle.response_laws.proofs.HashedDenied.{present_given, encloser_shown, unhanded, IsAbsentShown, absent_shown, out_is}
-use Rattle.response_laws.proofs.HashedNames.{uncut_wildcard, plain_under, plain_star, encloser_in, encloser_above}
+use Rattle.response_laws.proofs.HashedNames.{uncut_wildcard, plain_under, plain_wildcard, encloser_in, encloser_above}
 use Rattle.response_laws.proofs.HashedParts.{zone_owner}
 use Rattle.response_laws.proofs.HashedProved.{no_nsec, records_proved, sound_proved, shown_of, hashed_name, judged_name, there_on}
 use Rattle.response_laws.proofs.HashedShown.{IsEncloserShown, own_matched, encloser_matched}
-use Rattle.response_laws.proofs.HashedSummed.{sum_of_own, sum_of_star, sum_of_left_out, sum_of_digest}
-use Rattle.response_laws.proofs.HashedTold.{IsHashedName, away, below, enclosed, no_encloser, own_denied, no_own_data, no_own_delegation, opted_out_is, no_error, star_denied}
+use Rattle.response_laws.proofs.HashedSummed.{sum_of_own, sum_of_wildcard, sum_of_left_out, sum_of_digest}
+use Rattle.response_laws.proofs.HashedTold.{IsHashedName, away, below, enclosed, no_encloser, own_denied, no_own_data, no_own_delegation, opted_out_is, no_error, wildcard_denied}
 use Rattle.response_laws.proofs.HashedTypes.{own_denies}
-use Rattle.response_laws.proofs.LastNames.{IsBare, IsMissing, bare, bare_star, starless, gone}
+use Rattle.response_laws.proofs.LastNames.{IsBare, IsMissing, bare, bare_wildcard, unsynthesized, gone}
 use Rattle.response_laws.proofs.LentSets.{owns_kept}
 use Rattle.response_laws.proofs.Parts.{path_of, IsMadeOf}
 use Rattle.response_laws.proofs.SaidNames.{reached_unturned, missing_said}
@@ -99,10 +99,10 @@ module _ (z : Zone) (parameters : Nsec3Parameters) (q : Query) (r : Sections) (d
       -- or opt-out leaves it out
       by_opt_out : parameters.opt_out ≡ true → on_chain x ≡ false → proves_opted_out o hash rs x ≡ true → IsBareBy
 
-    bare_by : (star : Option Name) (there : Bool) → (path_of z q).end ≡ missing x star there → there ≡ true → IsMissing (inquiry z q) x star there → IsBareBy
-    bare_by star there end so (starless e absent f) = absurd (true≢false (sym so ∙ e))
-    bare_by star there end so (gone w e f absent g i) = absurd (true≢false (sym so ∙ e))
-    bare_by star there end so (bare e f exists_there b) = by (on_chain x) refl
+    bare_by : (wildcard_name : Option Name) (there : Bool) → (path_of z q).end ≡ missing x wildcard_name there → there ≡ true → IsMissing (inquiry z q) x wildcard_name there → IsBareBy
+    bare_by wildcard_name there end so (unsynthesized e absent f) = absurd (true≢false (sym so ∙ e))
+    bare_by wildcard_name there end so (gone w e f absent g i) = absurd (true≢false (sym so ∙ e))
+    bare_by wildcard_name there end so (bare e f exists_there b) = by (on_chain x) refl
       where
         among : (s : RRset) → In s (present_sets o m (zone_owner z parameters) x) → In s h.proofs
         among = present_given z parameters q r d signed h x there (end ∙ ap (λ s. missing x s there) f)
@@ -119,14 +119,14 @@ module _ (z : Zone) (parameters : Nsec3Parameters) (q : Query) (r : Sections) (d
                 let n = enclosed j away_x in
                 by_opt_out opts away_x
                 (opted_out_is j rs of_zone away_x n.0 n.1 n.2 (encloser_shown z parameters q r d signed h x u apart (present_sets o m (zone_owner z parameters) x) among n.0 n.1 (encloser_matched j.zone j.apart (away j x away_x) n.0 n.1 n.2)) ∙ opts)
-    bare_by star there end so (bare_star w e f absent g exists_there b) = by parameters.opt_out refl
+    bare_by wildcard_name there end so (bare_wildcard w e f absent g exists_there b) = by parameters.opt_out refl
       where
         s : IsAbsentShown z parameters q r d signed h x u apart w
         s = absent_shown z parameters q r d signed h x u apart w there (end ∙ ap (λ s. missing x s there) f) absent g
 
         by : (b : Bool) → parameters.opt_out ≡ b → IsBareBy
         by true opts = by_opt_out opts s.off_chain (out_is z parameters q r d signed h x u apart w s ∙ opts)
-        by false all_in = by_wildcard all_in absent s.encloser s.closer s.off_chain s.is s.shown (g ∙ ap Some (sym same)) on (s.star_on on) (subst (λ n. IsBare z.sets n t) (sym same) b)
+        by false all_in = by_wildcard all_in absent s.encloser s.closer s.off_chain s.is s.shown (g ∙ ap Some (sym same)) on (s.wildcard_on on) (subst (λ n. IsBare z.sets n t) (sym same) b)
           where
             same : wildcard_under s.encloser ≡ w
             same = s.agrees all_in
@@ -137,15 +137,15 @@ module _ (z : Zone) (parameters : Nsec3Parameters) (q : Query) (r : Sections) (d
             up : IsAbove s.encloser x
             up = encloser_above o z.sets m hash parameters names d.chain lacks_nsec x over s.encloser s.is.is_encloser
 
-            inside_star : is_at_or_above o (wildcard_under s.encloser) ≡ true
-            inside_star =
+            inside_wildcard : is_at_or_above o (wildcard_under s.encloser) ≡ true
+            inside_wildcard =
                 is_at_or_above_complete o (wildcard_under s.encloser)
                 (above_through o s.encloser (wildcard_under s.encloser) (encloser_in o z.sets m hash parameters names d.chain lacks_nsec x over s.encloser s.is.is_encloser) (asterisk_label ∷ [], refl))
 
             on : In (wildcard_under s.encloser) names
             on =
                 named_in names (wildcard_under s.encloser)
-                (there_on z parameters q r d signed h (wildcard_under s.encloser) inside_star (uncut_wildcard o m x s.encloser j.reached.uncut up) (plain_star m x s.encloser j.reached.no_dname up) all_in (ap (exists z.sets) same ∙ exists_there))
+                (there_on z parameters q r d signed h (wildcard_under s.encloser) inside_wildcard (uncut_wildcard o m x s.encloser j.reached.uncut up) (plain_wildcard m x s.encloser j.reached.no_dname up) all_in (ap (exists z.sets) same ∙ exists_there))
 
     -- ---- what that proves
 
@@ -175,10 +175,10 @@ module _ (z : Zone) (parameters : Nsec3Parameters) (q : Query) (r : Sections) (d
     no_data_by : HasHashedProvableAbsence o z.sets x t → In x names → In (record_of j.zone j.apart x) rs → IsBare z.sets x t → proves_no_data o hash rs x t ≡ true
     no_data_by s on own b = own_denied j rs of_zone on own t (denied_at x on b s.no_signature s.no_apex (lent_beside_soa z d.denials q x u d.top.unreferred))
 
-    star_data_by : HasHashedProvableAbsence o z.sets x t → exists z.sets x ≡ false → (a c : Name) (out : on_chain x ≡ false) (e : IsEnclosed names x a c) (has : IsEncloserShown j.zone j.apart a c rs) → source_of_synthesis z.sets x ≡ Some (wildcard_under a)
+    wildcard_data_by : HasHashedProvableAbsence o z.sets x t → exists z.sets x ≡ false → (a c : Name) (out : on_chain x ≡ false) (e : IsEnclosed names x a c) (has : IsEncloserShown j.zone j.apart a c rs) → source_of_synthesis z.sets x ≡ Some (wildcard_under a)
         → In (wildcard_under a) names → In (record_of j.zone j.apart (wildcard_under a)) rs → IsBare z.sets (wildcard_under a) t → proves_wildcard_no_data o hash rs x t ≡ true
-    star_data_by s absent a c out e has source on own b =
-        star_denied j rs of_zone out a c e has t on own
+    wildcard_data_by s absent a c out e has source on own b =
+        wildcard_denied j rs of_zone out a c e has t on own
         (denied_at (wildcard_under a) on b s.no_signature (λ digest. s.no_wildcard_apex absent digest (wildcard_under a) source)
         (λ other ns. absurd (true≢false (sym ns ∙ owns_kept z d.denials (wildcard_under a) NS refl ∙ s.no_wildcard_cut absent (wildcard_under a) source))))
 
@@ -186,7 +186,7 @@ module _ (z : Zone) (parameters : Nsec3Parameters) (q : Query) (r : Sections) (d
     proved_by s (by_own on own b) =
         or_left (proves_no_data o hash rs x t || proves_opted_out o hash rs x) (proves_wildcard_no_data o hash rs x t) (or_left (proves_no_data o hash rs x t) (proves_opted_out o hash rs x) (no_data_by s on own b))
     proved_by s (by_wildcard all_in absent a c out e has source on own b) =
-        or_right (proves_no_data o hash rs x t || proves_opted_out o hash rs x) (proves_wildcard_no_data o hash rs x t) (star_data_by s absent a c out e has source on own b)
+        or_right (proves_no_data o hash rs x t || proves_opted_out o hash rs x) (proves_wildcard_no_data o hash rs x t) (wildcard_data_by s absent a c out e has source on own b)
     proved_by s (by_opt_out opts out p) = or_left (proves_no_data o hash rs x t || proves_opted_out o hash rs x) (proves_wildcard_no_data o hash rs x t) (or_right (proves_no_data o hash rs x t) (proves_opted_out o hash rs x) p)
 
     concluded_by : HasHashedProvableAbsence o z.sets x t → IsBareBy → IsEmptyProof t (nsec3_proof o hash rs x t) ⊎ HasNoHashedSet parameters names x
@@ -197,8 +197,8 @@ module _ (z : Zone) (parameters : Nsec3Parameters) (q : Query) (r : Sections) (d
         inl
         (subst (IsEmptyProof t)
         (sym
-        (sum_of_star o hash rs x t (unhanded z parameters q r d signed h x u apart) (opted_out_is j rs of_zone out a c e has ∙ all_in) (no_error j rs of_zone out a c e has on) (no_own_delegation j rs of_zone out) (no_own_data j rs of_zone out t)
-        (star_data_by s absent a c out e has source on own b))) refl)
+        (sum_of_wildcard o hash rs x t (unhanded z parameters q r d signed h x u apart) (opted_out_is j rs of_zone out a c e has ∙ all_in) (no_error j rs of_zone out a c e has on) (no_own_delegation j rs of_zone out) (no_own_data j rs of_zone out t)
+        (wildcard_data_by s absent a c out e has source on own b))) refl)
     concluded_by s (by_opt_out opts out p) = inr (opts, λ i. away j x out (Contains-In x names i))
 
     unsigned_by : IsBareBy → HasNoHashedSet parameters names x → t ≡ DS → nsec3_proof o hash rs x t ≡ Some UnsignedDelegation
@@ -220,8 +220,8 @@ module _ (z : Zone) (parameters : Nsec3Parameters) (q : Query) (r : Sections) (d
         (sound_proved z parameters q r d signed h x (judged_name z parameters q r d signed h x k apart all_in unhashed)).data' t (flat_kept x flat.own) (no_data_by s on own b)
     none_by s (by_wildcard opts absent a c out e has source on own b) all_in plain unhashed flat =
         ((sound_proved z parameters q r d signed h x (judged_name z parameters q r d signed h x k apart all_in unhashed)).wildcard_data t plain
-        (λ n is. subst (λ a. IsUnflattened m (wildcard_under a) t) (same_name a n (sym e.is_encloser ∙ is)) (flat_kept (wildcard_under a) (flat.star absent (wildcard_under a) source)))
-        (star_data_by s absent a c out e has source on own b)).none
+        (λ n is. subst (λ a. IsUnflattened m (wildcard_under a) t) (same_name a n (sym e.is_encloser ∙ is)) (flat_kept (wildcard_under a) (flat.wildcard_name absent (wildcard_under a) source)))
+        (wildcard_data_by s absent a c out e has source on own b)).none
       where
         same_name : (a b : Name) → Some a ≡ Some b → a ≡ b
         same_name a b e = cc
@@ -232,7 +232,7 @@ module _ (z : Zone) (parameters : Nsec3Parameters) (q : Query) (r : Sections) (d
   pub empty_said : (x : Name) → saying q r ≡ Some (no_data x) → HashesDistinctly z parameters d.names x → IsHashedEmpty z parameters d.names r x q.record_type
   empty_said x e apart =
       let s = missing_said z q r zone signed h true x e in
-      let b = bare_by x s.unturned apart s.star true s.end refl s.how in
+      let b = bare_by x s.unturned apart s.wildcard_name true s.end refl s.how in
       record {
         proved = λ can. proved_by x s.unturned apart can b;
         call_concludes = λ can. concluded_by x s.unturned apart can b;

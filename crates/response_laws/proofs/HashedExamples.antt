@@ -54,15 +54,15 @@ q = codes "q" ∷ b
 abbrev c : Name
 c = codes "c" ∷ b
 
-abbrev star : Name
-star = wildcard_under origin
+abbrev wildcard_name : Name
+wildcard_name = wildcard_under origin
 
 abbrev a : Name
 a = at_origin (codes "a")
 
 -- the digests of names
 abbrev digest : Name → Option (List ℕ)
-digest = digest_in ((origin, 64 ∷ []) ∷ (star, 96 ∷ []) ∷ (a, 96 ∷ []) ∷ (b, 80 ∷ []) ∷ (c, 32 ∷ []) ∷ (q, 32 ∷ []) ∷ (wildcard_under b, 16 ∷ []) ∷ [])
+digest = digest_in ((origin, 64 ∷ []) ∷ (wildcard_name, 96 ∷ []) ∷ (a, 96 ∷ []) ∷ (b, 80 ∷ []) ∷ (c, 32 ∷ []) ∷ (q, 32 ∷ []) ∷ (wildcard_under b, 16 ∷ []) ∷ [])
 
 abbrev at_apex : RRset
 at_apex = says (64 ∷ []) (96 ∷ []) (SOA ∷ RRSIG ∷ NSEC3PARAM ∷ [])
@@ -94,9 +94,9 @@ servers n = entry n NS (V.NS (codes "org" ∷ []))
 -- ---- below an empty non-terminal that is left out, where a wildcard is above it
 
 abbrev above : Sets
-above = start ∷ address star ∷ servers c ∷ []
+above = start ∷ address wildcard_name ∷ servers c ∷ []
 
-on_circle : nsec3_names origin above true ≡ origin ∷ star ∷ []
+on_circle : nsec3_names origin above true ≡ origin ∷ wildcard_name ∷ []
 on_circle = refl
 
 abbrev error : Sections
@@ -153,19 +153,19 @@ child_proved = refl
 abbrev left_out : Sets
 left_out = start ∷ address a ∷ servers (wildcard_under b) ∷ []
 
-abbrev from_star : Sections
-from_star = sections code.NoError (renamed true (wildcard_under b) q (servers (wildcard_under b)).1 ∷ []) (sent part.Signed 60 at_other ∷ [])
+abbrev from_wildcard : Sections
+from_wildcard = sections code.NoError (renamed true (wildcard_under b) q (servers (wildcard_under b)).1 ∷ []) (sent part.Signed 60 at_other ∷ [])
 
-of_wildcard : IsResponse (zone left_out at_other) (asked q NS) from_star
+of_wildcard : IsResponse (zone left_out at_other) (asked q NS) from_wildcard
 unfolding path
 of_wildcard = record { code = refl; authoritative = refl; answers = refl; authorities = refl; additionals = refl; glue = refl; left_at = refl }
 
-star_says : saying (asked q NS) from_star ≡ Some (data_of q)
-star_says = refl
+wildcard_says : saying (asked q NS) from_wildcard ≡ Some (data_of q)
+wildcard_says = refl
 
 -- the name next closer to the wildcard's encloser is covered
-star_proved : proves_wildcard_answer origin digest (shown_nsec3 from_star) q b ≡ true
-star_proved = refl
+wildcard_proved : proves_wildcard_answer origin digest (shown_nsec3 from_wildcard) q b ≡ true
+wildcard_proved = refl
 
 -- ---- below a DNAME: the new name isn't there, and is denied
 
@@ -180,7 +180,7 @@ below_renaming = codes "q" ∷ a
 
 -- the wildcard of the new name isn't there either
 abbrev renamed_digest : Name → Option (List ℕ)
-renamed_digest = digest_in ((origin, 64 ∷ []) ∷ (a, 96 ∷ []) ∷ (b, 80 ∷ []) ∷ (q, 32 ∷ []) ∷ (star, 16 ∷ []) ∷ [])
+renamed_digest = digest_in ((origin, 64 ∷ []) ∷ (a, 96 ∷ []) ∷ (b, 80 ∷ []) ∷ (q, 32 ∷ []) ∷ (wildcard_name, 16 ∷ []) ∷ [])
 
 abbrev renamed_error : Sections
 renamed_error = sections code.NXDomain (renaming.1 ∷ synthesized_alias renaming.1 below_renaming q ∷ []) (sent part.Signed 60 start.1 ∷ sent part.Signed 60 at_apex ∷ sent part.Signed 60 at_renaming ∷ [])

@@ -121,7 +121,7 @@ hashed_names opt_out n (inr (a, e, where_)) = by (subst (λ (k : Name). (IsAtOrA
   where
     by : (IsAtOrAbove n b × IsAtOrAbove origin n) ⊎ (n ≡ wildcard_under origin) → IsOneOfThree n
     by (inl (above, below)) = between n above.0 below.0 above.1 below.1
-    by (inr star) = inr (inr star)
+    by (inr wildcard_name) = inr (inr wildcard_name)
 
 -- ---- their digests
 

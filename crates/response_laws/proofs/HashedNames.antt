@@ -15,11 +15,11 @@ use Rattle.zone_denial.specs.Chains.{DNAME, is_below_dname, is_insecure_delegati
 use Rattle.zone_denial.specs.Nsec3Denial.{encloser_on}
 use Rattle.zone_denial.specs.WildcardLaws.{OwnsNone}
 use Rattle.zone_denial.proofs.Chains.NsecBelow.{open_itself}
-use Rattle.zone_denial.proofs.Chains.Nsec3AskedStar.{named_exists, exists_named, enclosers_agree}
+use Rattle.zone_denial.proofs.Chains.Nsec3AskedWildcard.{named_exists, exists_named, enclosers_agree}
 use Rattle.zone_denial.proofs.Chains.Nsec3Names.{is_named, named_in, in_named, origin_in}
 use Rattle.zone_denial.proofs.Names.AuthoritativeNames.{authoritative_from, besides_from}
 use Rattle.zone_denial.proofs.Names.LongestAncestors.{IsLongestAbove, longest_is, others_above, above_above}
-use Rattle.denial_laws.proofs.ShownEnclosers.{above_star}
+use Rattle.denial_laws.proofs.ShownEnclosers.{above_wildcard}
 use Rattle.denial_laws.proofs.Tests.{refuted}
 
 -- ---- no cut above, and no DNAME
@@ -35,11 +35,11 @@ uncut_under origin m x y uncut up = refuted (is_below_cut origin m y) by
         let under = (above_test c.0 x).1 (up c.0 ((above_test c.0 y).0 (and_right (is_above origin c.0) (is_above c.0 y) c.2))) in
         true≢false (sym (any_from_In (λ a. is_above origin a && is_above a x) c.0 (owners m NS) c.1 (λ i. over i && under i)) ∙ uncut)
 
-above_star_above : (x a c : Name) → IsAbove a x → IsAbove c (wildcard_under a) → IsAbove c x
-above_star_above x a c u v = above_above c a x (above_star c a v) u
+above_wildcard_above : (x a c : Name) → IsAbove a x → IsAbove c (wildcard_under a) → IsAbove c x
+above_wildcard_above x a c u v = above_above c a x (above_wildcard c a v) u
 
 pub uncut_wildcard : (origin : Name) (m : Sets) (x a : Name) → is_below_cut origin m x ≡ false → IsAbove a x → is_below_cut origin m (wildcard_under a) ≡ false
-uncut_wildcard origin m x a uncut u = uncut_under origin m x (wildcard_under a) uncut (λ c v. above_star_above x a c u v)
+uncut_wildcard origin m x a uncut u = uncut_under origin m x (wildcard_under a) uncut (λ c v. above_wildcard_above x a c u v)
 
 -- nor a DNAME
 pub plain_under : (m : Sets) (y : Name) → ((a : Name) → IsAbove a y → owns m a DNAME ≡ false) → is_below_dname m y ≡ false
@@ -50,8 +50,8 @@ plain_under m y none = refuted (is_below_dname m y) by
         let r = In-from_any (λ a. is_above a y) (owners m DNAME) e in
         true≢false (sym (owner_owned m r.0 DNAME r.1) ∙ none r.0 ((above_test r.0 y).0 r.2))
 
-pub plain_star : (m : Sets) (x a : Name) → ((a : Name) → IsAbove a x → owns m a DNAME ≡ false) → IsAbove a x → is_below_dname m (wildcard_under a) ≡ false
-plain_star m x a none u = plain_under m (wildcard_under a) (λ c v. none c (above_star_above x a c u v))
+pub plain_wildcard : (m : Sets) (x a : Name) → ((a : Name) → IsAbove a x → owns m a DNAME ≡ false) → IsAbove a x → is_below_dname m (wildcard_under a) ≡ false
+plain_wildcard m x a none u = plain_under m (wildcard_under a) (λ c v. none c (above_wildcard_above x a c u v))
 
 -- ---- the names of the chain
 

@@ -16,7 +16,7 @@ use Rattle.zone_response.specs.HashedDenials.{wildcard_sets, absent_sets, presen
 use Rattle.zone_response.specs.Queries.{Zone}
 use Rattle.zone_response.specs.Steps.{End, referred, missing}
 use Rattle.response_laws.specs.HashedSayings.{zone_hash}
-use Rattle.response_laws.proofs.HashedSets.{of_star_sets, of_absent, of_present}
+use Rattle.response_laws.proofs.HashedSets.{of_wildcard_sets, of_absent, of_present}
 use Rattle.response_laws.proofs.OwnerSets.{AreOwners, all_of, owners_of_all, kept_in_all, more_in_all}
 
 -- the hashed owner of a name in a zone
@@ -32,8 +32,8 @@ module _ (z : Zone) (zone : IsZone z.denials) (parameters : Nsec3Parameters) (fl
 
   -- ---- of one name
 
-  star_proof_is : (x : Name) → wildcard_proof z x ≡ option_map_or (wildcard_sets z.origin m hashed x) (closest_encloser z.sets x) []
-  star_proof_is x = ap (λ k. wildcard_proof_by z k x) hashes
+  wildcard_proof_is : (x : Name) → wildcard_proof z x ≡ option_map_or (wildcard_sets z.origin m hashed x) (closest_encloser z.sets x) []
+  wildcard_proof_is x = ap (λ k. wildcard_proof_by z k x) hashes
 
   absent_is : (x e : Name) → denial z x (Some (wildcard_under e)) ≡ absent_sets z.origin m hashed x e
   absent_is x e = ap (λ k. denial_by z k x (Some (wildcard_under e))) hashes
@@ -48,48 +48,48 @@ module _ (z : Zone) (zone : IsZone z.denials) (parameters : Nsec3Parameters) (fl
   abbrev IsOwn : RRset → Type 0
   IsOwn s = set_at m (lower s.owner) NSEC3 ≡ Some s
 
-  star_owners : (x : Name) → AreOwners NSEC3 m (wildcard_proof z x)
-  star_owners x = subst (AreOwners NSEC3 m) (sym (star_proof_is x)) (by (closest_encloser z.sets x))
+  wildcard_owners : (x : Name) → AreOwners NSEC3 m (wildcard_proof z x)
+  wildcard_owners x = subst (AreOwners NSEC3 m) (sym (wildcard_proof_is x)) (by (closest_encloser z.sets x))
     where
       by : (o : Option Name) → AreOwners NSEC3 m (option_map_or (wildcard_sets z.origin m hashed x) o [])
-      by (Some e) = of_star_sets IsOwn m own_set z.origin hashed x e
+      by (Some e) = of_wildcard_sets IsOwn m own_set z.origin hashed x e
       by None = λ s i. absurd i
 
-  denial_owners : (x : Name) (star : Option Name) → AreOwners NSEC3 m (denial z x star)
-  denial_owners x star = subst (AreOwners NSEC3 m) (sym (ap (λ k. denial_by z k x star) hashes)) (by star)
+  denial_owners : (x : Name) (wildcard_name : Option Name) → AreOwners NSEC3 m (denial z x wildcard_name)
+  denial_owners x wildcard_name = subst (AreOwners NSEC3 m) (sym (ap (λ k. denial_by z k x wildcard_name) hashes)) (by wildcard_name)
     where
-      by : (star : Option Name) → AreOwners NSEC3 m (denial_by z (Some (kind.Nsec3 parameters.algorithm parameters.salt parameters.iterations flag)) x star)
+      by : (wildcard_name : Option Name) → AreOwners NSEC3 m (denial_by z (Some (kind.Nsec3 parameters.algorithm parameters.salt parameters.iterations flag)) x wildcard_name)
       by (Some (l ∷ e)) = of_absent IsOwn m own_set z.origin hashed x e
       by (Some []) = of_present IsOwn m own_set z.origin hashed x
       by None = of_present IsOwn m own_set z.origin hashed x
 
   -- ---- of those for which a wildcard answered
 
-  pub record AreStarProofs (start : List RRset) (made : List Name) (sets : List RRset) : Type 0 where
+  pub record AreWildcardProofs (start : List RRset) (made : List Name) (sets : List RRset) : Type 0 where
     pub owners : AreOwners NSEC3 m sets
     pub kept : (s : RRset) → In s start → In s sets
     pub each : (x : Name) → In x made → (s : RRset) → In s (wildcard_proof z x) → In s sets
 
-  star_proofs : (made : List Name) (start : List RRset) → AreOwners NSEC3 m start → AreStarProofs start made (fold (with_wildcard_proof z) start made)
-  star_proofs [] start h = record { owners = h; kept = λ s i. i; each = λ x i. absurd i }
-  star_proofs (x ∷ made) start h = by (star_proofs made (all_of start (wildcard_proof z x)) (owners_of_all NSEC3 m start (wildcard_proof z x) h (star_owners x)))
+  wildcard_proofs : (made : List Name) (start : List RRset) → AreOwners NSEC3 m start → AreWildcardProofs start made (fold (with_wildcard_proof z) start made)
+  wildcard_proofs [] start h = record { owners = h; kept = λ s i. i; each = λ x i. absurd i }
+  wildcard_proofs (x ∷ made) start h = by (wildcard_proofs made (all_of start (wildcard_proof z x)) (owners_of_all NSEC3 m start (wildcard_proof z x) h (wildcard_owners x)))
     where
-      by : AreStarProofs (all_of start (wildcard_proof z x)) made (fold (with_wildcard_proof z) (all_of start (wildcard_proof z x)) made) → AreStarProofs start (x ∷ made) (fold (with_wildcard_proof z) (all_of start (wildcard_proof z x)) made)
+      by : AreWildcardProofs (all_of start (wildcard_proof z x)) made (fold (with_wildcard_proof z) (all_of start (wildcard_proof z x)) made) → AreWildcardProofs start (x ∷ made) (fold (with_wildcard_proof z) (all_of start (wildcard_proof z x)) made)
       by rest = record { owners = rest.owners; kept = λ s i. rest.kept s (kept_in_all NSEC3 m start (wildcard_proof z x) s i); each = each }
         where
           each : (y : Name) → In y (x ∷ made) → (s : RRset) → In s (wildcard_proof z y) → In s (fold (with_wildcard_proof z) (all_of start (wildcard_proof z x)) made)
-          each y (inl q) s i = rest.kept s (more_in_all NSEC3 m start (wildcard_proof z x) s h (star_owners x) (subst (λ n. In s (wildcard_proof z n)) (sym q) i))
+          each y (inl q) s i = rest.kept s (more_in_all NSEC3 m start (wildcard_proof z x) s h (wildcard_owners x) (subst (λ n. In s (wildcard_proof z n)) (sym q) i))
           each y (inr j) s i = rest.each y j s i
 
   -- ---- of all
 
   pub record AreHashedProofs (ds : Option RRset) (made : List Name) (e : End) (sets : List RRset) : Type 0 where
     pub owners : AreOwners NSEC3 m sets
-    pub stars : (x : Name) → In x made → (encloser : Name) → closest_encloser z.sets x ≡ Some encloser → (s : RRset) → In s (wildcard_sets z.origin z.denials (zone_owner z parameters) x encloser) → In s sets
+    pub wildcards : (x : Name) → In x made → (encloser : Name) → closest_encloser z.sets x ≡ Some encloser → (s : RRset) → In s (wildcard_sets z.origin z.denials (zone_owner z parameters) x encloser) → In s sets
     pub kept : (s : RRset) → In s (end_proof z ds e) → In s sets
 
   end_owners : (ds : Option RRset) (e : End) → AreOwners NSEC3 m (end_proof z ds e)
-  end_owners ds (missing x star there) = denial_owners x star
+  end_owners ds (missing x wildcard_name there) = denial_owners x wildcard_name
   end_owners None (referred c) = denial_owners (lower c.owner) None
   end_owners (Some s) (referred c) = λ r i. absurd i
   end_owners ds _ = λ r i. absurd i
@@ -97,12 +97,12 @@ module _ (z : Zone) (zone : IsZone z.denials) (parameters : Nsec3Parameters) (fl
   pub hashed_proofs : (ds : Option RRset) (made : List Name) (e : End) (sets : List RRset) → proofs z ds made e ≡ sets → AreHashedProofs ds made e sets
   hashed_proofs ds made e sets k = subst (AreHashedProofs ds made e) k (record {
     owners = owners_of_all NSEC3 m (fold (with_wildcard_proof z) [] made) (end_proof z ds e) all.owners (end_owners ds e);
-    stars = λ x i a f s j. kept_in_all NSEC3 m (fold (with_wildcard_proof z) [] made) (end_proof z ds e) s (all.each x i s (subst (In s) (sym (star_proof_is x ∙ ap (λ o. option_map_or (wildcard_sets z.origin m hashed x) o []) f)) j));
+    wildcards = λ x i a f s j. kept_in_all NSEC3 m (fold (with_wildcard_proof z) [] made) (end_proof z ds e) s (all.each x i s (subst (In s) (sym (wildcard_proof_is x ∙ ap (λ o. option_map_or (wildcard_sets z.origin m hashed x) o []) f)) j));
     kept = λ s i. more_in_all NSEC3 m (fold (with_wildcard_proof z) [] made) (end_proof z ds e) s all.owners (end_owners ds e) i;
   })
     where
-      all : AreStarProofs [] made (fold (with_wildcard_proof z) [] made)
-      all = star_proofs made [] (λ s i. absurd i)
+      all : AreWildcardProofs [] made (fold (with_wildcard_proof z) [] made)
+      all = wildcard_proofs made [] (λ s i. absurd i)
 
   -- of a name that doesn't exist, whose wildcard was asked
   pub of_missing : (made : List Name) (x e : Name) (there : Bool) (sets : List RRset) → proofs z None made (missing x (Some (wildcard_under e)) there) ≡ sets

@@ -44,7 +44,7 @@ use Rattle.response_laws.specs.Contents.{Origin}
 use Rattle.response_laws.specs.HashedSayings.{zone_hash, DeniesByNsec3, HashesDistinctly, IsReached, shown_nsec3, IsHashedFoundByWildcard, IsLacking, shown_records}
 use Rattle.response_laws.specs.ProvedSayings.{IsAliasData}
 use Rattle.response_laws.specs.Sayings.{Saying, data_of, name_error, no_data, referral, saying, name_of}
-use Rattle.response_laws.proofs.Answers.{IsMadeFound, ByStarOf, path_answers}
+use Rattle.response_laws.proofs.Answers.{IsMadeFound, ByWildcardOf, path_answers}
 use Rattle.response_laws.proofs.HashedCalls.{told_is}
 use Rattle.response_laws.proofs.HashedLacks.{lacking, lacking_named}
 use Rattle.response_laws.proofs.HashedNames.{there_named, absent_off, existing_above, encloser_over}
@@ -165,7 +165,7 @@ module _ (z : Zone) (parameters : Nsec3Parameters) (q : Query) (r : Sections) (d
       by (says_data y sets f g (inl u)) = of (data_of y) f (reached_unturned z q d.top.no_dname y u)
       by (says_data y sets f g (inr a)) = inr (alias_said z q r zone signed h y sets w (same_saying w (data_of y) (saying q r) e f) g a)
       by (says_referral y c f g u) = of (referral (lower c.owner)) f (reached_cut z q d.top.no_dname zone y c u).reached
-      by (says_missing y star there f g u k) = of (cond there (no_data y) (name_error y)) f (either there y (reached_unturned z q d.top.no_dname y u))
+      by (says_missing y wildcard_name there f g u k) = of (cond there (no_data y) (name_error y)) f (either there y (reached_unturned z q d.top.no_dname y u))
 
   -- ---- the wildcard at the closest encloser of a name
 
@@ -190,9 +190,9 @@ module _ (z : Zone) (parameters : Nsec3Parameters) (q : Query) (r : Sections) (d
 
   -- ---- an answer of a wildcard
 
-  star_proved : (y e : Name) → In y (path_of z q).made → IsReached o z.sets y → exists z.sets y ≡ false → found_encloser z.sets y ≡ Some e → HashesDistinctly z parameters names y → proves_wildcard_answer o hash rs y e ≡ true
-  star_proved y e i k absent there apart =
-      answer_proved j rs records_proved away_y n.0 e c.0 n.2.is_encloser over above c.1 between cover.0 cover.1 (shown_of (wildcard_sets o m (zone_owner z parameters) y e) (all.stars y i e there) (record_of j.zone j.apart cover.0) cover.2)
+  wildcard_proved : (y e : Name) → In y (path_of z q).made → IsReached o z.sets y → exists z.sets y ≡ false → found_encloser z.sets y ≡ Some e → HashesDistinctly z parameters names y → proves_wildcard_answer o hash rs y e ≡ true
+  wildcard_proved y e i k absent there apart =
+      answer_proved j rs records_proved away_y n.0 e c.0 n.2.is_encloser over above c.1 between cover.0 cover.1 (shown_of (wildcard_sets o m (zone_owner z parameters) y e) (all.wildcards y i e there) (record_of j.zone j.apart cover.0) cover.2)
     where
       j : IsHashedName o z.sets m hash parameters names y
       j = hashed_name y k apart
@@ -234,19 +234,19 @@ module _ (z : Zone) (parameters : Nsec3Parameters) (q : Query) (r : Sections) (d
       cover = cover_shown j.zone j.apart e c.0 c.1 between off_chain
 
   -- of a wildcard's set under a name for which the wildcard answered
-  by_star_proved : (y : Name) → In y (path_of z q).made → (u : ℕ) (found : RRset) → IsMadeFound (inquiry z q) y u found → IsHashedFoundByWildcard z parameters d.names (shown_nsec3 r) y u found
-  by_star_proved y i u found k =
-      let w = asked_wildcard y k.star k.made.star in
+  by_wildcard_proved : (y : Name) → In y (path_of z q).made → (u : ℕ) (found : RRset) → IsMadeFound (inquiry z q) y u found → IsHashedFoundByWildcard z parameters d.names (shown_nsec3 r) y u found
+  by_wildcard_proved y i u found k =
+      let w = asked_wildcard y k.wildcard_name k.made.wildcard_name in
       record {
         encloser = w.encloser;
         stored = k.stored;
         stands = ap (λ n. set_at z.sets n u) w.is ∙ k.stands;
         made = k.is ∙ (λ i. renamed (signed i || (t == RRSIG)) (sym w.is i) y k.stored);
-        proved = star_proved y w.encloser i (reached_unturned z q d.top.no_dname y k.made.unturned) k.made.absent w.found;
+        proved = wildcard_proved y w.encloser i (reached_unturned z q d.top.no_dname y k.made.unturned) k.made.absent w.found;
       }
 
   pub answers_proved : (s : RRset) → Contains r.answers s → Origin (inquiry z q) r.answers (IsHashedFoundByWildcard z parameters d.names (shown_nsec3 r)) s
   answers_proved s c =
-      origin_by (inquiry z q) r.answers s (ByStarOf (inquiry z q) (path_of z q).made) (IsHashedFoundByWildcard z parameters d.names (shown_nsec3 r)) (λ y u found k. by_star_proved y k.0 u found k.1)
-      (subst (λ all. Origin (inquiry z q) all (ByStarOf (inquiry z q) (path_of z q).made) s) (sym h.answers)
+      origin_by (inquiry z q) r.answers s (ByWildcardOf (inquiry z q) (path_of z q).made) (IsHashedFoundByWildcard z parameters d.names (shown_nsec3 r)) (λ y u found k. by_wildcard_proved y k.0 u found k.1)
+      (subst (λ all. Origin (inquiry z q) all (ByWildcardOf (inquiry z q) (path_of z q).made) s) (sym h.answers)
       (path_answers (inquiry z q) zone q.name s (subst (In s) h.answers (Contains-In s r.answers c))))

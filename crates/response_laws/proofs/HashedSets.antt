@@ -83,15 +83,15 @@ module _ (P : RRset → Type 0) (m : Sets) (each : (o : Name) (s : RRset) → se
       by (Some c) = of_covering c
       by None = none
 
-  of_star_under : (e : Name) → MayHave (wildcard_set origin m hashed e)
-  of_star_under e = by (matching origin m hashed (wildcard_under e)) (of_matching (wildcard_under e))
+  of_wildcard_under : (e : Name) → MayHave (wildcard_set origin m hashed e)
+  of_wildcard_under e = by (matching origin m hashed (wildcard_under e)) (of_matching (wildcard_under e))
     where
       by : (o : Option RRset) → MayHave o → MayHave (option_or o (covering origin m hashed (wildcard_under e)))
       by (Some s) h = h
       by None h = of_covering (wildcard_under e)
 
-  pub of_star_sets : (x e : Name) → Each P (wildcard_sets origin m hashed x e)
-  of_star_sets x e = of_closer x e
+  pub of_wildcard_sets : (x e : Name) → Each P (wildcard_sets origin m hashed x e)
+  of_wildcard_sets x e = of_closer x e
 
   of_absent_below : (x e : Name) → Each P (absent_below origin m hashed x e)
   of_absent_below x e s i = all s (from_in_order s (option_to_list (matching origin m hashed e) ++ option_to_list (closer_set origin m hashed x e) ++ option_to_list (wildcard_set origin m hashed e)) i)
@@ -99,7 +99,7 @@ module _ (P : RRset → Type 0) (m : Sets) (each : (o : Name) (s : RRset) → se
       all : Each P (option_to_list (matching origin m hashed e) ++ option_to_list (closer_set origin m hashed x e) ++ option_to_list (wildcard_set origin m hashed e))
       all =
           each_of_both P (option_to_list (matching origin m hashed e) ++ option_to_list (closer_set origin m hashed x e)) (option_to_list (wildcard_set origin m hashed e))
-          (each_of_both P (option_to_list (matching origin m hashed e)) (option_to_list (closer_set origin m hashed x e)) (of_matching e) (of_closer x e)) (of_star_under e)
+          (each_of_both P (option_to_list (matching origin m hashed e)) (option_to_list (closer_set origin m hashed x e)) (of_matching e) (of_closer x e)) (of_wildcard_under e)
 
   pub of_absent : (x e : Name) → Each P (absent_sets origin m hashed x e)
   of_absent x e = by (provable origin m hashed (suffixes e))

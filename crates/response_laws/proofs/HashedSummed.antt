@@ -61,9 +61,9 @@ module _ (origin : Name) (hash : Name → Option (List ℕ)) (rs : List Nsec3Rec
       by false false d = tt
 
   -- no data by a wildcard
-  pub sum_of_star : proves_opted_out origin hash rs x ≡ false → proves_name_error origin hash rs x ≡ false → shows_unsigned_delegation origin hash rs x ≡ false → proves_no_data origin hash rs x t ≡ false
+  pub sum_of_wildcard : proves_opted_out origin hash rs x ≡ false → proves_name_error origin hash rs x ≡ false → shows_unsigned_delegation origin hash rs x ≡ false → proves_no_data origin hash rs x t ≡ false
       → proves_wildcard_no_data origin hash rs x t ≡ true → nsec3_proof origin hash rs x t ≡ Some (WildcardNoData false)
-  sum_of_star o e d p w = (λ i. steps (handed i) (t == DS) (e i) (o i) (d i) (p i) (w i) answer) ∙ by (t == DS)
+  sum_of_wildcard o e d p w = (λ i. steps (handed i) (t == DS) (e i) (o i) (d i) (p i) (w i) answer) ∙ by (t == DS)
     where
       by : (b : Bool) → steps false b false false false false true answer ≡ Some (WildcardNoData false)
       by true = refl

@@ -268,7 +268,7 @@ module _ {origin : Name} {beside m : Sets} {hash : Name → Option (List ℕ)} {
           by true o = encloser_proved (λ r. r.opt_out) (λ e. true) o refl
           by false o = not_opted_out j.zone o j.apart rs of_zone
 
-      -- the star of the encloser is covered, or matched
+      -- the wildcard of the encloser is covered, or matched
       pub error_proved : (k : Name) → IsCovering j.zone j.apart (wildcard_under a) k → In (record_of j.zone j.apart k) rs → proves_name_error origin hash rs x ≡ true
       error_proved k is i =
           encloser_proved (λ r. true) (λ b. is_covered origin hash rs (wildcard_under b)) refl
@@ -278,14 +278,14 @@ module _ {origin : Name} {beside m : Sets} {hash : Name → Option (List ℕ)} {
       pub no_error : In (wildcard_under a) names → proves_name_error origin hash rs x ≡ false
       no_error i = encloser_refuted (λ r. true) (λ b. is_covered origin hash rs (wildcard_under b)) (not_covered (wildcard_under a) i)
 
-      pub star_denied : (t : ℕ) → In (wildcard_under a) names → In (record_of j.zone j.apart (wildcard_under a)) rs → denies_type origin (record_of j.zone j.apart (wildcard_under a)) (wildcard_under a) t ≡ true
+      pub wildcard_denied : (t : ℕ) → In (wildcard_under a) names → In (record_of j.zone j.apart (wildcard_under a)) rs → denies_type origin (record_of j.zone j.apart (wildcard_under a)) (wildcard_under a) t ≡ true
           → proves_wildcard_no_data origin hash rs x t ≡ true
-      star_denied t on i p =
+      wildcard_denied t on i p =
           encloser_proved (λ r. true) (λ b. is_denied origin hash rs (wildcard_under b) t) refl
           (any_from_In (λ r. matches origin hash r (wildcard_under a) && denies_type origin r (wildcard_under a) t) (record_of j.zone j.apart (wildcard_under a)) rs i
           (λ i. matches_itself j.zone j.apart (wildcard_under a) on i && p i))
 
-    -- a star may answer that stands under a name e between the encloser and x, where what covers the name next closer to e is among them
+    -- a wildcard may answer that stands under a name e between the encloser and x, where what covers the name next closer to e is among them
     pub answer_proved : is_named names x ≡ false → (a e c : Name) → encloser_on names x ≡ Some a → IsAtOrAbove a e → IsAbove e x → next_closer x e ≡ Some c → IsHashedOn names x c → (k : Name) → IsCovering j.zone j.apart c k → In (record_of j.zone j.apart k) rs
         → proves_wildcard_answer origin hash rs x e ≡ true
     answer_proved off a e c found over above closer between k is i =

@@ -52,7 +52,7 @@ module _ (q : Inquiry) (s : RRset) where
       of None i = absurd i
       of (Some v) i = let h = In-from_flat_map (host_sets q.origin q.sets q.signed (v.record_type == NS)) s (hosts v) i in of_host (v.record_type == NS) h.0 h.2
   helpful answers (referred c) i = let h = In-from_flat_map (sibling_sets q.origin q.sets q.signed (lower c.owner)) s (hosts c) i in of_sibling (lower c.owner) h.0 h.2
-  helpful answers (missing x star there) i = absurd i
+  helpful answers (missing x wildcard_name there) i = absurd i
   helpful answers (outside x) i = absurd i
   helpful answers unfollowed i = absurd i
   helpful answers too_long i = absurd i

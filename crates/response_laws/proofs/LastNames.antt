@@ -26,7 +26,7 @@ use Rattle.response_laws.proofs.Dnames.{sent_dname, short_is, AreDnames, both_dn
 use Rattle.response_laws.proofs.Leads.{sent_type, made_type, has_target, lowered_target, follows, asked_stands, found_owner, found_stays, alias_leads, own_leads, own_answers}
 use Rattle.response_laws.proofs.Passages.{led, last_here}
 use Rattle.response_laws.proofs.StandIns.{aname_stands, addresses_of_last, addresses_stay, addresses_lead_nowhere, addresses_answer}
-use Rattle.response_laws.proofs.Stepped.{NodeOf, has_set, has_alias, has_stand_in, has_nothing, node_of, IsUndiverted, StepOf, leaves, refers, fails, new_name, at_name, no_star, at_wildcard, star_gone, step_of}
+use Rattle.response_laws.proofs.Stepped.{NodeOf, has_set, has_alias, has_stand_in, has_nothing, node_of, IsUndiverted, StepOf, leaves, refers, fails, new_name, at_name, no_wildcard_name, at_wildcard, wildcard_gone, step_of}
 
 -- ---- how a search ends at a name
 
@@ -36,11 +36,11 @@ pub record IsBare (m : Sets) (a : Name) (t : ℕ) : Type 0 where
   pub alias : set_at m a CNAME ≡ None
 
 -- a name without the set that is asked for: it exists, or its wildcard does, or neither
-pub data IsMissing (q : Inquiry) (x : Name) (star : Option Name) (there : Bool) : Type 0 where
-  bare : there ≡ true → star ≡ None → exists q.sets x ≡ true → IsBare q.sets x q.record_type → IsMissing q x star there
-  bare_star : (w : Name) → there ≡ true → star ≡ Some w → exists q.sets x ≡ false → source_of_synthesis q.sets x ≡ Some w → exists q.sets w ≡ true → IsBare q.sets w q.record_type → IsMissing q x star there
-  starless : there ≡ false → exists q.sets x ≡ false → source_of_synthesis q.sets x ≡ None → IsMissing q x star there
-  gone : (w : Name) → there ≡ false → star ≡ Some w → exists q.sets x ≡ false → source_of_synthesis q.sets x ≡ Some w → exists q.sets w ≡ false → IsMissing q x star there
+pub data IsMissing (q : Inquiry) (x : Name) (wildcard_name : Option Name) (there : Bool) : Type 0 where
+  bare : there ≡ true → wildcard_name ≡ None → exists q.sets x ≡ true → IsBare q.sets x q.record_type → IsMissing q x wildcard_name there
+  bare_wildcard : (w : Name) → there ≡ true → wildcard_name ≡ Some w → exists q.sets x ≡ false → source_of_synthesis q.sets x ≡ Some w → exists q.sets w ≡ true → IsBare q.sets w q.record_type → IsMissing q x wildcard_name there
+  unsynthesized : there ≡ false → exists q.sets x ≡ false → source_of_synthesis q.sets x ≡ None → IsMissing q x wildcard_name there
+  gone : (w : Name) → there ≡ false → wildcard_name ≡ Some w → exists q.sets x ≡ false → source_of_synthesis q.sets x ≡ Some w → exists q.sets w ≡ false → IsMissing q x wildcard_name there
 
 -- the answer of the last name, if the search ends with one
 pub record IsAnswered (q : Inquiry) (x : Name) (answers : List RRset) : Type 0 where
@@ -76,7 +76,7 @@ pub record IsReported (q : Inquiry) (all : List RRset) (x : Name) (answers : Lis
 abbrev pub EndOf : Inquiry → List RRset → Name → List RRset → End → Type 0
 EndOf q all x answers complete = (IsAnswered q x answers × (IsUndiverted q x ⊎ IsAliasAsked q all x answers)) ⊎ IsReported q all x answers
 EndOf q all x answers (referred s) = IsReferred q x s × (answers ≡ []) × IsUntold q all x
-EndOf q all x answers (missing y star there) = IsUndiverted q x × IsMissing q x star there × (y ≡ x) × (answers ≡ []) × IsUntold q all x
+EndOf q all x answers (missing y wildcard_name there) = IsUndiverted q x × IsMissing q x wildcard_name there × (y ≡ x) × (answers ≡ []) × IsUntold q all x
 EndOf q all x answers (outside y) = (y ≡ x) × (answers ≡ []) × IsUntold q all x
 EndOf q all x answers unfollowed = ⊥
 EndOf q all x answers too_long = answers ≡ []
@@ -109,56 +109,56 @@ module _ (q : Inquiry) (zone : IsZone q.sets) where
   alias_no_dname r e v (inr i) d = absurd i
 
   -- at a name, for x
-  node_end : (before : List RRset) (star : Option Name) (x a : Name) → (star ≡ None → a ≡ x) → IsUndiverted q x → (IsBare q.sets a q.record_type → IsMissing q x star true) → StepEnd q before x (step_at q star x a)
-  node_end before star x a here u missing_as = by (node_of q.sets a t)
+  node_end : (before : List RRset) (wildcard_name : Option Name) (x a : Name) → (wildcard_name ≡ None → a ≡ x) → IsUndiverted q x → (IsBare q.sets a q.record_type → IsMissing q x wildcard_name true) → StepEnd q before x (step_at q wildcard_name x a)
+  node_end before wildcard_name x a here u missing_as = by (node_of q.sets a t)
     where
       m : Sets
       m = q.sets
 
       at : AtNode → Step
-      at = node_step q star x
+      at = node_step q wildcard_name x
 
-      of : (n : AtNode) → at_node m a t ≡ n → StepEnd q before x (at n) → StepEnd q before x (step_at q star x a)
+      of : (n : AtNode) → at_node m a t ≡ n → StepEnd q before x (at n) → StepEnd q before x (step_at q wildcard_name x a)
       of n e h = subst (λ n. StepEnd q before x (at n)) (sym e) h
 
       aliased : (s : RRset) → asked_set m a t ≡ None → set_at m a CNAME ≡ Some s → (o : Option Name) → cname_target s ≡ o → StepEnd q before x (at (alias s))
       aliased s e f (Some target) g =
-          let r = as_it_is (part_for q.signed) (as_found_for (keeps q.signed t) star x s) in
+          let r = as_it_is (part_for q.signed) (as_found_for (keeps q.signed t) wildcard_name x s) in
           goes_on target
-          (λ rest. led t x r rest (found_stays m zone.stored q.signed t (keeps q.signed t) star x a here s (part_for q.signed) CNAME f) target
-          (alias_leads m zone.stored q.signed t (keeps q.signed t) star x a here s e f ∙ g))
-          (alias_no_dname r (sent_type (part_for q.signed) (as_found_for (keeps q.signed t) star x s).ttl (as_found_for (keeps q.signed t) star x s) ∙ made_type (keeps q.signed t) star x s ∙ (zone.stored a CNAME s f).record_type))
+          (λ rest. led t x r rest (found_stays m zone.stored q.signed t (keeps q.signed t) wildcard_name x a here s (part_for q.signed) CNAME f) target
+          (alias_leads m zone.stored q.signed t (keeps q.signed t) wildcard_name x a here s e f ∙ g))
+          (alias_no_dname r (sent_type (part_for q.signed) (as_found_for (keeps q.signed t) wildcard_name x s).ttl (as_found_for (keeps q.signed t) wildcard_name x s) ∙ made_type (keeps q.signed t) wildcard_name x s ∙ (zone.stored a CNAME s f).record_type))
           (ap after_alias g) (record { asks = follows m a t s e f; lowered = lowered_target s target g })
       aliased s e f None g = let n = has_target a s (zone.stored a CNAME s f) in let p : None ≡ Some n.0 = sym g ∙ n.1 in absurd cc
 
       -- by what an ANAME set stands for
       kept : RRset → RRset
-      kept s = as_found_for (keeps q.signed t) star x s
+      kept s = as_found_for (keeps q.signed t) wildcard_name x s
 
-      addressed : (s v : RRset) → set_at m a ANAME ≡ Some s → stand_in_answer q x (kept s) ≡ addresses v → (b : Bool) → StepEnd q before x (cond b (at_end failed) (record { answers = as_it_is (part_for q.signed) v ∷ []; made = expanded_names star x; next = ends complete }))
+      addressed : (s v : RRset) → set_at m a ANAME ≡ Some s → stand_in_answer q x (kept s) ≡ addresses v → (b : Bool) → StepEnd q before x (cond b (at_end failed) (record { answers = as_it_is (part_for q.signed) v ∷ []; made = expanded_names wildcard_name x; next = ends complete }))
       addressed s v k f true = comes_to failed [] refl refl (λ h. tt)
       addressed s v k f false =
           let r = as_it_is (part_for q.signed) v in
           let l = addresses_of_last q x (kept s) v f in
-          let owned = found_owner m zone.stored q.signed t (keeps q.signed t) star x a s here (zone.stored a ANAME s k).owner in
+          let owned = found_owner m zone.stored q.signed t (keeps q.signed t) wildcard_name x a s here (zone.stored a ANAME s k).owner in
           comes_to complete (r ∷ []) refl (last_here t x r [] (addresses_stay q x (kept s) v l owned) (addresses_lead_nowhere q x (kept s) v l owned))
           (λ h. inl (record { set = r; alone = refl; answers_it = addresses_answer q x (kept s) v l owned }, inl u))
 
-      stood_in : (s : RRset) → set_at m a ANAME ≡ Some s → IsBare m a t → (w : StandInAnswer) → stand_in_answer q x (kept s) ≡ w → StepEnd q before x (stood_in_step q.is_proved q.signed star x w)
+      stood_in : (s : RRset) → set_at m a ANAME ≡ Some s → IsBare m a t → (w : StandInAnswer) → stand_in_answer q x (kept s) ≡ w → StepEnd q before x (stood_in_step q.is_proved q.signed wildcard_name x w)
       stood_in s k b (addresses v) f = addressed s v k f (q.is_proved && not (is_signed v))
-      stood_in s k b no_addresses f = comes_to (missing x star true) [] refl refl (λ h. (u, missing_as b, refl, refl, still_untold q before x h))
+      stood_in s k b no_addresses f = comes_to (missing x wildcard_name true) [] refl refl (λ h. (u, missing_as b, refl, refl, still_untold q before x h))
       stood_in s k b untold f = comes_to failed [] refl refl (λ h. tt)
 
-      by : NodeOf m a t → StepEnd q before x (step_at q star x a)
+      by : NodeOf m a t → StepEnd q before x (step_at q wildcard_name x a)
       by (has_set s e f) =
-          let r = as_it_is (own_part q.signed t) (as_found_for (keeps q.signed t) star x s) in
+          let r = as_it_is (own_part q.signed t) (as_found_for (keeps q.signed t) wildcard_name x s) in
           of (own s) f
           (comes_to complete (r ∷ []) refl
-          (last_here t x r [] (found_stays m zone.stored q.signed t (keeps q.signed t) star x a here s (own_part q.signed t) (chosen_type m a t) (asked_stands m a t s e)) (own_leads m zone.stored q.signed t (keeps q.signed t) star x a here s e))
-          (λ h. inl (record { set = r; alone = refl; answers_it = own_answers m zone.stored q.signed t (keeps q.signed t) star x a here s e }, inl u)))
+          (last_here t x r [] (found_stays m zone.stored q.signed t (keeps q.signed t) wildcard_name x a here s (own_part q.signed t) (chosen_type m a t) (asked_stands m a t s e)) (own_leads m zone.stored q.signed t (keeps q.signed t) wildcard_name x a here s e))
+          (λ h. inl (record { set = r; alone = refl; answers_it = own_answers m zone.stored q.signed t (keeps q.signed t) wildcard_name x a here s e }, inl u)))
       by (has_alias s e f g) = of (alias s) g (aliased s e f (cname_target s) refl)
       by (has_stand_in s e f k g) = of (stand_in s) g (stood_in s (aname_stands m a t s k) (record { asked = e; alias = f }) (stand_in_answer q x (kept s)) refl)
-      by (has_nothing e f g) = of nothing g (comes_to (missing x star true) [] refl refl (λ h. (u, missing_as (record { asked = e; alias = f }), refl, refl, still_untold q before x h)))
+      by (has_nothing e f g) = of nothing g (comes_to (missing x wildcard_name true) [] refl refl (λ h. (u, missing_as (record { asked = e; alias = f }), refl, refl, still_untold q before x h)))
 
   -- below a DNAME
   module _ (before : List RRset) (dnames : AreDnames q before) (x : Name) (s : RRset) (target : Name) (a : IsAboveBy q x s) (call_concludes : dname_target s ≡ Some target) where
@@ -225,9 +225,9 @@ module _ (q : Inquiry) (zone : IsZone q.sets) where
       by (fails s f g e) = of (at_end failed) e (comes_to failed [] refl refl (λ h. tt))
       by (new_name s target o f call_concludes g e) = of (new_name_step q.signed t before x s o) e (new_name_end before dnames x s target (turned_by q zone x s f) call_concludes o g)
       by (at_name u there e) = of (step_at q None x x) e (node_end before None x x (λ k. refl) u (λ b. bare refl refl there b))
-      by (no_star u absent f e) = of (at_end (missing x None false)) e (comes_to (missing x None false) [] refl refl (λ h. (u, starless refl absent f, refl, refl, still_untold q before x h)))
-      by (at_wildcard w u absent f g e) = of (step_at q (Some w) x w) e (node_end before (Some w) x w (λ k. cc) u (λ b. bare_star w refl refl absent f g b))
-      by (star_gone w u absent f g e) = of (at_end (missing x (Some w) false)) e (comes_to (missing x (Some w) false) [] refl refl (λ h. (u, gone w refl refl absent f g, refl, refl, still_untold q before x h)))
+      by (no_wildcard_name u absent f e) = of (at_end (missing x None false)) e (comes_to (missing x None false) [] refl refl (λ h. (u, unsynthesized refl absent f, refl, refl, still_untold q before x h)))
+      by (at_wildcard w u absent f g e) = of (step_at q (Some w) x w) e (node_end before (Some w) x w (λ k. cc) u (λ b. bare_wildcard w refl refl absent f g b))
+      by (wildcard_gone w u absent f g e) = of (at_end (missing x (Some w) false)) e (comes_to (missing x (Some w) false) [] refl refl (λ h. (u, gone w refl refl absent f g, refl, refl, still_untold q before x h)))
 
   -- where a path goes on, the step did
   goes_to : (sets : List RRset) (n : Next) (y : Name) → unless_answered t sets n ≡ on y → n ≡ on y

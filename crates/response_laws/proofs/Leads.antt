@@ -49,9 +49,9 @@ pub sent_target : (signed : Bool) (s : RRset) → cname_target (as_it_is (part_f
 sent_target true s = target_with_ttl s.ttl s.records
 sent_target false s = target_with_ttl s.ttl s.records
 
-pub made_target : (keep : Bool) (star : Option Name) (x : Name) (s : RRset) → cname_target (as_found_for keep star x s) ≡ cname_target s
+pub made_target : (keep : Bool) (wildcard_name : Option Name) (x : Name) (s : RRset) → cname_target (as_found_for keep wildcard_name x s) ≡ cname_target s
 made_target keep None x s = refl
-made_target keep (Some star) x s = target_under x s.ttl s.records
+made_target keep (Some wildcard_name) x s = target_under x s.ttl s.records
 
 pub sent_owner : (p : Part) (ttl : ℕ) (s : RRset) → (sent p ttl s).owner ≡ s.owner
 sent_owner part.Records ttl s = refl
@@ -63,9 +63,9 @@ sent_type part.Records ttl s = refl
 sent_type part.Signed ttl s = refl
 sent_type part.Signatures ttl s = refl
 
-pub made_type : (keep : Bool) (star : Option Name) (x : Name) (s : RRset) → (as_found_for keep star x s).record_type ≡ s.record_type
+pub made_type : (keep : Bool) (wildcard_name : Option Name) (x : Name) (s : RRset) → (as_found_for keep wildcard_name x s).record_type ≡ s.record_type
 made_type keep None x s = refl
-made_type keep (Some star) x s = refl
+made_type keep (Some wildcard_name) x s = refl
 
 -- names that are the same are so in lower case
 pub same_in_lower : (n x : Name) → same_name n x ≡ true → lower n ≡ lower x
@@ -185,34 +185,34 @@ module _ (m : Sets) (a : Name) (t : ℕ) where
 
 module _ (m : Sets) (stored : (a : Name) (t : ℕ) (s : RRset) → set_at m a t ≡ Some s → IsStoredAt a t s) (signed : Bool) (t : ℕ) where
   -- a set that is found for x is owned by it
-  pub found_owner : (keep : Bool) (star : Option Name) (x a : Name) (s : RRset) → (star ≡ None → a ≡ x) → lower s.owner ≡ a → same_name (as_found_for keep star x s).owner x ≡ true
+  pub found_owner : (keep : Bool) (wildcard_name : Option Name) (x a : Name) (s : RRset) → (wildcard_name ≡ None → a ≡ x) → lower s.owner ≡ a → same_name (as_found_for keep wildcard_name x s).owner x ≡ true
   found_owner keep None x a s here e = same_from_lower s.owner x (sym (lower-lower s.owner) ∙ ap lower (e ∙ here refl))
-  found_owner keep (Some star) x a s here e = caseless_eq_equiv.refl x
+  found_owner keep (Some wildcard_name) x a s here e = caseless_eq_equiv.refl x
 
-  module _ (keep : Bool) (star : Option Name) (x a : Name) (here : star ≡ None → a ≡ x) (s : RRset) where
+  module _ (keep : Bool) (wildcard_name : Option Name) (x a : Name) (here : wildcard_name ≡ None → a ≡ x) (s : RRset) where
     -- it isn't of a name above x
-    pub found_stays : (p : Part) (u : ℕ) → set_at m a u ≡ Some s → renames x (as_it_is p (as_found_for keep star x s)) ≡ false
+    pub found_stays : (p : Part) (u : ℕ) → set_at m a u ≡ Some s → renames x (as_it_is p (as_found_for keep wildcard_name x s)) ≡ false
     found_stays p u e =
-        stays_by_owner x (as_it_is p own) (ap (λ n. same_name n x) (sent_owner p own.ttl own) ∙ found_owner keep star x a s here (stored a u s e).owner)
+        stays_by_owner x (as_it_is p own) (ap (λ n. same_name n x) (sent_owner p own.ttl own) ∙ found_owner keep wildcard_name x a s here (stored a u s e).owner)
       where
         own : RRset
-        own = as_found_for keep star x s
+        own = as_found_for keep wildcard_name x s
 
     -- an alias leads to its target
-    pub alias_leads : asked_set m a t ≡ None → set_at m a CNAME ≡ Some s → leads_to t x (as_it_is (part_for signed) (as_found_for keep star x s)) ≡ cname_target s
+    pub alias_leads : asked_set m a t ≡ None → set_at m a CNAME ≡ Some s → leads_to t x (as_it_is (part_for signed) (as_found_for keep wildcard_name x s)) ≡ cname_target s
     alias_leads none alias =
-        (λ i. cond (follows m a t s none alias i || not (owned i)) None (cname_target (as_it_is (part_for signed) (as_found_for keep star x s))))
-        ∙ sent_target signed (as_found_for keep star x s) ∙ made_target keep star x s
+        (λ i. cond (follows m a t s none alias i || not (owned i)) None (cname_target (as_it_is (part_for signed) (as_found_for keep wildcard_name x s))))
+        ∙ sent_target signed (as_found_for keep wildcard_name x s) ∙ made_target keep wildcard_name x s
       where
-        owned : same_name (as_it_is (part_for signed) (as_found_for keep star x s)).owner x ≡ true
-        owned = ap (λ n. same_name n x) (sent_owner (part_for signed) (as_found_for keep star x s).ttl (as_found_for keep star x s)) ∙ found_owner keep star x a s here (stored a CNAME s alias).owner
+        owned : same_name (as_it_is (part_for signed) (as_found_for keep wildcard_name x s)).owner x ≡ true
+        owned = ap (λ n. same_name n x) (sent_owner (part_for signed) (as_found_for keep wildcard_name x s).ttl (as_found_for keep wildcard_name x s)) ∙ found_owner keep wildcard_name x a s here (stored a CNAME s alias).owner
 
     -- what is asked for leads nowhere
-    pub own_leads : asked_set m a t ≡ Some s → leads_to t x (as_it_is (own_part signed t) (as_found_for keep star x s)) ≡ None
+    pub own_leads : asked_set m a t ≡ Some s → leads_to t x (as_it_is (own_part signed t) (as_found_for keep wildcard_name x s)) ≡ None
     own_leads e = by (t == CNAME) refl (t == ANY) refl (t == RRSIG) refl
       where
         own : RRset
-        own = as_found_for keep star x s
+        own = as_found_for keep wildcard_name x s
 
         asked : (b c : Bool) (o : Option Name) → o ≡ None → cond (b || c) None o ≡ None
         asked true c o f = refl
@@ -231,19 +231,19 @@ module _ (m : Sets) (stored : (a : Name) (t : ℕ) (s : RRset) → set_at m a t 
         by false f false g true h = asked false (not (same_name own.owner x)) None refl
         by false f false g false h =
             asked false (not (same_name (as_it_is (part_for signed) own).owner x)) (cname_target (as_it_is (part_for signed) own))
-            (sent_target signed own ∙ made_target keep star x s ∙ plain f g h)
+            (sent_target signed own ∙ made_target keep wildcard_name x s ∙ plain f g h)
 
-    pub own_answers : asked_set m a t ≡ Some s → is_answer t x (as_it_is (own_part signed t) (as_found_for keep star x s)) ≡ true
+    pub own_answers : asked_set m a t ≡ Some s → is_answer t x (as_it_is (own_part signed t) (as_found_for keep wildcard_name x s)) ≡ true
     own_answers e = λ i. owned i && typed i
       where
         own : RRset
-        own = as_found_for keep star x s
+        own = as_found_for keep wildcard_name x s
 
         stands : IsStoredAt a (chosen_type m a t) s
         stands = stored a (chosen_type m a t) s (asked_stands m a t s e)
 
         owned : same_name (as_it_is (own_part signed t) own).owner x ≡ true
-        owned = ap (λ n. same_name n x) (sent_owner (own_part signed t) own.ttl own) ∙ found_owner keep star x a s here stands.owner
+        owned = ap (λ n. same_name n x) (sent_owner (own_part signed t) own.ttl own) ∙ found_owner keep wildcard_name x a s here stands.owner
 
         by : (b c : Bool) (u : ℕ) → (b || c ≡ false → u ≡ t) → (u == t) || b || c ≡ true
         by true c u same = any_or (u == t)
@@ -260,5 +260,5 @@ module _ (m : Sets) (stored : (a : Name) (t : ℕ) (s : RRset) → set_at m a t 
 
         typed : is_of t (as_it_is (own_part signed t) own) || (t == ANY) || (t == RRSIG) ≡ true
         typed =
-            ap (λ u. (u == t) || (t == ANY) || (t == RRSIG)) (sent_type (own_part signed t) own.ttl own ∙ made_type keep star x s ∙ stands.record_type)
+            ap (λ u. (u == t) || (t == ANY) || (t == RRSIG)) (sent_type (own_part signed t) own.ttl own ∙ made_type keep wildcard_name x s ∙ stands.record_type)
             ∙ by (t == ANY) (t == RRSIG) (chosen_type m a t) (λ k. ap (λ b. cond b (any_type m a) t) k)

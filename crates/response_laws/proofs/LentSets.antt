@@ -35,8 +35,8 @@ module _ (z : Zone) (same : z.denials ≡ chain_sets z.nx_proof_kind z.sets) whe
   pub encloser_kept : (n : Name) → closest_encloser z.denials n ≡ closest_encloser z.sets n
   encloser_kept n = λ i. find (λ a. exists_kept a i) (proper_ancestors n)
 
-  pub star_kept : (n : Name) → source_of_synthesis z.denials n ≡ source_of_synthesis z.sets n
-  star_kept n = ap (option_map wildcard_under) (encloser_kept n)
+  pub wildcard_kept : (n : Name) → source_of_synthesis z.denials n ≡ source_of_synthesis z.sets n
+  wildcard_kept n = ap (option_map wildcard_under) (encloser_kept n)
 
   pub reached_kept : (n : Name) → IsReached z.origin z.sets n → IsReached z.origin z.denials n
   reached_kept n r = record {

@@ -34,7 +34,7 @@ path_of z q = path (inquiry z q) q.name
 -- the names of which a response says something: those for which a wildcard answered; the name without the set that is
 -- asked for, and the wildcard that was asked for it; and a child without DS
 abbrev pub told_at : Option RRset → End → List Name
-told_at ds (missing x star there) = x ∷ option_to_list star
+told_at ds (missing x wildcard_name there) = x ∷ option_to_list wildcard_name
 told_at None (referred c) = lower c.owner ∷ []
 told_at (Some ds) (referred c) = []
 told_at ds _ = []
@@ -117,20 +117,20 @@ module _ (z : Zone) (zone : IsZone z.denials) (nsec : z.nx_proof_kind ≡ Some k
   abbrev m : Sets
   m = z.denials
 
-  star_proof_is : (x : Name) → wildcard_proof z x ≡ closest_sets m zone x
-  star_proof_is x = ap (λ k. wildcard_proof_by z k x) nsec
+  wildcard_proof_is : (x : Name) → wildcard_proof z x ≡ closest_sets m zone x
+  wildcard_proof_is x = ap (λ k. wildcard_proof_by z k x) nsec
 
-  denial_is : (x : Name) (star : Option Name) → denial z x star ≡ closest_sets m zone x ++ option_to_list (option_and_then (closest_nsec m) star)
-  denial_is x star = ap (λ k. denial_by z k x star) nsec
+  denial_is : (x : Name) (wildcard_name : Option Name) → denial z x wildcard_name ≡ closest_sets m zone x ++ option_to_list (option_and_then (closest_nsec m) wildcard_name)
+  denial_is x wildcard_name = ap (λ k. denial_by z k x wildcard_name) nsec
 
   -- those of the names for which a wildcard answered, behind others
-  stars_from : (made before : List Name) (sets : List RRset) → AreOwnersNsec m sets → ((x : Name) (s : RRset) → In x before → closest_nsec m x ≡ Some s → In s sets)
+  wildcards_from : (made before : List Name) (sets : List RRset) → AreOwnersNsec m sets → ((x : Name) (s : RRset) → In x before → closest_nsec m x ≡ Some s → In s sets)
       → AreProofs m (before ++ made) (fold (with_wildcard_proof z) sets made)
-  stars_from [] before sets h k = record { owners = h; is_stated = λ x s i. k x s (subst (In x) (append-nil before) i) }
-  stars_from (y ∷ made) before sets h k =
+  wildcards_from [] before sets h k = record { owners = h; is_stated = λ x s i. k x s (subst (In x) (append-nil before) i) }
+  wildcards_from (y ∷ made) before sets h k =
       subst (λ (names : List Name). AreProofs m names (fold (with_wildcard_proof z) sets (y ∷ made))) (append_assoc before (y ∷ []) made)
-      (subst (λ (start : List RRset). AreProofs m ((before ++ y ∷ []) ++ made) (fold (with_wildcard_proof z) start made)) (sym (ap (all_of sets) (star_proof_is y)))
-      (stars_from made (before ++ y ∷ []) (all_of sets (closest_sets m zone y)) (owners_of_all NSEC m sets (closest_sets m zone y) h (closest_owners m zone y)) call_concludes))
+      (subst (λ (start : List RRset). AreProofs m ((before ++ y ∷ []) ++ made) (fold (with_wildcard_proof z) start made)) (sym (ap (all_of sets) (wildcard_proof_is y)))
+      (wildcards_from made (before ++ y ∷ []) (all_of sets (closest_sets m zone y)) (owners_of_all NSEC m sets (closest_sets m zone y) h (closest_owners m zone y)) call_concludes))
     where
       call_concludes : (x : Name) (s : RRset) → In x (before ++ y ∷ []) → closest_nsec m x ≡ Some s → In s (all_of sets (closest_sets m zone y))
       call_concludes x s i e = by (In-from_append x before (y ∷ []) i)
@@ -144,45 +144,45 @@ module _ (z : Zone) (zone : IsZone z.denials) (nsec : z.nx_proof_kind ≡ Some k
   none_proved : AreProofs m [] []
   none_proved = record { owners = λ s i. absurd i; is_stated = λ x s i. absurd i }
 
-  closest_proved : (x : Name) (star : Option Name) → AreProofs m (x ∷ option_to_list star) (closest_sets m zone x ++ option_to_list (option_and_then (closest_nsec m) star))
-  closest_proved x star = record {
-    owners = λ s i. either s star (In-from_append s (closest_sets m zone x) (option_to_list (option_and_then (closest_nsec m) star)) i);
-    is_stated = λ y s i e. call_concludes star y s i e;
+  closest_proved : (x : Name) (wildcard_name : Option Name) → AreProofs m (x ∷ option_to_list wildcard_name) (closest_sets m zone x ++ option_to_list (option_and_then (closest_nsec m) wildcard_name))
+  closest_proved x wildcard_name = record {
+    owners = λ s i. either s wildcard_name (In-from_append s (closest_sets m zone x) (option_to_list (option_and_then (closest_nsec m) wildcard_name)) i);
+    is_stated = λ y s i e. call_concludes wildcard_name y s i e;
   }
     where
-      either : (s : RRset) (star : Option Name) → In s (closest_sets m zone x) ⊎ In s (option_to_list (option_and_then (closest_nsec m) star)) → set_at m (lower s.owner) NSEC ≡ Some s
-      either s star (inl i) = closest_owners m zone x s i
+      either : (s : RRset) (wildcard_name : Option Name) → In s (closest_sets m zone x) ⊎ In s (option_to_list (option_and_then (closest_nsec m) wildcard_name)) → set_at m (lower s.owner) NSEC ≡ Some s
+      either s wildcard_name (inl i) = closest_owners m zone x s i
       either s (Some w) (inr i) = closest_owners m zone w s i
       either s None (inr i) = absurd i
 
-      call_concludes : (star : Option Name) (y : Name) (s : RRset) → In y (x ∷ option_to_list star) → closest_nsec m y ≡ Some s → In s (closest_sets m zone x ++ option_to_list (option_and_then (closest_nsec m) star))
-      call_concludes star y s (inl q) e = In-append_left s (closest_sets m zone x) (option_to_list (option_and_then (closest_nsec m) star)) (is_closest m zone x s (ap (closest_nsec m) q ∙ e))
+      call_concludes : (wildcard_name : Option Name) (y : Name) (s : RRset) → In y (x ∷ option_to_list wildcard_name) → closest_nsec m y ≡ Some s → In s (closest_sets m zone x ++ option_to_list (option_and_then (closest_nsec m) wildcard_name))
+      call_concludes wildcard_name y s (inl q) e = In-append_left s (closest_sets m zone x) (option_to_list (option_and_then (closest_nsec m) wildcard_name)) (is_closest m zone x s (ap (closest_nsec m) q ∙ e))
       call_concludes (Some w) y s (inr (inl q)) e = In-append_right s (closest_sets m zone x) (closest_sets m zone w) (is_closest m zone w s (ap (closest_nsec m) q ∙ e))
       call_concludes (Some w) y s (inr (inr i)) e = absurd i
       call_concludes None y s (inr i) e = absurd i
 
-  denied : (x : Name) (star : Option Name) → AreProofs m (x ∷ option_to_list star) (denial z x star)
-  denied x star = subst (AreProofs m (x ∷ option_to_list star)) (sym (denial_is x star)) (closest_proved x star)
+  denied : (x : Name) (wildcard_name : Option Name) → AreProofs m (x ∷ option_to_list wildcard_name) (denial z x wildcard_name)
+  denied x wildcard_name = subst (AreProofs m (x ∷ option_to_list wildcard_name)) (sym (denial_is x wildcard_name)) (closest_proved x wildcard_name)
 
   ends_proved : (ds : Option RRset) (e : End) → AreProofs m (told_at ds e) (end_proof z ds e)
-  ends_proved ds (missing x star there) = denied x star
+  ends_proved ds (missing x wildcard_name there) = denied x wildcard_name
   ends_proved None (referred c) = denied (lower c.owner) None
   ends_proved (Some s) (referred c) = none_proved
   ends_proved ds _ = none_proved
 
   pub proofs_are : (ds : Option RRset) (made : List Name) (e : End) → AreProofs m (made ++ told_at ds e) (proofs z ds made e)
   proofs_are ds made e =
-      let stars = stars_from made [] [] (λ s i. absurd i) (λ x s i. absurd i) in
+      let wildcards = wildcards_from made [] [] (λ s i. absurd i) (λ x s i. absurd i) in
       let end = ends_proved ds e in
       record {
-        owners = owners_of_all NSEC m (fold (with_wildcard_proof z) [] made) (end_proof z ds e) stars.owners end.owners;
-        is_stated = λ x s i c. by stars end x s c (In-from_append x made (told_at ds e) i);
+        owners = owners_of_all NSEC m (fold (with_wildcard_proof z) [] made) (end_proof z ds e) wildcards.owners end.owners;
+        is_stated = λ x s i c. by wildcards end x s c (In-from_append x made (told_at ds e) i);
       }
     where
-      by : (stars : AreProofs m made (fold (with_wildcard_proof z) [] made)) (end : AreProofs m (told_at ds e) (end_proof z ds e)) (x : Name) (s : RRset) → closest_nsec m x ≡ Some s
+      by : (wildcards : AreProofs m made (fold (with_wildcard_proof z) [] made)) (end : AreProofs m (told_at ds e) (end_proof z ds e)) (x : Name) (s : RRset) → closest_nsec m x ≡ Some s
           → In x made ⊎ In x (told_at ds e) → In s (all_of (fold (with_wildcard_proof z) [] made) (end_proof z ds e))
-      by stars end x s c (inl i) = kept_in_all NSEC m (fold (with_wildcard_proof z) [] made) (end_proof z ds e) s (stars.is_stated x s i c)
-      by stars end x s c (inr i) = more_in_all NSEC m (fold (with_wildcard_proof z) [] made) (end_proof z ds e) s stars.owners end.owners (end.is_stated x s i c)
+      by wildcards end x s c (inl i) = kept_in_all NSEC m (fold (with_wildcard_proof z) [] made) (end_proof z ds e) s (wildcards.is_stated x s i c)
+      by wildcards end x s c (inr i) = more_in_all NSEC m (fold (with_wildcard_proof z) [] made) (end_proof z ds e) s wildcards.owners end.owners (end.is_stated x s i c)
 
 -- what holds of each set of a list holds where the list is asked for, and else of none
 each_asked : (P : RRset → Type 0) (sets : List RRset) (b : Bool) → ((s : RRset) → In s sets → P s) → (s : RRset) → In s (cond b sets []) → P s

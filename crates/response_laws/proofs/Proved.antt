@@ -11,13 +11,13 @@ use Rattle.zone_map.specs.Wildcards.{exists, renamed, closest_encloser, asked_wi
 use Rattle.zone_map.specs.Zones.{Sets, set_at, owns, owns_at_or_below, IsZone}
 use Rattle.zone_map.proofs.ExistingNames.{owned_where_existing}
 use Rattle.zone_denial.specs.NsecDenial.{nsec_encloser}
-use Rattle.zone_denial.proofs.Chains.NsecAskedStar.{exists_is}
+use Rattle.zone_denial.proofs.Chains.NsecAskedWildcard.{exists_is}
 use Rattle.zone_lookup.specs.Replies.{name_exists, nx_domain}
 use Rattle.denial_validation.specs.NsecProofs.{proves_name_error, proves_no_data, proves_empty_non_terminal, proves_wildcard_no_data, proves_empty_answer, proves_unsigned_delegation}
 use Rattle.denial_laws.specs.Chains.{IsInScopeOfChain}
 use Rattle.denial_laws.specs.Scope.{AreOfZone}
 use Rattle.denial_laws.specs.Soundness.{IsWithoutData, IsUnsignedDelegation, IsSound}
-use Rattle.denial_laws.proofs.Chains.ShownEnclosers.{judged_star}
+use Rattle.denial_laws.proofs.Chains.ShownEnclosers.{judged_wildcard}
 use Rattle.denial_laws.proofs.Chains.Soundness.{empty_without_data, records_sound}
 use Rattle.denial_laws.proofs.Soundness.{there_from, present}
 use Rattle.zone_response.specs.declared.response.Part.TheVariants as part
@@ -29,11 +29,11 @@ use Rattle.zone_response.specs.Steps.{End, referred, missing}
 use Rattle.response_laws.specs.Contents.{Origin}
 use Rattle.response_laws.specs.ProvedSayings.{DeniesByNsec, shown, IsFoundByWildcard, IsAliasData, HasAuthority, HasNoStandIn, HasProvableAbsence, IsProvedError, IsProvedEmpty, IsProvedUnsigned, IsProvedReferral}
 use Rattle.response_laws.specs.Sayings.{Saying, data_of, name_error, no_data, referral, saying, name_of}
-use Rattle.response_laws.proofs.Answers.{IsMadeFound, ByStarOf, path_answers}
+use Rattle.response_laws.proofs.Answers.{IsMadeFound, ByWildcardOf, path_answers}
 use Rattle.response_laws.proofs.BareNames.{lent_not_any, type_unowned, lent_alias, lent_beside_soa}
-use Rattle.response_laws.proofs.AgreementNames.{star_asked}
-use Rattle.response_laws.proofs.LastNames.{IsBare, IsMissing, bare, bare_star, starless, gone}
-use Rattle.response_laws.proofs.LentSets.{owns_kept, exists_kept, star_kept, delegation_kept}
+use Rattle.response_laws.proofs.AgreementNames.{wildcard_asked}
+use Rattle.response_laws.proofs.LastNames.{IsBare, IsMissing, bare, bare_wildcard, unsynthesized, gone}
+use Rattle.response_laws.proofs.LentSets.{owns_kept, exists_kept, wildcard_kept, delegation_kept}
 use Rattle.response_laws.proofs.Origins.{origin_by}
 use Rattle.response_laws.proofs.Parts.{path_of, told_at, IsMadeOf}
 use Rattle.response_laws.proofs.Said.{Said, says_nothing, says_data, says_referral, says_missing, said}
@@ -41,8 +41,8 @@ use Rattle.response_laws.proofs.SaidNames.{same_saying, missing_said, alias_said
 use Rattle.response_laws.proofs.SentSets.{IsSentSet, authority_part}
 use Rattle.response_laws.proofs.Stepped.{IsUndiverted}
 use Rattle.response_laws.proofs.Summed.{sum_of_error, sum_of_delegation, sum_of_empty}
-use Rattle.response_laws.proofs.Told.{IsReported, over, error_proved, answer_proved, bare as told_bare, bare_by, star_bare_by, delegation_proved}
-use Rattle.response_laws.proofs.ToldNames.{no_nsec3, judged_unturned, judged_cut, unowned, star_is, is_stated, authority_is, shown_of_zone}
+use Rattle.response_laws.proofs.Told.{IsReported, over, error_proved, answer_proved, bare as told_bare, bare_by, wildcard_bare_by, delegation_proved}
+use Rattle.response_laws.proofs.ToldNames.{no_nsec3, judged_unturned, judged_cut, unowned, wildcard_name_is, is_stated, authority_is, shown_of_zone}
 
 same_name : (a b : Name) → Some a ≡ Some b → a ≡ b
 same_name a b e = cc
@@ -76,12 +76,12 @@ module _ (z : Zone) (q : Query) (r : Sections) (d : DeniesByNsec z) (signed : q.
   sound_proved x j = records_sound o m (shown r) x j records_proved
 
   -- of a wildcard's set under a name for which the wildcard answered
-  star_proved : (y : Name) → In y (path_of z q).made → (u : ℕ) (found : RRset) → IsMadeFound (inquiry z q) y u found → IsFoundByWildcard z.origin z.sets (shown r) y u found
-  star_proved y i u found k = record {
+  wildcard_proved : (y : Name) → In y (path_of z q).made → (u : ℕ) (found : RRset) → IsMadeFound (inquiry z q) y u found → IsFoundByWildcard z.origin z.sets (shown r) y u found
+  wildcard_proved y i u found k = record {
     encloser = nsec_encloser o m y;
     stored = k.stored;
-    stands = ap (λ n. set_at z.sets n u) (sym star) ∙ k.stands;
-    made = k.is ∙ (λ i. renamed (signed i || (t == RRSIG)) (star i) y k.stored);
+    stands = ap (λ n. set_at z.sets n u) (sym wildcard_name) ∙ k.stands;
+    made = k.is ∙ (λ i. renamed (signed i || (t == RRSIG)) (wildcard_name i) y k.stored);
     proved =
         answer_proved o m y j (shown r) (is_stated z q r d signed h y j (In-append_left y (path_of z q).made (told_at (ds_at z.sets ends) ends) i)) (unowned z d y k.made.absent) (nsec_encloser o m y) e.0;
   }
@@ -90,15 +90,15 @@ module _ (z : Zone) (q : Query) (r : Sections) (d : DeniesByNsec z) (signed : q.
       j = judged_unturned z q d y k.made.unturned
 
       e : (closest_encloser m y ≡ Some (nsec_encloser o m y)) × (source_of_synthesis z.sets y ≡ Some (wildcard_under (nsec_encloser o m y)))
-      e = star_is z d y j k.made.absent
+      e = wildcard_name_is z d y j k.made.absent
 
-      star : k.star ≡ wildcard_under (nsec_encloser o m y)
-      star = same_name k.star (wildcard_under (nsec_encloser o m y)) (sym k.made.star ∙ e.1)
+      wildcard_name : k.wildcard_name ≡ wildcard_under (nsec_encloser o m y)
+      wildcard_name = same_name k.wildcard_name (wildcard_under (nsec_encloser o m y)) (sym k.made.wildcard_name ∙ e.1)
 
   pub answers_proved : (s : RRset) → Contains r.answers s → Origin (inquiry z q) r.answers (IsFoundByWildcard z.origin z.sets (shown r)) s
   answers_proved s c =
-      origin_by (inquiry z q) r.answers s (ByStarOf (inquiry z q) (path_of z q).made) (IsFoundByWildcard o z.sets (shown r)) (λ y u found k. star_proved y k.0 u found k.1)
-      (subst (λ all. Origin (inquiry z q) all (ByStarOf (inquiry z q) (path_of z q).made) s) (sym h.answers)
+      origin_by (inquiry z q) r.answers s (ByWildcardOf (inquiry z q) (path_of z q).made) (IsFoundByWildcard o z.sets (shown r)) (λ y u found k. wildcard_proved y k.0 u found k.1)
+      (subst (λ all. Origin (inquiry z q) all (ByWildcardOf (inquiry z q) (path_of z q).made) s) (sym h.answers)
       (path_answers (inquiry z q) zone q.name s (subst (In s) h.answers (Contains-In s r.answers c))))
 
   -- ---- of whom something is said
@@ -118,11 +118,11 @@ module _ (z : Zone) (q : Query) (r : Sections) (d : DeniesByNsec z) (signed : q.
       by (says_data y sets f g (inl u)) = of (data_of y) f (judged_unturned z q d y u)
       by (says_data y sets f g (inr a)) = inr (alias_said z q r zone signed h y sets w (same_saying w (data_of y) (saying q r) e f) g a)
       by (says_referral y c f g u) = of (referral (lower c.owner)) f (judged_cut z q d y c u).1
-      by (says_missing y star there f g u k) = of (cond there (no_data y) (name_error y)) f (either there y (judged_unturned z q d y u))
+      by (says_missing y wildcard_name there f g u k) = of (cond there (no_data y) (name_error y)) f (either there y (judged_unturned z q d y u))
 
   -- ---- a name without data
 
-  module _ (x : Name) (star : Option Name) (there : Bool) (end : (path_of z q).end ≡ missing x star there) (u : IsUndiverted (inquiry z q) x) where
+  module _ (x : Name) (wildcard_name : Option Name) (there : Bool) (end : (path_of z q).end ≡ missing x wildcard_name there) (u : IsUndiverted (inquiry z q) x) where
     abbrev j : IsInScopeOfChain o m x
     j = judged_unturned z q d x u
 
@@ -130,26 +130,26 @@ module _ (z : Zone) (q : Query) (r : Sections) (d : DeniesByNsec z) (signed : q.
     told_itself : IsReported o m j.zone (shown r) x
     told_itself = is_stated z q r d signed h x j (In-append_right x (path_of z q).made (told_at (ds_at z.sets ends) ends) (subst (λ e. In x (told_at (ds_at z.sets e) e)) (sym end) (inl refl)))
 
-    told_star : (w : Name) → star ≡ Some w → (k : IsInScopeOfChain o m w) → IsReported o m k.zone (shown r) w
-    told_star w e k =
+    told_wildcard : (w : Name) → wildcard_name ≡ Some w → (k : IsInScopeOfChain o m w) → IsReported o m k.zone (shown r) w
+    told_wildcard w e k =
         is_stated z q r d signed h w k
         (In-append_right w (path_of z q).made (told_at (ds_at z.sets ends) ends)
         (subst (λ e. In w (told_at (ds_at z.sets e) e)) (sym (end ∙ ap (λ s. missing x s there) e)) (inr (inl refl))))
 
     -- the wildcard is that of the chain's encloser
-    star_of_chain : (w : Name) → exists z.sets x ≡ false → source_of_synthesis z.sets x ≡ Some w → w ≡ wildcard_under (nsec_encloser o m x)
-    star_of_chain w absent e = same_name w (wildcard_under (nsec_encloser o m x)) (sym e ∙ (star_is z d x j absent).1)
+    wildcard_of_chain : (w : Name) → exists z.sets x ≡ false → source_of_synthesis z.sets x ≡ Some w → w ≡ wildcard_under (nsec_encloser o m x)
+    wildcard_of_chain w absent e = same_name w (wildcard_under (nsec_encloser o m x)) (sym e ∙ (wildcard_name_is z d x j absent).1)
 
-    pub error_shown : there ≡ false → IsMissing (inquiry z q) x star there → proves_name_error z.origin (shown r) x ≡ true
+    pub error_shown : there ≡ false → IsMissing (inquiry z q) x wildcard_name there → proves_name_error z.origin (shown r) x ≡ true
     error_shown gone' (bare e f g b) = absurd (true≢false (sym e ∙ gone'))
-    error_shown gone' (bare_star w e f absent g k b) = absurd (true≢false (sym e ∙ gone'))
-    error_shown gone' (starless e absent f) = let p : None ≡ Some (wildcard_under (nsec_encloser o m x)) = sym f ∙ (star_is z d x j absent).1 in absurd cc
+    error_shown gone' (bare_wildcard w e f absent g k b) = absurd (true≢false (sym e ∙ gone'))
+    error_shown gone' (unsynthesized e absent f) = let p : None ≡ Some (wildcard_under (nsec_encloser o m x)) = sym f ∙ (wildcard_name_is z d x j absent).1 in absurd cc
     error_shown gone' (gone w e f absent g k) =
         let none = unowned z d x absent in
         let up = over o m x j (shown r) told_itself none in
-        let same = star_of_chain w absent g in
-        let k' = judged_star o m x j up in
-        error_proved o m x j (shown r) told_itself none k'.zone (told_star (wildcard_under (nsec_encloser o m x)) (f ∙ ap Some same) k')
+        let same = wildcard_of_chain w absent g in
+        let k' = judged_wildcard o m x j up in
+        error_proved o m x j (shown r) told_itself none k'.zone (told_wildcard (wildcard_under (nsec_encloser o m x)) (f ∙ ap Some same) k')
         (unowned z d (wildcard_under (nsec_encloser o m x)) (ap (exists z.sets) (sym same) ∙ k))
 
     there_below : (y : Name) → exists z.sets y ≡ true → owns_at_or_below m y ≡ true
@@ -164,7 +164,7 @@ module _ (z : Zone) (q : Query) (r : Sections) (d : DeniesByNsec z) (signed : q.
       by_empty : proves_empty_non_terminal o (shown r) x ≡ true → BareBy
       by_wildcard : exists z.sets x ≡ false → proves_wildcard_no_data o (shown r) x t ≡ true → BareBy
 
-    bare_shown : there ≡ true → HasProvableAbsence o m x t → IsMissing (inquiry z q) x star there → BareBy
+    bare_shown : there ≡ true → HasProvableAbsence o m x t → IsMissing (inquiry z q) x wildcard_name there → BareBy
     bare_shown so s (bare e f there' b) =
         by
         (bare_by o m x j (shown r) told_itself (there_below x there') t s.no_signature (lent_not_any z d.denials zone x t b NSEC) (type_unowned z d.denials zone x t b (no_nsec3 z d) s.no_signature) (lent_alias z d.denials zone x t b)
@@ -173,20 +173,20 @@ module _ (z : Zone) (q : Query) (r : Sections) (d : DeniesByNsec z) (signed : q.
         by : (proves_no_data o (shown r) x t ≡ true) ⊎ (proves_empty_non_terminal o (shown r) x ≡ true) → BareBy
         by (inl p) = by_own p
         by (inr p) = by_empty p
-    bare_shown so s (bare_star w e f absent g there' b) =
+    bare_shown so s (bare_wildcard w e f absent g there' b) =
         let none = unowned z d x absent in
-        let same = star_of_chain w absent g in
-        let k = judged_star o m x j (over o m x j (shown r) told_itself none) in
-        let c : IsBare z.sets star' t = subst (λ n. IsBare z.sets n t) same b in
+        let same = wildcard_of_chain w absent g in
+        let k = judged_wildcard o m x j (over o m x j (shown r) told_itself none) in
+        let c : IsBare z.sets wildcard_name' t = subst (λ n. IsBare z.sets n t) same b in
         let gone' = exists_kept z d.denials x ∙ absent in
         by_wildcard absent
-        (star_bare_by o m x j (shown r) told_itself none t
-        (told_bare o m star' k (shown r) (told_star star' (f ∙ ap Some same) k) (there_below star' (ap (exists z.sets) (sym same) ∙ there')) t s.no_signature (lent_not_any z d.denials zone star' t c NSEC)
-        (type_unowned z d.denials zone star' t c (no_nsec3 z d) s.no_signature) (lent_alias z d.denials zone star' t c) (λ other ns. absurd (true≢false (sym ns ∙ s.no_wildcard_cut gone'))) (s.no_wildcard_apex gone')))
+        (wildcard_bare_by o m x j (shown r) told_itself none t
+        (told_bare o m wildcard_name' k (shown r) (told_wildcard wildcard_name' (f ∙ ap Some same) k) (there_below wildcard_name' (ap (exists z.sets) (sym same) ∙ there')) t s.no_signature (lent_not_any z d.denials zone wildcard_name' t c NSEC)
+        (type_unowned z d.denials zone wildcard_name' t c (no_nsec3 z d) s.no_signature) (lent_alias z d.denials zone wildcard_name' t c) (λ other ns. absurd (true≢false (sym ns ∙ s.no_wildcard_cut gone'))) (s.no_wildcard_apex gone')))
       where
-        star' : Name
-        star' = wildcard_under (nsec_encloser o m x)
-    bare_shown so s (starless e absent f) = absurd (true≢false (sym so ∙ e))
+        wildcard_name' : Name
+        wildcard_name' = wildcard_under (nsec_encloser o m x)
+    bare_shown so s (unsynthesized e absent f) = absurd (true≢false (sym so ∙ e))
     bare_shown so s (gone w e f absent g k) = absurd (true≢false (sym so ∙ e))
 
     empty_from : BareBy → proves_empty_answer z.origin (shown r) x t ≡ true
@@ -197,16 +197,16 @@ module _ (z : Zone) (q : Query) (r : Sections) (d : DeniesByNsec z) (signed : q.
     none_from : IsFalse (is_wildcard x) → HasNoStandIn o m x t → BareBy → IsWithoutData z.origin z.denials x t
     none_from plain flat (by_own p) = (sound_proved x j).data' t flat.own p
     none_from plain flat (by_empty p) = empty_without_data o m x j ((sound_proved x j).empty p) t
-    none_from plain flat (by_wildcard absent p) = ((sound_proved x j).wildcard_data t plain (flat.star (exists_kept z d.denials x ∙ absent)) p).none
+    none_from plain flat (by_wildcard absent p) = ((sound_proved x j).wildcard_data t plain (flat.wildcard_name (exists_kept z d.denials x ∙ absent)) p).none
 
     -- it is no name error
-    no_error : there ≡ true → IsFalse (is_wildcard x) → IsMissing (inquiry z q) x star there → proves_name_error o (shown r) x ≡ false
+    no_error : there ≡ true → IsFalse (is_wildcard x) → IsMissing (inquiry z q) x wildcard_name there → proves_name_error o (shown r) x ≡ false
     no_error so plain k = by (proves_name_error o (shown r) x) refl
       where
-        is_present : IsMissing (inquiry z q) x star there → owns_at_or_below m x || asked_wildcard_exists m x ≡ true
+        is_present : IsMissing (inquiry z q) x wildcard_name there → owns_at_or_below m x || asked_wildcard_exists m x ≡ true
         is_present (bare e f there' b) = or_left (owns_at_or_below m x) (asked_wildcard_exists m x) (owned_where_existing x m (exists_kept z d.denials x ∙ there'))
-        is_present (bare_star w e f absent g there' b) = or_right (owns_at_or_below m x) (asked_wildcard_exists m x) (ap (λ o. option_map_or (exists m) o false) (star_asked m x (exists_kept z d.denials x ∙ absent) plain ∙ star_kept z d.denials x ∙ g) ∙ exists_kept z d.denials w ∙ there')
-        is_present (starless e absent f) = absurd (true≢false (sym so ∙ e))
+        is_present (bare_wildcard w e f absent g there' b) = or_right (owns_at_or_below m x) (asked_wildcard_exists m x) (ap (λ o. option_map_or (exists m) o false) (wildcard_asked m x (exists_kept z d.denials x ∙ absent) plain ∙ wildcard_kept z d.denials x ∙ g) ∙ exists_kept z d.denials w ∙ there')
+        is_present (unsynthesized e absent f) = absurd (true≢false (sym so ∙ e))
         is_present (gone w e f absent g i) = absurd (true≢false (sym so ∙ e))
 
         by : (b : Bool) → proves_name_error o (shown r) x ≡ b → b ≡ false
@@ -224,7 +224,7 @@ module _ (z : Zone) (q : Query) (r : Sections) (d : DeniesByNsec z) (signed : q.
         by true e = eqb-true t DS e
         by false e = absurd (true≢false (sym (beside e cut.delegated) ∙ cut.no_apex))
 
-    pub empty_shown : there ≡ true → IsMissing (inquiry z q) x star there → IsProvedEmpty z r x t
+    pub empty_shown : there ≡ true → IsMissing (inquiry z q) x wildcard_name there → IsProvedEmpty z r x t
     empty_shown so k = record {
       proved = λ s. empty_from (bare_shown so s k);
       call_concludes = λ s plain. sum_of_empty o (shown r) x t (no_error so plain k) is_digest (empty_from (bare_shown so s k));
@@ -236,7 +236,7 @@ module _ (z : Zone) (q : Query) (r : Sections) (d : DeniesByNsec z) (signed : q.
   pub error_said : (x : Name) → saying q r ≡ Some (name_error x) → IsProvedError z r x
   error_said x e =
       let k = missing_said z q r zone signed h false x e in
-      let p = error_shown x k.star false k.end k.unturned refl k.how in
+      let p = error_shown x k.wildcard_name false k.end k.unturned refl k.how in
       record {
         proved = p;
         call_concludes = λ u. sum_of_error o (shown r) x u p;
@@ -244,7 +244,7 @@ module _ (z : Zone) (q : Query) (r : Sections) (d : DeniesByNsec z) (signed : q.
       }
 
   pub empty_said : (x : Name) → saying q r ≡ Some (no_data x) → IsProvedEmpty z r x q.record_type
-  empty_said x e = let k = missing_said z q r zone signed h true x e in empty_shown x k.star true k.end k.unturned refl k.how
+  empty_said x e = let k = missing_said z q r zone signed h true x e in empty_shown x k.wildcard_name true k.end k.unturned refl k.how
 
   -- a zone cut is no name error
   unsigned_child : (c : Name) → IsInScopeOfChain o m c → owns m c NS ≡ true → proves_unsigned_delegation z.origin (shown r) c ≡ true → IsProvedUnsigned z r c

@@ -33,8 +33,8 @@ pub data Said (z : Zone) (q : Query) (r : Sections) : Type 0 where
   says_data : (y : Name) (sets : List RRset) → saying q r ≡ Some (data_of y) → last_name q.record_type q.name (path_of z q).answers ≡ record { name = y; sets = sets }
       → IsUndiverted (inquiry z q) y ⊎ IsAliasAsked (inquiry z q) (path_of z q).answers y sets → Said z q r
   says_referral : (y : Name) (c : RRset) → saying q r ≡ Some (referral (lower c.owner)) → (path_of z q).end ≡ referred c → IsReferred (inquiry z q) y c → Said z q r
-  says_missing : (y : Name) (star : Option Name) (there : Bool) → saying q r ≡ Some (cond there (no_data y) (name_error y)) → (path_of z q).end ≡ missing y star there → IsUndiverted (inquiry z q) y
-      → IsMissing (inquiry z q) y star there → Said z q r
+  says_missing : (y : Name) (wildcard_name : Option Name) (there : Bool) → saying q r ≡ Some (cond there (no_data y) (name_error y)) → (path_of z q).end ≡ missing y wildcard_name there → IsUndiverted (inquiry z q) y
+      → IsMissing (inquiry z q) y wildcard_name there → Said z q r
 
 pub none_any : {X : Type 0} (p : X → Bool) (xs : List X) → ((x : X) → In x xs → p x ≡ false) → list_any p xs ≡ false
 none_any p [] h = refl
@@ -89,9 +89,9 @@ module _ (z : Zone) (zone : IsZone z.sets) (q : Query) (r : Sections) (h : IsMad
   silent y = λ i. cond (none_any (is_of SOA) proofs (no_proof_of SOA refl) i) (Some (no_data y)) (option_and_then (referral_to y) (find_none (is_of NS) proofs (no_proof_of NS refl) i))
 
   -- an SOA says that there are no data
-  soa_says : (y x : Name) (star : Option Name) → unanswered y (all (missing x star true)) ≡ Some (no_data y)
-  soa_says y x star =
-      ap (λ u. cond ((u == SOA) || list_any (is_of SOA) proofs) (Some (no_data y)) (option_and_then (referral_to y) (find (is_of NS) (all (missing x star true)))))
+  soa_says : (y x : Name) (wildcard_name : Option Name) → unanswered y (all (missing x wildcard_name true)) ≡ Some (no_data y)
+  soa_says y x wildcard_name =
+      ap (λ u. cond ((u == SOA) || list_any (is_of SOA) proofs) (Some (no_data y)) (option_and_then (referral_to y) (find (is_of NS) (all (missing x wildcard_name true)))))
       (sent_type (part_for q.signed) (negative_ttl h.soa) h.soa ∙ (zone.stored z.origin SOA h.soa h.stands).record_type)
 
   -- NS without SOA refers
@@ -129,7 +129,7 @@ module _ (z : Zone) (zone : IsZone z.sets) (q : Query) (r : Sections) (h : IsMad
   abbrev SaysAt : Name → End → Type 0
   SaysAt y complete = saying q r ≡ Some (data_of y)
   SaysAt y (referred c) = saying q r ≡ Some (referral (lower c.owner))
-  SaysAt y (missing x star there) = saying q r ≡ Some (cond there (no_data y) (name_error y))
+  SaysAt y (missing x wildcard_name there) = saying q r ≡ Some (cond there (no_data y) (name_error y))
   SaysAt y _ = saying q r ≡ None
 
   says_at : (y : Name) (sets : List RRset) (e : End) → ends ≡ e → last_name t q.name (path_of z q).answers ≡ record { name = y; sets = sets } → EndOf (inquiry z q) (path_of z q).answers y sets e → SaysAt y e
@@ -141,9 +141,9 @@ module _ (z : Zone) (zone : IsZone z.sets) (q : Query) (r : Sections) (h : IsMad
       let n = cut_stands (inquiry z q) y c u in
       saying_is y sets (referred c) f g ∙ ap (λ s. without_error t answers y s (all (referred c))) a ∙ by_authorities y (referred c) k
       ∙ servers_say y c n.0 n.1 (cut_above (inquiry z q) zone y c u)
-  says_at y sets (missing x star true) f g (u, m, e, a, k) =
-      saying_is y sets (missing x star true) f g ∙ ap (λ s. without_error t answers y s (all (missing x star true))) a ∙ by_authorities y (missing x star true) k ∙ soa_says y x star
-  says_at y sets (missing x star false) f g (u, m, e, a, k) = saying_is y sets (missing x star false) f g ∙ ap (with_name_error y) a
+  says_at y sets (missing x wildcard_name true) f g (u, m, e, a, k) =
+      saying_is y sets (missing x wildcard_name true) f g ∙ ap (λ s. without_error t answers y s (all (missing x wildcard_name true))) a ∙ by_authorities y (missing x wildcard_name true) k ∙ soa_says y x wildcard_name
+  says_at y sets (missing x wildcard_name false) f g (u, m, e, a, k) = saying_is y sets (missing x wildcard_name false) f g ∙ ap (with_name_error y) a
   says_at y sets (outside x) f g (e, a, k) =
       saying_is y sets (outside x) f g ∙ ap (λ s. without_error t answers y s (all (outside x))) a ∙ by_authorities y (outside x) k ∙ silent y
   says_at y sets unfollowed f g a = absurd a
@@ -160,7 +160,7 @@ module _ (z : Zone) (zone : IsZone z.sets) (q : Query) (r : Sections) (h : IsMad
       of y sets complete f g s (inl (a, u)) = says_data y sets s g u
       of y sets complete f g s (inr a) = says_data y sets s g (inl a.unturned)
       of y sets (referred c) f g s (u, a, k) = says_referral y c s f u
-      of y sets (missing x star there) f g s (u, m, e, a, k) = says_missing y star there s (f ∙ ap (λ n. missing n star there) e) u m
+      of y sets (missing x wildcard_name there) f g s (u, m, e, a, k) = says_missing y wildcard_name there s (f ∙ ap (λ n. missing n wildcard_name there) e) u m
       of y sets (outside x) f g s a = says_nothing s
       of y sets unfollowed f g s a = says_nothing s
       of y sets too_long f g s a = says_nothing s
@@ -185,7 +185,7 @@ module _ (z : Zone) (zone : IsZone z.sets) (q : Query) (r : Sections) (h : IsMad
       of : (y : Name) (sets : List RRset) (e : End) → ends ≡ e → last_name t q.name (path_of z q).answers ≡ record { name = y; sets = sets } → SaysAt y e → EndOf (inquiry z q) (path_of z q).answers y sets e → SaysEnd q r e
       of y sets complete f g s a = (y, s)
       of y sets (referred c) f g s a = s
-      of y sets (missing x star there) f g s (u, m, e, a, k) = s ∙ ap (λ n. Some (cond there (no_data n) (name_error n))) (sym e)
+      of y sets (missing x wildcard_name there) f g s (u, m, e, a, k) = s ∙ ap (λ n. Some (cond there (no_data n) (name_error n))) (sym e)
       of y sets (outside x) f g s (e, a, k) = leads_away y x sets g (sym e) a s (outside x) f tt
       of y sets unfollowed f g s a = absurd a
       of y sets too_long f g s a = (y, leads_away y y sets g refl a s too_long f tt)
@@ -208,7 +208,7 @@ module _ (z : Zone) (zone : IsZone z.sets) (q : Query) (r : Sections) (h : IsMad
           same : (s : RRset) → referred s ≡ referred c → Some s ≡ Some c
           same s e = cc
       of y sets complete f a = absurd cc
-      of y sets (missing x star there) f a = absurd cc
+      of y sets (missing x wildcard_name there) f a = absurd cc
       of y sets (outside x) f a = absurd cc
       of y sets unfollowed f a = absurd a
       of y sets too_long f a = absurd cc

@@ -78,7 +78,7 @@ module _ (z : Zone) (q : Query) (r : Sections) (zone : IsZone z.sets) (signed : 
   module _ (same : z.denials ≡ chain_sets z.nx_proof_kind z.sets) where
     front_same : (e : End) → end_sets (ds_at z.sets e) true h.soa e ≡ end_sets (ds_at z.denials e) true h.soa e
     front_same (referred c) = ap (λ ds. end_sets ds true h.soa (referred c)) (sym (set_kept z same (lower c.owner) DS refl))
-    front_same (missing x star there) = refl
+    front_same (missing x wildcard_name there) = refl
     front_same complete = refl
     front_same (outside x) = refl
     front_same unfollowed = refl
@@ -102,10 +102,10 @@ module _ (z : Zone) (q : Query) (r : Sections) (zone : IsZone z.sets) (signed : 
 
   -- its name is that where the search ends
   pub record IsMissingName (x : Name) (there : Bool) : Type 0 where
-    pub star : Option Name
-    pub end : (path_of z q).end ≡ missing x star there
+    pub wildcard_name : Option Name
+    pub end : (path_of z q).end ≡ missing x wildcard_name there
     pub unturned : IsUndiverted (inquiry z q) x
-    pub how : IsMissing (inquiry z q) x star there
+    pub how : IsMissing (inquiry z q) x wildcard_name there
 
   pub missing_said : (there : Bool) (x : Name) → saying q r ≡ Some (cond there (no_data x) (name_error x)) → IsMissingName x there
   missing_said there x e = by (said z zone q r h)
@@ -134,13 +134,13 @@ module _ (z : Zone) (q : Query) (r : Sections) (zone : IsZone z.sets) (signed : 
       by (says_nothing f) = let p : None ≡ Some negative = sym f ∙ e in absurd cc
       by (says_data y sets f g u) = absurd (no_answer there y (same (data_of y) f))
       by (says_referral y c f g u) = absurd (no_referral there (lower c.owner) (same (referral (lower c.owner)) f))
-      by (says_missing y star a f g u k) =
+      by (says_missing y wildcard_name a f g u k) =
           let s = both a there y (same (cond a (no_data y) (name_error y)) f) in
           record {
-            star = star;
-            end = g ∙ (λ i. missing (s.1 i) star (s.0 i));
+            wildcard_name = wildcard_name;
+            end = g ∙ (λ i. missing (s.1 i) wildcard_name (s.0 i));
             unturned = subst (IsUndiverted (inquiry z q)) s.1 u;
-            how = subst (λ n. IsMissing (inquiry z q) n star there) s.1 (subst (IsMissing (inquiry z q) y star) s.0 k);
+            how = subst (λ n. IsMissing (inquiry z q) n wildcard_name there) s.1 (subst (IsMissing (inquiry z q) y wildcard_name) s.0 k);
           }
 
   -- ---- an alias by a DNAME
@@ -217,4 +217,4 @@ module _ (z : Zone) (q : Query) (r : Sections) (zone : IsZone z.sets) (signed : 
         servers = λ stands. record { stored = s; stands = stands; among = In-Contains (as_it_is part.Records s) r.authorities (among (referred s) g (as_it_is part.Records s) (inl refl)) };
         keys = keys s g (child_ds z.sets s) refl;
       }
-      by (says_missing y star there f g u k) = absurd (no_referral there y (same (cond there (no_data y) (name_error y)) f))
+      by (says_missing y wildcard_name there f g u k) = absurd (no_referral there y (same (cond there (no_data y) (name_error y)) f))

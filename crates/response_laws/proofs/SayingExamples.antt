@@ -53,8 +53,8 @@ a = at_origin (codes "a")
 abbrev pub b : Name
 b = at_origin (codes "b")
 
-abbrev pub star : Name
-star = wildcard_under origin
+abbrev pub wildcard_name : Name
+wildcard_name = wildcard_under origin
 
 abbrev pub server : Name
 server = codes "ns" ∷ b
@@ -216,30 +216,30 @@ led_back_otherwise = refl
 -- ---- a wildcard
 
 abbrev starred : Sets
-starred = start ∷ address star ∷ []
+starred = start ∷ address wildcard_name ∷ []
 
-abbrev from_star : Sections
-from_star = sections code.NoError (renamed true star b (address star).1 ∷ []) (proof starred star ∷ [])
+abbrev from_wildcard : Sections
+from_wildcard = sections code.NoError (renamed true wildcard_name b (address wildcard_name).1 ∷ []) (proof starred wildcard_name ∷ [])
 
-of_wildcard : IsResponse (zone starred) (asked b A) from_star
+of_wildcard : IsResponse (zone starred) (asked b A) from_wildcard
 unfolding path
 of_wildcard = record { code = refl; authoritative = refl; answers = refl; authorities = refl; additionals = refl; glue = refl; left_at = refl }
 
-star_says : saying (asked b A) from_star ≡ Some (data_of b)
-star_says = refl
+wildcard_says : saying (asked b A) from_wildcard ≡ Some (data_of b)
+wildcard_says = refl
 
-star_proved : proves_wildcard_answer origin (shown from_star) b origin ≡ true
-star_proved = refl
+wildcard_proved : proves_wildcard_answer origin (shown from_wildcard) b origin ≡ true
+wildcard_proved = refl
 
-of_star_without_data : IsResponse (zone starred) (asked b MX) (negative starred code.NoError (star ∷ []))
+of_wildcard_without_data : IsResponse (zone starred) (asked b MX) (negative starred code.NoError (wildcard_name ∷ []))
 unfolding path
-of_star_without_data = record { code = refl; authoritative = refl; answers = refl; authorities = refl; additionals = refl; glue = refl; left_at = refl }
+of_wildcard_without_data = record { code = refl; authoritative = refl; answers = refl; authorities = refl; additionals = refl; glue = refl; left_at = refl }
 
-star_without_data_says : saying (asked b MX) (negative starred code.NoError (star ∷ [])) ≡ Some (no_data b)
-star_without_data_says = refl
+wildcard_without_data_says : saying (asked b MX) (negative starred code.NoError (wildcard_name ∷ [])) ≡ Some (no_data b)
+wildcard_without_data_says = refl
 
-star_without_data_proved : proves_empty_answer origin (shown (negative starred code.NoError (star ∷ []))) b MX ≡ true
-star_without_data_proved = refl
+wildcard_without_data_proved : proves_empty_answer origin (shown (negative starred code.NoError (wildcard_name ∷ []))) b MX ≡ true
+wildcard_without_data_proved = refl
 
 -- ---- a referral
 
@@ -280,8 +280,8 @@ of_made_set : is_signed_by origin (signed_host origin 1) ≡ false
 of_made_set = refl
 
 -- and a wildcard itself has one label that doesn't count
-of_star_itself : is_signed_by origin (record (signed_host origin 1) { owner = star }) ≡ true
-of_star_itself = refl
+of_wildcard_itself : is_signed_by origin (record (signed_host origin 1) { owner = wildcard_name }) ≡ true
+of_wildcard_itself = refl
 
 -- ---- where nothing is proved
 
@@ -302,15 +302,15 @@ no_digest_unproved : proves_empty_answer origin (shown (negative host code.NoErr
 no_digest_unproved = refl
 
 -- a wildcard that is a delegation (RFC 4592 section 4.2)
-abbrev star_divided : Sets
-star_divided = start ∷ servers star ∷ []
+abbrev wildcard_divided : Sets
+wildcard_divided = start ∷ servers wildcard_name ∷ []
 
-of_star_cut : IsResponse (zone star_divided) (asked b A) (negative star_divided code.NoError (star ∷ []))
+of_wildcard_cut : IsResponse (zone wildcard_divided) (asked b A) (negative wildcard_divided code.NoError (wildcard_name ∷ []))
 unfolding path
-of_star_cut = record { code = refl; authoritative = refl; answers = refl; authorities = refl; additionals = refl; glue = refl; left_at = refl }
+of_wildcard_cut = record { code = refl; authoritative = refl; answers = refl; authorities = refl; additionals = refl; glue = refl; left_at = refl }
 
-star_cut_unproved : proves_empty_answer origin (shown (negative star_divided code.NoError (star ∷ []))) b A ≡ false
-star_cut_unproved = refl
+wildcard_cut_unproved : proves_empty_answer origin (shown (negative wildcard_divided code.NoError (wildcard_name ∷ []))) b A ≡ false
+wildcard_cut_unproved = refl
 
 -- a child that is in the zone with its SOA
 abbrev with_child : Sets
@@ -328,11 +328,11 @@ inner_child_unproved = refl
 
 -- a wildcard that owns NSEC3 alone, which is on the circle, and doesn't exist for a search
 abbrev foreign : Sets
-foreign = start ∷ entry star NSEC3 (V.NSEC3 (nsec3_data parameters [] [])) ∷ []
+foreign = start ∷ entry wildcard_name NSEC3 (V.NSEC3 (nsec3_data parameters [] [])) ∷ []
 
-of_foreign_star : IsResponse (zone foreign) (asked b A) (negative foreign code.NXDomain (star ∷ []))
+of_foreign_wildcard : IsResponse (zone foreign) (asked b A) (negative foreign code.NXDomain (wildcard_name ∷ []))
 unfolding path
-of_foreign_star = record { code = refl; authoritative = refl; answers = refl; authorities = refl; additionals = refl; glue = refl; left_at = refl }
+of_foreign_wildcard = record { code = refl; authoritative = refl; answers = refl; authorities = refl; additionals = refl; glue = refl; left_at = refl }
 
-foreign_star_unproved : proves_name_error origin (shown (negative foreign code.NXDomain (star ∷ []))) b ≡ false
-foreign_star_unproved = refl
+foreign_wildcard_unproved : proves_name_error origin (shown (negative foreign code.NXDomain (wildcard_name ∷ []))) b ≡ false
+foreign_wildcard_unproved = refl

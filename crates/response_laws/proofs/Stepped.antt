@@ -42,25 +42,25 @@ pub data StepOf (q : Inquiry) (before : List RRset) (x : Name) : Type 0 where
   new_name : (s : RRset) (target : Name) (new : Option Name) → diversion q.origin q.sets x q.record_type ≡ Some (renaming s) → dname_target s ≡ Some target → unless_long (in_place_of s.owner target x) ≡ new
       → step q before x ≡ new_name_step q.signed q.record_type before x s new → StepOf q before x
   at_name : IsUndiverted q x → exists q.sets x ≡ true → step q before x ≡ step_at q None x x → StepOf q before x
-  no_star : IsUndiverted q x → exists q.sets x ≡ false → source_of_synthesis q.sets x ≡ None → step q before x ≡ at_end (missing x None false) → StepOf q before x
-  at_wildcard : (star : Name) → IsUndiverted q x → exists q.sets x ≡ false → source_of_synthesis q.sets x ≡ Some star → exists q.sets star ≡ true → step q before x ≡ step_at q (Some star) x star → StepOf q before x
-  star_gone : (star : Name) → IsUndiverted q x → exists q.sets x ≡ false → source_of_synthesis q.sets x ≡ Some star → exists q.sets star ≡ false → step q before x ≡ at_end (missing x (Some star) false) → StepOf q before x
+  no_wildcard_name : IsUndiverted q x → exists q.sets x ≡ false → source_of_synthesis q.sets x ≡ None → step q before x ≡ at_end (missing x None false) → StepOf q before x
+  at_wildcard : (wildcard_name : Name) → IsUndiverted q x → exists q.sets x ≡ false → source_of_synthesis q.sets x ≡ Some wildcard_name → exists q.sets wildcard_name ≡ true → step q before x ≡ step_at q (Some wildcard_name) x wildcard_name → StepOf q before x
+  wildcard_gone : (wildcard_name : Name) → IsUndiverted q x → exists q.sets x ≡ false → source_of_synthesis q.sets x ≡ Some wildcard_name → exists q.sets wildcard_name ≡ false → step q before x ≡ at_end (missing x (Some wildcard_name) false) → StepOf q before x
 
 module _ (q : Inquiry) (before : List RRset) (x : Name) where
   abbrev the_turn : Option Diversion
   the_turn = diversion q.origin q.sets x q.record_type
 
   by_wildcard : (inside : is_at_or_above q.origin x ≡ true) → the_turn ≡ None → step q before x ≡ wildcard_step q x (source_of_synthesis q.sets x) → exists q.sets x ≡ false → (o : Option Name) → source_of_synthesis q.sets x ≡ o → StepOf q before x
-  by_wildcard inside e step_is absent None f = no_star (record { inside = inside; unturned = e }) absent f (step_is ∙ ap (wildcard_step q x) f)
-  by_wildcard inside e step_is absent (Some star) f = by (exists q.sets star) refl
+  by_wildcard inside e step_is absent None f = no_wildcard_name (record { inside = inside; unturned = e }) absent f (step_is ∙ ap (wildcard_step q x) f)
+  by_wildcard inside e step_is absent (Some wildcard_name) f = by (exists q.sets wildcard_name) refl
     where
-      by : (b : Bool) → exists q.sets star ≡ b → StepOf q before x
+      by : (b : Bool) → exists q.sets wildcard_name ≡ b → StepOf q before x
       by true g =
-          at_wildcard star (record { inside = inside; unturned = e }) absent f g
-          (step_is ∙ ap (wildcard_step q x) f ∙ ap (λ b. cond b (step_at q (Some star) x star) (at_end (missing x (Some star) false))) g)
+          at_wildcard wildcard_name (record { inside = inside; unturned = e }) absent f g
+          (step_is ∙ ap (wildcard_step q x) f ∙ ap (λ b. cond b (step_at q (Some wildcard_name) x wildcard_name) (at_end (missing x (Some wildcard_name) false))) g)
       by false g =
-          star_gone star (record { inside = inside; unturned = e }) absent f g
-          (step_is ∙ ap (wildcard_step q x) f ∙ ap (λ b. cond b (step_at q (Some star) x star) (at_end (missing x (Some star) false))) g)
+          wildcard_gone wildcard_name (record { inside = inside; unturned = e }) absent f g
+          (step_is ∙ ap (wildcard_step q x) f ∙ ap (λ b. cond b (step_at q (Some wildcard_name) x wildcard_name) (at_end (missing x (Some wildcard_name) false))) g)
 
   by_turn : (inside : is_at_or_above q.origin x ≡ true) → step q before x ≡ diverted_step q before x the_turn → (o : Option Diversion) → the_turn ≡ o → StepOf q before x
   by_turn inside step_is (Some (cut s)) e = refers s inside e (step_is ∙ ap (diverted_step q before x) e)

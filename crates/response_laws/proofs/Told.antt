@@ -16,7 +16,7 @@ use Rattle.zone_map.proofs.Owned.{owner_in, set_of}
 use Rattle.zone_denial.specs.Chains.{IsNsecChain, next_owner}
 use Rattle.zone_denial.specs.NsecDenial.{reaches, closest_owner, closest_nsec, nsec_encloser}
 use Rattle.zone_denial.proofs.Chain.NsecLists.{off_circle}
-use Rattle.zone_denial.proofs.Chains.NsecAskedStar.{enclosers_agree}
+use Rattle.zone_denial.proofs.Chains.NsecAskedWildcard.{enclosers_agree}
 use Rattle.zone_denial.proofs.Chains.NsecClosest.{IsClosest, reaches_from, closest_is, closest_covers}
 use Rattle.denial_validation.specs.NsecProofs.{denies_name, denies_type, shows_empty, shown_encloser, denied_and_wildcard, is_denied, is_bare, proves_name_error, proves_no_data, proves_empty_non_terminal, proves_wildcard_no_data, proves_wildcard_answer, shows_unsigned_delegation, proves_unsigned_delegation}
 use Rattle.denial_validation.specs.NsecRecords.{NsecRecord}
@@ -25,9 +25,9 @@ use Rattle.denial_laws.specs.Scope.{is_parents_ds}
 use Rattle.denial_laws.proofs.Chains.Gaps.{IsBetween, between_from_covers}
 use Rattle.denial_laws.proofs.Chains.OwnTypes.{unowned_denied}
 use Rattle.denial_laws.proofs.Chains.Readings.{record_at, told_listed, told_unlisted}
-use Rattle.denial_laws.proofs.Chains.ShownEnclosers.{judged_star, shown_is}
+use Rattle.denial_laws.proofs.Chains.ShownEnclosers.{judged_wildcard, shown_is}
 use Rattle.denial_laws.proofs.Chains.Speaking.{below_origin, owner_on_chain, denied, empty}
-use Rattle.denial_laws.proofs.Chains.Stars.{undnamed}
+use Rattle.denial_laws.proofs.Chains.Wildcards.{undnamed}
 
 module _ (origin : Name) (m : Sets) (h : IsNsecChain origin m) (y : Name) where
   -- an owner that is at a name or before it, and no other between
@@ -78,8 +78,8 @@ pub record IsReported (origin : Name) (m : Sets) (h : IsNsecChain origin m) (rs 
 
 module _ (origin : Name) (m : Sets) (y : Name) (j : IsInScopeOfChain origin m y) (rs : List NsecRecord) where
   -- the wildcard that would answer in place of a name
-  abbrev star : Name
-  star = wildcard_under (nsec_encloser origin m y)
+  abbrev wildcard_name : Name
+  wildcard_name = wildcard_under (nsec_encloser origin m y)
 
   module _ (t : IsReported origin m j.zone rs y) where
     -- ---- of a name that isn't there
@@ -96,23 +96,23 @@ module _ (origin : Name) (m : Sets) (y : Name) (j : IsInScopeOfChain origin m y)
       over = below_origin origin m y j (off_circle m y none)
 
       -- with what its wildcard passes
-      pub denied_with : (test : Name → Bool) → test star ≡ true → denied_and_wildcard origin rs y test ≡ true
+      pub denied_with : (test : Name → Bool) → test wildcard_name ≡ true → denied_and_wildcard origin rs y test ≡ true
       denied_with test p =
           any_from_In (λ r. denies_name origin r y && option_map_or (λ a. test (wildcard_under a)) (shown_encloser r y) false) (record_at origin m j.zone t.owner) rs t.among
           (λ i. denied origin m y j t.owner between none i && (ap (λ q. option_map_or (λ a. test (wildcard_under a)) q false) (shown_is origin m y j over t.owner between) ∙ p) i)
 
-      pub error_proved : (h : IsNsecChain origin m) → IsReported origin m h rs star → owns_at_or_below m star ≡ false → proves_name_error origin rs y ≡ true
-      error_proved h w starless =
+      pub error_proved : (h : IsNsecChain origin m) → IsReported origin m h rs wildcard_name → owns_at_or_below m wildcard_name ≡ false → proves_name_error origin rs y ≡ true
+      error_proved h w unsynthesized =
           denied_with (is_denied origin rs)
-          (any_from_In (λ r. denies_name origin r star) (record_at origin m j.zone w.owner) rs w.among (denied origin m star (judged_star origin m y j over) w.owner (of_wildcard w.where') starless))
+          (any_from_In (λ r. denies_name origin r wildcard_name) (record_at origin m j.zone w.owner) rs w.among (denied origin m wildcard_name (judged_wildcard origin m y j over) w.owner (of_wildcard w.where') unsynthesized))
         where
-          of_wildcard : Stands origin m h star w.owner → IsBetween origin m star w.owner
-          of_wildcard (at e on) = absurd (true≢false (sym on ∙ off_circle m star starless))
+          of_wildcard : Stands origin m h wildcard_name w.owner → IsBetween origin m wildcard_name w.owner
+          of_wildcard (at e on) = absurd (true≢false (sym on ∙ off_circle m wildcard_name unsynthesized))
           of_wildcard (before_it off b) = b
 
       -- the wildcard at its closest encloser may answer
       pub answer_proved : (e : Name) → closest_encloser m y ≡ Some e → proves_wildcard_answer origin rs y e ≡ true
-      answer_proved e is = denied_with (name_eq (wildcard_under e)) ((name_eq-Decides (wildcard_under e) star).1 (ap wildcard_under (same_value e (nsec_encloser origin m y) (sym is ∙ enclosers_agree origin m j.zone j.one_kind y ((above_test origin y).1 over) j.uncut (undnamed origin m y j)))))
+      answer_proved e is = denied_with (name_eq (wildcard_under e)) ((name_eq-Decides (wildcard_under e) wildcard_name).1 (ap wildcard_under (same_value e (nsec_encloser origin m y) (sym is ∙ enclosers_agree origin m j.zone j.one_kind y ((above_test origin y).1 over) j.uncut (undnamed origin m y j)))))
         where
           same_value : (a b : Name) → Some a ≡ Some b → a ≡ b
           same_value a b e = cc
@@ -150,8 +150,8 @@ module _ (origin : Name) (m : Sets) (y : Name) (j : IsInScopeOfChain origin m y)
                 (or_right (denies_type origin (record_at origin m j.zone t.owner) y u) (shows_empty origin (record_at origin m j.zone t.owner) y) (empty origin m y j t.owner b there))
 
     -- a name that isn't there has no data by its wildcard
-    pub star_bare_by : owns_at_or_below m y ≡ false → (u : ℕ) → is_bare origin rs u star ≡ true → proves_wildcard_no_data origin rs y u ≡ true
-    star_bare_by none u p = denied_with none (is_bare origin rs u) p
+    pub wildcard_bare_by : owns_at_or_below m y ≡ false → (u : ℕ) → is_bare origin rs u wildcard_name ≡ true → proves_wildcard_no_data origin rs y u ≡ true
+    wildcard_bare_by none u p = denied_with none (is_bare origin rs u) p
 
     -- ---- of a delegation
 

@@ -13,13 +13,13 @@ use Rattle.zone_denial.specs.NsecDenial.{nsec_encloser}
 use Rattle.zone_denial.specs.WildcardLaws.{OwnsNone}
 use Rattle.zone_denial.proofs.Chain.NsecLists.{off_circle}
 use Rattle.zone_denial.proofs.Chains.ChainSets.{one_kind}
-use Rattle.zone_denial.proofs.Chains.NsecAskedStar.{exists_is, enclosers_agree}
+use Rattle.zone_denial.proofs.Chains.NsecAskedWildcard.{exists_is, enclosers_agree}
 use Rattle.denial_validation.specs.NsecRecords.{read_nsec}
 use Rattle.denial_laws.specs.Chains.{IsInScopeOfChain}
 use Rattle.denial_laws.specs.Scope.{read, AreOfZone}
 use Rattle.denial_laws.proofs.Chains.Readings.{record_at, read_set}
 use Rattle.denial_laws.proofs.Chains.Speaking.{below_origin}
-use Rattle.denial_laws.proofs.Chains.Stars.{undnamed}
+use Rattle.denial_laws.proofs.Chains.Wildcards.{undnamed}
 use Rattle.zone_response.specs.Queries.{Zone, Query, inquiry}
 use Rattle.zone_response.specs.Responses.{negative_ttl, ds_at, end_sets}
 use Rattle.zone_response.specs.Sections.{Sections}
@@ -61,9 +61,9 @@ pub unowned : (z : Zone) (d : DeniesByNsec z) (y : Name) → exists z.sets y ≡
 unowned z d y absent = sym (exists_is z.origin z.denials d.chain (no_nsec3 z d) y) ∙ exists_kept z d.denials y ∙ absent
 
 -- its wildcard is the one under the encloser that the chain has
-pub star_is : (z : Zone) (d : DeniesByNsec z) (y : Name) → IsInScopeOfChain z.origin z.denials y → exists z.sets y ≡ false
+pub wildcard_name_is : (z : Zone) (d : DeniesByNsec z) (y : Name) → IsInScopeOfChain z.origin z.denials y → exists z.sets y ≡ false
     → (closest_encloser z.denials y ≡ Some (nsec_encloser z.origin z.denials y)) × (source_of_synthesis z.sets y ≡ Some (wildcard_under (nsec_encloser z.origin z.denials y)))
-star_is z d y j absent =
+wildcard_name_is z d y j absent =
     let over : IsAbove z.origin y = below_origin z.origin z.denials y j (off_circle z.denials y (unowned z d y absent)) in
     let e = enclosers_agree z.origin z.denials d.chain (no_nsec3 z d) y ((above_test z.origin y).1 over) j.uncut (undnamed z.origin z.denials y j) in
     (e, ap (option_map wildcard_under) (sym (encloser_kept z d.denials y) ∙ e))

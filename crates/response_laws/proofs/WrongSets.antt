@@ -79,14 +79,14 @@ answers_shortened law = by (has.answers short (In-Contains short (short ∷ []) 
     by : Origin (inquiry (plain (start ∷ [])) (asks origin SOA)) (short ∷ []) (IsFoundByItsWildcard (inquiry (plain (start ∷ [])) (asks origin SOA))) short → ⊥
     by (own p g h) = not_short h.name h.record_type h.stored h.stands (ap (λ (s : RRset). s.ttl) h.sent ∙ sent_ttl p h.stored)
     by (of_wildcard p g h) =
-        not_short h.by_wildcard.star h.record_type h.by_wildcard.stored h.by_wildcard.stands
+        not_short h.by_wildcard.wildcard_name h.record_type h.by_wildcard.stored h.by_wildcard.stands
         (ap (λ (s : RRset). s.ttl) h.sent ∙ sent_ttl p h.found ∙ ap (λ (s : RRset). s.ttl) h.by_wildcard.made)
     by (of_dname h) = true≢false (ap (λ (s : RRset). s.record_type == SOA) h.made)
     by (of_aname h) = of h.stands
       where
         of : (set_at (start ∷ []) h.name ANAME ≡ Some h.aname) ⊎ IsFoundByItsWildcard (inquiry (plain (start ∷ [])) (asks origin SOA)) h.name ANAME h.aname → ⊥
         of (inl e) = no_aname h.name h.aname e
-        of (inr k) = no_aname k.star k.stored k.stands
+        of (inr k) = no_aname k.wildcard_name k.stored k.stands
 
 -- ---- that of the SOA of a negative response
 

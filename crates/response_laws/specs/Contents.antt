@@ -62,11 +62,11 @@ pub record IsOwnSet (m : Sets) (p : Part) (s : RRset) : Type 0 where
 -- 3.3.1)
 pub record IsFoundByItsWildcard (q : Inquiry) (name : Name) (record_type : ℕ) (found : RRset) : Type 0 where
   pub absent : IsFalse (exists q.sets name)
-  pub star : Name
-  pub asked : source_of_synthesis q.sets name ≡ Some star
+  pub wildcard_name : Name
+  pub asked : source_of_synthesis q.sets name ≡ Some wildcard_name
   pub stored : RRset
-  pub stands : set_at q.sets star record_type ≡ Some stored
-  pub made : found ≡ renamed (keeps q.signed q.record_type) star name stored
+  pub stands : set_at q.sets wildcard_name record_type ≡ Some stored
+  pub made : found ≡ renamed (keeps q.signed q.record_type) wildcard_name name stored
 
 -- a set that is found by a wildcard, with its own TTL
 pub record IsWildcardSet (IsByWildcard : Name → ℕ → RRset → Type 0) (p : Part) (s : RRset) : Type 0 where

@@ -30,8 +30,8 @@ pub record IsFoundAname (q : Inquiry) (x : Name) (s : RRset) : Type 0 where
   pub owner : Name
   pub stored : RRset
   pub stands : set_at q.sets owner ANAME ≡ Some stored
-  pub star : Option Name
-  pub found : s ≡ as_found_for (keeps q.signed q.record_type) star x stored
+  pub wildcard_name : Option Name
+  pub found : s ≡ as_found_for (keeps q.signed q.record_type) wildcard_name x stored
 
 -- what is in a zone and can't be answered
 pub data Fault (q : Inquiry) : Type 0 where

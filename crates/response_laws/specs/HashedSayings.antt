@@ -126,7 +126,7 @@ pub record HasHashedProvableAbsence (origin : Name) (m : Sets) (x : Name) (t : �
 -- the wildcard at its closest encloser
 pub record HasNoHashedStandIn (m : Sets) (x : Name) (t : ℕ) : Type 0 where
   pub own : IsUnflattened m x t
-  pub star : IsFalse (exists m x) → (w : Name) → source_of_synthesis m x ≡ Some w → IsUnflattened m w t
+  pub wildcard_name : IsFalse (exists m x) → (w : Name) → source_of_synthesis m x ≡ Some w → IsUnflattened m w t
 
 -- opt-out leaves x out: it has no NSEC3 set
 abbrev pub HasNoHashedSet : Nsec3Parameters → List Name → Name → Type 0

@@ -137,7 +137,7 @@ pub record HasProvableAbsence (origin : Name) (m : Sets) (x : Name) (t : ℕ) : 
 -- encloser. A lookup finds such an ANAME, of which no record tells that it leads to no addresses
 pub record HasNoStandIn (origin : Name) (m : Sets) (x : Name) (t : ℕ) : Type 0 where
   pub own : IsUnflattened m x t
-  pub star : IsFalse (exists m x) → IsUnflattened m (wildcard_under (nsec_encloser origin m x)) t
+  pub wildcard_name : IsFalse (exists m x) → IsUnflattened m (wildcard_under (nsec_encloser origin m x)) t
 
 -- there is no such name, and that is proved (RFC 4035 section 3.1.3.2)
 pub record IsProvedError (z : Zone) (r : Sections) (x : Name) : Type 0 where

@@ -131,7 +131,7 @@ pub record LeadsAway (q : Query) (r : Sections) (c : ResponseCode) (x : Name) : 
 abbrev pub SaysEnd : Query → Sections → End → Type 0
 SaysEnd q r complete = (x : Name) × (saying q r ≡ Some (data_of x))
 SaysEnd q r (referred c) = saying q r ≡ Some (referral (lower c.owner))
-SaysEnd q r (missing x star there) = saying q r ≡ Some (cond there (no_data x) (name_error x))
+SaysEnd q r (missing x wildcard_name there) = saying q r ≡ Some (cond there (no_data x) (name_error x))
 SaysEnd q r (outside x) = LeadsAway q r code.NoError x
 SaysEnd q r unfollowed = (x : Name) × LeadsAway q r code.NoError x
 SaysEnd q r too_long = (x : Name) × LeadsAway q r yx_domain x

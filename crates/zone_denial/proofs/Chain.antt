@@ -4,8 +4,8 @@ pub mod NsecClosest
 pub mod NsecEnclosers
 pub mod NsecLists
 pub mod NsecBelow
-pub mod NsecStar
-pub mod NsecAskedStar
+pub mod NsecWildcard
+pub mod NsecAskedWildcard
 pub mod NsecSecured
 pub mod ClosestSets
 pub mod CircleReads

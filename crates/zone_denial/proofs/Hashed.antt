@@ -16,7 +16,7 @@ pub mod Nsec3Owners
 pub mod Nsec3Covers
 pub mod Nsec3Enclosers
 pub mod Nsec3Encloses
-pub mod Nsec3Star
-pub mod Nsec3AskedStar
+pub mod Nsec3Wildcard
+pub mod Nsec3AskedWildcard
 pub mod Nsec3Lists
 pub mod Nsec3Secured

@@ -54,7 +54,7 @@ ChainSetsKeepFound = (chain : Option NxProofKind) (m : Sets) (signed : Bool) (n 
 -- of a name: whether it exists, which wildcard is asked for it, and whether it is below a zone cut or a DNAME
 pub record KeepsName (chain : Option NxProofKind) (origin : Name) (m : Sets) (n : Name) : Type 0 where
   pub exists : exists (chain_sets chain m) n ≡ exists m n
-  pub star : asked_wildcard (chain_sets chain m) n ≡ asked_wildcard m n
+  pub wildcard_name : asked_wildcard (chain_sets chain m) n ≡ asked_wildcard m n
   pub cut : is_below_cut origin (chain_sets chain m) n ≡ is_below_cut origin m n
   pub dname : is_below_dname (chain_sets chain m) n ≡ is_below_dname m n
 

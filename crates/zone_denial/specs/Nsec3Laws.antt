@@ -65,7 +65,7 @@ module _ (origin : Name) (m : Sets) (hash : Name → Option (List ℕ)) where
     pub record ProvesWildcardOn (x : Name) (answer : List RRset) : Type 0 where
       pub encloser : Name
       pub is_encloser : encloser_on names x ≡ Some encloser
-      pub star : HasSetOrCoverOn (wildcard_under encloser) answer
+      pub wildcard_name : HasSetOrCoverOn (wildcard_under encloser) answer
 
     -- an answer has the set of the closest encloser of x, and one that covers the next closer name (RFC 5155 section 7.2.1)
     pub record ProvesEncloserOn (x : Name) (answer : List RRset) : Type 0 where
@@ -109,8 +109,8 @@ module _ (origin : Name) (m : Sets) (hash : Name → Option (List ℕ)) where
     pub record DeniesAway (x : Name) (answer : List RRset) : Type 0 where
       pub covers : CoversCloser x answer
       pub matches : HasSetOf covers.encloser answer
-      pub star_on : Contains names (wildcard_under covers.encloser) → HasSetOf (wildcard_under covers.encloser) answer
-      pub star_off : (Contains names (wildcard_under covers.encloser) → ⊥) → HasCoverOf (wildcard_under covers.encloser) answer
+      pub wildcard_on : Contains names (wildcard_under covers.encloser) → HasSetOf (wildcard_under covers.encloser) answer
+      pub wildcard_off : (Contains names (wildcard_under covers.encloser) → ⊥) → HasCoverOf (wildcard_under covers.encloser) answer
 
     -- x's own set, where x is one of the names (RFC 5155 section 7.2.3); else those
     pub record Denies (x : Name) (answer : List RRset) : Type 0 where

@@ -70,7 +70,7 @@ pub fn denial_finds_or_covers()
 /// If a name in the zone has no NSEC set, its denial has the NSEC set of the wildcard at its closest encloser, if the wildcard
 /// has one, and otherwise a set that covers the wildcard (RFC 4035 section 3.1.3.2). So a validator knows which wildcard might
 /// have answered for the name, and what that one owns or that there is none.
-#[tactic(auto, using(crate::proofs::Chain::NsecStar::proves_star))]
+#[tactic(auto, using(crate::proofs::Chain::NsecWildcard::proves_wildcard))]
 pub fn denial_proves_wildcard()
     ensures { DenialProvesWildcard }
 {}
@@ -154,7 +154,7 @@ pub fn nsec3_denial_finds_or_encloses()
 /// the wildcard is on the chain, and otherwise a set that covers the wildcard (RFC 5155 section 7.2.2). So a validator knows
 /// which wildcard might have answered for the name, and what that one owns or that there is none. The hash has to give the same
 /// names different digests.
-#[tactic(auto, using(crate::proofs::Hashed::Nsec3Star::proves_star))]
+#[tactic(auto, using(crate::proofs::Hashed::Nsec3Wildcard::proves_wildcard))]
 pub fn nsec3_denial_proves_wildcard()
     ensures { Nsec3DenialProvesWildcard }
 {}

@@ -20,11 +20,11 @@ use Rattle.zone_map.specs.Zones.{Sets, owns, owns_at_or_below}
 use Rattle.zone_denial.specs.NsecDenial.{nsec_encloser, nsec_denial}
 use Rattle.zone_denial.specs.NsecLaws.{IsNsecZone, HasOwnOrCover}
 use Rattle.zone_denial.specs.WildcardLaws.{OwnsNone, DeniesWildcard}
-use Rattle.zone_denial.proofs.Chain.NsecAskedStar.{absent_wildcard_is_denied}
+use Rattle.zone_denial.proofs.Chain.NsecAskedWildcard.{absent_wildcard_is_denied}
 use Rattle.zone_denial.proofs.Chain.NsecClosest.{finds_or_covers}
 use Rattle.zone_denial.proofs.Chain.NsecLists.{lists_all_owned, denials_agree}
 use Rattle.zone_denial.proofs.Chain.NsecBelow.{no_next_below, next_below_empty}
-use Rattle.zone_denial.proofs.Chain.NsecStar.{proves_star}
+use Rattle.zone_denial.proofs.Chain.NsecWildcard.{proves_wildcard}
 use Rattle.zone_lookup.specs.Replies.{NegativeAnswer, name_exists, nx_domain, refused, negative_answer, answered, negative, IsReplyFor}
 use Rattle.zone_lookup.proofs.NegativeReplies.{reply_is_negative}
 use Rattle.denial_laws.specs.Acceptance.{IsAccepted}
@@ -65,13 +65,13 @@ module _ (sign : RRset → List Record) (origin : Name) (m : Sets) (options : Lo
 -- it exists, and that it is the zone's
 pub record IsNameAbsent (origin : Name) (m : Sets) (n : Name) : Type 0 where
   pub unowned : owns_at_or_below m n ≡ false
-  pub no_star : asked_wildcard_exists m n ≡ false
+  pub no_wildcard_name : asked_wildcard_exists m n ≡ false
   pub inside : IsTrue (is_at_or_above origin n)
 
 pub name_absent : (origin : Name) (m : Sets) (n : Name) → negative_answer origin m n ≡ nx_domain → IsNameAbsent origin m n
 name_absent origin m n e =
     let r = by (owns_at_or_below m n) (asked_wildcard_exists m n) (is_at_or_above origin n) e in
-    record { unowned = r.0; no_star = r.1; inside = r.2 }
+    record { unowned = r.0; no_wildcard_name = r.1; inside = r.2 }
   where
     by : (a s b : Bool) → cond (a || s) name_exists (cond b nx_domain refused) ≡ nx_domain → (a ≡ false) × (s ≡ false) × (b ≡ true)
     by true s b e = absurd cc
@@ -84,9 +84,9 @@ pub of_name_error : (sign : RRset → List Record) (origin : Name) (m : Sets) (o
     → SaysOrMemory options (IsReplyFor sign origin m options.dnssec_ok n (searched_type m n t)) step → IsNameError step → IsNameAbsent origin m n
 of_name_error sign origin m options n t step says e = name_absent origin m n (of_step sign origin m options n t nx_domain step says e).1
 
-pub star_never_denied : (sign : RRset → List Record) (origin : Name) (m : Sets) (options : LookupOptions) (n : Name) (t : ℕ) (step : LookupControlFlow AuthLookup LookupError)
+pub wildcard_never_denied : (sign : RRset → List Record) (origin : Name) (m : Sets) (options : LookupOptions) (n : Name) (t : ℕ) (step : LookupControlFlow AuthLookup LookupError)
     → asked_wildcard_exists m n ≡ true → SaysOrMemory options (IsReplyFor sign origin m options.dnssec_ok n (searched_type m n t)) step → IsNameError step → ⊥
-star_never_denied sign origin m options n t step h says e = true≢false (sym h ∙ (of_name_error sign origin m options n t step says e).no_star)
+wildcard_never_denied sign origin m options n t step h says e = true≢false (sym h ∙ (of_name_error sign origin m options n t step says e).no_wildcard_name)
 
 module _ (origin : Name) (m : Sets) (circle : IsNsecZone origin m) where
   pub lookup_agrees : (sign : RRset → List Record) (options : LookupOptions) (n : Name) (t : ℕ) (step : LookupControlFlow AuthLookup LookupError)
@@ -102,11 +102,11 @@ module _ (origin : Name) (m : Sets) (circle : IsNsecZone origin m) where
       }
 
   -- where it answers by a name error, the denial says that there is no wildcard
-  pub absent_star_agrees : (sign : RRset → List Record) (options : LookupOptions) (n : Name) (t : ℕ) (step : LookupControlFlow AuthLookup LookupError) → OwnsNone m NSEC3 → IsFalse (is_wildcard n)
+  pub absent_wildcard_agrees : (sign : RRset → List Record) (options : LookupOptions) (n : Name) (t : ℕ) (step : LookupControlFlow AuthLookup LookupError) → OwnsNone m NSEC3 → IsFalse (is_wildcard n)
       → SaysOrMemory options (IsReplyFor sign origin m options.dnssec_ok n (searched_type m n t)) step → IsNameError step → DeniesWildcard origin m n
-  absent_star_agrees sign options n t step none plain says e =
+  absent_wildcard_agrees sign options n t step none plain says e =
       let absent = of_name_error sign origin m options n t step says e in
-      absent_wildcard_is_denied origin m circle none n absent.inside plain absent.unowned absent.no_star
+      absent_wildcard_is_denied origin m circle none n absent.inside plain absent.unowned absent.no_wildcard_name
 
   -- nor does the step that breaks a query for a transfer off deny anything
   pub transfer_agrees : (n : Name) (t : ℕ) (result : Result AuthLookup LookupError) → AgreesWithCircle origin m n t (Break result)
@@ -127,11 +127,11 @@ module _ (origin : Name) (m : Sets) (circle : IsNsecZone origin m) where
   answer_proves options n step inside (inr is) = inr is
 
   -- of a name off the circle they prove the wildcard at the closest encloser
-  pub star_proves : (options : LookupOptions) (n : Name) (step : LookupControlFlow AuthLookup LookupError) → IsTrue (is_at_or_above origin n) → IsFalse (owns m n NSEC)
+  pub wildcard_proves : (options : LookupOptions) (n : Name) (step : LookupControlFlow AuthLookup LookupError) → IsTrue (is_at_or_above origin n) → IsFalse (owns m n NSEC)
       → ((s : LookupRecords) × (step ≡ Continue (Ok (answer.Records s None))) × IsDenialSection origin m options n s) ⊎ (step ≡ Continue (Err error.Memory)) → HasWildcardProof origin m n step
-  star_proves options n step inside off (inl (s, is, section)) =
-      inl (s, is, subst (HasOwnOrCover m (wildcard_under (nsec_encloser origin m n))) (sym section.sets) (proves_star origin m circle n inside off))
-  star_proves options n step inside off (inr is) = inr is
+  wildcard_proves options n step inside off (inl (s, is, section)) =
+      inl (s, is, subst (HasOwnOrCover m (wildcard_under (nsec_encloser origin m n))) (sym section.sets) (proves_wildcard origin m circle n inside off))
+  wildcard_proves options n step inside off (inr is) = inr is
 
 -- a validator accepts the records of the answer
 pub answer_accepted : (origin : Name) (m : Sets) (options : LookupOptions) (n : Name) (step : LookupControlFlow AuthLookup LookupError) → IsInScope origin m n

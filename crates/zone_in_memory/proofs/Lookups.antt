@@ -65,8 +65,8 @@ existing_is_present m n h = by (exists m n) refl (owns_at_or_below m n) refl
     by false e false o = ap (λ x. x || asked_wildcard_exists m n) o ∙ ap (λ x. x || asked_wildcard_exists m n) (sym e) ∙ h
 
 -- and where neither does, no such wildcard exists
-pub no_star_exists : (m : Sets) (n : Name) → exists_or_wildcard m n ≡ false → asked_wildcard_exists m n ≡ false
-no_star_exists m n h = either (exists m n) (asked_wildcard_exists m n) h
+pub no_wildcard_exists : (m : Sets) (n : Name) → exists_or_wildcard m n ≡ false → asked_wildcard_exists m n ≡ false
+no_wildcard_exists m n h = either (exists m n) (asked_wildcard_exists m n) h
 
 -- without one, a name is there where it, or a name below it, owns a set
 pub present_by_owned : (m : Sets) (n : Name) → asked_wildcard_exists m n ≡ false → is_present m n ≡ owns_at_or_below m n

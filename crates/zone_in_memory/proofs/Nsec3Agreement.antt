@@ -22,9 +22,9 @@ use Rattle.zone_denial.specs.Nsec3Laws.{FindsOrEncloses, ProvesWildcard}
 use Rattle.zone_denial.specs.Nsec3Lent.{hashed_for, query_denial}
 use Rattle.zone_denial.specs.Nsec3Zones.{IsCircleName, IsHashed, IsNsec3Zone, HasDistinctDigests}
 use Rattle.zone_denial.specs.WildcardLaws.{OwnsNone, Nsec3DeniesWildcard}
-use Rattle.zone_denial.proofs.Hashed.Nsec3AskedStar.{absent_wildcard_is_denied}
+use Rattle.zone_denial.proofs.Hashed.Nsec3AskedWildcard.{absent_wildcard_is_denied}
 use Rattle.zone_denial.proofs.Hashed.Nsec3Encloses.{finds_or_encloses}
-use Rattle.zone_denial.proofs.Hashed.Nsec3Star.{proves_star}
+use Rattle.zone_denial.proofs.Hashed.Nsec3Wildcard.{proves_wildcard}
 use Rattle.zone_denial.proofs.Hashed.Nsec3Lists.{lists_all_owned, denials_agree}
 use Rattle.zone_lookup.specs.Replies.{name_exists, nx_domain, IsReplyFor}
 use Rattle.denial_laws.specs.Nsec3Acceptance.{IsNsec3Accepted, IsAskedWildcardAccepted}
@@ -50,12 +50,12 @@ module _ (origin : Name) (m : Sets) (hash : Name → Option (List ℕ)) (paramet
       }
 
   -- where it answers by a name error, the denial says that there is no wildcard, without opt-out
-  pub nsec3_absent_star_agrees : (sign : RRset → List Record) (options : LookupOptions) (n : Name) (t : ℕ) (step : LookupControlFlow AuthLookup LookupError) → IsFalse parameters.opt_out → OwnsNone m NSEC
+  pub nsec3_absent_wildcard_agrees : (sign : RRset → List Record) (options : LookupOptions) (n : Name) (t : ℕ) (step : LookupControlFlow AuthLookup LookupError) → IsFalse parameters.opt_out → OwnsNone m NSEC
       → HasDistinctDigests (IsHashed origin m parameters.opt_out n) hash → IsFalse (is_wildcard n) → SaysOrMemory options (IsReplyFor sign origin m options.dnssec_ok n (searched_type m n t)) step → IsNameError step
       → Nsec3DeniesWildcard origin m hash parameters.opt_out n
-  nsec3_absent_star_agrees sign options n t step all_in none apart plain says e =
+  nsec3_absent_wildcard_agrees sign options n t step all_in none apart plain says e =
       let absent = of_name_error sign origin m options n t step says e in
-      absent_wildcard_is_denied origin m hash parameters circle all_in none n absent.inside apart plain absent.unowned absent.no_star
+      absent_wildcard_is_denied origin m hash parameters circle all_in none n absent.inside apart plain absent.unowned absent.no_wildcard_name
 
   -- nor does the step that breaks a query for a transfer off deny anything
   pub nsec3_transfer_agrees : (n : Name) (t : ℕ) (result : Result AuthLookup LookupError) → AgreesWithNsec3Circle origin m hash parameters.opt_out n t (Break result)
@@ -93,12 +93,12 @@ module _ {S H : Type 0} (digest_of : H → ℕ → List ℕ → Name → ℕ →
   nsec3_answer_proves step is parameters circle plain inside apart =
       answers (FindsOrEncloses zone.origin zone.inner.records hash parameters.opt_out x) false plain (finds_or_encloses zone.origin zone.inner.records hash parameters circle x inside apart) step is
 
-  pub nsec3_star_proves : (step : LookupControlFlow AuthLookup LookupError) → IsNsec3Answer digest_of zone query options step
+  pub nsec3_wildcard_proves : (step : LookupControlFlow AuthLookup LookupError) → IsNsec3Answer digest_of zone query options step
       → (parameters : Nsec3Parameters) → IsNsec3Zone zone.origin zone.inner.records hash parameters → query.has_wildcard_match ≡ false → IsTrue (is_at_or_above zone.origin x)
       → HasDistinctDigests (IsHashed zone.origin zone.inner.records parameters.opt_out x) hash → (IsCircleName zone.origin zone.inner.records parameters.opt_out x → ⊥)
       → HasNsec3WildcardProof zone.origin zone.inner.records hash parameters.opt_out x step
-  nsec3_star_proves step is parameters circle plain inside apart off =
-      answers (ProvesWildcard zone.origin zone.inner.records hash parameters.opt_out x) false plain (proves_star zone.origin zone.inner.records hash parameters circle x inside apart off) step is
+  nsec3_wildcard_proves step is parameters circle plain inside apart off =
+      answers (ProvesWildcard zone.origin zone.inner.records hash parameters.opt_out x) false plain (proves_wildcard zone.origin zone.inner.records hash parameters circle x inside apart off) step is
 
   -- a validator accepts their records
   pub nsec3_answer_accepted : (step : LookupControlFlow AuthLookup LookupError) → IsNsec3Answer digest_of zone query options step → query.has_wildcard_match ≡ false
@@ -113,11 +113,11 @@ module _ {S H : Type 0} (digest_of : H → ℕ → List ℕ → Name → ℕ →
       → nsec3_denial zone.inner.records (hashed_for zone.origin (digest_of zone.hash) query) wildcard x ≡ Ok sets
   denied_sets sets wildcard is denial = ap (λ w. nsec3_denial zone.inner.records (hashed_for zone.origin (digest_of zone.hash) query) w x) (sym is) ∙ denial
 
-  pub nsec3_asked_star_proves : (step : LookupControlFlow AuthLookup LookupError) → IsNsec3Answer digest_of zone query options step → query.has_wildcard_match ≡ true
+  pub nsec3_asked_wildcard_proves : (step : LookupControlFlow AuthLookup LookupError) → IsNsec3Answer digest_of zone query options step → query.has_wildcard_match ≡ true
       → HasAskedWildcardProof digest_of zone query step
-  nsec3_asked_star_proves step (inl (sets, denial, (s, is, has, kept))) wildcard parameters judged t e =
+  nsec3_asked_wildcard_proves step (inl (sets, denial, (s, is, has, kept))) wildcard parameters judged t e =
       let law = nsec3_wildcard_answer_accepted zone.origin zone.inner.records hash parameters x judged sets (denied_sets sets true wildcard denial) in
       let section : s ≡ t = cc in
       subst (λ sets. IsAskedWildcardAccepted zone.origin zone.inner.records hash parameters.opt_out x (read_nsec3_sets sets)) (sym has ∙ ap sets_in section) law
-  nsec3_asked_star_proves step (inr (inl (refusal, denial, is))) wildcard parameters judged t e = absurd cc
-  nsec3_asked_star_proves step (inr (inr is)) wildcard parameters judged t e = absurd cc
+  nsec3_asked_wildcard_proves step (inr (inl (refusal, denial, is))) wildcard parameters judged t e = absurd cc
+  nsec3_asked_wildcard_proves step (inr (inr is)) wildcard parameters judged t e = absurd cc

@@ -35,33 +35,33 @@ wildcard_set = record {
   signatures = record_with (asterisk_label ∷ codes "EXAMPLE" ∷ codes "COM" ∷ []) server ∷ record_with apex server ∷ [];
 }
 
-abbrev star_in_b : RRset
-star_in_b = set_with (wildcard_under (at_apex (codes "b"))) A (V.A (192 ∷ 0 ∷ 2 ∷ 2 ∷ []))
+abbrev wildcard_in_b : RRset
+wildcard_in_b = set_with (wildcard_under (at_apex (codes "b"))) A (V.A (192 ∷ 0 ∷ 2 ∷ 2 ∷ []))
 
-abbrev star_at_cut : RRset
-star_at_cut = set_with (wildcard_under (at_apex (codes "n"))) NS server
+abbrev wildcard_at_cut : RRset
+wildcard_at_cut = set_with (wildcard_under (at_apex (codes "n"))) NS server
 
-abbrev stars : Sets
-stars =
+abbrev wildcards : Sets
+wildcards =
     (key (wildcard_under apex) A, wildcard_set)
-    ∷ (key (wildcard_under (at_apex (codes "b"))) A, star_in_b)
-    ∷ (key (wildcard_under (at_apex (codes "n"))) NS, star_at_cut)
+    ∷ (key (wildcard_under (at_apex (codes "b"))) A, wildcard_in_b)
+    ∷ (key (wildcard_under (at_apex (codes "n"))) NS, wildcard_at_cut)
     ∷ []
 
 -- the wildcard at the closest encloser answers
-encloser_star : found stars false (in_b (codes "a")) A ≡ Some (record { owner = in_b (codes "a"); record_type = A; class = IN; ttl = 60; serial = 0; records = record_with (in_b (codes "a")) (V.A (192 ∷ 0 ∷ 2 ∷ 2 ∷ [])) ∷ []; signatures = [] })
-encloser_star = refl
+encloser_wildcard : found wildcards false (in_b (codes "a")) A ≡ Some (record { owner = in_b (codes "a"); record_type = A; class = IN; ttl = 60; serial = 0; records = record_with (in_b (codes "a")) (V.A (192 ∷ 0 ∷ 2 ∷ 2 ∷ [])) ∷ []; signatures = [] })
+encloser_wildcard = refl
 
 -- a wildcard may answer for a name of several labels
-star_above : asked_wildcard stars (codes "x" ∷ codes "y" ∷ at_apex (codes "c")) ≡ Some (wildcard_under apex)
-star_above = refl
+wildcard_above : asked_wildcard wildcards (codes "x" ∷ codes "y" ∷ at_apex (codes "c")) ≡ Some (wildcard_under apex)
+wildcard_above = refl
 
 -- it doesn't where its type isn't there, and no wildcard farther up is asked; but the name is then answered for as one
 -- that is there (RFC 4592 section 2.2.1)
-type_of_no_star : found stars false (in_b (codes "a")) TXT ≡ None
-type_of_no_star = refl
+type_of_no_wildcard : found wildcards false (in_b (codes "a")) TXT ≡ None
+type_of_no_wildcard = refl
 
-starred_but_typeless : negative_answer apex stars (in_b (codes "a")) ≡ name_exists
+starred_but_typeless : negative_answer apex wildcards (in_b (codes "a")) ≡ name_exists
 starred_but_typeless = refl
 
 -- nor does it answer for a name that exists, or below one
@@ -91,11 +91,11 @@ passed_over : asked_wildcard ((key (wildcard_under apex) A, wildcard_set) ∷ ns
 passed_over = refl
 
 -- outside the zone too a wildcard that exists comes before the refusal
-star_outside : negative_answer apex ((key (wildcard_under (drop 1 apex)) TXT, set_with (wildcard_under (drop 1 apex)) TXT server) ∷ []) (codes "net" ∷ drop 1 apex) ≡ name_exists
-star_outside = refl
+wildcard_outside : negative_answer apex ((key (wildcard_under (drop 1 apex)) TXT, set_with (wildcard_under (drop 1 apex)) TXT server) ∷ []) (codes "net" ∷ drop 1 apex) ≡ name_exists
+wildcard_outside = refl
 
 -- the queried name owns the records, with the set's TTL, and the signature that the wildcard owned
-renamed_with_signatures : found stars true (at_apex (codes "q")) A ≡ Some (record {
+renamed_with_signatures : found wildcards true (at_apex (codes "q")) A ≡ Some (record {
   owner = at_apex (codes "q");
   record_type = A;
   class = IN;
@@ -107,19 +107,19 @@ renamed_with_signatures : found stars true (at_apex (codes "q")) A ≡ Some (rec
 renamed_with_signatures = refl
 
 -- a wildcard's own set is found as it is, and a name that begins with `*` has no other wildcard
-star_itself : found stars false (wildcard_under apex) A ≡ Some wildcard_set
-star_itself = refl
+wildcard_itself : found wildcards false (wildcard_under apex) A ≡ Some wildcard_set
+wildcard_itself = refl
 
-starred_name : found stars false (wildcard_under (at_apex (codes "c"))) A ≡ None
+starred_name : found wildcards false (wildcard_under (at_apex (codes "c"))) A ≡ None
 starred_name = refl
 
 -- a referral that a wildcard gives is renamed too
-renamed_referral : found stars false (codes "x" ∷ at_apex (codes "n")) A ≡ Some (record (set_with (codes "x" ∷ at_apex (codes "n")) NS server) { serial = 0 })
+renamed_referral : found wildcards false (codes "x" ∷ at_apex (codes "n")) A ≡ Some (record (set_with (codes "x" ∷ at_apex (codes "n")) NS server) { serial = 0 })
 renamed_referral = refl
 
 -- the wildcard at the root is the last
-root_star : asked_wildcard ((key (wildcard_under []) A, wildcard_set) ∷ []) (at_apex (codes "q")) ≡ Some (wildcard_under [])
-root_star = refl
+root_wildcard : asked_wildcard ((key (wildcard_under []) A, wildcard_set) ∷ []) (at_apex (codes "q")) ≡ Some (wildcard_under [])
+root_wildcard = refl
 
 -- ---- aliases (RFC 1034 section 3.6.2)
 

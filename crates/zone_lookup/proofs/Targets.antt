@@ -66,7 +66,7 @@ module _ (m : Sets) where
       by : (direct m n t ≡ Some s) ⊎ (wildcard m signed n t ≡ Some s) → IsStoredData m (first_data s.records)
       by (inl r) = direct_stored n t s r
       by (inr r) =
-          let a = from_and_then (λ star. option_map (renamed signed star n) (direct m star t)) (asked_wildcard m n) s r in
+          let a = from_and_then (λ wildcard_name. option_map (renamed signed wildcard_name n) (direct m wildcard_name t)) (asked_wildcard m n) s r in
           let b = from_map (renamed signed a.0 n) (direct m a.0 t) s a.2 in
           let c = direct_stored a.0 t b.0 b.1 in
           (c.0, c.1, c.2, c.3, c.4 ∙ kept n b.0.ttl b.0.records ∙ ap (λ (x : RRset). first_data x.records) b.2)

@@ -111,9 +111,9 @@ first_none (Some s) p h = absurd cc
 
 -- what the names above the wildcard at the closest encloser say of the referral, where nothing is found at the name
 -- itself
-pub star_unreferred : (m : Sets) (n s : Name) (t : ℕ) → direct m n t ≡ None → asked_wildcard m n ≡ Some s → referral_above m (drop 1 s) ≡ None
-star_unreferred m [] s t none is = absurd cc
-star_unreferred m (l ∷ n) s t none is = by (label_eq l asterisk_label) (exists m (l ∷ n)) refl is
+pub wildcard_unreferred : (m : Sets) (n s : Name) (t : ℕ) → direct m n t ≡ None → asked_wildcard m n ≡ Some s → referral_above m (drop 1 s) ≡ None
+wildcard_unreferred m [] s t none is = absurd cc
+wildcard_unreferred m (l ∷ n) s t none is = by (label_eq l asterisk_label) (exists m (l ∷ n)) refl is
   where
     above : exists m (l ∷ n) ≡ false → referral_above m n ≡ None
     above h =

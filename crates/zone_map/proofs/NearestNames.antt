@@ -81,9 +81,9 @@ module _ (m : Sets) where
       always false false = refl
 
 -- `*` in place of the first label of the next closer name is the wildcard at the closest encloser
-pub star_of_nearest : (m : Sets) (n e closer : Name) → not (is_root n || is_wildcard n || exists m n) ≡ true → find (exists m) (suffixes (drop 1 n)) ≡ Some e → IsChild closer e
+pub wildcard_of_nearest : (m : Sets) (n e closer : Name) → not (is_root n || is_wildcard n || exists m n) ≡ true → find (exists m) (suffixes (drop 1 n)) ≡ Some e → IsChild closer e
     → Some (wildcard_of closer) ≡ asked_wildcard m n
-star_of_nearest m n e closer h f (l, is) = ap (λ x. Some (wildcard_of x)) is ∙ sym (asked_of_nearest m n (Some e) h f)
+wildcard_of_nearest m n e closer h f (l, is) = ap (λ x. Some (wildcard_of x)) is ∙ sym (asked_of_nearest m n (Some e) h f)
 
 -- ---- what a walk finds
 

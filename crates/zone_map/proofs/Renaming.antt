@@ -5,8 +5,8 @@ use Rattle.zone_proto.specs.Names.{Name, same_name}
 use Rattle.zone_map.specs.Wildcards.{renamed_signature}
 
 -- it keeps its data
-pub renamed_data : (star n : Name) (r : Record) → (renamed_signature star n r).rdata ≡ r.rdata
-renamed_data star n r = by (same_name r.name star) where
+pub renamed_data : (wildcard_name n : Name) (r : Record) → (renamed_signature wildcard_name n r).rdata ≡ r.rdata
+renamed_data wildcard_name n r = by (same_name r.name wildcard_name) where
   by : (b : Bool) → (cond b (record r { name = n }) r).rdata ≡ r.rdata
   by true = refl
   by false = refl

@@ -27,14 +27,14 @@ module _ (m : Sets) where
     absent : exists m n ≡ false
     encloser : Name
     is_encloser : closest_encloser m n ≡ Some encloser
-    star : s ≡ wildcard_under encloser
+    wildcard_name : s ≡ wildcard_under encloser
 
   asked : (n s : Name) → asked_wildcard m n ≡ Some s → IsAsked n s
   asked n s e = by (is_root n) (is_wildcard n) refl (exists m n) refl e
     where
       of : is_wildcard n ≡ false → exists m n ≡ false → (o : Option Name) → closest_encloser m n ≡ o → option_map wildcard_under o ≡ Some s → IsAsked n s
       of p q None f g = absurd cc
-      of p q (Some a) f g = let same : wildcard_under a ≡ s = cc in record { plain = p; absent = q; encloser = a; is_encloser = f; star = sym same }
+      of p q (Some a) f g = let same : wildcard_under a ≡ s = cc in record { plain = p; absent = q; encloser = a; is_encloser = f; wildcard_name = sym same }
 
       by : (r b : Bool) → is_wildcard n ≡ b → (x : Bool) → exists m n ≡ x → cond (r || b || x) None (option_map wildcard_under (closest_encloser m n)) ≡ Some s → IsAsked n s
       by true b p x q g = absurd cc
@@ -54,6 +54,6 @@ pub wildcard_is_of_closest_encloser : WildcardIsOfClosestEncloser
 wildcard_is_of_closest_encloser = record {
   plain = λ m n s e. (asked m n s e).plain;
   absent = λ m n s e. (asked m n s e).absent;
-  encloser = λ m n s e. let a = asked m n s e in (a.encloser, a.star, closest m n a.encloser a.is_encloser);
+  encloser = λ m n s e. let a = asked m n s e in (a.encloser, a.wildcard_name, closest m n a.encloser a.is_encloser);
   none = λ m n e p q b u. none_exists m n e p q b u;
 }

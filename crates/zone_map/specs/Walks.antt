@@ -42,7 +42,7 @@ referral_seen delegation.Apex = Some None
 -- the closest encloser has `*` in place of the first label
 pub record IsMissing (m : Sets) (n : Name) (missing : Missing) : Type 0 where
   pub known : missing.exists ≡ exists m n
-  pub star : option_map wildcard_of missing.next_closer ≡ asked_wildcard m n
+  pub wildcard_name : option_map wildcard_of missing.next_closer ≡ asked_wildcard m n
 
 -- a walk finds the direct set for n and t; or none, and what it has seen
 abbrev pub FindsDirect : Sets → Name → ℕ → Direct → Type 0

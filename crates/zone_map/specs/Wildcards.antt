@@ -18,19 +18,19 @@ exists m n = list_any (λ k. is_at_or_above n k.name && not (is_denial_type k.re
 -- a signature of a wildcard's set: one that the wildcard owns is owned by the queried name then, and any other stays as
 -- it is
 abbrev pub renamed_signature : Name → Name → Record → Record
-renamed_signature star n r = cond (same_name r.name star) (record r { name = n }) r
+renamed_signature wildcard_name n r = cond (same_name r.name wildcard_name) (record r { name = n }) r
 
 -- a wildcard's set under the queried name: of class IN, of the same type and TTL, and of serial 0; signatures are
 -- listed only where they are asked for
 abbrev pub renamed : Bool → Name → Name → RRset → RRset
-renamed signed star n s = record {
+renamed signed wildcard_name n s = record {
   owner = n;
   record_type = s.record_type;
   class = IN;
   ttl = s.ttl;
   serial = 0;
   records = map (record_under n s.ttl) s.records;
-  signatures = cond signed (map (renamed_signature star n) s.signatures) [];
+  signatures = cond signed (map (renamed_signature wildcard_name n) s.signatures) [];
 }
 
 -- the closest encloser: the longest proper ancestor that exists (RFC 4592 section 3.3.1)

@@ -29,17 +29,17 @@ pub fn wildcard(
     next_closer: LowerName,
 ) -> Result<Synthesis, ProtoError>
     requires none { direct records.now name.now record_type.0 ≡ None }
-    requires star { asked_wildcard records.now name.now ≡ Some (wildcard_of next_closer) }
+    requires wildcard_name { asked_wildcard records.now name.now ≡ Some (wildcard_of next_closer) }
     ensures set { IfOk result
         (λ synthesis. synthesis.set ≡ wildcard records.now signed name.now record_type.0) }
     ensures exists { IfOk result
         (λ synthesis. synthesis.wildcard_exists ≡ asked_wildcard_exists records.now name.now) }
     ensures err { IsOkUnless result ProtoError.Memory }
 {
-    let star = RrKey::new(next_closer.into_wildcard(), RecordType(0));
-    let here = at_wildcard(records, &star, record_type);
+    let wildcard_name = RrKey::new(next_closer.into_wildcard(), RecordType(0));
+    let here = at_wildcard(records, &wildcard_name, record_type);
     let set = match here.set {
-        Some(set) => Some(renamed(set, &Name::from(star.name), name, signed)?),
+        Some(set) => Some(renamed(set, &Name::from(wildcard_name.name), name, signed)?),
         None => None,
     };
     Ok(Synthesis {
@@ -52,29 +52,33 @@ pub fn wildcard(
 /// signatures come along only if `signed`: one that the wildcard owns is the name's then. Its only error is `Memory`.
 pub fn renamed(
     set: &RecordSet,
-    star: &Name,
+    wildcard_name: &Name,
     name: &LowerName,
     signed: bool,
 ) -> Result<RecordSet, ProtoError>
-    ensures made { IfOk result (λ made. made ≡ renamed signed star.now name.now set.now) }
+    ensures made { IfOk result (λ made. made ≡ renamed signed wildcard_name.now name.now set.now) }
     ensures err { IsOkUnless result ProtoError.Memory }
 {
     let owner = Name::from(name.clone()?);
     let mut made = set.clone_under(owner, set.ttl())?;
     if signed {
         for rrsig in set.rrsigs() {
-            made.insert_rrsig(renamed_signature(rrsig, star, name)?)?;
+            made.insert_rrsig(renamed_signature(rrsig, wildcard_name, name)?)?;
         }
     }
     Ok(made)
 }
 
 /// A signature of a wildcard's set under the queried name: one that the wildcard owns is the name's.
-fn renamed_signature(rrsig: &Record, star: &Name, name: &LowerName) -> Result<Record, ProtoError>
-    ensures made { IfOk result (λ made. made ≡ renamed_signature star.now name.now rrsig.now) }
+fn renamed_signature(
+    rrsig: &Record,
+    wildcard_name: &Name,
+    name: &LowerName,
+) -> Result<Record, ProtoError>
+    ensures made { IfOk result (λ made. made ≡ renamed_signature wildcard_name.now name.now rrsig.now) }
     ensures err { IsOkUnless result ProtoError.Memory }
 {
-    let owner = if rrsig.name == *star {
+    let owner = if rrsig.name == *wildcard_name {
         Name::from(name.clone()?)
     } else {
         rrsig.name.clone()?

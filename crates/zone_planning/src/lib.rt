@@ -20,6 +20,7 @@ pub use blank::blank_number;
 pub use fault::{FinishFault, PlanFault};
 pub use finishing::{Unfinished, finish, read_signatures};
 pub use frames::{push_end, push_frames};
+pub use ordering::in_order;
 pub use plans::Plan;
-pub use signed_data::push_signed_data;
+pub use signed_data::{push_records, push_set, push_signed_data};
 pub use signer::PlanSigner;

@@ -36,9 +36,10 @@ fn push_front(out: &mut Vec<u8>, rrsig: &RRSIG) -> Result<(), ProtoError>
     Ok(())
 }
 
-/// Appends the records of a set in canonical form and order, with this TTL.
+/// Appends the records of a set in canonical form and order, each once, with this TTL in seconds (RFC 4034 section 6). Refused by
+/// `Unwritable` for data that no octets are, and by `Memory`.
 #[tactic(auto, unfolding(crate::specs::SignedData::set_text))]
-fn push_set(out: &mut Vec<u8>, ttl: u32, set: &RecordSet) -> Result<(), PlanFault>
+pub fn push_set(out: &mut Vec<u8>, ttl: u32, set: &RecordSet) -> Result<(), PlanFault>
     ensures ok { OnOk result (out.new.items ≡ out.old.items ++ set_text ttl set.now) }
     ensures err { IfErr result
         (λ e. IsUnwritableUnless e
@@ -55,8 +56,9 @@ fn push_set(out: &mut Vec<u8>, ttl: u32, set: &RecordSet) -> Result<(), PlanFaul
     )
 }
 
-/// Appends records of class IN, of these data.
-fn push_records(
+/// Appends records of class IN of an owner in wire form, of this type and TTL in seconds, and of these data, in their order. Refused by
+/// `Unwritable` for data of more than 65,535 octets, and by `Memory`.
+pub fn push_records(
     out: &mut Vec<u8>,
     owner: &[u8],
     record_type: u16,

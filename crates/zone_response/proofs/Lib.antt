@@ -1,5 +1,5 @@
 pub mod NameTests
-pub mod StarWalk
+pub mod WildcardWalk
 pub mod TurnWalk
 pub mod NextKeys
 pub mod TreeKeys

@@ -37,25 +37,25 @@ hash_in z q = hashed_for z.origin z.digest_of q
 
 module _ (z : Zone) (x : Name) where
   -- a wildcard at the closest encloser
-  pub star_is : (star : Name) → Some star ≡ option_map wildcard_under (closest_encloser z.sets x) → closest_encloser z.sets x ≡ Some (base_name star)
-  star_is star e = by (closest_encloser z.sets x) e
+  pub wildcard_name_is : (wildcard_name : Name) → Some wildcard_name ≡ option_map wildcard_under (closest_encloser z.sets x) → closest_encloser z.sets x ≡ Some (base_name wildcard_name)
+  wildcard_name_is wildcard_name e = by (closest_encloser z.sets x) e
     where
-      by : (o : Option Name) → Some star ≡ option_map wildcard_under o → o ≡ Some (base_name star)
+      by : (o : Option Name) → Some wildcard_name ≡ option_map wildcard_under o → o ≡ Some (base_name wildcard_name)
       by None e = cc
-      by (Some a) e = ap Some (sym (ap base_name (same star (wildcard_under a) e)))
+      by (Some a) e = ap Some (sym (ap base_name (same wildcard_name (wildcard_under a) e)))
         where
           same : (n k : Name) → Some n ≡ Some k → n ≡ k
           same n k e = cc
 
-  pub no_star_is : None ≡ option_map wildcard_under (closest_encloser z.sets x) → closest_encloser z.sets x ≡ None
-  no_star_is e = by (closest_encloser z.sets x) e
+  pub no_wildcard_is : None ≡ option_map wildcard_under (closest_encloser z.sets x) → closest_encloser z.sets x ≡ None
+  no_wildcard_is e = by (closest_encloser z.sets x) e
     where
       by : (o : Option Name) → None ≡ option_map wildcard_under o → o ≡ None
       by None e = refl
       by (Some a) e = cc
 
-  pub not_root : (star : Name) (o : Option Name) → Some star ≡ option_map wildcard_under o → is_root star ≡ false
-  not_root star None e = cc
+  pub not_root : (wildcard_name : Name) (o : Option Name) → Some wildcard_name ≡ option_map wildcard_under o → is_root wildcard_name ≡ false
+  not_root wildcard_name None e = cc
   not_root [] (Some a) e = cc
   not_root (l ∷ ls) (Some a) e = refl
 
@@ -67,11 +67,11 @@ module _ (z : Zone) (x : Name) where
   starred_by_hash (Some (kind.Nsec3 algorithm salt iterations opt_out)) q h =
       λ i. option_map_or (wildcard_sets z.origin z.denials (hashed_by (hashed_owner_of z (h.algorithm i) (h.salt i) (h.iterations i))) (h.name i)) (closest_encloser z.sets x) []
 
-  pub star_names_by_hash : (k : Option NxProofKind) (q : Nsec3QueryInfo) → AsksByHash k x (Some q)
+  pub wildcard_names_by_hash : (k : Option NxProofKind) (q : Nsec3QueryInfo) → AsksByHash k x (Some q)
       → option_map_or (wildcard_hashed q.qname.now) (closest_encloser z.sets x) [] ≡ wildcard_hashed_by z k x
-  star_names_by_hash None q h = cc
-  star_names_by_hash (Some kind.Nsec) q h = cc
-  star_names_by_hash (Some (kind.Nsec3 algorithm salt iterations opt_out)) q h = λ i. option_map_or (wildcard_hashed (h.name i)) (closest_encloser z.sets x) []
+  wildcard_names_by_hash None q h = cc
+  wildcard_names_by_hash (Some kind.Nsec) q h = cc
+  wildcard_names_by_hash (Some (kind.Nsec3 algorithm salt iterations opt_out)) q h = λ i. option_map_or (wildcard_hashed (h.name i)) (closest_encloser z.sets x) []
 
   pub owners_by_hash : (k : Option NxProofKind) (q : Nsec3QueryInfo) → AsksByHash k x (Some q) → (names : List Name) → have_owners (hash_in z q) names ≡ have_owners_by z k names
   owners_by_hash None q h names = cc
@@ -89,8 +89,8 @@ module _ (z : Zone) (x : Name) where
   starred_by_name (Some (kind.Nsec3 algorithm salt iterations opt_out)) h = absurd h
 
   -- for a name that doesn't exist
-  pub absent_by_hash : (k : Option NxProofKind) (q : Nsec3QueryInfo) (star : Option Name) (w : Name) → AsksByHash k x (Some q) → Some w ≡ option_and_then unless_root star
-      → absent_sets z.origin z.denials (hashed_by (hash_in z q)) q.qname.now (base_name w) ≡ denial_by z k x star
+  pub absent_by_hash : (k : Option NxProofKind) (q : Nsec3QueryInfo) (wildcard_name : Option Name) (w : Name) → AsksByHash k x (Some q) → Some w ≡ option_and_then unless_root wildcard_name
+      → absent_sets z.origin z.denials (hashed_by (hash_in z q)) q.qname.now (base_name w) ≡ denial_by z k x wildcard_name
   absent_by_hash k q None w h e = cc
   absent_by_hash k q (Some []) w h e = cc
   absent_by_hash None q (Some (s ∷ a)) w h e = cc
@@ -101,8 +101,8 @@ module _ (z : Zone) (x : Name) where
       same : (n k : Name) → Some n ≡ Some k → n ≡ k
       same n k e = cc
 
-  pub absent_names_by_hash : (k : Option NxProofKind) (q : Nsec3QueryInfo) (star : Option Name) (w : Name) → AsksByHash k x (Some q) → Some w ≡ option_and_then unless_root star
-      → absent_hashed z.origin z.denials (hashed_by (hash_in z q)) q.qname.now (base_name w) ≡ denial_hashed_by z k x star
+  pub absent_names_by_hash : (k : Option NxProofKind) (q : Nsec3QueryInfo) (wildcard_name : Option Name) (w : Name) → AsksByHash k x (Some q) → Some w ≡ option_and_then unless_root wildcard_name
+      → absent_hashed z.origin z.denials (hashed_by (hash_in z q)) q.qname.now (base_name w) ≡ denial_hashed_by z k x wildcard_name
   absent_names_by_hash k q None w h e = cc
   absent_names_by_hash k q (Some []) w h e = cc
   absent_names_by_hash None q (Some (s ∷ a)) w h e = cc
@@ -114,8 +114,8 @@ module _ (z : Zone) (x : Name) where
       same n k e = cc
 
   -- for a name that exists
-  pub present_by_hash : (k : Option NxProofKind) (q : Nsec3QueryInfo) (star : Option Name) → AsksByHash k x (Some q) → None ≡ option_and_then unless_root star
-      → present_sets z.origin z.denials (hashed_by (hash_in z q)) q.qname.now ≡ denial_by z k x star
+  pub present_by_hash : (k : Option NxProofKind) (q : Nsec3QueryInfo) (wildcard_name : Option Name) → AsksByHash k x (Some q) → None ≡ option_and_then unless_root wildcard_name
+      → present_sets z.origin z.denials (hashed_by (hash_in z q)) q.qname.now ≡ denial_by z k x wildcard_name
   present_by_hash k q (Some (s ∷ a)) h e = cc
   present_by_hash None q None h e = cc
   present_by_hash None q (Some []) h e = cc
@@ -126,8 +126,8 @@ module _ (z : Zone) (x : Name) where
   present_by_hash (Some (kind.Nsec3 algorithm salt iterations opt_out)) q (Some []) h e =
       λ i. present_sets z.origin z.denials (hashed_by (hashed_owner_of z (h.algorithm i) (h.salt i) (h.iterations i))) (h.name i)
 
-  pub present_names_by_hash : (k : Option NxProofKind) (q : Nsec3QueryInfo) (star : Option Name) → AsksByHash k x (Some q) → None ≡ option_and_then unless_root star
-      → present_hashed z.origin z.denials (hashed_by (hash_in z q)) q.qname.now ≡ denial_hashed_by z k x star
+  pub present_names_by_hash : (k : Option NxProofKind) (q : Nsec3QueryInfo) (wildcard_name : Option Name) → AsksByHash k x (Some q) → None ≡ option_and_then unless_root wildcard_name
+      → present_hashed z.origin z.denials (hashed_by (hash_in z q)) q.qname.now ≡ denial_hashed_by z k x wildcard_name
   present_names_by_hash k q (Some (s ∷ a)) h e = cc
   present_names_by_hash None q None h e = cc
   present_names_by_hash None q (Some []) h e = cc
@@ -138,10 +138,10 @@ module _ (z : Zone) (x : Name) where
   present_names_by_hash (Some (kind.Nsec3 algorithm salt iterations opt_out)) q (Some []) h e =
       λ i. present_hashed z.origin z.denials (hashed_by (hashed_owner_of z (h.algorithm i) (h.salt i) (h.iterations i))) (h.name i)
 
-  pub denied_by_name : (k : Option NxProofKind) (star : Option Name) → AsksByHash k x None → denial_by z k x star ≡ option_to_list (closest_nsec z.denials x) ++ option_to_list (option_and_then (closest_nsec z.denials) star)
-  denied_by_name None star h = refl
-  denied_by_name (Some kind.Nsec) star h = refl
-  denied_by_name (Some (kind.Nsec3 algorithm salt iterations opt_out)) star h = absurd h
+  pub denied_by_name : (k : Option NxProofKind) (wildcard_name : Option Name) → AsksByHash k x None → denial_by z k x wildcard_name ≡ option_to_list (closest_nsec z.denials x) ++ option_to_list (option_and_then (closest_nsec z.denials) wildcard_name)
+  denied_by_name None wildcard_name h = refl
+  denied_by_name (Some kind.Nsec) wildcard_name h = refl
+  denied_by_name (Some (kind.Nsec3 algorithm salt iterations opt_out)) wildcard_name h = absurd h
 
 -- ---- name after name
 

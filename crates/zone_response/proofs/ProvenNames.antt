@@ -16,9 +16,9 @@ use Rattle.zone_response.proofs.LabelCounts.{closer_is}
 use Rattle.zone_response.proofs.ProvableWalk.{first_had, first_refused, both_have, front_lacks, rest_lacks}
 
 -- the wildcard at the parent of a name
-pub star_is : (c : Name) → is_root c ≡ false → wildcard_of c ≡ wildcard_under (base_name c)
-star_is [] h = absurd (true≢false h)
-star_is (l ∷ a) h = refl
+pub wildcard_name_is : (c : Name) → is_root c ≡ false → wildcard_of c ≡ wildcard_under (base_name c)
+wildcard_name_is [] h = absurd (true≢false h)
+wildcard_name_is (l ∷ a) h = refl
 
 module _ (hash : Name → Result Name ProtoError) where
   abbrev IsHashed : HashedName → Type 0
@@ -39,15 +39,15 @@ module _ (hash : Name → Result Name ProtoError) where
     pub below_had : (closer : Option HashedName) (w owner : Name) → option_map (λ h. h.name) closer ≡ of_labels count x → IfSome closer IsHashed → w ≡ wildcard_of c → hash w ≡ Ok owner → have_owners hash (below_hashed x (base_name c)) ≡ true
     below_had closer w owner e h is k =
         both_have hash (wildcard_hashed x (base_name c)) (wildcard_under (base_name c) ∷ []) (closer_had closer e h)
-        (first_had hash (wildcard_under (base_name c)) owner [] (ap hash (sym (is ∙ star_is c below)) ∙ k))
+        (first_had hash (wildcard_under (base_name c)) owner [] (ap hash (sym (is ∙ wildcard_name_is c below)) ∙ k))
 
     pub below_lacks_closer : have_owners hash (option_to_list (of_labels count x)) ≡ false → have_owners hash (below_hashed x (base_name c)) ≡ false
     below_lacks_closer h = front_lacks hash (wildcard_hashed x (base_name c)) (wildcard_under (base_name c) ∷ []) (closer_lacks h)
 
-    pub below_lacks_star : (w : Name) → w ≡ wildcard_of c → IsErr (hash w) → have_owners hash (below_hashed x (base_name c)) ≡ false
-    below_lacks_star w is h =
+    pub below_lacks_wildcard : (w : Name) → w ≡ wildcard_of c → IsErr (hash w) → have_owners hash (below_hashed x (base_name c)) ≡ false
+    below_lacks_wildcard w is h =
         rest_lacks hash (wildcard_hashed x (base_name c)) (wildcard_under (base_name c) ∷ [])
-        (first_refused hash (wildcard_under (base_name c)) [] (subst (λ n. IsErr (hash n)) (is ∙ star_is c below) h))
+        (first_refused hash (wildcard_under (base_name c)) [] (subst (λ n. IsErr (hash n)) (is ∙ wildcard_name_is c below) h))
 
   -- ---- the sets
 
@@ -72,9 +72,9 @@ module _ (hash : Name → Result Name ProtoError) where
         pub left_out_is : option_to_list cover ++ set ∷ [] ≡ left_out_sets origin m hashed x (base_name c)
         left_out_is = λ i. option_to_list (closer_set_is i) ++ option_to_list (sym matched i)
 
-        pub absent_is : (w owner : Name) (star : Option RRset) → w ≡ wildcard_of c → hash w ≡ Ok owner → star ≡ option_or (set_at m owner NSEC3) (option_and_then (λ o. set_at m o NSEC3) (cover_owner m owner))
-            → in_order owner_cmp (option_to_list (Some set) ++ option_to_list cover ++ option_to_list star) ≡ absent_below origin m hashed x (base_name c)
-        absent_is w owner star is e stands = λ i. in_order owner_cmp (option_to_list (sym matched i) ++ option_to_list (closer_set_is i) ++ option_to_list (star_set_is i))
+        pub absent_is : (w owner : Name) (wildcard_name : Option RRset) → w ≡ wildcard_of c → hash w ≡ Ok owner → wildcard_name ≡ option_or (set_at m owner NSEC3) (option_and_then (λ o. set_at m o NSEC3) (cover_owner m owner))
+            → in_order owner_cmp (option_to_list (Some set) ++ option_to_list cover ++ option_to_list wildcard_name) ≡ absent_below origin m hashed x (base_name c)
+        absent_is w owner wildcard_name is e stands = λ i. in_order owner_cmp (option_to_list (sym matched i) ++ option_to_list (closer_set_is i) ++ option_to_list (wildcard_set_is i))
           where
-            star_set_is : star ≡ wildcard_set origin m hashed (base_name c)
-            star_set_is = stands ∙ ap (λ r. option_or (set_at m (owner_given r) NSEC3) (option_and_then (λ o. set_at m o NSEC3) (cover_owner m (owner_given r)))) (sym e ∙ ap hash (is ∙ star_is c below))
+            wildcard_set_is : wildcard_name ≡ wildcard_set origin m hashed (base_name c)
+            wildcard_set_is = stands ∙ ap (λ r. option_or (set_at m (owner_given r) NSEC3) (option_and_then (λ o. set_at m o NSEC3) (cover_owner m (owner_given r)))) (sym e ∙ ap hash (is ∙ wildcard_name_is c below))

@@ -31,8 +31,8 @@ unsigned_child = under (codes "b")
 abbrev server : Name
 server = codes "ns" ∷ unsigned_child
 
-abbrev star : Name
-star = wildcard_under (under (codes "w"))
+abbrev wildcard_name : Name
+wildcard_name = wildcard_under (under (codes "w"))
 
 abbrev record_of : Name → ℕ → RData → Record
 record_of n ttl d = record { name = n; dns_class = record { 0 = IN }; ttl = ttl; rdata = d }
@@ -76,16 +76,16 @@ abbrev digest : RRset
 digest = signed 3600 (under (codes "c")) DS 2 (V.Other (record { record_type = record { 0 = DS }; octets = 1 ∷ []; other = refl }))
 
 abbrev signed_child_nsec : ℕ → RRset
-signed_child_nsec ttl = nsec ttl (under (codes "c")) 2 star (NS ∷ DS ∷ RRSIG ∷ NSEC ∷ [])
+signed_child_nsec ttl = nsec ttl (under (codes "c")) 2 wildcard_name (NS ∷ DS ∷ RRSIG ∷ NSEC ∷ [])
 
 abbrev text : RData
 text = V.Other (record { record_type = record { 0 = TXT }; octets = 0 ∷ []; other = refl })
 
-abbrev star_text : RRset
-star_text = signed 3600 star TXT 2 text
+abbrev wildcard_text : RRset
+wildcard_text = signed 3600 wildcard_name TXT 2 text
 
-abbrev star_nsec : ℕ → RRset
-star_nsec ttl = nsec ttl star 2 (under (codes "www")) (TXT ∷ RRSIG ∷ NSEC ∷ [])
+abbrev wildcard_nsec : ℕ → RRset
+wildcard_nsec ttl = nsec ttl wildcard_name 2 (under (codes "www")) (TXT ∷ RRSIG ∷ NSEC ∷ [])
 
 -- with a signature that covers another type
 abbrev host : List Record → RRset
@@ -101,7 +101,7 @@ sets =
     ∷ (key unsigned_child NS, child_servers) ∷ (key unsigned_child NSEC, child_nsec 3600)
     ∷ (key server A, glue)
     ∷ (key (under (codes "c")) NS, signed_child_servers) ∷ (key (under (codes "c")) DS, digest) ∷ (key (under (codes "c")) NSEC, signed_child_nsec 3600)
-    ∷ (key star TXT, star_text) ∷ (key star NSEC, star_nsec 3600)
+    ∷ (key wildcard_name TXT, wildcard_text) ∷ (key wildcard_name NSEC, wildcard_nsec 3600)
     ∷ (key (under (codes "www")) A, host (signature (under (codes "www")) 3600 TXT 2 ∷ [])) ∷ (key (under (codes "www")) NSEC, last_nsec)
     ∷ []
 
@@ -125,7 +125,7 @@ of_host = record { code = refl; authoritative = refl; answers = refl; authoritie
 
 -- the wildcard answers with its text and signature under the name, and the NSEC set says that it may (RFC 4035 section
 -- 3.1.3.3)
-of_wildcard : IsResponse zone (asked (codes "q" ∷ under (codes "w")) TXT) (sections true (record (signed 3600 (codes "q" ∷ under (codes "w")) TXT 2 text) { serial = 0 } ∷ []) (star_nsec 300 ∷ []) [] [])
+of_wildcard : IsResponse zone (asked (codes "q" ∷ under (codes "w")) TXT) (sections true (record (signed 3600 (codes "q" ∷ under (codes "w")) TXT 2 text) { serial = 0 } ∷ []) (wildcard_nsec 300 ∷ []) [] [])
 unfolding path
 of_wildcard = record { code = refl; authoritative = refl; answers = refl; authorities = refl; additionals = refl; glue = refl; left_at = refl }
 
@@ -165,9 +165,9 @@ unfolding path
 of_empty_name = record { code = refl; authoritative = refl; answers = refl; authorities = refl; additionals = refl; glue = refl; left_at = refl }
 
 -- no data by the wildcard: one set says both that the name isn't there and what the wildcard has, and appears once
-of_star_without_data : IsResponse zone (asked (codes "q" ∷ under (codes "w")) A) (sections true [] (soa 300 ∷ star_nsec 300 ∷ []) [] [])
+of_wildcard_without_data : IsResponse zone (asked (codes "q" ∷ under (codes "w")) A) (sections true [] (soa 300 ∷ wildcard_nsec 300 ∷ []) [] [])
 unfolding path
-of_star_without_data = record { code = refl; authoritative = refl; answers = refl; authorities = refl; additionals = refl; glue = refl; left_at = refl }
+of_wildcard_without_data = record { code = refl; authoritative = refl; answers = refl; authorities = refl; additionals = refl; glue = refl; left_at = refl }
 
 -- DS of an unsigned child is no data of the parent
 of_no_digest : IsResponse zone (asked unsigned_child DS) (sections true [] (soa 300 ∷ child_nsec 300 ∷ []) [] [])

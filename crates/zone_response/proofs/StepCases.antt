@@ -37,18 +37,18 @@ module _ (q : Inquiry) (x : Name) where
         ap (λ b. cond b (diverted_step q before x (diversion q.origin q.sets x q.record_type)) (at_end (outside x))) h
         ∙ ap (diverted_step q before x) (sym e)
 
-  at_a : (star : Option Name) (a : Name) (node : AtNode) → node ≡ at_node q.sets a q.record_type → step_at q star x a ≡ node_step q star x node
-  at_a star a node e = ap (node_step q star x) (sym e)
+  at_a : (wildcard_name : Option Name) (a : Name) (node : AtNode) → node ≡ at_node q.sets a q.record_type → step_at q wildcard_name x a ≡ node_step q wildcard_name x node
+  at_a wildcard_name a node e = ap (node_step q wildcard_name x) (sym e)
 
   pub own_step : (node : AtNode) → exists q.sets x ≡ true → node ≡ at_node q.sets x q.record_type → name_step q x ≡ node_step q None x node
   own_step node h e = ap (λ b. cond b (step_at q None x x) (wildcard_step q x (source_of_synthesis q.sets x))) h ∙ at_a None x node e
 
-  pub absent_step : (star : Option Name) → exists q.sets x ≡ false → star ≡ source_of_synthesis q.sets x → name_step q x ≡ wildcard_step q x star
-  absent_step star h e = ap (λ b. cond b (step_at q None x x) (wildcard_step q x (source_of_synthesis q.sets x))) h ∙ ap (wildcard_step q x) (sym e)
+  pub absent_step : (wildcard_name : Option Name) → exists q.sets x ≡ false → wildcard_name ≡ source_of_synthesis q.sets x → name_step q x ≡ wildcard_step q x wildcard_name
+  absent_step wildcard_name h e = ap (λ b. cond b (step_at q None x x) (wildcard_step q x (source_of_synthesis q.sets x))) h ∙ ap (wildcard_step q x) (sym e)
 
-  pub starred_step : (star : Name) (node : AtNode) → exists q.sets star ≡ true → node ≡ at_node q.sets star q.record_type
-      → wildcard_step q x (Some star) ≡ node_step q (Some star) x node
-  starred_step star node h e = ap (λ b. cond b (step_at q (Some star) x star) (at_end (missing x (Some star) false))) h ∙ at_a (Some star) star node e
+  pub starred_step : (wildcard_name : Name) (node : AtNode) → exists q.sets wildcard_name ≡ true → node ≡ at_node q.sets wildcard_name q.record_type
+      → wildcard_step q x (Some wildcard_name) ≡ node_step q (Some wildcard_name) x node
+  starred_step wildcard_name node h e = ap (λ b. cond b (step_at q (Some wildcard_name) x wildcard_name) (at_end (missing x (Some wildcard_name) false))) h ∙ at_a (Some wildcard_name) wildcard_name node e
 
-  pub starless_step : (star : Name) → exists q.sets star ≡ false → wildcard_step q x (Some star) ≡ at_end (missing x (Some star) false)
-  starless_step star h = ap (λ b. cond b (step_at q (Some star) x star) (at_end (missing x (Some star) false))) h
+  pub starless_step : (wildcard_name : Name) → exists q.sets wildcard_name ≡ false → wildcard_step q x (Some wildcard_name) ≡ at_end (missing x (Some wildcard_name) false)
+  starless_step wildcard_name h = ap (λ b. cond b (step_at q (Some wildcard_name) x wildcard_name) (at_end (missing x (Some wildcard_name) false))) h

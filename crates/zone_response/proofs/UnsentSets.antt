@@ -10,7 +10,7 @@ use Rattle.zone_response.specs.Steps.{End, complete, referred, missing, outside,
 unsent : (ds other : Option RRset) (soa : RRset) (e : End) → end_sets ds false soa e ≡ end_sets other false soa e
 unsent ds other soa complete = refl
 unsent ds other soa (referred c) = refl
-unsent ds other soa (missing x star there) = refl
+unsent ds other soa (missing x wildcard_name there) = refl
 unsent ds other soa (outside x) = refl
 unsent ds other soa unfollowed = refl
 unsent ds other soa too_long = refl

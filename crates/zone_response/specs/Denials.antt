@@ -34,9 +34,9 @@ module _ (z : Zone) where
   -- these, which list what they own, or else those that cover them (RFC 4035 sections 3.1.3.1, 3.1.3.2 and 3.1.3.4). A
   -- wildcard is under the closest encloser
   abbrev pub denial_by : Option NxProofKind → Name → Option Name → List RRset
-  denial_by (Some (kind.Nsec3 algorithm salt iterations opt_out)) x (Some (star ∷ encloser)) = absent_sets z.origin z.denials (hashed_by (hashed_owner_of algorithm salt iterations)) x encloser
+  denial_by (Some (kind.Nsec3 algorithm salt iterations opt_out)) x (Some (wildcard_name ∷ encloser)) = absent_sets z.origin z.denials (hashed_by (hashed_owner_of algorithm salt iterations)) x encloser
   denial_by (Some (kind.Nsec3 algorithm salt iterations opt_out)) x _ = present_sets z.origin z.denials (hashed_by (hashed_owner_of algorithm salt iterations)) x
-  denial_by _ x star = option_to_list (closest_nsec z.denials x) ++ option_to_list (option_and_then (closest_nsec z.denials) star)
+  denial_by _ x wildcard_name = option_to_list (closest_nsec z.denials x) ++ option_to_list (option_and_then (closest_nsec z.denials) wildcard_name)
 
   abbrev pub wildcard_proof : Name → List RRset
   wildcard_proof = wildcard_proof_by z.nx_proof_kind
@@ -46,7 +46,7 @@ module _ (z : Zone) where
 
   -- what proves what the end of a search says: of a name without the set that is asked for, or of a child without DS (RFC 4035 section 3.1.4, RFC 5155 section 7.2.7)
   abbrev pub end_proof : Option RRset → End → List RRset
-  end_proof ds (missing x star there) = denial x star
+  end_proof ds (missing x wildcard_name there) = denial x wildcard_name
   end_proof None (referred c) = denial (lower c.owner) None
   end_proof (Some ds) (referred c) = []
   end_proof ds _ = []
@@ -87,9 +87,9 @@ module _ (z : Zone) where
 
   -- for a name without what is asked for
   abbrev pub denial_hashed_by : Option NxProofKind → Name → Option Name → List Name
-  denial_hashed_by (Some (kind.Nsec3 algorithm salt iterations opt_out)) x (Some (star ∷ encloser)) = absent_hashed z.origin z.denials (hashed_by (hashed_owner_of z algorithm salt iterations)) x encloser
+  denial_hashed_by (Some (kind.Nsec3 algorithm salt iterations opt_out)) x (Some (wildcard_name ∷ encloser)) = absent_hashed z.origin z.denials (hashed_by (hashed_owner_of z algorithm salt iterations)) x encloser
   denial_hashed_by (Some (kind.Nsec3 algorithm salt iterations opt_out)) x _ = present_hashed z.origin z.denials (hashed_by (hashed_owner_of z algorithm salt iterations)) x
-  denial_hashed_by _ x star = []
+  denial_hashed_by _ x wildcard_name = []
 
   abbrev pub wildcard_hashed_names : Name → List Name
   wildcard_hashed_names = wildcard_hashed_by z.nx_proof_kind
@@ -99,7 +99,7 @@ module _ (z : Zone) where
 
   -- for the end of a search
   abbrev pub end_hashed : Option RRset → End → List Name
-  end_hashed ds (missing x star there) = denial_hashed x star
+  end_hashed ds (missing x wildcard_name there) = denial_hashed x wildcard_name
   end_hashed None (referred c) = denial_hashed (lower c.owner) None
   end_hashed (Some ds) (referred c) = []
   end_hashed ds _ = []
@@ -112,7 +112,7 @@ module _ (z : Zone) where
   wildcard_has_owners x = have_owners_by z.nx_proof_kind (wildcard_hashed_names x)
 
   abbrev pub denial_has_owners : Name → Option Name → Bool
-  denial_has_owners x star = have_owners_by z.nx_proof_kind (denial_hashed x star)
+  denial_has_owners x wildcard_name = have_owners_by z.nx_proof_kind (denial_hashed x wildcard_name)
 
   abbrev pub end_has_owners : Option RRset → End → Bool
   end_has_owners ds end = have_owners_by z.nx_proof_kind (end_hashed ds end)

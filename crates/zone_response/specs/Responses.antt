@@ -32,7 +32,7 @@ yx_domain = code.Other 6
 -- wildcard exists that is asked for it (RFC 2308 section 2.1), and YXDOMAIN where a DNAME gives it a name that is too
 -- long (RFC 6672 section 2.2)
 abbrev pub code_at : End → ResponseCode
-code_at (missing x star there) = cond there code.NoError code.NXDomain
+code_at (missing x wildcard_name there) = cond there code.NoError code.NXDomain
 code_at too_long = yx_domain
 code_at _ = code.NoError
 
@@ -60,7 +60,7 @@ referral_sets ds signed c = as_it_is part.Records c ∷ cond signed (map (as_it_
 
 -- what the authority section begins with: the SOA of a negative response (RFC 2308 section 3), or the sets of a referral
 abbrev pub end_sets : Option RRset → Bool → RRset → End → List RRset
-end_sets ds signed soa (missing x star there) = sent (part_for signed) (negative_ttl soa) soa ∷ []
+end_sets ds signed soa (missing x wildcard_name there) = sent (part_for signed) (negative_ttl soa) soa ∷ []
 end_sets ds signed soa (referred c) = referral_sets ds signed c
 end_sets ds signed soa _ = []
 

@@ -56,12 +56,12 @@ at_end e = record { answers = []; made = []; next = ends e }
 -- use
 abbrev pub as_found_for : Bool → Option Name → Name → RRset → RRset
 as_found_for keep None x s = s
-as_found_for keep (Some star) x s = renamed keep star x s
+as_found_for keep (Some wildcard_name) x s = renamed keep wildcard_name x s
 
 -- the name for which a wildcard answered
 abbrev pub expanded_names : Option Name → Name → List Name
 expanded_names None x = []
-expanded_names (Some star) x = x ∷ []
+expanded_names (Some wildcard_name) x = x ∷ []
 
 -- behind an alias comes its target
 abbrev pub after_alias : Option Name → Next
@@ -84,25 +84,25 @@ module _ (proved signed : Bool) where
   -- the answer has to be proved and nobody signs them, it fails: a validator would find them bogus (RFC 4035 section
   -- 4.3)
   abbrev pub addresses_step : Option Name → Name → RRset → Step
-  addresses_step star x s = cond (proved && not (is_signed s)) (at_end failed) (record { answers = as_it_is (part_for signed) s ∷ []; made = expanded_names star x; next = ends complete })
+  addresses_step wildcard_name x s = cond (proved && not (is_signed s)) (at_end failed) (record { answers = as_it_is (part_for signed) s ∷ []; made = expanded_names wildcard_name x; next = ends complete })
 
   -- by what it stands for
   abbrev pub stood_in_step : Option Name → Name → StandInAnswer → Step
-  stood_in_step star x (addresses s) = addresses_step star x s
-  stood_in_step star x no_addresses = at_end (missing x star true)
-  stood_in_step star x untold = at_end failed
+  stood_in_step wildcard_name x (addresses s) = addresses_step wildcard_name x s
+  stood_in_step wildcard_name x no_addresses = at_end (missing x wildcard_name true)
+  stood_in_step wildcard_name x untold = at_end failed
 
 -- by what x itself has, or the wildcard at its closest encloser
 module _ (q : Inquiry) where
   abbrev pub stand_in_step : Option Name → Name → RRset → Step
-  stand_in_step star x s = stood_in_step q.is_proved q.signed star x (stand_in_answer q x (as_found_for (keeps q.signed q.record_type) star x s))
+  stand_in_step wildcard_name x s = stood_in_step q.is_proved q.signed wildcard_name x (stand_in_answer q x (as_found_for (keeps q.signed q.record_type) wildcard_name x s))
 
   -- the set that is asked for is the whole answer, and an alias is followed (RFC 1034 section 4.3.2 step 3a)
   abbrev pub node_step : Option Name → Name → AtNode → Step
-  node_step star x (own s) = record { answers = as_it_is (own_part q.signed q.record_type) (as_found_for (keeps q.signed q.record_type) star x s) ∷ []; made = expanded_names star x; next = ends complete }
-  node_step star x (alias s) = record { answers = as_it_is (part_for q.signed) (as_found_for (keeps q.signed q.record_type) star x s) ∷ []; made = expanded_names star x; next = after_alias (cname_target s) }
-  node_step star x (stand_in s) = stand_in_step star x s
-  node_step star x nothing = at_end (missing x star true)
+  node_step wildcard_name x (own s) = record { answers = as_it_is (own_part q.signed q.record_type) (as_found_for (keeps q.signed q.record_type) wildcard_name x s) ∷ []; made = expanded_names wildcard_name x; next = ends complete }
+  node_step wildcard_name x (alias s) = record { answers = as_it_is (part_for q.signed) (as_found_for (keeps q.signed q.record_type) wildcard_name x s) ∷ []; made = expanded_names wildcard_name x; next = after_alias (cname_target s) }
+  node_step wildcard_name x (stand_in s) = stand_in_step wildcard_name x s
+  node_step wildcard_name x nothing = at_end (missing x wildcard_name true)
 
 -- ---- below a DNAME
 
@@ -129,13 +129,13 @@ module _ (signed : Bool) (t : ℕ) (before : List RRset) (x : Name) (s : RRset) 
 module _ (q : Inquiry) where
   -- by what a name has, for x
   abbrev pub step_at : Option Name → Name → Name → Step
-  step_at star x a = node_step q star x (at_node q.sets a q.record_type)
+  step_at wildcard_name x a = node_step q wildcard_name x (at_node q.sets a q.record_type)
 
   -- for a name that doesn't exist: by the wildcard at its closest encloser, if that exists (RFC 1034 section 4.3.2 step
   -- 3c, RFC 4592 section 3.3.1)
   abbrev pub wildcard_step : Name → Option Name → Step
   wildcard_step x None = at_end (missing x None false)
-  wildcard_step x (Some star) = cond (exists q.sets star) (step_at (Some star) x star) (at_end (missing x (Some star) false))
+  wildcard_step x (Some wildcard_name) = cond (exists q.sets wildcard_name) (step_at (Some wildcard_name) x wildcard_name) (at_end (missing x (Some wildcard_name) false))
 
   -- for a name that no cut and no DNAME is above
   abbrev pub name_step : Name → Step
@@ -156,7 +156,7 @@ module _ (q : Inquiry) where
 abbrev pub end_of : KeptEnd → End
 end_of kept_end.Complete = complete
 end_of (kept_end.Referred s) = referred s.now
-end_of (kept_end.Missing x) = missing x.name x.star x.is_there
+end_of (kept_end.Missing x) = missing x.name x.wildcard x.is_there
 end_of (kept_end.Outside x) = outside x
 end_of kept_end.Unfollowed = unfollowed
 end_of kept_end.TooLong = too_long

@@ -30,21 +30,21 @@ pub(crate) enum StandInAnswer {
 pub(crate) fn stand_in_step<'z, S: Signer>(
     inner: &'z InnerInMemory<S>,
     set: &'z RecordSet,
-    star: Option<LowerName>,
+    wildcard: Option<LowerName>,
     name: &LowerName,
     asked: Asked<'_>,
     so_far: &mut SoFar<'z>,
 ) -> Result<Next<'z>, LookupError>
     ensures ok { IfOk result
         (λ next. Takes
-        (stand_in_step (inquiry_of S.signature_of asked.entry inner.now) star name.now set.now)
+        (stand_in_step (inquiry_of S.signature_of asked.entry inner.now) wildcard name.now set.now)
         so_far.old so_far.new next) }
     ensures err { IsOkUnless result LookupError.Memory }
 {
-    let under = copy_of(&star)?;
+    let under = copy_of(&wildcard)?;
     let aname = found_for(set, under, name, keeps(asked))?;
     let answer = stand_in_answer(inner, asked, name, aname.set())?;
-    Ok(stood_in_step(answer, star, name, asked, so_far)?)
+    Ok(stood_in_step(answer, wildcard, name, asked, so_far)?)
 }
 
 /// The same name, if there is one.
@@ -61,22 +61,22 @@ fn copy_of(name: &Option<LowerName>) -> Result<Option<LowerName>, ProtoError>
 /// The step from a name by what its ANAME set, or that of its wildcard, stands for.
 fn stood_in_step<'z>(
     answer: StandInAnswer,
-    star: Option<LowerName>,
+    wildcard: Option<LowerName>,
     name: &LowerName,
     asked: Asked<'_>,
     so_far: &mut SoFar<'z>,
 ) -> Result<Next<'z>, ProtoError>
     ensures ok { IfOk result
         (λ next. Takes
-        (stood_in_step asked.entry.is_proved asked.entry.signed star name.now
+        (stood_in_step asked.entry.is_proved asked.entry.signed wildcard name.now
         (answer_of answer)) so_far.old so_far.new next) }
     ensures err { IsOkUnless result ProtoError.Memory }
 {
     match answer {
         StandInAnswer::Addresses(addresses) => {
-            addresses_step(addresses, &star, name, asked, so_far)
+            addresses_step(addresses, &wildcard, name, asked, so_far)
         }
-        StandInAnswer::NoAddresses => at_missing(name, star, true),
+        StandInAnswer::NoAddresses => at_missing(name, wildcard, true),
         StandInAnswer::Untold => Ok(Next::Ends(End::Failed)),
     }
 }
@@ -84,21 +84,21 @@ fn stood_in_step<'z>(
 /// The step from a name that its ANAME set, or that of its wildcard, gives these addresses.
 fn addresses_step<'z>(
     addresses: RecordSet,
-    star: &Option<LowerName>,
+    wildcard: &Option<LowerName>,
     name: &LowerName,
     asked: Asked<'_>,
     so_far: &mut SoFar<'z>,
 ) -> Result<Next<'z>, ProtoError>
     ensures ok { IfOk result
         (λ next. Takes
-        (addresses_step asked.entry.is_proved asked.entry.signed star.now name.now addresses)
+        (addresses_step asked.entry.is_proved asked.entry.signed wildcard.now name.now addresses)
         so_far.old so_far.new next) }
     ensures err { IsOkUnless result ProtoError.Memory }
 {
     if asked.is_proved && !is_signed(&addresses) {
         return Ok(Next::Ends(End::Failed));
     }
-    add_made(star, name, &mut so_far.made)?;
+    add_made(wildcard, name, &mut so_far.made)?;
     send_made(&mut so_far.answers, addresses, part_for(asked.signed))?;
     Ok(Next::Ends(End::Complete))
 }

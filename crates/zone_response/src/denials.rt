@@ -105,7 +105,7 @@ fn wildcard_proof<'z, S: Signer, H: Nsec3Hash>(
 {
     match hashed_query(zone.nx_proof_kind, name) {
         Some(query) => match source_of_synthesis(zone.inner, name, &mut Counter::new())? {
-            Some(star) => wildcard_sets(zone, query, &star, hashes),
+            Some(wildcard) => wildcard_sets(zone, query, &wildcard, hashes),
             None => Ok(Vec::new(zone.origin.alloc())),
         },
         None => nsec_proof(zone.denials, name, None),
@@ -139,7 +139,7 @@ fn end_proof<'z, S: Signer, H: Nsec3Hash>(
         ≡ false)) }
 {
     match end {
-        End::Missing(missing) => denial(zone, &missing.name, missing.star.as_ref(), hashes),
+        End::Missing(missing) => denial(zone, &missing.name, missing.wildcard.as_ref(), hashes),
         End::Referred(cut) => match ds {
             Some(_) => Ok(Vec::new(zone.origin.alloc())),
             None => denial(zone, &LowerName::new(cut.name())?, None, hashes),
@@ -152,43 +152,43 @@ fn end_proof<'z, S: Signer, H: Nsec3Hash>(
 fn denial<'z, S: Signer, H: Nsec3Hash>(
     zone: &ServedZone<'z, S, H>,
     name: &LowerName,
-    star: Option<&LowerName>,
+    wildcard: Option<&LowerName>,
     hashes: &mut Counter,
 ) -> Result<Vec<&'z RecordSet>, LookupError>
     ensures ok { IfOk result
         (λ sets. map (λ s. s.now) sets.items
         ≡ denial (zone_of S.signature_of H.digest_of zone.now) name.now
-        (option_copied star.entry)) }
+        (option_copied wildcard.entry)) }
     ensures hashed { OnOk result
         (denial_has_owners (zone_of S.signature_of H.digest_of zone.now) name.now
-        (option_copied star.entry)
+        (option_copied wildcard.entry)
         ≡ true) }
     ensures counted { hashes.new
         ≤ hashes.old
         + length
         (denial_hashed (zone_of S.signature_of H.digest_of zone.now) name.now
-        (option_copied star.entry)) }
+        (option_copied wildcard.entry)) }
     ensures err { IfErr result
         (λ e. (e ≡ LookupError.Memory)
         ⊎ (denial_has_owners (zone_of S.signature_of H.digest_of zone.now) name.now
-        (option_copied star.entry)
+        (option_copied wildcard.entry)
         ≡ false)) }
 {
     match hashed_query(zone.nx_proof_kind, name) {
-        Some(query) => match below_root(star) {
-            Some(star) => absent_sets(zone, query, star, hashes),
+        Some(query) => match below_root(wildcard) {
+            Some(wildcard) => absent_sets(zone, query, wildcard, hashes),
             None => present_sets(zone, query, hashes),
         },
-        None => nsec_proof(zone.denials, name, star),
+        None => nsec_proof(zone.denials, name, wildcard),
     }
 }
 
 /// A name that isn't the root, as each wildcard.
-fn below_root(star: Option<&LowerName>) -> Option<&LowerName>
-    ensures { option_copied result ≡ option_and_then unless_root (option_copied star.entry) }
+fn below_root(wildcard: Option<&LowerName>) -> Option<&LowerName>
+    ensures { option_copied result ≡ option_and_then unless_root (option_copied wildcard.entry) }
 {
-    match star {
-        Some(star) if !star.is_root() => Some(star),
+    match wildcard {
+        Some(wildcard) if !wildcard.is_root() => Some(wildcard),
         _ => None,
     }
 }
@@ -226,19 +226,19 @@ fn hashed_query<'q>(
 fn nsec_proof<'z>(
     denials: &'z RecordMap,
     name: &LowerName,
-    star: Option<&LowerName>,
+    wildcard: Option<&LowerName>,
 ) -> Result<Vec<&'z RecordSet>, LookupError>
     ensures ok { IfOk result
         (λ sets. map (λ s. s.now) sets.items
         ≡ option_to_list (closest_nsec denials.now name.now)
         ++ option_to_list
-        (option_and_then (closest_nsec denials.now) (option_copied star.entry))) }
+        (option_and_then (closest_nsec denials.now) (option_copied wildcard.entry))) }
     ensures err { IsOkUnless result LookupError.Memory }
 {
     let mut sets = Vec::new(name.alloc());
     add_closest(denials, name, &mut sets)?;
-    if let Some(star) = star {
-        add_closest(denials, star, &mut sets)?;
+    if let Some(wildcard) = wildcard {
+        add_closest(denials, wildcard, &mut sets)?;
     }
     Ok(sets)
 }

@@ -41,28 +41,28 @@ struct Encloser<'z> {
 pub(crate) fn wildcard_sets<'z, S: Signer, H: Nsec3Hash>(
     zone: &ServedZone<'z, S, H>,
     query: Nsec3QueryInfo<'_>,
-    star: &LowerName,
+    wildcard: &LowerName,
     hashes: &mut Counter,
 ) -> Result<Vec<&'z RecordSet>, LookupError>
-    requires { is_root star.now ≡ false }
+    requires { is_root wildcard.now ≡ false }
     ensures ok { IfOk result
         (λ sets. map (λ s. s.now) sets.items
         ≡ wildcard_sets zone.now.origin.now zone.now.denials.now
         (hashed_by (hash_of H.digest_of zone.now query.entry)) query.entry.qname.now
-        (base_name star.now)) }
+        (base_name wildcard.now)) }
     ensures hashed { OnOk result
         (have_owners (hash_of H.digest_of zone.now query.entry)
-        (wildcard_hashed query.entry.qname.now (base_name star.now))
+        (wildcard_hashed query.entry.qname.now (base_name wildcard.now))
         ≡ true) }
     ensures counted { hashes.new
-        ≤ hashes.old + length (wildcard_hashed query.entry.qname.now (base_name star.now)) }
+        ≤ hashes.old + length (wildcard_hashed query.entry.qname.now (base_name wildcard.now)) }
     ensures err { IfErr result
         (λ e. (e ≡ LookupError.Memory)
         ⊎ (have_owners (hash_of H.digest_of zone.now query.entry)
-        (wildcard_hashed query.entry.qname.now (base_name star.now))
+        (wildcard_hashed query.entry.qname.now (base_name wildcard.now))
         ≡ false)) }
 {
-    let closer = hashed_closer(zone, query, star.num_labels(), None, hashes)?;
+    let closer = hashed_closer(zone, query, wildcard.num_labels(), None, hashes)?;
     let mut sets = Vec::new(zone.origin.alloc());
     if let Some(set) = closer_set(zone.denials, &closer)? {
         push(&mut sets, set)?;
@@ -75,36 +75,36 @@ pub(crate) fn wildcard_sets<'z, S: Signer, H: Nsec3Hash>(
 pub(crate) fn absent_sets<'z, S: Signer, H: Nsec3Hash>(
     zone: &ServedZone<'z, S, H>,
     query: Nsec3QueryInfo<'_>,
-    star: &LowerName,
+    wildcard: &LowerName,
     hashes: &mut Counter,
 ) -> Result<Vec<&'z RecordSet>, LookupError>
-    requires { is_root star.now ≡ false }
+    requires { is_root wildcard.now ≡ false }
     ensures ok { IfOk result
         (λ sets. map (λ s. s.now) sets.items
         ≡ absent_sets zone.now.origin.now zone.now.denials.now
         (hashed_by (hash_of H.digest_of zone.now query.entry)) query.entry.qname.now
-        (base_name star.now)) }
+        (base_name wildcard.now)) }
     ensures hashed { OnOk result
         (have_owners (hash_of H.digest_of zone.now query.entry)
         (absent_hashed zone.now.origin.now zone.now.denials.now
         (hashed_by (hash_of H.digest_of zone.now query.entry)) query.entry.qname.now
-        (base_name star.now))
+        (base_name wildcard.now))
         ≡ true) }
     ensures counted { hashes.new
         ≤ hashes.old
         + length
         (absent_hashed zone.now.origin.now zone.now.denials.now
         (hashed_by (hash_of H.digest_of zone.now query.entry)) query.entry.qname.now
-        (base_name star.now)) }
+        (base_name wildcard.now)) }
     ensures err { IfErr result
         (λ e. (e ≡ LookupError.Memory)
         ⊎ (have_owners (hash_of H.digest_of zone.now query.entry)
         (absent_hashed zone.now.origin.now zone.now.denials.now
         (hashed_by (hash_of H.digest_of zone.now query.entry)) query.entry.qname.now
-        (base_name star.now))
+        (base_name wildcard.now))
         ≡ false)) }
 {
-    match provable(zone, query, star.clone()?, None, hashes)? {
+    match provable(zone, query, wildcard.clone()?, None, hashes)? {
         Some(encloser) => absent_below(zone, query, encloser, hashes),
         None => Ok(Vec::new(zone.origin.alloc())),
     }
@@ -144,8 +144,8 @@ fn absent_below<'z, S: Signer, H: Nsec3Hash>(
     let Encloser { child, set, before } = encloser;
     let closer = hashed_closer(zone, query, child.num_labels(), before, hashes)?;
     let closer_set = closer_set(zone.denials, &closer)?;
-    let star = known_or_hashed(zone, query, child.into_wildcard(), closer, hashes)?;
-    let wildcard_set = matching_or_covering(zone.denials, &star.owner)?;
+    let wildcard = known_or_hashed(zone, query, child.into_wildcard(), closer, hashes)?;
+    let wildcard_set = matching_or_covering(zone.denials, &wildcard.owner)?;
     let alloc = zone.origin.alloc();
     Ok(in_owner_order(alloc, Some(set), closer_set, wildcard_set)?)
 }

@@ -48,7 +48,7 @@ pub(crate) struct Asked<'z> {
 pub(crate) struct Missing {
     pub(crate) name: LowerName,
     /// The wildcard that was asked for it, if the name doesn't exist.
-    pub(crate) star: Option<LowerName>,
+    pub(crate) wildcard: Option<LowerName>,
     /// Whether the name or this wildcard exists.
     pub(crate) is_there: bool,
 }
@@ -228,8 +228,8 @@ fn name_step<'z, S: Signer>(
         let node = at_node(inner, &mut key, asked.record_type, here, searches)?;
         return node_step(inner, node, None, name, asked, so_far);
     }
-    let star = source_of_synthesis(inner, name, searches)?;
-    wildcard_step(inner, asked, name, star, so_far, searches)
+    let wildcard = source_of_synthesis(inner, name, searches)?;
+    wildcard_step(inner, asked, name, wildcard, so_far, searches)
 }
 
 /// The step from a name that doesn't exist, by the wildcard at its closest encloser.
@@ -237,58 +237,58 @@ fn wildcard_step<'z, S: Signer>(
     inner: &'z InnerInMemory<S>,
     asked: Asked<'_>,
     name: &LowerName,
-    star: Option<LowerName>,
+    wildcard: Option<LowerName>,
     so_far: &mut SoFar<'z>,
     searches: &mut Counter,
 ) -> Result<Next<'z>, LookupError>
     ensures ok { IfOk result
         (λ next. Takes (wildcard_step (inquiry_of S.signature_of asked.entry inner.now) name.now
-        star)
+        wildcard)
         so_far.old so_far.new next) }
     ensures counted { searches.new ≤ searches.old + 5 }
     ensures err { IsOkUnless result LookupError.Memory }
 {
-    let Some(star) = star else {
+    let Some(wildcard) = wildcard else {
         return Ok(at_missing(name, None, false)?);
     };
-    let mut key = RrKey::first_of(&star)?;
+    let mut key = RrKey::first_of(&wildcard)?;
     searches.add_one();
     let here = read_node_sets(inner, &key, asked.record_type, RecordType::CNAME);
     if !exists(inner, &key, here, searches) {
-        return Ok(at_missing(name, Some(star), false)?);
+        return Ok(at_missing(name, Some(wildcard), false)?);
     }
     let node = at_node(inner, &mut key, asked.record_type, here, searches)?;
-    node_step(inner, node, Some(star), name, asked, so_far)
+    node_step(inner, node, Some(wildcard), name, asked, so_far)
 }
 
 /// The step from a name by what it has itself, or what the wildcard has that is asked for it.
 fn node_step<'z, S: Signer>(
     inner: &'z InnerInMemory<S>,
     node: Node<'z>,
-    star: Option<LowerName>,
+    wildcard: Option<LowerName>,
     name: &LowerName,
     asked: Asked<'_>,
     so_far: &mut SoFar<'z>,
 ) -> Result<Next<'z>, LookupError>
     ensures ok { IfOk result
         (λ next. Takes
-        (node_step (inquiry_of S.signature_of asked.entry inner.now) star name.now
+        (node_step (inquiry_of S.signature_of asked.entry inner.now) wildcard name.now
         (node_of node.entry)) so_far.old so_far.new next) }
     ensures err { IsOkUnless result LookupError.Memory }
 {
     match node {
         Node::Own(set) => {
             let part = own_part(asked);
-            answer(set, star, name, part, keeps(asked), so_far)?;
+            answer(set, wildcard, name, part, keeps(asked), so_far)?;
             Ok(Next::Ends(End::Complete))
         }
         Node::Alias(set) => {
             let part = part_for(asked.signed);
-            answer(set, star, name, part, keeps(asked), so_far)?;
+            answer(set, wildcard, name, part, keeps(asked), so_far)?;
             Ok(after_alias(set)?)
         }
-        Node::StandIn(set) => stand_in_step(inner, set, star, name, asked, so_far),
-        Node::Nothing => Ok(at_missing(name, star, true)?),
+        Node::StandIn(set) => stand_in_step(inner, set, wildcard, name, asked, so_far),
+        Node::Nothing => Ok(at_missing(name, wildcard, true)?),
     }
 }
 
@@ -319,15 +319,15 @@ pub(crate) fn part_for(signed: bool) -> Part
 /// The end at a name without the set that is asked for.
 pub(crate) fn at_missing<'z>(
     name: &LowerName,
-    star: Option<LowerName>,
+    wildcard: Option<LowerName>,
     is_there: bool,
 ) -> Result<Next<'z>, ProtoError>
-    ensures ok { IfOk result (λ next. next_of next ≡ ends (missing_at name.now star is_there)) }
+    ensures ok { IfOk result (λ next. next_of next ≡ ends (missing_at name.now wildcard is_there)) }
     ensures err { IsOkUnless result ProtoError.Memory }
 {
     Ok(Next::Ends(End::Missing(Missing {
         name: name.clone()?,
-        star,
+        wildcard,
         is_there,
     })))
 }
@@ -346,7 +346,7 @@ fn after_alias<'z>(set: &RecordSet) -> Result<Next<'z>, ProtoError>
 /// Appends a set as it is found for a name to the sets so far, and the name behind the names if a wildcard has the set.
 fn answer<'z>(
     set: &'z RecordSet,
-    star: Option<LowerName>,
+    wildcard: Option<LowerName>,
     name: &LowerName,
     part: Part,
     keep: bool,
@@ -355,13 +355,13 @@ fn answer<'z>(
     ensures answers { OnOk result
         (sent_sets so_far.new.answers
         ≡ sent_sets so_far.old.answers
-        ++ as_it_is part (as_found_for keep star name.now set.now) ∷ []) }
+        ++ as_it_is part (as_found_for keep wildcard name.now set.now) ∷ []) }
     ensures made { OnOk result
-        (so_far.new.made.items ≡ so_far.old.made.items ++ expanded_names star name.now) }
+        (so_far.new.made.items ≡ so_far.old.made.items ++ expanded_names wildcard name.now) }
     ensures err { IsOkUnless result ProtoError.Memory }
 {
-    add_made(&star, name, &mut so_far.made)?;
-    let found = found_for(set, star, name, keep)?;
+    add_made(&wildcard, name, &mut so_far.made)?;
+    let found = found_for(set, wildcard, name, keep)?;
     let ttl = found.set().ttl();
     let item = Sent {
         set: found,
@@ -373,14 +373,15 @@ fn answer<'z>(
 
 /// Puts a name last if a wildcard has its set.
 pub(crate) fn add_made(
-    star: &Option<LowerName>,
+    wildcard: &Option<LowerName>,
     name: &LowerName,
     made: &mut Vec<LowerName>,
 ) -> Result<(), ProtoError>
-    ensures ok { OnOk result (made.new.items ≡ made.old.items ++ expanded_names star.now name.now) }
+    ensures ok { OnOk result
+        (made.new.items ≡ made.old.items ++ expanded_names wildcard.now name.now) }
     ensures err { IsOkUnless result ProtoError.Memory }
 {
-    match star {
+    match wildcard {
         Some(_) => push(made, name.clone()?),
         None => Ok(()),
     }
@@ -389,15 +390,16 @@ pub(crate) fn add_made(
 /// A set as it is found for a name.
 pub(crate) fn found_for<'z>(
     set: &'z RecordSet,
-    star: Option<LowerName>,
+    wildcard: Option<LowerName>,
     name: &LowerName,
     keep: bool,
 ) -> Result<Found<'z>, ProtoError>
-    ensures ok { IfOk result (λ found. found_set found ≡ as_found_for keep star name.now set.now) }
+    ensures ok { IfOk result
+        (λ found. found_set found ≡ as_found_for keep wildcard name.now set.now) }
     ensures err { IsOkUnless result ProtoError.Memory }
 {
-    match star {
-        Some(star) => Ok(Found::Made(renamed(set, &Name::from(star), name, keep)?)),
+    match wildcard {
+        Some(wildcard) => Ok(Found::Made(renamed(set, &Name::from(wildcard), name, keep)?)),
         None => Ok(Found::Stored(set)),
     }
 }

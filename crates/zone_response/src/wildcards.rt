@@ -16,7 +16,8 @@ pub(crate) fn source_of_synthesis<S: Signer>(
     name: &LowerName,
     searches: &mut Counter,
 ) -> Result<Option<LowerName>, ProtoError>
-    ensures star { IfOk result (λ star. star ≡ source_of_synthesis inner.now.records name.now) }
+    ensures wildcard { IfOk result
+        (λ wildcard. wildcard ≡ source_of_synthesis inner.now.records name.now) }
     ensures counted { searches.new
         ≤ searches.old + most_for_wildcard inner.now.records name.now }
     ensures err { IsOkUnless result ProtoError.Memory }

@@ -18,18 +18,18 @@ use Rattle.zone_denial.specs.Chains.{IsNsecChain}
 use Rattle.zone_denial.proofs.Chain.DenialLists.{own_denial}
 use Rattle.zone_denial.proofs.Chain.NsecLists.{off_circle}
 use Rattle.zone_denial.proofs.Chains.NsecBelow.{next_below_empty}
-use Rattle.zone_denial.proofs.Chains.NsecStar.{proves_star}
+use Rattle.zone_denial.proofs.Chains.NsecWildcard.{proves_wildcard}
 use Rattle.denial_validation.specs.NsecProofs.{denies_type, shows_empty, shows_unsigned_delegation, proves_no_data, proves_wildcard_no_data, proves_unsigned_delegation}
 use Rattle.zone_lookup.specs.Replies.{name_exists, negative_answer}
 use Rattle.denial_validation.specs.NsecRecords.{NsecRecord}
 use Rattle.denial_laws.specs.Chains.{ChainEmptyAccepted, IsInScopeOfChain}
 use Rattle.denial_laws.specs.Scope.{denial_records, IsTypeInScope}
-use Rattle.denial_laws.proofs.Chains.NameErrors.{over, denied_with, star_spanned}
+use Rattle.denial_laws.proofs.Chains.NameErrors.{over, denied_with, wildcard_spanned}
 use Rattle.denial_laws.proofs.Chains.OwnTypes.{type_denied}
 use Rattle.denial_laws.proofs.Chains.Readings.{record_at, shown, told_listed, told_unlisted}
-use Rattle.denial_laws.proofs.Chains.ShownEnclosers.{judged_star}
+use Rattle.denial_laws.proofs.Chains.ShownEnclosers.{judged_wildcard}
 use Rattle.denial_laws.proofs.Chains.Speaking.{IsSpanned, spanned, below_origin, owner_on_chain, empty_off, empty}
-use Rattle.denial_laws.proofs.Chains.Stars.{undnamed, star_there}
+use Rattle.denial_laws.proofs.Chains.Wildcards.{undnamed, wildcard_there}
 use Rattle.denial_laws.proofs.EmptyAnswers.{searched_itself, exists_means}
 use Rattle.denial_laws.proofs.OwnTypes.{neither}
 use Rattle.denial_laws.proofs.Speaking.{cover_from_last}
@@ -81,41 +81,41 @@ empty_accepted origin m x j off some =
 pub wildcard_no_data_accepted : (origin : Name) (m : Sets) (signed : Bool) (x : Name) (t : ℕ) → IsInScopeOfChain origin m x → IsTypeInScope origin m x t → IsFalse (owns_at_or_below m x)
     → found m signed x (searched_type m x t) ≡ None → negative_answer origin m x ≡ name_exists → IsTrue (proves_wildcard_no_data origin (denial_records origin m x) x t)
 wildcard_no_data_accepted origin m signed x t j deniable none nothing e =
-    denied_with origin m x j none (λ w. list_any (λ r. denies_type origin r w t || shows_empty origin r w) (denial_records origin m x)) (by (owns m star NSEC) refl)
+    denied_with origin m x j none (λ w. list_any (λ r. denies_type origin r w t || shows_empty origin r w) (denial_records origin m x)) (by (owns m wildcard_name NSEC) refl)
   where
     h : IsNsecChain origin m
     h = j.zone
 
-    star : Name
-    star = wildcard_under (nsec_encloser origin m x)
+    wildcard_name : Name
+    wildcard_name = wildcard_under (nsec_encloser origin m x)
 
     up : IsAbove origin x
     up = over origin m x j none
 
-    there : (asked_wildcard m x ≡ Some star) × (owns_at_or_below m star ≡ true)
-    there = star_there origin m x j up (exists_means origin m x none e)
+    there : (asked_wildcard m x ≡ Some wildcard_name) × (owns_at_or_below m wildcard_name ≡ true)
+    there = wildcard_there origin m x j up (exists_means origin m x none e)
 
-    lost : (o : Option RRset) → option_map (renamed signed star x) o ≡ None → o ≡ None
+    lost : (o : Option RRset) → option_map (renamed signed wildcard_name x) o ≡ None → o ≡ None
     lost None e = refl
     lost (Some s) e = absurd cc
 
-    at_wildcard : direct m star t ≡ None
+    at_wildcard : direct m wildcard_name t ≡ None
     at_wildcard =
-        lost (direct m star t)
+        lost (direct m wildcard_name t)
         (sym (ap (option_and_then (λ s. option_map (renamed signed s x) (direct m s t))) there.0)
         ∙ (neither (direct m x t) (wildcard m signed x t) (ap (found m signed x) (sym (searched_itself m x t deniable.one_type)) ∙ nothing)).1)
 
-    passes : (r : NsecRecord) → In r (denial_records origin m x) → denies_type origin r star t || shows_empty origin r star ≡ true
-        → list_any (λ r. denies_type origin r star t || shows_empty origin r star) (denial_records origin m x) ≡ true
-    passes r i p = any_from_In (λ r. denies_type origin r star t || shows_empty origin r star) r (denial_records origin m x) i p
+    passes : (r : NsecRecord) → In r (denial_records origin m x) → denies_type origin r wildcard_name t || shows_empty origin r wildcard_name ≡ true
+        → list_any (λ r. denies_type origin r wildcard_name t || shows_empty origin r wildcard_name) (denial_records origin m x) ≡ true
+    passes r i p = any_from_In (λ r. denies_type origin r wildcard_name t || shows_empty origin r wildcard_name) r (denial_records origin m x) i p
 
-    by : (b : Bool) → owns m star NSEC ≡ b → list_any (λ r. denies_type origin r star t || shows_empty origin r star) (denial_records origin m x) ≡ true
+    by : (b : Bool) → owns m wildcard_name NSEC ≡ b → list_any (λ r. denies_type origin r wildcard_name t || shows_empty origin r wildcard_name) (denial_records origin m x) ≡ true
     by true on =
-        let s = set_of m star NSEC on in
-        passes (record_at origin m h star) (shown origin m h x star s.0 ((proves_star origin m h x j.inside (off_circle m x none)).on s.0 s.1) s.1)
-        (or_left (denies_type origin (record_at origin m h star) star t) (shows_empty origin (record_at origin m h star) star) (type_denied origin m h j.unreferred star (judged_star origin m x j up).inside t at_wildcard on deniable.no_signature deniable.one_type (λ d. (deniable.no_apex d).1)))
+        let s = set_of m wildcard_name NSEC on in
+        passes (record_at origin m h wildcard_name) (shown origin m h x wildcard_name s.0 ((proves_wildcard origin m h x j.inside (off_circle m x none)).on s.0 s.1) s.1)
+        (or_left (denies_type origin (record_at origin m h wildcard_name) wildcard_name t) (shows_empty origin (record_at origin m h wildcard_name) wildcard_name) (type_denied origin m h j.unreferred wildcard_name (judged_wildcard origin m x j up).inside t at_wildcard on deniable.no_signature deniable.one_type (λ d. (deniable.no_apex d).1)))
     by false off =
-        let s = star_spanned origin m x j none off in
+        let s = wildcard_spanned origin m x j none off in
         passes (record_at origin m h s.owner) s.among
-        (or_right (denies_type origin (record_at origin m h s.owner) star t) (shows_empty origin (record_at origin m h s.owner) star)
-        (empty origin m star (judged_star origin m x j up) s.owner s.between there.1))
+        (or_right (denies_type origin (record_at origin m h s.owner) wildcard_name t) (shows_empty origin (record_at origin m h s.owner) wildcard_name)
+        (empty origin m wildcard_name (judged_wildcard origin m x j up) s.owner s.between there.1))

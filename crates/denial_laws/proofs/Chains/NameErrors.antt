@@ -16,9 +16,9 @@ use Rattle.zone_map.proofs.Wildcards.{wildcard_is_of_closest_encloser}
 use Rattle.zone_denial.specs.NsecDenial.{nsec_encloser, nsec_denial}
 use Rattle.zone_denial.specs.Chains.{IsNsecChain, next_owner}
 use Rattle.zone_denial.proofs.Chain.NsecLists.{off_circle}
-use Rattle.zone_denial.proofs.Chains.NsecAskedStar.{exists_is}
+use Rattle.zone_denial.proofs.Chains.NsecAskedWildcard.{exists_is}
 use Rattle.zone_denial.proofs.Chains.NsecBelow.{no_next_below}
-use Rattle.zone_denial.proofs.Chains.NsecStar.{proves_star}
+use Rattle.zone_denial.proofs.Chains.NsecWildcard.{proves_wildcard}
 use Rattle.zone_lookup.specs.Replies.{name_exists, nx_domain, refused, negative_answer}
 use Rattle.denial_validation.specs.NsecProofs.{may_apply_to, covers, denies_name, shown_encloser, denied_and_wildcard, proves_name_error, proves_wildcard_answer}
 use Rattle.denial_validation.specs.NsecRecords.{NsecRecord}
@@ -26,9 +26,9 @@ use Rattle.denial_laws.specs.Chains.{ChainWildcardErrorAccepted, IsInScopeOfChai
 use Rattle.denial_laws.specs.Scope.{denial_records, AreOfZone}
 use Rattle.denial_laws.proofs.Chains.Gaps.{IsBetween}
 use Rattle.denial_laws.proofs.Chains.Readings.{record_at, of_owner}
-use Rattle.denial_laws.proofs.Chains.ShownEnclosers.{judged_star, shown_is}
+use Rattle.denial_laws.proofs.Chains.ShownEnclosers.{judged_wildcard, shown_is}
 use Rattle.denial_laws.proofs.Chains.Speaking.{IsSpanned, spanned, below_origin, denied, empty}
-use Rattle.denial_laws.proofs.Chains.Stars.{asked_only, no_star, star_gone}
+use Rattle.denial_laws.proofs.Chains.Wildcards.{asked_only, no_wildcard_name, wildcard_gone}
 use Rattle.denial_laws.proofs.NameErrors.{error_means}
 use Rattle.denial_laws.proofs.Speaking.{cover_from_last}
 
@@ -54,30 +54,30 @@ module _ (origin : Name) (m : Sets) (x : Name) (j : IsInScopeOfChain origin m x)
       (λ i. denied origin m x j s.owner s.between none i && (ap (λ p. option_map_or (λ a. test (wildcard_under a)) p false) (shown_is origin m x j over s.owner s.between) ∙ t) i)
 
   -- a record of the denial behind whose owner the wildcard stands, where the wildcard isn't in the chain
-  pub star_spanned : owns m (wildcard_under (nsec_encloser origin m x)) NSEC ≡ false → IsSpanned origin m j.zone x (wildcard_under (nsec_encloser origin m x))
-  star_spanned off =
-      (spanned origin m h x (wildcard_under (nsec_encloser origin m x)) (below_origin origin m (wildcard_under (nsec_encloser origin m x)) (judged_star origin m x j over) off)
-      ((proves_star origin m h x j.inside (off_circle m x none)).off off)).0
+  pub wildcard_spanned : owns m (wildcard_under (nsec_encloser origin m x)) NSEC ≡ false → IsSpanned origin m j.zone x (wildcard_under (nsec_encloser origin m x))
+  wildcard_spanned off =
+      (spanned origin m h x (wildcard_under (nsec_encloser origin m x)) (below_origin origin m (wildcard_under (nsec_encloser origin m x)) (judged_wildcard origin m x j over) off)
+      ((proves_wildcard origin m h x j.inside (off_circle m x none)).off off)).0
 
   pub error_proved : owns_at_or_below m (wildcard_under (nsec_encloser origin m x)) ≡ false → proves_name_error origin (denial_records origin m x) x ≡ true
-  error_proved starless =
+  error_proved unsynthesized =
       denied_with (λ w. list_any (λ r. denies_name origin r w) (denial_records origin m x))
-      (any_from_In (λ r. denies_name origin r star) (record_at origin m h t.owner) (denial_records origin m x) t.among (denied origin m star (judged_star origin m x j over) t.owner t.between starless))
+      (any_from_In (λ r. denies_name origin r wildcard_name) (record_at origin m h t.owner) (denial_records origin m x) t.among (denied origin m wildcard_name (judged_wildcard origin m x j over) t.owner t.between unsynthesized))
     where
-      star : Name
-      star = wildcard_under (nsec_encloser origin m x)
+      wildcard_name : Name
+      wildcard_name = wildcard_under (nsec_encloser origin m x)
 
       t : IsSpanned origin m j.zone x (wildcard_under (nsec_encloser origin m x))
-      t = star_spanned (off_circle m star starless)
+      t = wildcard_spanned (off_circle m wildcard_name unsynthesized)
 
-pub starred_error_accepted : ChainWildcardErrorAccepted
-starred_error_accepted origin m x j starless e = error_proved origin m x j (error_means origin m x e).0 starless
+pub wildcard_error_accepted : ChainWildcardErrorAccepted
+wildcard_error_accepted origin m x j unsynthesized e = error_proved origin m x j (error_means origin m x e).0 unsynthesized
 
 pub name_error_accepted : (origin : Name) (m : Sets) (x : Name) → IsInScopeOfChain origin m x → IsFalse (is_wildcard x) → negative_answer origin m x ≡ nx_domain
     → IsTrue (proves_name_error origin (denial_records origin m x) x)
 name_error_accepted origin m x j plain e =
     let r = error_means origin m x e in
-    error_proved origin m x j r.0 (star_gone origin m x j (over origin m x j r.0) plain r.0 r.1)
+    error_proved origin m x j r.0 (wildcard_gone origin m x j (over origin m x j r.0) plain r.0 r.1)
 
 -- ---- what is proved is denied
 
@@ -130,8 +130,8 @@ error_denied origin m rs x j zone p = by (In-from_any (λ r. denies_name origin 
     h : IsNsecChain origin m
     h = j.zone
 
-    star : Name
-    star = wildcard_under (nsec_encloser origin m x)
+    wildcard_name : Name
+    wildcard_name = wildcard_under (nsec_encloser origin m x)
 
     source : Name → Bool
     source e = list_any (λ r. denies_name origin r (wildcard_under e)) rs
@@ -143,7 +143,7 @@ error_denied origin m rs x j zone p = by (In-from_any (λ r. denies_name origin 
     by (r, i, e) = of (of_owner origin m h rs zone r i)
       where
         of : (o : Name) × (owns m o NSEC ≡ true) × (r ≡ record_at origin m h o) → negative_answer origin m x ≡ nx_domain
-        of (o, k, q) = answered none (no_star origin m x j up starless)
+        of (o, k, q) = answered none (no_wildcard_name origin m x j up unsynthesized)
           where
             d : denies_name origin (record_at origin m h o) x ≡ true
             d = ap (λ v. denies_name origin v x) (sym q) ∙ and_left (denies_name origin r x) (option_map_or source (shown_encloser r x) false) e
@@ -159,11 +159,11 @@ error_denied origin m rs x j zone p = by (In-from_any (λ r. denies_name origin 
                 sym (ap (λ v. option_map_or source v false) (ap (λ v. shown_encloser v x) q ∙ shown_is origin m x j up o (between_denied origin m x j o k d)))
                 ∙ and_right (denies_name origin r x) (option_map_or source (shown_encloser r x) false) e
 
-            starless : owns_at_or_below m star ≡ false
-            starless =
-                let t = In-from_any (λ v. denies_name origin v star) rs sourced in
+            unsynthesized : owns_at_or_below m wildcard_name ≡ false
+            unsynthesized =
+                let t = In-from_any (λ v. denies_name origin v wildcard_name) rs sourced in
                 let u = of_owner origin m h rs zone t.0 t.1 in
-                nothing_there origin m star (judged_star origin m x j up) u.0 u.1 (ap (λ v. denies_name origin v star) (sym u.2) ∙ t.2)
+                nothing_there origin m wildcard_name (judged_wildcard origin m x j up) u.0 u.1 (ap (λ v. denies_name origin v wildcard_name) (sym u.2) ∙ t.2)
 
 -- ---- an answer from a wildcard
 

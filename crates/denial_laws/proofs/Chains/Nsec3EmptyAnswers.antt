@@ -32,7 +32,7 @@ use Rattle.denial_laws.specs.Nsec3Chains.{IsInNsec3ScopeOfChain, Nsec3ChainWildc
 use Rattle.denial_laws.specs.Scope.{Unreferred, is_parents_ds}
 use Rattle.denial_laws.proofs.EmptyAnswers.{searched_itself, exists_means}
 use Rattle.denial_laws.proofs.NameErrors.{error_means}
-use Rattle.denial_laws.proofs.Chains.Nsec3Judging.{unlisted, told_listed, told_owned, told_unlisted, exists_is, there_is, plain_x, encloser_above, encloser_in, star_in, star_uncut, star_plain, asked_only, star_there, star_gone, encloser_proved}
+use Rattle.denial_laws.proofs.Chains.Nsec3Judging.{unlisted, told_listed, told_owned, told_unlisted, exists_is, there_is, plain_x, encloser_above, encloser_in, wildcard_in, wildcard_uncut, wildcard_plain, asked_only, wildcard_there, wildcard_gone, encloser_proved}
 use Rattle.denial_laws.proofs.Chains.Nsec3Matches.{covers_is, matches_itself}
 use Rattle.denial_laws.proofs.Chains.Nsec3NameErrors.{enclosed, over, of_names, enclosing, error_proved}
 use Rattle.denial_laws.proofs.Chains.Nsec3Readings.{record_of}
@@ -101,7 +101,7 @@ module _ {origin : Name} {beside m : Sets} {hash : Name → Option (List ℕ)} {
 -- ---- an answer of a wildcard
 
 module _ {origin : Name} {beside m : Sets} {hash : Name → Option (List ℕ)} {parameters : Nsec3Parameters} {names : List Name} {x : Name} (j : IsInNsec3ScopeOfChain origin beside m hash parameters names x) (e : Name) (asked : asked_wildcard m x ≡ Some (wildcard_under e)) where
-  -- a name for which a star is asked isn't in the chain
+  -- a name for which a wildcard is asked isn't in the chain
   asked_off : is_named names x ≡ false
   asked_off = sym (exists_is j x (is_at_or_above_sound origin x j.inside) j.uncut (plain_x j)) ∙ law.absent m x (wildcard_under e) asked
     where
@@ -111,9 +111,9 @@ module _ {origin : Name} {beside m : Sets} {hash : Name → Option (List ℕ)} {
   abbrev n : (a : Name) × (c : Name) × IsEnclosed names x a c
   n = enclosed j asked_off
 
-  -- what covers its next closer name proves the star
-  star_proved : (rs : List Nsec3Record) → (k : Name) × IsCovering j.zone j.apart n.1 k × In (record_of j.zone j.apart k) rs → proves_wildcard_answer origin hash rs x e ≡ true
-  star_proved rs k =
+  -- what covers its next closer name proves the wildcard
+  wildcard_proved : (rs : List Nsec3Record) → (k : Name) × IsCovering j.zone j.apart n.1 k × In (record_of j.zone j.apart k) rs → proves_wildcard_answer origin hash rs x e ≡ true
+  wildcard_proved rs k =
       ap (λ a. is_at_or_above origin a && is_above a x && option_map_or (is_covered origin hash rs) (next_closer x a) false) same
       ∙ (λ i. is_at_or_above_complete origin n.0 (encloser_in j n.0 n.2.is_encloser (over j asked_off)) i && (above_test n.0 x).1 (encloser_above j n.0 n.2.is_encloser) i && (ap (λ o. option_map_or (is_covered origin hash rs) o false) n.2.is_closer ∙ covered) i)
     where
@@ -126,9 +126,9 @@ module _ {origin : Name} {beside m : Sets} {hash : Name → Option (List ℕ)} {
           (covers_is j.zone j.apart k.0 n.1 k.1.on (inr (n.0, n.2.is_encloser, inl (n.2.closer_at, n.2.closer_below))) ∙ k.1.covered)
 
 -- so do the fewer records of a denial to which a wildcard answered
-pub asked_star_proved : {origin : Name} {beside m : Sets} {hash : Name → Option (List ℕ)} {parameters : Nsec3Parameters} {names : List Name} {x : Name} → IsInNsec3ScopeOfChain origin beside m hash parameters names x
+pub asked_wildcard_proved : {origin : Name} {beside m : Sets} {hash : Name → Option (List ℕ)} {parameters : Nsec3Parameters} {names : List Name} {x : Name} → IsInNsec3ScopeOfChain origin beside m hash parameters names x
     → (answer : List RRset) → ((Contains names x → ⊥) → CoversCloser origin m hash names x answer) → (e : Name) → asked_wildcard m x ≡ Some (wildcard_under e) → proves_wildcard_answer origin hash (read_nsec3_sets answer) x e ≡ true
-asked_star_proved j answer given e asked = star_proved j e asked (read_nsec3_sets answer) (closer_shown j.zone j.apart (λ i. true≢false (sym (in_named _ _ i) ∙ asked_off j e asked)) (n j e asked).0 (n j e asked).1 (n j e asked).2 answer given)
+asked_wildcard_proved j answer given e asked = wildcard_proved j e asked (read_nsec3_sets answer) (closer_shown j.zone j.apart (λ i. true≢false (sym (in_named _ _ i) ∙ asked_off j e asked)) (n j e asked).0 (n j e asked).1 (n j e asked).2 answer given)
 
 -- ---- the parts
 
@@ -152,7 +152,7 @@ module _ {origin : Name} {beside m : Sets} {hash : Name → Option (List ℕ)} {
       let r = error_means origin m x e in
       let off = off_from r.0 in
       let n = enclosed j off in
-      error_proved j off answer of_zone given (star_gone j n.0 n.2.is_encloser (over j off) plain r.0 r.1)
+      error_proved j off answer of_zone given (wildcard_gone j n.0 n.2.is_encloser (over j off) plain r.0 r.1)
 
   pub no_data : (signed : Bool) (t : ℕ) → IsTypeInNsec3ScopeOn origin beside m names x t → found m signed x (searched_type m x t) ≡ None → on_chain x ≡ true → proves_no_data origin hash rs x t ≡ true
   no_data signed t deniable nothing on =
@@ -166,9 +166,9 @@ module _ {origin : Name} {beside m : Sets} {hash : Name → Option (List ℕ)} {
       → proves_wildcard_no_data origin hash rs x t ≡ true
   wildcard_no_data signed t deniable nothing e none =
       encloser_proved j n.0 n.1 n.2 rs (of_names j off answer of_zone given) up off (enclosing j off answer of_zone given) (λ a. is_denied origin hash rs (wildcard_under a) t)
-      (any_from_In (λ r. matches origin hash r star && denies_type origin r star t) (record_of j.zone j.apart star) rs ((enclosing j off answer of_zone given).star_on on)
-      (λ i. matches_itself j.zone j.apart star on i
-      && type_denied j.zone j.apart star on (star_in j n.0 n.2.is_encloser up) j.unreferred t at_wildcard deniable.no_signature deniable.one_type
+      (any_from_In (λ r. matches origin hash r wildcard_name && denies_type origin r wildcard_name t) (record_of j.zone j.apart wildcard_name) rs ((enclosing j off answer of_zone given).wildcard_on on)
+      (λ i. matches_itself j.zone j.apart wildcard_name on i
+      && type_denied j.zone j.apart wildcard_name on (wildcard_in j n.0 n.2.is_encloser up) j.unreferred t at_wildcard deniable.no_signature deniable.one_type
       (λ q. deniable.no_wildcard_beside q n.0 n.2.is_encloser) (λ d. deniable.no_wildcard_apex d n.0 n.2.is_encloser) i))
     where
       off : on_chain x ≡ false
@@ -180,22 +180,22 @@ module _ {origin : Name} {beside m : Sets} {hash : Name → Option (List ℕ)} {
       up : IsAbove origin x
       up = over j off
 
-      star : Name
-      star = wildcard_under n.0
+      wildcard_name : Name
+      wildcard_name = wildcard_under n.0
 
-      there : (asked_wildcard m x ≡ Some star) × (on_chain star ≡ true)
-      there = star_there j n.0 n.2.is_encloser up (exists_means origin m x none e)
+      there : (asked_wildcard m x ≡ Some wildcard_name) × (on_chain wildcard_name ≡ true)
+      there = wildcard_there j n.0 n.2.is_encloser up (exists_means origin m x none e)
 
-      on : In star names
-      on = named_in names star there.1
+      on : In wildcard_name names
+      on = named_in names wildcard_name there.1
 
-      lost : (o : Option RRset) → option_map (renamed signed star x) o ≡ None → o ≡ None
+      lost : (o : Option RRset) → option_map (renamed signed wildcard_name x) o ≡ None → o ≡ None
       lost None e = refl
       lost (Some s) e = absurd cc
 
-      at_wildcard : direct m star t ≡ None
+      at_wildcard : direct m wildcard_name t ≡ None
       at_wildcard =
-          lost (direct m star t)
+          lost (direct m wildcard_name t)
           (sym (ap (option_and_then (λ s. option_map (renamed signed s x) (direct m s t))) there.0)
           ∙ (neither (direct m x t) (wildcard m signed x t) (ap (found m signed x) (sym (searched_itself m x t deniable.one_type)) ∙ nothing)).1)
 
@@ -218,7 +218,7 @@ module _ {origin : Name} {beside m : Sets} {hash : Name → Option (List ℕ)} {
   wildcard_accepted e asked =
       let off = asked_off j e asked in
       let s = enclosing j off answer of_zone given in
-      star_proved j e asked rs (s.cover, s.is_cover, s.has_cover)
+      wildcard_proved j e asked rs (s.cover, s.is_cover, s.has_cover)
 
   pub delegation_accepted : owns m x NS ≡ true → owns m x DS ≡ false → owns m x SOA ≡ false → proves_unsigned_delegation origin hash rs x ≡ true
   delegation_accepted ns ds soa = or_left (shows_unsigned_delegation origin hash rs x) (proves_opted_out origin hash rs x) (λ i. below (above_cases origin x (is_at_or_above_sound origin x j.inside)) i && own i)
@@ -239,9 +239,9 @@ module _ {origin : Name} {beside m : Sets} {hash : Name → Option (List ℕ)} {
 
 -- ---- a name that begins with `*`
 
-pub nsec3_starred_error_accepted : Nsec3ChainWildcardErrorAccepted
-nsec3_starred_error_accepted origin beside m hash parameters names x e j is none denied answer of_zone given =
-    error_proved j off answer of_zone given (sym (exists_is j (wildcard_under n.0) (star_in j n.0 n.2.is_encloser up) (star_uncut j n.0 n.2.is_encloser up) (star_plain j n.0 n.2.is_encloser up)) ∙ unowned_absent m (wildcard_under n.0) gone)
+pub nsec3_wildcard_error_accepted : Nsec3ChainWildcardErrorAccepted
+nsec3_wildcard_error_accepted origin beside m hash parameters names x e j is none denied answer of_zone given =
+    error_proved j off answer of_zone given (sym (exists_is j (wildcard_under n.0) (wildcard_in j n.0 n.2.is_encloser up) (wildcard_uncut j n.0 n.2.is_encloser up) (wildcard_plain j n.0 n.2.is_encloser up)) ∙ unowned_absent m (wildcard_under n.0) gone)
   where
     off : is_named names x ≡ false
     off = sym (there_is j) ∙ (error_means origin m x denied).0

@@ -25,10 +25,10 @@ use Rattle.zone_denial.proofs.Names.ExistingAncestors.{exists_from, unowned_abse
 use Rattle.zone_denial.proofs.Names.LongestAncestors.{above_above, above_shorter, IsLongestAbove, longest_is, longest_above, others_above}
 use Rattle.zone_denial.proofs.Chains.NsecBelow.{open_itself}
 use Rattle.zone_denial.proofs.Chains.NsecLists.{list_right, list_signed, delegation_below, delegation_owns, not_delegation}
-use Rattle.zone_denial.proofs.Chains.Nsec3AskedStar.{named_exists, exists_named, proved_star_is_asked}
+use Rattle.zone_denial.proofs.Chains.Nsec3AskedWildcard.{named_exists, exists_named, proved_wildcard_is_asked}
 use Rattle.zone_denial.proofs.Chains.Nsec3Owners.{set_of_named}
 use Rattle.zone_denial.proofs.Chains.Nsec3Names.{is_named, named_in, in_named, origin_in, IsEnclosed}
-use Rattle.zone_denial.proofs.Chain.NsecAskedStar.{other_type}
+use Rattle.zone_denial.proofs.Chain.NsecAskedWildcard.{other_type}
 use Rattle.zone_denial.proofs.Chain.NsecBelow.{above_at, above_through}
 use Rattle.denial_validation.specs.Encloser.{next_closer}
 use Rattle.denial_validation.specs.NsecProofs.{DNAME}
@@ -38,7 +38,7 @@ use Rattle.denial_laws.specs.Nsec3Chains.{IsInNsec3ScopeOfChain}
 use Rattle.denial_laws.proofs.Chains.Nsec3Matches.{covers_is, unmatched, matches_itself, matched_by}
 use Rattle.denial_laws.proofs.Chains.Nsec3Readings.{record_of, listed_types, types_are}
 use Rattle.denial_laws.proofs.Chains.Nsec3Shown.{IsShown}
-use Rattle.denial_laws.proofs.ShownEnclosers.{same_name, above_star}
+use Rattle.denial_laws.proofs.ShownEnclosers.{same_name, above_wildcard}
 use Rattle.denial_laws.proofs.Tests.{refuted}
 
 -- ---- what a record lists
@@ -223,51 +223,51 @@ module _ {origin : Name} {beside m : Sets} {hash : Name → Option (List ℕ)} {
       pub encloser_in : IsAtOrAbove origin a
       encloser_in = others_above on_chain x a origin longest over (in_named names origin (origin_in names origin j.zone.begins))
 
-      pub star_in : IsAtOrAbove origin (wildcard_under a)
-      star_in = above_through origin a (wildcard_under a) encloser_in (asterisk_label ∷ [], refl)
+      pub wildcard_in : IsAtOrAbove origin (wildcard_under a)
+      wildcard_in = above_through origin a (wildcard_under a) encloser_in (asterisk_label ∷ [], refl)
 
-      pub star_uncut : is_below_cut origin m (wildcard_under a) ≡ false
-      star_uncut = by (is_below_cut origin m (wildcard_under a)) refl
+      pub wildcard_uncut : is_below_cut origin m (wildcard_under a) ≡ false
+      wildcard_uncut = by (is_below_cut origin m (wildcard_under a)) refl
         where
           by : (b : Bool) → is_below_cut origin m (wildcard_under a) ≡ b → b ≡ false
           by false q = refl
           by true q =
               let r = In-from_any (λ c. is_above origin c && is_above c (wildcard_under a)) (owners m NS) q in
-              let u = above_above r.0 a x (above_star r.0 a ((above_test r.0 (wildcard_under a)).0 (and_right (is_above origin r.0) (is_above r.0 (wildcard_under a)) r.2))) encloser_above in
+              let u = above_above r.0 a x (above_wildcard r.0 a ((above_test r.0 (wildcard_under a)).0 (and_right (is_above origin r.0) (is_above r.0 (wildcard_under a)) r.2))) encloser_above in
               absurd (none_passes (λ c. is_above origin c && is_above c x) r.0 (owners m NS) j.uncut r.1 (λ i. and_left (is_above origin r.0) (is_above r.0 (wildcard_under a)) r.2 i && (above_test r.0 x).1 u i))
 
-      pub star_plain : is_below_dname m (wildcard_under a) ≡ false
-      star_plain = undnamed (wildcard_under a) (λ b u. above_above b a x (above_star b a u) encloser_above)
+      pub wildcard_plain : is_below_dname m (wildcard_under a) ≡ false
+      wildcard_plain = undnamed (wildcard_under a) (λ b u. above_above b a x (above_wildcard b a u) encloser_above)
 
       -- whatever wildcard is asked is the one under the encloser, and the name doesn't exist
       pub asked_only : (w : Name) → asked_wildcard m x ≡ Some w → (w ≡ wildcard_under a) × (exists m x ≡ false)
       asked_only w e =
           let law : WildcardIsOfClosestEncloser = wildcard_is_of_closest_encloser in
           let absent = law.absent m x w e in
-          (same_value w (wildcard_under a) (sym e ∙ proved_star_is_asked origin beside m hash parameters names j.zone j.all_in j.one_kind x ((above_test origin x).1 over) j.uncut plain_x (law.plain m x w e) absent a is), absent)
+          (same_value w (wildcard_under a) (sym e ∙ proved_wildcard_is_asked origin beside m hash parameters names j.zone j.all_in j.one_kind x ((above_test origin x).1 over) j.uncut plain_x (law.plain m x w e) absent a is), absent)
         where
           same_value : (a b : Name) → Some a ≡ Some b → a ≡ b
           same_value a b e = cc
 
       -- so a wildcard at the closest encloser exists exactly where that one is in the chain
-      pub no_star : on_chain (wildcard_under a) ≡ false → asked_wildcard_exists m x ≡ false
-      no_star none = by (asked_wildcard m x) refl
+      pub no_wildcard_name : on_chain (wildcard_under a) ≡ false → asked_wildcard_exists m x ≡ false
+      no_wildcard_name none = by (asked_wildcard m x) refl
         where
           by : (o : Option Name) → asked_wildcard m x ≡ o → option_map_or (exists m) o false ≡ false
           by None e = refl
-          by (Some w) e = ap (exists m) (asked_only w e).0 ∙ exists_is (wildcard_under a) star_in star_uncut star_plain ∙ none
+          by (Some w) e = ap (exists m) (asked_only w e).0 ∙ exists_is (wildcard_under a) wildcard_in wildcard_uncut wildcard_plain ∙ none
 
-      pub star_there : asked_wildcard_exists m x ≡ true → (asked_wildcard m x ≡ Some (wildcard_under a)) × (on_chain (wildcard_under a) ≡ true)
-      star_there s = by (asked_wildcard m x) refl s
+      pub wildcard_there : asked_wildcard_exists m x ≡ true → (asked_wildcard m x ≡ Some (wildcard_under a)) × (on_chain (wildcard_under a) ≡ true)
+      wildcard_there s = by (asked_wildcard m x) refl s
         where
           by : (o : Option Name) → asked_wildcard m x ≡ o → option_map_or (exists m) o false ≡ true → (asked_wildcard m x ≡ Some (wildcard_under a)) × (on_chain (wildcard_under a) ≡ true)
           by None e p = absurd (true≢false (sym p))
-          by (Some w) e p = let q = (asked_only w e).0 in (e ∙ ap Some q, sym (exists_is (wildcard_under a) star_in star_uncut star_plain) ∙ ap (exists m) (sym q) ∙ p)
+          by (Some w) e p = let q = (asked_only w e).0 in (e ∙ ap Some q, sym (exists_is (wildcard_under a) wildcard_in wildcard_uncut wildcard_plain) ∙ ap (exists m) (sym q) ∙ p)
 
-      pub star_gone : IsFalse (is_wildcard x) → owns_at_or_below m x ≡ false → asked_wildcard_exists m x ≡ false → on_chain (wildcard_under a) ≡ false
-      star_gone plain none gone =
-          sym (exists_is (wildcard_under a) star_in star_uncut star_plain)
-          ∙ sym (ap (λ p. option_map_or (exists m) p false) (proved_star_is_asked origin beside m hash parameters names j.zone j.all_in j.one_kind x ((above_test origin x).1 over) j.uncut plain_x plain (unowned_absent m x none) a is))
+      pub wildcard_gone : IsFalse (is_wildcard x) → owns_at_or_below m x ≡ false → asked_wildcard_exists m x ≡ false → on_chain (wildcard_under a) ≡ false
+      wildcard_gone plain none gone =
+          sym (exists_is (wildcard_under a) wildcard_in wildcard_uncut wildcard_plain)
+          ∙ sym (ap (λ p. option_map_or (exists m) p false) (proved_wildcard_is_asked origin beside m hash parameters names j.zone j.all_in j.one_kind x ((above_test origin x).1 over) j.uncut plain_x plain (unowned_absent m x none) a is))
           ∙ gone
 
   -- ---- the record of an encloser is of no name that hands on what is below it

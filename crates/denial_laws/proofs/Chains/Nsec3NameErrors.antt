@@ -19,7 +19,7 @@ use Rattle.denial_validation.specs.Nsec3Proofs.{covers, is_matched, is_covered, 
 use Rattle.denial_validation.specs.Nsec3Records.{Nsec3Record}
 use Rattle.denial_laws.specs.Nsec3Scope.{read_nsec3_sets, AreNsec3OfZone}
 use Rattle.denial_laws.specs.Nsec3Chains.{IsInNsec3ScopeOfChain}
-use Rattle.denial_laws.proofs.Chains.Nsec3Judging.{there_is, no_star, none_longer, encloser_proved}
+use Rattle.denial_laws.proofs.Chains.Nsec3Judging.{there_is, no_wildcard_name, none_longer, encloser_proved}
 use Rattle.denial_laws.proofs.Chains.Nsec3Matches.{covers_is, off_where_covered}
 use Rattle.denial_laws.proofs.Chains.Nsec3Proved.{ancestor_named, uncovered, closer_covered, closer_below, proved_off}
 use Rattle.denial_laws.proofs.Nsec3Proved.{IsProved, parts}
@@ -71,7 +71,7 @@ module _ {origin : Name} {beside m : Sets} {hash : Name → Option (List ℕ)} {
 
       pub error_proved : is_named names (wildcard_under enclosed.0) ≡ false → proves_name_error origin hash (read_nsec3_sets answer) x ≡ true
       error_proved none =
-          let k = enclosing.star_off (named_from (wildcard_under a) none) in
+          let k = enclosing.wildcard_off (named_from (wildcard_under a) none) in
           encloser_proved j a c enclosed.2 rs of_names over off enclosing (λ b. is_covered origin hash rs (wildcard_under b))
           (any_from_In (λ r. covers origin hash r (wildcard_under a)) (record_of j.zone j.apart k.0) rs k.2 (covers_is j.zone j.apart k.0 (wildcard_under a) k.1.on (wildcard_hashed j.zone j.apart a c enclosed.2) ∙ k.1.covered))
 
@@ -138,14 +138,14 @@ module _ {origin : Name} {beside m : Sets} {hash : Name → Option (List ℕ)} {
         n : (a : Name) × (k : Name) × IsEnclosed names x a k
         n = enclosed away
 
-        star_away : on_chain (wildcard_under n.0) ≡ false
-        star_away =
+        wildcard_away : on_chain (wildcard_under n.0) ≡ false
+        wildcard_away =
             unnamed_from (wildcard_under n.0)
             (off_where_covered j.zone j.apart rs of_names (wildcard_under n.0) (wildcard_hashed j.zone j.apart n.0 n.1 n.2)
             (ap (λ a. is_covered origin hash rs (wildcard_under a)) (sym (one (λ r. true) (λ b. is_covered origin hash rs (wildcard_under b)) p n.0 n.1 n.2)) ∙ p.passes))
 
         gone : asked_wildcard_exists m x ≡ false
-        gone = no_star j n.0 n.2.is_encloser p.up star_away
+        gone = no_wildcard_name j n.0 n.2.is_encloser p.up wildcard_away
 
 pub nsec3_error_denied : (origin : Name) (beside m : Sets) (hash : Name → Option (List ℕ)) (parameters : Nsec3Parameters) (names : List Name) (rs : List Nsec3Record) (x : Name) → IsInNsec3ScopeOfChain origin beside m hash parameters names x
     → AreNsec3OfZone m rs → proves_name_error origin hash rs x ≡ true → negative_answer origin m x ≡ nx_domain

@@ -1,5 +1,5 @@
 -- What the sets that deny a name by NSEC3 show to a validator: the name's own record; or those of its closest encloser, of what covers the
--- next closer name, and of the star under the encloser or of what covers that star
+-- next closer name, and of the wildcard under the encloser or of what covers that wildcard
 use Rattle.std.proofs.Common.{◌≡◌, ℕ, true, List, sym, ap, ◌∙◌, subst, inl, inr}
 use Rattle.std.specs.Prelude.{Option, Some, option_map}
 use Rattle.std.specs.List.{Contains}
@@ -83,8 +83,8 @@ module _ {origin : Name} {beside m : Sets} {hash : Name → Option (List ℕ)} {
     pub cover : Name
     pub is_cover : IsCovering c cover
     pub has_cover : In (record_of zone apart cover) rs
-    pub star_on : In (wildcard_under a) names → In (record_of zone apart (wildcard_under a)) rs
-    pub star_off : (In (wildcard_under a) names → ⊥) → (k : Name) × IsCovering (wildcard_under a) k × In (record_of zone apart k) rs
+    pub wildcard_on : In (wildcard_under a) names → In (record_of zone apart (wildcard_under a)) rs
+    pub wildcard_off : (In (wildcard_under a) names → ⊥) → (k : Name) × IsCovering (wildcard_under a) k × In (record_of zone apart k) rs
 
   -- what covers the next closer name
   closer_is : (a c : Name) → IsEnclosed names x a c → (answer : List RRset) → CoversCloser origin m hash names x answer → (k : Name) × IsCovering c k × In (record_of zone apart k) (read_nsec3_sets answer)
@@ -103,13 +103,13 @@ module _ {origin : Name} {beside m : Sets} {hash : Name → Option (List ℕ)} {
         cover = k.0;
         is_cover = k.1;
         has_cover = k.2;
-        star_on = λ i.
+        wildcard_on = λ i.
             set_shown (wildcard_under a) i answer
-            (subst (λ n. HasSetOf origin m hash (wildcard_under n) answer) same (h.star_on (subst (λ n. Contains names (wildcard_under n)) (sym same) (In-Contains (wildcard_under a) names i))));
-        star_off = λ away.
+            (subst (λ n. HasSetOf origin m hash (wildcard_under n) answer) same (h.wildcard_on (subst (λ n. Contains names (wildcard_under n)) (sym same) (In-Contains (wildcard_under a) names i))));
+        wildcard_off = λ away.
             covering_shown (wildcard_under a) (wildcard_hashed zone apart a c e) answer
             (subst (λ n. HasCoverOf origin m hash names (wildcard_under n) answer) same
-            (h.star_off (λ i. away (Contains-In (wildcard_under a) names (subst (λ n. Contains names (wildcard_under n)) same i)))));
+            (h.wildcard_off (λ i. away (Contains-In (wildcard_under a) names (subst (λ n. Contains names (wildcard_under n)) same i)))));
       }
 
   -- and where a wildcard answered, what covers the next closer name

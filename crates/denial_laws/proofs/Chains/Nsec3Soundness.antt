@@ -24,10 +24,10 @@ use Rattle.zone_denial.proofs.Names.AuthoritativeNames.{from_besides}
 use Rattle.zone_denial.proofs.Names.ExistingAncestors.{exists_from, unowned_absent}
 use Rattle.zone_denial.proofs.Names.LongestAncestors.{above_below, above_shorter, IsLongestAbove, longest_above, others_above}
 use Rattle.zone_denial.proofs.Chains.NsecLists.{delegation_owns, not_delegation}
-use Rattle.zone_denial.proofs.Chains.Nsec3AskedStar.{proved_star_is_asked}
+use Rattle.zone_denial.proofs.Chains.Nsec3AskedWildcard.{proved_wildcard_is_asked}
 use Rattle.zone_denial.proofs.Chains.Nsec3Names.{is_named, named_in, in_named, IsEnclosed}
 use Rattle.zone_denial.proofs.Chains.Nsec3Encloses.{wildcard_hashed}
-use Rattle.zone_denial.proofs.Chain.NsecAskedStar.{other_type}
+use Rattle.zone_denial.proofs.Chain.NsecAskedWildcard.{other_type}
 use Rattle.zone_denial.proofs.Chain.NsecBelow.{above_at, above_through, comparable}
 use Rattle.zone_lookup.specs.Replies.{nx_domain, negative_answer}
 use Rattle.denial_validation.specs.Encloser.{next_closer}
@@ -40,7 +40,7 @@ use Rattle.denial_laws.specs.Nsec3Soundness.{ShowsEmpty, IsWildcardUnflattenedOn
 use Rattle.denial_laws.specs.Soundness.{IsNoName, IsWithoutData, IsWithoutDataByWildcard, IsUnflattened, IsEmptyNonTerminal, IsUnsignedDelegation}
 use Rattle.denial_laws.proofs.NameErrors.{error_means}
 use Rattle.denial_laws.proofs.NothingFound.{direct_none}
-use Rattle.denial_laws.proofs.Chains.Nsec3Judging.{owned_listed, signature_listed, told_listed, told_owned, undnamed, exists_is, there_is, plain_x, star_in, star_uncut, star_plain, asked_only}
+use Rattle.denial_laws.proofs.Chains.Nsec3Judging.{owned_listed, signature_listed, told_listed, told_owned, undnamed, exists_is, there_is, plain_x, wildcard_in, wildcard_uncut, wildcard_plain, asked_only}
 use Rattle.denial_laws.proofs.Chains.Nsec3NameErrors.{enclosed, over, proved_away, one, nsec3_error_denied}
 use Rattle.denial_laws.proofs.Chains.Nsec3Proved.{self_hashed, none_below_covered, matching}
 use Rattle.denial_laws.proofs.Nsec3Proved.{IsProved, parts, closer_inside}
@@ -210,9 +210,9 @@ nsec3_empty_sound origin beside m hash parameters names rs x j of_zone (r, c, ma
 
 -- ---- by a wildcard
 
--- a star owns no NSEC3 set: the text of a digest has more octets than its label, or none
-star_unhashed : (origin : Name) (beside m : Sets) (hash : Name → Option (List ℕ)) (parameters : Nsec3Parameters) (names : List Name) → IsNsec3Chain origin beside m hash parameters names → (a : Name) → owns m (wildcard_under a) NSEC3 ≡ false
-star_unhashed origin beside m hash parameters names zone a = by (owns m (wildcard_under a) NSEC3) refl
+-- a wildcard owns no NSEC3 set: the text of a digest has more octets than its label, or none
+wildcard_unhashed : (origin : Name) (beside m : Sets) (hash : Name → Option (List ℕ)) (parameters : Nsec3Parameters) (names : List Name) → IsNsec3Chain origin beside m hash parameters names → (a : Name) → owns m (wildcard_under a) NSEC3 ≡ false
+wildcard_unhashed origin beside m hash parameters names zone a = by (owns m (wildcard_under a) NSEC3) refl
   where
     by : (b : Bool) → owns m (wildcard_under a) NSEC3 ≡ b → b ≡ false
     by false e = refl
@@ -229,11 +229,11 @@ pub nsec3_wildcard_no_data_sound : (origin : Name) (beside m : Sets) (hash : Nam
 nsec3_wildcard_no_data_sound origin beside m hash parameters names rs x t j of_zone plain flat p =
     record {
       none = record {
-        nothing = λ signed i. option_or (bare_x i) ((ap (option_and_then (λ s. option_map (renamed signed s x) (direct m s (searched_type m x t)))) asked ∙ ap (option_map (renamed signed star x)) bare_star) i);
+        nothing = λ signed i. option_or (bare_x i) ((ap (option_and_then (λ s. option_map (renamed signed s x) (direct m s (searched_type m x t)))) asked ∙ ap (option_map (renamed signed wildcard_name x)) bare_wildcard) i);
         there = present origin m x (or_right (owns_at_or_below m x) (asked_wildcard_exists m x) wildcard_exists);
       };
       absent = none;
-      star = wildcard_exists;
+      wildcard_name = wildcard_exists;
     }
   where
     test : Name → Bool
@@ -251,29 +251,29 @@ nsec3_wildcard_no_data_sound origin beside m hash parameters names rs x t j of_z
     n : (a : Name) × (k : Name) × IsEnclosed names x a k
     n = enclosed j away
 
-    star : Name
-    star = wildcard_under n.0
+    wildcard_name : Name
+    wildcard_name = wildcard_under n.0
 
-    inside : IsAtOrAbove origin star
-    inside = star_in j n.0 n.2.is_encloser q.up
+    inside : IsAtOrAbove origin wildcard_name
+    inside = wildcard_in j n.0 n.2.is_encloser q.up
 
-    uncut : is_below_cut origin m star ≡ false
-    uncut = star_uncut j n.0 n.2.is_encloser q.up
+    uncut : is_below_cut origin m wildcard_name ≡ false
+    uncut = wildcard_uncut j n.0 n.2.is_encloser q.up
 
-    passed : is_denied origin hash rs star t ≡ true
+    passed : is_denied origin hash rs wildcard_name t ≡ true
     passed = ap test (sym (one j rs of_names (λ r. true) test q n.0 n.1 n.2)) ∙ q.passes
 
-    denying : (r : Nsec3Record) × In r rs × (matches origin hash r star && denies_type origin r star t ≡ true)
-    denying = In-from_any (λ r. matches origin hash r star && denies_type origin r star t) rs passed
+    denying : (r : Nsec3Record) × In r rs × (matches origin hash r wildcard_name && denies_type origin r wildcard_name t ≡ true)
+    denying = In-from_any (λ r. matches origin hash r wildcard_name && denies_type origin r wildcard_name t) rs passed
 
-    own : In star names × (denying.0 ≡ record_of j.zone j.apart star)
+    own : In wildcard_name names × (denying.0 ≡ record_of j.zone j.apart wildcard_name)
     own =
-        matching j.zone j.apart rs of_names star (wildcard_hashed j.zone j.apart n.0 n.1 n.2) denying.0 denying.1 (and_left (matches origin hash denying.0 star) (denies_type origin denying.0 star t) denying.2)
+        matching j.zone j.apart rs of_names wildcard_name (wildcard_hashed j.zone j.apart n.0 n.1 n.2) denying.0 denying.1 (and_left (matches origin hash denying.0 wildcard_name) (denies_type origin denying.0 wildcard_name t) denying.2)
 
-    bare_star : direct m star (searched_type m x t) ≡ None
-    bare_star =
-        nothing_searched j.zone j.apart star own.0 (star_unhashed origin beside m hash parameters names j.zone n.0) j.unreferred (is_at_or_above_complete origin star inside) uncut t
-        (ap (λ r. denies_type origin r star t) (sym own.1) ∙ and_right (matches origin hash denying.0 star) (denies_type origin denying.0 star t) denying.2) (flat n.0 n.2.is_encloser) x
+    bare_wildcard : direct m wildcard_name (searched_type m x t) ≡ None
+    bare_wildcard =
+        nothing_searched j.zone j.apart wildcard_name own.0 (wildcard_unhashed origin beside m hash parameters names j.zone n.0) j.unreferred (is_at_or_above_complete origin wildcard_name inside) uncut t
+        (ap (λ r. denies_type origin r wildcard_name t) (sym own.1) ∙ and_right (matches origin hash denying.0 wildcard_name) (denies_type origin denying.0 wildcard_name t) denying.2) (flat n.0 n.2.is_encloser) x
 
     none : owns_at_or_below m x ≡ false
     none = there_is j ∙ away
@@ -288,18 +288,18 @@ nsec3_wildcard_no_data_sound origin beside m hash parameters names rs x t j of_z
     bare_x : direct m x (searched_type m x t) ≡ None
     bare_x = bare_direct origin m x j.unreferred j.inside j.uncut unowned (searched_type m x t)
 
-    asked : asked_wildcard m x ≡ Some star
-    asked = proved_star_is_asked origin beside m hash parameters names j.zone j.all_in j.one_kind x ((above_test origin x).1 q.up) j.uncut (plain_x j) plain (unowned_absent m x none) n.0 n.2.is_encloser
+    asked : asked_wildcard m x ≡ Some wildcard_name
+    asked = proved_wildcard_is_asked origin beside m hash parameters names j.zone j.all_in j.one_kind x ((above_test origin x).1 q.up) j.uncut (plain_x j) plain (unowned_absent m x none) n.0 n.2.is_encloser
 
     wildcard_exists : asked_wildcard_exists m x ≡ true
-    wildcard_exists = ap (λ a. option_map_or (exists m) a false) asked ∙ exists_is j star inside uncut (star_plain j n.0 n.2.is_encloser q.up) ∙ in_named names star own.0
+    wildcard_exists = ap (λ a. option_map_or (exists m) a false) asked ∙ exists_is j wildcard_name inside uncut (wildcard_plain j n.0 n.2.is_encloser q.up) ∙ in_named names wildcard_name own.0
 
 -- ---- a name error
 
 pub nsec3_name_error_sound : (origin : Name) (beside m : Sets) (hash : Name → Option (List ℕ)) (parameters : Nsec3Parameters) (names : List Name) (rs : List Nsec3Record) (x : Name) → IsInNsec3ScopeOfChain origin beside m hash parameters names x
     → AreNsec3OfZone m rs → proves_name_error origin hash rs x ≡ true → IsNoName origin m x
 nsec3_name_error_sound origin beside m hash parameters names rs x j of_zone p =
-    record { denied = denied; nothing = λ signed t i. option_or (bare_direct origin m x j.unreferred j.inside j.uncut unowned t i) (starless signed t i) }
+    record { denied = denied; nothing = λ signed t i. option_or (bare_direct origin m x j.unreferred j.inside j.uncut unowned t i) (unsynthesized signed t i) }
   where
     denied : negative_answer origin m x ≡ nx_domain
     denied = nsec3_error_denied origin beside m hash parameters names rs x j of_zone p
@@ -316,33 +316,33 @@ nsec3_name_error_sound origin beside m hash parameters names rs x j of_zone p =
     up : IsAbove origin x
     up = over j off
 
-    star : Name
-    star = wildcard_under n.0
+    wildcard_name : Name
+    wildcard_name = wildcard_under n.0
 
     unowned : (u : ℕ) → owns m x u ≡ false
     unowned u = refuted (owns m x u) (λ k. true≢false (sym (there_from m x u k) ∙ gone.0))
 
     -- a wildcard that doesn't exist owns nothing
-    bare : exists m star ≡ false → (u : ℕ) → owns m star u ≡ false
+    bare : exists m wildcard_name ≡ false → (u : ℕ) → owns m wildcard_name u ≡ false
     bare none u = by (u == NSEC3) refl
       where
-        by : (b : Bool) → (u == NSEC3) ≡ b → owns m star u ≡ false
-        by true q = ap (owns m star) (eqb-true u NSEC3 q) ∙ star_unhashed origin beside m hash parameters names j.zone n.0
-        by false q = refuted (owns m star u) (λ k. true≢false (sym (exists_from m star star u k (λ i. other_type m star u NSEC j.one_kind k i || q i) ([], refl)) ∙ none))
+        by : (b : Bool) → (u == NSEC3) ≡ b → owns m wildcard_name u ≡ false
+        by true q = ap (owns m wildcard_name) (eqb-true u NSEC3 q) ∙ wildcard_unhashed origin beside m hash parameters names j.zone n.0
+        by false q = refuted (owns m wildcard_name u) (λ k. true≢false (sym (exists_from m wildcard_name wildcard_name u k (λ i. other_type m wildcard_name u NSEC j.one_kind k i || q i) ([], refl)) ∙ none))
 
     -- so is the one that is asked, if one is
-    starless : (signed : Bool) (t : ℕ) → wildcard m signed x t ≡ None
-    starless signed t = by (asked_wildcard m x) refl
+    unsynthesized : (signed : Bool) (t : ℕ) → wildcard m signed x t ≡ None
+    unsynthesized signed t = by (asked_wildcard m x) refl
       where
         by : (o : Option Name) → asked_wildcard m x ≡ o → option_and_then (λ s. option_map (renamed signed s x) (direct m s t)) o ≡ None
         by None e = refl
         by (Some w) e =
             ap (option_map (renamed signed w x))
             (ap (λ s. direct m s t) same
-            ∙ bare_direct origin m star j.unreferred (is_at_or_above_complete origin star (star_in j n.0 n.2.is_encloser up)) (star_uncut j n.0 n.2.is_encloser up)
+            ∙ bare_direct origin m wildcard_name j.unreferred (is_at_or_above_complete origin wildcard_name (wildcard_in j n.0 n.2.is_encloser up)) (wildcard_uncut j n.0 n.2.is_encloser up)
             (bare (ap (exists m) (sym same) ∙ ap (λ o. option_map_or (exists m) o false) (sym e) ∙ gone.1)) t)
           where
-            same : w ≡ star
+            same : w ≡ wildcard_name
             same = (asked_only j n.0 n.2.is_encloser up w e).0
 
 -- ---- an answer of a wildcard

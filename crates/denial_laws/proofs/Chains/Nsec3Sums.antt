@@ -35,7 +35,7 @@ use Rattle.denial_laws.specs.Nsec3Scope.{read_nsec3_sets, AreNsec3OfZone}
 use Rattle.denial_laws.specs.Nsec3Chains.{IsInNsec3ScopeOfChain}
 use Rattle.denial_laws.specs.Soundness.{IsUnflattened}
 use Rattle.denial_laws.specs.Sums.{is_unsigned, AreAnswersSummedUp, IsNsec3SummedUpOn}
-use Rattle.denial_laws.proofs.Chains.Nsec3EmptyAnswers.{error_accepted, no_data, wildcard_no_data, delegation_accepted, wildcard_accepted, asked_star_proved, nsec3_starred_error_accepted}
+use Rattle.denial_laws.proofs.Chains.Nsec3EmptyAnswers.{error_accepted, no_data, wildcard_no_data, delegation_accepted, wildcard_accepted, asked_wildcard_proved, nsec3_wildcard_error_accepted}
 use Rattle.denial_laws.proofs.Chains.Nsec3Judging.{exists_is, there_is, plain_x, asked_only, of_encloser}
 use Rattle.denial_laws.proofs.Chains.Nsec3NameErrors.{enclosed, over, nsec3_error_denied}
 use Rattle.denial_laws.proofs.Chains.Nsec3Proved.{ancestor_named, self_hashed, uncovered, matching}
@@ -237,7 +237,7 @@ pub nsec3_wildcard_summed_up : (origin : Name) (beside m : Sets) (hash : Name �
     → (answer : List RRset) → AreNsec3OfZone m (read_nsec3_sets answer) → ((Contains names x → ⊥) → CoversCloser origin m hash names x answer) → AreAnswersSummedUp origin m hash x (read_nsec3_sets answer)
 nsec3_wildcard_summed_up origin beside m hash parameters names x j answer of_zone given signed t e asked there flat some =
     summed_up j (read_nsec3_sets answer) of_zone e asked
-    (asked_star_proved j answer given e asked) signed t there flat some
+    (asked_wildcard_proved j answer given e asked) signed t there flat some
 
 pub nsec3_denial_summed_up : (origin : Name) (beside m : Sets) (hash : Name → Option (List ℕ)) (parameters : Nsec3Parameters) (names : List Name) (x : Name) → IsInNsec3ScopeOfChain origin beside m hash parameters names x
     → (answer : List RRset) → AreNsec3OfZone m (read_nsec3_sets answer) → Denies origin m hash names x answer → IsNsec3SummedUpOn origin beside m hash names x (read_nsec3_sets answer)
@@ -245,8 +245,8 @@ nsec3_denial_summed_up origin beside m hash parameters names x j answer of_zone 
   error = λ t plain e i.
       steps (not_handed j rs of_zone i) (none_first t i) (error_accepted j answer of_zone given plain e i) (none_out j rs of_zone i) (shows_unsigned_delegation origin hash rs x) (proves_no_data origin hash rs x t)
       (proves_wildcard_no_data origin hash rs x t) (wildcard_answer origin hash rs x);
-  wildcard_error = λ t a is starless e i.
-      steps (not_handed j rs of_zone i) (none_first t i) (nsec3_starred_error_accepted origin beside m hash parameters names x a j is starless e answer of_zone given i) (none_out j rs of_zone i) (shows_unsigned_delegation origin hash rs x)
+  wildcard_error = λ t a is unsynthesized e i.
+      steps (not_handed j rs of_zone i) (none_first t i) (nsec3_wildcard_error_accepted origin beside m hash parameters names x a j is unsynthesized e answer of_zone given i) (none_out j rs of_zone i) (shows_unsigned_delegation origin hash rs x)
       (proves_no_data origin hash rs x t) (proves_wildcard_no_data origin hash rs x t) (wildcard_answer origin hash rs x);
   delegation = λ t e i.
       steps (not_handed j rs of_zone i) (none_first t i) (no_error j rs of_zone (is_present (there_from m x NS (cut_of m x e).0)) i) (none_out j rs of_zone i) (delegated e i) (proves_no_data origin hash rs x t)

@@ -13,7 +13,7 @@ use Rattle.zone_denial.specs.Chains.{IsNsecChain, next_owner}
 use Rattle.zone_denial.proofs.Names.LongestAncestors.{above_above, IsLongestAbove, longest_above, others_above}
 use Rattle.zone_denial.proofs.Chain.NsecBelow.{above_through}
 use Rattle.zone_denial.proofs.Chains.NsecLinks.{next_owned}
-use Rattle.denial_laws.proofs.ShownEnclosers.{same_name, above_star}
+use Rattle.denial_laws.proofs.ShownEnclosers.{same_name, above_wildcard}
 use Rattle.denial_validation.specs.NsecProofs.{shown_encloser}
 use Rattle.denial_laws.specs.Chains.{IsInScopeOfChain}
 use Rattle.denial_laws.proofs.Chains.Gaps.{IsBetween, owner_near}
@@ -47,8 +47,8 @@ module _ (origin : Name) (m : Sets) (x : Name) (j : IsInScopeOfChain origin m x)
   encloser_in = others_above encloses x e origin longest over origin_encloses
 
   -- the wildcard at it is judged as x is
-  pub judged_star : IsInScopeOfChain origin m (wildcard_under (nsec_encloser origin m x))
-  judged_star = record {
+  pub judged_wildcard : IsInScopeOfChain origin m (wildcard_under (nsec_encloser origin m x))
+  judged_wildcard = record {
     zone = j.zone;
     one_kind = j.one_kind;
     unreferred = j.unreferred;
@@ -58,7 +58,7 @@ module _ (origin : Name) (m : Sets) (x : Name) (j : IsInScopeOfChain origin m x)
   }
     where
       above_x : (a : Name) → IsAbove a (wildcard_under (nsec_encloser origin m x)) → IsAbove a x
-      above_x a u = above_above a e x (above_star a e u) encloser_above
+      above_x a u = above_above a e x (above_wildcard a e u) encloser_above
 
       uncut : (b : Bool) → is_below_cut origin m (wildcard_under (nsec_encloser origin m x)) ≡ b → b ≡ false
       uncut false q = refl

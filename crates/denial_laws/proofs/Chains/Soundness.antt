@@ -12,7 +12,7 @@ use Rattle.zone_map.specs.Wildcards.{exists, renamed, wildcard, asked_wildcard, 
 use Rattle.zone_map.specs.Zones.{Sets, owns, types_at, owns_at_or_below}
 use Rattle.zone_denial.specs.NsecDenial.{nsec_encloser}
 use Rattle.zone_denial.specs.Chains.{is_delegation, is_stated_at_delegation, is_stated, IsNsecChain, next_owner}
-use Rattle.zone_denial.proofs.Chains.NsecAskedStar.{exists_is, enclosers_agree, proved_star_is_asked}
+use Rattle.zone_denial.proofs.Chains.NsecAskedWildcard.{exists_is, enclosers_agree, proved_wildcard_is_asked}
 use Rattle.zone_denial.proofs.Chains.NsecLinks.{next_owned}
 use Rattle.zone_denial.proofs.Chains.NsecLists.{delegation_owns}
 use Rattle.zone_denial.proofs.Names.ExistingAncestors.{unowned_absent}
@@ -27,9 +27,9 @@ use Rattle.denial_laws.proofs.Chains.NameErrors.{over, error_denied, covers_betw
 use Rattle.denial_laws.proofs.NameErrors.{error_means}
 use Rattle.denial_laws.proofs.NothingFound.{direct_none}
 use Rattle.denial_laws.proofs.Chains.Readings.{record_at, of_owner, owned_listed, call_concludes, told_listed, told_owned}
-use Rattle.denial_laws.proofs.Chains.ShownEnclosers.{judged_star, shown_is}
+use Rattle.denial_laws.proofs.Chains.ShownEnclosers.{judged_wildcard, shown_is}
 use Rattle.denial_laws.proofs.Chains.Speaking.{empty_off}
-use Rattle.denial_laws.proofs.Chains.Stars.{undnamed, asked_only}
+use Rattle.denial_laws.proofs.Chains.Wildcards.{undnamed, asked_only}
 use Rattle.denial_laws.proofs.Soundness.{neither, there_from, present, searched_by, unasked, nothing_by, unowned, empty_there, unowned_types}
 use Rattle.denial_laws.proofs.Tests.{refuted}
 
@@ -160,7 +160,7 @@ empty_without_data origin m x j e t = record {
 -- ---- a name error
 
 pub name_error_sound : (origin : Name) (m : Sets) (rs : List NsecRecord) (x : Name) → IsInScopeOfChain origin m x → AreOfZone m rs → IsTrue (proves_name_error origin rs x) → IsNoName origin m x
-name_error_sound origin m rs x j zone p = record { denied = denied; nothing = λ signed t i. option_or (empty_direct origin m x j t (unowned_types m x gone.0) i) (starless signed t i) }
+name_error_sound origin m rs x j zone p = record { denied = denied; nothing = λ signed t i. option_or (empty_direct origin m x j t (unowned_types m x gone.0) i) (unsynthesized signed t i) }
   where
     denied : negative_answer origin m x ≡ nx_domain
     denied = error_denied origin m rs x j zone p
@@ -171,22 +171,22 @@ name_error_sound origin m rs x j zone p = record { denied = denied; nothing = λ
     above : IsAbove origin x
     above = over origin m x j gone.0
 
-    star : Name
-    star = wildcard_under (nsec_encloser origin m x)
+    wildcard_name : Name
+    wildcard_name = wildcard_under (nsec_encloser origin m x)
 
     -- the wildcard at the closest encloser, if one is, owns nothing
-    starless : (signed : Bool) (t : ℕ) → wildcard m signed x t ≡ None
-    starless signed t = by (asked_wildcard m x) refl
+    unsynthesized : (signed : Bool) (t : ℕ) → wildcard m signed x t ≡ None
+    unsynthesized signed t = by (asked_wildcard m x) refl
       where
         by : (o : Option Name) → asked_wildcard m x ≡ o → option_and_then (λ s. option_map (renamed signed s x) (direct m s t)) o ≡ None
         by None e = refl
-        by (Some w) e = ap (option_map (renamed signed w x)) (ap (λ s. direct m s t) same ∙ empty_direct origin m star (judged_star origin m x j above) t (unowned_types m star none))
+        by (Some w) e = ap (option_map (renamed signed w x)) (ap (λ s. direct m s t) same ∙ empty_direct origin m wildcard_name (judged_wildcard origin m x j above) t (unowned_types m wildcard_name none))
           where
-            same : w ≡ star
+            same : w ≡ wildcard_name
             same = (asked_only origin m x j above w e).0
 
-            none : owns_at_or_below m star ≡ false
-            none = sym (exists_is origin m j.zone j.one_kind star) ∙ ap (exists m) (sym same) ∙ ap (λ o. option_map_or (exists m) o false) (sym e) ∙ gone.1
+            none : owns_at_or_below m wildcard_name ≡ false
+            none = sym (exists_is origin m j.zone j.one_kind wildcard_name) ∙ ap (exists m) (sym same) ∙ ap (λ o. option_map_or (exists m) o false) (sym e) ∙ gone.1
 
 -- ---- by a wildcard
 
@@ -231,11 +231,11 @@ wildcard_no_data_sound origin m rs x t j zone plain flat p =
       none = record {
         nothing = λ signed i.
             option_or (empty_direct origin m x j (searched_type m x t) (unowned_types m x none) i)
-            ((ap (option_and_then (λ s. option_map (renamed signed s x) (direct m s (searched_type m x t)))) asked ∙ ap (option_map (renamed signed star x)) bare.0) i);
+            ((ap (option_and_then (λ s. option_map (renamed signed s x) (direct m s (searched_type m x t)))) asked ∙ ap (option_map (renamed signed wildcard_name x)) bare.0) i);
         there = present origin m x (or_right (owns_at_or_below m x) (asked_wildcard_exists m x) wildcard_exists);
       };
       absent = none;
-      star = wildcard_exists;
+      wildcard_name = wildcard_exists;
     }
   where
     none : owns_at_or_below m x ≡ false
@@ -244,34 +244,34 @@ wildcard_no_data_sound origin m rs x t j zone plain flat p =
     u : IsAbove origin x
     u = up origin m rs x j zone (is_bare origin rs t) p
 
-    star : Name
-    star = wildcard_under (nsec_encloser origin m x)
+    wildcard_name : Name
+    wildcard_name = wildcard_under (nsec_encloser origin m x)
 
-    k : IsInScopeOfChain origin m star
-    k = judged_star origin m x j u
+    k : IsInScopeOfChain origin m wildcard_name
+    k = judged_wildcard origin m x j u
 
-    asked : asked_wildcard m x ≡ Some star
-    asked = proved_star_is_asked origin m j.zone j.one_kind x ((above_test origin x).1 u) j.uncut (undnamed origin m x j) plain (unowned_absent m x none)
+    asked : asked_wildcard m x ≡ Some wildcard_name
+    asked = proved_wildcard_is_asked origin m j.zone j.one_kind x ((above_test origin x).1 u) j.uncut (undnamed origin m x j) plain (unowned_absent m x none)
 
     -- the wildcard's record denies the type, or another shows that the wildcard is empty
-    bare : (direct m star (searched_type m x t) ≡ None) × (owns_at_or_below m star ≡ true)
-    bare = by (In-from_any (λ r. denies_type origin r star t || shows_empty origin r star) rs (passed origin m rs x j zone (is_bare origin rs t) p))
+    bare : (direct m wildcard_name (searched_type m x t) ≡ None) × (owns_at_or_below m wildcard_name ≡ true)
+    bare = by (In-from_any (λ r. denies_type origin r wildcard_name t || shows_empty origin r wildcard_name) rs (passed origin m rs x j zone (is_bare origin rs t) p))
       where
-        by : (r : NsecRecord) × In r rs × (denies_type origin r star t || shows_empty origin r star ≡ true) → (direct m star (searched_type m x t) ≡ None) × (owns_at_or_below m star ≡ true)
-        by (r, i, e) = of (denies_type origin r star t) refl
+        by : (r : NsecRecord) × In r rs × (denies_type origin r wildcard_name t || shows_empty origin r wildcard_name ≡ true) → (direct m wildcard_name (searched_type m x t) ≡ None) × (owns_at_or_below m wildcard_name ≡ true)
+        by (r, i, e) = of (denies_type origin r wildcard_name t) refl
           where
-            of : (b : Bool) → denies_type origin r star t ≡ b → (direct m star (searched_type m x t) ≡ None) × (owns_at_or_below m star ≡ true)
+            of : (b : Bool) → denies_type origin r wildcard_name t ≡ b → (direct m wildcard_name (searched_type m x t) ≡ None) × (owns_at_or_below m wildcard_name ≡ true)
             of true q =
-                let own = own_denied origin m star k rs t zone (any_from_In (λ r. denies_type origin r star t) r rs i q) in
-                (ap (direct m star) (searched_by m x t (is_one_type origin m j.zone star own.0 t own.1)) ∙ denied_direct origin m star k own.0 t own.1 flat, there_from m star NSEC own.0)
+                let own = own_denied origin m wildcard_name k rs t zone (any_from_In (λ r. denies_type origin r wildcard_name t) r rs i q) in
+                (ap (direct m wildcard_name) (searched_by m x t (is_one_type origin m j.zone wildcard_name own.0 t own.1)) ∙ denied_direct origin m wildcard_name k own.0 t own.1 flat, there_from m wildcard_name NSEC own.0)
             of false q =
                 let o = of_owner origin m j.zone rs zone r i in
-                let shown : shows_empty origin r star ≡ true = ap (λ a. a || shows_empty origin r star) (sym q) ∙ e in
-                let empty = is_empty origin m star k o.0 o.1 (ap (λ v. shows_empty origin v star) (sym o.2) ∙ shown) in
-                (empty_direct origin m star k (searched_type m x t) empty.empty, empty_there m star empty)
+                let shown : shows_empty origin r wildcard_name ≡ true = ap (λ a. a || shows_empty origin r wildcard_name) (sym q) ∙ e in
+                let empty = is_empty origin m wildcard_name k o.0 o.1 (ap (λ v. shows_empty origin v wildcard_name) (sym o.2) ∙ shown) in
+                (empty_direct origin m wildcard_name k (searched_type m x t) empty.empty, empty_there m wildcard_name empty)
 
     wildcard_exists : asked_wildcard_exists m x ≡ true
-    wildcard_exists = ap (λ a. option_map_or (exists m) a false) asked ∙ exists_is origin m j.zone j.one_kind star ∙ bare.1
+    wildcard_exists = ap (λ a. option_map_or (exists m) a false) asked ∙ exists_is origin m j.zone j.one_kind wildcard_name ∙ bare.1
 
 -- ---- an unsigned delegation
 

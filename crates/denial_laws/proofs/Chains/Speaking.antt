@@ -26,7 +26,7 @@ use Rattle.denial_laws.specs.Scope.{denial_records}
 use Rattle.denial_laws.specs.Chains.{IsInScopeOfChain}
 use Rattle.denial_laws.proofs.Chains.Gaps.{IsBetween, between_from_covers, owner_below, off_chain}
 use Rattle.denial_laws.proofs.Chains.Readings.{record_at, shown, tells_all, unlisted, told_listed, told_owned}
-use Rattle.denial_laws.proofs.Chains.Stars.{undnamed}
+use Rattle.denial_laws.proofs.Chains.Wildcards.{undnamed}
 use Rattle.denial_laws.proofs.Speaking.{cover_from_last, three}
 
 -- a record of a denial whose owner and next name a name stands between

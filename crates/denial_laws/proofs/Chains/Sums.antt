@@ -13,7 +13,7 @@ use Rattle.zone_map.proofs.Owned.{name_in}
 use Rattle.zone_map.proofs.Wildcards.{wildcard_is_of_closest_encloser}
 use Rattle.zone_denial.specs.NsecDenial.{nsec_encloser}
 use Rattle.zone_denial.proofs.Chain.NsecBelow.{above_at}
-use Rattle.zone_denial.proofs.Chains.NsecAskedStar.{exists_is}
+use Rattle.zone_denial.proofs.Chains.NsecAskedWildcard.{exists_is}
 use Rattle.zone_lookup.specs.Replies.{name_exists, nx_domain, negative_answer}
 use Rattle.denial_validation.specs.NsecProofs.{denies_name, wildcard_is, shown_encloser, proves_name_error, proves_no_data, proves_empty_non_terminal, proves_wildcard_no_data, proves_unsigned_delegation, denied_encloser}
 use Rattle.denial_validation.specs.NsecRecords.{NsecRecord}
@@ -22,11 +22,11 @@ use Rattle.denial_laws.specs.Chains.{IsInScopeOfChain}
 use Rattle.denial_laws.specs.Soundness.{IsUnflattened}
 use Rattle.denial_laws.specs.Sums.{is_unsigned, IsSummedUp}
 use Rattle.denial_laws.proofs.Chains.EmptyAnswers.{no_data_accepted, empty_accepted, wildcard_no_data_accepted, unsigned_delegation_accepted}
-use Rattle.denial_laws.proofs.Chains.NameErrors.{over, between_denied, name_error_accepted, starred_error_accepted, wildcard_answer_accepted}
+use Rattle.denial_laws.proofs.Chains.NameErrors.{over, between_denied, name_error_accepted, wildcard_error_accepted, wildcard_answer_accepted}
 use Rattle.denial_laws.proofs.Chains.Readings.{of_owner, record_at}
 use Rattle.denial_laws.proofs.Chains.ShownEnclosers.{shown_is}
 use Rattle.denial_laws.proofs.Chains.Soundness.{name_error_sound, own_denied, empty_sound, wildcard_no_data_sound, unsigned_delegation_sound}
-use Rattle.denial_laws.proofs.Chains.Stars.{asked_only}
+use Rattle.denial_laws.proofs.Chains.Wildcards.{asked_only}
 use Rattle.denial_laws.proofs.Readings.{denial_of_zone}
 use Rattle.denial_laws.proofs.Soundness.{there_from, present, unowned}
 use Rattle.denial_laws.proofs.Sums.{cut_of, not_cut, steps}
@@ -86,8 +86,8 @@ module _ (origin : Name) (m : Sets) (x : Name) (j : IsInScopeOfChain origin m x)
     up : IsAbove origin x
     up = over origin m x j away
 
-    star_is : wildcard_under e ≡ wildcard_under (nsec_encloser origin m x)
-    star_is = (asked_only origin m x j up (wildcard_under e) asked).0
+    wildcard_name_is : wildcard_under e ≡ wildcard_under (nsec_encloser origin m x)
+    wildcard_name_is = (asked_only origin m x j up (wildcard_under e) asked).0
 
     denied : (r : NsecRecord) × In r rs × (denies_name origin r x && wildcard_is (name_eq (wildcard_under e)) r x ≡ true)
     denied = In-from_any (λ r. denies_name origin r x && wildcard_is (name_eq (wildcard_under e)) r x) rs (wildcard_answer_accepted origin m x e j asked)
@@ -97,7 +97,7 @@ module _ (origin : Name) (m : Sets) (x : Name) (j : IsInScopeOfChain origin m x)
         ap (option_and_then (λ r. shown_encloser r x)) first.1
         ∙ ap (λ r. shown_encloser r x) owner.2
         ∙ shown_is origin m x j up owner.0 (between_denied origin m x j owner.0 owner.1 (ap (λ r. denies_name origin r x) (sym owner.2) ∙ first.3))
-        ∙ ap Some (ap (drop 1) (sym star_is))
+        ∙ ap Some (ap (drop 1) (sym wildcard_name_is))
       where
         first : (r : NsecRecord) × (find (λ r. denies_name origin r x) rs ≡ Some r) × In r rs × (denies_name origin r x ≡ true)
         first =
@@ -110,15 +110,15 @@ module _ (origin : Name) (m : Sets) (x : Name) (j : IsInScopeOfChain origin m x)
     not_bare : (signed : Bool) (t : ℕ) → IsUnflattened m (wildcard_under e) t → (found m signed x (searched_type m x t) ≡ None → ⊥) → proves_wildcard_no_data origin rs x t ≡ false
     not_bare signed t flat some =
         refuted (proves_wildcard_no_data origin rs x t)
-        (λ p. some ((wildcard_no_data_sound origin m rs x t j of_zone (law.plain m x (wildcard_under e) asked) (subst (λ n. IsUnflattened m n t) star_is flat) p).none.nothing signed))
+        (λ p. some ((wildcard_no_data_sound origin m rs x t j of_zone (law.plain m x (wildcard_under e) asked) (subst (λ n. IsUnflattened m n t) wildcard_name_is flat) p).none.nothing signed))
 
 pub denial_summed_up : (origin : Name) (m : Sets) (x : Name) → IsInScopeOfChain origin m x → IsSummedUp origin m x (denial_records origin m x)
 denial_summed_up origin m x j = record {
   error = λ t plain e i.
       steps (name_error_accepted origin m x j plain e i) (proves_unsigned_delegation origin rs x) (proves_empty_non_terminal origin rs x) (proves_no_data origin rs x t) (proves_wildcard_no_data origin rs x t)
       (denied_encloser origin rs x);
-  wildcard_error = λ t starless e i.
-      steps (starred_error_accepted origin m x j starless e i) (proves_unsigned_delegation origin rs x) (proves_empty_non_terminal origin rs x) (proves_no_data origin rs x t) (proves_wildcard_no_data origin rs x t)
+  wildcard_error = λ t unsynthesized e i.
+      steps (wildcard_error_accepted origin m x j unsynthesized e i) (proves_unsigned_delegation origin rs x) (proves_empty_non_terminal origin rs x) (proves_no_data origin rs x t) (proves_wildcard_no_data origin rs x t)
       (denied_encloser origin rs x);
   delegation = λ t e i.
       steps (no_error origin m x j (is_present origin m x j (there_from m x NS (cut_of m x e).0)) i) (unsigned_delegation_accepted origin m x j (cut_of m x e).0 (cut_of m x e).1 (cut_of m x e).2 i) (proves_empty_non_terminal origin rs x)

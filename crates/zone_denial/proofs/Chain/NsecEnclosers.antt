@@ -83,8 +83,8 @@ module _ (origin : Name) (m : Sets) where
             ap (λ f. unwrap_or f origin)
             (first_passes encloses above (λ i. is_at_or_above_complete origin above in_zone i && e i))
 
-    pub star_found : name_eq above origin || owns_nsec_at_or_below m above ≡ true → wildcard_of n ≡ wildcard_under (nsec_encloser origin m n)
-    star_found h = by n is below ∙ ap wildcard_under (sym (ends_at h))
+    pub wildcard_found : name_eq above origin || owns_nsec_at_or_below m above ≡ true → wildcard_of n ≡ wildcard_under (nsec_encloser origin m n)
+    wildcard_found h = by n is below ∙ ap wildcard_under (sym (ends_at h))
       where
         by : (n : Name) → above ≡ drop 1 n → IsAbove origin n → wildcard_of n ≡ wildcard_under above
         by [] e (l, f, q) = absurd cc

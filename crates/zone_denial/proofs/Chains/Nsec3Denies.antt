@@ -19,7 +19,7 @@ use Rattle.zone_denial.specs.Nsec3Laws.{HasSetOf, HasCoverOf, CoversCloser, Deni
 use Rattle.zone_denial.specs.Nsec3Zones.{IsHashedOn, HasDistinctDigests}
 use Rattle.zone_denial.specs.TypeLists.{in_order}
 use Rattle.zone_denial.proofs.Chains.Nsec3Covers.{IsCover, has_cover}
-use Rattle.zone_denial.proofs.Chains.Nsec3Encloses.{Has, encloser_is, cover_is, wildcard_hashed, star_owners, star_answered, answer_on, IsEnclosing, answer_off}
+use Rattle.zone_denial.proofs.Chains.Nsec3Encloses.{Has, encloser_is, cover_is, wildcard_hashed, wildcard_owners, wildcard_answered, answer_on, IsEnclosing, answer_off}
 use Rattle.zone_denial.proofs.Chains.Nsec3Names.{is_named, named_in, IsEnclosed, enclosed_off}
 use Rattle.zone_denial.proofs.Chains.Nsec3Owners.{owner, named_hashed, set_of_named, is_owner, named_owns, owns_as_named}
 
@@ -78,36 +78,36 @@ module _ {origin : Name} {beside m : Sets} {hash : Name → Option (List ℕ)} {
       cover = has_cover_of c r.1.cover (closer_hashed a c e) r.1.is_cover answer (there r.1.cover (inr (inl refl)));
     };
     matches = has_set a e.on answer (there a (inl refl));
-    star_on = λ on.
-        let i = Contains-In star names on in
-        has_set star i answer (there star (inr (inr (subst (In (owner zone apart star)) (sym (owners_are true (named_owns zone apart star i))) (inl refl)))));
-    star_off = λ away.
-        let k = has_cover zone apart star h (λ i. away (In-Contains star names i)) in
-        has_cover_of star k.0 h k.1 answer
-        (there k.0 (inr (inr (subst (In (owner zone apart k.0)) (sym (owners_are false (owns_as_named zone apart star h ∙ unnamed away (is_named names star) refl) ∙ ap option_to_list k.1.is_cover)) (inl refl)))));
+    wildcard_on = λ on.
+        let i = Contains-In wildcard_name names on in
+        has_set wildcard_name i answer (there wildcard_name (inr (inr (subst (In (owner zone apart wildcard_name)) (sym (owners_are true (named_owns zone apart wildcard_name i))) (inl refl)))));
+    wildcard_off = λ away.
+        let k = has_cover zone apart wildcard_name h (λ i. away (In-Contains wildcard_name names i)) in
+        has_cover_of wildcard_name k.0 h k.1 answer
+        (there k.0 (inr (inr (subst (In (owner zone apart k.0)) (sym (owners_are false (owns_as_named zone apart wildcard_name h ∙ unnamed away (is_named names wildcard_name) refl) ∙ ap option_to_list k.1.is_cover)) (inl refl)))));
   }
     where
-      star : Name
-      star = wildcard_under a
+      wildcard_name : Name
+      wildcard_name = wildcard_under a
 
       h : IsHashedOn names x (wildcard_under a)
       h = wildcard_hashed zone apart a c e
 
-      r : (answer : List RRset) × IsEnclosing zone apart (enclosed m hashed false x) (wildcard_part m hashed) (λ a. refl) a c (star_owners zone apart a) answer
-      r = answer_off zone apart (enclosed m hashed false x) (wildcard_part m hashed) (λ a. refl) below_root off a c e (star_owners zone apart a) (star_answered zone apart a (wildcard_hashed zone apart a c e))
+      r : (answer : List RRset) × IsEnclosing zone apart (enclosed m hashed false x) (wildcard_part m hashed) (λ a. refl) a c (wildcard_owners zone apart a) answer
+      r = answer_off zone apart (enclosed m hashed false x) (wildcard_part m hashed) (λ a. refl) below_root off a c e (wildcard_owners zone apart a) (wildcard_answered zone apart a (wildcard_hashed zone apart a c e))
 
       same : r.0 ≡ answer
       same = same_answer r.0 answer (sym r.1.given ∙ given)
 
-      there : (n : Name) → In (owner zone apart n) (owner zone apart a ∷ owner zone apart r.1.cover ∷ star_owners zone apart a) → Has zone apart answer (owner zone apart n)
+      there : (n : Name) → In (owner zone apart n) (owner zone apart a ∷ owner zone apart r.1.cover ∷ wildcard_owners zone apart a) → Has zone apart answer (owner zone apart n)
       there n j s q = subst (λ sets. Contains sets s) same (r.1.has (owner zone apart n) j s q)
 
-      owners_are : (b : Bool) → owns m (owner zone apart star) NSEC3 ≡ b
-          → star_owners zone apart a ≡ option_to_list (option_or (cond b (Some (owner zone apart star)) None) (cover_owner m (owner zone apart star)))
-      owners_are b q = ap (λ b. option_to_list (option_or (cond b (Some (owner zone apart star)) None) (cover_owner m (owner zone apart star)))) q
+      owners_are : (b : Bool) → owns m (owner zone apart wildcard_name) NSEC3 ≡ b
+          → wildcard_owners zone apart a ≡ option_to_list (option_or (cond b (Some (owner zone apart wildcard_name)) None) (cover_owner m (owner zone apart wildcard_name)))
+      owners_are b q = ap (λ b. option_to_list (option_or (cond b (Some (owner zone apart wildcard_name)) None) (cover_owner m (owner zone apart wildcard_name)))) q
 
-      unnamed : (Contains names star → ⊥) → (b : Bool) → is_named names star ≡ b → is_named names star ≡ false
-      unnamed away true q = absurd (away (In-Contains star names (named_in names star q)))
+      unnamed : (Contains names wildcard_name → ⊥) → (b : Bool) → is_named names wildcard_name ≡ b → is_named names wildcard_name ≡ false
+      unnamed away true q = absurd (away (In-Contains wildcard_name names (named_in names wildcard_name q)))
       unnamed away false q = q
 
   -- ---- a wildcard answered
@@ -147,8 +147,8 @@ module _ {origin : Name} {beside m : Sets} {hash : Name → Option (List ℕ)} {
           ∙ ap (result_and_then (λ encloser. result_and_then (λ owners. Ok (in_order name_cmp owners)) (enclosed m hashed true x encloser))) (encloser_is zone apart a c e below_root)
           ∙ ap
           (λ o. result_and_then (λ owners. Ok (in_order name_cmp owners))
-          (result_and_then (λ closer. cond true (Ok closer) (result_and_then (λ encloser. result_and_then (λ star. Ok (encloser ++ closer ++ star)) (wildcard_part m hashed a)) (match_of m hashed a))) (option_map_or (cover_of m hashed) o (Ok [])))) e.is_closer
-          ∙ ap (λ r. result_and_then (λ owners. Ok (in_order name_cmp owners)) (result_and_then (λ closer. cond true (Ok closer) (result_and_then (λ encloser. result_and_then (λ star. Ok (encloser ++ closer ++ star)) (wildcard_part m hashed a)) (match_of m hashed a))) r))
+          (result_and_then (λ closer. cond true (Ok closer) (result_and_then (λ encloser. result_and_then (λ wildcard_name. Ok (encloser ++ closer ++ wildcard_name)) (wildcard_part m hashed a)) (match_of m hashed a))) (option_map_or (cover_of m hashed) o (Ok [])))) e.is_closer
+          ∙ ap (λ r. result_and_then (λ owners. Ok (in_order name_cmp owners)) (result_and_then (λ closer. cond true (Ok closer) (result_and_then (λ encloser. result_and_then (λ wildcard_name. Ok (encloser ++ closer ++ wildcard_name)) (wildcard_part m hashed a)) (match_of m hashed a))) r))
           (cover_is zone apart c cover.0 (closer_hashed a c e) cover.1)
 
 pub denies : Nsec3ChainDenies

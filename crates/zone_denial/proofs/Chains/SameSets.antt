@@ -152,7 +152,7 @@ keep_sets chain m n t p = set_same chain m n t p
 pub keep_names : ChainSetsKeepNames
 keep_names chain origin m n = record {
   exists = exists_same chain m n;
-  star = asked_same chain m n;
+  wildcard_name = asked_same chain m n;
   cut = below_cut_same chain origin m n;
   dname = below_dname_same chain m n;
 }

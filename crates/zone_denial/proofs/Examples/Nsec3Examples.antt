@@ -150,9 +150,9 @@ below = refl
 abbrev starred : Sets
 starred = linked table (start ∷ public_key ∷ address a ∷ address (wildcard_under origin) ∷ [])
 
-star_told : nsec3_denial starred (hashed_by table) false (codes "x" ∷ b)
+wildcard_told : nsec3_denial starred (hashed_by table) false (codes "x" ∷ b)
     ≡ Ok (says (64 ∷ []) (96 ∷ []) (SOA ∷ RRSIG ∷ DNSKEY ∷ NSEC3PARAM ∷ []) ∷ says (96 ∷ []) (128 ∷ []) (A ∷ RRSIG ∷ []) ∷ says (128 ∷ []) (64 ∷ []) (A ∷ RRSIG ∷ []) ∷ [])
-star_told = refl
+wildcard_told = refl
 
 -- where a wildcard answered: what covers the next closer name alone
 answered_by_wildcard : nsec3_denial hosts (hashed_by table) true b ≡ Ok (host_set ∷ [])
@@ -164,12 +164,12 @@ unlinked = refl
 
 -- ---- refusals of the hash
 
-abbrev no_star : List (Name × List ℕ)
-no_star = (origin, 64 ∷ []) ∷ (a, 128 ∷ []) ∷ (b, 32 ∷ []) ∷ []
+abbrev no_wildcard_name : List (Name × List ℕ)
+no_wildcard_name = (origin, 64 ∷ []) ∷ (a, 128 ∷ []) ∷ (b, 32 ∷ []) ∷ []
 
 -- the wildcard is hashed last
-star_refused : nsec3_denial hosts (hashed_by no_star) false b ≡ Err Hash
-star_refused = refl
+wildcard_refused : nsec3_denial hosts (hashed_by no_wildcard_name) false b ≡ Err Hash
+wildcard_refused = refl
 
 -- the queried name is hashed first
 abbrev long_name : List (Name × List ℕ)

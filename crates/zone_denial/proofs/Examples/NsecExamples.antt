@@ -191,14 +191,14 @@ below_empty = refl
 
 -- ---- with a wildcard, whose own set tells of it
 
-abbrev star : Name
-star = at_origin (codes "*")
+abbrev wildcard_name : Name
+wildcard_name = at_origin (codes "*")
 
 abbrev starred : Sets
-starred = start ∷ public_key ∷ address star ∷ address (at_origin (codes "c")) ∷ []
+starred = start ∷ public_key ∷ address wildcard_name ∷ address (at_origin (codes "c")) ∷ []
 
-star_told : nsec_denial origin (linked starred) (codes "x" ∷ at_origin (codes "d")) ≡ says star (at_origin (codes "c")) (A ∷ RRSIG ∷ NSEC ∷ []) ∷ hosts_c ∷ []
-star_told = refl
+wildcard_told : nsec_denial origin (linked starred) (codes "x" ∷ at_origin (codes "d")) ≡ says wildcard_name (at_origin (codes "c")) (A ∷ RRSIG ∷ NSEC ∷ []) ∷ hosts_c ∷ []
+wildcard_told = refl
 
 -- ---- a name that has nothing but a set of NSEC leaves the circle
 

@@ -18,26 +18,26 @@ use Rattle.zone_denial.proofs.Examples.Nsec3Examples.{parameters, announced, b}
 abbrev below_b : Name
 below_b = codes "x" ∷ b
 
-abbrev star : Name
-star = wildcard_under origin
+abbrev wildcard_name : Name
+wildcard_name = wildcard_under origin
 
 -- ---- NSEC, and a wildcard that owns nothing but NSEC3: it doesn't exist, so that there is no name b, but it is on the
 -- circle
 
-abbrev foreign_star : Sets
-foreign_star = linked (start ∷ entry star NSEC3 (V.NSEC3 (nsec3_data parameters [] [])) ∷ [])
+abbrev foreign_wildcard : Sets
+foreign_wildcard = linked (start ∷ entry wildcard_name NSEC3 (V.NSEC3 (nsec3_data parameters [] [])) ∷ [])
 
-foreign_star_absent : owns_at_or_below foreign_star b ≡ false
-foreign_star_absent = refl
+foreign_wildcard_absent : owns_at_or_below foreign_wildcard b ≡ false
+foreign_wildcard_absent = refl
 
-foreign_star_gone : asked_wildcard_exists foreign_star b ≡ false
-foreign_star_gone = refl
+foreign_wildcard_gone : asked_wildcard_exists foreign_wildcard b ≡ false
+foreign_wildcard_gone = refl
 
-foreign_star_encloser : nsec_encloser origin foreign_star b ≡ origin
-foreign_star_encloser = refl
+foreign_wildcard_encloser : nsec_encloser origin foreign_wildcard b ≡ origin
+foreign_wildcard_encloser = refl
 
-foreign_star_on : owns foreign_star star NSEC ≡ true
-foreign_star_on = refl
+foreign_wildcard_on : owns foreign_wildcard wildcard_name NSEC ≡ true
+foreign_wildcard_on = refl
 
 -- ---- NSEC, and a name b that owns nothing but NSEC3: it is the encloser of x.b for a denial, and not for a search
 
@@ -54,7 +54,7 @@ foreign_name_searched = refl
 -- the origin has a set
 
 abbrev starred : Sets
-starred = linked (start ∷ address star ∷ [])
+starred = linked (start ∷ address wildcard_name ∷ [])
 
 starred_absent : owns_at_or_below starred (wildcard_under b) ≡ false
 starred_absent = refl
@@ -65,7 +65,7 @@ starred_unasked = refl
 starred_encloser : nsec_encloser origin starred (wildcard_under b) ≡ origin
 starred_encloser = refl
 
-starred_on : owns starred star NSEC ≡ true
+starred_on : owns starred wildcard_name NSEC ≡ true
 starred_on = refl
 
 -- ---- below an inner name that owns NS and SOA: a search asks the wildcard *.b.sub for x.b.sub, and the circle has sub
@@ -93,7 +93,7 @@ inner_searched = refl
 -- it, but the circle has the origin as its encloser, and the wildcard
 
 abbrev opted_out : Sets
-opted_out = announced (start ∷ address star ∷ entry (codes "c" ∷ b) NS (V.NS (codes "ns" ∷ b)) ∷ [])
+opted_out = announced (start ∷ address wildcard_name ∷ entry (codes "c" ∷ b) NS (V.NS (codes "ns" ∷ b)) ∷ [])
 
 opted_out_absent : owns_at_or_below opted_out below_b ≡ false
 opted_out_absent = refl
@@ -104,7 +104,7 @@ opted_out_asked = refl
 opted_out_gone : asked_wildcard_exists opted_out below_b ≡ false
 opted_out_gone = refl
 
-opted_out_names : nsec3_names origin opted_out true ≡ origin ∷ star ∷ []
+opted_out_names : nsec3_names origin opted_out true ≡ origin ∷ wildcard_name ∷ []
 opted_out_names = refl
 
 opted_out_encloser : closest_encloser origin opted_out true below_b ≡ Some origin
@@ -116,17 +116,17 @@ opted_in_encloser = refl
 
 -- ---- NSEC3, and a wildcard that owns nothing but NSEC: it doesn't exist, and is on the circle
 
-abbrev other_star : Sets
-other_star = announced (start ∷ entry star NSEC (V.NSEC (record { next_domain_name = origin; types = [] })) ∷ [])
+abbrev other_wildcard : Sets
+other_wildcard = announced (start ∷ entry wildcard_name NSEC (V.NSEC (record { next_domain_name = origin; types = [] })) ∷ [])
 
-other_star_absent : owns_at_or_below other_star b ≡ false
-other_star_absent = refl
+other_wildcard_absent : owns_at_or_below other_wildcard b ≡ false
+other_wildcard_absent = refl
 
-other_star_gone : asked_wildcard_exists other_star b ≡ false
-other_star_gone = refl
+other_wildcard_gone : asked_wildcard_exists other_wildcard b ≡ false
+other_wildcard_gone = refl
 
-other_star_names : nsec3_names origin other_star false ≡ origin ∷ star ∷ []
-other_star_names = refl
+other_wildcard_names : nsec3_names origin other_wildcard false ≡ origin ∷ wildcard_name ∷ []
+other_wildcard_names = refl
 
-other_star_encloser : closest_encloser origin other_star false b ≡ Some origin
-other_star_encloser = refl
+other_wildcard_encloser : closest_encloser origin other_wildcard false b ≡ Some origin
+other_wildcard_encloser = refl

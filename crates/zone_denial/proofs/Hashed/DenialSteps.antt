@@ -200,22 +200,22 @@ module _ {E : Type 0} (m : Sets) (zone : IsZone m) (hashed : Name → Result Nam
       by None own = owns_cover h
       by (Some o) own = own
 
-  pub found_star : (a : Name) (sets : List RRset) → sets_of m (wildcard_part m hashed a) ≡ Ok sets → AreFound (wildcard_part m hashed a) sets
-  found_star a sets e = found_with (λ h. option_or (match_owner m h) (cover_owner m h)) owns_either (hashed (wildcard_under a)) sets e
+  pub found_wildcard : (a : Name) (sets : List RRset) → sets_of m (wildcard_part m hashed a) ≡ Ok sets → AreFound (wildcard_part m hashed a) sets
+  found_wildcard a sets e = found_with (λ h. option_or (match_owner m h) (cover_owner m h)) owns_either (hashed (wildcard_under a)) sets e
 
   -- these in order are the answer where no wildcard answered
-  pub enclosed_answers : (q a c : Name) → next_closer q a ≡ Some c → (closer encloser star : List RRset) → sets_of m (cover_of m hashed c) ≡ Ok closer → sets_of m (match_of m hashed a) ≡ Ok encloser
-      → sets_of m (wildcard_part m hashed a) ≡ Ok star → enclosed_sets m hashed false q (Some a) ≡ Ok (in_order owner_cmp (encloser ++ closer ++ star))
-  enclosed_answers q a c is closer encloser star e f g =
+  pub enclosed_answers : (q a c : Name) → next_closer q a ≡ Some c → (closer encloser wildcard_name : List RRset) → sets_of m (cover_of m hashed c) ≡ Ok closer → sets_of m (match_of m hashed a) ≡ Ok encloser
+      → sets_of m (wildcard_part m hashed a) ≡ Ok wildcard_name → enclosed_sets m hashed false q (Some a) ≡ Ok (in_order owner_cmp (encloser ++ closer ++ wildcard_name))
+  enclosed_answers q a c is closer encloser wildcard_name e f g =
       let k = found_cover c closer e in
       let n = found_match a encloser f in
-      let s = found_star a star g in
+      let s = found_wildcard a wildcard_name g in
       let sorted = λ (r : Result (List Name) E). sets_of m (result_and_then (λ owners. Ok (in_order name_cmp owners)) r) in
       let part = wildcard_part m hashed a in
-      ap (λ o. sorted (result_and_then (λ closer. result_and_then (λ encloser. result_and_then (λ star. Ok (encloser ++ closer ++ star)) part) (match_of m hashed a)) (option_map_or (cover_of m hashed) o (Ok [])))) is
-      ∙ ap (λ r. sorted (result_and_then (λ closer. result_and_then (λ encloser. result_and_then (λ star. Ok (encloser ++ closer ++ star)) part) (match_of m hashed a)) r)) k.is
-      ∙ ap (λ r. sorted (result_and_then (λ encloser. result_and_then (λ star. Ok (encloser ++ k.owners ++ star)) part) r)) n.is
-      ∙ ap (λ r. sorted (result_and_then (λ star. Ok (n.owners ++ k.owners ++ star)) r)) s.is
+      ap (λ o. sorted (result_and_then (λ closer. result_and_then (λ encloser. result_and_then (λ wildcard_name. Ok (encloser ++ closer ++ wildcard_name)) part) (match_of m hashed a)) (option_map_or (cover_of m hashed) o (Ok [])))) is
+      ∙ ap (λ r. sorted (result_and_then (λ closer. result_and_then (λ encloser. result_and_then (λ wildcard_name. Ok (encloser ++ closer ++ wildcard_name)) part) (match_of m hashed a)) r)) k.is
+      ∙ ap (λ r. sorted (result_and_then (λ encloser. result_and_then (λ wildcard_name. Ok (encloser ++ k.owners ++ wildcard_name)) part) r)) n.is
+      ∙ ap (λ r. sorted (result_and_then (λ wildcard_name. Ok (n.owners ++ k.owners ++ wildcard_name)) r)) s.is
       ∙ ap Ok (sets_in_order m zone (n.owners ++ k.owners ++ s.owners) (both (n.owners ++ k.owners) s.owners (both n.owners k.owners n.own k.own) s.own) ∙ ap (in_order owner_cmp) (parts n.owners k.owners s.owners n.are k.are s.are))
     where
       both : (xs ys : List Name) → AllOwn m zone xs → AllOwn m zone ys → AllOwn m zone (xs ++ ys)
@@ -225,8 +225,8 @@ module _ {E : Type 0} (m : Sets) (zone : IsZone m) (hashed : Name → Result Nam
           by (inl j) = h o j
           by (inr j) = k o j
 
-      parts : (xs ys zs : List Name) → filter_map (λ o. set_at m o NSEC3) xs ≡ encloser → filter_map (λ o. set_at m o NSEC3) ys ≡ closer → filter_map (λ o. set_at m o NSEC3) zs ≡ star
-          → filter_map (λ o. set_at m o NSEC3) (xs ++ ys ++ zs) ≡ encloser ++ closer ++ star
+      parts : (xs ys zs : List Name) → filter_map (λ o. set_at m o NSEC3) xs ≡ encloser → filter_map (λ o. set_at m o NSEC3) ys ≡ closer → filter_map (λ o. set_at m o NSEC3) zs ≡ wildcard_name
+          → filter_map (λ o. set_at m o NSEC3) (xs ++ ys ++ zs) ≡ encloser ++ closer ++ wildcard_name
       parts xs ys zs h k l =
           filter_map-append (λ o. set_at m o NSEC3) (xs ++ ys) zs ∙ ap (λ rs. rs ++ filter_map (λ o. set_at m o NSEC3) zs) (filter_map-append (λ o. set_at m o NSEC3) xs ys)
           ∙ (λ i. (h i ++ k i) ++ l i)
@@ -247,18 +247,18 @@ module _ (m : Sets) (hashed : Name → Result Name ProtoError) (whole n above : 
 -- ---- the wildcard at the encloser
 
 -- it is the next closer name with `*` for its first label
-closer_star : (q n : Name) → next_closer q (base_name n) ≡ Some n → wildcard_of n ≡ wildcard_under (base_name n)
-closer_star q [] closer = absurd (true≢false (sym (found_above (λ s. length s == 1) q [] closer).1))
-closer_star q (l ∷ ls) closer = refl
+closer_wildcard : (q n : Name) → next_closer q (base_name n) ≡ Some n → wildcard_of n ≡ wildcard_under (base_name n)
+closer_wildcard q [] closer = absurd (true≢false (sym (found_above (λ s. length s == 1) q [] closer).1))
+closer_wildcard q (l ∷ ls) closer = refl
 
 module _ {E : Type 0} (m : Sets) (hashed : Name → Result Name E) (q n : Name) (closer : next_closer q (base_name n) ≡ Some n) where
-  star_is : (r : Result Name E) → hashed (wildcard_of n) ≡ r → wildcard_part m hashed (base_name n) ≡ result_and_then (λ h. Ok (option_to_list (option_or (match_owner m h) (cover_owner m h)))) r
-  star_is r is = ap (result_and_then (λ h. Ok (option_to_list (option_or (match_owner m h) (cover_owner m h))))) (ap hashed (sym (closer_star q n closer)) ∙ is)
+  wildcard_name_is : (r : Result Name E) → hashed (wildcard_of n) ≡ r → wildcard_part m hashed (base_name n) ≡ result_and_then (λ h. Ok (option_to_list (option_or (match_owner m h) (cover_owner m h)))) r
+  wildcard_name_is r is = ap (result_and_then (λ h. Ok (option_to_list (option_or (match_owner m h) (cover_owner m h))))) (ap hashed (sym (closer_wildcard q n closer)) ∙ is)
 
   -- what matches it or else what covers it was found
-  pub star_found : (h : Name) (sets : List RRset) → hashed (wildcard_of n) ≡ Ok h → sets ≡ filter_map (λ o. set_at m o NSEC3) (option_to_list (option_or (match_owner m h) (cover_owner m h)))
+  pub wildcard_found : (h : Name) (sets : List RRset) → hashed (wildcard_of n) ≡ Ok h → sets ≡ filter_map (λ o. set_at m o NSEC3) (option_to_list (option_or (match_owner m h) (cover_owner m h)))
       → sets_of m (wildcard_part m hashed (base_name n)) ≡ Ok sets
-  star_found h sets is found = ap (sets_of m) (star_is (Ok h) is) ∙ ap Ok (sym found)
+  wildcard_found h sets is found = ap (sets_of m) (wildcard_name_is (Ok h) is) ∙ ap Ok (sym found)
 
 -- ---- when the name's own set isn't the answer
 

@@ -107,7 +107,7 @@ module _ {origin : Name} {m : Sets} {hash : Name → Option (List ℕ)} {paramet
   -- with the encloser a: what matches it, what covers the next closer name, and the wildcard's part
   abbrev enclosed_with : (Name → Result (List Name) ProtoError) → Name → Result (List Name) ProtoError
   enclosed_with part a =
-      result_and_then (λ closer. result_and_then (λ encloser. result_and_then (λ star. Ok (encloser ++ closer ++ star)) (part a)) (match_of m hashed a))
+      result_and_then (λ closer. result_and_then (λ encloser. result_and_then (λ wildcard_name. Ok (encloser ++ closer ++ wildcard_name)) (part a)) (match_of m hashed a))
       (option_map_or (cover_of m hashed) (next_closer x a) (Ok []))
 
   module _ (with_encloser : Option Name → Result (List Name) ProtoError) (part : Name → Result (List Name) ProtoError) (with_some : (a : Name) → with_encloser (Some a) ≡ enclosed_with part a) where
@@ -142,21 +142,21 @@ module _ {origin : Name} {m : Sets} {hash : Name → Option (List ℕ)} {paramet
         )
 
     -- off it: the sets of these owners
-    pub record IsEnclosing (a c : Name) (star : List Name) (answer : List RRset) : Type 0 where
+    pub record IsEnclosing (a c : Name) (wildcard_name : List Name) (answer : List RRset) : Type 0 where
       pub given : denial ≡ Ok answer
       pub cover : Name
       pub is_cover : IsCover zone apart c cover
-      pub has : (o : Name) → In o (owner zone apart a ∷ owner zone apart cover ∷ star) → Has answer o
+      pub has : (o : Name) → In o (owner zone apart a ∷ owner zone apart cover ∷ wildcard_name) → Has answer o
 
-    pub answer_off : (In x names → ⊥) → (a c : Name) → IsEnclosed origin m parameters.opt_out x a c → (star : List Name) → part a ≡ Ok star → (answer : List RRset) × IsEnclosing a c star answer
-    answer_off off a c e star star_is =
+    pub answer_off : (In x names → ⊥) → (a c : Name) → IsEnclosed origin m parameters.opt_out x a c → (wildcard_name : List Name) → part a ≡ Ok wildcard_name → (answer : List RRset) × IsEnclosing a c wildcard_name answer
+    answer_off off a c e wildcard_name wildcard_name_is =
         let cover = has_cover zone apart c (closer_hashed a c e) e.off in
-        let owners : List Name = owner zone apart a ∷ owner zone apart cover.0 ∷ star in
+        let owners : List Name = owner zone apart a ∷ owner zone apart cover.0 ∷ wildcard_name in
         let closer_is : option_map_or (cover_of m hashed) (next_closer x a) (Ok []) ≡ Ok (owner zone apart cover.0 ∷ []) =
         ap (λ o. option_map_or (cover_of m hashed) o (Ok [])) e.is_closer ∙ cover_is c cover.0 (closer_hashed a c e) cover.1 in
         let made : with_encloser (Some a) ≡ Ok owners =
         with_some a
-        ∙ (λ i. result_and_then (λ closer. result_and_then (λ encloser. result_and_then (λ star. Ok (encloser ++ closer ++ star)) (star_is i)) (match_is a e.on i)) (closer_is i)) in
+        ∙ (λ i. result_and_then (λ closer. result_and_then (λ encloser. result_and_then (λ wildcard_name. Ok (encloser ++ closer ++ wildcard_name)) (wildcard_name_is i)) (match_is a e.on i)) (closer_is i)) in
         let rest : of_encloser ≡ Ok (in_order name_cmp owners) =
         ap (result_and_then (λ encloser. result_and_then (λ owners. Ok (in_order name_cmp owners)) (with_encloser encloser))) (encloser_is a c e)
         ∙ ap (result_and_then (λ owners. Ok (in_order name_cmp owners))) made in
@@ -175,9 +175,9 @@ module _ {origin : Name} {m : Sets} {hash : Name → Option (List ℕ)} {paramet
         unnamed false h = h
 
     -- both, where the wildcard's part is no refusal
-    pub answer_is : is_at_or_above origin x ≡ true → ((a : Name) → Hashed (wildcard_under a) → (star : List Name) × (part a ≡ Ok star))
+    pub answer_is : is_at_or_above origin x ≡ true → ((a : Name) → Hashed (wildcard_under a) → (wildcard_name : List Name) × (part a ≡ Ok wildcard_name))
         → (answer : List RRset) × (denial ≡ Ok answer) × FindsOrEncloses origin m hash parameters.opt_out x answer
-    answer_is inside star_is = by (on_circle x) refl
+    answer_is inside wildcard_name_is = by (on_circle x) refl
       where
         by : (b : Bool) → on_circle x ≡ b → (answer : List RRset) × (denial ≡ Ok answer) × FindsOrEncloses origin m hash parameters.opt_out x answer
         by true e =
@@ -187,8 +187,8 @@ module _ {origin : Name} {m : Sets} {hash : Name → Option (List ℕ)} {paramet
         by false e =
             let off = λ (i : In x names). true≢false (sym (in_named origin m parameters.opt_out x i) ∙ e) in
             let n = enclosed_off origin m parameters.opt_out x inside off in
-            let star = star_is n.0 (wildcard_hashed n.0 n.1 n.2) in
-            let r = answer_off off n.0 n.1 n.2 star.0 star.1 in (
+            let wildcard_name = wildcard_name_is n.0 (wildcard_hashed n.0 n.1 n.2) in
+            let r = answer_off off n.0 n.1 n.2 wildcard_name.0 wildcard_name.1 in (
               r.0,
               r.1.given,
               record {
@@ -198,14 +198,14 @@ module _ {origin : Name} {m : Sets} {hash : Name → Option (List ℕ)} {paramet
             )
 
   -- the owners of the wildcard's part: of what matches the wildcard, or else of what covers it
-  abbrev pub star_owners : Name → List Name
-  star_owners a = option_to_list (option_or (match_owner m (owner zone apart (wildcard_under a))) (cover_owner m (owner zone apart (wildcard_under a))))
+  abbrev pub wildcard_owners : Name → List Name
+  wildcard_owners a = option_to_list (option_or (match_owner m (owner zone apart (wildcard_under a))) (cover_owner m (owner zone apart (wildcard_under a))))
 
   -- it is no refusal where the wildcard is hashed
-  pub star_answered : (a : Name) → Hashed (wildcard_under a) → wildcard_part m hashed a ≡ Ok (star_owners a)
-  star_answered a h = ap (result_and_then (λ h. Ok (option_to_list (option_or (match_owner m h) (cover_owner m h))))) (is_owner zone apart (wildcard_under a) h)
+  pub wildcard_answered : (a : Name) → Hashed (wildcard_under a) → wildcard_part m hashed a ≡ Ok (wildcard_owners a)
+  wildcard_answered a h = ap (result_and_then (λ h. Ok (option_to_list (option_or (match_owner m h) (cover_owner m h))))) (is_owner zone apart (wildcard_under a) h)
 
 pub finds_or_encloses : Nsec3DenialFindsOrEncloses
 finds_or_encloses origin m hash parameters zone x inside apart =
     let hashed : Name → Result Name ProtoError = λ n. owner_or_refusal origin (hash n) in
-    answer_is zone apart (enclosed m hashed false x) (wildcard_part m hashed) (λ a. refl) inside (λ a h. (star_owners zone apart a, star_answered zone apart a h))
+    answer_is zone apart (enclosed m hashed false x) (wildcard_part m hashed) (λ a. refl) inside (λ a h. (wildcard_owners zone apart a, wildcard_answered zone apart a h))

@@ -212,8 +212,8 @@ module _ (origin : Name) (m : Sets) (c : ℕ) (P : Name → Bool) (test : IsEncl
         by (apart d k v) = absurd (true≢false (sym (cut_by origin m c d x k.below k.delegates (above_below d e x v (above_at e x there.above))) ∙ uncut))
 
     -- where the wildcard at e doesn't exist, no authoritative name is at or below the wildcard at a
-    pub no_star : exists m (wildcard_under e) ≡ false → (b : Name) → is_authoritative origin m c b ≡ true → IsAtOrAbove (wildcard_under a) b → ⊥
-    no_star gone b h s = by enclosers
+    pub no_wildcard_name : exists m (wildcard_under e) ≡ false → (b : Name) → is_authoritative origin m c b ≡ true → IsAtOrAbove (wildcard_under a) b → ⊥
+    no_wildcard_name gone b h s = by enclosers
       where
         by : Enclosers → ⊥
         by (one q) = true≢false (sym (above_authority (wildcard_under a) b h s) ∙ ap (λ n. exists m (wildcard_under n)) q ∙ gone)

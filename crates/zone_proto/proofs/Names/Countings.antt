@@ -95,8 +95,8 @@ two_left : (k b : ℕ) (l : Label) (s : List ℕ) → (x : ℕ) × (y : ℕ) × 
 two_left k b [] s = (k, b, refl)
 two_left k b (c ∷ l) s = two_left b c l s
 
-star_valid : IsLabel (42 ∷ [])
-star_valid = record { some = omega arith; short = omega arith; octets = (omega arith, tt) }
+wildcard_valid : IsLabel (42 ∷ [])
+wildcard_valid = record { some = omega arith; short = omega arith; octets = (omega arith, tt) }
 
 pub starred_front : (s t : List ℕ) (count : ℕ) → IsCounting s (counted_name s) → (s ≡ [] → ⊥) → count ≡ get_or s 0 0
     → t ≡ set (set (drop (count - 1) s) 0 1) 1 42 → IsOf t (wildcard_of (counted_name s))
@@ -109,5 +109,5 @@ starred_front s t count h some e starring = by s (counted_name s) some e starrin
     by s ((b ∷ l) ∷ n) some e starring valid octets =
         let size : count - 1 ≡ length l = omega (arith, e, ap (λ z. get_or z 0 0) octets) in
         let left = two_left (suc (length l)) b l (counting n) in
-        is_of t ((42 ∷ []) ∷ n) (star_valid, valid.1)
+        is_of t ((42 ∷ []) ∷ n) (wildcard_valid, valid.1)
         (starring ∙ (λ i. set (set (drop (size i) (octets i)) 0 1) 1 42) ∙ ap (λ z. set (set z 0 1) 1 42) left.2)

@@ -129,7 +129,7 @@ split_gives s at h some e = by (name_of s) refl h.octets
         let base : name_of (take at s) ≡ n = ap (λ k. name_of (take k s)) e ∙ base_name_of s h ∙ ap (drop 1) same in
         same ∙ λ i. sym (first_octets s l n at octets here) i ∷ sym base i
 
-pub star_fits : (s : List ℕ) (n : Name) (at : ℕ) → s ≡ packing n → IsName n → (s ≡ [] → ⊥) → at ≡ before_first n → at + 1 < length s
-star_fits s [] at e v some h = absurd (some e)
-star_fits s (l ∷ n) at e v some h =
+pub wildcard_fits : (s : List ℕ) (n : Name) (at : ℕ) → s ≡ packing n → IsName n → (s ≡ [] → ⊥) → at ≡ before_first n → at + 1 < length s
+wildcard_fits s [] at e v some h = absurd (some e)
+wildcard_fits s (l ∷ n) at e v some h =
     omega (arith, v.labels.0.some, h, ap length e, length-append (packing n) (l ++ 0 ∷ []), length-append l (0 ∷ []))

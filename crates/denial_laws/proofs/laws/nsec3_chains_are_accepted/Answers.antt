@@ -1,6 +1,6 @@
 use Rattle.denial_laws.proofs.Chains.Nsec3Accepted.{nsec3_denial_accepted, nsec3_wildcard_answer_accepted}
 use Rattle.denial_laws.proofs.Chains.Nsec3Calls.{nsec3_parameters_found}
-use Rattle.denial_laws.proofs.Chains.Nsec3EmptyAnswers.{nsec3_starred_error_accepted}
+use Rattle.denial_laws.proofs.Chains.Nsec3EmptyAnswers.{nsec3_wildcard_error_accepted}
 use Rattle.denial_laws.proofs.Chains.Nsec3LeftOut.{nsec3_opt_out_sound}
 use Rattle.denial_laws.proofs.Chains.Nsec3Silence.{nsec3_nothing_below_cut, nsec3_own_nothing_below_cut, nsec3_answers_below_cut}
 use Rattle.denial_laws.proofs.Chains.Nsec3Soundness.{nsec3_records_sound, nsec3_unsigned_delegation_sound}
@@ -13,7 +13,7 @@ pub returns-clause-wildcard : goal.returns-clause-wildcard
 returns-clause-wildcard c = nsec3_wildcard_answer_accepted
 
 pub returns-clause-asterisk : goal.returns-clause-asterisk
-returns-clause-asterisk c = nsec3_starred_error_accepted
+returns-clause-asterisk c = nsec3_wildcard_error_accepted
 
 pub returns-clause-sound : goal.returns-clause-sound
 returns-clause-sound c = nsec3_records_sound

@@ -1,6 +1,6 @@
 use Rattle.denial_laws.proofs.Chains.Accepted.{denial_accepted}
 use Rattle.denial_laws.proofs.Chains.EmptyAnswers.{empty_accepted}
-use Rattle.denial_laws.proofs.Chains.NameErrors.{starred_error_accepted}
+use Rattle.denial_laws.proofs.Chains.NameErrors.{wildcard_error_accepted}
 use Rattle.denial_laws.proofs.Chains.Silence.{nothing_below_cut}
 use Rattle.denial_laws.proofs.Chains.Soundness.{records_sound, unsigned_delegation_sound}
 use Rattle.denial_laws.proofs.laws.nsec_chains_are_accepted.Goals as goal
@@ -9,7 +9,7 @@ pub returns-clause-accepted : goal.returns-clause-accepted
 returns-clause-accepted c = denial_accepted
 
 pub returns-clause-asterisk : goal.returns-clause-asterisk
-returns-clause-asterisk c = starred_error_accepted
+returns-clause-asterisk c = wildcard_error_accepted
 
 pub returns-clause-empty : goal.returns-clause-empty
 returns-clause-empty c = empty_accepted

@@ -1,7 +1,7 @@
 use Rattle.std.proofs.Common.{◌≡◌, drop, sym, ap, ◌∙◌, subst}
 use Rattle.zone_proto.specs.Names.{IsAbove, wildcard_under}
 use Rattle.zone_denial.specs.NsecDenial.{nsec_encloser}
-use Rattle.zone_denial.proofs.Chain.NsecEnclosers.{star_found, goes_below, goes_on}
+use Rattle.zone_denial.proofs.Chain.NsecEnclosers.{wildcard_found, goes_below, goes_on}
 use Rattle.zone_denial.proofs.denial.enclosed_wildcard.Goals as goal
 
 pub loop-next_closer-preserved : goal.loop-next_closer-preserved
@@ -22,7 +22,7 @@ loop-next_closer-preserved c =
 pub returns : goal.returns
 returns c = record {
   ok = c.into_wildcard.ensures
-      ∙ star_found c.args.origin.now c.args.records.now c.loop-next_closer.next_closer c.loop-next_closer.above c.loop-next_closer.invariant.above c.loop-next_closer.invariant.below
+      ∙ wildcard_found c.args.origin.now c.args.records.now c.loop-next_closer.next_closer c.loop-next_closer.above c.loop-next_closer.invariant.above c.loop-next_closer.invariant.below
       (sym c.encloses.ensures ∙ c.loop-next_closer-test.false)
       ∙ ap wildcard_under (sym c.loop-next_closer.invariant.encloser);
   err = tt;

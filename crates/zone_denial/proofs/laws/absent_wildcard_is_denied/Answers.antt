@@ -1,4 +1,4 @@
-use Rattle.zone_denial.proofs.Chain.NsecAskedStar.{absent_wildcard_is_denied}
+use Rattle.zone_denial.proofs.Chain.NsecAskedWildcard.{absent_wildcard_is_denied}
 use Rattle.zone_denial.proofs.laws.absent_wildcard_is_denied.Goals as goal
 
 pub returns : goal.returns

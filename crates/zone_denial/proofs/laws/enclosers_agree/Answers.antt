@@ -1,8 +1,8 @@
-use Rattle.zone_denial.proofs.Chain.NsecAskedStar.{enclosers_agree, proved_star_is_asked}
+use Rattle.zone_denial.proofs.Chain.NsecAskedWildcard.{enclosers_agree, proved_wildcard_is_asked}
 use Rattle.zone_denial.proofs.laws.enclosers_agree.Goals as goal
 
 pub returns-clause-encloser : goal.returns-clause-encloser
 returns-clause-encloser c = enclosers_agree
 
 pub returns-clause-wildcard : goal.returns-clause-wildcard
-returns-clause-wildcard c = proved_star_is_asked
+returns-clause-wildcard c = proved_wildcard_is_asked

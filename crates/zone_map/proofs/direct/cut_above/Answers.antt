@@ -19,4 +19,4 @@ returns-clause-found c =
     ap (λ b. not (is_root n || is_wildcard n || b)) (sym c.exists-exists.ensures) ∙ sym c.asks_wildcard.ensures ∙ c.if-asks_wildcard.false in
     subst (FindsAbove m n) (sym c.referred_or.ensures)
     (by_set c.referral_above.result _ (FindsAbove m n) (referral_above m (drop 1 n)) (c.referral_above.ensures ∙ ap (referral_above m) c.shorten.ensures) (λ s e. e)
-    (λ e. (e, record { known = c.exists-exists.ensures; star = unasked m n unasked_for })))
+    (λ e. (e, record { known = c.exists-exists.ensures; wildcard_name = unasked m n unasked_for })))

@@ -6,7 +6,7 @@ use Rattle.zone_map.specs.Walks.{referral_above, IsChild, FindsAbove}
 use Rattle.zone_map.specs.Wildcards.{exists}
 use Rattle.zone_map.specs.Zones.{Sets}
 use Rattle.zone_map.proofs.ExistingNames.{above_encloser}
-use Rattle.zone_map.proofs.NearestNames.{absent_where_asked, asked_of_nearest, unreferred_without, star_of_nearest, by_set}
+use Rattle.zone_map.proofs.NearestNames.{absent_where_asked, asked_of_nearest, unreferred_without, wildcard_of_nearest, by_set}
 use Rattle.zone_map.proofs.direct.cut_above_absent.Goals as goal
 
 -- a name for which a wildcard is asked isn't the root, so that it is the child of its parent
@@ -25,7 +25,7 @@ returns-in_default-clause-found c =
     let n = c.args.name in
     let above = ap (λ (k : RrKey). k.name) c.new-above.ensures.value ∙ c.in_ok-base_name.ensures.ok in
     let none : find (exists m) (suffixes (drop 1 n)) ≡ None = ap (λ a. find (exists m) (suffixes a)) (sym above) ∙ sym c.in_default.ensures.name in
-    (unreferred_without m (drop 1 n) none, record { known = sym (absent_where_asked m n c.requires.asked); star = sym (asked_of_nearest m n None c.requires.asked none) })
+    (unreferred_without m (drop 1 n) none, record { known = sym (absent_where_asked m n c.requires.asked); wildcard_name = sym (asked_of_nearest m n None c.requires.asked none) })
 
 pub returns-clause-found : goal.returns-clause-found
 returns-clause-found c =
@@ -34,7 +34,7 @@ returns-clause-found c =
     let nearest = c.nearest_existing.new.key.name in
     let above = ap (λ (k : RrKey). k.name) c.new-above.ensures.value ∙ c.in_ok-base_name.ensures.ok in
     let there : find (exists m) (suffixes (drop 1 n)) ≡ Some nearest = ap (λ a. find (exists m) (suffixes a)) (sym above) ∙ sym c.in-Some.ensures.name in
-    let star = star_of_nearest m n nearest c.nearest_existing.new.longer c.requires.asked there c.in-Some.ensures.longer in
+    let wildcard_name = wildcard_of_nearest m n nearest c.nearest_existing.new.longer c.requires.asked there c.in-Some.ensures.longer in
     subst (FindsAbove m n) (sym c.referred_or.ensures)
     (by_set c.referral_from.result _ (FindsAbove m n) (referral_above m (drop 1 n)) (c.referral_from.ensures ∙ sym (above_encloser m (drop 1 n) nearest there)) (λ s e. e)
-    (λ e. (e, record { known = sym (absent_where_asked m n c.requires.asked); star = star })))
+    (λ e. (e, record { known = sym (absent_where_asked m n c.requires.asked); wildcard_name = wildcard_name })))

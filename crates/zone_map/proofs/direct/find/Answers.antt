@@ -31,7 +31,7 @@ returns-in-Apex-clause-found c =
     subst (λ (k : RrKey). FindsDirect m k.name t c.found_at_apex.result) c.new-least.ensures.value
     (subst (FindsDirect m n t) (sym c.found_at_apex.ensures)
     (by_set c.at_name-here.result.exact _ (FindsDirect m n t) (exact m n t) c.at_name-here.ensures.exact (λ s e. direct_own m n t None own ∙ e)
-    (λ e. (direct_own m n t None own ∙ e, record { known = delegated_exists m n t None own; star = delegated_asks_none m n t None own }))))
+    (λ e. (direct_own m n t None own ∙ e, record { known = delegated_exists m n t None own; wildcard_name = delegated_asks_none m n t None own }))))
 
 pub returns-in-Some-clause-found : goal.returns-in-Some-clause-found
 returns-in-Some-clause-found c =

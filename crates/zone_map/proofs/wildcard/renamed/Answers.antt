@@ -12,7 +12,7 @@ use Rattle.zone_map.proofs.wildcard.renamed.Goals.{then-signed+else-loop-rrsig-t
 pub insert_rrsig-requires : goal.insert_rrsig-requires
 insert_rrsig-requires c =
     let stored : type_of c.rrsig-item.result.rdata ≡ RRSIG = search rules in
-    record { kind = ap (λ (r : Record). type_of r.rdata) c.in_ok-renamed_signature.ensures.made ∙ ap type_of (renamed_data c.args.star.now c.args.name.now c.rrsig-item.result) ∙ stored }
+    record { kind = ap (λ (r : Record). type_of r.rdata) c.in_ok-renamed_signature.ensures.made ∙ ap type_of (renamed_data c.args.wildcard_name.now c.args.name.now c.rrsig-item.result) ∙ stored }
 
 pub returns-clause-made : goal.returns-clause-made
 returns-clause-made c =
@@ -23,8 +23,8 @@ returns-clause-made c =
       | then-signed+else-loop-rrsig-test w ↦
           let all : length w.rrsigs-rrsig-items.result.now ≤ w.loop-rrsig.rrsig-index = omega (arith, w.loop-rrsig-test.false) in
           w.made-is ∙ w.loop-rrsig.invariant
-          ∙ ap (λ rs. record (set_under c.args.name.now c.args.set.now.ttl c.args.set.now) { signatures = map (renamed_signature c.args.star.now c.args.name.now) rs })
+          ∙ ap (λ rs. record (set_under c.args.name.now c.args.set.now.ttl c.args.set.now) { signatures = map (renamed_signature c.args.wildcard_name.now c.args.name.now) rs })
           (take_all w.loop-rrsig.rrsig-index w.rrsigs-rrsig-items.result.now all ∙ w.rrsigs-rrsig-items.ensures.value)
-          ∙ ap (λ b. renamed b c.args.star.now c.args.name.now c.args.set.now) (sym w.if-signed.true)
-      | else-signed w ↦ w.made-is ∙ made ∙ ap (λ b. renamed b c.args.star.now c.args.name.now c.args.set.now) (sym w.if-signed.false)
+          ∙ ap (λ b. renamed b c.args.wildcard_name.now c.args.name.now c.args.set.now) (sym w.if-signed.true)
+      | else-signed w ↦ w.made-is ∙ made ∙ ap (λ b. renamed b c.args.wildcard_name.now c.args.name.now c.args.set.now) (sym w.if-signed.false)
     ]

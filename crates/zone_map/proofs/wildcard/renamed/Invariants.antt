@@ -5,4 +5,4 @@ use Rattle.zone_map.proofs.wildcard.renamed.Given as goal
 
 -- the set under its new owner, and the signatures so far
 abbrev pub invariant-loop-rrsig : goal.invariant-loop-rrsig
-invariant-loop-rrsig l = l.made ≡ record (set_under l.name l.set.ttl l.set) { signatures = map (renamed_signature l.star l.name) (take l.rrsig-index l.rrsig-items) }
+invariant-loop-rrsig l = l.made ≡ record (set_under l.name l.set.ttl l.set) { signatures = map (renamed_signature l.wildcard_name l.name) (take l.rrsig-index l.rrsig-items) }

@@ -16,9 +16,9 @@ returns-in-Some-below_root-clause-ok g c =
     let x = c.args.name.now in
     let k = z.nx_proof_kind in
     let q = c.in-Some.query in
-    let star = option_copied c.args.star in
-    IfOk-weaker c.absent_sets.result (λ sets. map (λ (b : Bor RRset). b.now) sets.items ≡ absent_sets z.origin z.denials (hashed_by (hash_in z q)) q.qname.now (base_name c.in-Some-below_root.star.now))
-    (λ sets. map (λ (b : Bor RRset). b.now) sets.items ≡ denial z x star) (λ sets h. h ∙ absent_by_hash z x k q star c.in-Some-below_root.star.now c.in-Some.ensures c.in-Some-below_root.ensures) c.absent_sets.ensures.ok
+    let wildcard = option_copied c.args.wildcard in
+    IfOk-weaker c.absent_sets.result (λ sets. map (λ (b : Bor RRset). b.now) sets.items ≡ absent_sets z.origin z.denials (hashed_by (hash_in z q)) q.qname.now (base_name c.in-Some-below_root.wildcard.now))
+    (λ sets. map (λ (b : Bor RRset). b.now) sets.items ≡ denial z x wildcard) (λ sets h. h ∙ absent_by_hash z x k q wildcard c.in-Some-below_root.wildcard.now c.in-Some.ensures c.in-Some-below_root.ensures) c.absent_sets.ensures.ok
 
 pub returns-in-Some-below_root-clause-hashed : goal.returns-in-Some-below_root-clause-hashed
 returns-in-Some-below_root-clause-hashed g c =
@@ -26,9 +26,9 @@ returns-in-Some-below_root-clause-hashed g c =
     let x = c.args.name.now in
     let k = z.nx_proof_kind in
     let q = c.in-Some.query in
-    let star = option_copied c.args.star in
-    let names = absent_hashed z.origin z.denials (hashed_by (hash_in z q)) q.qname.now (base_name c.in-Some-below_root.star.now) in
-    let same = absent_names_by_hash z x k q star c.in-Some-below_root.star.now c.in-Some.ensures c.in-Some-below_root.ensures in
+    let wildcard = option_copied c.args.wildcard in
+    let names = absent_hashed z.origin z.denials (hashed_by (hash_in z q)) q.qname.now (base_name c.in-Some-below_root.wildcard.now) in
+    let same = absent_names_by_hash z x k q wildcard c.in-Some-below_root.wildcard.now c.in-Some.ensures c.in-Some-below_root.ensures in
     subst (λ b. OnOk c.absent_sets.result (b ≡ true)) (owners_by_hash z x k q c.in-Some.ensures names ∙ ap (have_owners_by z k) same) c.absent_sets.ensures.hashed
 
 pub returns-in-Some-below_root-clause-counted : goal.returns-in-Some-below_root-clause-counted
@@ -37,8 +37,8 @@ returns-in-Some-below_root-clause-counted g c =
     let x = c.args.name.now in
     let k = z.nx_proof_kind in
     let q = c.in-Some.query in
-    let star = option_copied c.args.star in
-    let same = absent_names_by_hash z x k q star c.in-Some-below_root.star.now c.in-Some.ensures c.in-Some-below_root.ensures in
+    let wildcard = option_copied c.args.wildcard in
+    let same = absent_names_by_hash z x k q wildcard c.in-Some-below_root.wildcard.now c.in-Some.ensures c.in-Some-below_root.ensures in
     subst (λ (names : List Name). c.absent_sets.new.hashes ≤ c.args.hashes.now + length names) same c.absent_sets.ensures.counted
 
 pub returns-in-Some-below_root-clause-err : goal.returns-in-Some-below_root-clause-err
@@ -47,9 +47,9 @@ returns-in-Some-below_root-clause-err g c =
     let x = c.args.name.now in
     let k = z.nx_proof_kind in
     let q = c.in-Some.query in
-    let star = option_copied c.args.star in
-    let names = absent_hashed z.origin z.denials (hashed_by (hash_in z q)) q.qname.now (base_name c.in-Some-below_root.star.now) in
-    let same = absent_names_by_hash z x k q star c.in-Some-below_root.star.now c.in-Some.ensures c.in-Some-below_root.ensures in
+    let wildcard = option_copied c.args.wildcard in
+    let names = absent_hashed z.origin z.denials (hashed_by (hash_in z q)) q.qname.now (base_name c.in-Some-below_root.wildcard.now) in
+    let same = absent_names_by_hash z x k q wildcard c.in-Some-below_root.wildcard.now c.in-Some.ensures c.in-Some-below_root.ensures in
     subst (λ b. IfErr c.absent_sets.result (λ e. (e ≡ Memory) ⊎ (b ≡ false))) (owners_by_hash z x k q c.in-Some.ensures names ∙ ap (have_owners_by z k) same) c.absent_sets.ensures.err
 
 pub returns-in-None-below_root-clause-ok : goal.returns-in-None-below_root-clause-ok
@@ -58,9 +58,9 @@ returns-in-None-below_root-clause-ok g c =
     let x = c.args.name.now in
     let k = z.nx_proof_kind in
     let q = c.in-Some.query in
-    let star = option_copied c.args.star in
+    let wildcard = option_copied c.args.wildcard in
     IfOk-weaker c.present_sets.result (λ sets. map (λ (b : Bor RRset). b.now) sets.items ≡ present_sets z.origin z.denials (hashed_by (hash_in z q)) q.qname.now)
-    (λ sets. map (λ (b : Bor RRset). b.now) sets.items ≡ denial z x star) (λ sets h. h ∙ present_by_hash z x k q star c.in-Some.ensures c.in-None-below_root.ensures) c.present_sets.ensures.ok
+    (λ sets. map (λ (b : Bor RRset). b.now) sets.items ≡ denial z x wildcard) (λ sets h. h ∙ present_by_hash z x k q wildcard c.in-Some.ensures c.in-None-below_root.ensures) c.present_sets.ensures.ok
 
 pub returns-in-None-below_root-clause-hashed : goal.returns-in-None-below_root-clause-hashed
 returns-in-None-below_root-clause-hashed g c =
@@ -68,9 +68,9 @@ returns-in-None-below_root-clause-hashed g c =
     let x = c.args.name.now in
     let k = z.nx_proof_kind in
     let q = c.in-Some.query in
-    let star = option_copied c.args.star in
+    let wildcard = option_copied c.args.wildcard in
     let names = present_hashed z.origin z.denials (hashed_by (hash_in z q)) q.qname.now in
-    let same = present_names_by_hash z x k q star c.in-Some.ensures c.in-None-below_root.ensures in
+    let same = present_names_by_hash z x k q wildcard c.in-Some.ensures c.in-None-below_root.ensures in
     subst (λ b. OnOk c.present_sets.result (b ≡ true)) (owners_by_hash z x k q c.in-Some.ensures names ∙ ap (have_owners_by z k) same) c.present_sets.ensures.hashed
 
 pub returns-in-None-below_root-clause-counted : goal.returns-in-None-below_root-clause-counted
@@ -79,8 +79,8 @@ returns-in-None-below_root-clause-counted g c =
     let x = c.args.name.now in
     let k = z.nx_proof_kind in
     let q = c.in-Some.query in
-    let star = option_copied c.args.star in
-    let same = present_names_by_hash z x k q star c.in-Some.ensures c.in-None-below_root.ensures in
+    let wildcard = option_copied c.args.wildcard in
+    let same = present_names_by_hash z x k q wildcard c.in-Some.ensures c.in-None-below_root.ensures in
     subst (λ (names : List Name). c.present_sets.new.hashes ≤ c.args.hashes.now + length names) same c.present_sets.ensures.counted
 
 pub returns-in-None-below_root-clause-err : goal.returns-in-None-below_root-clause-err
@@ -89,7 +89,7 @@ returns-in-None-below_root-clause-err g c =
     let x = c.args.name.now in
     let k = z.nx_proof_kind in
     let q = c.in-Some.query in
-    let star = option_copied c.args.star in
+    let wildcard = option_copied c.args.wildcard in
     let names = present_hashed z.origin z.denials (hashed_by (hash_in z q)) q.qname.now in
-    let same = present_names_by_hash z x k q star c.in-Some.ensures c.in-None-below_root.ensures in
+    let same = present_names_by_hash z x k q wildcard c.in-Some.ensures c.in-None-below_root.ensures in
     subst (λ b. IfErr c.present_sets.result (λ e. (e ≡ Memory) ⊎ (b ≡ false))) (owners_by_hash z x k q c.in-Some.ensures names ∙ ap (have_owners_by z k) same) c.present_sets.ensures.err

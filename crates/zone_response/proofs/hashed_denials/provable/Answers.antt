@@ -8,7 +8,7 @@ use Rattle.zone_response.specs.HashedDenials.{tried, hash_of, hashed_by, have_ow
 use Rattle.zone_response.proofs.LabelCounts.{counted_last, counted_on}
 use Rattle.zone_response.proofs.ProofSteps.{raised, or_refused}
 use Rattle.zone_response.proofs.ProvableWalk.{none_outside, untried_outside, lacks_there, one_tried, found_there, had_there, found_above, had_above, one_more_tried}
-use Rattle.zone_response.proofs.StarWalk.{shortened}
+use Rattle.zone_response.proofs.WildcardWalk.{shortened}
 use Rattle.zone_response.proofs.hashed_denials.provable.Goals as goal
 
 pub returns-in_err-tried-clause-counted : goal.returns-in_err-tried-clause-counted

@@ -7,7 +7,7 @@ use Rattle.zone_response.proofs.steps.answer.Goals as goal
 
 pub returns-clause-answers : goal.returns-clause-answers
 returns-clause-answers c =
-    let made = as_found_for c.args.keep c.args.star c.args.name.now c.args.set.now in
+    let made = as_found_for c.args.keep c.args.wildcard c.args.name.now c.args.set.now in
     let ttl : c.ttl-ttl.result ≡ made.ttl = c.ttl-ttl.ensures ∙ ap (λ (s : RRset). s.ttl) (c.set.ensures ∙ c.in_ok-found.ensures.ok) in
     on_ok_weaker c.send.result
     (λ e. e ∙ (λ i. sent_sets c.args.so_far.now.answers ++ sent c.args.part (ttl i) (c.in_ok-found.ensures.ok i) ∷ [])) c.send.ensures.ok

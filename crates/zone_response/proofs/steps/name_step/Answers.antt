@@ -21,5 +21,5 @@ returns-clause-ok g c =
     let q = inquiry_of g.S.Signer.signature_of c.args.asked c.args.inner.now in
     let x = c.args.name.now in
     let absent : exists q.sets x ≡ false = sym (ap (exists q.sets) c.requires.name) ∙ sym c.exists.ensures.exists ∙ c.if-exists.false in
-    same_step c.wildcard_step.result c.args.so_far.now c.wildcard_step.new.so_far (name_step q x) (wildcard_step q x c.in_ok-star.star)
-    (absent_step q x c.in_ok-star.star absent c.in_ok-star.ensures.star) c.wildcard_step.ensures.ok
+    same_step c.wildcard_step.result c.args.so_far.now c.wildcard_step.new.so_far (name_step q x) (wildcard_step q x c.in_ok-wildcard.wildcard)
+    (absent_step q x c.in_ok-wildcard.wildcard absent c.in_ok-wildcard.ensures.wildcard) c.wildcard_step.ensures.ok

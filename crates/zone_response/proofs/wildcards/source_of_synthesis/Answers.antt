@@ -7,11 +7,11 @@ use Rattle.zone_map.specs.Wildcards.{exists}
 use Rattle.zone_response.specs.Neighbours.{NoLongerExists}
 use Rattle.zone_response.proofs.NextKeys.{fewer_labels, last_above, last_length}
 use Rattle.zone_response.proofs.SearchCounts.{at_most_one, left_searches, left_at_first, left_above, some_left}
-use Rattle.zone_response.proofs.StarWalk.{labels_fit, parent_above, above_above, next_longer, none_of_root, begins, at_encloser, at_root, passed}
+use Rattle.zone_response.proofs.WildcardWalk.{labels_fit, parent_above, above_above, next_longer, none_of_root, begins, at_encloser, at_root, passed}
 use Rattle.zone_response.proofs.wildcards.source_of_synthesis.Goals as goal
 
-pub returns-then-is_root-clause-star : goal.returns-then-is_root-clause-star
-returns-then-is_root-clause-star g c = none_of_root c.args.inner.now.records c.args.name.now (c.is_root.ensures.0 c.if-is_root.true)
+pub returns-then-is_root-clause-wildcard : goal.returns-then-is_root-clause-wildcard
+returns-then-is_root-clause-wildcard g c = none_of_root c.args.inner.now.records c.args.name.now (c.is_root.ensures.0 c.if-is_root.true)
 
 pub loop-above-init : goal.loop-above-init
 loop-above-init g c =
@@ -58,8 +58,8 @@ loop-above-preserved g c =
 pub overflow_add-num_labels : goal.overflow_add-num_labels
 overflow_add-num_labels g c = omega (arith, c.num_labels.ensures.count, labels_fit c.loop-above.above.name, c.num_labels.ensures.valid.name.short)
 
-pub returns-then-exists-clause-star : goal.returns-then-exists-clause-star
-returns-then-exists-clause-star g c =
+pub returns-then-exists-clause-wildcard : goal.returns-then-exists-clause-wildcard
+returns-then-exists-clause-wildcard g c =
     let n = c.args.name.now in
     let a = c.loop-above.above.name in
     let child : IsChild (drop (length n - suc (length a)) n) a = next_longer n a c.loop-above.invariant.above in
@@ -67,8 +67,8 @@ returns-then-exists-clause-star g c =
     ap Some (c.into_wildcard.ensures ∙ ap wildcard_of (c.in_ok-next_closer.ensures.ok ∙ ap (λ k. drop (length n - k) n) count))
     ∙ at_encloser c.args.inner.now.records n a c.loop-above.invariant.left _ (sym c.exists.ensures ∙ c.if-exists.true) child
 
-pub returns-then-is_root-2-clause-star : goal.returns-then-is_root-2-clause-star
-returns-then-is_root-2-clause-star g c =
+pub returns-then-is_root-2-clause-wildcard : goal.returns-then-is_root-2-clause-wildcard
+returns-then-is_root-2-clause-wildcard g c =
     at_root c.args.inner.now.records c.args.name.now c.loop-above.above.name c.loop-above.invariant.left (c.is_root-in-loop-above.ensures.0 c.if-is_root-2.true) (sym c.exists.ensures ∙ c.if-exists.false)
 
 pub returns-then-exists-clause-counted : goal.returns-then-exists-clause-counted

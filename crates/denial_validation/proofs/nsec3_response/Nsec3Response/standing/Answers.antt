@@ -1,7 +1,7 @@
 use Rattle.std.proofs.Common.{Some, true, sym, ap, ◌∙◌}
 use Rattle.zone_proto.specs.Names.{base_name, wildcard_under}
 use Rattle.denial_validation.specs.Nsec3Responses.{hash_of}
-use Rattle.denial_validation.proofs.EncloserProofs.{base_of_star, star_of_closer, opted_out_by, proved_is, opted_out_is}
+use Rattle.denial_validation.proofs.EncloserProofs.{base_of_wildcard, wildcard_of_closer, opted_out_by, proved_is, opted_out_is}
 use Rattle.denial_validation.proofs.nsec3_response.Nsec3Response.standing.Goals as goal
 
 pub returns-clause-proved : goal.returns-clause-proved
@@ -10,13 +10,13 @@ returns-clause-proved g c =
     let hash = hash_of g.H.Nsec3Hash.digest_of c.args.self.now in
     let rs = c.args.self.now.records in
     let n = c.args.encloser.next_closer in
-    ap (λ s. Some (base_name s)) c.into_wildcard.ensures ∙ ap Some (base_of_star n)
+    ap (λ s. Some (base_name s)) c.into_wildcard.ensures ∙ ap Some (base_of_wildcard n)
     ∙ sym (proved_is apex hash rs c.args.self.now.name (base_name n) n c.requires.unmatched c.requires.shown c.requires.closer true true (sym c.requires.in_zone) (sym c.requires.covered))
 
-pub returns-clause-star : goal.returns-clause-star
-returns-clause-star g c =
+pub returns-clause-wildcard_name : goal.returns-clause-wildcard_name
+returns-clause-wildcard_name g c =
     let n = c.args.encloser.next_closer in
-    c.into_wildcard.ensures ∙ star_of_closer c.args.self.now.name (base_name n) n c.requires.closer ∙ ap (λ s. wildcard_under (base_name s)) (sym c.into_wildcard.ensures)
+    c.into_wildcard.ensures ∙ wildcard_of_closer c.args.self.now.name (base_name n) n c.requires.closer ∙ ap (λ s. wildcard_under (base_name s)) (sym c.into_wildcard.ensures)
 
 pub returns-clause-opted_out : goal.returns-clause-opted_out
 returns-clause-opted_out g c =

@@ -8,7 +8,7 @@ use Rattle.zone_in_memory.specs.Lookup.{error_of, SaysOrMemory}
 use Rattle.zone_signing.specs.Signatures.{answer_signatures}
 use Rattle.zone_map.specs.Wildcards.{found}
 use Rattle.zone_map.specs.Zones.{Sets}
-use Rattle.zone_in_memory.proofs.Lookups.{existing_is_present, no_star_exists, says_found, says_none}
+use Rattle.zone_in_memory.proofs.Lookups.{existing_is_present, no_wildcard_exists, says_found, says_none}
 use Rattle.zone_in_memory.proofs.in_memory_zone_handler.InMemoryZoneHandler.answer.Goals as goal
 
 pub returns-in_ok-answer-in-Found : goal.returns-in_ok-answer-in-Found
@@ -37,7 +37,7 @@ pub negative_answer-requires : goal.negative_answer-requires
 negative_answer-requires g c =
     let inside : c.self.inside.inner.records ≡ c.args.self.now.inner.records = ap (λ z. z.inner.records) c.self.view_is in
     let exists = subst (SaysExists (exists_or_wildcard c.self.inside.inner.records c.args.name.now)) c.in-NoName.is c.in_ok-found.ensures.outcome.existence in
-    record { no_wildcard = no_star_exists c.args.self.now.inner.records c.args.name.now (ap (λ (m : Sets). exists_or_wildcard m c.args.name.now) (sym inside) ∙ exists) }
+    record { no_wildcard = no_wildcard_exists c.args.self.now.inner.records c.args.name.now (ap (λ (m : Sets). exists_or_wildcard m c.args.name.now) (sym inside) ∙ exists) }
 
 pub returns-in_ok-negative_answer-in-NoName : goal.returns-in_ok-negative_answer-in-NoName
 returns-in_ok-negative_answer-in-NoName g c =

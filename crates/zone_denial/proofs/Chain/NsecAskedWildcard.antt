@@ -16,11 +16,11 @@ use Rattle.zone_denial.specs.NsecDenial.{owns_nsec_at_or_below, nsec_encloser}
 use Rattle.zone_denial.specs.NsecLaws.{IsNsecZone}
 use Rattle.zone_denial.specs.WildcardLaws.{OwnsNone, EnclosersAgree, ProvedWildcardIsAsked, AbsentWildcardIsDenied}
 use Rattle.zone_denial.proofs.Names.AuthoritativeNames.{from_besides}
-use Rattle.zone_denial.proofs.Names.ExistingAncestors.{exists_from, unowned_absent, asked_is, IsEncloserTest, same_encloser, no_star}
+use Rattle.zone_denial.proofs.Names.ExistingAncestors.{exists_from, unowned_absent, asked_is, IsEncloserTest, same_encloser, no_wildcard_name}
 use Rattle.zone_denial.proofs.Names.LongestAncestors.{IsLongestAbove, longest_is, longest_above}
 use Rattle.zone_denial.proofs.Chain.NsecCircle.{origin_on_circle}
 use Rattle.zone_denial.proofs.Chain.NsecLists.{off_circle}
-use Rattle.zone_denial.proofs.Chain.NsecStar.{proves_star}
+use Rattle.zone_denial.proofs.Chain.NsecWildcard.{proves_wildcard}
 
 -- ---- types that are in a zone without a type of denial
 
@@ -89,13 +89,13 @@ enclosers_agree origin m h none x below uncut =
     let e = there origin m h none x u in
     e.1.found ∙ ap Some (sym (same_encloser origin m NSEC (encloses origin m h none) (test origin m h none) x e.0 (nsec_encloser origin m x) u e.1 (longest origin m h none x u) uncut))
 
-pub proved_star_is_asked : ProvedWildcardIsAsked
-proved_star_is_asked origin m h none x below uncut plain absent =
+pub proved_wildcard_is_asked : ProvedWildcardIsAsked
+proved_wildcard_is_asked origin m h none x below uncut plain absent =
     asked_is m origin x ((above_test origin x).0 below) plain absent ∙ ap (option_map wildcard_under) (enclosers_agree origin m h none x below uncut)
 
 pub absent_wildcard_is_denied : AbsentWildcardIsDenied
 absent_wildcard_is_denied origin m h none x inside plain unowned gone =
-    record { off = off; covered = (proves_star origin m h x inside (off_circle m x unowned)).off off }
+    record { off = off; covered = (proves_wildcard origin m h x inside (off_circle m x unowned)).off off }
   where
     below : IsAbove origin x
     below = by (above_cases origin x (is_at_or_above_sound origin x inside))
@@ -104,8 +104,8 @@ absent_wildcard_is_denied origin m h none x inside plain unowned gone =
         by (inl e) = absurd (true≢false (sym (origin_on_circle origin m h) ∙ ap (λ a. owns m a NSEC) e ∙ off_circle m x unowned))
         by (inr w) = w
 
-    star : Name
-    star = wildcard_under (nsec_encloser origin m x)
+    wildcard_name : Name
+    wildcard_name = wildcard_under (nsec_encloser origin m x)
 
     off : owns m (wildcard_under (nsec_encloser origin m x)) NSEC ≡ false
     off = by (owns m (wildcard_under (nsec_encloser origin m x)) NSEC) refl
@@ -115,5 +115,5 @@ absent_wildcard_is_denied origin m h none x inside plain unowned gone =
         by true e =
             let t = there origin m h none x below in
             absurd
-            (no_star origin m NSEC (encloses origin m h none) (test origin m h none) x t.0 (nsec_encloser origin m x) below t.1 (longest origin m h none x below)
+            (no_wildcard_name origin m NSEC (encloses origin m h none) (test origin m h none) x t.0 (nsec_encloser origin m x) below t.1 (longest origin m h none x below)
             (absent_wildcard m origin x t.0 below plain unowned gone t.1.found) (wildcard_under (nsec_encloser origin m x)) (on_circle origin m h none (wildcard_under (nsec_encloser origin m x)) e) ([], refl))

@@ -71,14 +71,14 @@ module _ (origin : Name) (m : Sets) (h : IsNsecChain origin m) where
         by (inl e) = absurd (true≢false (sym (h.begins) ∙ ap (λ a. owns m a NSEC) e ∙ off))
         by (inr w) = w
 
-    abbrev star : Name
-    star = wildcard_under (nsec_encloser origin m x)
+    abbrev wildcard_name : Name
+    wildcard_name = wildcard_under (nsec_encloser origin m x)
 
-    star_in : is_at_or_above origin star ≡ true
-    star_in = let w = encloser_in origin m x in is_at_or_above_complete origin star (asterisk_label ∷ w.0, ap wildcard_under w.1)
+    wildcard_in : is_at_or_above origin wildcard_name ≡ true
+    wildcard_in = let w = encloser_in origin m x in is_at_or_above_complete origin wildcard_name (asterisk_label ∷ w.0, ap wildcard_under w.1)
 
     -- a set that the wildcard's closest owner has is in the denial
-    has_closest : (o : Name) (s : RRset) → closest_owner m star ≡ Some o → set_at m o NSEC ≡ Some s → Contains (nsec_denial origin m x) s
+    has_closest : (o : Name) (s : RRset) → closest_owner m wildcard_name ≡ Some o → set_at m o NSEC ≡ Some s → Contains (nsec_denial origin m x) s
     has_closest o s is stands =
         let owners_are : denying_owners origin m x ≡ both_of (Some o) (closest_owner m x) =
         ap (λ b. cond b (x ∷ []) (both_of (option_and_then (closest_owner m) (proved_beside origin m x)) (closest_owner m x))) off
@@ -87,21 +87,21 @@ module _ (origin : Name) (m : Sets) (h : IsNsecChain origin m) where
         In-Contains s (nsec_denial origin m x)
         (In-filter_map (λ o. set_at m o NSEC) o s (denying_owners origin m x) (subst (In o) (sym owners_are) (In-both_first o (closest_owner m x))) stands)
 
-    pub star_proved : HasOwnOrCover m star (nsec_denial origin m x)
-    star_proved =
-        let c = closest_is origin m h star star_in in
+    pub wildcard_proved : HasOwnOrCover m wildcard_name (nsec_denial origin m x)
+    wildcard_proved =
+        let c = closest_is origin m h wildcard_name wildcard_in in
         let s = set_of m c.0 NSEC c.2.on_chain in
         record {
-          on = λ r e. has_closest c.0 r c.1 (ap (λ a. set_at m a NSEC) (itself star c.0 c.1 c.2 (ap is_some e)) ∙ e);
+          on = λ r e. has_closest c.0 r c.1 (ap (λ a. set_at m a NSEC) (itself wildcard_name c.0 c.1 c.2 (ap is_some e)) ∙ e);
           off = λ none.
               record {
                 set = s.0;
                 among = has_closest c.0 s.0 c.1 s.1;
                 next = next_owner origin m c.0;
                 said = (h.each c.0 s.0 s.1).next;
-                covers = ap (λ w. covers name_cmp w (next_owner origin m c.0) star) (h.zone.stored c.0 NSEC s.0 s.1).owner ∙ closest_covers origin m star c.0 c.2 none;
+                covers = ap (λ w. covers name_cmp w (next_owner origin m c.0) wildcard_name) (h.zone.stored c.0 NSEC s.0 s.1).owner ∙ closest_covers origin m wildcard_name c.0 c.2 none;
               };
         }
 
-pub proves_star : ChainProvesWildcard
-proves_star origin m h x inside off = star_proved origin m h x inside off
+pub proves_wildcard : ChainProvesWildcard
+proves_wildcard origin m h x inside off = wildcard_proved origin m h x inside off

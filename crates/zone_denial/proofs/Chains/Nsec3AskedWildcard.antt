@@ -17,11 +17,11 @@ use Rattle.zone_denial.specs.ChainLaws.{Nsec3ChainEnclosersAgree, Nsec3ChainProv
 use Rattle.zone_denial.specs.Chains.{DNAME, is_below_dname, is_insecure_delegation, may_be_left_out, IsNsec3Chain}
 use Rattle.zone_denial.specs.Nsec3Denial.{encloser_on}
 use Rattle.zone_denial.specs.WildcardLaws.{OwnsNone}
-use Rattle.zone_denial.proofs.Chain.NsecAskedStar.{other_type, plain_type, absent_wildcard}
+use Rattle.zone_denial.proofs.Chain.NsecAskedWildcard.{other_type, plain_type, absent_wildcard}
 use Rattle.zone_denial.proofs.Chain.NsecBelow.{above_through}
 use Rattle.zone_denial.proofs.Chains.NsecBelow.{IsOpen, open_above, first_below}
 use Rattle.zone_denial.proofs.Chains.Nsec3Names.{is_named, named_in, in_named, origin_in}
-use Rattle.zone_denial.proofs.Chains.Nsec3Star.{proves_star}
+use Rattle.zone_denial.proofs.Chains.Nsec3Wildcard.{proves_wildcard}
 use Rattle.zone_denial.proofs.Names.AuthoritativeNames.{authoritative_from, besides_from, from_besides}
 use Rattle.zone_denial.proofs.Names.ExistingAncestors.{exists_from, from_exists, unowned_absent, asked_is}
 use Rattle.zone_denial.proofs.Names.LongestAncestors.{IsLongestAbove, longest_above, others_above}
@@ -118,15 +118,15 @@ module _ (origin : Name) (beside m : Sets) (hash : Name → Option (List ℕ)) (
 pub enclosers_agree : Nsec3ChainEnclosersAgree
 enclosers_agree origin beside m hash parameters names h all_in none x below uncut plain = agree origin beside m hash parameters names h none all_in x ((above_test origin x).0 below) uncut plain
 
-pub proved_star_is_asked : Nsec3ChainProvedWildcardIsAsked
-proved_star_is_asked origin beside m hash parameters names h all_in none x below uncut plain star absent a is =
-    asked_is m origin x ((above_test origin x).0 below) star absent ∙ ap (option_map wildcard_under) (enclosers_agree origin beside m hash parameters names h all_in none x below uncut plain ∙ is)
+pub proved_wildcard_is_asked : Nsec3ChainProvedWildcardIsAsked
+proved_wildcard_is_asked origin beside m hash parameters names h all_in none x below uncut plain wildcard_name absent a is =
+    asked_is m origin x ((above_test origin x).0 below) wildcard_name absent ∙ ap (option_map wildcard_under) (enclosers_agree origin beside m hash parameters names h all_in none x below uncut plain ∙ is)
 
 pub absent_wildcard_is_denied : Nsec3ChainAbsentWildcardIsDenied
 absent_wildcard_is_denied origin beside m hash parameters names h below_root all_in none x inside uncut plain apart not_wildcard unowned gone =
-    let r = proves_star origin beside m hash parameters names h below_root x inside apart off in
-    let cover = r.2.star.off (star_off r.2.encloser r.2.is_encloser) in
-    record { answer = r.0; denial = r.1; encloser = r.2.encloser; is_encloser = r.2.is_encloser; off = star_off r.2.encloser r.2.is_encloser; cover = cover.0; covers = cover.1; has_cover = cover.2 }
+    let r = proves_wildcard origin beside m hash parameters names h below_root x inside apart off in
+    let cover = r.2.wildcard_name.off (wildcard_off r.2.encloser r.2.is_encloser) in
+    record { answer = r.0; denial = r.1; encloser = r.2.encloser; is_encloser = r.2.is_encloser; off = wildcard_off r.2.encloser r.2.is_encloser; cover = cover.0; covers = cover.1; has_cover = cover.2 }
   where
     off : Contains names x → ⊥
     off i = true≢false (sym (named_exists origin beside m hash parameters names h none x i) ∙ unowned_absent m x unowned)
@@ -138,8 +138,8 @@ absent_wildcard_is_denied origin beside m hash parameters names h below_root all
         by (inl e) = absurd (off (subst (Contains names) e h.begins))
         by (inr w) = w
 
-    star_off : (a : Name) → encloser_on names x ≡ Some a → Contains names (wildcard_under a) → ⊥
-    star_off a is i =
+    wildcard_off : (a : Name) → encloser_on names x ≡ Some a → Contains names (wildcard_under a) → ⊥
+    wildcard_off a is i =
         let t = there origin beside m hash parameters names h none all_in x below uncut plain in
         let same : t.0 ≡ a = same_value t.0 a (sym t.1.found ∙ agree origin beside m hash parameters names h none all_in x below uncut plain ∙ is) in
         true≢false

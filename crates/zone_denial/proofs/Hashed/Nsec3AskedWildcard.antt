@@ -16,12 +16,12 @@ use Rattle.zone_denial.specs.Nsec3Names.{is_unsigned_delegation, counted_names, 
 use Rattle.zone_denial.specs.Nsec3Zones.{IsCircleName}
 use Rattle.zone_denial.specs.WildcardLaws.{OwnsNone, Nsec3EnclosersAgree, Nsec3ProvedWildcardIsAsked, Nsec3AbsentWildcardIsDenied}
 use Rattle.zone_denial.proofs.Names.AuthoritativeNames.{authoritative_listed}
-use Rattle.zone_denial.proofs.Names.ExistingAncestors.{exists_from, unowned_absent, asked_is, IsEncloserTest, above_authority, encloser_in, exists_as_passes, same_encloser, no_star}
+use Rattle.zone_denial.proofs.Names.ExistingAncestors.{exists_from, unowned_absent, asked_is, IsEncloserTest, above_authority, encloser_in, exists_as_passes, same_encloser, no_wildcard_name}
 use Rattle.zone_denial.proofs.Names.LongestAncestors.{IsLongestAbove, longest_is, longest_above}
 use Rattle.zone_denial.proofs.Hashed.Nsec3Enclosers.{is_named, named_in, in_named, origin_in}
 use Rattle.zone_denial.proofs.Hashed.Nsec3NameLaws.{names_are_exact}
-use Rattle.zone_denial.proofs.Hashed.Nsec3Star.{proves_star}
-use Rattle.zone_denial.proofs.Chain.NsecAskedStar.{other_type, plain_type, absent_wildcard}
+use Rattle.zone_denial.proofs.Hashed.Nsec3Wildcard.{proves_wildcard}
+use Rattle.zone_denial.proofs.Chain.NsecAskedWildcard.{other_type, plain_type, absent_wildcard}
 
 module _ (origin : Name) (m : Sets) (opt_out : Bool) (announced : owns m origin NSEC3PARAM ≡ true) (all_in : opt_out ≡ false) (none : OwnsNone m NSEC) where
   abbrev counts : Name → Bool
@@ -88,29 +88,29 @@ module _ (origin : Name) (m : Sets) (opt_out : Bool) (announced : owns m origin 
         there.1.found ∙ ap Some (sym (same_encloser origin m NSEC3 (is_named origin m opt_out) test x there.0 a.0 u there.1 a.1 uncut)) ∙ sym a.1.found
 
     -- a wildcard at the closest encloser and doesn't exist isn't on the circle
-    star_off : (a : Name) → closest_encloser origin m opt_out x ≡ Some a → exists m (wildcard_under there.0) ≡ false → IsCircleName origin m opt_out (wildcard_under a) → ⊥
-    star_off a is gone i = by (of_circle (wildcard_under a) i)
+    wildcard_off : (a : Name) → closest_encloser origin m opt_out x ≡ Some a → exists m (wildcard_under there.0) ≡ false → IsCircleName origin m opt_out (wildcard_under a) → ⊥
+    wildcard_off a is gone i = by (of_circle (wildcard_under a) i)
       where
         longest : IsLongestAbove (is_named origin m opt_out) x a
         longest = longest_is (is_named origin m opt_out) x a is
 
         by : (wildcard_under a ≡ origin) ⊎ ((b : Name) × (is_authoritative origin m NSEC3 b ≡ true) × IsAtOrAbove (wildcard_under a) b) → ⊥
         by (inl e) = let w = encloser_in origin m NSEC3 (is_named origin m opt_out) test x there.0 a u there.1 longest in omega (arith, ap length e, ap length w.1, length-append w.0 origin)
-        by (inr (b, k, v)) = no_star origin m NSEC3 (is_named origin m opt_out) test x there.0 a u there.1 longest gone b k v
+        by (inr (b, k, v)) = no_wildcard_name origin m NSEC3 (is_named origin m opt_out) test x there.0 a u there.1 longest gone b k v
 
 pub enclosers_agree : Nsec3EnclosersAgree
 enclosers_agree origin m hash parameters zone all_in none x below uncut = agree origin m parameters.opt_out zone.circle.announced all_in none x ((above_test origin x).0 below) uncut
 
-pub proved_star_is_asked : Nsec3ProvedWildcardIsAsked
-proved_star_is_asked origin m hash parameters zone all_in none x below uncut plain absent a is =
+pub proved_wildcard_is_asked : Nsec3ProvedWildcardIsAsked
+proved_wildcard_is_asked origin m hash parameters zone all_in none x below uncut plain absent a is =
     asked_is m origin x ((above_test origin x).0 below) plain absent ∙ ap (option_map wildcard_under) (enclosers_agree origin m hash parameters zone all_in none x below uncut ∙ is)
 
 pub absent_wildcard_is_denied : Nsec3AbsentWildcardIsDenied
 absent_wildcard_is_denied origin m hash parameters zone all_in none x inside apart plain unowned gone =
-    let r = proves_star origin m hash parameters zone x inside apart off in
-    let star = star_off origin m parameters.opt_out zone.circle.announced all_in none x below r.2.encloser r.2.is_encloser gone_star in
-    let cover = r.2.star.off star in
-    record { answer = r.0; denial = r.1; encloser = r.2.encloser; is_encloser = r.2.is_encloser; off = star; cover = cover.0; covers = cover.1; has_cover = cover.2 }
+    let r = proves_wildcard origin m hash parameters zone x inside apart off in
+    let wildcard_name = wildcard_off origin m parameters.opt_out zone.circle.announced all_in none x below r.2.encloser r.2.is_encloser gone_wildcard in
+    let cover = r.2.wildcard_name.off wildcard_name in
+    record { answer = r.0; denial = r.1; encloser = r.2.encloser; is_encloser = r.2.is_encloser; off = wildcard_name; cover = cover.0; covers = cover.1; has_cover = cover.2 }
   where
     off : IsCircleName origin m parameters.opt_out x → ⊥
     off i = true≢false (sym (circle_exists origin m parameters.opt_out zone.circle.announced all_in none x i) ∙ unowned_absent m x unowned)
@@ -122,7 +122,7 @@ absent_wildcard_is_denied origin m hash parameters zone all_in none x inside apa
         by (inl e) = absurd (off (subst (IsCircleName origin m parameters.opt_out) e (In-Contains origin (nsec3_names origin m parameters.opt_out) (origin_in origin m parameters.opt_out))))
         by (inr w) = w
 
-    gone_star : exists m (wildcard_under (there origin m parameters.opt_out zone.circle.announced all_in none x below).0) ≡ false
-    gone_star =
+    gone_wildcard : exists m (wildcard_under (there origin m parameters.opt_out zone.circle.announced all_in none x below).0) ≡ false
+    gone_wildcard =
         let t = there origin m parameters.opt_out zone.circle.announced all_in none x below in
         absent_wildcard m origin x t.0 below plain unowned gone t.1.found

@@ -12,7 +12,7 @@ use Rattle.zone_map.proofs.Owned.{owner_owned}
 use Rattle.zone_map.proofs.Wildcards.{wildcard_is_of_closest_encloser}
 use Rattle.zone_denial.specs.Chains.{DNAME, is_below_dname}
 use Rattle.zone_denial.specs.NsecDenial.{nsec_encloser}
-use Rattle.zone_denial.proofs.Chains.NsecAskedStar.{exists_is, proved_star_is_asked}
+use Rattle.zone_denial.proofs.Chains.NsecAskedWildcard.{exists_is, proved_wildcard_is_asked}
 use Rattle.zone_denial.proofs.Names.ExistingAncestors.{unowned_absent}
 use Rattle.denial_laws.specs.Chains.{IsInScopeOfChain}
 
@@ -32,33 +32,33 @@ module _ (origin : Name) (m : Sets) (x : Name) (j : IsInScopeOfChain origin m x)
   asked_only w e =
       let law : WildcardIsOfClosestEncloser = wildcard_is_of_closest_encloser in
       let absent = law.absent m x w e in
-      (same_value w (wildcard_under (nsec_encloser origin m x)) (sym e ∙ proved_star_is_asked origin m j.zone j.one_kind x ((above_test origin x).1 over) j.uncut (undnamed origin m x j) (law.plain m x w e) absent), absent)
+      (same_value w (wildcard_under (nsec_encloser origin m x)) (sym e ∙ proved_wildcard_is_asked origin m j.zone j.one_kind x ((above_test origin x).1 over) j.uncut (undnamed origin m x j) (law.plain m x w e) absent), absent)
     where
       same_value : (a b : Name) → Some a ≡ Some b → a ≡ b
       same_value a b e = cc
 
   -- so no wildcard exists where that one doesn't
-  pub no_star : owns_at_or_below m (wildcard_under (nsec_encloser origin m x)) ≡ false → asked_wildcard_exists m x ≡ false
-  no_star none = by (asked_wildcard m x) refl
+  pub no_wildcard_name : owns_at_or_below m (wildcard_under (nsec_encloser origin m x)) ≡ false → asked_wildcard_exists m x ≡ false
+  no_wildcard_name none = by (asked_wildcard m x) refl
     where
       by : (o : Option Name) → asked_wildcard m x ≡ o → option_map_or (exists m) o false ≡ false
       by None e = refl
       by (Some w) e = ap (exists m) (asked_only w e).0 ∙ exists_is origin m j.zone j.one_kind (wildcard_under (nsec_encloser origin m x)) ∙ none
 
   -- and where one exists, it is that one
-  pub star_there : asked_wildcard_exists m x ≡ true → (asked_wildcard m x ≡ Some (wildcard_under (nsec_encloser origin m x))) × (owns_at_or_below m (wildcard_under (nsec_encloser origin m x)) ≡ true)
-  star_there s = by (asked_wildcard m x) refl s
+  pub wildcard_there : asked_wildcard_exists m x ≡ true → (asked_wildcard m x ≡ Some (wildcard_under (nsec_encloser origin m x))) × (owns_at_or_below m (wildcard_under (nsec_encloser origin m x)) ≡ true)
+  wildcard_there s = by (asked_wildcard m x) refl s
     where
-      star : Name
-      star = wildcard_under (nsec_encloser origin m x)
+      wildcard_name : Name
+      wildcard_name = wildcard_under (nsec_encloser origin m x)
 
-      by : (o : Option Name) → asked_wildcard m x ≡ o → option_map_or (exists m) o false ≡ true → (asked_wildcard m x ≡ Some star) × (owns_at_or_below m star ≡ true)
+      by : (o : Option Name) → asked_wildcard m x ≡ o → option_map_or (exists m) o false ≡ true → (asked_wildcard m x ≡ Some wildcard_name) × (owns_at_or_below m wildcard_name ≡ true)
       by None e p = absurd (true≢false (sym p))
-      by (Some w) e p = let q = (asked_only w e).0 in (e ∙ ap Some q, sym (exists_is origin m j.zone j.one_kind star) ∙ ap (exists m) (sym q) ∙ p)
+      by (Some w) e p = let q = (asked_only w e).0 in (e ∙ ap Some q, sym (exists_is origin m j.zone j.one_kind wildcard_name) ∙ ap (exists m) (sym q) ∙ p)
 
   -- of a plain name it is the one that is asked
-  pub star_gone : IsFalse (is_wildcard x) → owns_at_or_below m x ≡ false → asked_wildcard_exists m x ≡ false → owns_at_or_below m (wildcard_under (nsec_encloser origin m x)) ≡ false
-  star_gone plain none gone =
+  pub wildcard_gone : IsFalse (is_wildcard x) → owns_at_or_below m x ≡ false → asked_wildcard_exists m x ≡ false → owns_at_or_below m (wildcard_under (nsec_encloser origin m x)) ≡ false
+  wildcard_gone plain none gone =
       sym (exists_is origin m j.zone j.one_kind (wildcard_under (nsec_encloser origin m x)))
-      ∙ sym (ap (λ p. option_map_or (exists m) p false) (proved_star_is_asked origin m j.zone j.one_kind x ((above_test origin x).1 over) j.uncut (undnamed origin m x j) plain (unowned_absent m x none)))
+      ∙ sym (ap (λ p. option_map_or (exists m) p false) (proved_wildcard_is_asked origin m j.zone j.one_kind x ((above_test origin x).1 over) j.uncut (undnamed origin m x j) plain (unowned_absent m x none)))
       ∙ gone

@@ -16,10 +16,10 @@ use Rattle.zone_denial.specs.ChainLaws.{ChainEnclosersAgree, ChainProvedWildcard
 use Rattle.zone_denial.specs.Chains.{is_below_dname, IsNsecChain}
 use Rattle.zone_denial.specs.NsecDenial.{owns_nsec_at_or_below, nsec_encloser}
 use Rattle.zone_denial.specs.WildcardLaws.{OwnsNone}
-use Rattle.zone_denial.proofs.Chain.NsecAskedStar.{other_type, absent_wildcard}
+use Rattle.zone_denial.proofs.Chain.NsecAskedWildcard.{other_type, absent_wildcard}
 use Rattle.zone_denial.proofs.Chain.NsecLists.{off_circle}
 use Rattle.zone_denial.proofs.Chains.NsecBelow.{open_above, owner_under}
-use Rattle.zone_denial.proofs.Chains.NsecStar.{proves_star}
+use Rattle.zone_denial.proofs.Chains.NsecWildcard.{proves_wildcard}
 use Rattle.zone_denial.proofs.Names.AuthoritativeNames.{from_besides}
 use Rattle.zone_denial.proofs.Names.ExistingAncestors.{exists_from, unowned_absent, asked_is}
 use Rattle.zone_denial.proofs.Names.LongestAncestors.{IsLongestAbove, longest_is, longest_above, others_above}
@@ -119,13 +119,13 @@ enclosers_agree origin m h none x below uncut plain =
     let u = (above_test origin x).0 below in
     (there origin m h none x u uncut plain).1.found ∙ ap Some (sym (agree origin m h none x u uncut plain))
 
-pub proved_star_is_asked : ChainProvedWildcardIsAsked
-proved_star_is_asked origin m h none x below uncut plain star absent =
-    asked_is m origin x ((above_test origin x).0 below) star absent ∙ ap (option_map wildcard_under) (enclosers_agree origin m h none x below uncut plain)
+pub proved_wildcard_is_asked : ChainProvedWildcardIsAsked
+proved_wildcard_is_asked origin m h none x below uncut plain wildcard_name absent =
+    asked_is m origin x ((above_test origin x).0 below) wildcard_name absent ∙ ap (option_map wildcard_under) (enclosers_agree origin m h none x below uncut plain)
 
 pub absent_wildcard_is_denied : ChainAbsentWildcardIsDenied
 absent_wildcard_is_denied origin m h none x inside uncut plain not_wildcard unowned gone =
-    record { off = off; covered = (proves_star origin m h x inside (off_circle m x unowned)).off off }
+    record { off = off; covered = (proves_wildcard origin m h x inside (off_circle m x unowned)).off off }
   where
     below : IsAbove origin x
     below = by (above_cases origin x (is_at_or_above_sound origin x inside))
